@@ -1,5 +1,5 @@
 -- Names of keys and of their versions, keys and encrypted keys, as bytes.
-use Rattle.std.specs.Prelude.{◌≡◌, ℕ, ◌+◌, ◌<◌, ◌-◌, ◌&&◌, ◌||◌, ◌==◌, nat_le, nat_lt, Bool, List, ◌++◌, codes, length, replicate, IsTrue}
+use Rattle.std.specs.Prelude.{ℕ, ◌-◌, ◌&&◌, ◌||◌, ◌==◌, nat_le, nat_lt, Bool, List, ◌++◌, codes, length, replicate, IsTrue}
 use Rattle.std.specs.List.{list_all}
 use Rattle.std.specs.Fmt.{decimal}
 
@@ -32,6 +32,9 @@ pub record Encrypted : Type 0 where
   pub version : Version
   pub iv : List ℕ
   pub sealed : List ℕ
+
+abbrev pub is_at_sign : ℕ → Bool
+is_at_sign b = b == 64
 
 -- the one spelling of a version, `key@number`
 abbrev pub version_text : List ℕ → ℕ → List ℕ

@@ -1,8 +1,8 @@
 //! Names of keys and of their versions, keys and encrypted keys.
-ghost use Rattle.std.specs.Prelude.{◌≡◌, ◌<◌, ◌≤◌, ◌^◌, ◌++◌, ℕ, List, length, take, IsTrue, SomeIff, MatchOption, OnOk, OnErr};
+ghost use Rattle.std.specs.Prelude.{◌≡◌, ◌<◌, ◌≤◌, ◌^◌, ◌++◌, ℕ, List, length, take, position, false, All, IfNone, IsTrue, SomeIff, MatchOption, OnOk, OnErr};
 ghost use Rattle.std.specs.List.{list_all};
 ghost use Rattle.std.specs.Str.{bytes_eq};
-ghost use Rattle.hk_base.specs.Names.{IsKeyName, is_key_name, is_name_byte, is_key_length, padded, version_text};
+ghost use Rattle.hk_base.specs.Names.{IsKeyName, is_key_name, is_name_byte, is_key_length, padded, is_at_sign, version_text};
 
 use crate::numbers::read_number;
 use crate::texts::{ByteList, NoMemory};
@@ -224,13 +224,20 @@ impl Model for Edek {
     ghost inverse = { λ e. record { version = e.version; iv = e.iv; sealed = e.sealed } };
 }
 
+fn at_sign(bytes: &[u8]) -> Option<usize>
+    ensures first { result ≡ position is_at_sign bytes.now }
+    ensures none { IfNone result (All (λ b. is_at_sign b ≡ false) bytes.now) }
+{
+    bytes.iter().position(|byte| *byte == b'@')
+}
+
 impl VersionName {
     /// The version whose one spelling the bytes are, or `None` where they are none. The number is
     /// decimal, without leading zeros, at most 65,535.
     pub fn read(bytes: &[u8]) -> Option<VersionName>
         ensures { MatchOption result ((key : List ℕ) (number : ℕ) → IsKeyName key → number < 2 ^ 16 → ¬ (bytes.now ≡ version_text key number)) (λ version. IsKeyName version.key × (bytes.now ≡ version_text version.key version.number)) }
     {
-        let at = bytes.iter().position(|byte| *byte == b'@')?;
+        let at = at_sign(bytes)?;
         let key = KeyName::read(&bytes[..at])?;
         let number = read_number(&bytes[at + 1..])?;
         if number > 65535 {
@@ -266,5 +273,72 @@ impl VersionName {
         out.append(b"@")?;
         let mut digits = Buffer::new();
         out.append(digits.format(self.number).as_bytes())
+    }
+}
+
+#[cfg(test)]
+mod tests {
+    use super::*;
+    use std::alloc::Global;
+    use std::test::Fail;
+
+    #[test]
+    fn names_keep_their_rule(rt: HostRuntime) {
+        let longest = [b'k'; 64];
+        let too_long = [b'k'; 65];
+        assert!(rt; KeyName::read(&longest).is_some());
+        assert!(rt; KeyName::read(&too_long).is_none());
+        assert!(rt; KeyName::read(b"").is_none());
+        for (bytes, good) in [
+            (b"k".as_slice(), true),
+            (b"Key_1.a-b".as_slice(), true),
+            (b"a@b".as_slice(), false),
+            (b"a b".as_slice(), false),
+            (b"a/b".as_slice(), false),
+            (b"\xc3\xa4".as_slice(), false),
+        ] {
+            assert_eq!(rt; KeyName::read(bytes).is_some(), good, "{bytes:?}");
+        }
+    }
+
+    fn rewritten(alloc: Global, bytes: &[u8]) -> Option<ByteList> {
+        let version = VersionName::read(bytes)?;
+        let mut out = ByteList::new(alloc);
+        version.write(&mut out).ok()?;
+        Some(out)
+    }
+
+    #[test]
+    fn versions_are_written_as_they_are_read(rt: HostRuntime) -> Result<(), Fail> {
+        for bytes in [b"k@0".as_slice(), b"Key.1@65535".as_slice()] {
+            let out = rewritten(rt.alloc(), bytes).ok_or("no version")?;
+            assert_eq!(rt; out.as_slice(), bytes);
+        }
+        Ok(())
+    }
+
+    #[test]
+    fn other_spellings_of_versions_are_refused(rt: HostRuntime) {
+        for bytes in [
+            b"k@65536".as_slice(),
+            b"k@07".as_slice(),
+            b"k@+7".as_slice(),
+            b"k@".as_slice(),
+            b"@1".as_slice(),
+            b"k".as_slice(),
+            b"k@1@2".as_slice(),
+        ] {
+            assert!(rt; VersionName::read(bytes).is_none(), "{bytes:?}");
+        }
+    }
+
+    #[test]
+    fn keys_have_three_lengths(rt: HostRuntime) {
+        let bytes = [7u8; 40];
+        for len in 0..40usize {
+            let good = len == 16 || len == 24 || len == 32;
+            assert_eq!(rt; Dek::read(&bytes[..len]).is_some(), good, "{len} bytes");
+            assert_eq!(rt; Iv::read(&bytes[..len]).is_some(), len == 16, "{len} bytes");
+        }
     }
 }

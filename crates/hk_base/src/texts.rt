@@ -160,3 +160,48 @@ impl Text {
         self.text.as_str()
     }
 }
+
+#[cfg(test)]
+mod tests {
+    use super::*;
+    use std::test::Fail;
+
+    fn filled(alloc: Global) -> Result<ByteList, NoMemory> {
+        let mut list = ByteList::new(alloc);
+        list.append(b"key")?;
+        list.push(b'@')?;
+        list.append(b"12")?;
+        Ok(list)
+    }
+
+    #[test]
+    fn a_list_grows_and_shrinks(rt: HostRuntime) -> Result<(), Fail> {
+        let mut list = filled(rt.alloc()).ok().ok_or("no memory")?;
+        assert_eq!(rt; list.as_slice(), b"key@12".as_slice());
+        list.truncate(3);
+        assert_eq!(rt; list.len(), 3);
+        let vec = list.into_vec();
+        let mut list = ByteList::of(vec);
+        assert_eq!(rt; list.as_slice(), b"key".as_slice());
+        list.clear();
+        assert!(rt; list.is_empty());
+        Ok(())
+    }
+
+    #[test]
+    fn a_text_is_utf8(rt: HostRuntime) -> Result<(), Fail> {
+        let good = b"\xc3\xa4".to_vec(rt.alloc())?;
+        assert_eq!(rt; Text::from_utf8(good).ok_or("a text")?.as_str().len(), 2);
+        let bad = b"\xc3".to_vec(rt.alloc())?;
+        assert!(rt; Text::from_utf8(bad).is_none());
+        let text = Text::of(String::from_str(rt.alloc(), "alice")?);
+        assert_eq!(rt; text.as_str(), "alice");
+        Ok(())
+    }
+
+    #[test]
+    fn wanting_memory_is_said(rt: HostRuntime) -> Result<(), Fail> {
+        assert_eq!(rt; NoMemory.to_string(rt.alloc())?.as_str(), "no memory");
+        Ok(())
+    }
+}

@@ -1,4 +1,4 @@
-use Rattle.std.proofs.Common.{◌≡◌, ◌+◌, ◌≤◌, arith}
+use Rattle.std.proofs.Common.{◌+◌, arith}
 use Rattle.std.proofs.KnownBytes.{Appends-kept}
 use Rattle.hk_base.proofs.Fronts.{front_of, wrote_more, length_rest}
 use Rattle.hk_base.proofs.writing.write_all.Goals as goal

@@ -1,4 +1,4 @@
-use Rattle.std.proofs.Common.{◌≡◌, ◌+◌, ◌≤◌, sym, ap, ◌∙◌, arith}
+use Rattle.std.proofs.Common.{ap, ◌∙◌, arith}
 use Rattle.hk_base.proofs.Pieces.{some_pending}
 use Rattle.hk_base.proofs.reading.Reader.fill.Goals as goal
 
