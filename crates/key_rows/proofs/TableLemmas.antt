@@ -1,0 +1,68 @@
+-- A command that applies leaves a table of keys.
+use Rattle.std.proofs.Common.{◌≡◌, ◌≢◌, ℕ, ◌+◌, ◌/◌, ◌^◌, ◌<◌, ◌≤◌, List, [], ◌∷◌, ◌++◌, length, filter, map, Bool, true, false, not, ◌&&◌, ◌==◌, nat_lt, is_none, Option, None, Some, IfSome, refl, ap, sym, ◌∙◌, subst, arith, length-append}
+use Rattle.std.specs.List.{AllByRecursion}
+use Rattle.std.specs.Option.{option_copied}
+use Rattle.std.proofs.Common.{Bor}
+use Rattle.std.proofs.lemmas.Bool.Decides.{Decides-eqb}
+use Rattle.key_rows.specs.declared.rows.KeyRow.{KeyRow}
+use Rattle.key_rows.specs.declared.rows.KeyCommand.{KeyCommand}
+use Rattle.key_rows.specs.declared.rows.KeyCommand.TheVariants.{Opened, Create, Roll, Delete}
+use Rattle.key_rows.specs.Table.{Table, applies, after, is_born, is_named, is_length, opening_of, find_name, find_birth, rolled, may_roll}
+use Rattle.key_rows.specs.Sound.{Rising, NamesOnce, IsRow, IsTable}
+use Rattle.key_rows.proofs.Births.{both, each_more, each_filter, length-filter_le, found_has, rising_more, rising_filter, by_birth, other_names, names_more, names_filter}
+use Rattle.key_rows.proofs.Rolls.{rising_rolled, names_rolled, rows_rolled, length-rolled}
+
+pub sound_create : (t : Table) (birth : ℕ) (name : List ℕ) (bits : ℕ) (description : List ℕ) (created : ℕ) (material : List ℕ) → IsTable t
+    → applies t (Create birth name bits description created material) ≡ true → IsTable (after t (Create birth name bits description created material))
+sound_create t birth name bits description created material is may =
+    let g = both (nat_lt 0 t.opening && is_none (find_name t.rows name) && opening_of birth == t.opening && nat_lt t.greatest birth && nat_lt (length t.rows) 10000 && is_length bits) (length material == bits / 8) may in
+    let f = both (nat_lt 0 t.opening && is_none (find_name t.rows name) && opening_of birth == t.opening && nat_lt t.greatest birth && nat_lt (length t.rows) 10000) (is_length bits) g.0 in
+    let e = both (nat_lt 0 t.opening && is_none (find_name t.rows name) && opening_of birth == t.opening && nat_lt t.greatest birth) (nat_lt (length t.rows) 10000) f.0 in
+    let d = both (nat_lt 0 t.opening && is_none (find_name t.rows name) && opening_of birth == t.opening) (nat_lt t.greatest birth) e.0 in
+    let c = both (nat_lt 0 t.opening && is_none (find_name t.rows name)) (opening_of birth == t.opening) d.0 in
+    let b = both (nat_lt 0 t.opening) (is_none (find_name t.rows name)) c.0 in
+    let long : length material ≡ bits / 8 = (Decides-eqb (length material) (bits / 8)).0 g.1 in
+    let few : length t.rows < 10000 = grind (arith, e.1) in
+    let above : t.greatest < birth = grind (arith, d.1) in
+    let row : KeyRow = record { name = name; birth = birth; bits = bits; materials = material ∷ []; description = description; created = created } in
+    record {
+      opening = is.opening;
+      few = omega (arith, length-append t.rows (row ∷ []), few);
+      births = rising_more 0 t.rows t.greatest row is.births above;
+      names = names_more t.rows row is.names (other_names name t.rows b.1);
+      rows = each_more IsRow t.rows row is.rows (record { bits = f.1; some = omega arith; few = omega arith; materials = (long, tt) });
+    }
+
+pub sound_roll : (t : Table) (birth number : ℕ) (material : List ℕ) → IsTable t → applies t (Roll birth number material) ≡ true → IsTable (after t (Roll birth number material))
+sound_roll t birth number material is may =
+    let a = both (nat_lt 0 t.opening) (may_roll (find_birth t.rows birth) number material) may in
+    record {
+      opening = is.opening;
+      few = omega (arith, length-rolled birth material t.rows, is.few);
+      births = rising_rolled 0 birth material t.rows t.greatest is.births;
+      names = names_rolled birth material t.rows is.names;
+      rows = rows_rolled 0 birth number material t.rows t.greatest is.births a.1 is.rows;
+    }
+
+pub sound_delete : (t : Table) (birth : ℕ) → IsTable t → IsTable (after t (Delete birth))
+sound_delete t birth is =
+    let p : KeyRow → Bool = λ row. not (is_born birth row) in
+    record {
+      opening = is.opening;
+      few = omega (arith, length-filter_le p t.rows, is.few);
+      births = rising_filter 0 p t.rows t.greatest is.births;
+      names = names_filter p t.rows is.names;
+      rows = each_filter IsRow p t.rows is.rows;
+    }
+
+-- a key that is found is a key
+pub found_row : (t : Table) (name : List ℕ) → IsTable t → IfSome (find_name t.rows name) IsRow
+found_row t name is = found_has IsRow (is_named name) t.rows is.rows
+
+-- what is found among the rows has the birth of no other
+pub found_birth : (t : Table) (name : List ℕ) → IsTable t → IfSome (find_name t.rows name) (λ row. find_birth t.rows row.birth ≡ Some row)
+found_birth t name is = by_birth 0 (is_named name) t.rows t.greatest is.births
+
+pub copied_row : (P : KeyRow → Type 0) (found : Option (Bor KeyRow)) (o : Option KeyRow) → option_copied found ≡ o → IfSome o P → IfSome found (λ row. P row.now)
+copied_row P None o is row = tt
+copied_row P (Some r) o is row = subst (λ (x : Option KeyRow). IfSome x P) (sym is) row

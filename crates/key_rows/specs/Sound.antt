@@ -1,0 +1,29 @@
+-- What every table of keys is.
+use Rattle.std.specs.Prelude.{◌≡◌, ◌≢◌, ℕ, ◌^◌, ◌/◌, ◌<◌, ◌≤◌, List, [], ◌∷◌, length, IsTrue}
+use Rattle.std.specs.List.{AllByRecursion}
+use Rattle.key_rows.specs.declared.rows.KeyRow.{KeyRow}
+use Rattle.key_rows.specs.Table.{Table, is_length}
+
+-- births rise from above `low`, and end at or below `top`
+abbrev pub Rising : ℕ → List KeyRow → ℕ → Type 0
+Rising low [] top = low ≤ top
+Rising low (row ∷ rows) top = (low < row.birth) × Rising row.birth rows top
+
+-- no two rows have one name
+abbrev pub NamesOnce : List KeyRow → Type 0
+NamesOnce [] = Unit {0}
+NamesOnce (row ∷ rows) = AllByRecursion (λ (other : KeyRow). other.name ≢ row.name) rows × NamesOnce rows
+
+-- a key has one of the lengths, some versions, and each of its materials has its length
+pub record IsRow (row : KeyRow) : Type 0 where
+  pub bits : IsTrue (is_length row.bits)
+  pub some : 0 < length row.materials
+  pub few : length row.materials ≤ 65535
+  pub materials : AllByRecursion (λ (material : List ℕ). length material ≡ row.bits / 8) row.materials
+
+pub record IsTable (t : Table) : Type 0 where
+  pub opening : t.opening < 2 ^ 32
+  pub few : length t.rows ≤ 10000
+  pub births : Rising 0 t.rows t.greatest
+  pub names : NamesOnce t.rows
+  pub rows : AllByRecursion IsRow t.rows

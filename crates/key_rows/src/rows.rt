@@ -1,0 +1,91 @@
+//! A key with its versions, and the commands that change the table of keys.
+ghost use Rattle.std.specs.Prelude.{◌≡◌, ◌∷◌, [], ◌++◌, length, slice_get, OnOk, OnErr, IfOk};
+
+use crate::description::Description;
+use hk_base::{Dek, KeyName, NoMemory};
+use std::alloc::Global;
+use std::marker::Model;
+
+/// The materials of a key, one for each version from 0 on, which contracts see as a list.
+#[derive(Drop)]
+pub struct DekList {
+    deks: Vec<Dek>,
+}
+
+impl Model for DekList {
+    ghost use Rattle.std.specs.Prelude.{ℕ, List};
+
+    ghost Value = { List (List ℕ) };
+
+    ghost view = { λ a. a.deks.items };
+}
+
+impl DekList {
+    /// The material of a first version.
+    pub fn of(alloc: Global, first: Dek) -> Result<DekList, NoMemory>
+        ensures { IfOk result (λ deks. deks ≡ first ∷ []) }
+    {
+        let mut deks = Vec::new(alloc);
+        deks.push(first)?;
+        Ok(DekList { deks })
+    }
+
+    /// Adds the material of the next version. Where memory is wanting the list stays as it was.
+    pub fn push(&mut self, dek: Dek) -> Result<(), NoMemory>
+        ensures ok { OnOk result (self.new ≡ self.old ++ dek ∷ []) }
+        ensures err { OnErr result (self.new ≡ self.old) }
+    {
+        self.deks.push(dek)?;
+        Ok(())
+    }
+
+    /// The material of a version, or `None` where the key has no version of this number.
+    pub fn get(&self, number: u16) -> Option<Dek>
+        ensures { result ≡ slice_get self.now number }
+    {
+        self.deks.get(number as usize).copied()
+    }
+
+    /// How many versions the key has.
+    pub fn len(&self) -> usize
+        ensures { result ≡ length self.now }
+    {
+        self.deks.len()
+    }
+}
+
+/// A key. `birth` is a number that no other key has or had, `bits` the length of its materials in
+/// bits, `created` the moment of its creation.
+#[derive(Drop)]
+pub struct KeyRow {
+    pub name: KeyName,
+    pub birth: u64,
+    pub bits: u16,
+    pub materials: DekList,
+    pub description: Description,
+    pub created: u64,
+}
+
+/// What changes the table of keys.
+#[derive(Drop)]
+pub enum KeyCommand {
+    /// The service was started; `opening` counts its starts from 1.
+    Opened { opening: u32 },
+    /// A key was created, with its first version.
+    Create {
+        birth: u64,
+        name: KeyName,
+        bits: u16,
+        description: Description,
+        created: u64,
+        material: Dek,
+    },
+    /// A key got the version of this number.
+    Roll {
+        birth: u64,
+        number: u16,
+        material: Dek,
+    },
+    /// A key was deleted, with all its versions.
+    Delete { birth: u64 },
+}

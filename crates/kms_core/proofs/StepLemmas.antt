@@ -1,0 +1,94 @@
+-- From the steps of a call to the call.
+use Rattle.std.proofs.Common.{◌≡◌, ℕ, ◌+◌, ◌/◌, ◌<◌, ◌≤◌, ◌⊎◌, inl, inr, List, length, Bool, true, false, ◌&&◌, ◌==◌, cond, nat_lt, nat_le, Option, None, Some, is_none, MatchBool, refl, ap, sym, ◌∙◌, subst, arith}
+use Rattle.std.proofs.lemmas.Bool.Decides.{Decides-eqb}
+use Rattle.key_rows.specs.declared.rows.KeyRow.{KeyRow}
+use Rattle.key_rows.specs.declared.rows.KeyCommand.TheVariants.{Roll}
+use Rattle.key_rows.specs.Table.{applies, find_birth, may_roll}
+use Rattle.kms_core.specs.declared.service.Standing.{Standing}
+use Rattle.key_rows.specs.declared.calls.KmsCall.{KmsCall}
+use Rattle.key_rows.specs.declared.calls.KmsReply.{KmsReply}
+use Rattle.key_rows.specs.declared.calls.KmsReply.TheVariants.{Refused, Metadata}
+use Rattle.key_rows.specs.declared.calls.KmsCall.TheVariants as call
+use Rattle.key_rows.specs.declared.calls.KmsRefusal.TheVariants.{NoSuchKey, BadMaterial, TooManyVersions, NoMemory}
+use Rattle.key_rows.specs.declared.calls.KmsRefusal.{KmsRefusal}
+use Rattle.kms_core.specs.State.{KmsState}
+use Rattle.kms_core.specs.Calls.{Acts, Deed, Outcome, Plain, NoRoom, causes, deed, done_with, first_cause, unless_refused, refused, accepted, row_of, bits_of, versions_of, is_misfit, roll_causes, rolled, only_answer, meta_of}
+use Rattle.kms_core.specs.Draws.{material_for, words_for}
+use Rattle.kms_core.specs.Steps.{Enacts, StandsSo}
+
+both_hold : (a b : Bool) → a ≡ true → b ≡ true → (a && b) ≡ true
+both_hold a b h g = ap (λ x. x && b) h ∙ g
+
+all_three : (a b c : Bool) → a ≡ true → b ≡ true → c ≡ true → (a && b && c) ≡ true
+all_three a b c f g h = both_hold (a && b) c (both_hold a b f g) h
+
+-- a call for which a cause stands is refused
+pub refuses : (s : KmsState) (words : ℕ → ℕ) (now : ℕ) (c : KmsCall) (why : KmsRefusal) (told : KmsReply) (s' : KmsState) (words' : ℕ → ℕ)
+    → first_cause (causes s c) ≡ Some why → told ≡ Refused why → s' ≡ s → ((k : ℕ) → words' k ≡ words k) → Acts s words now c told s' words'
+refuses s words now c why told s' words' cause told_is same rest = record {
+  drawn = 0;
+  acts = (Plain, tt, cc);
+  rest = λ k. rest k ∙ ap words (omega arith);
+}
+
+-- a call without a cause of refusal does its deed
+pub enacted : (s : KmsState) (words : ℕ → ℕ) (now : ℕ) (c : KmsCall) (told : KmsReply) (s' : KmsState) (words' : ℕ → ℕ)
+    → first_cause (causes s c) ≡ None → Enacts s (deed s words now c) told s' → ((k : ℕ) → words' k ≡ words ((deed s words now c).words + k))
+    → Acts s words now c told s' words'
+enacted s words now c told s' words' none (inl done) rest = record {
+  drawn = (deed s words now c).words;
+  acts = (Plain, tt, cc);
+  rest = rest;
+}
+enacted s words now c told s' words' none (inr wanting) rest = record {
+  drawn = (deed s words now c).words;
+  acts = (NoRoom (deed s words now c).words, (none, omega arith), cc);
+  rest = rest;
+}
+
+-- a key that stands and has room for a version may get one
+pub may_get : (row : Option KeyRow) (number bits : ℕ) (material : List ℕ) → is_none row ≡ false → bits ≡ bits_of row → number ≡ versions_of row → number < 65535 → length material ≡ bits / 8
+    → may_roll row number material ≡ true
+may_get None number bits material stands bits_is versions_is room long = absurd cc
+may_get (Some row) number bits material stands bits_is versions_is room long =
+    all_three (number == length row.materials) (nat_lt number 65535) (length material == row.bits / 8)
+    ((Decides-eqb number (length row.materials)).1 versions_is) (grind arith) ((Decides-eqb (length material) (row.bits / 8)).1 (long ∙ ap (λ n. n / 8) bits_is))
+
+pub can_roll : (s : KmsState) (name : List ℕ) (key : Standing) (material : List ℕ) → 0 < s.table.opening → StandsSo s name key → key.versions < 65535 → length material ≡ key.bits / 8
+    → applies s.table (Roll key.birth key.versions material) ≡ true
+can_roll s name key material opened so room long =
+    both_hold (nat_lt 0 s.table.opening) (may_roll (find_birth s.table.rows key.birth) key.versions material)
+    (grind arith) (ap (λ row. may_roll row key.versions material) so.found ∙ may_get (row_of s name) key.versions key.bits material so.stands so.bits so.versions room long)
+
+allowed : (row : Option KeyRow) (given : Option (List ℕ)) → is_none row ≡ false → is_misfit (bits_of row) given ≡ false → nat_le 65535 (versions_of row) ≡ false → first_cause (roll_causes row given) ≡ None
+allowed row given stands fits room =
+    ap (λ b. cond b (Some NoSuchKey) (cond (is_misfit (bits_of row) given) (Some BadMaterial) (cond (nat_le 65535 (versions_of row)) (Some TooManyVersions) None))) stands
+    ∙ ap (λ b. cond b (Some BadMaterial) (cond (nat_le 65535 (versions_of row)) (Some TooManyVersions) None)) fits
+    ∙ ap (λ b. cond b (Some TooManyVersions) None) room
+
+pub rolls : (s : KmsState) (words : ℕ → ℕ) (now : ℕ) (name : List ℕ) (given : Option (List ℕ)) (key : Standing) (drawn : List ℕ) (told : KmsReply) (s' : KmsState) (words' : ℕ → ℕ)
+    → StandsSo s name key → is_misfit key.bits given ≡ false → key.versions < 65535 → drawn ≡ material_for words key.bits given
+    → ((k : ℕ) → words' k ≡ words (words_for key.bits given + k)) → Enacts s (rolled s name (row_of s name) drawn 0) told s'
+    → Acts s words now (call.Roll name given) told s' words'
+rolls s words now name given key drawn told s' words' so fits room drawn_is rest done =
+    let full : nat_le 65535 (versions_of (row_of s name)) ≡ false = ap (λ n. nat_le 65535 n) (sym so.versions) ∙ grind (arith, room) in
+    let none = allowed (row_of s name) given so.stands (ap (λ n. is_misfit n given) (sym so.bits) ∙ fits) full in
+    let same : drawn ≡ material_for words (bits_of (row_of s name)) given = drawn_is ∙ ap (λ n. material_for words n given) so.bits in
+    enacted s words now (call.Roll name given) told s' words' none
+    (subst (λ (m : List ℕ). Enacts s (rolled s name (row_of s name) m 0) told s') same done)
+    (λ k. rest k ∙ ap (λ n. words (words_for n given + k)) so.bits)
+
+pub tells_metadata : (s : KmsState) (words : ℕ → ℕ) (now : ℕ) (name : List ℕ) (told : KmsReply)
+    → MatchBool (is_none (row_of s name)) (told ≡ Refused NoSuchKey) ((told ≡ Refused NoMemory) ⊎ (told ≡ Metadata (meta_of name (row_of s name))))
+    → Acts s words now (call.Metadata name) told s words
+tells_metadata s words now name told says =
+    let P : Bool → Type 0 = λ b. is_none (row_of s name) ≡ b → MatchBool b (told ≡ Refused NoSuchKey) ((told ≡ Refused NoMemory) ⊎ (told ≡ Metadata (meta_of name (row_of s name)))) → Acts s words now (call.Metadata name) told s words in
+    let cases : P (is_none (row_of s name)) = elim (is_none (row_of s name)) as P [
+        true ↦ λ e h. refuses s words now (call.Metadata name) NoSuchKey told s words (ap (λ b. cond b (Some NoSuchKey) None) e) h refl (λ k. refl)
+      | false ↦ λ e h. enacted s words now (call.Metadata name) told s words (ap (λ b. cond b (Some NoSuchKey) None) e) (answered h) (λ k. ap words (omega arith))
+      ] in
+    cases refl says
+  where
+    answered : ((told ≡ Refused NoMemory) ⊎ (told ≡ Metadata (meta_of name (row_of s name)))) → Enacts s (only_answer s (Metadata (meta_of name (row_of s name)))) told s
+    answered (inl wanting) = inr (wanting, refl)
+    answered (inr done) = inl (done, refl)

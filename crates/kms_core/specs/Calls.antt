@@ -1,0 +1,160 @@
+-- The calls of the key management service: what each is refused for, what it answers, and what it leaves.
+use Rattle.std.specs.Prelude.{◌≡◌, ◌≤◌, ℕ, ◌+◌, ◌-◌, ◌*◌, ◌/◌, ◌^◌, Bool, true, false, not, ◌||◌, ◌==◌, nat_lt, nat_le, List, [], ◌∷◌, length, Option, Some, None, is_some, is_none, if◌then◌else◌}
+use Rattle.hk_base.specs.declared.names.KeyName.{KeyName}
+use Rattle.key_rows.specs.declared.rows.KeyRow.{KeyRow}
+use Rattle.key_rows.specs.declared.rows.KeyCommand.{KeyCommand}
+use Rattle.key_rows.specs.declared.rows.KeyCommand.TheVariants as command
+use Rattle.key_rows.specs.declared.calls.KmsCall.{KmsCall}
+use Rattle.key_rows.specs.declared.calls.KmsCall.TheVariants as call
+use Rattle.key_rows.specs.declared.calls.KeyMeta.{KeyMeta}
+use Rattle.key_rows.specs.declared.calls.KmsReply.{KmsReply}
+use Rattle.key_rows.specs.declared.calls.KmsReply.TheVariants as reply
+use Rattle.key_rows.specs.declared.calls.KmsRefusal.{KmsRefusal}
+use Rattle.key_rows.specs.declared.calls.KmsRefusal.TheVariants as refusal
+use Rattle.key_rows.specs.Table.{Table, find_name, is_length, after}
+use Rattle.kms_core.specs.Draws.{material_for, words_for}
+use Rattle.kms_core.specs.State.{KmsState, next_birth, is_spent}
+
+-- causes of a refusal in the order of the rules; the first one that holds counts
+abbrev pub first_cause : List (Bool × KmsRefusal) → Option KmsRefusal
+first_cause [] = None
+first_cause (cause ∷ causes) = if cause.0 then Some cause.1 else first_cause causes
+
+abbrev pub row_of : KmsState → KeyName → Option KeyRow
+row_of s name = find_name s.table.rows name
+
+-- what is known of a key, where it stands
+
+abbrev pub bits_of : Option KeyRow → ℕ
+bits_of None = 0
+bits_of (Some row) = row.bits
+
+abbrev pub birth_of : Option KeyRow → ℕ
+birth_of None = 0
+birth_of (Some row) = row.birth
+
+abbrev pub versions_of : Option KeyRow → ℕ
+versions_of None = 0
+versions_of (Some row) = length row.materials
+
+abbrev pub description_of : Option KeyRow → List ℕ
+description_of None = []
+description_of (Some row) = row.description
+
+abbrev pub created_of : Option KeyRow → ℕ
+created_of None = 0
+created_of (Some row) = row.created
+
+-- given material is not as long as the key
+abbrev pub is_misfit : ℕ → Option (List ℕ) → Bool
+is_misfit bits None = false
+is_misfit bits (Some material) = not (length material == bits / 8)
+
+abbrev pub is_full : KmsState → Bool
+is_full s = nat_le 10000 (length s.table.rows) || is_spent s
+
+-- why a call is refused
+
+abbrev pub create_causes : KmsState → KeyName → ℕ → Option (List ℕ) → List (Bool × KmsRefusal)
+create_causes s name bits material =
+    (is_some (row_of s name), refusal.KeyExists) ∷ (not (is_length bits), refusal.BadLength) ∷ (is_misfit bits material, refusal.BadMaterial)
+    ∷ (is_full s, refusal.TooManyKeys) ∷ []
+
+abbrev pub roll_causes : Option KeyRow → Option (List ℕ) → List (Bool × KmsRefusal)
+roll_causes row material =
+    (is_none row, refusal.NoSuchKey) ∷ (is_misfit (bits_of row) material, refusal.BadMaterial) ∷ (nat_le 65535 (versions_of row), refusal.TooManyVersions) ∷ []
+
+abbrev pub causes : KmsState → KmsCall → List (Bool × KmsRefusal)
+causes s (call.Create name bits material description) = create_causes s name bits material
+causes s (call.Roll name material) = roll_causes (row_of s name) material
+causes s (call.Metadata name) = (is_none (row_of s name), refusal.NoSuchKey) ∷ []
+
+-- What a call that is not refused does: its answer, what it changes of the table, the state in which that takes
+-- effect, and how many words it draws.
+pub record Deed : Type 0 where
+  pub answer : KmsReply
+  pub logs : Option KeyCommand
+  pub state : KmsState
+  pub words : ℕ
+
+abbrev pub shown : KeyName → ℕ → List ℕ → KmsReply
+shown name number material = reply.Version (record { key = name; number = number }) (Some material)
+
+-- the key with its first version
+abbrev pub created : KmsState → ℕ → KeyName → ℕ → List ℕ → List ℕ → ℕ → Deed
+created s now name bits description material words =
+    record {
+      answer = shown name 0 material;
+      logs = Some (command.Create (next_birth s) name bits description now material);
+      state = record s { next = s.next + 1 };
+      words = words;
+    }
+
+-- the key with its next version
+abbrev pub rolled : KmsState → KeyName → Option KeyRow → List ℕ → ℕ → Deed
+rolled s name row material words =
+    record {
+      answer = shown name (versions_of row) material;
+      logs = Some (command.Roll (birth_of row) (versions_of row) material);
+      state = s;
+      words = words;
+    }
+
+abbrev pub only_answer : KmsState → KmsReply → Deed
+only_answer s answer = record { answer = answer; logs = None; state = s; words = 0 }
+
+abbrev pub meta_of : KeyName → Option KeyRow → KeyMeta
+meta_of name row = record { name = name; bits = bits_of row; description = description_of row; created = created_of row; versions = versions_of row }
+
+abbrev pub deed : KmsState → (ℕ → ℕ) → ℕ → KmsCall → Deed
+deed s words now (call.Create name bits material description) =
+    created s now name bits description (material_for words bits material) (words_for bits material)
+deed s words now (call.Roll name material) =
+    let row = row_of s name in
+    rolled s name row (material_for words (bits_of row) material) (words_for (bits_of row) material)
+deed s words now (call.Metadata name) = only_answer s (reply.Metadata (meta_of name (row_of s name)))
+
+abbrev pub done_with : Option KeyCommand → KmsState → KmsState
+done_with None s = s
+done_with (Some c) s = record s { table = after s.table c }
+
+-- what a call comes to: its reply, how many words it drew, and the state after it
+pub record Outcome : Type 0 where
+  pub told : KmsReply
+  pub drawn : ℕ
+  pub state : KmsState
+
+-- a refusal leaves the state as it was
+abbrev pub refused : KmsRefusal → ℕ → KmsState → Outcome
+refused why drawn s = record { told = reply.Refused why; drawn = drawn; state = s }
+
+abbrev pub accepted : Deed → Outcome
+accepted d = record { told = d.answer; drawn = d.words; state = done_with d.logs d.state }
+
+abbrev pub unless_refused : Option KmsRefusal → KmsState → Deed → Outcome
+unless_refused (Some why) s d = refused why 0 s
+unless_refused None s d = accepted d
+
+-- what is free in a call: memory may be wanting, after some of its words were drawn
+pub data Ending : Type 0 where
+  Plain : Ending
+  NoRoom : (drawn : ℕ) → Ending
+
+-- memory is wanting only where no other refusal comes, and no more words are drawn than else
+abbrev pub MayEnd : KmsState → (ℕ → ℕ) → ℕ → KmsCall → Ending → Type 0
+MayEnd s words now c Plain = Unit {0}
+MayEnd s words now c (NoRoom drawn) = (first_cause (causes s c) ≡ None) × (drawn ≤ (deed s words now c).words)
+
+abbrev pub outcome : KmsState → (ℕ → ℕ) → ℕ → KmsCall → Ending → Outcome
+outcome s words now c Plain = unless_refused (first_cause (causes s c)) s (deed s words now c)
+outcome s words now c (NoRoom drawn) = refused refusal.NoMemory drawn s
+
+-- From s, with these words to come, a call may be answered so, draw so many words, and leave s'.
+abbrev pub KmsActs : KmsState → (ℕ → ℕ) → ℕ → KmsCall → KmsReply → ℕ → KmsState → Type 0
+KmsActs s words now c told drawn s' = (e : Ending) × MayEnd s words now c e × (record { told = told; drawn = drawn; state = s' } ≡ outcome s words now c e)
+
+-- the same with the words that are to come afterwards
+pub record Acts (s : KmsState) (words : ℕ → ℕ) (now : ℕ) (c : KmsCall) (told : KmsReply) (s' : KmsState) (words' : ℕ → ℕ) : Type 0 where
+  pub drawn : ℕ
+  pub acts : KmsActs s words now c told drawn s'
+  pub rest : (k : ℕ) → words' k ≡ words (drawn + k)

@@ -1,0 +1,4 @@
+pub mod Draws
+pub mod State
+pub mod Calls
+pub mod Steps

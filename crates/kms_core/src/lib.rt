@@ -1,0 +1,7 @@
+//! The key management service.
+#![tactic(auto)]
+
+mod drawing;
+mod service;
+
+pub use service::Kms;
