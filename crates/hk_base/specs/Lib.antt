@@ -1,3 +1,4 @@
+pub mod Disk
 pub mod Faults
 pub mod Names
 pub mod Reading

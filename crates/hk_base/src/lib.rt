@@ -2,6 +2,7 @@
 //! and the two loops over them that read a byte at a time and write a whole piece.
 #![tactic(auto)]
 
+mod disk;
 mod names;
 mod numbers;
 mod outside;
@@ -9,9 +10,10 @@ mod reading;
 mod texts;
 mod writing;
 
+pub use disk::{Disk, LONGEST_FILE};
 pub use names::{Dek, Edek, Iv, KeyName, VersionName};
 pub use numbers::read_number;
-pub use outside::{Failed, Sink, Source, Words};
+pub use outside::{Clock, Failed, Sink, Source, Words};
 pub use reading::{Next, Reader};
 pub use texts::{ByteList, NoMemory, Text};
 pub use writing::write_all;

@@ -51,3 +51,9 @@ pub trait Words {
         ensures word { result ≡ to_come self.old 0 }
         ensures rest { (k : ℕ) → to_come self.new k ≡ to_come self.old (k + 1) };
 }
+
+/// The time of day. Reading it cannot fail, and nothing is promised of the number.
+pub trait Clock {
+    /// Milliseconds since the start of 1970, as the clock has them.
+    fn now_ms(&mut self) -> u64;
+}

@@ -1,0 +1,30 @@
+-- What the sources, sinks and disks in memory are to a contract.
+use Rattle.std.specs.Prelude.{◌≡◌, ◌+◌, ◌-◌, ◌^◌, ℕ, List, Result, min, MatchResult}
+
+-- which calls are to fail, by their numbers from 1; how many were made; how many failed
+pub record Plan : Type 0 where
+  pub failing : List ℕ
+  pub made : ℕ
+  pub faults : ℕ
+
+-- a count of 64 bits that stops at its last value
+abbrev pub counted : ℕ → ℕ
+counted n = min (n + 1) (2 ^ 64 - 1)
+
+-- a call was made, and a fault was counted where it failed
+pub record CallMade {T E : Type 0} (old new : Plan) (result : Result T E) : Type 0 where
+  pub failing : new.failing ≡ old.failing
+  pub made : new.made ≡ counted old.made
+  pub faults : MatchResult result (λ _. new.faults ≡ old.faults) (λ _. new.faults ≡ counted old.faults)
+
+-- the bytes that are left, and at most how many a read gives
+pub record Supply : Type 0 where
+  pub left : List ℕ
+  pub most : ℕ
+  pub plan : Plan
+
+-- the bytes that were written, and at most how many a write takes
+pub record Collected : Type 0 where
+  pub written : List ℕ
+  pub most : ℕ
+  pub plan : Plan

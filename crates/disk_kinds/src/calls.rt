@@ -1,0 +1,70 @@
+//! Which calls of a fake fail.
+ghost use Rattle.std.specs.Prelude.{◌≡◌, ◌≤◌, ◌↔◌, Contains, IsErr};
+ghost use Rattle.hk_base.specs.Faults.{HasCause};
+ghost use Rattle.disk_kinds.specs.Fakes.{CallMade, counted};
+
+use hk_base::Failed;
+use std::marker::Model;
+
+/// The calls of a source, a sink or a disk in memory that are to fail, by their numbers from 1. It
+/// counts the calls made and the faults, both up to 2^64 - 1.
+#[derive(Drop)]
+pub struct CallPlan {
+    failing: Vec<u64>,
+    made: u64,
+    faults: u64,
+}
+
+impl Model for CallPlan {
+    ghost use Rattle.disk_kinds.specs.Fakes.{Plan};
+
+    ghost Value = { Plan };
+
+    ghost view = { λ p. record { failing = p.failing.items; made = p.made; faults = p.faults } };
+}
+
+impl CallPlan {
+    /// A plan before the first call.
+    pub fn new(failing: Vec<u64>) -> CallPlan
+        ensures failing { result.failing ≡ failing.items }
+        ensures made { result.made ≡ 0 }
+        ensures faults { result.faults ≡ 0 }
+    {
+        CallPlan {
+            failing,
+            made: 0,
+            faults: 0,
+        }
+    }
+
+    /// Counts a call. It fails, and counts a fault, where the call's number is one of those given.
+    pub fn call(&mut self) -> Result<(), Failed>
+        ensures listed { IsErr result ↔ Contains self.old.failing (counted self.old.made) }
+        ensures plan { CallMade self.old self.new result }
+        ensures cause { HasCause self.old.faults self.new.faults result }
+    {
+        self.made = self.made.saturating_add(1);
+        if self.failing.contains(&self.made) {
+            return Err(self.fault());
+        }
+        Ok(())
+    }
+
+    /// Counts a fault that has another cause than the plan.
+    pub fn fault(&mut self) -> Failed
+        ensures failing { self.new.failing ≡ self.old.failing }
+        ensures made { self.new.made ≡ self.old.made }
+        ensures faults { self.new.faults ≡ counted self.old.faults }
+        ensures later { self.old.faults ≤ self.new.faults }
+    {
+        self.faults = self.faults.saturating_add(1);
+        Failed
+    }
+
+    /// How many calls failed, up to 2^64 - 1.
+    pub fn faults(&self) -> u64
+        ensures { result ≡ self.now.faults }
+    {
+        self.faults
+    }
+}

@@ -1,0 +1,122 @@
+//! A sink in memory.
+ghost use Rattle.std.specs.Prelude.{◌≡◌, ◌↔◌, ◌+◌, ◌<◌, ◌^◌, ◌-◌, [], min, length, Some, Contains, IfOk, IsErr};
+ghost use Rattle.std.specs.Io.{WritesAtMost};
+ghost use Rattle.std.specs.Io.KnownBytes.{WriteAppends};
+ghost use Rattle.hk_base.specs.Faults.{HasCause, Rose};
+ghost use Rattle.disk_kinds.specs.Fakes.{CallMade, counted};
+
+use crate::calls::CallPlan;
+use hk_base::{ByteList, Failed, Sink};
+use std::alloc::Global;
+use std::marker::Model;
+
+/// Bytes in memory that are written at the end, with the calls that are to fail.
+#[derive(Drop)]
+pub struct MemSink {
+    bytes: ByteList,
+    most: usize,
+    plan: CallPlan,
+}
+
+impl Model for MemSink {
+    ghost use Rattle.std.specs.Prelude.{◌<◌};
+    ghost use Rattle.disk_kinds.specs.Fakes.{Collected};
+
+    ghost Value = { Collected };
+
+    ghost view = { λ s. record { written = s.bytes; most = s.most; plan = s.plan } };
+
+    ghost invariant = { λ s. 0 < s.most };
+}
+
+impl MemSink {
+    /// A sink with nothing written. A write takes at most `most` bytes. The writes with these numbers,
+    /// from 1, fail, and so does one that finds no memory; they take nothing.
+    pub fn new(alloc: Global, most: usize, failing: Vec<u64>) -> MemSink
+        requires { 0 < most }
+        ensures written { result.written ≡ [] }
+        ensures most { result.most ≡ most }
+        ensures failing { result.plan.failing ≡ failing.items }
+        ensures made { result.plan.made ≡ 0 }
+        ensures faults { result.plan.faults ≡ 0 }
+    {
+        MemSink {
+            bytes: ByteList::new(alloc),
+            most,
+            plan: CallPlan::new(failing),
+        }
+    }
+
+    /// The bytes that were written.
+    pub fn as_slice(&self) -> &[u8]
+        ensures { result.now ≡ self.now.written }
+    {
+        self.bytes.as_slice()
+    }
+
+    /// The bytes that were written, as a vector.
+    pub fn into_vec(self) -> Vec<u8>
+        ensures { result.items ≡ self.written }
+    {
+        self.bytes.into_vec()
+    }
+
+    /// How many writes failed, up to 2^64 - 1.
+    pub fn faults(&self) -> u64
+        ensures { result ≡ self.now.plan.faults }
+    {
+        self.plan.faults()
+    }
+}
+
+impl Sink for MemSink {
+    ghost written = { λ s. Some s.written };
+
+    ghost faults = { λ s. s.plan.faults };
+
+    fn write(&mut self, bytes: &[u8]) -> Result<usize, Failed>
+        ensures bound { WritesAtMost result bytes.now }
+        ensures bytes { WriteAppends (Some self.old.written) (Some self.new.written) result bytes.now }
+        ensures cause { HasCause self.old.plan.faults self.new.plan.faults result }
+        ensures nothing { result ≡ Ok 0 → 0 < length bytes.now → Rose self.old.plan.faults self.new.plan.faults }
+        ensures listed { Contains self.old.plan.failing (counted self.old.plan.made) → IsErr result }
+        ensures count { IfOk result (λ n. n ≡ min (length bytes.now) self.old.most) }
+        ensures most { self.new.most ≡ self.old.most }
+        ensures plan { CallMade self.old.plan self.new.plan result }
+    {
+        self.plan.call()?;
+        let count = bytes.len().min(self.most);
+        match self.bytes.append(&bytes[..count]) {
+            Ok(()) => Ok(count),
+            Err(_) => Err(self.plan.fault()),
+        }
+    }
+}
+
+#[cfg(test)]
+mod tests {
+    use super::*;
+    use std::test::Fail;
+
+    #[test]
+    fn takes_pieces(rt: HostRuntime) -> Result<(), Fail> {
+        let mut sink = MemSink::new(rt.alloc(), 3, Vec::new(rt.alloc()));
+        assert_eq!(rt; sink.write(b"abcd"), Ok(3));
+        assert_eq!(rt; sink.write(b"d"), Ok(1));
+        assert_eq!(rt; sink.as_slice(), b"abcd".as_slice());
+        assert_eq!(rt; sink.into_vec().as_slice(), b"abcd".as_slice());
+        Ok(())
+    }
+
+    #[test]
+    fn fails_at_the_calls_given(rt: HostRuntime) -> Result<(), Fail> {
+        let failing = Vec::from_slice(rt.alloc(), &[1u64, 3])?;
+        let mut sink = MemSink::new(rt.alloc(), 10, failing);
+        assert_eq!(rt; sink.write(b"a"), Err(Failed));
+        assert_eq!(rt; sink.write(b"b"), Ok(1));
+        assert_eq!(rt; sink.write(b"c"), Err(Failed));
+        assert_eq!(rt; sink.as_slice(), b"b".as_slice());
+        assert_eq!(rt; sink.faults(), 2);
+        Ok(())
+    }
+}

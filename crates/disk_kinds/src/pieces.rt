@@ -1,0 +1,15 @@
+//! Reading into the front of a buffer.
+ghost use Rattle.std.specs.Prelude.{◌≡◌, min, length, take, drop};
+
+/// Copies the front of `from` to the front of the buffer, as much as the shorter of them has, and
+/// answers how much that is.
+pub(crate) fn copy_front(from: &[u8], buf: &mut [u8]) -> usize
+    ensures count { result ≡ min (length buf.new) (length from.now) }
+    ensures front { take result buf.new ≡ take result from.now }
+    ensures rest { drop result buf.new ≡ drop result buf.old }
+{
+    let count = buf.len().min(from.len());
+    let (front, _) = buf.split_at_mut(count);
+    front.copy_from_slice(&from[..count]);
+    count
+}
