@@ -1,0 +1,49 @@
+//! AES under a key of one length.
+ghost use Rattle.std.specs.Prelude.{◌≡◌, ◌+◌, ◌*◌, List, ℕ, length};
+ghost use Rattle.aes_core.specs.Aes.{cipher, expanded_key, IsKeySize, key_bytes};
+
+use crate::key_schedule::{key_term, xor_word};
+use crate::state::encrypted;
+use std::marker::Model;
+
+/// AES (FIPS 197) under one key of `NK` words, which are expanded to `W` words: `Aes<4, 44>` is
+/// AES-128, `Aes<6, 52>` is AES-192 and `Aes<8, 60>` is AES-256. Contracts see the key, a list of
+/// `4 * NK` bytes.
+#[derive(Drop)]
+pub struct Aes<const NK: usize, const W: usize> {
+    words: [[u8; 4]; W],
+}
+
+impl<const NK: usize, const W: usize> Model for Aes<NK, W> {
+    ghost Value = { List ℕ };
+
+    ghost view = { λ aes. key_bytes NK aes.words };
+
+    ghost invariant = { λ aes. IsKeySize NK W × (aes.words ≡ expanded_key NK (key_bytes NK aes.words) (3 * NK + 28)) };
+}
+
+impl<const NK: usize, const W: usize> Aes<NK, W> {
+    /// AES under the key, which has `4 * NK` bytes. It expands the key once, and takes no memory.
+    pub fn new(key: &[u8]) -> Self
+        requires size { IsKeySize NK W }
+        requires length { length key.now ≡ 4 * NK }
+        ensures { result ≡ key.now }
+    {
+        let mut words = [[0u8; 4]; W];
+        'first: for i in 0..NK {
+            words[i] = [key[4 * i], key[4 * i + 1], key[4 * i + 2], key[4 * i + 3]];
+        }
+        'more: for i in NK..W {
+            let term = key_term(NK, i, words[i - 1]);
+            words[i] = xor_word(words[i - NK], term);
+        }
+        Aes { words }
+    }
+
+    /// The block encrypted, as FIPS 197's Cipher gives it: 10, 12 or 14 rounds by the key's length.
+    pub fn encrypt_block(&self, block: &[u8; 16]) -> [u8; 16]
+        ensures { result ≡ cipher self.now block.now }
+    {
+        encrypted(&self.words, NK + 6, block)
+    }
+}
