@@ -1,0 +1,9 @@
+use Rattle.std.proofs.Common.{◌≡◌, [], ◌∷◌, List, ℕ}
+use Rattle.hkms_tool.specs.Events.{fields_of}
+use Rattle.hkms_tool.proofs.FieldLemmas.{never_empty}
+use Rattle.hkms_tool.proofs.event.only_field.Goals as goal
+
+pub returns-in-Some : goal.returns-in-Some
+returns-in-Some c = λ field is.
+    let cut = rw c.in-Some.is at c.cut.ensures in
+    never_empty c.in-Some.field-0.now cc
