@@ -1,4 +1,5 @@
 pub mod Draws
 pub mod State
+pub mod Opening
 pub mod Calls
 pub mod Steps
