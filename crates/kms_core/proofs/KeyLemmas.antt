@@ -15,7 +15,7 @@ use Rattle.kms_core.specs.State.{KmsState}
 use Rattle.kms_core.specs.Calls.{first_cause, sent_causes, lacks_version, is_of_other_key, is_malformed, row_of, bits_of, current_version}
 use Rattle.kms_core.specs.Steps.{HasParts, IsCurrent, Opens}
 
-each_get : {X : Type 0} (P : X → Type 0) (xs : List X) (i : ℕ) (x : X) → AllByRecursion P xs → slice_get xs i ≡ Some x → P x
+pub each_get : {X : Type 0} (P : X → Type 0) (xs : List X) (i : ℕ) (x : X) → AllByRecursion P xs → slice_get xs i ≡ Some x → P x
 each_get P [] i x each is = absurd cc
 each_get P (y ∷ ys) zero x each is = let same : y ≡ x = cc in subst P same each.0
 each_get P (y ∷ ys) (suc i) x each is = each_get P ys i x each.1 is
@@ -27,7 +27,7 @@ as_long row number material sent iv sealed is got parts =
     each_get (λ (m : List ℕ). length m ≡ row.bits / 8) row.materials number material is.materials got ∙ sym parts.long
 
 -- what is found passes the test
-found_passes : {X : Type 0} (p : X → Bool) (xs : List X) (x : X) → find p xs ≡ Some x → p x ≡ true
+pub found_passes : {X : Type 0} (p : X → Bool) (xs : List X) (x : X) → find p xs ≡ Some x → p x ≡ true
 found_passes p [] x found = absurd cc
 found_passes {X = X} p (y ∷ ys) x found =
     let P : Bool → Type 0 = λ b. p y ≡ b → cond b (Some y) (find p ys) ≡ Some x → p x ≡ true in
@@ -54,7 +54,7 @@ newest_at s name row count material found count_is got = record {
   material = version_at s.table.rows name row.name (count - 1) row material found (found_passes (is_named name) s.table.rows row found) got;
 }
 
-sent_allowed : (row : Option KeyRow) (name : List ℕ) (sent : RawEdek) → is_none row ≡ false → lacks_version row sent ≡ false → is_of_other_key name sent ≡ false
+pub sent_allowed : (row : Option KeyRow) (name : List ℕ) (sent : RawEdek) → is_none row ≡ false → lacks_version row sent ≡ false → is_of_other_key name sent ≡ false
     → is_malformed (bits_of row) sent ≡ false → first_cause (sent_causes row name sent) ≡ None
 sent_allowed row name sent stands has its formed =
     ap (λ b. cond b (Some NoSuchKey) (cond (lacks_version row sent) (Some NoSuchVersion) (cond (is_of_other_key name sent) (Some WrongKey) (cond (is_malformed (bits_of row) sent) (Some BadMaterial) None)))) stands
