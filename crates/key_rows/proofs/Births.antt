@@ -1,12 +1,12 @@
 -- Rows of a table: births rise, names stand once, and each row is a key.
-use Rattle.std.proofs.Common.{◌≡◌, ◌≢◌, ℕ, ◌+◌, ◌<◌, ◌≤◌, List, [], ◌∷◌, ◌++◌, length, map, find, filter, Bool, true, false, not, ◌&&◌, cond, ◌==◌, Option, None, Some, is_none, IfSome, refl, ap, sym, ◌∙◌, subst, arith}
+use Rattle.std.proofs.Common.{◌≡◌, ◌≢◌, ℕ, ◌<◌, ◌≤◌, List, [], ◌∷◌, ◌++◌, length, find, filter, Bool, true, false, ◌&&◌, cond, ◌==◌, Option, None, Some, is_none, IfSome, refl, ap, sym, ◌∙◌, arith}
 use Rattle.std.specs.List.{AllByRecursion}
 use Rattle.std.specs.Str.{bytes_eq}
 use Rattle.std.proofs.lemmas.Bool.Decides.{Decides-eqb}
 use Rattle.std.proofs.lemmas.Slice.Eq.{bytes_eq-Decides}
 use Rattle.key_rows.specs.declared.rows.KeyRow.{KeyRow}
-use Rattle.key_rows.specs.Table.{is_born, is_named, find_name, find_birth}
-use Rattle.key_rows.specs.Sound.{Rising, NamesOnce, IsRow}
+use Rattle.key_rows.specs.Table.{is_born, find_name, find_birth}
+use Rattle.key_rows.specs.Sound.{Rising, NamesOnce}
 
 pub both : (a b : Bool) → (a && b) ≡ true → (a ≡ true) × (b ≡ true)
 both true b h = (refl, h)
@@ -84,9 +84,9 @@ by_birth low p (r ∷ rows) top rising =
     let Q : Bool → Type 0 = λ b. IfSome (cond b (Some r) (find p rows)) (λ row. find_birth (r ∷ rows) row.birth ≡ Some row) in
     let R : Option KeyRow → Type 0 = λ o. IfSome o (λ row. r.birth < row.birth) → IfSome o (λ row. find_birth rows row.birth ≡ Some row) → IfSome o (λ row. find_birth (r ∷ rows) row.birth ≡ Some row) in
     let later : R (find p rows) = elim (find p rows) as R [
-        None ↦ λ h is. tt
+      | None ↦ λ h is. tt
       | Some row ↦ λ h is. ap (λ b. cond b (Some r) (find_birth rows row.birth)) (other_number r.birth row.birth (λ same. absurd (omega arith))) ∙ is
-      ] in
+    ] in
     elim (p r) as Q [
       | true ↦ ap (λ b. cond b (Some r) (find_birth rows r.birth)) ((Decides-eqb r.birth r.birth).1 refl)
       | false ↦ later (above_low r.birth p rows top rising.1) (by_birth r.birth p rows top rising.1)
@@ -99,9 +99,9 @@ other_names name [] none = tt
 other_names name (r ∷ rows) none =
     let P : Bool → Type 0 = λ b. bytes_eq r.name name ≡ b → is_none (cond b (Some r) (find_name rows name)) ≡ true → AllByRecursion (λ (row : KeyRow). row.name ≢ name) (r ∷ rows) in
     let cases : P (bytes_eq r.name name) = elim (bytes_eq r.name name) as P [
-        true ↦ λ e h. absurd cc
+      | true ↦ λ e h. absurd cc
       | false ↦ λ e h. (λ same. let yes : bytes_eq r.name name ≡ true = (bytes_eq-Decides r.name name).1 same in cc, other_names name rows h)
-      ] in
+    ] in
     cases refl none
 
 pub names_more : (rows : List KeyRow) (row : KeyRow) → NamesOnce rows → AllByRecursion (λ (other : KeyRow). other.name ≢ row.name) rows → NamesOnce (rows ++ row ∷ [])

@@ -1,8 +1,7 @@
 -- The key of a birth gains a material.
-use Rattle.std.proofs.Common.{◌≡◌, ◌≢◌, ℕ, ◌+◌, ◌/◌, ◌<◌, ◌≤◌, zero, suc, List, [], ◌∷◌, ◌++◌, length, map, get_or, set, Bool, true, false, ◌&&◌, cond, ◌==◌, nat_lt, Option, None, Some, refl, ap, sym, ◌∙◌, subst, arith, length-append}
-use Rattle.std.specs.List.{All, AllByRecursion}
+use Rattle.std.proofs.Common.{◌≡◌, ◌≢◌, ℕ, ◌/◌, ◌<◌, zero, suc, List, [], ◌∷◌, ◌++◌, length, map, get_or, set, Bool, true, false, ◌&&◌, cond, ◌==◌, nat_lt, Some, refl, ap, sym, ◌∙◌, subst, arith, length-append}
+use Rattle.std.specs.List.{AllByRecursion}
 use Rattle.std.proofs.lemmas.Bool.Decides.{Decides-eqb}
-use Rattle.std.proofs.lemmas.List.Elements.{recursion_from_All}
 use Rattle.key_rows.specs.declared.rows.KeyRow.{KeyRow}
 use Rattle.key_rows.specs.Table.{is_born, with_material, rolled, find_birth, may_roll}
 use Rattle.key_rows.specs.Sound.{Rising, NamesOnce, IsRow}
@@ -89,9 +88,9 @@ rows_rolled low birth number material [] top rising may rows = tt
 rows_rolled low birth number material (r ∷ rest) top rising may rows =
     let P : Bool → Type 0 = λ b. is_born birth r ≡ b → may_roll (cond b (Some r) (find_birth rest birth)) number material ≡ true → AllByRecursion IsRow (cond b (with_material material r) r ∷ map (rolled birth material) rest) in
     let cases : P (is_born birth r) = elim (is_born birth r) as P [
-        true ↦ λ e h.
+      | true ↦ λ e h.
           let same : r.birth ≡ birth = (Decides-eqb r.birth birth).0 e in
           (row_rolled r number material h rows.0, subst (λ (rs : List KeyRow). AllByRecursion IsRow rs) (sym (rolled_nowhere birth material rest (none_born r.birth birth rest top (omega arith) rising.1))) rows.1)
       | false ↦ λ e h. (rows.0, rows_rolled r.birth birth number material rest top rising.1 h rows.1)
-      ] in
+    ] in
     cases refl may

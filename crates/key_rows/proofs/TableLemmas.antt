@@ -1,14 +1,12 @@
 -- A command that applies leaves a table of keys.
-use Rattle.std.proofs.Common.{◌≡◌, ◌≢◌, ℕ, ◌+◌, ◌/◌, ◌^◌, ◌<◌, ◌≤◌, List, [], ◌∷◌, ◌++◌, length, filter, map, Bool, true, false, not, ◌&&◌, ◌==◌, nat_lt, is_none, Option, None, Some, IfSome, refl, ap, sym, ◌∙◌, subst, arith, length-append}
-use Rattle.std.specs.List.{AllByRecursion}
+use Rattle.std.proofs.Common.{◌≡◌, ℕ, ◌/◌, ◌<◌, List, [], ◌∷◌, length, Bool, true, not, ◌&&◌, ◌==◌, nat_lt, is_none, Option, None, Some, IfSome, sym, subst, arith, length-append}
 use Rattle.std.specs.Option.{option_copied}
 use Rattle.std.proofs.Common.{Bor}
 use Rattle.std.proofs.lemmas.Bool.Decides.{Decides-eqb}
 use Rattle.key_rows.specs.declared.rows.KeyRow.{KeyRow}
-use Rattle.key_rows.specs.declared.rows.KeyCommand.{KeyCommand}
-use Rattle.key_rows.specs.declared.rows.KeyCommand.TheVariants.{Opened, Create, Roll, Delete}
-use Rattle.key_rows.specs.Table.{Table, applies, after, is_born, is_named, is_length, opening_of, find_name, find_birth, rolled, may_roll}
-use Rattle.key_rows.specs.Sound.{Rising, NamesOnce, IsRow, IsTable}
+use Rattle.key_rows.specs.declared.rows.KeyCommand.TheVariants.{Create, Roll, Delete}
+use Rattle.key_rows.specs.Table.{Table, applies, after, is_born, is_named, is_length, opening_of, find_name, find_birth, may_roll}
+use Rattle.key_rows.specs.Sound.{IsRow, IsTable}
 use Rattle.key_rows.proofs.Births.{both, each_more, each_filter, length-filter_le, found_has, rising_more, rising_filter, by_birth, other_names, names_more, names_filter}
 use Rattle.key_rows.proofs.Rolls.{rising_rolled, names_rolled, rows_rolled, length-rolled}
 

@@ -1,5 +1,5 @@
 -- The table of keys: what a list of commands stands for.
-use Rattle.std.specs.Prelude.{◌≡◌, ℕ, ◌+◌, ◌-◌, ◌/◌, ◌^◌, Bool, true, false, not, ◌&&◌, ◌||◌, ◌==◌, nat_lt, List, [], ◌∷◌, ◌++◌, length, map, filter, find, Option, Some, None, is_none, is_some, if◌then◌else◌, bytes_eq, slice_get, option_and_then}
+use Rattle.std.specs.Prelude.{ℕ, ◌+◌, ◌-◌, ◌/◌, ◌^◌, Bool, false, not, ◌&&◌, ◌||◌, ◌==◌, nat_lt, List, [], ◌∷◌, ◌++◌, length, map, filter, find, Option, Some, None, is_none, is_some, if◌then◌else◌, bytes_eq, slice_get, option_and_then}
 use Rattle.hk_base.specs.declared.names.KeyName.{KeyName}
 use Rattle.hk_base.specs.declared.names.Dek.{Dek}
 use Rattle.hk_base.specs.declared.names.VersionName.{VersionName}
@@ -66,7 +66,8 @@ abbrev pub after : Table → KeyCommand → Table
 after t (Opened opening) = record t { opening = opening }
 after t (Create birth name bits description created material) =
     record {
-      opening = t.opening; greatest = birth;
+      opening = t.opening;
+      greatest = birth;
       rows = t.rows ++ record { name = name; birth = birth; bits = bits; materials = material ∷ []; description = description; created = created } ∷ [];
     }
 after t (Roll birth number material) = record t { rows = map (rolled birth material) t.rows }

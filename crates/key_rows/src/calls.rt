@@ -1,7 +1,17 @@
 //! The calls of the key management service and its replies, as in the Hadoop KMS guide (REST API
 //! v1).
 use crate::description::Description;
+use crate::edek_list::EdekList;
 use hk_base::{ByteList, Dek, KeyName, VersionName};
+
+/// An encrypted data encryption key as it is sent: the version that is said to have sealed it, and
+/// an initialization vector and sealed bytes of any length.
+#[derive(Drop)]
+pub struct RawEdek {
+    pub version: VersionName,
+    pub iv: ByteList,
+    pub sealed: ByteList,
+}
 
 /// A call of the key management service.
 #[derive(Drop)]
@@ -19,7 +29,19 @@ pub enum KmsCall {
         material: Option<ByteList>,
     },
     /// Asks what is known of a key.
-    Metadata { name: KeyName },
+    Metadata {
+        name: KeyName,
+    },
+    /// Asks for `count` new data encryption keys, encrypted under the current version of a key.
+    Generate {
+        name: KeyName,
+        count: u32,
+    },
+    /// Asks what an encrypted data encryption key opens to under a version of a key.
+    Decrypt {
+        name: KeyName,
+        sent: RawEdek,
+    },
 }
 
 /// Why a call is refused.
@@ -27,9 +49,14 @@ pub enum KmsCall {
 pub enum KmsRefusal {
     /// No key has the name.
     NoSuchKey,
+    /// The key has no version of the number.
+    NoSuchVersion,
     /// A key of the name stands already.
     KeyExists,
-    /// The material is not as long as the key.
+    /// The version that is said to have sealed is one of another key.
+    WrongKey,
+    /// Material that is given, or what is sealed, is not as long as the key, or an initialization
+    /// vector does not have 16 bytes.
     BadMaterial,
     /// The length is not 128, 192 or 256 bits.
     BadLength,
@@ -37,6 +64,8 @@ pub enum KmsRefusal {
     TooManyKeys,
     /// The key has 65,535 versions.
     TooManyVersions,
+    /// More than 1,000 data encryption keys are asked for.
+    TooManyAsked,
     /// There is no memory for the call.
     NoMemory,
 }
@@ -51,8 +80,8 @@ pub struct KeyMeta {
     pub versions: u32,
 }
 
-/// The reply to a call: Create and Roll are answered by Version, Metadata by Metadata, and each by
-/// Refused where it is refused.
+/// The reply to a call: Create and Roll are answered by Version, Metadata by Metadata, Generate by
+/// Ready, Decrypt by Key, and each by Refused where it is refused.
 #[derive(Drop)]
 pub enum KmsReply {
     Version {
@@ -60,5 +89,7 @@ pub enum KmsReply {
         material: Option<Dek>,
     },
     Metadata(KeyMeta),
+    Ready(EdekList),
+    Key(Dek),
     Refused(KmsRefusal),
 }

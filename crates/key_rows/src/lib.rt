@@ -4,10 +4,12 @@
 
 mod calls;
 mod description;
+mod edek_list;
 mod rows;
 mod table;
 
-pub use calls::{KeyMeta, KmsCall, KmsRefusal, KmsReply};
+pub use calls::{KeyMeta, KmsCall, KmsRefusal, KmsReply, RawEdek};
 pub use description::Description;
+pub use edek_list::EdekList;
 pub use rows::{DekList, KeyCommand, KeyRow};
 pub use table::KeyTable;

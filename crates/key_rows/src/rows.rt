@@ -70,7 +70,9 @@ pub struct KeyRow {
 #[derive(Drop)]
 pub enum KeyCommand {
     /// The service was started; `opening` counts its starts from 1.
-    Opened { opening: u32 },
+    Opened {
+        opening: u32,
+    },
     /// A key was created, with its first version.
     Create {
         birth: u64,
@@ -87,5 +89,7 @@ pub enum KeyCommand {
         material: Dek,
     },
     /// A key was deleted, with all its versions.
-    Delete { birth: u64 },
+    Delete {
+        birth: u64,
+    },
 }

@@ -1,2 +1,4 @@
 pub mod DrawLemmas
+pub mod KeyLemmas
+pub mod LawLemmas
 pub mod StepLemmas

@@ -1,20 +1,25 @@
 -- From the steps of a call to the call.
-use Rattle.std.proofs.Common.{◌≡◌, ℕ, ◌+◌, ◌/◌, ◌<◌, ◌≤◌, ◌⊎◌, inl, inr, List, length, Bool, true, false, ◌&&◌, ◌==◌, cond, nat_lt, nat_le, Option, None, Some, is_none, MatchBool, refl, ap, sym, ◌∙◌, subst, arith}
+use Rattle.std.proofs.Common.{◌≡◌, ℕ, ◌+◌, ◌/◌, ◌<◌, ◌≤◌, ◌⊎◌, inl, inr, List, [], length, Bool, true, false, ◌&&◌, ◌==◌, cond, nat_lt, nat_le, Option, None, Some, is_none, MatchBool, refl, ap, sym, ◌∙◌, subst, arith}
 use Rattle.std.proofs.lemmas.Bool.Decides.{Decides-eqb}
 use Rattle.key_rows.specs.declared.rows.KeyRow.{KeyRow}
 use Rattle.key_rows.specs.declared.rows.KeyCommand.TheVariants.{Roll}
-use Rattle.key_rows.specs.Table.{applies, find_birth, may_roll}
+use Rattle.key_rows.specs.Table.{applies, find_birth, material_of, may_roll}
 use Rattle.kms_core.specs.declared.service.Standing.{Standing}
 use Rattle.key_rows.specs.declared.calls.KmsCall.{KmsCall}
 use Rattle.key_rows.specs.declared.calls.KmsReply.{KmsReply}
-use Rattle.key_rows.specs.declared.calls.KmsReply.TheVariants.{Refused, Metadata}
+use Rattle.key_rows.specs.declared.calls.KmsReply.TheVariants.{Refused, Metadata, Ready, Key}
+use Rattle.key_rows.specs.declared.calls.RawEdek.{RawEdek}
+use Rattle.hk_base.specs.declared.names.Edek.{Edek}
+use Rattle.std.specs.Option.{unwrap_or}
+use Rattle.kms_core.specs.declared.drawing.CurrentVersion.{CurrentVersion}
+use Rattle.kms_core.specs.Opening.{unseals}
 use Rattle.key_rows.specs.declared.calls.KmsCall.TheVariants as call
-use Rattle.key_rows.specs.declared.calls.KmsRefusal.TheVariants.{NoSuchKey, BadMaterial, TooManyVersions, NoMemory}
+use Rattle.key_rows.specs.declared.calls.KmsRefusal.TheVariants.{NoSuchKey, BadMaterial, TooManyVersions, TooManyAsked, NoMemory}
 use Rattle.key_rows.specs.declared.calls.KmsRefusal.{KmsRefusal}
 use Rattle.kms_core.specs.State.{KmsState}
-use Rattle.kms_core.specs.Calls.{Acts, Deed, Outcome, Plain, NoRoom, causes, deed, done_with, first_cause, unless_refused, refused, accepted, row_of, bits_of, versions_of, is_misfit, roll_causes, rolled, only_answer, meta_of}
-use Rattle.kms_core.specs.Draws.{material_for, words_for}
-use Rattle.kms_core.specs.Steps.{Enacts, StandsSo}
+use Rattle.kms_core.specs.Calls.{Acts, Plain, NoRoom, takes_memory, causes, deed, first_cause, unless_refused, row_of, bits_of, versions_of, is_misfit, roll_causes, rolled, only_answer, meta_of, generate_causes, sent_causes, current_material, edek_of}
+use Rattle.kms_core.specs.Draws.{material_for, words_for, drawn_edeks, place_of_draw}
+use Rattle.kms_core.specs.Steps.{Drew, DrewKeys, DrewSome, Enacts, IsCurrent, Opens, StandsSo}
 
 both_hold : (a b : Bool) → a ≡ true → b ≡ true → (a && b) ≡ true
 both_hold a b h g = ap (λ x. x && b) h ∙ g
@@ -33,16 +38,16 @@ refuses s words now c why told s' words' cause told_is same rest = record {
 
 -- a call without a cause of refusal does its deed
 pub enacted : (s : KmsState) (words : ℕ → ℕ) (now : ℕ) (c : KmsCall) (told : KmsReply) (s' : KmsState) (words' : ℕ → ℕ)
-    → first_cause (causes s c) ≡ None → Enacts s (deed s words now c) told s' → ((k : ℕ) → words' k ≡ words ((deed s words now c).words + k))
-    → Acts s words now c told s' words'
-enacted s words now c told s' words' none (inl done) rest = record {
+    → takes_memory c ≡ true → first_cause (causes s c) ≡ None → Enacts s (deed s words now c) told s'
+    → ((k : ℕ) → words' k ≡ words ((deed s words now c).words + k)) → Acts s words now c told s' words'
+enacted s words now c told s' words' takes none (inl done) rest = record {
   drawn = (deed s words now c).words;
   acts = (Plain, tt, cc);
   rest = rest;
 }
-enacted s words now c told s' words' none (inr wanting) rest = record {
+enacted s words now c told s' words' takes none (inr wanting) rest = record {
   drawn = (deed s words now c).words;
-  acts = (NoRoom (deed s words now c).words, (none, omega arith), cc);
+  acts = (NoRoom (deed s words now c).words, (takes, none, omega arith), cc);
   rest = rest;
 }
 
@@ -74,7 +79,7 @@ rolls s words now name given key drawn told s' words' so fits room drawn_is rest
     let full : nat_le 65535 (versions_of (row_of s name)) ≡ false = ap (λ n. nat_le 65535 n) (sym so.versions) ∙ grind (arith, room) in
     let none = allowed (row_of s name) given so.stands (ap (λ n. is_misfit n given) (sym so.bits) ∙ fits) full in
     let same : drawn ≡ material_for words (bits_of (row_of s name)) given = drawn_is ∙ ap (λ n. material_for words n given) so.bits in
-    enacted s words now (call.Roll name given) told s' words' none
+    enacted s words now (call.Roll name given) told s' words' refl none
     (subst (λ (m : List ℕ). Enacts s (rolled s name (row_of s name) m 0) told s') same done)
     (λ k. rest k ∙ ap (λ n. words (words_for n given + k)) so.bits)
 
@@ -84,11 +89,65 @@ pub tells_metadata : (s : KmsState) (words : ℕ → ℕ) (now : ℕ) (name : Li
 tells_metadata s words now name told says =
     let P : Bool → Type 0 = λ b. is_none (row_of s name) ≡ b → MatchBool b (told ≡ Refused NoSuchKey) ((told ≡ Refused NoMemory) ⊎ (told ≡ Metadata (meta_of name (row_of s name)))) → Acts s words now (call.Metadata name) told s words in
     let cases : P (is_none (row_of s name)) = elim (is_none (row_of s name)) as P [
-        true ↦ λ e h. refuses s words now (call.Metadata name) NoSuchKey told s words (ap (λ b. cond b (Some NoSuchKey) None) e) h refl (λ k. refl)
-      | false ↦ λ e h. enacted s words now (call.Metadata name) told s words (ap (λ b. cond b (Some NoSuchKey) None) e) (answered h) (λ k. ap words (omega arith))
-      ] in
+      | true ↦ λ e h. refuses s words now (call.Metadata name) NoSuchKey told s words (ap (λ b. cond b (Some NoSuchKey) None) e) h refl (λ k. refl)
+      | false ↦ λ e h. enacted s words now (call.Metadata name) told s words refl (ap (λ b. cond b (Some NoSuchKey) None) e) (answered h) (λ k. ap words (omega arith))
+    ] in
     cases refl says
   where
     answered : ((told ≡ Refused NoMemory) ⊎ (told ≡ Metadata (meta_of name (row_of s name)))) → Enacts s (only_answer s (Metadata (meta_of name (row_of s name)))) told s
     answered (inl wanting) = inr (wanting, refl)
     answered (inr done) = inl (done, refl)
+
+-- memory is wanting in a call without another cause of refusal
+pub wanting : (s : KmsState) (words : ℕ → ℕ) (now : ℕ) (c : KmsCall) (words' : ℕ → ℕ) (drawn : ℕ)
+    → takes_memory c ≡ true → first_cause (causes s c) ≡ None → drawn ≤ (deed s words now c).words → Drew words words' drawn
+    → Acts s words now c (Refused NoMemory) s words'
+wanting s words now c words' drawn takes none few rest = record {
+  drawn = drawn;
+  acts = (NoRoom drawn, (takes, none, few), refl);
+  rest = rest;
+}
+
+current_is : (s : KmsState) (name : List ℕ) (current : CurrentVersion) → IsCurrent s name current → current_material s name ≡ current.material
+current_is s name current is =
+    ap (λ version. unwrap_or (material_of s.table.rows version) []) (sym is.version) ∙ ap (λ o. unwrap_or o []) is.material
+
+pub refuses_many : (s : KmsState) (words : ℕ → ℕ) (now : ℕ) (name : List ℕ) (count : ℕ) → is_none (row_of s name) ≡ false → nat_lt 1000 count ≡ true
+    → Acts s words now (call.Generate name count) (Refused TooManyAsked) s words
+refuses_many s words now name count stands many =
+    refuses s words now (call.Generate name count) TooManyAsked (Refused TooManyAsked) s words
+    (ap (λ b. cond b (Some NoSuchKey) (cond (nat_lt 1000 count) (Some TooManyAsked) None)) stands ∙ ap (λ b. cond b (Some TooManyAsked) None) many)
+    refl refl (λ k. refl)
+
+may_generate : (row : Option KeyRow) (count : ℕ) → is_none row ≡ false → nat_lt 1000 count ≡ false → first_cause (generate_causes row count) ≡ None
+may_generate row count stands few =
+    ap (λ b. cond b (Some NoSuchKey) (cond (nat_lt 1000 count) (Some TooManyAsked) None)) stands ∙ ap (λ b. cond b (Some TooManyAsked) None) few
+
+pub generates : (s : KmsState) (words : ℕ → ℕ) (now : ℕ) (name : List ℕ) (count : ℕ) (current : CurrentVersion) (keys : List Edek) (words' : ℕ → ℕ)
+    → IsCurrent s name current → nat_lt 1000 count ≡ false → DrewKeys current words words' count keys
+    → Acts s words now (call.Generate name count) (Ready keys) s words'
+generates s words now name count current keys words' is few drew =
+    let same : current.material ≡ current_material s name = sym (current_is s name current is) in
+    enacted s words now (call.Generate name count) (Ready keys) s words' refl (may_generate (row_of s name) count is.stands few)
+    (inl (ap Ready (drew.drawn ∙ (λ i. drawn_edeks (is.version i) (same i) words count)), refl))
+    (λ k. drew.rest k ∙ ap (λ material. words (place_of_draw (length material) count + k)) same)
+
+pub generates_none : (s : KmsState) (words : ℕ → ℕ) (now : ℕ) (name : List ℕ) (count : ℕ) (current : CurrentVersion) (words' : ℕ → ℕ)
+    → IsCurrent s name current → nat_lt 1000 count ≡ false → DrewSome current words words' count
+    → Acts s words now (call.Generate name count) (Refused NoMemory) s words'
+generates_none s words now name count current words' is few drew =
+    let same : current.material ≡ current_material s name = sym (current_is s name current is) in
+    wanting s words now (call.Generate name count) words' drew.drawn refl (may_generate (row_of s name) count is.stands few)
+    (subst (λ (material : List ℕ). drew.drawn ≤ place_of_draw (length material) count) same drew.few) drew.rest
+
+pub decrypts : (s : KmsState) (words : ℕ → ℕ) (now : ℕ) (name : List ℕ) (sent : RawEdek) (key : List ℕ) → Opens s name sent key
+    → Acts s words now (call.Decrypt name sent) (Key key) s words
+decrypts s words now name sent key is = record {
+  drawn = 0;
+  acts = (Plain, tt, done (first_cause (sent_causes (row_of s name) name sent)) (unseals s.table.rows (edek_of sent)) is.allowed is.opens);
+  rest = λ k. ap words (omega arith);
+}
+  where
+    done : (cause : Option KmsRefusal) (opened : Option (List ℕ)) → cause ≡ None → opened ≡ Some key
+        → (record { told = Key key; drawn = 0; state = s }) ≡ unless_refused cause s (only_answer s (Key (unwrap_or opened [])))
+    done cause opened none is = (λ i. unless_refused (sym none i) s (only_answer s (Key (unwrap_or (sym is i) []))))

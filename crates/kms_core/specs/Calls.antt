@@ -1,18 +1,23 @@
 -- The calls of the key management service: what each is refused for, what it answers, and what it leaves.
-use Rattle.std.specs.Prelude.{◌≡◌, ◌≤◌, ℕ, ◌+◌, ◌-◌, ◌*◌, ◌/◌, ◌^◌, Bool, true, false, not, ◌||◌, ◌==◌, nat_lt, nat_le, List, [], ◌∷◌, length, Option, Some, None, is_some, is_none, if◌then◌else◌}
+use Rattle.std.specs.Prelude.{◌≡◌, ◌≤◌, ℕ, ◌+◌, ◌/◌, Bool, true, false, not, ◌||◌, ◌==◌, nat_lt, nat_le, List, [], ◌∷◌, length, Option, Some, None, is_some, is_none, unwrap_or, bytes_eq, if◌then◌else◌}
+use Rattle.hk_base.specs.declared.names.Dek.{Dek}
+use Rattle.hk_base.specs.declared.names.Edek.{Edek}
 use Rattle.hk_base.specs.declared.names.KeyName.{KeyName}
+use Rattle.hk_base.specs.declared.names.VersionName.{VersionName}
 use Rattle.key_rows.specs.declared.rows.KeyRow.{KeyRow}
 use Rattle.key_rows.specs.declared.rows.KeyCommand.{KeyCommand}
 use Rattle.key_rows.specs.declared.rows.KeyCommand.TheVariants as command
 use Rattle.key_rows.specs.declared.calls.KmsCall.{KmsCall}
 use Rattle.key_rows.specs.declared.calls.KmsCall.TheVariants as call
 use Rattle.key_rows.specs.declared.calls.KeyMeta.{KeyMeta}
+use Rattle.key_rows.specs.declared.calls.RawEdek.{RawEdek}
 use Rattle.key_rows.specs.declared.calls.KmsReply.{KmsReply}
 use Rattle.key_rows.specs.declared.calls.KmsReply.TheVariants as reply
 use Rattle.key_rows.specs.declared.calls.KmsRefusal.{KmsRefusal}
 use Rattle.key_rows.specs.declared.calls.KmsRefusal.TheVariants as refusal
-use Rattle.key_rows.specs.Table.{Table, find_name, is_length, after}
-use Rattle.kms_core.specs.Draws.{material_for, words_for}
+use Rattle.key_rows.specs.Table.{find_name, is_length, material_of, current_of, after}
+use Rattle.kms_core.specs.Draws.{material_for, words_for, drawn_edeks, place_of_draw}
+use Rattle.kms_core.specs.Opening.{unseals}
 use Rattle.kms_core.specs.State.{KmsState, next_birth, is_spent}
 
 -- causes of a refusal in the order of the rules; the first one that holds counts
@@ -45,6 +50,14 @@ abbrev pub created_of : Option KeyRow → ℕ
 created_of None = 0
 created_of (Some row) = row.created
 
+abbrev pub current_version : Option KeyRow → VersionName
+current_version None = record { key = []; number = 0 }
+current_version (Some row) = current_of row
+
+-- the material of the current version
+abbrev pub current_material : KmsState → KeyName → Dek
+current_material s name = unwrap_or (material_of s.table.rows (current_version (row_of s name))) []
+
 -- given material is not as long as the key
 abbrev pub is_misfit : ℕ → Option (List ℕ) → Bool
 is_misfit bits None = false
@@ -52,6 +65,17 @@ is_misfit bits (Some material) = not (length material == bits / 8)
 
 abbrev pub is_full : KmsState → Bool
 is_full s = nat_le 10000 (length s.table.rows) || is_spent s
+
+-- the key has no version of the number that was sent
+abbrev pub lacks_version : Option KeyRow → RawEdek → Bool
+lacks_version row sent = nat_le (versions_of row) sent.version.number
+
+abbrev pub is_of_other_key : KeyName → RawEdek → Bool
+is_of_other_key name sent = not (bytes_eq sent.version.key name)
+
+-- what is sealed is not as long as the key, or the initialization vector does not have 16 bytes
+abbrev pub is_malformed : ℕ → RawEdek → Bool
+is_malformed bits sent = not (length sent.sealed == bits / 8) || not (length sent.iv == 16)
 
 -- why a call is refused
 
@@ -64,10 +88,20 @@ abbrev pub roll_causes : Option KeyRow → Option (List ℕ) → List (Bool × K
 roll_causes row material =
     (is_none row, refusal.NoSuchKey) ∷ (is_misfit (bits_of row) material, refusal.BadMaterial) ∷ (nat_le 65535 (versions_of row), refusal.TooManyVersions) ∷ []
 
+abbrev pub generate_causes : Option KeyRow → ℕ → List (Bool × KmsRefusal)
+generate_causes row count = (is_none row, refusal.NoSuchKey) ∷ (nat_lt 1000 count, refusal.TooManyAsked) ∷ []
+
+abbrev pub sent_causes : Option KeyRow → KeyName → RawEdek → List (Bool × KmsRefusal)
+sent_causes row name sent =
+    (is_none row, refusal.NoSuchKey) ∷ (lacks_version row sent, refusal.NoSuchVersion) ∷ (is_of_other_key name sent, refusal.WrongKey)
+    ∷ (is_malformed (bits_of row) sent, refusal.BadMaterial) ∷ []
+
 abbrev pub causes : KmsState → KmsCall → List (Bool × KmsRefusal)
 causes s (call.Create name bits material description) = create_causes s name bits material
 causes s (call.Roll name material) = roll_causes (row_of s name) material
 causes s (call.Metadata name) = (is_none (row_of s name), refusal.NoSuchKey) ∷ []
+causes s (call.Generate name count) = generate_causes (row_of s name) count
+causes s (call.Decrypt name sent) = sent_causes (row_of s name) name sent
 
 -- What a call that is not refused does: its answer, what it changes of the table, the state in which that takes
 -- effect, and how many words it draws.
@@ -106,6 +140,21 @@ only_answer s answer = record { answer = answer; logs = None; state = s; words =
 abbrev pub meta_of : KeyName → Option KeyRow → KeyMeta
 meta_of name row = record { name = name; bits = bits_of row; description = description_of row; created = created_of row; versions = versions_of row }
 
+-- so many data encryption keys under the current version, drawn from the next words on
+abbrev pub generated : KmsState → (ℕ → ℕ) → KeyName → ℕ → Deed
+generated s words name count =
+    let material = current_material s name in
+    record {
+      answer = reply.Ready (drawn_edeks (current_version (row_of s name)) material words count);
+      logs = None;
+      state = s;
+      words = place_of_draw (length material) count;
+    }
+
+-- what was sent, as an encrypted data encryption key
+abbrev pub edek_of : RawEdek → Edek
+edek_of sent = record { version = sent.version; iv = sent.iv; sealed = sent.sealed }
+
 abbrev pub deed : KmsState → (ℕ → ℕ) → ℕ → KmsCall → Deed
 deed s words now (call.Create name bits material description) =
     created s now name bits description (material_for words bits material) (words_for bits material)
@@ -113,6 +162,8 @@ deed s words now (call.Roll name material) =
     let row = row_of s name in
     rolled s name row (material_for words (bits_of row) material) (words_for (bits_of row) material)
 deed s words now (call.Metadata name) = only_answer s (reply.Metadata (meta_of name (row_of s name)))
+deed s words now (call.Generate name count) = generated s words name count
+deed s words now (call.Decrypt name sent) = only_answer s (reply.Key (unwrap_or (unseals s.table.rows (edek_of sent)) []))
 
 abbrev pub done_with : Option KeyCommand → KmsState → KmsState
 done_with None s = s
@@ -140,10 +191,17 @@ pub data Ending : Type 0 where
   Plain : Ending
   NoRoom : (drawn : ℕ) → Ending
 
--- memory is wanting only where no other refusal comes, and no more words are drawn than else
+abbrev pub takes_memory : KmsCall → Bool
+takes_memory (call.Create name bits material description) = true
+takes_memory (call.Roll name material) = true
+takes_memory (call.Metadata name) = true
+takes_memory (call.Generate name count) = true
+takes_memory (call.Decrypt name sent) = false
+
+-- memory is wanting only where the call takes some and no other refusal comes, and no more words are drawn than else
 abbrev pub MayEnd : KmsState → (ℕ → ℕ) → ℕ → KmsCall → Ending → Type 0
 MayEnd s words now c Plain = Unit {0}
-MayEnd s words now c (NoRoom drawn) = (first_cause (causes s c) ≡ None) × (drawn ≤ (deed s words now c).words)
+MayEnd s words now c (NoRoom drawn) = (takes_memory c ≡ true) × (first_cause (causes s c) ≡ None) × (drawn ≤ (deed s words now c).words)
 
 abbrev pub outcome : KmsState → (ℕ → ℕ) → ℕ → KmsCall → Ending → Outcome
 outcome s words now c Plain = unless_refused (first_cause (causes s c)) s (deed s words now c)

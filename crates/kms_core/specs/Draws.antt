@@ -1,6 +1,10 @@
--- Words of the random source as bytes.
-use Rattle.std.specs.Prelude.{◌≡◌, ℕ, zero, suc, ◌+◌, ◌/◌, List, [], ◌++◌, Option, None, Some}
+-- Words of the random source as bytes, and what is drawn of them.
+use Rattle.std.specs.Prelude.{ℕ, zero, suc, ◌+◌, ◌*◌, ◌/◌, List, [], ◌∷◌, ◌++◌, length, Option, None, Some}
 use Rattle.std.specs.Int.{w32, to_le_bytes}
+use Rattle.hk_base.specs.declared.names.Dek.{Dek}
+use Rattle.hk_base.specs.declared.names.Edek.{Edek}
+use Rattle.hk_base.specs.declared.names.VersionName.{VersionName}
+use Rattle.eek_seal.specs.Seal.{seal}
 
 -- the bytes of so many words from this place of the stream on, of each word the least significant first
 abbrev pub drawn : (ℕ → ℕ) → ℕ → ℕ → List ℕ
@@ -16,3 +20,30 @@ material_for words bits (Some material) = material
 abbrev pub words_for : ℕ → Option (List ℕ) → ℕ
 words_for bits None = bits / 32
 words_for bits (Some material) = 0
+
+-- an initialization vector takes four words
+unfoldable pub drawn_iv : (ℕ → ℕ) → ℕ → List ℕ
+drawn_iv words place = drawn words place 4
+
+-- a data encryption key of so many bytes takes the words behind those of its initialization vector
+abbrev pub drawn_dek : (ℕ → ℕ) → ℕ → ℕ → Dek
+drawn_dek words place len = drawn words (place + 4) (len / 4)
+
+-- a data encryption key drawn at this place of the stream, as long as the material of a version that seals it
+abbrev pub drawn_edek : VersionName → Dek → (ℕ → ℕ) → ℕ → Edek
+drawn_edek version material words place =
+    record { version = version; iv = drawn_iv words place; sealed = seal material (drawn_iv words place) (drawn_dek words place (length material)) }
+
+-- how many words the draw of a data encryption key of so many bytes takes
+abbrev pub words_of_draw : ℕ → ℕ
+words_of_draw len = 4 + len / 4
+
+-- where the draw of this number begins, from 0, each draw behind the one before
+abbrev pub place_of_draw : ℕ → ℕ → ℕ
+place_of_draw len number = number * words_of_draw len
+
+-- so many data encryption keys, drawn one after another
+abbrev pub drawn_edeks : VersionName → Dek → (ℕ → ℕ) → ℕ → List Edek
+drawn_edeks version material words zero = []
+drawn_edeks version material words (suc n) =
+    drawn_edeks version material words n ++ drawn_edek version material words (place_of_draw (length material) n) ∷ []

@@ -1,4 +1,6 @@
 pub mod Draws
 pub mod State
+pub mod Opening
 pub mod Calls
+pub mod Laws
 pub mod Steps

@@ -1,17 +1,27 @@
 //! Drawing keys of random words.
-ghost use Rattle.std.specs.Prelude.{◌≡◌, ◌+◌, ◌*◌, ◌/◌, ◌⊎◌, ℕ, false, length, IsTrue};
+ghost use Rattle.std.specs.Prelude.{◌≡◌, ◌*◌, ◌/◌, ◌≤◌, ◌⊎◌, ℕ, false, length, take, IsTrue, MatchResult};
 ghost use Rattle.key_rows.specs.Table.{is_length};
-ghost use Rattle.kms_core.specs.Draws.{drawn, material_for, words_for};
+ghost use Rattle.kms_core.specs.Draws.{drawn, drawn_edek, drawn_iv, material_for, words_for, words_of_draw};
 ghost use Rattle.kms_core.specs.Calls.{is_misfit};
+ghost use Rattle.kms_core.specs.Steps.{Drew, DrewKeys, DrewSome};
 
-use hk_base::{ByteList, Dek, Words};
+use eek_seal::seal;
+use hk_base::{ByteList, Dek, Edek, Iv, NoMemory, VersionName, Words};
+use key_rows::EdekList;
+use std::alloc::Global;
 
-/// A key of the next `count` words: 4, 6 or 8.
-fn draw<W: Words>(words: &mut W, count: u64) -> Dek
-    requires { (count ≡ 4) ⊎ (count ≡ 6) ⊎ (count ≡ 8) }
-    ensures key { result ≡ drawn (W.to_come words.old) 0 count }
-    ensures rest { (k : ℕ) → W.to_come words.new k ≡ W.to_come words.old (count + k) }
-    ensures length { length result ≡ 4 * count }
+/// The current version of a key, with its material.
+#[derive(Clone, Copy)]
+pub struct CurrentVersion {
+    pub version: VersionName,
+    pub material: Dek,
+}
+
+/// The bytes of the next words, at most 8, and zeros behind them.
+fn draw<W: Words>(words: &mut W, count: u64) -> [u8; 32]
+    requires { count ≤ 8 }
+    ensures bytes { take (4 * count) result ≡ drawn (W.to_come words.old) 0 count }
+    ensures rest { Drew (W.to_come words.old) (W.to_come words.new) count }
 {
     let mut bytes = [0u8; 32];
     for i in 0..count {
@@ -19,8 +29,31 @@ fn draw<W: Words>(words: &mut W, count: u64) -> Dek
         let at = 4 * i as usize;
         bytes[at..at + 4].copy_from_slice(&word);
     }
+    bytes
+}
+
+/// A key of the next `count` words: 4, 6 or 8.
+fn draw_key<W: Words>(words: &mut W, count: u64) -> Dek
+    requires { (count ≡ 4) ⊎ (count ≡ 6) ⊎ (count ≡ 8) }
+    ensures key { result ≡ drawn (W.to_come words.old) 0 count }
+    ensures rest { Drew (W.to_come words.old) (W.to_come words.new) count }
+    ensures length { length result ≡ 4 * count }
+{
+    let bytes = draw(words, count);
     let len = 4 * count as usize;
     Dek::of(&bytes[..len])
+}
+
+/// An initialization vector of the next four words.
+#[tactic(auto, unfolding(crate::specs::Draws::drawn_iv))]
+fn draw_iv<W: Words>(words: &mut W) -> Iv
+    ensures iv { result ≡ drawn_iv (W.to_come words.old) 0 }
+    ensures rest { Drew (W.to_come words.old) (W.to_come words.new) 4 }
+{
+    let bytes = draw(words, 4);
+    let mut iv = [0u8; 16];
+    iv.copy_from_slice(&bytes[..16]);
+    Iv(iv)
 }
 
 /// The material that is given, or else a drawn one of `bits` bits.
@@ -28,11 +61,45 @@ pub fn material_for<W: Words>(words: &mut W, bits: u64, given: Option<ByteList>)
     requires known { IsTrue (is_length bits) }
     requires fits { is_misfit bits given ≡ false }
     ensures key { result ≡ material_for (W.to_come words.old) bits given }
-    ensures rest { (k : ℕ) → W.to_come words.new k ≡ W.to_come words.old (words_for bits given + k) }
+    ensures rest { Drew (W.to_come words.old) (W.to_come words.new) (words_for bits given) }
     ensures length { length result ≡ bits / 8 }
 {
     match given {
-        None => draw(words, bits / 32),
+        None => draw_key(words, bits / 32),
         Some(material) => Dek::of(material.as_slice()),
     }
+}
+
+/// A data encryption key of the next words, encrypted under the current version. Its
+/// initialization vector is drawn first.
+fn draw_edek<W: Words>(words: &mut W, current: &CurrentVersion) -> Edek
+    ensures key { result ≡ drawn_edek current.now.version current.now.material (W.to_come words.old) 0 }
+    ensures rest { Drew (W.to_come words.old) (W.to_come words.new) (words_of_draw (length current.now.material)) }
+{
+    let iv = draw_iv(words);
+    let len = current.material.as_bytes().len() as u64;
+    let dek = draw_key(words, len / 4);
+    Edek {
+        version: current.version,
+        iv,
+        sealed: seal(&current.material, iv, &dek),
+    }
+}
+
+/// So many data encryption keys, drawn one after another. No word is drawn before there is memory
+/// for all of them.
+pub fn draw_edeks<W: Words>(
+    alloc: Global,
+    words: &mut W,
+    current: &CurrentVersion,
+    count: u32,
+) -> Result<EdekList, NoMemory>
+    ensures { MatchResult result (λ keys. DrewKeys current.now (W.to_come words.old) (W.to_come words.new) count keys) (λ _. DrewSome current.now (W.to_come words.old) (W.to_come words.new) count) }
+{
+    let mut keys = EdekList::with_room(alloc, count as usize)?;
+    for _ in 0..count {
+        let key = draw_edek(words, current);
+        keys.push(key)?;
+    }
+    Ok(keys)
 }

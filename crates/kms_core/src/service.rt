@@ -1,14 +1,17 @@
 //! The service and its calls.
-ghost use Rattle.std.specs.Prelude.{◌≡◌, ◌*◌, ◌/◌, ◌≤◌, ◌<◌, ◌^◌, ◌+◌, ℕ, List, true, false, IfOk, IfNone, IfSome, IsTrue, MatchBool, MatchOption, ◌⊎◌, None, Some, find, is_none, is_some, length};
+ghost use Rattle.std.specs.Prelude.{◌≡◌, ◌*◌, ◌/◌, ◌≤◌, ◌<◌, ◌^◌, ◌+◌, ℕ, List, true, false, IfOk, IfNone, IfSome, IsTrue, MatchBool, MatchOption, MatchResult, ◌⊎◌, None, Some, find, is_none, is_some, length};
 ghost use Rattle.key_rows.specs.declared.rows.KeyCommand.TheVariants as command;
 ghost use Rattle.key_rows.specs.Table.{applies, is_length};
 ghost use Rattle.kms_core.specs.State.{first_state};
-ghost use Rattle.kms_core.specs.Calls.{Acts, bits_of, create_causes, created, first_cause, is_full, is_misfit, only_answer, meta_of, roll_causes, rolled, row_of, shown};
-ghost use Rattle.kms_core.specs.Steps.{Enacts, StandsSo};
+ghost use Rattle.kms_core.specs.Calls.{Acts, bits_of, create_causes, created, first_cause, is_full, is_malformed, is_misfit, only_answer, meta_of, roll_causes, rolled, row_of, sent_causes, shown};
+ghost use Rattle.kms_core.specs.Steps.{Enacts, HasParts, IsCurrent, Opens, StandsSo};
 
-use crate::drawing::material_for;
-use hk_base::{ByteList, Dek, KeyName, NoMemory, Text, VersionName, Words};
-use key_rows::{Description, KeyCommand, KeyMeta, KeyTable, KmsCall, KmsRefusal, KmsReply};
+use crate::drawing::{CurrentVersion, draw_edeks, material_for};
+use eek_seal::unseal;
+use hk_base::{ByteList, Dek, Iv, KeyName, NoMemory, Text, VersionName, Words};
+use key_rows::{
+    Description, KeyCommand, KeyMeta, KeyTable, KmsCall, KmsRefusal, KmsReply, RawEdek,
+};
 use std::alloc::Global;
 use std::marker::Model;
 
@@ -20,6 +23,9 @@ const MOST_KEYS: u32 = 10000;
 
 /// How many versions a key has at most.
 const MOST_VERSIONS: u16 = 65535;
+
+/// How many data encryption keys a call may ask for.
+const MOST_ASKED: u32 = 1000;
 
 /// What a change needs to know of a key.
 #[derive(Clone, Copy)]
@@ -79,7 +85,7 @@ impl Kms {
     }
 
     /// Answers a call of a user. `now` is the moment, which a created key keeps. A refusal leaves
-    /// the keys as they were, and draws no word unless memory is wanting.
+    /// the keys as they were, and draws no word unless memory is wanting. Decrypt takes no memory.
     pub fn act<W: Words>(
         &mut self,
         words: &mut W,
@@ -98,6 +104,8 @@ impl Kms {
             } => self.create(words, now, name, bits, material, description),
             KmsCall::Roll { name, material } => self.roll(words, now, name, material),
             KmsCall::Metadata { name } => self.metadata(name),
+            KmsCall::Generate { name, count } => self.generate(words, name, count),
+            KmsCall::Decrypt { name, sent } => self.decrypt(name, sent),
         }
     }
 
@@ -249,6 +257,77 @@ impl Kms {
             }),
         }
     }
+
+    fn generate<W: Words>(&self, words: &mut W, name: KeyName, count: u32) -> KmsReply
+        ensures { (now : ℕ) → Acts self.now (W.to_come words.old) now (KmsCall.Generate name count) result self.now (W.to_come words.new) }
+    {
+        let Some(current) = self.current(&name) else {
+            return KmsReply::Refused(KmsRefusal::NoSuchKey);
+        };
+        if count > MOST_ASKED {
+            return KmsReply::Refused(KmsRefusal::TooManyAsked);
+        }
+        match draw_edeks(self.alloc, words, &current, count) {
+            Err(NoMemory) => KmsReply::Refused(KmsRefusal::NoMemory),
+            Ok(keys) => KmsReply::Ready(keys),
+        }
+    }
+
+    /// The current version of a key with its material, or `None` where the key is absent.
+    fn current(&self, name: &KeyName) -> Option<CurrentVersion>
+        ensures { MatchOption result (is_none (row_of self.now name.now) ≡ true) (IsCurrent self.now name.now) }
+    {
+        let row = self.table.find(name)?;
+        let number = (row.materials.len() - 1) as u16;
+        let material = row.materials.get(number)?;
+        let key = row.name;
+        Some(CurrentVersion {
+            version: VersionName { key, number },
+            material,
+        })
+    }
+
+    fn decrypt(&self, name: KeyName, sent: RawEdek) -> KmsReply
+        ensures { (words : ℕ → ℕ) (now : ℕ) → Acts self.now words now (KmsCall.Decrypt name sent) result self.now words }
+    {
+        match self.open(&name, &sent) {
+            Err(why) => KmsReply::Refused(why),
+            Ok(key) => KmsReply::Key(key),
+        }
+    }
+
+    /// What was sent opened under its version, which has to be one of the named key.
+    fn open(&self, name: &KeyName, sent: &RawEdek) -> Result<Dek, KmsRefusal>
+        ensures { MatchResult result (Opens self.now name.now sent.now) (λ why. first_cause (sent_causes (row_of self.now name.now) name.now sent.now) ≡ Some why) }
+    {
+        let Some(row) = self.table.find(name) else {
+            return Err(KmsRefusal::NoSuchKey);
+        };
+        let Some(material) = row.materials.get(sent.version.number) else {
+            return Err(KmsRefusal::NoSuchVersion);
+        };
+        if !sent.version.key.is(name) {
+            return Err(KmsRefusal::WrongKey);
+        }
+        let Some((iv, sealed)) = parts(row.bits, sent) else {
+            return Err(KmsRefusal::BadMaterial);
+        };
+        Ok(unseal(&material, iv, &sealed))
+    }
+}
+
+/// The initialization vector and the sealed key that were sent, or `None` where their lengths are
+/// not those for a key of `bits` bits.
+fn parts(bits: u16, sent: &RawEdek) -> Option<(Iv, Dek)>
+    requires { IsTrue (is_length bits) }
+    ensures { MatchOption result (is_malformed bits sent.now ≡ true) (λ parts. HasParts bits sent.now parts.0 parts.1) }
+{
+    let iv = Iv::read(sent.iv.as_slice())?;
+    let sealed = Dek::read(sent.sealed.as_slice())?;
+    if sealed.as_bytes().len() != bits as usize / 8 {
+        return None;
+    }
+    Some((iv, sealed))
 }
 
 /// A version with its material.

@@ -1,7 +1,3 @@
-use Rattle.std.proofs.Common.{◌≡◌, List, subst, sym}
-use Rattle.key_rows.specs.declared.rows.KeyRow.{KeyRow}
-use Rattle.key_rows.specs.Table.{Table}
-use Rattle.key_rows.specs.Sound.{IsTable}
 use Rattle.key_rows.proofs.TableLemmas.{sound_create, sound_roll, sound_delete}
 use Rattle.key_rows.proofs.table.KeyTable.apply.Goals as goal
 

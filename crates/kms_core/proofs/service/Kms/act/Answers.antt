@@ -1,4 +1,3 @@
-use Rattle.std.proofs.Common.{◌≡◌}
 use Rattle.kms_core.proofs.StepLemmas.{tells_metadata}
 use Rattle.kms_core.proofs.service.Kms.act.Goals as goal
 

@@ -1,4 +1,4 @@
-use Rattle.std.proofs.Common.{◌≡◌, subst, sym}
+use Rattle.std.proofs.Common.{subst, sym}
 use Rattle.kms_core.specs.State.{KmsState}
 use Rattle.kms_core.specs.Steps.{StandsSo}
 use Rattle.kms_core.proofs.StepLemmas.{can_roll}

@@ -1,5 +1,4 @@
-use Rattle.std.proofs.Common.{◌≡◌, ◌<◌, false, sym, ◌∙◌, arith}
-use Rattle.kms_core.specs.Calls.{is_misfit}
+use Rattle.std.proofs.Common.{sym, arith}
 use Rattle.kms_core.proofs.StepLemmas.{rolls}
 use Rattle.kms_core.proofs.service.Kms.roll.Goals as goal
 

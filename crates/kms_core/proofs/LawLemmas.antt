@@ -1,0 +1,227 @@
+-- Data encryption keys that are generated and decrypted.
+use Rattle.std.proofs.Common.{◌≡◌, ℕ, zero, suc, ◌+◌, ◌-◌, ◌*◌, ◌/◌, ◌<◌, ◌≤◌, ◌⊎◌, inl, inr, List, [], ◌∷◌, ◌++◌, length, find, Bool, true, false, not, ◌||◌, ◌==◌, cond, nat_lt, nat_le, Option, None, Some, is_none, IfSome, refl, ap, sym, ◌∙◌, subst, arith, get_or, length-append, mul-le-mul_right}
+use Rattle.std.specs.Int.{w32, to_le_bytes}
+use Rattle.std.specs.List.{slice_get}
+use Rattle.std.specs.Option.{option_map, unwrap_or}
+use Rattle.std.specs.Str.{bytes_eq}
+use Rattle.std.proofs.lemmas.Bool.Decides.{Decides-eqb, nat_tests}
+use Rattle.std.proofs.lemmas.Option.{slice_get-get_or}
+use Rattle.hk_base.specs.declared.names.Edek.{Edek}
+use Rattle.hk_base.specs.declared.names.VersionName.{VersionName}
+use Rattle.eek_seal.specs.Seal.{seal, unseal}
+use Rattle.eek_seal.proofs.SealLemmas.{unseal-seal, length-seal}
+use Rattle.key_rows.specs.declared.rows.KeyRow.{KeyRow}
+use Rattle.key_rows.specs.declared.calls.RawEdek.{RawEdek}
+use Rattle.key_rows.specs.declared.calls.KmsCall.TheVariants as call
+use Rattle.key_rows.specs.declared.calls.KmsReply.{KmsReply}
+use Rattle.key_rows.specs.declared.calls.KmsReply.TheVariants as reply
+use Rattle.key_rows.specs.declared.calls.KmsRefusal.{KmsRefusal}
+use Rattle.key_rows.specs.declared.calls.KmsRefusal.TheVariants as refusal
+use Rattle.key_rows.specs.Table.{Table, find_name, is_named, is_length, material_of}
+use Rattle.key_rows.specs.Sound.{IsRow, IsTable}
+use Rattle.key_rows.proofs.TableLemmas.{found_row}
+use Rattle.kms_core.specs.State.{KmsState}
+use Rattle.kms_core.specs.Draws.{drawn, drawn_iv, drawn_dek, drawn_edek, drawn_edeks, place_of_draw, words_of_draw}
+use Rattle.kms_core.specs.Opening.{unseals}
+use Rattle.kms_core.specs.Calls.{Acts, Deed, Plain, NoRoom, Ending, MayEnd, outcome, causes, deed, first_cause, unless_refused, refused, sent_causes, generate_causes, generated, lacks_version, is_of_other_key, is_malformed, row_of, bits_of, edek_of, current_version, current_material}
+use Rattle.kms_core.specs.Laws.{DecryptOpens, DrawsApart, DrawsReadTheirOwn, GeneratedDecrypts, GeneratedOpens, SameWords, dek_of_draw, sent_of}
+use Rattle.kms_core.proofs.DrawLemmas.{length-drawn}
+use Rattle.kms_core.proofs.KeyLemmas.{each_get, found_passes, sent_allowed, version_at}
+
+-- no cause stands: the first one doesn't, nor one of the rest
+none_stands : (cause : Bool) (why : KmsRefusal) (rest : List (Bool × KmsRefusal)) → first_cause ((cause, why) ∷ rest) ≡ None → (cause ≡ false) × (first_cause rest ≡ None)
+none_stands true why rest none = absurd cc
+none_stands false why rest none = (refl, none)
+
+-- what is sent of a version that the named key has
+sent_has : (rows : List KeyRow) (name : List ℕ) (sent : RawEdek) (row : Option KeyRow) → find_name rows name ≡ row → is_none row ≡ false
+    → lacks_version row sent ≡ false → is_of_other_key name sent ≡ false → (material : List ℕ) × (material_of rows sent.version ≡ Some material)
+sent_has rows name sent None found stands has its = absurd cc
+sent_has rows name sent (Some row) found stands has its =
+    let within : sent.version.number < length row.materials = grind (arith, nat_tests, has) in
+    let same : bytes_eq sent.version.key name ≡ true = is_true (bytes_eq sent.version.key name) its in
+    (get_or row.materials sent.version.number [], version_at rows name sent.version.key sent.version.number row _ found same (slice_get-get_or row.materials sent.version.number [] within))
+  where
+    is_true : (b : Bool) → not b ≡ false → b ≡ true
+    is_true true e = refl
+    is_true false e = absurd cc
+
+-- what decrypt answers where there is no cause of a refusal
+decrypt_told : (s : KmsState) (words : ℕ → ℕ) (now : ℕ) (name : List ℕ) (sent : RawEdek) (told : KmsReply) (s' : KmsState) (words' : ℕ → ℕ)
+    → first_cause (sent_causes (row_of s name) name sent) ≡ None → Acts s words now (call.Decrypt name sent) told s' words'
+    → told ≡ reply.Key (unwrap_or (unseals s.table.rows (edek_of sent)) [])
+decrypt_told s words now name sent told s' words' none acts = by_end acts.acts.0 acts.acts.1 acts.acts.2
+  where
+    by_end : (e : Ending) → MayEnd s words now (call.Decrypt name sent) e
+        → (record { told = told; drawn = acts.drawn; state = s' }) ≡ outcome s words now (call.Decrypt name sent) e → told ≡ reply.Key (unwrap_or (unseals s.table.rows (edek_of sent)) [])
+    by_end Plain may is = ap (λ o. o.told) is ∙ ap (λ cause. (unless_refused cause s (deed s words now (call.Decrypt name sent))).told) none
+    by_end (NoRoom some) may is = absurd cc
+
+pub decrypt_opens : DecryptOpens
+decrypt_opens s words now name sent told s' words' none acts =
+    let row = row_of s name in
+    let malformed : List (Bool × KmsRefusal) = (is_malformed (bits_of row) sent, refusal.BadMaterial) ∷ [] in
+    let other : List (Bool × KmsRefusal) = (is_of_other_key name sent, refusal.WrongKey) ∷ malformed in
+    let lacking : List (Bool × KmsRefusal) = (lacks_version row sent, refusal.NoSuchVersion) ∷ other in
+    let one = none_stands (is_none row) refusal.NoSuchKey lacking none in
+    let two = none_stands (lacks_version row sent) refusal.NoSuchVersion other one.1 in
+    let three = none_stands (is_of_other_key name sent) refusal.WrongKey malformed two.1 in
+    let has = sent_has s.table.rows name sent row refl one.0 two.0 three.0 in
+    let opens : unseals s.table.rows (edek_of sent) ≡ Some (unseal has.0 sent.iv sent.sealed) = ap (option_map (λ m. unseal m sent.iv sent.sealed)) has.1 in
+    (unseal has.0 sent.iv sent.sealed, opens, decrypt_told s words now name sent told s' words' none acts ∙ ap (λ o. reply.Key (unwrap_or o [])) opens)
+
+-- what a generate that answers keys answers
+record Gave (s : KmsState) (words : ℕ → ℕ) (name : List ℕ) (count : ℕ) (keys : List Edek) (s' : KmsState) : Type 0 where
+  stands : is_none (row_of s name) ≡ false
+  drawn : keys ≡ drawn_edeks (current_version (row_of s name)) (current_material s name) words count
+  same : s' ≡ s
+
+gave : (s : KmsState) (words : ℕ → ℕ) (now : ℕ) (name : List ℕ) (count : ℕ) (keys : List Edek) (s' : KmsState) (words' : ℕ → ℕ)
+    → Acts s words now (call.Generate name count) (reply.Ready keys) s' words' → Gave s words name count keys s'
+gave s words now name count keys s' words' acts = by_end acts.acts.0 acts.acts.2
+  where
+    by_cause : (cause : Option KmsRefusal) → first_cause (generate_causes (row_of s name) count) ≡ cause
+        → (record { told = reply.Ready keys; drawn = acts.drawn; state = s' }) ≡ unless_refused cause s (generated s words name count) → Gave s words name count keys s'
+    by_cause (Some why) found is = let no : reply.Ready keys ≡ reply.Refused why = ap (λ o. o.told) is in absurd cc
+    by_cause None found is =
+        let told : reply.Ready keys ≡ reply.Ready (drawn_edeks (current_version (row_of s name)) (current_material s name) words count) = ap (λ o. o.told) is in
+        record { stands = (none_stands (is_none (row_of s name)) refusal.NoSuchKey ((nat_lt 1000 count, refusal.TooManyAsked) ∷ []) found).0; drawn = cc; same = ap (λ o. o.state) is }
+    by_end : (e : Ending) → (record { told = reply.Ready keys; drawn = acts.drawn; state = s' }) ≡ outcome s words now (call.Generate name count) e → Gave s words name count keys s'
+    by_end Plain is = by_cause (first_cause (generate_causes (row_of s name) count)) refl is
+    by_end (NoRoom some) is = let no : reply.Ready keys ≡ reply.Refused refusal.NoMemory = ap (λ o. o.told) is in absurd cc
+
+-- the keys drawn, by their numbers
+
+length-drawn_edeks : (version : VersionName) (material : List ℕ) (words : ℕ → ℕ) (count : ℕ) → length (drawn_edeks version material words count) ≡ count
+length-drawn_edeks version material words zero = refl
+length-drawn_edeks version material words (suc n) =
+    omega (arith, length-append (drawn_edeks version material words n) (drawn_edek version material words (place_of_draw (length material) n) ∷ []), length-drawn_edeks version material words n)
+
+last_or_before : {X : Type 0} (xs : List X) (x : X) (i : ℕ) (y : X) → slice_get (xs ++ x ∷ []) i ≡ Some y → (slice_get xs i ≡ Some y) ⊎ ((i ≡ length xs) × (y ≡ x))
+last_or_before [] x zero y is = inr (refl, cc)
+last_or_before [] x (suc i) y is = absurd cc
+last_or_before (z ∷ xs) x zero y is = inl is
+last_or_before (z ∷ xs) x (suc i) y is = elim (last_or_before xs x i y is) [ inl h ↦ inl h | inr h ↦ inr (ap suc h.0, h.1) ]
+
+drawn_at : (version : VersionName) (material : List ℕ) (words : ℕ → ℕ) (count number : ℕ) (key : Edek)
+    → slice_get (drawn_edeks version material words count) number ≡ Some key → key ≡ drawn_edek version material words (place_of_draw (length material) number)
+drawn_at version material words zero number key is = absurd cc
+drawn_at version material words (suc n) number key is =
+    elim (last_or_before (drawn_edeks version material words n) (drawn_edek version material words (place_of_draw (length material) n)) number key is) [
+      | inl h ↦ drawn_at version material words n number key h
+      | inr h ↦ h.1 ∙ ap (λ m. drawn_edek version material words (place_of_draw (length material) m)) (sym (h.0 ∙ length-drawn_edeks version material words n))
+    ]
+
+-- the current version of a key that stands
+
+record Standing_key (s : KmsState) (name : List ℕ) (row : KeyRow) : Type 0 where
+  found : row_of s name ≡ Some row
+  sound : IsRow row
+  named : bytes_eq row.name name ≡ true
+  got : slice_get row.materials (length row.materials - 1) ≡ Some (current_material s name)
+  has : material_of s.table.rows (current_version (row_of s name)) ≡ Some (current_material s name)
+
+standing_key : (s : KmsState) (name : List ℕ) → IsTable s.table → is_none (row_of s name) ≡ false → (row : KeyRow) × Standing_key s name row
+standing_key s name is stands = by_row (row_of s name) refl stands (found_row s.table name is)
+  where
+    by_row : (o : Option KeyRow) → row_of s name ≡ o → is_none o ≡ false → IfSome o IsRow → (row : KeyRow) × Standing_key s name row
+    by_row None found stands sound = absurd cc
+    by_row (Some row) found stands sound =
+        let newest : ℕ = length row.materials - 1 in
+        let material : List ℕ = get_or row.materials newest [] in
+        let within : newest < length row.materials = omega (arith, sound.some) in
+        let got : slice_get row.materials newest ≡ Some material = slice_get-get_or row.materials newest [] within in
+        let named : bytes_eq row.name name ≡ true = found_passes (is_named name) s.table.rows row found in
+        let has : material_of s.table.rows (current_version (row_of s name)) ≡ Some material =
+            ap (λ o. material_of s.table.rows (current_version o)) found ∙ version_at s.table.rows name row.name newest row material found named got in
+        let is : Some material ≡ Some (current_material s name) = ap (λ o. Some (unwrap_or o [])) (sym has) in
+        (row, record { found = found; sound = sound; named = named; got = got ∙ is; has = has ∙ is })
+
+generated_opens_to : (s : KmsState) (words : ℕ → ℕ) (name : List ℕ) (number : ℕ) (key : Edek) → material_of s.table.rows (current_version (row_of s name)) ≡ Some (current_material s name)
+    → key ≡ drawn_edek (current_version (row_of s name)) (current_material s name) words (place_of_draw (length (current_material s name)) number)
+    → unseals s.table.rows key ≡ Some (dek_of_draw s words name number)
+generated_opens_to s words name number key has is =
+    let version : VersionName = current_version (row_of s name) in
+    let material : List ℕ = current_material s name in
+    let place : ℕ = place_of_draw (length material) number in
+    ap (unseals s.table.rows) is ∙ ap (option_map (λ m. unseal m (drawn_iv words place) (seal material (drawn_iv words place) (drawn_dek words place (length material))))) has
+    ∙ ap Some (unseal-seal material (drawn_iv words place) (drawn_dek words place (length material)))
+
+pub generated_opens : GeneratedOpens
+generated_opens s words now name count keys s' words' is acts number key at =
+    let all = gave s words now name count keys s' words' acts in
+    let row = standing_key s name is all.stands in
+    let drawn_key = drawn_at (current_version (row_of s name)) (current_material s name) words count number key (ap (λ ks. slice_get ks number) (sym all.drawn) ∙ at) in
+    ap (λ t. unseals t.table.rows key) all.same ∙ generated_opens_to s words name number key row.1.has drawn_key
+
+-- what was drawn is well formed
+
+key_bytes : (bits : ℕ) → is_length bits ≡ true → 4 * (bits / 8 / 4) ≡ bits / 8
+key_bytes bits is = grind (arith, nat_tests, is)
+
+well_formed : (bits : ℕ) (version : VersionName) (material : List ℕ) (words : ℕ → ℕ) (place : ℕ) → is_length bits ≡ true → length material ≡ bits / 8
+    → is_malformed bits (sent_of (drawn_edek version material words place)) ≡ false
+unfolding drawn_iv
+well_formed bits version material words place known long =
+    let iv : length (drawn words place 4) ≡ 16 = length-drawn words place 4 in
+    let dek : length (seal material (drawn words place 4) (drawn_dek words place (length material))) ≡ bits / 8 =
+        length-seal material (drawn words place 4) (drawn_dek words place (length material)) ∙ length-drawn words (place + 4) (length material / 4)
+        ∙ ap (λ n. 4 * (n / 4)) long ∙ key_bytes bits known in
+    neither (length (seal material (drawn words place 4) (drawn_dek words place (length material))) == bits / 8) (length (drawn words place 4) == 16)
+    ((Decides-eqb _ _).1 dek) ((Decides-eqb _ _).1 iv)
+  where
+    neither : (a b : Bool) → a ≡ true → b ≡ true → (not a || not b) ≡ false
+    neither a b f g = ap (λ x. not x || not b) f ∙ ap not g
+
+-- a key drawn under the newest version of a key has no cause of a refusal
+allowed_back : (row : KeyRow) (name : List ℕ) (material : List ℕ) (words : ℕ → ℕ) (place : ℕ) → IsRow row → bytes_eq row.name name ≡ true
+    → slice_get row.materials (length row.materials - 1) ≡ Some material
+    → first_cause (sent_causes (Some row) name (sent_of (drawn_edek (current_version (Some row)) material words place))) ≡ None
+allowed_back row name material words place sound named got =
+    let newer : nat_le (length row.materials) (length row.materials - 1) ≡ false = grind (arith, nat_tests, sound.some) in
+    let long : length material ≡ row.bits / 8 = each_get (λ (m : List ℕ). length m ≡ row.bits / 8) row.materials (length row.materials - 1) material sound.materials got in
+    sent_allowed (Some row) name (sent_of (drawn_edek (current_version (Some row)) material words place)) refl newer (ap not named)
+    (well_formed row.bits (current_version (Some row)) material words place sound.bits long)
+
+pub generated_decrypts : GeneratedDecrypts
+generated_decrypts s words now name count keys s' words' is acts number key at later then told s'' later' answered =
+    let all = gave s words now name count keys s' words' acts in
+    let row = standing_key s name is all.stands in
+    let drawn_key = drawn_at (current_version (row_of s name)) (current_material s name) words count number key (ap (λ ks. slice_get ks number) (sym all.drawn) ∙ at) in
+    let opens = generated_opens_to s words name number key row.1.has drawn_key in
+    let answered_in : Acts s later then (call.Decrypt name (sent_of key)) told s'' later' = subst (λ (t : KmsState). Acts t later then (call.Decrypt name (sent_of key)) told s'' later') all.same answered in
+    decrypt_told s later then name (sent_of key) told s'' later' (no_cause s words name number key row.0 row.1 drawn_key) answered_in
+    ∙ ap (λ o. reply.Key (unwrap_or o [])) opens
+  where
+    no_cause : (s : KmsState) (words : ℕ → ℕ) (name : List ℕ) (number : ℕ) (key : Edek) (row : KeyRow) → Standing_key s name row
+        → key ≡ drawn_edek (current_version (row_of s name)) (current_material s name) words (place_of_draw (length (current_material s name)) number)
+        → first_cause (sent_causes (row_of s name) name (sent_of key)) ≡ None
+    no_cause s words name number key row of is =
+        let material : List ℕ = current_material s name in
+        let place : ℕ = place_of_draw (length material) number in
+        subst (λ (k : Edek). first_cause (sent_causes (row_of s name) name (sent_of k)) ≡ None) (sym is)
+        (subst (λ (o : Option KeyRow). first_cause (sent_causes o name (sent_of (drawn_edek (current_version o) material words place))) ≡ None) (sym of.found)
+        (allowed_back row name material words place of.sound of.named of.got))
+
+-- a draw reads its own words
+
+same_drawn : (words others : ℕ → ℕ) (place count : ℕ) → SameWords words others place count → drawn words place count ≡ drawn others place count
+same_drawn words others place zero same = refl
+same_drawn words others place (suc n) same =
+    ap (λ bytes. bytes ++ to_le_bytes w32 (words (place + n))) (same_drawn words others place n (λ k within. same k (omega arith)))
+    ∙ ap (λ word. drawn others place n ++ to_le_bytes w32 word) (same n (omega arith))
+
+pub draws_read_their_own : DrawsReadTheirOwn
+unfolding drawn_iv
+draws_read_their_own version material words others place same =
+    let len : ℕ = length material in
+    let iv : drawn words place 4 ≡ drawn others place 4 = same_drawn words others place 4 (λ k within. same k (omega arith)) in
+    let dek : drawn words (place + 4) (len / 4) ≡ drawn others (place + 4) (len / 4) =
+        same_drawn words others (place + 4) (len / 4) (λ k within. ap words (omega arith) ∙ same (4 + k) (omega arith) ∙ ap others (omega arith)) in
+    record { edek = λ i. record { version = version; iv = iv i; sealed = seal material (iv i) (dek i) }; dek = dek }
+
+pub draws_apart : DrawsApart
+draws_apart len number later before =
+    let over : number + 1 ≤ later = omega arith in
+    let next : place_of_draw len number + words_of_draw len ≡ place_of_draw len (number + 1) = grind arith in
+    omega (arith, next, mul-le-mul_right (4 + len / 4) over)

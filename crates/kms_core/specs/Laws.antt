@@ -1,0 +1,66 @@
+-- What follows for data encryption keys that are generated and decrypted.
+use Rattle.std.specs.Prelude.{◌≡◌, ℕ, ◌+◌, ◌<◌, ◌≤◌, List, length, Option, None, Some, slice_get}
+use Rattle.hk_base.specs.declared.names.Dek.{Dek}
+use Rattle.hk_base.specs.declared.names.Edek.{Edek}
+use Rattle.hk_base.specs.declared.names.KeyName.{KeyName}
+use Rattle.hk_base.specs.declared.names.VersionName.{VersionName}
+use Rattle.key_rows.specs.declared.calls.KmsCall.TheVariants as call
+use Rattle.key_rows.specs.declared.calls.KmsReply.{KmsReply}
+use Rattle.key_rows.specs.declared.calls.KmsReply.TheVariants as reply
+use Rattle.key_rows.specs.declared.calls.RawEdek.{RawEdek}
+use Rattle.key_rows.specs.Sound.{IsTable}
+use Rattle.kms_core.specs.Draws.{drawn_dek, drawn_edek, place_of_draw, words_of_draw}
+use Rattle.kms_core.specs.Opening.{unseals}
+use Rattle.kms_core.specs.State.{KmsState}
+use Rattle.kms_core.specs.Calls.{Acts, first_cause, sent_causes, row_of, edek_of, current_material}
+
+-- what is sent without a cause of a refusal is always opened, and nothing else is answered
+abbrev pub DecryptOpens : Type 0
+DecryptOpens =
+    (s : KmsState) (words : ℕ → ℕ) (now : ℕ) (name : KeyName) (sent : RawEdek) (told : KmsReply) (s' : KmsState) (words' : ℕ → ℕ)
+    → first_cause (sent_causes (row_of s name) name sent) ≡ None → Acts s words now (call.Decrypt name sent) told s' words'
+    → (key : Dek) × (unseals s.table.rows (edek_of sent) ≡ Some key) × (told ≡ reply.Key key)
+
+-- the data key of the draw of this number in a generate
+abbrev pub dek_of_draw : KmsState → (ℕ → ℕ) → KeyName → ℕ → Dek
+dek_of_draw s words name number =
+    let len = length (current_material s name) in
+    drawn_dek words (place_of_draw len number) len
+
+-- each key that a generate answers opens, under the table as it stands, to the data key drawn for it
+abbrev pub GeneratedOpens : Type 0
+GeneratedOpens =
+    (s : KmsState) (words : ℕ → ℕ) (now : ℕ) (name : KeyName) (count : ℕ) (keys : List Edek) (s' : KmsState) (words' : ℕ → ℕ)
+    → IsTable s.table → Acts s words now (call.Generate name count) (reply.Ready keys) s' words'
+    → (number : ℕ) (key : Edek) → slice_get keys number ≡ Some key → unseals s'.table.rows key ≡ Some (dek_of_draw s words name number)
+
+-- the encrypted key as it is sent back
+abbrev pub sent_of : Edek → RawEdek
+sent_of key = record { version = key.version; iv = key.iv; sealed = key.sealed }
+
+-- and decrypt answers that data key
+abbrev pub GeneratedDecrypts : Type 0
+GeneratedDecrypts =
+    (s : KmsState) (words : ℕ → ℕ) (now : ℕ) (name : KeyName) (count : ℕ) (keys : List Edek) (s' : KmsState) (words' : ℕ → ℕ)
+    → IsTable s.table → Acts s words now (call.Generate name count) (reply.Ready keys) s' words'
+    → (number : ℕ) (key : Edek) → slice_get keys number ≡ Some key
+    → (later : ℕ → ℕ) (then : ℕ) (told : KmsReply) (s'' : KmsState) (later' : ℕ → ℕ)
+    → Acts s' later then (call.Decrypt name (sent_of key)) told s'' later' → told ≡ reply.Key (dek_of_draw s words name number)
+
+-- these many words from the place on are the same in both streams
+abbrev pub SameWords : (ℕ → ℕ) → (ℕ → ℕ) → ℕ → ℕ → Type 0
+SameWords words others place count = (k : ℕ) → k < count → words (place + k) ≡ others (place + k)
+
+-- A draw reads its own words alone.
+pub record ReadsItsOwn (version : VersionName) (material : Dek) (words others : ℕ → ℕ) (place : ℕ) : Type 0 where
+  pub edek : drawn_edek version material words place ≡ drawn_edek version material others place
+  pub dek : drawn_dek words place (length material) ≡ drawn_dek others place (length material)
+
+abbrev pub DrawsReadTheirOwn : Type 0
+DrawsReadTheirOwn =
+    (version : VersionName) (material : Dek) (words others : ℕ → ℕ) (place : ℕ)
+    → SameWords words others place (words_of_draw (length material)) → ReadsItsOwn version material words others place
+
+-- the words of a draw end where those of the next begin, or before, so that no word serves two draws
+abbrev pub DrawsApart : Type 0
+DrawsApart = (len number later : ℕ) → number < later → place_of_draw len number + words_of_draw len ≤ place_of_draw len later
