@@ -12,7 +12,7 @@ const RCON: [u8; 11] = [
 ];
 
 /// The sum of two words.
-pub fn xor_word(a: Word, b: Word) -> Word
+pub(crate) fn xor_word(a: Word, b: Word) -> Word
     ensures { result ≡ xor_word a b }
 {
     [a[0] ^ b[0], a[1] ^ b[1], a[2] ^ b[2], a[3] ^ b[3]]
@@ -38,7 +38,7 @@ fn rot_word(a: Word) -> Word
 /// What is added to word `i - nk` to make word `i`, under a key of `nk` words. `last` is word
 /// `i - 1`.
 #[tactic(auto, using(crate::proofs::Tables::rcon_is))]
-pub fn key_term(nk: usize, i: usize, last: Word) -> Word
+pub(crate) fn key_term(nk: usize, i: usize, last: Word) -> Word
     requires { (0 < nk) × (nk ≤ i) × (i / nk < 11) }
     ensures { result ≡ key_term nk i last }
 {

@@ -125,7 +125,7 @@ fn full_round(words: &[[u8; 4]], round: usize, state: State) -> State
 
 /// The block after so many rounds under the words of an expanded key.
 #[tactic(auto, unfolding(crate::specs::Aes::state_after, crate::specs::Aes::encrypted))]
-pub fn encrypted(words: &[[u8; 4]], rounds: usize, block: &[u8; 16]) -> [u8; 16]
+pub(crate) fn encrypted(words: &[[u8; 4]], rounds: usize, block: &[u8; 16]) -> [u8; 16]
     requires { (1 ≤ rounds) × (4 * rounds + 4 ≤ length words.now) }
     ensures { result ≡ encrypted words.now rounds block.now }
 {

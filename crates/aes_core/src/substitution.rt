@@ -23,7 +23,7 @@ const S_BOX: [u8; 256] = [
 
 /// The S-box of a byte.
 #[tactic(auto, using(crate::proofs::Tables::substituted_is))]
-pub fn substituted(byte: u8) -> u8
+pub(crate) fn substituted(byte: u8) -> u8
     ensures { result ≡ s_box byte }
 {
     S_BOX[byte as usize]
