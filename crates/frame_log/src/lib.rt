@@ -6,6 +6,8 @@
 mod fault;
 mod frames;
 mod log;
+#[cfg(test)]
+mod tests;
 
 pub use fault::{LogFault, StartFault, StoreRefusal};
 pub use frames::{Frame, Frames, LONGEST_PAYLOAD};
