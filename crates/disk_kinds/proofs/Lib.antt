@@ -1,2 +1,5 @@
+mod Plains
+mod Puts
+mod Rests
 mod Seeds
 mod Supplies

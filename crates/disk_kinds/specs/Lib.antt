@@ -1,1 +1,4 @@
 pub mod Fakes
+pub mod Past
+pub mod Plain
+pub mod Untold

@@ -3,10 +3,11 @@ ghost use Rattle.std.specs.Prelude.{◌≡◌, ◌≤◌, ◌+◌, ◌-◌, ◌^
 ghost use Rattle.std.specs.Io.{ReadsAtMost, WritesAtMost};
 ghost use Rattle.std.specs.Io.KnownBytes.{ReadConsumes, WriteAppends};
 
-use hk_base::{Failed, Sink, Source};
+use hk_base::{Clock, Failed, Sink, Source};
 use std::fs::{self, File};
 use std::io::{self, ErrorKind, Read, Write};
 use std::rt::Files;
+use std::time;
 
 /// How often a call that a signal interrupted is tried.
 const TRIES: u32 = 1000;
@@ -39,7 +40,9 @@ impl<R: Read + Drop> Reading<R> {
 }
 
 /// Opens a file to be read.
-pub fn open_source<R: Files>(files: &R, path: &str) -> io::Result<Reading<R::File>> {
+pub fn open_source<R: Files>(files: &R, path: &str) -> io::Result<Reading<R::File>>
+    ensures { IfOk result (λ source. source.faults ≡ 0) }
+{
     Ok(Reading::new(fs::open(files, path)?))
 }
 
@@ -127,6 +130,34 @@ impl<W: Write + Drop> Sink for Writing<W> {
             Err(failed) => {
                 self.faults = one_more(self.faults);
                 Err(failed)
+            }
+        }
+    }
+}
+
+/// The clock of the system, whose errors are counted, up to 2^64 - 1. At an error it answers 0.
+#[derive(Drop)]
+pub struct WallClock<C: time::Clock + Drop> {
+    pub clock: C,
+    pub faults: u64,
+}
+
+impl<C: time::Clock + Drop> WallClock<C> {
+    pub fn new(clock: C) -> WallClock<C>
+        ensures clock { result.clock ≡ clock }
+        ensures faults { result.faults ≡ 0 }
+    {
+        WallClock { clock, faults: 0 }
+    }
+}
+
+impl<C: time::Clock + Drop> Clock for WallClock<C> {
+    fn now_ms(&mut self) -> u64 {
+        match self.clock.since_1970() {
+            Ok(elapsed) => elapsed.as_millis().min(u64::MAX as u128) as u64,
+            Err(_) => {
+                self.faults = one_more(self.faults);
+                0
             }
         }
     }
@@ -222,5 +253,13 @@ mod tests {
         fs::remove_file(&rt, "source.txt")?;
         assert_eq!(rt; open_source(&rt, "source.txt").is_err(), true);
         Ok(())
+    }
+
+    #[test]
+    fn reads_the_clock(rt: HostRuntime) {
+        let mut clock = WallClock::new(rt);
+        // The year 2020 has begun.
+        assert!(rt; clock.now_ms() > 1_577_836_800_000);
+        assert_eq!(rt; clock.faults, 0);
     }
 }

@@ -61,6 +61,13 @@ impl CallPlan {
         Failed
     }
 
+    /// How many calls were made, up to 2^64 - 1.
+    pub fn made(&self) -> u64
+        ensures { result ≡ self.now.made }
+    {
+        self.made
+    }
+
     /// How many calls failed, up to 2^64 - 1.
     pub fn faults(&self) -> u64
         ensures { result ≡ self.now.faults }

@@ -3,13 +3,19 @@
 
 mod adapters;
 mod calls;
+mod file_disk;
+mod mem_disk;
 mod mem_sink;
 mod mem_source;
 mod pieces;
+mod plain_disk;
 mod words;
 
-pub use adapters::{FileSource, Reading, Writing, open_source};
+pub use adapters::{FileSource, Reading, WallClock, Writing, open_source};
 pub use calls::CallPlan;
+pub use file_disk::FileDisk;
+pub use mem_disk::MemDisk;
 pub use mem_sink::MemSink;
 pub use mem_source::MemSource;
+pub use plain_disk::PlainDisk;
 pub use words::{ChaWords, ListWords};

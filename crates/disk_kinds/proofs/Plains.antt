@@ -1,0 +1,17 @@
+-- A call that changes no file of a disk that keeps no record.
+use Rattle.std.proofs.Common.{◌≡◌, ◌≤◌, ℕ, List, refl, sym, subst, arith, inl}
+use Rattle.hk_base.specs.Disk.{CallOn}
+use Rattle.disk_kinds.specs.Plain.{plain_state}
+
+pub plain_call : (file : ℕ) (old new : ℕ → List ℕ) (faults later : ℕ) → faults ≤ later → new ≡ old → CallOn file (plain_state old faults) (plain_state new later)
+plain_call file old new faults later le same =
+    subst (λ (h : ℕ → List ℕ). CallOn file (plain_state old faults) (plain_state h later)) (sym same) (record {
+      tells = refl;
+      records = refl;
+      faults = le;
+      later = omega arith;
+      nothing_else = λ t c in_time h. inl h;
+      keeps = λ recorded t c in_time h. h;
+      other_reads = λ told. refl;
+      other_leaves = λ c. (λ h. h, λ h. h);
+    })

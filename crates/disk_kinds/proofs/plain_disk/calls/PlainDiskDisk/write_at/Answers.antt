@@ -1,0 +1,24 @@
+use Rattle.std.proofs.Common.{◌≡◌, ℕ, List, length, sym, subst}
+use Rattle.hk_base.specs.Disk.{Torn}
+use Rattle.disk_kinds.specs.Plain.{contents, faults_of}
+use Rattle.disk_kinds.proofs.Plains.{plain_call}
+use Rattle.disk_kinds.proofs.Puts.{torn_same}
+use Rattle.disk_kinds.proofs.plain_disk.calls.PlainDiskDisk.write_at.Goals as goal
+
+pub returns-then-at-gt-LONGEST_FILE-clause-torn : goal.returns-then-at-gt-LONGEST_FILE-clause-torn
+returns-then-at-gt-LONGEST_FILE-clause-torn c told = subst (λ (h : ℕ → List ℕ). Torn c.args.at (length c.args.bytes.now) (contents c.args.self.now c.args.file) (h c.args.file)) (sym c.fault.ensures.same) (torn_same c.args.at (length c.args.bytes.now) (contents c.args.self.now c.args.file))
+
+pub returns-then-at-gt-LONGEST_FILE-clause-crash : goal.returns-then-at-gt-LONGEST_FILE-clause-crash
+returns-then-at-gt-LONGEST_FILE-clause-crash c b is = (b, subst (λ (h : ℕ → List ℕ). b ≡ h c.args.file) c.fault.ensures.same is, torn_same c.args.at (length c.args.bytes.now) b)
+
+pub returns-then-at-gt-LONGEST_FILE-clause-call : goal.returns-then-at-gt-LONGEST_FILE-clause-call
+returns-then-at-gt-LONGEST_FILE-clause-call c = plain_call c.args.file (contents c.args.self.now) (contents c.fault.new.self) (faults_of c.args.self.now) (faults_of c.fault.new.self) c.fault.ensures.later c.fault.ensures.same
+
+pub returns-in-Err-clause-torn : goal.returns-in-Err-clause-torn
+returns-in-Err-clause-torn c told = subst (λ (h : ℕ → List ℕ). Torn c.args.at (length c.args.bytes.now) (contents c.args.self.now c.args.file) (h c.args.file)) (sym c.fault-in-Err.ensures.same) (torn_same c.args.at (length c.args.bytes.now) (contents c.args.self.now c.args.file))
+
+pub returns-in-Err-clause-crash : goal.returns-in-Err-clause-crash
+returns-in-Err-clause-crash c b is = (b, subst (λ (h : ℕ → List ℕ). b ≡ h c.args.file) c.fault-in-Err.ensures.same is, torn_same c.args.at (length c.args.bytes.now) b)
+
+pub returns-in-Err-clause-call : goal.returns-in-Err-clause-call
+returns-in-Err-clause-call c = plain_call c.args.file (contents c.args.self.now) (contents c.fault-in-Err.new.self) (faults_of c.args.self.now) (faults_of c.fault-in-Err.new.self) c.fault-in-Err.ensures.later c.fault-in-Err.ensures.same

@@ -1,0 +1,298 @@
+//! A disk of real files.
+ghost use Rattle.std.specs.Prelude.{◌≡◌, ◌≤◌, ◌<◌, ◌+◌, ◌^◌, length, drop, IfOk, OnOk};
+ghost use Rattle.std.specs.Io.{ReadsAtMost, WritesAtMost};
+ghost use Rattle.hk_base.specs.Faults.{Rose};
+ghost use Rattle.disk_kinds.specs.Untold.{untold};
+
+use crate::pieces::copy_front;
+use hk_base::{Disk, Failed, LONGEST_FILE};
+use std::alloc::Global;
+use std::fs::{File, OpenOptions};
+use std::io::{self, ErrorKind};
+use std::os::unix::fs::FileExt;
+use std::rt::Files;
+
+/// How often a call that a signal interrupted is tried.
+const TRIES: u32 = 1000;
+
+/// How many bytes are read at a time.
+const PIECE: usize = 4096;
+
+/// The files `keys.log` and `names.log` of a folder. It counts errors, up to 2^64 - 1, tries a call
+/// that a signal interrupted again, up to 1,000 times, and tells nothing of what the files hold.
+///
+/// The system may drop what a sync could not write. So once a sync of a file failed, each later one
+/// of it fails, until the file is opened again.
+#[derive(Drop)]
+pub struct FileDisk {
+    keys: File,
+    names: File,
+    keys_lost: bool,
+    names_lost: bool,
+    pub faults: u64,
+}
+
+/// Opens a file to be read and written, and makes it where it is missing.
+fn open_log<R: Files<File = File>>(
+    files: &R,
+    alloc: Global,
+    folder: &str,
+    name: &str,
+) -> io::Result<File> {
+    let path = format!(in alloc; "{folder}/{name}")?;
+    OpenOptions::new()
+        .read(true)
+        .write(true)
+        .create(true)
+        .open(files, path.as_str())
+}
+
+fn read_tried(file: &File, buf: &mut [u8], at: u64) -> Result<usize, Failed>
+    ensures { ReadsAtMost result buf.new }
+{
+    for _ in 0..TRIES {
+        match file.read_at(buf, at) {
+            Ok(count) => return Ok(count),
+            Err(error) => {
+                if error.kind() != ErrorKind::Interrupted {
+                    return Err(Failed);
+                }
+            }
+        }
+    }
+    Err(Failed)
+}
+
+fn write_tried(file: &File, bytes: &[u8], at: u64) -> Result<usize, Failed>
+    ensures { WritesAtMost result bytes.now }
+{
+    for _ in 0..TRIES {
+        match file.write_at(bytes, at) {
+            Ok(count) => return Ok(count),
+            Err(error) => {
+                if error.kind() != ErrorKind::Interrupted {
+                    return Err(Failed);
+                }
+            }
+        }
+    }
+    Err(Failed)
+}
+
+fn cut_tried(file: &File, len: u64) -> Result<(), Failed> {
+    for _ in 0..TRIES {
+        match file.set_len(len) {
+            Ok(()) => return Ok(()),
+            Err(error) => {
+                if error.kind() != ErrorKind::Interrupted {
+                    return Err(Failed);
+                }
+            }
+        }
+    }
+    Err(Failed)
+}
+
+fn sync_tried(file: &File) -> Result<(), Failed> {
+    for _ in 0..TRIES {
+        match file.sync_data() {
+            Ok(()) => return Ok(()),
+            Err(error) => {
+                if error.kind() != ErrorKind::Interrupted {
+                    return Err(Failed);
+                }
+            }
+        }
+    }
+    Err(Failed)
+}
+
+/// Reads from an offset until the buffer is full or the file is at its end.
+fn read_all(file: &File, buf: &mut [u8], at: u64) -> Result<usize, Failed>
+    ensures count { IfOk result (λ n. n ≤ length buf.new) }
+    ensures rest { IfOk result (λ n. drop n buf.new ≡ drop n buf.old) }
+{
+    let mut done = 0;
+    while done < buf.len() {
+        let (_, rest) = buf.split_at_mut(done);
+        let count = read_piece(file, rest, at.saturating_add(done as u64))?;
+        if count == 0 {
+            return Ok(done);
+        }
+        done += count;
+    }
+    Ok(done)
+}
+
+/// Reads up to 4,096 bytes, and leaves the rest of the buffer.
+fn read_piece(file: &File, buf: &mut [u8], at: u64) -> Result<usize, Failed>
+    ensures count { IfOk result (λ n. n ≤ length buf.new) }
+    ensures rest { IfOk result (λ n. drop n buf.new ≡ drop n buf.old) }
+{
+    let mut piece = [0u8; PIECE];
+    let want = buf.len().min(PIECE);
+    let count = read_tried(file, &mut piece[..want], at)?;
+    Ok(copy_front(&piece[..count], buf))
+}
+
+/// Writes all the bytes at an offset.
+fn write_all(file: &File, bytes: &[u8], at: u64) -> Result<(), Failed> {
+    let mut done = 0;
+    while done < bytes.len() {
+        let count = write_tried(file, &bytes[done..], at.saturating_add(done as u64))?;
+        if count == 0 {
+            return Err(Failed);
+        }
+        done += count;
+    }
+    Ok(())
+}
+
+impl FileDisk {
+    /// Opens both files of a folder, as `.`, and makes those that are missing.
+    pub fn open<R: Files<File = File>>(
+        files: &R,
+        alloc: Global,
+        folder: &str,
+    ) -> io::Result<FileDisk>
+        ensures { IfOk result (λ disk. disk.faults ≡ 0) }
+    {
+        let keys = open_log(files, alloc, folder, "keys.log")?;
+        let names = open_log(files, alloc, folder, "names.log")?;
+        // A file that was just made, by this run or one that was stopped, stays only with its folder.
+        File::open(files, folder)?.sync_all()?;
+        Ok(FileDisk {
+            keys,
+            names,
+            keys_lost: false,
+            names_lost: false,
+            faults: 0,
+        })
+    }
+
+    fn file(&self, file: u8) -> &File {
+        if file == 0 { &self.keys } else { &self.names }
+    }
+
+    fn is_lost(&self, file: u8) -> bool {
+        if file == 0 {
+            self.keys_lost
+        } else {
+            self.names_lost
+        }
+    }
+
+    /// Counts a fault.
+    fn fault(&mut self) -> Failed
+        ensures rose { Rose self.old.faults self.new.faults }
+        ensures later { self.old.faults ≤ self.new.faults }
+    {
+        self.faults = self.faults.saturating_add(1);
+        Failed
+    }
+}
+
+impl Disk for FileDisk {
+    ghost state = { λ d. untold d.faults };
+
+    ghost counts_now = { λ d t c le now. now };
+
+    ghost only_now = { λ d c left. left };
+
+    ghost is_one = { λ d f told lt. Prim.cc told };
+
+    ghost bounded = { λ d f told lt. Prim.cc told };
+
+    fn len(&mut self, file: u8) -> Result<u64, Failed> {
+        match self.file(file).metadata() {
+            Ok(metadata) => {
+                let len = metadata.len();
+                if len > LONGEST_FILE {
+                    return Err(self.fault());
+                }
+                Ok(len)
+            }
+            Err(_) => Err(self.fault()),
+        }
+    }
+
+    fn read(&mut self, file: u8, at: u64, buf: &mut [u8]) -> Result<usize, Failed> {
+        match read_all(self.file(file), buf, at) {
+            Ok(count) => Ok(count),
+            Err(_) => Err(self.fault()),
+        }
+    }
+
+    fn write_at(&mut self, file: u8, at: u64, bytes: &[u8]) -> Result<(), Failed> {
+        let size = bytes.len() as u64;
+        if at > LONGEST_FILE || size > LONGEST_FILE - at {
+            return Err(self.fault());
+        }
+        match write_all(self.file(file), bytes, at) {
+            Ok(()) => Ok(()),
+            Err(_) => Err(self.fault()),
+        }
+    }
+
+    fn cut(&mut self, file: u8, len: u64) -> Result<(), Failed> {
+        match cut_tried(self.file(file), len) {
+            Ok(()) => Ok(()),
+            Err(_) => Err(self.fault()),
+        }
+    }
+
+    fn sync(&mut self, file: u8) -> Result<(), Failed> {
+        if self.is_lost(file) {
+            return Err(self.fault());
+        }
+        match sync_tried(self.file(file)) {
+            Ok(()) => Ok(()),
+            Err(_) => {
+                if file == 0 {
+                    self.keys_lost = true;
+                } else {
+                    self.names_lost = true;
+                }
+                Err(self.fault())
+            }
+        }
+    }
+}
+
+#[cfg(test)]
+mod tests {
+    use super::*;
+    use std::fs;
+    use std::test::Fail;
+
+    #[test]
+    fn keeps_both_files_in_a_folder(rt: HostRuntime) -> Result<(), Fail> {
+        fs::create_dir(&rt, "disk")?;
+        let mut disk = FileDisk::open(&rt, rt.alloc(), "disk")?;
+        assert_eq!(rt; disk.len(0), Ok(0));
+        assert_eq!(rt; disk.write_at(0, 0, b"abcdef"), Ok(()));
+        assert_eq!(rt; disk.write_at(1, 0, b"names"), Ok(()));
+        assert_eq!(rt; disk.write_at(0, 2, b"CD"), Ok(()));
+        assert_eq!(rt; disk.cut(1, 4), Ok(()));
+        assert_eq!(rt; disk.sync(0), Ok(()));
+        assert_eq!(rt; disk.sync(1), Ok(()));
+        let mut piece = [0u8; 10];
+        assert_eq!(rt; disk.read(0, 1, &mut piece), Ok(5));
+        assert_eq!(rt; piece.as_slice(), b"bCDef\0\0\0\0\0".as_slice());
+        assert_eq!(rt; disk.faults, 0);
+        assert_eq!(rt;
+            fs::read(&rt, "disk/keys.log")?.as_slice(),
+            b"abCDef".as_slice()
+        );
+        assert_eq!(rt;
+            fs::read(&rt, "disk/names.log")?.as_slice(),
+            b"name".as_slice()
+        );
+        let mut again = FileDisk::open(&rt, rt.alloc(), "disk")?;
+        assert_eq!(rt; again.len(0), Ok(6));
+        assert_eq!(rt; again.write_at(0, LONGEST_FILE, b"a"), Err(Failed));
+        assert_eq!(rt; again.faults, 1);
+        fs::remove_dir_all(&rt, "disk")?;
+        Ok(())
+    }
+}

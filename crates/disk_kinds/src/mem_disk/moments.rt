@@ -1,0 +1,303 @@
+//! The calls of a disk in memory.
+ghost use Rattle.std.specs.Prelude.{◌≡◌, ◌≤◌, ◌<◌, ◌+◌, ◌^◌, ◌++◌, [], ◌∷◌, length, take, OnOk, OnErr, IfOk};
+ghost use Rattle.std.proofs.Common.{inl, refl};
+ghost use Rattle.hk_base.specs.Disk.{written};
+ghost use Rattle.disk_kinds.specs.declared.mem_disk.Change.TheVariants.{Written, CutTo};
+ghost use Rattle.disk_kinds.specs.Past.{FileAt, disk_state, moment_at, file_at, fresh_file, now_of, past_of, plan_of, the_file, only_image, within, Put, Left};
+
+use super::{Change, Kept, MemDisk, Moment};
+use crate::calls::CallPlan;
+use crate::pieces::copy_front;
+use hk_base::{Disk, Failed, LONGEST_FILE};
+use std::alloc::{AllocError, Global};
+
+impl Kept {
+    /// A file that was synced.
+    fn fresh(alloc: Global, bytes: Vec<u8>) -> Result<Kept, AllocError>
+        requires { length bytes.items ≤ 2 ^ 62 }
+        ensures { IfOk result (λ k. file_at k ≡ fresh_file bytes.items) }
+    {
+        Ok(Kept {
+            synced: bytes.to_vec(alloc)?,
+            changes: Vec::new(alloc),
+            reads: bytes,
+        })
+    }
+
+    fn copy(&self, alloc: Global) -> Result<Kept, AllocError>
+        ensures { IfOk result (λ k. file_at k ≡ file_at self.now) }
+    {
+        Ok(Kept {
+            reads: self.reads.to_vec(alloc)?,
+            synced: self.synced.to_vec(alloc)?,
+            changes: self.changes.to_vec(alloc)?,
+        })
+    }
+}
+
+impl Moment {
+    fn copy(&self, alloc: Global) -> Result<Moment, AllocError>
+        ensures { IfOk result (λ m. moment_at m ≡ moment_at self.now) }
+    {
+        Ok(Moment {
+            first: self.first.copy(alloc)?,
+            second: self.second.copy(alloc)?,
+        })
+    }
+
+    fn file(&self, file: u8) -> &Kept
+        requires { file < 2 }
+        ensures { file_at result.now ≡ the_file (moment_at self.now) file }
+    {
+        if file == 0 { &self.first } else { &self.second }
+    }
+}
+
+impl MemDisk {
+    /// A disk with these files, synced. The calls with these numbers, from 1, fail, as does one that
+    /// finds no memory.
+    pub fn new(
+        alloc: Global,
+        first: Vec<u8>,
+        second: Vec<u8>,
+        failing: Vec<u64>,
+    ) -> Result<MemDisk, AllocError>
+        requires first { length first.items ≤ 2 ^ 62 }
+        requires second { length second.items ≤ 2 ^ 62 }
+        ensures files { IfOk result (λ d. now_of d ≡ record { first = fresh_file first.items; second = fresh_file second.items }) }
+        ensures past { IfOk result (λ d. past_of d ≡ []) }
+        ensures plan { IfOk result (λ d. plan_of d ≡ record { failing = failing.items; made = 0; faults = 0 }) }
+    {
+        Ok(MemDisk {
+            alloc,
+            current: Moment {
+                first: Kept::fresh(alloc, first)?,
+                second: Kept::fresh(alloc, second)?,
+            },
+            past: Vec::new(alloc),
+            plan: CallPlan::new(failing),
+        })
+    }
+
+    /// What a file reads as.
+    pub fn bytes(&self, file: u8) -> &[u8]
+        requires { file < 2 }
+        ensures { result.now ≡ (the_file (now_of self.now) file).reads }
+    {
+        self.current.file(file).reads.as_slice()
+    }
+
+    /// What a file was at its last sync.
+    pub fn synced(&self, file: u8) -> &[u8]
+        requires { file < 2 }
+        ensures { result.now ≡ (the_file (now_of self.now) file).synced }
+    {
+        self.current.file(file).synced.as_slice()
+    }
+
+    /// How many calls were made, up to 2^64 - 1.
+    pub fn calls(&self) -> u64
+        ensures { result ≡ (plan_of self.now).made }
+    {
+        self.plan.made()
+    }
+
+    /// How many calls failed, up to 2^64 - 1.
+    pub fn faults(&self) -> u64
+        ensures { result ≡ (plan_of self.now).faults }
+    {
+        self.plan.faults()
+    }
+
+    /// Puts a file in place of another, and keeps the moment before.
+    fn put(&mut self, file: u8, next: Kept) -> Result<(), AllocError>
+        requires { file < 2 }
+        ensures ok { OnOk result (Put file (file_at next) (now_of self.old) (now_of self.new) (past_of self.old) (past_of self.new)) }
+        ensures err { OnErr result (Left (now_of self.old) (now_of self.new) (past_of self.old) (past_of self.new)) }
+        ensures plan { plan_of self.new ≡ plan_of self.old }
+    {
+        self.past.push(self.current.copy(self.alloc)?)?;
+        if file == 0 {
+            self.current.first = next;
+        } else {
+            self.current.second = next;
+        }
+        Ok(())
+    }
+
+    /// Writes a part of what was to be written, `size` bytes. Where memory is wanting it writes nothing.
+    fn write_part(&mut self, file: u8, at: u64, part: &[u8], size: u64) -> Result<(), AllocError>
+        requires file { file < 2 }
+        requires place { at ≤ length ((the_file (now_of self.old) file).reads) }
+        requires part { length part.now ≤ size }
+        requires limit { at + size ≤ 2 ^ 62 }
+        ensures ok { let old = the_file (now_of self.old) file in OnOk result (Put file (record { reads = written at part.now old.reads; synced = old.synced; changes = old.changes ++ Written at size ∷ [] })
+            (now_of self.old) (now_of self.new) (past_of self.old) (past_of self.new)) }
+        ensures err { OnErr result (Left (now_of self.old) (now_of self.new) (past_of self.old) (past_of self.new)) }
+        ensures plan { plan_of self.new ≡ plan_of self.old }
+    {
+        let old = self.current.file(file);
+        let reads = overwritten(self.alloc, &old.reads, at, part)?;
+        let mut changes = old.changes.to_vec(self.alloc)?;
+        changes.push(Change::Written { at, size })?;
+        let synced = old.synced.to_vec(self.alloc)?;
+        self.put(
+            file,
+            Kept {
+                reads,
+                synced,
+                changes,
+            },
+        )
+    }
+
+    /// Cuts a file. Where memory is wanting it stays.
+    fn cut_to(&mut self, file: u8, size: u64) -> Result<(), AllocError>
+        requires file { file < 2 }
+        requires place { size ≤ length ((the_file (now_of self.old) file).reads) }
+        ensures ok { let old = the_file (now_of self.old) file in OnOk result (Put file (record { reads = take size old.reads; synced = old.synced; changes = old.changes ++ CutTo size ∷ [] })
+            (now_of self.old) (now_of self.new) (past_of self.old) (past_of self.new)) }
+        ensures err { OnErr result (Left (now_of self.old) (now_of self.new) (past_of self.old) (past_of self.new)) }
+        ensures plan { plan_of self.new ≡ plan_of self.old }
+    {
+        let old = self.current.file(file);
+        let reads = old.reads[..size as usize].to_vec(self.alloc)?;
+        let mut changes = old.changes.to_vec(self.alloc)?;
+        changes.push(Change::CutTo { size })?;
+        let synced = old.synced.to_vec(self.alloc)?;
+        self.put(
+            file,
+            Kept {
+                reads,
+                synced,
+                changes,
+            },
+        )
+    }
+
+    /// Makes what a file reads as what a crash leaves. Where memory is wanting nothing changes.
+    fn make_synced(&mut self, file: u8) -> Result<(), AllocError>
+        requires { file < 2 }
+        ensures ok { OnOk result (Put file (fresh_file ((the_file (now_of self.old) file).reads)) (now_of self.old) (now_of self.new) (past_of self.old) (past_of self.new)) }
+        ensures err { OnErr result (Left (now_of self.old) (now_of self.new) (past_of self.old) (past_of self.new)) }
+        ensures plan { plan_of self.new ≡ plan_of self.old }
+    {
+        let bytes = self.current.file(file).reads.to_vec(self.alloc)?;
+        let next = Kept::fresh(self.alloc, bytes)?;
+        self.put(file, next)
+    }
+}
+
+/// What a file reads as after a write.
+pub(crate) fn overwritten(
+    alloc: Global,
+    old: &[u8],
+    at: u64,
+    bytes: &[u8],
+) -> Result<Vec<u8>, AllocError>
+    requires { at ≤ length old.now }
+    ensures { IfOk result (λ v. v.items ≡ written at bytes.now old.now) }
+{
+    let begin = at as usize;
+    let mut new = old[..begin].to_vec(alloc)?;
+    new.extend_from_slice(bytes)?;
+    if bytes.len() < old.len() - begin {
+        new.extend_from_slice(&old[begin + bytes.len()..])?;
+    }
+    Ok(new)
+}
+
+impl Disk for MemDisk {
+    ghost state = { λ d. disk_state (now_of d) (past_of d) (plan_of d).faults };
+
+    ghost counts_now = { λ d t c le now. inl now };
+
+    ghost only_now = { λ d c left. only_image (now_of d) (past_of d) c left };
+
+    ghost is_one = { λ d f told lt. inl refl };
+
+    ghost bounded = { λ d f told lt. within d f lt };
+
+    fn len(&mut self, file: u8) -> Result<u64, Failed> {
+        self.plan.call()?;
+        Ok(self.current.file(file).reads.len() as u64)
+    }
+
+    fn read(&mut self, file: u8, at: u64, buf: &mut [u8]) -> Result<usize, Failed> {
+        self.plan.call()?;
+        Ok(copy_front(&self.current.file(file).reads[at as usize..], buf))
+    }
+
+    fn write_at(&mut self, file: u8, at: u64, bytes: &[u8]) -> Result<(), Failed> {
+        let size = bytes.len() as u64;
+        if at > LONGEST_FILE || size > LONGEST_FILE - at {
+            return Err(self.plan.fault());
+        }
+        match self.plan.call() {
+            Ok(()) => match self.write_part(file, at, bytes, size) {
+                Ok(()) => Ok(()),
+                Err(_) => Err(self.plan.fault()),
+            },
+            Err(failed) => match self.write_part(file, at, &bytes[..bytes.len() / 2], size) {
+                Ok(()) => Err(failed),
+                Err(_) => Err(failed),
+            },
+        }
+    }
+
+    fn cut(&mut self, file: u8, len: u64) -> Result<(), Failed> {
+        self.plan.call()?;
+        match self.cut_to(file, len) {
+            Ok(()) => Ok(()),
+            Err(_) => Err(self.plan.fault()),
+        }
+    }
+
+    fn sync(&mut self, file: u8) -> Result<(), Failed> {
+        self.plan.call()?;
+        match self.make_synced(file) {
+            Ok(()) => Ok(()),
+            Err(_) => Err(self.plan.fault()),
+        }
+    }
+}
+
+#[cfg(test)]
+mod tests {
+    use super::*;
+    use std::test::Fail;
+
+    #[test]
+    fn reads_what_was_written(rt: HostRuntime) -> Result<(), Fail> {
+        let first = Vec::from_slice(rt.alloc(), b"abc")?;
+        let none = Vec::new(rt.alloc());
+        let mut disk = MemDisk::new(rt.alloc(), first, Vec::new(rt.alloc()), none)?;
+        assert_eq!(rt; disk.write_at(0, 1, b"BCD"), Ok(()));
+        assert_eq!(rt; disk.len(0), Ok(4));
+        let mut piece = [0u8; 3];
+        assert_eq!(rt; disk.read(0, 2, &mut piece), Ok(2));
+        assert_eq!(rt; piece.as_slice(), b"CD\0".as_slice());
+        assert_eq!(rt; disk.cut(0, 2), Ok(()));
+        assert_eq!(rt; disk.bytes(0), b"aB".as_slice());
+        assert_eq!(rt; disk.synced(0), b"abc".as_slice());
+        assert_eq!(rt; disk.sync(0), Ok(()));
+        assert_eq!(rt; disk.synced(0), b"aB".as_slice());
+        assert_eq!(rt; disk.bytes(1), b"".as_slice());
+        assert_eq!(rt; disk.calls(), 5);
+        assert_eq!(rt; disk.faults(), 0);
+        Ok(())
+    }
+
+    #[test]
+    fn a_failing_write_writes_half(rt: HostRuntime) -> Result<(), Fail> {
+        let failing = Vec::from_slice(rt.alloc(), &[1u64, 2])?;
+        let none = Vec::new(rt.alloc());
+        let mut disk = MemDisk::new(rt.alloc(), none, Vec::new(rt.alloc()), failing)?;
+        assert_eq!(rt; disk.write_at(1, 0, b"abcd"), Err(Failed));
+        assert_eq!(rt; disk.sync(1), Err(Failed));
+        assert_eq!(rt; disk.bytes(1), b"ab".as_slice());
+        assert_eq!(rt; disk.synced(1), b"".as_slice());
+        assert_eq!(rt; disk.faults(), 2);
+        Ok(())
+    }
+}

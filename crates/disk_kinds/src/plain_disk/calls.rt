@@ -1,0 +1,122 @@
+//! The calls of a disk that keeps no record.
+ghost use Rattle.std.specs.Prelude.{◌≡◌, ◌≤◌, ◌<◌, ◌+◌, ◌^◌, [], length};
+ghost use Rattle.std.proofs.Common.{refl};
+ghost use Rattle.hk_base.specs.Faults.{Rose};
+ghost use Rattle.disk_kinds.specs.Plain.{plain_state, contents, faults_of, within};
+
+use super::PlainDisk;
+use crate::mem_disk::overwritten;
+use crate::pieces::copy_front;
+use hk_base::{Disk, Failed, LONGEST_FILE};
+use std::alloc::Global;
+
+impl PlainDisk {
+    /// A disk of two empty files.
+    pub fn new(alloc: Global) -> PlainDisk
+        ensures first { contents result 0 ≡ [] }
+        ensures second { contents result 1 ≡ [] }
+        ensures faults { faults_of result ≡ 0 }
+    {
+        PlainDisk {
+            alloc,
+            first: Vec::new(alloc),
+            second: Vec::new(alloc),
+            faults: 0,
+        }
+    }
+
+    /// What a file reads as.
+    pub fn bytes(&self, file: u8) -> &[u8]
+        requires { file < 2 }
+        ensures { result.now ≡ contents self.now file }
+    {
+        self.file(file).as_slice()
+    }
+
+    fn file(&self, file: u8) -> &Vec<u8>
+        requires { file < 2 }
+        ensures { result.now.items ≡ contents self.now file }
+    {
+        if file == 0 { &self.first } else { &self.second }
+    }
+
+    fn fault(&mut self) -> Failed
+        ensures same { contents self.new ≡ contents self.old }
+        ensures rose { Rose (faults_of self.old) (faults_of self.new) }
+        ensures later { faults_of self.old ≤ faults_of self.new }
+    {
+        self.faults = self.faults.saturating_add(1);
+        Failed
+    }
+}
+
+impl Disk for PlainDisk {
+    ghost state = { λ d. plain_state (contents d) (faults_of d) };
+
+    ghost counts_now = { λ d t c le now. now };
+
+    ghost only_now = { λ d c left. left };
+
+    ghost is_one = { λ d f told lt. refl };
+
+    ghost bounded = { λ d f told lt. within d f lt };
+
+    fn len(&mut self, file: u8) -> Result<u64, Failed> {
+        Ok(self.file(file).len() as u64)
+    }
+
+    fn read(&mut self, file: u8, at: u64, buf: &mut [u8]) -> Result<usize, Failed> {
+        Ok(copy_front(&self.file(file)[at as usize..], buf))
+    }
+
+    fn write_at(&mut self, file: u8, at: u64, bytes: &[u8]) -> Result<(), Failed> {
+        let size = bytes.len() as u64;
+        if at > LONGEST_FILE || size > LONGEST_FILE - at {
+            return Err(self.fault());
+        }
+        match overwritten(self.alloc, self.file(file), at, bytes) {
+            Ok(new) => {
+                if file == 0 {
+                    self.first = new;
+                } else {
+                    self.second = new;
+                }
+                Ok(())
+            }
+            Err(_) => Err(self.fault()),
+        }
+    }
+
+    fn cut(&mut self, file: u8, len: u64) -> Result<(), Failed> {
+        if file == 0 {
+            self.first.truncate(len as usize);
+        } else {
+            self.second.truncate(len as usize);
+        }
+        Ok(())
+    }
+
+    fn sync(&mut self, _file: u8) -> Result<(), Failed> {
+        Ok(())
+    }
+}
+
+#[cfg(test)]
+mod tests {
+    use super::*;
+
+    #[test]
+    fn reads_what_was_written(rt: HostRuntime) {
+        let mut disk = PlainDisk::new(rt.alloc());
+        assert_eq!(rt; disk.write_at(1, 0, b"abcd"), Ok(()));
+        assert_eq!(rt; disk.write_at(1, 1, b"BC"), Ok(()));
+        assert_eq!(rt; disk.cut(1, 3), Ok(()));
+        assert_eq!(rt; disk.sync(1), Ok(()));
+        assert_eq!(rt; disk.len(1), Ok(3));
+        assert_eq!(rt; disk.bytes(1), b"aBC".as_slice());
+        let mut piece = [0u8; 2];
+        assert_eq!(rt; disk.read(1, 1, &mut piece), Ok(2));
+        assert_eq!(rt; piece, *b"BC");
+        assert_eq!(rt; disk.bytes(0), b"".as_slice());
+    }
+}

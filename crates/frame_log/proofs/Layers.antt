@@ -1,0 +1,61 @@
+-- What layers above logs need of them.
+use Rattle.std.proofs.Common.{◌≡◌, ◌⊎◌, inl, inr, ◌-◌, ℕ, suc, List, [], ◌∷◌, ◌++◌, None, Option, sym, ◌∙◌, ap, subst, arith}
+use Rattle.hk_base.specs.Disk.{DiskState, Tells, RunOn}
+use Rattle.frame_log.specs.Format.{log_of, opened, Found, IsAtRest, IsHalfOpen, IsBeforeOrAfter, IsAsFound, At_rest, Half_open, Opened}
+use Rattle.frame_log.specs.Stands.{Stands, front, Is, IsSound}
+use Rattle.frame_log.specs.declared.log.Log.{Log}
+use Rattle.frame_log.proofs.Reading.{log_shut}
+
+-- calls on one file leave the other log standing
+pub other_stands : (file : ℕ) (old new : DiskState) (log : Log) (payloads : List (List ℕ)) (unsettled : Option (List ℕ)) → RunOn file old new → log.file ≡ 1 - file → Tells old → Stands old log payloads unsettled → Stands new log payloads unsettled
+other_stands file old new log payloads unsettled run other told s = record {
+  sized = s.sized;
+  payload = s.payload;
+  end = s.end;
+  waits = s.waits;
+  reads = subst (Is (front log.file payloads) unsettled) (sym (subst (λ (k : ℕ). new.reads k ≡ old.reads k) (sym other) (run.other_reads told))) s.reads;
+  leaves = λ bytes h. s.leaves bytes (subst (λ (k : ℕ). new.leaves k bytes → old.leaves k bytes) (sym other) (run.other_leaves bytes).0 h);
+}
+
+-- what a crash leaves of a settled log is a log of its payloads at rest
+pub left_at_rest : (d : DiskState) (log : Log) (payloads : List (List ℕ)) → Stands d log payloads None → (bytes : List ℕ) → d.leaves log.file bytes → IsAtRest log.file payloads bytes
+left_at_rest d log payloads s bytes h =
+    let shut = s.leaves bytes h in
+    ap (log_of log.file) shut.1 ∙ log_shut log.file payloads shut.0 s.sized
+
+-- and so is what its file reads as
+pub reads_at_rest : (d : DiskState) (log : Log) (payloads : List (List ℕ)) → Stands d log payloads None → IsAtRest log.file payloads (d.reads log.file)
+reads_at_rest d log payloads s = ap (log_of log.file) s.reads.1 ∙ log_shut log.file payloads s.reads.0 s.sized
+
+-- what a crash leaves while a payload is added is a log, without it or with it
+pub before_or_after_log : (file : ℕ) (payloads : List (List ℕ)) (payload bytes : List ℕ) → IsBeforeOrAfter file payloads payload bytes
+    → ((gate : ℕ) × (log_of file bytes ≡ Found payloads gate)) ⊎ ((gate : ℕ) × (log_of file bytes ≡ Found (payloads ++ payload ∷ []) gate))
+before_or_after_log file payloads payload bytes (inl before) = inl (0, before)
+before_or_after_log file payloads payload bytes (inr (inl after)) = inr (0, after)
+before_or_after_log file payloads payload bytes (inr (inr half)) = inl (half.gate, half.now)
+
+-- what a crash leaves while a payload is added is a file that a run may start from
+pub sound_after : (file : ℕ) (payloads : List (List ℕ)) (payload bytes : List ℕ) → IsBeforeOrAfter file payloads payload bytes → IsSound file bytes
+sound_after file payloads payload bytes (inl before) = record { payloads = payloads; payload = payload; sound = inl before }
+sound_after file payloads payload bytes (inr (inl after)) = record { payloads = payloads ++ payload ∷ []; payload = payload; sound = inl after }
+sound_after file payloads payload bytes (inr (inr half)) = record { payloads = payloads; payload = payload; sound = inr half }
+
+-- and so is what a crash leaves while a file that a run may start from is opened
+pub sound_found : (file : ℕ) (found bytes : List ℕ) → IsSound file found → IsAsFound file found bytes → IsSound file bytes
+sound_found file found bytes s (At_rest payloads gate is now) = record { payloads = payloads; payload = s.payload; sound = inl now }
+sound_found file found bytes s (Half_open payloads gate other is now same) = half s.sound
+  where
+    half : IsAtRest file s.payloads found ⊎ IsHalfOpen file s.payloads (s.payloads ++ s.payload ∷ []) found → IsSound file bytes
+    half (inl rest) = let no_gate : suc gate ≡ 0 = cc (is, rest) in absurd (omega arith)
+    half (inr h) =
+        let one : payloads ≡ s.payloads = cc (is, h.now) in
+        record {
+          payloads = s.payloads;
+          payload = s.payload;
+          sound = inr (record { gate = suc other; not_shut = omega arith; now = now ∙ ap (λ (l : List (List ℕ)). Found l (suc other)) one; then_on = ap (log_of file) same ∙ h.then_on });
+        }
+sound_found file found bytes s (Opened payloads gate is same) = half s.sound
+  where
+    half : IsAtRest file s.payloads found ⊎ IsHalfOpen file s.payloads (s.payloads ++ s.payload ∷ []) found → IsSound file bytes
+    half (inl rest) = let no_gate : suc gate ≡ 0 = cc (is, rest) in absurd (omega arith)
+    half (inr h) = record { payloads = s.payloads ++ s.payload ∷ []; payload = s.payload; sound = inl (ap (log_of file) same ∙ h.then_on) }

@@ -1,0 +1,8 @@
+mod Bytes
+mod Found
+mod Goings
+mod Head
+pub mod Layers
+pub mod Reading
+mod Scans
+mod Steps

@@ -1,0 +1,4 @@
+pub mod Examples
+pub mod Format
+pub mod Scan
+pub mod Stands

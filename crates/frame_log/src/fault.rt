@@ -1,0 +1,60 @@
+//! Why a call of a log, or of a store over it, gave up.
+ghost use Rattle.std.specs.Prelude.{◌≡◌};
+ghost use Rattle.frame_log.specs.declared.fault.LogFault.TheVariants.{StoreFault, NoMemory};
+
+use hk_base::Failed;
+use std::alloc::{AllocError, AllocFailed};
+
+/// Why a call of a log gave up.
+#[derive(Clone, Copy, Debug, PartialEq, Eq)]
+pub enum LogFault {
+    /// The file is no log: at this offset stands a gate byte 1 and no frame, or, at 0, another magic.
+    Damaged { at: u64 },
+    /// The disk failed, and counted the fault.
+    StoreFault,
+    NoMemory,
+}
+
+/// Why a store over a log doesn't start.
+#[derive(Clone, Copy, Debug, PartialEq, Eq)]
+pub enum StartFault {
+    /// The file is no log, or the frame whose gate is at this offset is no record that applies.
+    Damaged { at: u64 },
+    /// The disk failed, and counted the fault.
+    StoreFault,
+    NoMemory,
+    /// The last opening that can be numbered is used.
+    Spent,
+}
+
+/// Why a store over a log refuses a change.
+#[derive(Clone, Copy, Debug, PartialEq, Eq)]
+pub enum StoreRefusal {
+    /// The disk failed, and counted the fault.
+    StoreFault,
+    NoMemory,
+}
+
+impl From<Failed> for LogFault {
+    ghost from_gives = { λ _ e. e ≡ StoreFault };
+
+    fn from(_: Failed) -> Self {
+        LogFault::StoreFault
+    }
+}
+
+impl From<AllocError> for LogFault {
+    ghost from_gives = { λ _ e. e ≡ NoMemory };
+
+    fn from(_: AllocError) -> Self {
+        LogFault::NoMemory
+    }
+}
+
+impl<T: Drop> From<AllocFailed<T>> for LogFault {
+    ghost from_gives = { λ _ e. e ≡ NoMemory };
+
+    fn from(_: AllocFailed<T>) -> Self {
+        LogFault::NoMemory
+    }
+}

@@ -1,0 +1,207 @@
+//! The gated log. The gate that opens a frame is a write of its own, after a sync of all that it opens.
+ghost use Rattle.std.specs.Prelude.{◌≡◌, ◌≤◌, ◌<◌, ◌^◌, ◌++◌, [], ◌∷◌, IfSome};
+ghost use Rattle.frame_log.specs.Format.{magic, starts_with};
+
+use crate::LogFault;
+use crate::frames::{Frames, OPEN, SHUT, read_frames};
+use hk_base::{Disk, LONGEST_FILE};
+use std::alloc::Global;
+
+/// A log on one file of a disk: where its end gate lies, and how long the payload is that was being
+/// added when the disk failed.
+#[derive(Drop)]
+pub struct Log {
+    pub file: u8,
+    pub end: u64,
+    pub unsettled: Option<u32>,
+    ghost file_in: { file < 2 },
+    ghost end_in: { end ≤ 2 ^ 62 },
+    ghost unsettled_in: { ∥ IfSome unsettled (λ n. n ≤ 1048576) ∥₁ },
+}
+
+/// Whether a file of this number begins so.
+fn is_magic(file: u8, head: &[u8; 8]) -> bool
+    ensures { result ≡ starts_with (magic file) head.now }
+{
+    *head == magic_of(file)
+}
+
+fn magic_of(file: u8) -> [u8; 8]
+    ensures { result ≡ magic file }
+{
+    if file == 0 {
+        *b"HKMSKEY1"
+    } else {
+        *b"HKMSNAM1"
+    }
+}
+
+/// The bytes of a log without frames.
+fn fresh(file: u8) -> [u8; 9]
+    ensures { result ≡ magic file ++ 0 ∷ [] }
+{
+    let m = magic_of(file);
+    [m[0], m[1], m[2], m[3], m[4], m[5], m[6], m[7], SHUT]
+}
+
+impl Log {
+    ghost use Rattle.std.specs.Prelude.{◌+◌, ◌↔◌, ◌⊎◌, List, ℕ, Option, Some, None, slice_get, IfOk, OnOk, OnErr, IsErr, IsErrOf, IsTrue, if◌then◌else◌, IsSome};
+    ghost use Rattle.hk_base.specs.Disk.{Tells, RunOn, LeavesOnly};
+    ghost use Rattle.hk_base.specs.Faults.{Rose};
+    ghost use Rattle.frame_log.specs.declared.fault.LogFault.TheVariants.{Damaged, StoreFault, NoMemory};
+    ghost use Rattle.frame_log.specs.Format.{log_of, Found, NoLog, placed, IsPayload, IsBeforeOrAfter, IsAsFound};
+    ghost use Rattle.frame_log.specs.Scan.{view};
+    ghost use Rattle.frame_log.specs.Stands.{Stands};
+
+    /// Reads the log of a file that a crash may have left, and shuts its end gate where that isn't 0.
+    /// A file of at most 9 bytes is made a log without frames. It may be stopped at any moment too.
+    ///
+    /// `Damaged` comes exactly where the file is no log, with the offset of the gate byte 1 that no
+    /// frame follows, or 0 where the magic is another. Only the frames are kept in memory.
+    pub fn recover<D: Disk>(
+        alloc: Global,
+        disk: &mut D,
+        file: u8,
+    ) -> Result<(Log, Frames), LogFault>
+        requires { file < 2 }
+
+        ensures log { IfOk result (λ r. Tells (D.state disk.old) → ((payloads : List (List ℕ)) × (gate : ℕ)
+            × (log_of file ((D.state disk.old).reads file) ≡ Found payloads gate)
+            × (view r.1 ≡ placed 8 payloads)
+            × Stands (D.state disk.new) r.0 payloads None)) }
+        ensures settled { IfOk result (λ r. (r.0.file ≡ file) × (r.0.unsettled ≡ None)) }
+        ensures damaged { (at : ℕ) → IsErrOf result (Damaged at) → Tells (D.state disk.old) → log_of file ((D.state disk.old).reads file) ≡ NoLog at }
+
+        // A crash at any moment leaves what it might have left before, or the log found, or that with
+        // its end gate read as 1.
+        ensures any_moment { Tells (D.state disk.old) → LeavesOnly file (D.state disk.old) (D.state disk.new)
+            (λ c. (D.state disk.old).leaves file c ⊎ IsAsFound file ((D.state disk.old).reads file) c) }
+
+        ensures run { RunOn file (D.state disk.old) (D.state disk.new) }
+        ensures cause { IsErrOf result StoreFault → Rose (D.state disk.old).faults (D.state disk.new).faults }
+    {
+        disk.sync(file)?;
+        let size = disk.len(file)?;
+        if size <= 9 {
+            disk.write_at(file, 0, &fresh(file))?;
+            disk.sync(file)?;
+            let log = Log {
+                file,
+                end: 8,
+                unsettled: None,
+            };
+            let frames = Frames {
+                list: Vec::new(alloc),
+            };
+            return Ok((log, frames));
+        }
+        let mut head = [0u8; 8];
+        disk.read(file, 0, &mut head)?;
+        if !is_magic(file, &head) {
+            return Err(LogFault::Damaged { at: 0 });
+        }
+        let scan = read_frames(alloc, disk, file, size)?;
+        let end = scan.end;
+        if scan.gate != SHUT {
+            disk.write_at(file, end, &[SHUT])?;
+            disk.sync(file)?;
+        }
+        let log = Log {
+            file,
+            end,
+            unsettled: None,
+        };
+        Ok((log, scan.frames))
+    }
+
+    /// Adds a payload of 1 to 1,048,576 bytes, and answers its offset in the file. Once it answers `Ok`
+    /// every crash leaves the payload. After `StoreFault` the payload is unsettled: it is kept or not,
+    /// as `settle` then tells. `NoMemory` comes before the first write, and changes nothing.
+    pub fn append<D: Disk>(
+        &mut self,
+        alloc: Global,
+        disk: &mut D,
+        payload: &[u8],
+    ) -> Result<u64, LogFault>
+        requires settled { self.old.unsettled ≡ None }
+        requires payload { IsPayload payload.now }
+        requires stands { Tells (D.state disk.old) → ((payloads : List (List ℕ)) × Stands (D.state disk.old) self.old payloads None) }
+
+        ensures place { IfOk result (λ at. at ≡ self.old.end + 5) }
+
+        // From then on each crash leaves a file that has it.
+        ensures added { OnOk result (Tells (D.state disk.old) → (payloads : List (List ℕ)) → Stands (D.state disk.old) self.old payloads None
+            → Stands (D.state disk.new) self.new (payloads ++ payload.now ∷ []) None) }
+
+        // A crash at any moment of the call leaves the payloads from before it, with the new one or without.
+        ensures any_moment { Tells (D.state disk.old) → (payloads : List (List ℕ)) → Stands (D.state disk.old) self.old payloads None
+            → LeavesOnly self.old.file (D.state disk.old) (D.state disk.new) (IsBeforeOrAfter self.old.file payloads payload.now) }
+
+        ensures unsettled { IsErrOf result StoreFault → Tells (D.state disk.old) → (payloads : List (List ℕ)) → Stands (D.state disk.old) self.old payloads None
+            → Stands (D.state disk.new) self.new payloads (Some payload.now) }
+        ensures memory { IsErrOf result NoMemory → (self.new ≡ self.old) × (disk.new ≡ disk.old) }
+        ensures damaged { (at : ℕ) → IsErrOf result (Damaged at) → ⊥ }
+        ensures run { RunOn self.old.file (D.state disk.old) (D.state disk.new) }
+        ensures file { self.new.file ≡ self.old.file }
+        ensures now_settled { OnOk result (self.new.unsettled ≡ None) }
+        ensures now_unsettled { IsErrOf result StoreFault → IsSome self.new.unsettled }
+        ensures cause { IsErrOf result StoreFault → Rose (D.state disk.old).faults (D.state disk.new).faults }
+    {
+        let mut behind = Vec::new(alloc);
+        behind.extend_from_slice(&(payload.len() as u32).to_be_bytes())?;
+        behind.extend_from_slice(payload)?;
+        behind.push(SHUT)?;
+        let file = self.file;
+        let gate = self.end;
+        self.unsettled = Some(payload.len() as u32);
+        disk.write_at(file, gate + 1, &behind)?;
+        disk.sync(file)?;
+        disk.write_at(file, gate, &[OPEN])?;
+        disk.sync(file)?;
+        self.unsettled = None;
+        self.end = gate + 5 + payload.len() as u64;
+        Ok(gate + 5)
+    }
+
+    /// Tells whether the unsettled payload is kept: exactly where the gate byte before it reads 1 after
+    /// a sync. After `StoreFault`, the only error, it is still unsettled.
+    pub fn settle<D: Disk>(&mut self, disk: &mut D) -> Result<bool, LogFault>
+        requires unsettled { IsSome self.old.unsettled }
+        requires stands { Tells (D.state disk.old) → ((payloads : List (List ℕ)) × (payload : List ℕ) × Stands (D.state disk.old) self.old payloads (Some payload)) }
+
+        ensures settled { IfOk result (λ kept. Tells (D.state disk.old) → (payloads : List (List ℕ)) (payload : List ℕ) → Stands (D.state disk.old) self.old payloads (Some payload)
+            → Stands (D.state disk.new) self.new (if kept then payloads ++ payload ∷ [] else payloads) None) }
+        ensures kept { IfOk result (λ kept. Tells (D.state disk.old) → (IsTrue kept ↔ (slice_get ((D.state disk.old).reads self.old.file) self.old.end ≡ Some 1))) }
+        ensures any_moment { Tells (D.state disk.old) → (payloads : List (List ℕ)) (payload : List ℕ) → Stands (D.state disk.old) self.old payloads (Some payload)
+            → LeavesOnly self.old.file (D.state disk.old) (D.state disk.new) (IsBeforeOrAfter self.old.file payloads payload) }
+        ensures unsettled { IsErr result → Tells (D.state disk.old) → (payloads : List (List ℕ)) (payload : List ℕ) → Stands (D.state disk.old) self.old payloads (Some payload)
+            → Stands (D.state disk.new) self.new payloads (Some payload) }
+        ensures fault { IsErr result → IsErrOf result StoreFault }
+        ensures run { RunOn self.old.file (D.state disk.old) (D.state disk.new) }
+        ensures file { self.new.file ≡ self.old.file }
+        ensures now_settled { OnOk result (self.new.unsettled ≡ None) }
+        ensures still_unsettled { OnErr result (self.new ≡ self.old) }
+        ensures cause { OnErr result (Rose (D.state disk.old).faults (D.state disk.new).faults) }
+    {
+        let file = self.file;
+        let gate = self.end;
+        disk.sync(file)?;
+        let mut byte = [SHUT];
+        disk.read(file, gate, &mut byte)?;
+        let next = match self.unsettled {
+            Some(size) => gate + 5 + size as u64,
+            None => gate,
+        };
+        if byte[0] == OPEN && next <= LONGEST_FILE {
+            self.end = next;
+            self.unsettled = None;
+            return Ok(true);
+        }
+        if byte[0] != SHUT {
+            disk.write_at(file, gate, &[SHUT])?;
+            disk.sync(file)?;
+        }
+        self.unsettled = None;
+        Ok(false)
+    }
+}
