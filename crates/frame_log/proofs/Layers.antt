@@ -1,7 +1,7 @@
 -- What layers above logs need of them.
 use Rattle.std.proofs.Common.{◌≡◌, ◌⊎◌, inl, inr, ◌-◌, ℕ, suc, List, [], ◌∷◌, ◌++◌, None, Option, sym, ◌∙◌, ap, subst, arith}
 use Rattle.hk_base.specs.Disk.{DiskState, Tells, RunOn}
-use Rattle.frame_log.specs.Format.{log_of, opened, Found, IsAtRest, IsHalfOpen, IsBeforeOrAfter, IsAsFound, At_rest, Half_open, Opened}
+use Rattle.frame_log.specs.Format.{log_of, Found, IsAtRest, IsHalfOpen, IsBeforeOrAfter, IsAsFound, At_rest, Half_open, Opened}
 use Rattle.frame_log.specs.Stands.{Stands, front, Is, IsSound}
 use Rattle.frame_log.specs.declared.log.Log.{Log}
 use Rattle.frame_log.proofs.Reading.{log_shut}

@@ -1,5 +1,5 @@
 -- Files of known bytes, and what they are as logs.
-use Rattle.std.specs.Prelude.{◌≡◌, ℕ, List, [], ◌∷◌, ◌++◌, take, drop, set, refl, length}
+use Rattle.std.specs.Prelude.{◌≡◌, ℕ, List, [], ◌∷◌, ◌++◌, take, set, refl, length}
 use Rattle.frame_log.specs.Format.{log_of, Found, NoLog, magic, opened, frames}
 
 -- the record of opening 1

@@ -1,7 +1,7 @@
 -- What a log keeps of its disk.
-use Rattle.std.specs.Prelude.{◌≡◌, ◌⊎◌, ℕ, List, [], ◌∷◌, ◌++◌, length, Option, Some, None, IfSome, option_map, IsTrue}
+use Rattle.std.specs.Prelude.{◌≡◌, ◌⊎◌, ◌≤◌, ℕ, List, [], ◌∷◌, ◌++◌, length, Option, Some, None, IfSome, option_map}
 use Rattle.std.specs.List.{AllByRecursion}
-use Rattle.hk_base.specs.Disk.{DiskState}
+use Rattle.hk_base.specs.Disk.{DiskState, Image}
 use Rattle.frame_log.specs.Format.{magic, frames, behind, IsPayload, IsAtRest, IsHalfOpen}
 use Rattle.frame_log.specs.declared.log.Log.{Log}
 
@@ -39,3 +39,10 @@ pub record IsSound (file : ℕ) (bytes : List ℕ) : Type 0 where
   pub payloads : List (List ℕ)
   pub payload : List ℕ
   pub sound : IsAtRest file payloads bytes ⊎ IsHalfOpen file payloads (payloads ++ payload ∷ []) bytes
+
+-- from some moment of a run of calls on, a crash leaves of the file only what has P
+pub record LeavesFrom (file : ℕ) (old new : DiskState) (P : List ℕ → Type 0) : Type 0 where
+  pub moment : ℕ
+  pub begun : old.moment ≤ moment
+  pub reached : moment ≤ new.moment
+  pub only : (c : Image) → new.left_since moment c → P (c file)

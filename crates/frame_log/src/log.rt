@@ -51,7 +51,7 @@ impl Log {
     ghost use Rattle.frame_log.specs.declared.fault.LogFault.TheVariants.{Damaged, StoreFault, NoMemory};
     ghost use Rattle.frame_log.specs.Format.{log_of, Found, NoLog, placed, IsPayload, IsBeforeOrAfter, IsAsFound};
     ghost use Rattle.frame_log.specs.Scan.{view};
-    ghost use Rattle.frame_log.specs.Stands.{Stands};
+    ghost use Rattle.frame_log.specs.Stands.{Stands, LeavesFrom};
 
     /// Reads the log of a file that a crash may have left, and shuts its end gate where that isn't 0.
     /// A file of at most 9 bytes is made a log without frames. It may be stopped at any moment too.
@@ -76,6 +76,10 @@ impl Log {
         // its end gate read as 1.
         ensures any_moment { Tells (D.state disk.old) → LeavesOnly file (D.state disk.old) (D.state disk.new)
             (λ c. (D.state disk.old).leaves file c ⊎ IsAsFound file ((D.state disk.old).reads file) c) }
+
+        // Since the first sync of the call it leaves the log found, or that with its end gate read as 1.
+        ensures since_sync { OnOk result (Tells (D.state disk.old) → LeavesFrom file (D.state disk.old) (D.state disk.new)
+            (IsAsFound file ((D.state disk.old).reads file))) }
 
         ensures run { RunOn file (D.state disk.old) (D.state disk.new) }
         ensures cause { IsErrOf result StoreFault → Rose (D.state disk.old).faults (D.state disk.new).faults }

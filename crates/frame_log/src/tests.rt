@@ -58,7 +58,10 @@ fn reads_the_bytes_of_the_format(rt: HostRuntime) -> Result<(), Fail> {
     let frames = opened(rt.alloc(), &ROLLED)?;
     assert_eq!(rt; frames.list.len(), 3);
     assert_eq!(rt; frames.list[0].at, 13);
-    assert_eq!(rt; frames.list[0].payload.as_slice(), b"\x01\0\0\0\x01".as_slice());
+    assert_eq!(rt;
+        frames.list[0].payload.as_slice(),
+        b"\x01\0\0\0\x01".as_slice()
+    );
     assert_eq!(rt; frames.list[1].at, 23);
     assert_eq!(rt; frames.list[2].at, 67);
     assert_eq!(rt; frames.list[2].payload.as_slice(), &ROLLED[67..94]);
@@ -68,8 +71,14 @@ fn reads_the_bytes_of_the_format(rt: HostRuntime) -> Result<(), Fail> {
 #[test]
 fn writes_the_bytes_of_the_format(rt: HostRuntime) -> Result<(), Fail> {
     let mut disk = disk_of(rt.alloc(), b"", &[])?;
-    assert_eq!(rt; open_and_add(rt.alloc(), &mut disk, b"\x01\0\0\0\x01"), Ok(true));
-    assert_eq!(rt; open_and_add(rt.alloc(), &mut disk, b"\x01\0\0\0\x02"), Ok(true));
+    assert_eq!(rt;
+        open_and_add(rt.alloc(), &mut disk, b"\x01\0\0\0\x01"),
+        Ok(true)
+    );
+    assert_eq!(rt;
+        open_and_add(rt.alloc(), &mut disk, b"\x01\0\0\0\x02"),
+        Ok(true)
+    );
     let written = b"HKMSKEY1\x01\0\0\0\x05\x01\0\0\0\x01\x01\0\0\0\x05\x01\0\0\0\x02\0";
     assert_eq!(rt; disk.bytes(0), written.as_slice());
     assert_eq!(rt; disk.synced(0), written.as_slice());
@@ -168,13 +177,19 @@ fn on_real_files(rt: HostRuntime) -> Result<(), Fail> {
     assert_eq!(rt; open_and_add(rt.alloc(), &mut disk, b"a"), Ok(true));
     assert_eq!(rt; open_and_add(rt.alloc(), &mut disk, b"bc"), Ok(true));
     let written = b"HKMSKEY1\x01\0\0\0\x01a\x01\0\0\0\x02bc\0";
-    assert_eq!(rt; fs::read(&rt, "log/keys.log")?.as_slice(), written.as_slice());
+    assert_eq!(rt;
+        fs::read(&rt, "log/keys.log")?.as_slice(),
+        written.as_slice()
+    );
     assert_eq!(rt; disk.write_at(0, 21, b"\x07"), Ok(()));
     let mut again = FileDisk::open(&rt, rt.alloc(), "log")?;
     let (log, frames) = Log::recover(rt.alloc(), &mut again, 0)?;
     assert_eq!(rt; log.end, 21);
     assert_eq!(rt; frames.list.len(), 2);
-    assert_eq!(rt; fs::read(&rt, "log/keys.log")?.as_slice(), written.as_slice());
+    assert_eq!(rt;
+        fs::read(&rt, "log/keys.log")?.as_slice(),
+        written.as_slice()
+    );
     assert_eq!(rt; again.faults, 0);
     fs::remove_dir_all(&rt, "log")?;
     Ok(())

@@ -1,12 +1,10 @@
-use Rattle.std.proofs.Common.{rules, ◌≡◌, ◌≤◌, ◌<◌, ◌^◌, ◌+◌, List, ℕ, length, drop, IfOk, IsErr, IsErrOf, ◌-◌, IsTrue, [], ◌∷◌, ◌++◌, sym, ◌∙◌, ap, subst, arith, length-drop, refl}
-use Rattle.hk_base.specs.Disk.{DiskState, Tells, Reads}
+use Rattle.std.proofs.Common.{rules, ◌≡◌, ◌<◌, ◌+◌, List, ℕ, length, drop, ◌-◌, IsTrue, sym, ◌∙◌, ap, subst, arith, length-drop, refl}
 use Rattle.hk_base.specs.Faults.{Rose}
-use Rattle.hk_base.proofs.Runs.{Going, begin, compose, both_read}
+use Rattle.hk_base.proofs.Runs.{begin, compose, both_read}
 use Rattle.frame_log.proofs.Goings.{going}
-use Rattle.frame_log.specs.declared.fault.LogFault.TheVariants.{Damaged, StoreFault}
 use Rattle.frame_log.specs.declared.frames.Next.TheVariants as nexts
-use Rattle.frame_log.specs.Format.{frames_at, NoLog, part, Broken}
-use Rattle.frame_log.specs.Scan.{IsNext, IsFrame, IsEnd, NextFits, IsScanned, SoFar}
+use Rattle.frame_log.specs.Format.{NoLog, part, Broken}
+use Rattle.frame_log.specs.Scan.{IsNext, IsFrame, IsEnd, NextFits, SoFar}
 use Rattle.frame_log.proofs.Scans.{first, next, last, none}
 use Rattle.frame_log.proofs.frames.read_frames.Goals as goal
 

@@ -1,5 +1,5 @@
-use Rattle.std.proofs.Common.{◌≡◌, ◌≤◌, ◌<◌, ◌+◌, List, ℕ, length, ◌-◌}
-use Rattle.hk_base.specs.Disk.{DiskState, Tells, Reads}
+use Rattle.std.proofs.Common.{◌<◌, ◌-◌}
+use Rattle.hk_base.specs.Disk.{Tells, Reads}
 use Rattle.hk_base.proofs.Runs.{Going}
 use Rattle.frame_log.specs.Scan.{SoFar}
 use Rattle.frame_log.proofs.frames.read_frames.Given as goal

@@ -1,7 +1,6 @@
-use Rattle.std.proofs.Common.{rules, ◌≡◌, ◌≤◌, ◌<◌, ◌^◌, ◌+◌, ◌⊎◌, inl, inr, List, ℕ, length, take, drop, min, ◌-◌, IsTrue, [], ◌∷◌, ◌++◌, sym, ◌∙◌, ap, subst, arith, length-drop, refl}
+use Rattle.std.proofs.Common.{◌≡◌, ◌<◌, ◌+◌, ◌⊎◌, inl, inr, List, ℕ, length, take, drop, min, ◌-◌, IsTrue, sym, ◌∙◌, ap, subst, arith, length-drop}
 use Rattle.std.proofs.lemmas.List.{take_all, take_at, drop-drop}
-use Rattle.hk_base.specs.Disk.{DiskState, Tells}
-use Rattle.frame_log.specs.Scan.{IsNext, IsFrame}
+use Rattle.frame_log.specs.Scan.{IsFrame}
 use Rattle.frame_log.proofs.Head.{is_broken, is_frame}
 use Rattle.frame_log.proofs.frames.read_next.Goals.{then-count-eq0-via-then-count-eq0, then-count-eq0-via-else-count-eq0+then-count-gt-LONGEST_PAYLOAD, then-count-eq0-via-else-count-eq0+else-count-gt-LONGEST_PAYLOAD+then-size-at}
 use Rattle.frame_log.proofs.frames.read_next.Goals as goal

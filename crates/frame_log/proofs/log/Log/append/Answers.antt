@@ -1,9 +1,9 @@
-use Rattle.std.proofs.Common.{rules, ◌≤◌, ◌<◌, ◌^◌, IfSome, ◌≡◌, ◌+◌, ◌++◌, ◌↔◌, ◌⊎◌, [], ◌∷◌, List, ℕ, Option, Some, None, length, IsTrue, inl, inr, refl, sym, length-append, ◌∙◌, ap, subst, arith}
-use Rattle.hk_base.specs.Disk.{DiskState, Tells, CallOn, LeavesOnly}
-use Rattle.hk_base.proofs.Runs.{begin, then, weaker, Going}
-use Rattle.frame_log.specs.Format.{IsPayload, IsBeforeOrAfter, behind}
-use Rattle.frame_log.specs.Stands.{Stands, front, IsShut, IsReady, Is}
-use Rattle.frame_log.proofs.Reading.{before_or_after, fit_push, joined, front_long, end_push}
+use Rattle.std.proofs.Common.{rules, ◌≡◌, ◌++◌, [], ◌∷◌, List, ℕ, Some, IsTrue, inl, inr, refl, sym, ◌∙◌, subst, arith}
+use Rattle.hk_base.specs.Disk.{DiskState, Tells, CallOn}
+use Rattle.hk_base.proofs.Runs.{begin, then, weaker}
+use Rattle.frame_log.specs.Format.{behind}
+use Rattle.frame_log.specs.Stands.{front, IsShut, IsReady, Is}
+use Rattle.frame_log.proofs.Reading.{before_or_after, fit_push, joined, end_push}
 use Rattle.frame_log.proofs.Steps.{behind_torn, behind_leaves, staged, gate_torn, gate_leaves, gate_written, ready, shut}
 use Rattle.frame_log.proofs.log.Log.append.Goals as goal
 

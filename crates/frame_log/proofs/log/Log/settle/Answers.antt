@@ -1,11 +1,11 @@
-use Rattle.std.proofs.Common.{rules, false, ◌≤◌, ◌<◌, ◌^◌, IfSome, ◌≡◌, ◌≢◌, ◌+◌, ◌++◌, ◌↔◌, ◌⊎◌, [], ◌∷◌, List, ℕ, Option, Some, None, length, IsTrue, inl, inr, refl, sym, ◌∙◌, ap, subst, arith, get_or, slice_get, slice_index_or, length-append}
+use Rattle.std.proofs.Common.{false, ◌<◌, ◌≡◌, ◌+◌, ◌++◌, [], ◌∷◌, List, ℕ, Some, length, IsTrue, inr, refl, sym, ◌∙◌, ap, subst, arith, get_or, slice_index_or}
 use Rattle.std.proofs.lemmas.Option.{slice_get-get_or}
 use Rattle.hk_base.specs.Disk.{DiskState, Tells, CallOn, LeavesOnly}
-use Rattle.hk_base.proofs.Runs.{begin, then, weaker, Going}
-use Rattle.frame_log.specs.Format.{IsPayload, IsBeforeOrAfter, behind}
-use Rattle.frame_log.specs.Stands.{Stands, front, IsShut, IsReady, Is}
+use Rattle.hk_base.proofs.Runs.{begin, then, weaker}
+use Rattle.frame_log.specs.Format.{IsBeforeOrAfter}
+use Rattle.frame_log.specs.Stands.{front, IsShut, IsReady, Is}
 use Rattle.frame_log.proofs.Reading.{before_or_after, fit_push, joined, end_push}
-use Rattle.frame_log.proofs.Steps.{IsStaged, gate_torn, gate_leaves, gate_written, ready, shut, byte_read, inside, kept, not_kept, not_shut, long}
+use Rattle.frame_log.proofs.Steps.{gate_torn, gate_leaves, gate_written, ready, shut, byte_read, inside, kept, not_kept, not_shut, long}
 use Rattle.frame_log.proofs.log.Log.settle.Goals.{in-Some, in-None, then-byte-ne-SHUT+in_ok-write_at+in_ok-sync-2, else-byte-ne-SHUT, else-byte-eq-OPEN-via-then-byte-eq-OPEN+else-next-le-LONGEST_FILE, else-byte-eq-OPEN-via-else-byte-eq-OPEN}
 use Rattle.frame_log.proofs.log.Log.settle.Goals as goal
 
