@@ -213,14 +213,16 @@ past b s line ahead used so is consumed used_is long more =
     let rest = after_text b.left ahead _ (Consumes-trans b.left s.ahead ahead _ _ so.consumed consumed) all told in
     let front = text_of so.lines ++ line in
     let some : 0 < length rest.0 = subst IsMore rest.1 more in
-    let whole : length front ≡ longest_input = omega (arith, length-append (text_of so.lines) line, so.used_is) in
-    (inr (
-      starts b s so all told,
-      record {
-        long = omega (arith, ap length rest.2, length-append front rest.0, some, whole);
-        place = ap (count_by is_lf) (ap (take longest_input) rest.2 ∙ ap (λ n. take n (front ++ rest.0)) (sym whole) ∙ take-append_seam front rest.0) ∙ count_lf so.lines line so.whole is;
-      },
-    ), refl))
+    let whole : length front ≡ longest_input = omega (arith, length-append (text_of so.lines) line, so.used_is) in (
+      inr (
+        starts b s so all told,
+        record {
+          long = omega (arith, ap length rest.2, length-append front rest.0, some, whole);
+          place = ap (count_by is_lf) (ap (take longest_input) rest.2 ∙ ap (λ n. take n (front ++ rest.0)) (sym whole) ∙ take-append_seam front rest.0) ∙ count_lf so.lines line so.whole is;
+        },
+      ),
+      refl,
+    ))
 
 -- the replay stops behind a line that was played, of whose transcript a front was written
 

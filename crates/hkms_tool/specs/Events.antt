@@ -1,10 +1,12 @@
 -- The event text: what a line says.
-use Rattle.std.specs.Prelude.{◌≡◌, ℕ, ◌+◌, ◌-◌, ◌<◌, ◌≤◌, ◌⊎◌, ◌==◌, ◌&&◌, not, nat_le, Bool, List, [], ◌∷◌, length, codes, IsTrue, Option, None, Some, Ok, if◌then◌else◌}
+use Rattle.std.specs.Prelude.{◌≡◌, ℕ, ◌+◌, ◌-◌, ◌^◌, ◌<◌, ◌≤◌, ◌⊎◌, ◌==◌, ◌&&◌, not, nat_le, Bool, List, [], ◌∷◌, length, codes, IsTrue, Option, None, Some, Ok, if◌then◌else◌}
 use Rattle.std.specs.List.{slice_split}
 use Rattle.std.specs.Str.{IsUtf8}
 use Rattle.hex.specs.Hex.{decode_of, is_hex_digit}
 use Rattle.percent_encoding.specs.Percent.{percent_decode}
-use Rattle.hk_base.specs.Names.{IsKeyName}
+use Rattle.std.specs.Fmt.{decimal}
+use Rattle.hk_base.specs.Names.{IsKeyName, version_text}
+use Rattle.key_rows.specs.declared.calls.RawEdek.{RawEdek}
 use Rattle.key_rows.specs.declared.calls.KmsCall.{KmsCall}
 use Rattle.key_rows.specs.declared.calls.KmsCall.TheVariants as call
 use Rattle.hkms_tool.specs.declared.event.Event.{Event}
@@ -44,13 +46,14 @@ pub record IsUser (field user : List ℕ) : Type 0 where
   pub some : 0 < length user
   pub few : length user ≤ 255
 
--- 32 hexadecimal digits spell the material
+-- 32 hexadecimal digits spell 16 bytes of material, or of anything else
 pub record IsMaterial (field material : List ℕ) : Type 0 where
   pub digits : length field ≡ 32
   pub decoded : decode_of field ≡ Ok material
 
+-- the field spells the material that is given, or '-' where none is
 abbrev pub SpellsMaterial : List ℕ → Option (List ℕ) → Type 0
-SpellsMaterial field None = ⊥
+SpellsMaterial field None = field ≡ codes "-"
 SpellsMaterial field (Some material) = IsMaterial field material
 
 -- `create K 128 H`
@@ -62,11 +65,42 @@ pub record SpellsCreate (fields : List (List ℕ)) (name : List ℕ) (bits : ℕ
   pub material_is : SpellsMaterial material_field material
   pub description_is : description ≡ []
 
+-- `roll K H`
+pub record SpellsRoll (fields : List (List ℕ)) (name : List ℕ) (material : Option (List ℕ)) : Type 0 where
+  pub material_field : List ℕ
+  pub fields_are : fields ≡ codes "roll" ∷ name ∷ material_field ∷ []
+  pub name_is : IsKeyName name
+  pub material_is : SpellsMaterial material_field material
+
+-- `metadata K`
+pub record SpellsMetadata (fields : List (List ℕ)) (name : List ℕ) : Type 0 where
+  pub fields_are : fields ≡ codes "metadata" ∷ name ∷ []
+  pub name_is : IsKeyName name
+
+-- `generate K N`
+pub record SpellsGenerate (fields : List (List ℕ)) (name : List ℕ) (count : ℕ) : Type 0 where
+  pub fields_are : fields ≡ codes "generate" ∷ name ∷ decimal count ∷ []
+  pub name_is : IsKeyName name
+  pub few : count ≤ 1000
+
+-- `decrypt V IV H`, where the key named is that of the version
+pub record SpellsDecrypt (fields : List (List ℕ)) (name : List ℕ) (sent : RawEdek) : Type 0 where
+  pub iv_field : List ℕ
+  pub sealed_field : List ℕ
+  pub fields_are : fields ≡ codes "decrypt" ∷ version_text sent.version.key sent.version.number ∷ iv_field ∷ sealed_field ∷ []
+  pub key_is : IsKeyName sent.version.key
+  pub number_is : sent.version.number < 2 ^ 16
+  pub name_is : name ≡ sent.version.key
+  pub iv_is : IsMaterial iv_field sent.iv
+  pub sealed_is : IsMaterial sealed_field sent.sealed
+
 -- the fields behind the user spell the call
 abbrev pub SpellsCall : List (List ℕ) → KmsCall → Type 0
 SpellsCall fields (call.Create name bits material description) = SpellsCreate fields name bits material description
-SpellsCall fields (call.Roll name material) = ⊥
-SpellsCall fields (call.Metadata name) = ⊥
+SpellsCall fields (call.Roll name material) = SpellsRoll fields name material
+SpellsCall fields (call.Metadata name) = SpellsMetadata fields name
+SpellsCall fields (call.Generate name count) = SpellsGenerate fields name count
+SpellsCall fields (call.Decrypt name sent) = SpellsDecrypt fields name sent
 
 -- the line spells the event: `kms U` and a call
 pub record Spells (line : List ℕ) (event : Event) : Type 0 where

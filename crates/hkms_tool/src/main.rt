@@ -1,19 +1,23 @@
 //! hkms: the Hadoop key management server.
 #![tactic(auto)]
 
+mod calls;
 mod command;
 mod event;
+mod fields;
 mod lines;
 mod replay;
 mod stage;
 mod transcript;
 
-use disk_kinds::{ListWords, Reading, Writing};
-use hk_base::Text;
+use disk_kinds::{ChaWords, Reading, Writing};
+use hk_base::{Text, write_all};
 use std::alloc::Global;
+use std::env;
+use std::fs::File;
+use std::io::{self, Read};
 use std::process::ExitCode;
-use std::rt::Env;
-use std::{env, io};
+use std::rt::{Env, Files};
 
 /// The words of the command line without the program's own name. It fails where a word is not
 /// UTF-8.
@@ -25,10 +29,21 @@ fn words_given(rt: &(impl Env + Alloc<A = Global>)) -> io::Result<Vec<Text>> {
     Ok(words)
 }
 
+/// 32 bytes of the system's random source.
+fn random_seed<R: Files>(rt: &R) -> io::Result<[u8; 32]> {
+    let mut seed = [0u8; 32];
+    File::open(rt, "/dev/urandom")?.read_exact(&mut seed)?;
+    Ok(seed)
+}
+
 fn main(rt: HostRuntime) -> ExitCode {
     let mut input = Reading::new(rt.stdin());
     let mut out = Writing::new(rt.stdout());
-    let mut rand = ListWords::new(Vec::new(rt.alloc()));
+    let Ok(seed) = random_seed(&rt) else {
+        let _ = write_all(&mut out, b"no random source\n");
+        return ExitCode::from(7);
+    };
+    let mut rand = ChaWords::from_seed(seed);
     // Words that cannot be read are refused as words that are not known.
     let words = words_given(&rt).unwrap_or(Vec::new(rt.alloc()));
     let status = command::hkms(

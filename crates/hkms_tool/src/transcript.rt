@@ -1,9 +1,11 @@
 //! Lines of the transcript.
 ghost use Rattle.std.specs.Prelude.{◌≡◌, ◌++◌, OnOk};
 ghost use Rattle.std.specs.Fmt.{decimal};
-ghost use Rattle.hkms_tool.specs.Transcript.{answer_text, line_text, meta_text, material_text, refusal_text};
+ghost use Rattle.std.specs.List.{flat_map};
+ghost use Rattle.hex.specs.Hex.{encode_lower};
+ghost use Rattle.hkms_tool.specs.Transcript.{answer_text, edek_text, line_text, meta_text, material_text, refusal_text};
 
-use hk_base::{ByteList, Dek, NoMemory};
+use hk_base::{ByteList, Dek, Edek, NoMemory};
 use itoa::Buffer;
 use key_rows::{KeyMeta, KmsRefusal, KmsReply};
 use std::alloc::Global;
@@ -42,6 +44,14 @@ fn write_answer(alloc: Global, reply: &KmsReply, out: &mut ByteList) -> Result<(
             write_material(alloc, material, out)
         }
         KmsReply::Metadata(meta) => write_meta(meta, out),
+        KmsReply::Ready(edeks) => {
+            out.append(b"ready")?;
+            write_edeks(alloc, edeks.as_slice(), out)
+        }
+        KmsReply::Key(dek) => {
+            out.append(b"key ")?;
+            write_hex(alloc, dek.as_bytes(), out)
+        }
         KmsReply::Refused(why) => {
             out.append(b"refused ")?;
             out.append(refusal_text(*why).as_bytes())
@@ -54,8 +64,34 @@ fn write_material(alloc: Global, material: &Option<Dek>, out: &mut ByteList) -> 
 {
     match material {
         None => out.push(b'-'),
-        Some(material) => out.append(hex::encode(alloc, material.as_bytes())?.as_bytes()),
+        Some(material) => write_hex(alloc, material.as_bytes(), out),
     }
+}
+
+fn write_hex(alloc: Global, bytes: &[u8], out: &mut ByteList) -> Result<(), NoMemory>
+    ensures { OnOk result (out.new ≡ out.old ++ encode_lower bytes.now) }
+{
+    out.append(hex::encode(alloc, bytes)?.as_bytes())
+}
+
+fn write_edeks(alloc: Global, edeks: &[Edek], out: &mut ByteList) -> Result<(), NoMemory>
+    ensures { OnOk result (out.new ≡ out.old ++ flat_map edek_text edeks.now) }
+{
+    'edeks: for edek in edeks {
+        write_edek(alloc, edek, out)?;
+    }
+    Ok(())
+}
+
+fn write_edek(alloc: Global, edek: &Edek, out: &mut ByteList) -> Result<(), NoMemory>
+    ensures { OnOk result (out.new ≡ out.old ++ edek_text edek.now) }
+{
+    out.push(b' ')?;
+    edek.version.write(out)?;
+    out.push(b':')?;
+    write_hex(alloc, edek.iv.as_bytes(), out)?;
+    out.push(b':')?;
+    write_hex(alloc, edek.sealed.as_bytes(), out)
 }
 
 fn write_meta(meta: &KeyMeta, out: &mut ByteList) -> Result<(), NoMemory>
@@ -76,11 +112,14 @@ fn refusal_text(why: KmsRefusal) -> &'static str
 {
     match why {
         KmsRefusal::NoSuchKey => "K4 NoSuchKey",
+        KmsRefusal::NoSuchVersion => "K5 NoSuchVersion",
         KmsRefusal::KeyExists => "K6 KeyExists",
+        KmsRefusal::WrongKey => "K7 WrongKey",
         KmsRefusal::BadMaterial => "K8 BadMaterial",
         KmsRefusal::BadLength => "K9 BadLength",
         KmsRefusal::TooManyKeys => "K10 TooManyKeys",
         KmsRefusal::TooManyVersions => "K11 TooManyVersions",
+        KmsRefusal::TooManyAsked => "K12 TooManyAsked",
         KmsRefusal::NoMemory => "K13 NoMemory",
     }
 }

@@ -8,7 +8,9 @@ invariant-lines g l = record {
   so_far : SoFar (record { words = g.W.Words.to_come l.fn.words; left = g.S.Source.left l.fn.input; written = g.K.Sink.written l.fn.out })
       (record {
         view = record { state = l.stage.kms; words = g.W.Words.to_come l.words; events = l.stage.events; written = g.K.Sink.written l.out };
-        ahead = ahead l.reader (g.S.Source.left l.input); used = l.reader.used; count = l.count;
+        ahead = ahead l.reader (g.S.Source.left l.input);
+        used = l.reader.used;
+        count = l.count;
       });
   few : l.stage.events ≤ 10000;
   bounded : l.count ≤ l.reader.used;

@@ -1,6 +1,6 @@
 use Rattle.std.proofs.Common.{◌≡◌, ◌≤◌, drop}
 use Rattle.hkms_tool.specs.Events.{is_escaped_from}
-use Rattle.hkms_tool.proofs.event.is_escaped.Given as goal
+use Rattle.hkms_tool.proofs.fields.is_escaped.Given as goal
 
 abbrev pub invariant-bytes : goal.invariant-bytes
 invariant-bytes l = record {

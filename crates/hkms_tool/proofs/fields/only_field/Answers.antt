@@ -1,7 +1,7 @@
 use Rattle.std.proofs.Common.{◌≡◌, [], ◌∷◌, List, ℕ}
 use Rattle.hkms_tool.specs.Events.{fields_of}
 use Rattle.hkms_tool.proofs.FieldLemmas.{never_empty}
-use Rattle.hkms_tool.proofs.event.only_field.Goals as goal
+use Rattle.hkms_tool.proofs.fields.only_field.Goals as goal
 
 pub returns-in-Some : goal.returns-in-Some
 returns-in-Some c = λ field is.

@@ -1,0 +1,119 @@
+//! Fields of a line.
+ghost use Rattle.std.specs.Prelude.{◌≡◌, ◌≤◌, ◌∷◌, [], ℕ, List, length, position, All, false, IfOk, IfNone, MatchOption, Option};
+ghost use Rattle.percent_encoding.specs.Percent.{percent_decode};
+ghost use Rattle.hex.specs.Hex.{is_hex_digit};
+ghost use Rattle.hkms_tool.specs.Events.{IsMaterial, IsUser, SpellsMaterial, fields_of, is_escaped_from, is_plain, is_space};
+
+use hk_base::{ByteList, NoMemory, Text};
+use std::alloc::Global;
+
+fn space_in(bytes: &[u8]) -> Option<usize>
+    ensures first { result ≡ position is_space bytes.now }
+    ensures none { IfNone result (All (λ b. is_space b ≡ false) bytes.now) }
+{
+    bytes.iter().position(|byte| *byte == b' ')
+}
+
+/// The first field of a line, and what stands behind the space, where there is one.
+pub fn cut(bytes: &[u8]) -> (&[u8], Option<&[u8]>)
+    ensures { MatchOption result.1 (fields_of bytes.now ≡ result.0.now ∷ []) (λ rest. fields_of bytes.now ≡ result.0.now ∷ fields_of rest.now) }
+{
+    match space_in(bytes) {
+        None => (bytes, None),
+        Some(place) => (&bytes[..place], Some(&bytes[place + 1..])),
+    }
+}
+
+/// The only field of a line, or `None` where there are more.
+pub fn only_field(bytes: &[u8]) -> Option<&[u8]>
+    ensures { MatchOption result ((field : List ℕ) → ¬ (fields_of bytes.now ≡ field ∷ [])) (λ field. fields_of bytes.now ≡ field.now ∷ []) }
+{
+    let (field, rest) = cut(bytes);
+    match rest {
+        Some(_) => None,
+        None => Some(field),
+    }
+}
+
+/// Whether a byte of a user or a path stands for itself.
+fn is_plain(byte: u8) -> bool
+    ensures { result ≡ is_plain byte }
+{
+    33 <= byte && byte <= 126 && byte != b'%' && byte != b',' && byte != b':'
+}
+
+fn is_hex_digit(byte: u8) -> bool
+    ensures { result ≡ is_hex_digit byte }
+{
+    byte.is_ascii_hexdigit()
+}
+
+/// Whether each byte of a field stands for itself or belongs to an escape.
+fn is_escaped(field: &[u8]) -> bool
+    ensures { result ≡ is_escaped_from 0 field.now }
+{
+    let mut wanted = 0u8;
+    'bytes: for byte in field {
+        if wanted > 0 {
+            if !is_hex_digit(*byte) {
+                return false;
+            }
+            wanted -= 1;
+        } else if *byte == b'%' {
+            wanted = 2;
+        } else if !is_plain(*byte) {
+            return false;
+        }
+    }
+    wanted == 0
+}
+
+fn decoded(alloc: Global, field: &[u8]) -> Result<Vec<u8>, NoMemory>
+    ensures { IfOk result (λ bytes. bytes.items ≡ percent_decode field.now) }
+{
+    let mut bytes = Vec::new(alloc);
+    percent_encoding::percent_decode(field).append_to(&mut bytes)?;
+    Ok(bytes)
+}
+
+/// The user that a field spells, or `None` where it spells none.
+pub fn read_user(alloc: Global, field: &[u8]) -> Result<Option<Text>, NoMemory>
+    ensures { IfOk result (λ found. MatchOption found ((user : List ℕ) → ¬ IsUser field.now user) (IsUser field.now)) }
+{
+    if !is_escaped(field) {
+        return Ok(None);
+    }
+    let bytes = decoded(alloc, field)?;
+    if bytes.is_empty() || bytes.len() > 255 {
+        return Ok(None);
+    }
+    Ok(Text::from_utf8(bytes))
+}
+
+/// The 16 bytes that 32 hexadecimal digits spell, or `None` where the field spells none.
+pub fn read_bytes(alloc: Global, field: &[u8]) -> Result<Option<ByteList>, NoMemory>
+    ensures { IfOk result (λ found. MatchOption found ((material : List ℕ) → ¬ IsMaterial field.now material) (IsMaterial field.now)) }
+{
+    if field.len() != 32 {
+        return Ok(None);
+    }
+    match hex::decode(alloc, field) {
+        Ok(bytes) => Ok(Some(ByteList::of(bytes))),
+        Err(hex::FromHexError::OutOfMemory) => Err(NoMemory),
+        Err(_) => Ok(None),
+    }
+}
+
+/// The material that a field spells, which is `None` where the field is `-`, or `None` where it spells
+/// neither.
+pub fn read_material(alloc: Global, field: &[u8]) -> Result<Option<Option<ByteList>>, NoMemory>
+    ensures { IfOk result (λ found. MatchOption found ((material : Option (List ℕ)) → ¬ SpellsMaterial field.now material) (SpellsMaterial field.now)) }
+{
+    if field == b"-".as_slice() {
+        return Ok(Some(None));
+    }
+    match read_bytes(alloc, field)? {
+        None => Ok(None),
+        Some(material) => Ok(Some(Some(material))),
+    }
+}
