@@ -8,6 +8,8 @@ mod fields;
 mod lines;
 mod replay;
 mod stage;
+#[cfg(test)]
+mod tests;
 mod transcript;
 
 use disk_kinds::{ChaWords, Reading, Writing};

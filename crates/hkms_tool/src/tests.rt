@@ -1,0 +1,265 @@
+//! Whole replays over sources, sinks and words in memory.
+use crate::command::hkms;
+use disk_kinds::{ListWords, MemSink, MemSource};
+use hk_base::Text;
+use std::alloc::{AllocError, Global};
+use std::test::Fail;
+
+/// How the outside behaves in a replay: how many bytes a read or a write takes at most, and which
+/// reads and writes fail, counted from 1.
+#[derive(Clone, Copy)]
+struct Outside<'a> {
+    read: usize,
+    write: usize,
+    failing_reads: &'a [u64],
+    failing_writes: &'a [u64],
+}
+
+const HONEST: Outside<'static> = Outside {
+    read: 4096,
+    write: 4096,
+    failing_reads: &[],
+    failing_writes: &[],
+};
+
+/// What a replay came to.
+#[derive(Drop)]
+struct Played {
+    status: u8,
+    text: Vec<u8>,
+}
+
+fn replay(
+    alloc: Global,
+    input: &[u8],
+    words: &[u32],
+    outside: Outside,
+) -> Result<Played, AllocError> {
+    let mut command = Vec::new(alloc);
+    command.push(Text::of(String::from_str(alloc, "replay")?))?;
+    let mut source = MemSource::new(
+        input.to_vec(alloc)?,
+        outside.read.max(1),
+        outside.failing_reads.to_vec(alloc)?,
+    );
+    let mut sink = MemSink::new(
+        alloc,
+        outside.write.max(1),
+        outside.failing_writes.to_vec(alloc)?,
+    );
+    let mut rand = ListWords::new(words.to_vec(alloc)?);
+    let status = hkms(alloc, command.as_slice(), &mut source, &mut sink, &mut rand);
+    Ok(Played {
+        status,
+        text: sink.into_vec(),
+    })
+}
+
+const SCRIPT: &[u8] = b"# three events\n\
+    kms alice create k 128 2b7e151628aed2a6abf7158809cf4f3c\n\
+    \n\
+    kms alice create k 128 2b7e151628aed2a6abf7158809cf4f3c\n\
+    kms bob metadata k";
+
+const TRANSCRIPT: &[u8] = b"1 version k@0 2b7e151628aed2a6abf7158809cf4f3c\n\
+    2 refused K6 KeyExists\n\
+    3 meta k 128 1 1\n";
+
+#[test]
+fn pieces_do_not_matter(rt: HostRuntime) -> Result<(), Fail> {
+    for (read, write) in [(1, 4096), (7, 4096), (300, 4096), (4096, 1), (7, 3)] {
+        let outside = Outside {
+            read,
+            write,
+            ..HONEST
+        };
+        let played = replay(rt.alloc(), SCRIPT, &[], outside)?;
+        assert_eq!(rt; played.status, 0, "reads of {read}");
+        assert_eq!(rt; played.text.as_slice(), TRANSCRIPT, "reads of {read}");
+    }
+    Ok(())
+}
+
+#[test]
+fn the_answers_before_a_bad_line_stand(rt: HostRuntime) -> Result<(), Fail> {
+    let script = b"kms a metadata k\n#\nkms a metadata\nkms a metadata k\n";
+    let played = replay(rt.alloc(), script, &[], HONEST)?;
+    assert_eq!(rt; played.status, 3);
+    assert_eq!(rt;
+        played.text.as_slice(),
+        b"1 refused K4 NoSuchKey\nline 3 refused\n".as_slice()
+    );
+    Ok(())
+}
+
+#[test]
+fn a_read_that_fails_in_mid_line(rt: HostRuntime) -> Result<(), Fail> {
+    let outside = Outside {
+        read: 70,
+        failing_reads: &[3],
+        ..HONEST
+    };
+    let played = replay(rt.alloc(), SCRIPT, &[], outside)?;
+    assert_eq!(rt; played.status, 7);
+    let text =
+        b"1 version k@0 2b7e151628aed2a6abf7158809cf4f3c\n2 refused K6 KeyExists\nread fault\n";
+    assert_eq!(rt; played.text.as_slice(), text.as_slice());
+    Ok(())
+}
+
+#[test]
+fn a_write_that_fails_in_mid_line(rt: HostRuntime) -> Result<(), Fail> {
+    let outside = Outside {
+        write: 40,
+        failing_writes: &[2],
+        ..HONEST
+    };
+    let played = replay(rt.alloc(), SCRIPT, &[], outside)?;
+    assert_eq!(rt; played.status, 8);
+    assert_eq!(rt;
+        played.text.as_slice(),
+        b"1 version k@0 2b7e151628aed2a6abf7158809".as_slice()
+    );
+    Ok(())
+}
+
+#[test]
+fn words_are_drawn_in_order(rt: HostRuntime) -> Result<(), Fail> {
+    let words = [
+        0x0c0d0e0f, 0x08090a0b, 0x04050607, 0x00010203, 0xe2bec16b, 0x969f402e, 0x117e3de9,
+        0x2a179373,
+    ];
+    let script =
+        b"kms a create k 128 2b7e151628aed2a6abf7158809cf4f3c\nkms a decrypt k@1 00000000000000000000000000000000 00000000000000000000000000000000\nkms a generate k 1\n";
+    let played = replay(rt.alloc(), script, &words, HONEST)?;
+    let text =
+        b"1 version k@0 2b7e151628aed2a6abf7158809cf4f3c\n2 refused K5 NoSuchVersion\n3 ready k@0:0f0e0d0c0b0a09080706050403020100:874d6191b620e3261bef6864990db6ce\n";
+    assert_eq!(rt; played.status, 0);
+    assert_eq!(rt; played.text.as_slice(), text.as_slice());
+    Ok(())
+}
+
+/// `front`, so many bytes `fill`, and `back`.
+fn filled(
+    alloc: Global,
+    front: &[u8],
+    fill: u8,
+    count: usize,
+    back: &[u8],
+) -> Result<Vec<u8>, AllocError> {
+    let mut bytes = Vec::new(alloc);
+    bytes.extend_from_slice(front)?;
+    for _ in 0..count {
+        bytes.push(fill)?;
+    }
+    bytes.extend_from_slice(back)?;
+    Ok(bytes)
+}
+
+#[test]
+fn lines_users_and_names_at_their_limits(rt: HostRuntime) -> Result<(), Fail> {
+    let cases = [
+        (b"#".as_slice(), b'x', 1048575, b"\n".as_slice(), 0),
+        (b"#".as_slice(), b'x', 1048576, b"\n".as_slice(), 3),
+        (b"#".as_slice(), b'x', 1048575, b"".as_slice(), 0),
+        (b"kms ".as_slice(), b'u', 255, b" metadata k".as_slice(), 0),
+        (b"kms ".as_slice(), b'u', 256, b" metadata k".as_slice(), 3),
+        (b"kms u metadata ".as_slice(), b'k', 64, b"".as_slice(), 0),
+        (b"kms u metadata ".as_slice(), b'k', 65, b"".as_slice(), 3),
+    ];
+    for (front, fill, count, back, status) in cases {
+        let script = filled(rt.alloc(), front, fill, count, back)?;
+        let played = replay(rt.alloc(), script.as_slice(), &[], HONEST)?;
+        assert_eq!(rt; played.status, status, "{count} bytes");
+    }
+    Ok(())
+}
+
+#[test]
+fn lines_are_read_in_their_spellings(rt: HostRuntime) -> Result<(), Fail> {
+    let cases = [
+        (b"kms %61lice metadata k".as_slice(), 0),
+        (b"kms %C3%a4 metadata k".as_slice(), 0),
+        (b"kms %c3 metadata k".as_slice(), 3),
+        (b"kms %4 metadata k".as_slice(), 3),
+        (b"kms %zz metadata k".as_slice(), 3),
+        (b"kms a:b metadata k".as_slice(), 3),
+        (b"kms  metadata k".as_slice(), 3),
+        (b"kms a  metadata k".as_slice(), 3),
+        (b"kms a metadata k ".as_slice(), 3),
+        (b" kms a metadata k".as_slice(), 3),
+        (b"kms a metadata k\r".as_slice(), 3),
+        (
+            b"kms a create k 128 00112233445566778899AABBCCDDEEFF".as_slice(),
+            0,
+        ),
+        (
+            b"kms a create k 128 00112233445566778899aabbccddeef".as_slice(),
+            3,
+        ),
+        (b"kms a create k 192 -".as_slice(), 3),
+        (b"kms a create k 128".as_slice(), 3),
+        (b"kms a roll k --".as_slice(), 3),
+        (b"kms a generate k 1000".as_slice(), 0),
+        (b"kms a generate k 1001".as_slice(), 3),
+        (b"kms a generate k 01".as_slice(), 3),
+        (
+            b"kms a decrypt k@01 00112233445566778899aabbccddeeff 00112233445566778899aabbccddeeff".as_slice(),
+            3,
+        ),
+        (
+            b"kms a decrypt k@1 00112233445566778899aabbccddeeff 0011".as_slice(),
+            3,
+        ),
+        (b"kms a delete k".as_slice(), 3),
+    ];
+    for (line, status) in cases {
+        let played = replay(rt.alloc(), line, &[], HONEST)?;
+        assert_eq!(rt; played.status, status, "{line:?}");
+    }
+    Ok(())
+}
+
+#[test]
+fn an_event_too_many_is_refused(rt: HostRuntime) -> Result<(), Fail> {
+    let mut script = Vec::new(rt.alloc());
+    for _ in 0..10000 {
+        script.extend_from_slice(b"kms a metadata k\n")?;
+    }
+    let played = replay(rt.alloc(), script.as_slice(), &[], HONEST)?;
+    assert_eq!(rt; played.status, 0);
+    script.extend_from_slice(b"#\nkms a metadata k\n")?;
+    let played = replay(rt.alloc(), script.as_slice(), &[], HONEST)?;
+    assert_eq!(rt; played.status, 3);
+    assert!(rt;
+        played
+            .text
+            .as_slice()
+            .ends_with(b"10000 refused K4 NoSuchKey\nline 10002 refused\n")
+    );
+    Ok(())
+}
+
+#[test]
+fn other_words_are_refused(rt: HostRuntime) -> Result<(), Fail> {
+    for line in ["", "pipe", "replay replay", "Replay"] {
+        let mut command = Vec::new(rt.alloc());
+        for word in line.split_whitespace() {
+            command.push(Text::of(String::from_str(rt.alloc(), word)?))?;
+        }
+        let mut source = MemSource::new(SCRIPT.to_vec(rt.alloc())?, 4096, Vec::new(rt.alloc()));
+        let mut sink = MemSink::new(rt.alloc(), 4096, Vec::new(rt.alloc()));
+        let mut rand = ListWords::new(Vec::new(rt.alloc()));
+        let status = hkms(
+            rt.alloc(),
+            command.as_slice(),
+            &mut source,
+            &mut sink,
+            &mut rand,
+        );
+        assert_eq!(rt; status, 2);
+        assert_eq!(rt; sink.as_slice(), b"usage refused\n".as_slice());
+        assert_eq!(rt; source.as_slice(), SCRIPT);
+    }
+    Ok(())
+}

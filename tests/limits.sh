@@ -1,0 +1,39 @@
+#!/usr/bin/env bash
+# Lines at their limits, as the built program reads them from a pipe.
+set -u
+# The last command of a pipe runs here, so that it counts the failures.
+shopt -s lastpipe
+cd "$(dirname "${BASH_SOURCE[0]}")/.." || exit 1
+hkms=./hkms
+failures=0
+
+# expect NAME STATUS LAST: runs the program on standard input, compares its status and last line.
+expect() {
+    local last status
+    last=$("$hkms" replay | tail -n 1; exit "${PIPESTATUS[0]}")
+    status=$?
+    if [ "$status" != "$2" ] || [ "$last" != "$3" ]; then
+        printf 'tests/limits.sh: %s: status %s (wanted %s), last line %s (wanted %s)\n' "$1" "$status" "$2" "$last" "$3"
+        failures=$((failures + 1))
+    fi
+}
+
+# repeat CHARACTER COUNT
+repeat() {
+    head -c "$2" /dev/zero | tr '\0' "$1"
+}
+
+{ printf '#'; repeat x 1048575; printf '\nkms a metadata k\n'; } | expect 'the longest line' 0 '1 refused K4 NoSuchKey'
+{ printf '#'; repeat x 1048576; printf '\nkms a metadata k\n'; } | expect 'a line too long' 3 'line 1 refused'
+{ printf 'kms '; repeat u 255; printf ' metadata k\n'; } | expect 'the longest user' 0 '1 refused K4 NoSuchKey'
+{ printf 'kms '; repeat u 256; printf ' metadata k\n'; } | expect 'a user too long' 3 'line 1 refused'
+yes 'kms a metadata k' | head -n 10000 | expect 'the last event' 0 '10000 refused K4 NoSuchKey'
+yes 'kms a metadata k' | head -n 10001 | expect 'an event too many' 3 'line 10001 refused'
+yes '# nothing' | head -n 100000 | expect 'many quiet lines' 0 ''
+
+# Bytes that come one at a time are read as bytes that come together.
+while IFS= read -r -n 1 -d '' byte; do
+    printf '%s' "$byte"
+done <examples/first-key.events | expect 'single bytes' 0 '5 refused K4 NoSuchKey'
+
+[ "$failures" -eq 0 ]
