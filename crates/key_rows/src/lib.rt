@@ -13,3 +13,6 @@ pub use description::Description;
 pub use edek_list::EdekList;
 pub use rows::{DekList, KeyCommand, KeyRow};
 pub use table::KeyTable;
+
+#[cfg(test)]
+mod tests;

@@ -1,5 +1,5 @@
 -- Data encryption keys that are generated and decrypted.
-use Rattle.std.proofs.Common.{◌≡◌, ℕ, zero, suc, ◌+◌, ◌-◌, ◌*◌, ◌/◌, ◌<◌, ◌≤◌, ◌⊎◌, inl, inr, List, [], ◌∷◌, ◌++◌, length, find, Bool, true, false, not, ◌||◌, ◌==◌, cond, nat_lt, nat_le, Option, None, Some, is_none, IfSome, refl, ap, sym, ◌∙◌, subst, arith, get_or, length-append, mul-le-mul_right}
+use Rattle.std.proofs.Common.{◌≡◌, ℕ, zero, suc, ◌+◌, ◌-◌, ◌*◌, ◌/◌, ◌<◌, ◌≤◌, ◌⊎◌, inl, inr, List, [], ◌∷◌, ◌++◌, length, Bool, true, false, not, ◌||◌, ◌==◌, nat_lt, nat_le, Option, None, Some, is_none, IfSome, refl, ap, sym, ◌∙◌, subst, arith, get_or, length-append, mul-le-mul_right}
 use Rattle.std.specs.Int.{w32, to_le_bytes}
 use Rattle.std.specs.List.{slice_get}
 use Rattle.std.specs.Option.{option_map, unwrap_or}
@@ -17,13 +17,13 @@ use Rattle.key_rows.specs.declared.calls.KmsReply.{KmsReply}
 use Rattle.key_rows.specs.declared.calls.KmsReply.TheVariants as reply
 use Rattle.key_rows.specs.declared.calls.KmsRefusal.{KmsRefusal}
 use Rattle.key_rows.specs.declared.calls.KmsRefusal.TheVariants as refusal
-use Rattle.key_rows.specs.Table.{Table, find_name, is_named, is_length, material_of}
+use Rattle.key_rows.specs.Table.{find_name, is_named, is_length, material_of}
 use Rattle.key_rows.specs.Sound.{IsRow, IsTable}
 use Rattle.key_rows.proofs.TableLemmas.{found_row}
 use Rattle.kms_core.specs.State.{KmsState}
 use Rattle.kms_core.specs.Draws.{drawn, drawn_iv, drawn_dek, drawn_edek, drawn_edeks, place_of_draw, words_of_draw}
 use Rattle.kms_core.specs.Opening.{unseals}
-use Rattle.kms_core.specs.Calls.{Acts, Deed, Plain, NoRoom, Ending, MayEnd, outcome, causes, deed, first_cause, unless_refused, refused, sent_causes, generate_causes, generated, lacks_version, is_of_other_key, is_malformed, row_of, bits_of, edek_of, current_version, current_material}
+use Rattle.kms_core.specs.Calls.{Acts, Plain, NoRoom, Ending, MayEnd, outcome, deed, first_cause, unless_refused, sent_causes, generate_causes, generated, lacks_version, is_of_other_key, is_malformed, row_of, bits_of, edek_of, current_version, current_material}
 use Rattle.kms_core.specs.Laws.{DecryptOpens, DrawsApart, DrawsReadTheirOwn, GeneratedDecrypts, GeneratedOpens, SameWords, dek_of_draw, sent_of}
 use Rattle.kms_core.proofs.DrawLemmas.{length-drawn}
 use Rattle.kms_core.proofs.KeyLemmas.{each_get, found_passes, sent_allowed, version_at}
@@ -86,6 +86,7 @@ gave s words now name count keys s' words' acts = by_end acts.acts.0 acts.acts.2
     by_cause None found is =
         let told : reply.Ready keys ≡ reply.Ready (drawn_edeks (current_version (row_of s name)) (current_material s name) words count) = ap (λ o. o.told) is in
         record { stands = (none_stands (is_none (row_of s name)) refusal.NoSuchKey ((nat_lt 1000 count, refusal.TooManyAsked) ∷ []) found).0; drawn = cc; same = ap (λ o. o.state) is }
+
     by_end : (e : Ending) → (record { told = reply.Ready keys; drawn = acts.drawn; state = s' }) ≡ outcome s words now (call.Generate name count) e → Gave s words name count keys s'
     by_end Plain is = by_cause (first_cause (generate_causes (row_of s name) count)) refl is
     by_end (NoRoom some) is = let no : reply.Ready keys ≡ reply.Refused refusal.NoMemory = ap (λ o. o.told) is in absurd cc
@@ -133,7 +134,7 @@ standing_key s name is stands = by_row (row_of s name) refl stands (found_row s.
         let got : slice_get row.materials newest ≡ Some material = slice_get-get_or row.materials newest [] within in
         let named : bytes_eq row.name name ≡ true = found_passes (is_named name) s.table.rows row found in
         let has : material_of s.table.rows (current_version (row_of s name)) ≡ Some material =
-            ap (λ o. material_of s.table.rows (current_version o)) found ∙ version_at s.table.rows name row.name newest row material found named got in
+        ap (λ o. material_of s.table.rows (current_version o)) found ∙ version_at s.table.rows name row.name newest row material found named got in
         let is : Some material ≡ Some (current_material s name) = ap (λ o. Some (unwrap_or o [])) (sym has) in
         (row, record { found = found; sound = sound; named = named; got = got ∙ is; has = has ∙ is })
 
@@ -165,8 +166,8 @@ unfolding drawn_iv
 well_formed bits version material words place known long =
     let iv : length (drawn words place 4) ≡ 16 = length-drawn words place 4 in
     let dek : length (seal material (drawn words place 4) (drawn_dek words place (length material))) ≡ bits / 8 =
-        length-seal material (drawn words place 4) (drawn_dek words place (length material)) ∙ length-drawn words (place + 4) (length material / 4)
-        ∙ ap (λ n. 4 * (n / 4)) long ∙ key_bytes bits known in
+    length-seal material (drawn words place 4) (drawn_dek words place (length material)) ∙ length-drawn words (place + 4) (length material / 4)
+    ∙ ap (λ n. 4 * (n / 4)) long ∙ key_bytes bits known in
     neither (length (seal material (drawn words place 4) (drawn_dek words place (length material))) == bits / 8) (length (drawn words place 4) == 16)
     ((Decides-eqb _ _).1 dek) ((Decides-eqb _ _).1 iv)
   where
@@ -217,7 +218,7 @@ draws_read_their_own version material words others place same =
     let len : ℕ = length material in
     let iv : drawn words place 4 ≡ drawn others place 4 = same_drawn words others place 4 (λ k within. same k (omega arith)) in
     let dek : drawn words (place + 4) (len / 4) ≡ drawn others (place + 4) (len / 4) =
-        same_drawn words others (place + 4) (len / 4) (λ k within. ap words (omega arith) ∙ same (4 + k) (omega arith) ∙ ap others (omega arith)) in
+    same_drawn words others (place + 4) (len / 4) (λ k within. ap words (omega arith) ∙ same (4 + k) (omega arith) ∙ ap others (omega arith)) in
     record { edek = λ i. record { version = version; iv = iv i; sealed = seal material (iv i) (dek i) }; dek = dek }
 
 pub draws_apart : DrawsApart

@@ -6,20 +6,17 @@ ghost use Rattle.kms_core.specs.Laws.{DecryptOpens, DrawsApart, DrawsReadTheirOw
 /// is the key that it opens to.
 pub fn decrypt_opens()
     ensures { DecryptOpens }
-{
-}
+{}
 
 /// Each key that a generate answers opens to the data encryption key drawn for it, and decrypt
 /// answers that one.
 pub fn generated_keys_open()
     ensures opens { GeneratedOpens }
     ensures decrypts { GeneratedDecrypts }
-{
-}
+{}
 
 /// The draws of a generate take different words of the stream, and each reads its own words alone.
 pub fn draws_use_different_words()
     ensures own { DrawsReadTheirOwn }
     ensures apart { DrawsApart }
-{
-}
+{}

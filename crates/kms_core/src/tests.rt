@@ -1,0 +1,263 @@
+//! The service over given words. The keys are those of the examples of counter mode in NIST SP
+//! 800-38A, appendix F.5: the initialization vector is the first counter there with all bits
+//! flipped, and the data encryption key is what the standard encrypts.
+use super::*;
+use disk_kinds::ListWords;
+use hk_base::{ByteList, Dek, Edek, KeyName, Text, VersionName};
+use key_rows::{Description, KmsCall, KmsRefusal, KmsReply, RawEdek};
+use std::alloc::Global;
+use std::process::Abort;
+
+/// Four words of the vector and eight of the two blocks.
+const WORDS: [u32; 12] = [
+    0x0c0d0e0f, 0x08090a0b, 0x04050607, 0x00010203, 0xe2bec16b, 0x969f402e, 0x117e3de9, 0x2a179373,
+    0x578a2dae, 0x9cac031e, 0xac6fb79e, 0x518eaf45,
+];
+
+const VECTOR: &[u8] = b"\x0f\x0e\x0d\x0c\x0b\x0a\x09\x08\x07\x06\x05\x04\x03\x02\x01\x00";
+
+const BLOCKS: &[u8] =
+    b"\x6b\xc1\xbe\xe2\x2e\x40\x9f\x96\xe9\x3d\x7e\x11\x73\x93\x17\x2a\xae\x2d\x8a\x57\x1e\x03\xac\x9c\x9e\xb7\x6f\xac\x45\xaf\x8e\x51";
+
+const MATERIAL: &[u8] = b"\x2b\x7e\x15\x16\x28\xae\xd2\xa6\xab\xf7\x15\x88\x09\xcf\x4f\x3c";
+
+const SEALED: &[u8] = b"\x87\x4d\x61\x91\xb6\x20\xe3\x26\x1b\xef\x68\x64\x99\x0d\xb6\xce";
+
+/// A service with the words to come.
+#[derive(Drop)]
+struct Desk {
+    alloc: Global,
+    kms: Kms,
+    words: ListWords,
+    user: Text,
+}
+
+impl Desk {
+    fn new(rt: &impl Abort, alloc: Global) -> Desk {
+        let words = Vec::from_slice(alloc, &WORDS).expect(rt, "memory");
+        Desk {
+            alloc,
+            kms: Kms::new(alloc).expect(rt, "memory"),
+            words: ListWords::new(words),
+            user: Text::of(String::new(alloc)),
+        }
+    }
+
+    fn ask(&mut self, call: KmsCall) -> KmsReply {
+        self.kms.act(&mut self.words, 7, &self.user, call)
+    }
+
+    fn list(&self, rt: &impl Abort, bytes: &[u8]) -> ByteList {
+        ByteList::of(bytes.to_vec(self.alloc).expect(rt, "memory"))
+    }
+
+    fn create(&mut self, rt: &impl Abort, name: &[u8], bits: u64, material: &[u8]) -> KmsReply {
+        let call = KmsCall::Create {
+            name: key_name(rt, name),
+            bits,
+            material: Some(self.list(rt, material)),
+            description: Description::empty(self.alloc),
+        };
+        self.ask(call)
+    }
+
+    fn roll(&mut self, rt: &impl Abort, name: &[u8], material: &[u8]) -> KmsReply {
+        let call = KmsCall::Roll {
+            name: key_name(rt, name),
+            material: Some(self.list(rt, material)),
+        };
+        self.ask(call)
+    }
+
+    fn generate(&mut self, rt: &impl Abort, name: &[u8], count: u32) -> KmsReply {
+        let name = key_name(rt, name);
+        self.ask(KmsCall::Generate { name, count })
+    }
+
+    fn decrypt(&mut self, rt: &impl Abort, name: &[u8], edek: &Edek) -> KmsReply {
+        let iv = edek.iv.as_bytes();
+        let sealed = edek.sealed.as_bytes();
+        self.decrypt_parts(rt, name, edek.version, iv, sealed)
+    }
+
+    fn decrypt_parts(
+        &mut self,
+        rt: &impl Abort,
+        name: &[u8],
+        version: VersionName,
+        iv: &[u8],
+        sealed: &[u8],
+    ) -> KmsReply {
+        let sent = RawEdek {
+            version,
+            iv: self.list(rt, iv),
+            sealed: self.list(rt, sealed),
+        };
+        let name = key_name(rt, name);
+        self.ask(KmsCall::Decrypt { name, sent })
+    }
+}
+
+fn key_name(rt: &impl Abort, bytes: &[u8]) -> KeyName {
+    KeyName::read(bytes).expect(rt, "a name")
+}
+
+fn version(rt: &impl Abort, key: &[u8], number: u16) -> VersionName {
+    let key = key_name(rt, key);
+    VersionName { key, number }
+}
+
+fn only_key(rt: &impl Abort, reply: KmsReply) -> Edek {
+    match reply {
+        KmsReply::Ready(keys) => {
+            assert!(rt; keys.len() == 1);
+            keys.as_slice()[0]
+        }
+        _ => panic!(rt; "no keys"),
+    }
+}
+
+fn assert_key(rt: &impl Abort, reply: KmsReply, bytes: &[u8]) {
+    match reply {
+        KmsReply::Key(key) => assert_eq!(rt; key.as_bytes(), bytes),
+        _ => panic!(rt; "no key"),
+    }
+}
+
+fn number_of(version: &VersionName) -> u16 {
+    version.number
+}
+
+fn assert_version(rt: &impl Abort, reply: KmsReply, number: u16, bytes: &[u8]) {
+    match reply {
+        KmsReply::Version { version, material } => {
+            assert_eq!(rt; number_of(&version), number);
+            assert!(rt; material == Dek::read(bytes));
+        }
+        _ => panic!(rt; "no version"),
+    }
+}
+
+fn assert_refused(rt: &impl Abort, reply: KmsReply, why: KmsRefusal) {
+    match reply {
+        KmsReply::Refused(refusal) => assert_eq!(rt; refusal, why),
+        _ => panic!(rt; "no refusal"),
+    }
+}
+
+fn assert_seals(rt: &impl Abort, alloc: Global, bits: u64, material: &[u8], sealed: &[u8]) {
+    let mut desk = Desk::new(rt, alloc);
+    assert_version(rt, desk.create(rt, b"k", bits, material), 0, material);
+    let edek = only_key(rt, desk.generate(rt, b"k", 1));
+    assert_eq!(rt; edek.version.number, 0);
+    assert!(rt; edek.version.key.is(&key_name(rt, b"k")));
+    assert_eq!(rt; edek.iv.as_bytes(), VECTOR);
+    assert_eq!(rt; edek.sealed.as_bytes(), sealed);
+    let (dek, _) = BLOCKS.split_at(material.len().min(32));
+    assert_key(rt, desk.decrypt(rt, b"k", &edek), dek);
+}
+
+#[test]
+fn keys_are_sealed_as_in_the_standard(rt: HostRuntime) {
+    assert_seals(&rt, rt.alloc(), 128, MATERIAL, SEALED);
+    let material =
+        b"\x8e\x73\xb0\xf7\xda\x0e\x64\x52\xc8\x10\xf3\x2b\x80\x90\x79\xe5\x62\xf8\xea\xd2\x52\x2c\x6b\x7b";
+    let sealed =
+        b"\x1a\xbc\x93\x24\x17\x52\x1c\xa2\x4f\x2b\x04\x59\xfe\x7e\x6e\x0b\x09\x03\x39\xec\x0a\xa6\xfa\xef";
+    assert_seals(&rt, rt.alloc(), 192, material, sealed);
+    let material =
+        b"\x60\x3d\xeb\x10\x15\xca\x71\xbe\x2b\x73\xae\xf0\x85\x7d\x77\x81\x1f\x35\x2c\x07\x3b\x61\x08\xd7\x2d\x98\x10\xa3\x09\x14\xdf\xf4";
+    let sealed =
+        b"\x60\x1e\xc3\x13\x77\x57\x89\xa5\xb7\xa7\xf5\x04\xbb\xf3\xd2\x28\xf4\x43\xe3\xca\x4d\x62\xb5\x9a\xca\x84\xe9\x90\xca\xca\xf5\xc5";
+    assert_seals(&rt, rt.alloc(), 256, material, sealed);
+}
+
+fn refuses_creates_and_rolls(rt: &impl Abort, desk: &mut Desk) {
+    let again = desk.create(rt, b"k", 128, MATERIAL);
+    assert_refused(rt, again, KmsRefusal::KeyExists);
+    let odd = desk.create(rt, b"m", 160, MATERIAL);
+    assert_refused(rt, odd, KmsRefusal::BadLength);
+    let short = desk.create(rt, b"m", 256, MATERIAL);
+    assert_refused(rt, short, KmsRefusal::BadMaterial);
+    assert_refused(rt, desk.roll(rt, b"m", MATERIAL), KmsRefusal::NoSuchKey);
+    assert_refused(rt, desk.roll(rt, b"k", BLOCKS), KmsRefusal::BadMaterial);
+}
+
+fn refuses_generates_and_decrypts(rt: &impl Abort, desk: &mut Desk) {
+    let [first, second] = [version(rt, b"k", 0), version(rt, b"k", 1)];
+    let other = version(rt, b"other", 0);
+    assert_refused(rt, desk.generate(rt, b"m", 1001), KmsRefusal::NoSuchKey);
+    assert_refused(rt, desk.generate(rt, b"k", 1001), KmsRefusal::TooManyAsked);
+    let absent = desk.decrypt_parts(rt, b"m", second, VECTOR, SEALED);
+    assert_refused(rt, absent, KmsRefusal::NoSuchKey);
+    let lacking = desk.decrypt_parts(rt, b"k", second, VECTOR, SEALED);
+    assert_refused(rt, lacking, KmsRefusal::NoSuchVersion);
+    let wrong = desk.decrypt_parts(rt, b"k", other, VECTOR, BLOCKS);
+    assert_refused(rt, wrong, KmsRefusal::WrongKey);
+    let long = desk.decrypt_parts(rt, b"k", first, VECTOR, BLOCKS);
+    assert_refused(rt, long, KmsRefusal::BadMaterial);
+    let long = desk.decrypt_parts(rt, b"k", first, BLOCKS, SEALED);
+    assert_refused(rt, long, KmsRefusal::BadMaterial);
+}
+
+#[test]
+fn a_refusal_draws_no_word(rt: HostRuntime) {
+    let mut desk = Desk::new(&rt, rt.alloc());
+    assert_version(&rt, desk.create(&rt, b"k", 128, MATERIAL), 0, MATERIAL);
+    assert_version(&rt, desk.create(&rt, b"other", 256, BLOCKS), 0, BLOCKS);
+    refuses_creates_and_rolls(&rt, &mut desk);
+    refuses_generates_and_decrypts(&rt, &mut desk);
+    let edek = only_key(&rt, desk.generate(&rt, b"k", 1));
+    assert_eq!(rt; edek.iv.as_bytes(), VECTOR);
+    assert_eq!(rt; edek.sealed.as_bytes(), SEALED);
+}
+
+#[test]
+fn a_rolled_key_seals_under_its_newest_version(rt: HostRuntime) {
+    let mut desk = Desk::new(&rt, rt.alloc());
+    assert_version(&rt, desk.create(&rt, b"k", 128, MATERIAL), 0, MATERIAL);
+    let before = only_key(&rt, desk.generate(&rt, b"k", 1));
+    assert_version(&rt, desk.roll(&rt, b"k", SEALED), 1, SEALED);
+    let after = only_key(&rt, desk.generate(&rt, b"k", 1));
+    assert_eq!(rt; before.version.number, 0);
+    assert_eq!(rt; after.version.number, 1);
+    // The words after the twelve are zeros.
+    assert_eq!(rt; after.iv.as_bytes(), &BLOCKS[16..]);
+    assert_key(&rt, desk.decrypt(&rt, b"k", &before), &BLOCKS[..16]);
+    assert_key(&rt, desk.decrypt(&rt, b"k", &after), &[0; 16]);
+    let name = key_name(&rt, b"k");
+    match desk.ask(KmsCall::Metadata { name }) {
+        KmsReply::Metadata(known) => {
+            assert_eq!(rt; known.versions, 2);
+            assert_eq!(rt; known.bits, 128);
+            assert_eq!(rt; known.created, 7);
+        }
+        _ => panic!(rt; "no metadata"),
+    }
+}
+
+/// Three letters for each number below 10,000.
+fn letters(number: u32) -> [u8; 3] {
+    [
+        b'a' + (number / 400 % 25) as u8,
+        b'a' + (number / 20 % 20) as u8,
+        b'a' + (number % 20) as u8,
+    ]
+}
+
+#[test]
+fn keys_and_versions_are_bounded(rt: HostRuntime) {
+    let mut desk = Desk::new(&rt, rt.alloc());
+    for number in 0..10000 {
+        let created = desk.create(&rt, &letters(number), 128, MATERIAL);
+        assert_version(&rt, created, 0, MATERIAL);
+    }
+    let more = desk.create(&rt, b"more", 128, MATERIAL);
+    assert_refused(&rt, more, KmsRefusal::TooManyKeys);
+    for number in 1..65535 {
+        let rolled = desk.roll(&rt, b"aaa", MATERIAL);
+        assert_version(&rt, rolled, number, MATERIAL);
+    }
+    let more = desk.roll(&rt, b"aaa", MATERIAL);
+    assert_refused(&rt, more, KmsRefusal::TooManyVersions);
+}
