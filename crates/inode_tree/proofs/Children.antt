@@ -1,7 +1,6 @@
 -- Whether rows lie in a directory, by the row that follows it in path order.
-use Rattle.std.proofs.Common.{◌≡◌, ℕ, ◌+◌, ◌<◌, ◌≤◌, zero, suc, Bool, true, false, cond, ◌&&◌, ◌||◌, List, [], ◌∷◌, ◌++◌, length, get_or, Option, Some, None, refl, sym, ap, ◌∙◌, subst, arith, length-append, ◌⊎◌, inl, inr}
+use Rattle.std.proofs.Common.{◌≡◌, ℕ, ◌+◌, ◌<◌, ◌≤◌, zero, suc, Bool, true, false, ◌&&◌, ◌||◌, List, [], ◌∷◌, ◌++◌, length, get_or, Option, Some, None, refl, sym, ap, ◌∙◌, subst, arith, length-append, ◌⊎◌, inl, inr}
 use Rattle.std.specs.Prelude.{◌==◌}
-use Rattle.std.specs.List.{list_any}
 use Rattle.std.proofs.lemmas.Bool.{cases_lt}
 use Rattle.std.proofs.lemmas.Bool.Decides.{nat_tests}
 use Rattle.inode_tree.specs.declared.rows.Node.{Node}
@@ -12,7 +11,7 @@ use Rattle.inode_tree.proofs.Asked.{none-at}
 use Rattle.inode_tree.proofs.Blocks.{between, prefix-not-before}
 use Rattle.inode_tree.proofs.PathLemmas.{and-parts}
 use Rattle.inode_tree.proofs.Puts.{not-both, same-turned}
-use Rattle.inode_tree.proofs.Ranks.{any_entry, before-trans, rank-above, rank-below, rows-at, length-rows, within-at}
+use Rattle.inode_tree.proofs.Ranks.{any_entry, rank-above, rank-below, rows-at, length-rows, within-at}
 use Rattle.inode_tree.proofs.Seeks.{same-is, same-itself, before-not-same, not-before-itself, other-before, number-live}
 use Rattle.inode_tree.proofs.Ups.{path-root}
 use Rattle.inode_tree.proofs.ZoneLemmas.{prefix-snoc, prefix-itself, prefix-whole, rising-before}

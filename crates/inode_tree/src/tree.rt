@@ -414,8 +414,10 @@ mod tests {
     }
 
     fn file(id: u64, edek: Option<Edek>) -> Row {
-        let kind = Kind::File { edek };
-        Row { id, kind }
+        Row {
+            id,
+            kind: Kind::File { edek },
+        }
     }
 
     /// A tree with these rows, made in this order.

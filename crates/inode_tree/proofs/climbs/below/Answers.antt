@@ -1,10 +1,9 @@
-use Rattle.std.proofs.Common.{rules, arith, ◌≡◌, ◌<◌, ◌≤◌, zero, suc, length, take, drop, ℕ, ◌+◌, ◌-◌, Bool, true, false, ◌&&◌, cond, List, [], ◌∷◌, ◌++◌, get_or, refl, sym, ap, ◌∙◌, subst, Option, Some, None, take_all, Ordering, Less, Equal, Greater, vec_len}
-use Rattle.std.specs.Prelude.{nat_le, ◌==◌}
+use Rattle.std.proofs.Common.{arith, ◌≡◌, length, take, ℕ, Bool, ◌&&◌, List, refl, sym, ap, ◌∙◌, take_all, Ordering, Less, Equal, Greater}
+use Rattle.std.specs.Prelude.{nat_le}
 use Rattle.std.specs.Ordering.{is_eq}
-use Rattle.inode_tree.specs.Arena.{IsTree, IsLive, path_of, node_at, entry_at, rows_of, cmp_front}
+use Rattle.inode_tree.specs.Arena.{path_of, cmp_front}
 use Rattle.inode_tree.specs.Paths.{is_prefix}
-use Rattle.inode_tree.proofs.Prefixes.{prefix-front, le-true}
-use Rattle.inode_tree.specs.declared.rows.Node.{Node}
+use Rattle.inode_tree.proofs.Prefixes.{prefix-front}
 use Rattle.inode_tree.proofs.climbs.below.Goals as goal
 
 reads : (p q : List (List ℕ)) (u : ℕ) (o : Ordering) (c : Bool) → u ≡ length p → o ≡ cmp_front q (take u p) → c ≡ nat_le (length p) (length q) → (is_eq o && c) ≡ is_prefix p q

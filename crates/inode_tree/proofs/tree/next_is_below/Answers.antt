@@ -1,4 +1,4 @@
-use Rattle.std.proofs.Common.{◌≡◌, ◌∙◌, ◌+◌, ◌<◌, ◌≤◌, ℕ, List, Option, Some, None, ap, sym, subst, arith, take, take_all, length, refl, true, false, get_or}
+use Rattle.std.proofs.Common.{◌≡◌, ◌∙◌, ◌+◌, ◌<◌, ◌≤◌, ℕ, List, Option, Some, None, ap, sym, subst, arith, take, take_all, length, refl, false, get_or}
 use Rattle.std.specs.Option.{IsSome}
 use Rattle.inode_tree.specs.Arena.{IsTree, number_of, path_of, rank, rows_of}
 use Rattle.inode_tree.specs.Paths.{is_prefix}

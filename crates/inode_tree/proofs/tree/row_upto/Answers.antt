@@ -1,4 +1,4 @@
-use Rattle.std.proofs.Common.{◌∙◌, ap, arith, sym, take}
+use Rattle.std.proofs.Common.{ap, arith, sym, take}
 use Rattle.inode_tree.specs.declared.rows.Node.{Node}
 use Rattle.inode_tree.proofs.Trees.{number-below, row-found, row-missing}
 use Rattle.inode_tree.proofs.Ups.{node-default}

@@ -1,8 +1,6 @@
-use Rattle.std.proofs.Common.{◌∙◌, List, ap, arith, sym, take, take_all}
+use Rattle.std.proofs.Common.{◌∙◌, List, ap, arith, take_all}
 use Rattle.inode_tree.specs.Arena.{rows_of}
-use Rattle.inode_tree.specs.Paths.{parent}
 use Rattle.inode_tree.specs.Rows.{Entry, row_at}
-use Rattle.inode_tree.proofs.Asked.{parent-take}
 use Rattle.inode_tree.proofs.tree.Tree.find.Goals as goal
 
 pub returns : goal.returns

@@ -1,4 +1,4 @@
-use Rattle.std.proofs.Common.{◌∙◌, ◌-◌, ℕ, List, ap, arith, sym, take, take_all}
+use Rattle.std.proofs.Common.{◌∙◌, ◌-◌, ℕ, List, ap, sym, take}
 use Rattle.inode_tree.specs.Arena.{rows_of}
 use Rattle.inode_tree.specs.Paths.{parent}
 use Rattle.inode_tree.specs.Rows.{Entry, row_at}

@@ -1,4 +1,4 @@
-use Rattle.std.proofs.Common.{◌≡◌, ◌∙◌, ℕ, List, Option, None, Some, ap, sym, arith, take, take_all, length}
+use Rattle.std.proofs.Common.{◌∙◌, List, ap, sym, arith, take_all}
 use Rattle.std.specs.HashMap.{get}
 use Rattle.std.specs.Bool.{nat_eq}
 use Rattle.inode_tree.specs.Arena.{number_of}
