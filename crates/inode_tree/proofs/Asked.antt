@@ -1,8 +1,9 @@
 -- What is asked of rows, asked of the parts.
 use Rattle.std.proofs.Common.{◌≡◌, ℕ, ◌-◌, ◌<◌, zero, suc, Bool, true, false, cond, List, [], ◌∷◌, length, get_or, take, Option, Some, None, refl, sym, ap, ◌∙◌, subst, arith}
-use Rattle.std.specs.Option.{option_map, IsSome}
+use Rattle.std.specs.Option.{option_map}
 use Rattle.inode_tree.specs.Paths.{parent, same_path}
-use Rattle.inode_tree.specs.Rows.{row_at, entry_of, is_dir_at}
+use Rattle.inode_tree.specs.Rows.{Entry, row_at, entry_of, is_dir, is_dir_at}
+use Rattle.inode_tree.specs.declared.rows.Kind.{Kind}
 use Rattle.inode_tree.specs.declared.rows.Node.{Node}
 use Rattle.inode_tree.specs.Arena.{IsTree, node_at, number_of, rows_of, path_of, entry_at}
 use Rattle.inode_tree.proofs.Ups.{path-root}
@@ -45,9 +46,22 @@ parent-take (x ∷ y ∷ p) = ap (λ (q : List (List ℕ)). x ∷ q) (parent-tak
     step : (n : ℕ) → x ∷ take (suc n - 1) (y ∷ p) ≡ take (suc (suc n) - 1) (x ∷ y ∷ p)
     step n = let e : suc (suc n) - 1 ≡ suc n = omega arith in let f : suc n - 1 ≡ n = omega arith in rw (e, f) refl
 
-pub housed-number : (ns : List Node) (order : List ℕ) (p : List (List ℕ)) → is_dir_at (row_at (rows_of ns order) (parent p)) ≡ true → IsSome (number_of ns order (take (length p - 1) p))
-housed-number ns order p h = go (number_of ns order (take (length p - 1) p)) (sym (row-number ns order (take (length p - 1) p))) (ap (λ (q : List (List ℕ)). is_dir_at (row_at (rows_of ns order) q)) (sym (parent-take p)) ∙ h)
-  where
-    go : (o : Option ℕ) → option_map (λ (n : ℕ). (node_at ns n).row) o ≡ row_at (rows_of ns order) (take (length p - 1) p) → is_dir_at (row_at (rows_of ns order) (take (length p - 1) p)) ≡ true → IsSome o
-    go None e f = let g : is_dir_at None ≡ true = ap is_dir_at e ∙ f in cc
-    go (Some n) e f = refl
+-- what a path lies in, by its number
+pub directory-number : (ns : List Node) (order : List ℕ) (q : List (List ℕ)) (n : ℕ) → is_dir_at (row_at (rows_of ns order) q) ≡ true → number_of ns order q ≡ Some n → is_dir (node_at ns n).row.kind ≡ true
+directory-number ns order q n h e = sym (ap is_dir_at (row-number ns order q ∙ ap (option_map (λ (m : ℕ). (node_at ns m).row)) e)) ∙ h
+
+pub directory-found : (ns : List Node) (order : List ℕ) (q : List (List ℕ)) → is_dir_at (row_at (rows_of ns order) q) ≡ true → number_of ns order q ≡ None → ⊥
+directory-found ns order q h e = let f : is_dir_at None ≡ true = sym (ap is_dir_at (row-number ns order q ∙ ap (option_map (λ (m : ℕ). (node_at ns m).row)) e)) ∙ h in cc
+
+-- the kind of the row of an id
+pub kind-number : (ns : List Node) (order : List ℕ) (ids : ℕ → Option ℕ) (id n : ℕ) (kind : Kind) → IsTree ns order ids → option_map (λ (e : Entry). is_dir e.row.kind) (entry_of (rows_of ns order) id) ≡ Some (is_dir kind) → ids id ≡ Some n → is_dir kind ≡ is_dir (node_at ns n).row.kind
+kind-number ns order ids id n kind t h e =
+    let f : Some (is_dir (node_at ns n).row.kind) ≡ Some (is_dir kind) = sym (ap (option_map (λ (x : Entry). is_dir x.row.kind)) (entry-number ns order ids id t ∙ ap (option_map (entry_at ns)) e)) ∙ h in cc
+
+pub kind-found : (ns : List Node) (order : List ℕ) (ids : ℕ → Option ℕ) (id : ℕ) (b : Bool) → IsTree ns order ids → option_map (λ (e : Entry). is_dir e.row.kind) (entry_of (rows_of ns order) id) ≡ Some b → ids id ≡ None → ⊥
+kind-found ns order ids id b t h e =
+    let f : None ≡ Some b = sym (ap (option_map (λ (x : Entry). is_dir x.row.kind)) (entry-number ns order ids id t ∙ ap (option_map (entry_at ns)) e)) ∙ h in cc
+
+pub dir-kind : (o : Option Entry) → is_dir_at (option_map (λ (e : Entry). e.row) o) ≡ true → option_map (λ (e : Entry). is_dir e.row.kind) o ≡ Some true
+dir-kind None h = cc
+dir-kind (Some e) h = ap (λ (b : Bool). Some b) h

@@ -4,7 +4,7 @@ use Rattle.std.specs.Bool.{nat_eq}
 use Rattle.std.proofs.lemmas.Bool.Decides.{nat_tests}
 use Rattle.inode_tree.specs.declared.rows.Kind.TheVariants.{Dir}
 use Rattle.inode_tree.specs.Paths.{is_relative}
-use Rattle.inode_tree.specs.Rows.{root_only}
+use Rattle.inode_tree.specs.Rows.{is_dir, root_only}
 use Rattle.inode_tree.specs.Arena.{IsTree, blank, rows_of, path_of}
 use Rattle.inode_tree.proofs.Ups.{path-root}
 
@@ -21,6 +21,9 @@ first-tree ids e = record {
   within = (omega arith, tt);
   rising = (tt, tt);
   ruled = λ k h. subst (λ (j : ℕ). is_relative (path_of (blank ∷ []) (get_or (0 ∷ []) j 0)) ≡ true) (sym (zero-only k h)) (ap is_relative (path-root (blank ∷ [])));
+  root_is = refl;
+  root_dir = refl;
+  nested = λ k h. subst (λ (j : ℕ). is_dir (get_or (blank ∷ []) (get_or (blank ∷ []) (get_or (0 ∷ []) j 0) blank).parent blank).row.kind ≡ true) (sym (zero-only k h)) refl;
   rooted = (0, omega arith, refl);
   full = refl;
   named = λ k h. subst (λ (j : ℕ). ids (get_or (blank ∷ []) (get_or (0 ∷ []) j 0) blank).row.id ≡ Some (get_or (0 ∷ []) j 0)) (sym (zero-only k h)) (e 0);

@@ -10,7 +10,7 @@ use Rattle.inode_tree.specs.Rows.{Entry}
 use Rattle.inode_tree.specs.declared.rows.Node.{Node}
 use Rattle.inode_tree.specs.Paths.{is_relative}
 use Rattle.inode_tree.proofs.PathLemmas.{relative-short}
-use Rattle.inode_tree.specs.Rows.{row_at, put}
+use Rattle.inode_tree.specs.Rows.{is_dir, row_at, put}
 use Rattle.inode_tree.specs.Arena.{IsTree, IsRising, rank, rows_of, entry_at, node_at, path_of, IsLinked, number_of, AllWithin}
 use Rattle.inode_tree.proofs.Ranks.{rank-most, length-rows, within-at}
 use Rattle.inode_tree.proofs.Seeks.{number-live, row-number}
@@ -61,6 +61,7 @@ pub record HasGrown (ns : List Node) (order : List ℕ) (ids : ℕ → Option �
   pub ruled : is_relative p ≡ true
   pub absent : number_of ns order p ≡ None
   pub housed : number_of ns order q ≡ Some x.parent
+  pub directory : is_dir (node_at ns x.parent).row.kind ≡ true
   pub fresh : ids x.row.id ≡ None
 
 module _ (ns : List Node) (order : List ℕ) (ids : ℕ → Option ℕ) (p q : List (List ℕ)) (x : Node) (h : HasGrown ns order ids p q x) where
@@ -119,6 +120,15 @@ module _ (ns : List Node) (order : List ℕ) (ids : ℕ → Option ℕ) (p q : L
     ruled = each-insert (λ n. is_relative (path_of (ns ++ x ∷ []) n) ≡ true) order (rank (rows_of ns order) p) (length ns) at-most
         (λ k b. ap is_relative (path-old ns x (get_or order k 0) h.old.linked (within-at (length ns) order k h.old.within b)) ∙ h.old.ruled k b)
         (ap is_relative path-is ∙ h.ruled);
+    root_is = ap (λ (y : Node). y.row.id) (node-old ns x 0 h.old.linked.some) ∙ h.old.root_is;
+    root_dir = ap (λ (y : Node). is_dir y.row.kind) (node-old ns x 0 h.old.linked.some) ∙ h.old.root_dir;
+    nested = each-insert (λ n. is_dir (node_at (ns ++ x ∷ []) (node_at (ns ++ x ∷ []) n).parent).row.kind ≡ true) order (rank (rows_of ns order) p) (length ns) at-most
+        (λ k b.
+        let below : get_or order k 0 < length ns = within-at (length ns) order k h.old.within b in
+        ap (λ (y : Node). is_dir (node_at (ns ++ x ∷ []) y.parent).row.kind) (node-old ns x (get_or order k 0) below)
+        ∙ ap (λ (y : Node). is_dir y.row.kind) (node-old ns x (node_at ns (get_or order k 0)).parent (h.old.linked.below (get_or order k 0) below))
+        ∙ h.old.nested k b)
+        (ap (λ (y : Node). is_dir (node_at (ns ++ x ∷ []) y.parent).row.kind) (node-new ns x) ∙ ap (λ (y : Node). is_dir y.row.kind) (node-old ns x x.parent parent-below) ∙ h.directory);
     rooted = let w = h.old.rooted in still-in order (rank (rows_of ns order) p) (length ns) 0 w.0 at-most w.1 w.2;
     full = length-insert order (rank (rows_of ns order) p) (length ns) at-most ∙ ap (λ (n : ℕ). n + 1) h.old.full ∙ sym (length-append ns (x ∷ []));
     named = each-insert (λ n. ids' (node_at (ns ++ x ∷ []) n).row.id ≡ Some n) order (rank (rows_of ns order) p) (length ns) at-most

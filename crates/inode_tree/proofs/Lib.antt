@@ -11,6 +11,7 @@ pub mod Pieces
 pub mod Prefixes
 pub mod Puts
 pub mod Ranks
+pub mod RowFacts
 pub mod Seeks
 pub mod Shapes
 pub mod Trees

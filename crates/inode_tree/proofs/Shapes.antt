@@ -4,7 +4,7 @@ use Rattle.std.specs.Prelude.{◌==◌}
 use Rattle.std.proofs.lemmas.Bool.{cases_eq}
 use Rattle.std.proofs.lemmas.Bool.Decides.{nat_tests}
 use Rattle.inode_tree.specs.Paths.{is_before, is_relative}
-use Rattle.inode_tree.specs.Rows.{set_kind, with_kind}
+use Rattle.inode_tree.specs.Rows.{is_dir, set_kind, with_kind}
 use Rattle.inode_tree.specs.declared.rows.Node.{Node}
 use Rattle.inode_tree.specs.declared.rows.Kind.{Kind}
 use Rattle.inode_tree.proofs.Trees.{id-below}
@@ -37,8 +37,8 @@ rising-shape : (ns ns' : List Node) → SameShape ns ns' → (order : List ℕ) 
 rising-shape ns ns' s [] r = tt
 rising-shape ns ns' s (n ∷ order) r = (after-shape ns ns' s (path_of ns' n) order (subst (λ (q : List (List ℕ)). AllAfter q (rows_of ns order)) (sym (path-shape ns ns' s n)) r.0), rising-shape ns ns' s order r.1)
 
-pub tree-shape : (ns ns' : List Node) → SameShape ns ns' → (order : List ℕ) (ids : ℕ → Option ℕ) → IsTree ns order ids → IsTree ns' order ids
-tree-shape ns ns' s order ids t = record {
+pub tree-shape : (ns ns' : List Node) → SameShape ns ns' → ((m : ℕ) → is_dir (node_at ns' m).row.kind ≡ is_dir (node_at ns m).row.kind) → (order : List ℕ) (ids : ℕ → Option ℕ) → IsTree ns order ids → IsTree ns' order ids
+tree-shape ns ns' s dirs order ids t = record {
   linked = record {
     some = subst (λ (k : ℕ). 0 < k) (sym s.length_is) t.linked.some;
     below = λ m h. subst (λ (k : ℕ). k < length ns') (sym (s.parent m)) (subst (λ (k : ℕ). (node_at ns m).parent < k) (sym s.length_is) (t.linked.below m (subst (λ (k : ℕ). m < k) s.length_is h)));
@@ -50,6 +50,9 @@ tree-shape ns ns' s order ids t = record {
   within = subst (λ (k : ℕ). AllWithin k order) (sym s.length_is) t.within;
   rising = rising-shape ns ns' s order t.rising;
   ruled = λ k h. ap is_relative (path-shape ns ns' s (get_or order k 0)) ∙ t.ruled k h;
+  root_is = s.id 0 ∙ t.root_is;
+  root_dir = dirs 0 ∙ t.root_dir;
+  nested = λ k h. ap (λ (m : ℕ). is_dir (node_at ns' m).row.kind) (s.parent (get_or order k 0)) ∙ dirs (node_at ns (get_or order k 0)).parent ∙ t.nested k h;
   rooted = t.rooted;
   full = t.full ∙ sym s.length_is;
   named = λ k h. ap ids (s.id (get_or order k 0)) ∙ t.named k h;
@@ -57,19 +60,23 @@ tree-shape ns ns' s order ids t = record {
   housed = λ k h. let w = t.housed k h in (w.0, w.1, w.2 ∙ sym (s.parent (get_or order k 0)));
 }
 
+-- what holds of the node with another kind, and of the others
+each-rekind : (ns : List Node) (n : ℕ) (kind : Kind) → n < length ns → (P : Node → Type 0) (m : ℕ) → (m ≡ n → P (record { parent = (node_at ns n).parent; name = (node_at ns n).name; row = record { id = (node_at ns n).row.id; kind = kind } })) → P (node_at ns m) → P (node_at (rekind ns n kind) m)
+each-rekind ns n kind h P m here there = elim (cases_eq m n) [
+  | inl e ↦ subst P (sym (ap (λ (k : ℕ). node_at (rekind ns n kind) k) e ∙ get_or-set_same ns n _ blank h)) (here e)
+  | inr a ↦ subst P (sym (get_or-set_other ns n m _ blank a)) there
+]
+
 pub shape-rekind : (ns : List Node) (n : ℕ) (kind : Kind) → n < length ns → SameShape ns (rekind ns n kind)
 shape-rekind ns n kind h = record {
   length_is = length-set ns n _;
-  parent = λ m. each (λ (x : Node). x.parent ≡ (node_at ns m).parent) m (λ e. ap (λ (k : ℕ). (node_at ns k).parent) (sym e)) refl;
-  name = λ m. each (λ (x : Node). x.name ≡ (node_at ns m).name) m (λ e. ap (λ (k : ℕ). (node_at ns k).name) (sym e)) refl;
-  id = λ m. each (λ (x : Node). x.row.id ≡ (node_at ns m).row.id) m (λ e. ap (λ (k : ℕ). (node_at ns k).row.id) (sym e)) refl;
+  parent = λ m. each-rekind ns n kind h (λ (x : Node). x.parent ≡ (node_at ns m).parent) m (λ e. ap (λ (k : ℕ). (node_at ns k).parent) (sym e)) refl;
+  name = λ m. each-rekind ns n kind h (λ (x : Node). x.name ≡ (node_at ns m).name) m (λ e. ap (λ (k : ℕ). (node_at ns k).name) (sym e)) refl;
+  id = λ m. each-rekind ns n kind h (λ (x : Node). x.row.id ≡ (node_at ns m).row.id) m (λ e. ap (λ (k : ℕ). (node_at ns k).row.id) (sym e)) refl;
 }
-  where
-    each : (P : Node → Type 0) (m : ℕ) → (m ≡ n → P (record { parent = (node_at ns n).parent; name = (node_at ns n).name; row = record { id = (node_at ns n).row.id; kind = kind } })) → P (node_at ns m) → P (node_at (rekind ns n kind) m)
-    each P m here there = elim (cases_eq m n) [
-      | inl e ↦ subst P (sym (ap (λ (k : ℕ). node_at (rekind ns n kind) k) e ∙ get_or-set_same ns n _ blank h)) (here e)
-      | inr a ↦ subst P (sym (get_or-set_other ns n m _ blank a)) there
-    ]
+
+dirs-rekind : (ns : List Node) (n : ℕ) (kind : Kind) → n < length ns → is_dir kind ≡ is_dir (node_at ns n).row.kind → (m : ℕ) → is_dir (node_at (rekind ns n kind) m).row.kind ≡ is_dir (node_at ns m).row.kind
+dirs-rekind ns n kind h same m = each-rekind ns n kind h (λ (x : Node). is_dir x.row.kind ≡ is_dir (node_at ns m).row.kind) m (λ e. same ∙ ap (λ (k : ℕ). is_dir (node_at ns k).row.kind) (sym e)) refl
 
 -- the rows with another kind at the id of n
 pub rows-rekind : (ns : List Node) (n id : ℕ) (kind : Kind) → n < length ns → (node_at ns n).row.id ≡ id → (order : List ℕ) → ((k : ℕ) → k < length order → (node_at ns (get_or order k 0)).row.id ≡ id → get_or order k 0 ≡ n)
@@ -97,11 +104,11 @@ rows-rekind ns n id kind h e (m ∷ order) one =
         let old : node_at (rekind ns n kind) m ≡ node_at ns m = get_or-set_other ns n m _ blank a in
         (λ i. record { path = path i; row = (old i).row }) ∙ sym (ap (λ (b : Bool). cond b (record { path = path_of ns m; row = record { id = id; kind = kind } }) (entry_at ns m)) other)
 
-pub set-tree : (ns : List Node) (order : List ℕ) (ids : ℕ → Option ℕ) (id n : ℕ) (kind : Kind) → IsTree ns order ids → ids id ≡ Some n → (n < length ns) × IsTree (rekind ns n kind) order ids × (rows_of (rekind ns n kind) order ≡ set_kind (rows_of ns order) id kind)
-set-tree ns order ids id n kind t e =
+pub set-tree : (ns : List Node) (order : List ℕ) (ids : ℕ → Option ℕ) (id n : ℕ) (kind : Kind) → IsTree ns order ids → ids id ≡ Some n → is_dir kind ≡ is_dir (node_at ns n).row.kind → (n < length ns) × IsTree (rekind ns n kind) order ids × (rows_of (rekind ns n kind) order ≡ set_kind (rows_of ns order) id kind)
+set-tree ns order ids id n kind t e same =
     let below : n < length ns = id-below ns order ids id n t e in
     let w = t.stands id n e in (
       below,
-      tree-shape ns (rekind ns n kind) (shape-rekind ns n kind below) order ids t,
+      tree-shape ns (rekind ns n kind) (shape-rekind ns n kind below) (dirs-rekind ns n kind below same) order ids t,
       rows-rekind ns n id kind below w.3 order (λ k b f. let g : ids id ≡ Some (get_or order k 0) = subst (λ (i : ℕ). ids i ≡ Some (get_or order k 0)) f (t.named k b) in cc),
     )

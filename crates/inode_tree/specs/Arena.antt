@@ -11,7 +11,8 @@ use Rattle.std.specs.Vec.{vec_len, vec_capacity}
 use Rattle.std.specs.Global.{Vec}
 use Rattle.std.specs.HashMap.{HashMap, spare}
 use Rattle.inode_tree.specs.Listed.{Listed}
-use Rattle.inode_tree.specs.Rows.{Entry}
+use Rattle.inode_tree.specs.Rows.{Entry, is_dir}
+pub use Rattle.inode_tree.specs.Rows.{AllAfter, IsRising}
 use Rattle.inode_tree.specs.Paths.{is_before, is_relative, same_path}
 
 abbrev pub blank : Node
@@ -47,15 +48,6 @@ cmp_front [] p = Equal
 cmp_front (x ∷ q) [] = Equal
 cmp_front (x ∷ q) (y ∷ p) = ordering_then (slice_cmp nat_cmp x y) (cmp_front q p)
 
-abbrev pub AllAfter : List (List ℕ) → List Entry → Type 0
-AllAfter p [] = ⊤
-AllAfter p (e ∷ es) = (is_before p e.path ≡ true) × AllAfter p es
-
--- in path order, no path twice
-abbrev pub IsRising : List Entry → Type 0
-IsRising [] = ⊤
-IsRising (e ∷ es) = AllAfter e.path es × IsRising es
-
 -- how many rows come before a path
 abbrev pub rank : List Entry → List (List ℕ) → ℕ
 rank [] p = 0
@@ -86,6 +78,9 @@ pub record IsTree (ns : List Node) (order : List ℕ) (ids : ℕ → Option ℕ)
   pub rising : IsRising (rows_of ns order)
   -- each live node's path keeps the rule
   pub ruled : (k : ℕ) → k < length order → is_relative (path_of ns (slice_index_or order k 0)) ≡ true
+  -- the root has id 0, and is a directory
+  pub root_is : (node_at ns 0).row.id ≡ 0
+  pub root_dir : is_dir (node_at ns 0).row.kind ≡ true
   -- the root is live
   pub rooted : (k : ℕ) × (k < length order) × (slice_index_or order k 0 ≡ 0)
   pub full : length order ≡ length ns
@@ -93,7 +88,9 @@ pub record IsTree (ns : List Node) (order : List ℕ) (ids : ℕ → Option ℕ)
   pub named : (k : ℕ) → k < length order → ids (node_at ns (slice_index_or order k 0)).row.id ≡ Some (slice_index_or order k 0)
   -- and what is found is live and has that id
   pub stands : (id n : ℕ) → ids id ≡ Some n → (k : ℕ) × (k < length order) × (slice_index_or order k 0 ≡ n) × ((node_at ns n).row.id ≡ id)
-  -- the directory of a live node is live
+  -- what a live node lies in is a directory
+  pub nested : (k : ℕ) → k < length order → is_dir (node_at ns (node_at ns (slice_index_or order k 0)).parent).row.kind ≡ true
+  -- and it is live
   pub housed : (k : ℕ) → k < length order → (j : ℕ) × (j < length order) × (slice_index_or order j 0 ≡ (node_at ns (slice_index_or order k 0)).parent)
 
 -- there is memory for one more row

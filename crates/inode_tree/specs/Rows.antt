@@ -1,11 +1,11 @@
 -- The rows of the namesystem: a list in path order, the root first.
-use Rattle.std.specs.Prelude.{ℕ, Bool, true, false, ◌&&◌, ◌==◌, nat_lt, List, [], ◌∷◌, length, map, Option, Some, None, is_some, option_map, if◌then◌else◌}
-use Rattle.std.specs.List.{list_any}
+use Rattle.std.specs.Prelude.{◌≡◌, ℕ, Bool, true, false, ◌&&◌, ◌==◌, nat_lt, List, [], ◌∷◌, length, map, Option, Some, None, is_some, option_map, if◌then◌else◌, ⊤}
+use Rattle.std.specs.List.{All, list_any}
 use Rattle.hk_base.specs.declared.names.KeyName.{KeyName}
 use Rattle.inode_tree.specs.declared.rows.Row.{Row}
 use Rattle.inode_tree.specs.declared.rows.Kind.{Kind}
 use Rattle.inode_tree.specs.declared.rows.Kind.TheVariants.{Dir, File}
-use Rattle.inode_tree.specs.Paths.{is_before, same_path, is_prefix, is_child, parent}
+use Rattle.inode_tree.specs.Paths.{is_before, is_relative, same_path, is_prefix, is_child, parent}
 
 -- a row at its path
 pub record Entry : Type 0 where
@@ -80,3 +80,31 @@ same_id (Some i) (Some j) = i == j
 -- the parents lie in one zone, or both in none
 abbrev pub move_allowed : List Entry → List (List ℕ) → List (List ℕ) → Bool
 move_allowed rows p q = same_id (zone_id rows (parent p)) (zone_id rows (parent q))
+
+-- each row comes after the path
+abbrev pub AllAfter : List (List ℕ) → List Entry → Type 0
+AllAfter p [] = ⊤
+AllAfter p (e ∷ es) = (is_before p e.path ≡ true) × AllAfter p es
+
+-- in path order, no path twice
+abbrev pub IsRising : List Entry → Type 0
+IsRising [] = ⊤
+IsRising (e ∷ es) = AllAfter e.path es × IsRising es
+
+-- a directory with id 0
+abbrev pub IsRoot : Option Row → Type 0
+IsRoot None = ⊥
+IsRoot (Some row) = (row.id ≡ 0) × (is_dir row.kind ≡ true)
+
+-- what always holds of the rows
+pub record IsRows (rows : List Entry) : Type 0 where
+  -- they stand in path order, and no path twice
+  pub rising : IsRising rows
+  -- each path keeps the rule
+  pub ruled : All (λ e. is_relative e.path ≡ true) rows
+  -- each id is that of one row
+  pub once : All (λ e. entry_of rows e.row.id ≡ Some e) rows
+  -- the root is there
+  pub rooted : IsRoot (row_at rows [])
+  -- and what each row lies in is a directory
+  pub housed : All (λ e. is_dir_at (row_at rows (parent e.path)) ≡ true) rows

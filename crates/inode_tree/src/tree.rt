@@ -7,7 +7,7 @@ ghost use Rattle.std.specs.Option.{option_map};
 ghost use Rattle.inode_tree.specs.Paths.{is_relative, parent};
 ghost use Rattle.inode_tree.specs.Arena.{HasRoom, IsLinked, IsTree, number_of, path_of, rekind, rows_of};
 ghost use Rattle.inode_tree.specs.declared.rows.Kind.TheVariants.{Dir, File};
-ghost use Rattle.inode_tree.specs.Rows.{entry_of, has_children, is_dir_at, put, root_only, row_at, set_kind, zone_id};
+ghost use Rattle.inode_tree.specs.Rows.{IsRows, entry_of, has_children, is_dir, is_dir_at, put, root_only, row_at, set_kind, zone_id};
 
 use crate::climbs::{below, compare, place};
 use crate::order::Order;
@@ -66,9 +66,12 @@ impl Tree {
         })
     }
 
-    /// How many rows there are, with the root.
+    /// How many rows there are, with the root. Of the rows it always holds that they stand in path
+    /// order, each path and each id once, that the root is there with id 0, and that what a row lies
+    /// in is a directory.
     pub fn rows(&self) -> usize
-        ensures { result ≡ length self.now }
+        ensures count { result ≡ length self.now }
+        ensures rules { IsRows self.now }
     {
         self.order.len()
     }
@@ -311,7 +314,7 @@ fn add(
     requires tree { IsTree nodes.old.items order.old.items (get nat_eq places.old) }
     requires deep { 0 < length path.now }
     requires absent { number_of nodes.old.items order.old.items path.now ≡ None }
-    requires housed { IsSome (number_of nodes.old.items order.old.items (take (length path.now - 1) path.now)) }
+    requires housed { IsTrue (is_dir_at (row_at (rows_of nodes.old.items order.old.items) (take (length path.now - 1) path.now))) }
     requires fresh { get nat_eq places.old row.id ≡ None }
     requires count { length nodes.old.items < 1000000 }
     ensures tree { IsTree nodes.new.items order.new.items (get nat_eq places.new) }
@@ -330,17 +333,17 @@ fn add(
     Ok(())
 }
 
-/// Gives the row of an id a kind.
+/// Gives the row of an id another kind: a directory stays one, and a file.
 fn set(nodes: &mut Vec<Node>, order: &Order, places: &HashMap<u64, u32>, id: u64, kind: Kind)
     requires tree { IsTree nodes.old.items order.now.items (get nat_eq places.now) }
-    requires stands { IsSome (entry_of (rows_of nodes.old.items order.now.items) id) }
+    requires same { option_map (λ e. is_dir e.row.kind) (entry_of (rows_of nodes.old.items order.now.items) id) ≡ Some (is_dir kind) }
     ensures tree { IsTree nodes.new.items order.now.items (get nat_eq places.now) }
     ensures rows { rows_of nodes.new.items order.now.items ≡ set_kind (rows_of nodes.old.items order.now.items) id kind }
 {
     let _ = order;
     match places.get(&id) {
         Some(n) => write(nodes, *n as usize, kind),
-        None => (),
+        None => unreachable!(),
     }
 }
 
