@@ -1,5 +1,5 @@
 -- The tree of the root alone.
-use Rattle.std.proofs.Common.{◌≡◌, ℕ, ◌<◌, Bool, true, false, cond, [], ◌∷◌, get_or, Option, Some, None, refl, sym, ap, ◌∙◌, subst, arith}
+use Rattle.std.proofs.Common.{◌≡◌, ℕ, ◌<◌, Bool, true, false, cond, [], ◌∷◌, get_or, Option, Some, None, refl, sym, ap, ◌∙◌, subst, arith, ◌≤◌}
 use Rattle.std.specs.Bool.{nat_eq}
 use Rattle.std.proofs.lemmas.Bool.Decides.{nat_tests}
 use Rattle.inode_tree.specs.declared.rows.Kind.TheVariants.{Dir}
@@ -26,6 +26,7 @@ first-tree ids e = record {
   nested = λ k h. subst (λ (j : ℕ). is_dir (get_or (blank ∷ []) (get_or (blank ∷ []) (get_or (0 ∷ []) j 0) blank).parent blank).row.kind ≡ true) (sym (zero-only k h)) refl;
   rooted = (0, omega arith, refl);
   full = refl;
+  few = omega arith;
   named = λ k h. subst (λ (j : ℕ). ids (get_or (blank ∷ []) (get_or (0 ∷ []) j 0) blank).row.id ≡ Some (get_or (0 ∷ []) j 0)) (sym (zero-only k h)) (e 0);
   stands = λ id n f. go (nat_eq 0 id) id n refl (sym (e id) ∙ f);
   housed = λ k h. (0, omega arith, subst (λ (j : ℕ). 0 ≡ (get_or (blank ∷ []) (get_or (0 ∷ []) j 0) blank).parent) (sym (zero-only k h)) refl);

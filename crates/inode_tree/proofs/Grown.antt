@@ -61,6 +61,7 @@ pub record HasGrown (ns : List Node) (order : List ℕ) (ids : ℕ → Option �
   pub ruled : is_relative p ≡ true
   pub absent : number_of ns order p ≡ None
   pub housed : number_of ns order q ≡ Some x.parent
+  pub few : length ns < 1000000
   pub directory : is_dir (node_at ns x.parent).row.kind ≡ true
   pub fresh : ids x.row.id ≡ None
 
@@ -131,6 +132,7 @@ module _ (ns : List Node) (order : List ℕ) (ids : ℕ → Option ℕ) (p q : L
         (ap (λ (y : Node). is_dir (node_at (ns ++ x ∷ []) y.parent).row.kind) (node-new ns x) ∙ ap (λ (y : Node). is_dir y.row.kind) (node-old ns x x.parent parent-below) ∙ h.directory);
     rooted = let w = h.old.rooted in still-in order (rank (rows_of ns order) p) (length ns) 0 w.0 at-most w.1 w.2;
     full = length-insert order (rank (rows_of ns order) p) (length ns) at-most ∙ ap (λ (n : ℕ). n + 1) h.old.full ∙ sym (length-append ns (x ∷ []));
+    few = let room = h.few in omega (arith, length-append ns (x ∷ []));
     named = each-insert (λ n. ids' (node_at (ns ++ x ∷ []) n).row.id ≡ Some n) order (rank (rows_of ns order) p) (length ns) at-most
         (λ k b.
         let below : get_or order k 0 < length ns = within-at (length ns) order k h.old.within b in

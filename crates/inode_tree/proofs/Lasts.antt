@@ -26,6 +26,7 @@ tree-same ns order ids ids' e t = record {
   nested = t.nested;
   rooted = t.rooted;
   full = t.full;
+  few = t.few;
   named = λ k b. e _ ∙ t.named k b;
   stands = λ id n f. t.stands id n (sym (e id) ∙ f);
   housed = t.housed;

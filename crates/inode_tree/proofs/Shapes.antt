@@ -1,5 +1,5 @@
 -- Nodes whose rows change and whose places stay.
-use Rattle.std.proofs.Common.{◌≡◌, ℕ, ◌<◌, zero, suc, Bool, true, false, cond, List, [], ◌∷◌, ◌++◌, length, get_or, Option, Some, refl, sym, ap, ◌∙◌, subst, arith, length-set, inl, inr, get_or-set_same, get_or-set_other}
+use Rattle.std.proofs.Common.{◌≡◌, ℕ, ◌<◌, zero, suc, Bool, true, false, cond, List, [], ◌∷◌, ◌++◌, length, get_or, Option, Some, refl, sym, ap, ◌∙◌, subst, arith, length-set, inl, inr, get_or-set_same, get_or-set_other, ◌≤◌}
 use Rattle.std.specs.Prelude.{◌==◌}
 use Rattle.std.proofs.lemmas.Bool.{cases_eq}
 use Rattle.std.proofs.lemmas.Bool.Decides.{nat_tests}
@@ -55,6 +55,7 @@ tree-shape ns ns' s dirs order ids t = record {
   nested = λ k h. ap (λ (m : ℕ). is_dir (node_at ns' m).row.kind) (s.parent (get_or order k 0)) ∙ dirs (node_at ns (get_or order k 0)).parent ∙ t.nested k h;
   rooted = t.rooted;
   full = t.full ∙ sym s.length_is;
+  few = subst (λ (k : ℕ). k ≤ 1000000) (sym s.length_is) t.few;
   named = λ k h. ap ids (s.id (get_or order k 0)) ∙ t.named k h;
   stands = λ id n e. let w = t.stands id n e in (w.0, w.1, w.2, s.id n ∙ w.3);
   housed = λ k h. let w = t.housed k h in (w.0, w.1, w.2 ∙ sym (s.parent (get_or order k 0)));

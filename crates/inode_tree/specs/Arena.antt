@@ -1,5 +1,5 @@
 -- Nodes in one list, named by their places in it, and the paths that they stand for.
-use Rattle.std.specs.Prelude.{◌≡◌, ℕ, ◌<◌, zero, suc, true, ◌==◌, List, [], ◌∷◌, ◌++◌, length, map, slice_index_or, slice_set, Option, Some, None, if◌then◌else◌, ⊤}
+use Rattle.std.specs.Prelude.{◌≡◌, ℕ, ◌<◌, ◌≤◌, zero, suc, true, ◌==◌, List, [], ◌∷◌, ◌++◌, length, map, slice_index_or, slice_set, Option, Some, None, if◌then◌else◌, ⊤}
 use Rattle.std.specs.declared.cmp.Ordering.{Ordering}
 use Rattle.std.specs.declared.cmp.Ordering.TheVariants.{Equal}
 use Rattle.std.specs.Ordering.{nat_cmp, ordering_then}
@@ -84,6 +84,7 @@ pub record IsTree (ns : List Node) (order : List ℕ) (ids : ℕ → Option ℕ)
   -- the root is live
   pub rooted : (k : ℕ) × (k < length order) × (slice_index_or order k 0 ≡ 0)
   pub full : length order ≡ length ns
+  pub few : length ns ≤ 1000000
   -- each live node is found by its id
   pub named : (k : ℕ) → k < length order → ids (node_at ns (slice_index_or order k 0)).row.id ≡ Some (slice_index_or order k 0)
   -- and what is found is live and has that id

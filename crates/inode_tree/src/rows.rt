@@ -15,6 +15,7 @@ pub enum Kind {
 }
 
 impl Kind {
+    /// Whether it is a directory.
     pub fn is_dir(&self) -> bool
         ensures { result ≡ is_dir self.now }
     {

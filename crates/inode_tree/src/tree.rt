@@ -21,7 +21,7 @@ use std::collections::HashMap;
 use std::marker::Model;
 
 /// The most rows of a tree.
-pub const MOST_ROWS: usize = 1_000_000;
+pub const MOST_ROWS: u32 = 1_000_000;
 
 /// The directories and files by path, the root among them. Contracts see the rows in one list, in
 /// path order: component by component, by bytes. Each row has an id of its own; the root has 0.
@@ -66,14 +66,14 @@ impl Tree {
         })
     }
 
-    /// How many rows there are, with the root. Of the rows it always holds that they stand in path
+    /// How many rows there are, with the root: at most 1,000,000. Of the rows it always holds that they stand in path
     /// order, each path and each id once, that the root is there with id 0, and that what a row lies
     /// in is a directory.
-    pub fn rows(&self) -> usize
+    pub fn rows(&self) -> u32
         ensures count { result ≡ length self.now }
         ensures rules { IsRows self.now }
     {
-        self.order.len()
+        self.order.len() as u32
     }
 
     /// The row at a path, `None` where none stands there.

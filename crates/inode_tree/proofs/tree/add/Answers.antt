@@ -1,4 +1,4 @@
-use Rattle.std.proofs.Common.{arith, ◌≡◌, length, take, ℕ, ◌+◌, ◌-◌, true, List, [], ◌∷◌, ◌++◌, get_or, sym, ap, ◌∙◌, subst, Option, Some, None, take_all, cond}
+use Rattle.std.proofs.Common.{arith, ◌≡◌, length, take, ℕ, ◌+◌, ◌-◌, true, List, [], ◌∷◌, ◌++◌, get_or, sym, ap, ◌∙◌, subst, Option, Some, None, take_all, cond, ◌<◌}
 use Rattle.std.specs.HashMap.{get}
 use Rattle.std.specs.Bool.{nat_eq}
 use Rattle.std.specs.List.{insert}
@@ -14,15 +14,16 @@ use Rattle.inode_tree.specs.declared.rows.Row.{Row}
 use Rattle.inode_tree.proofs.tree.add.Goals as goal
 
 -- the parts after a row was added, over plain variables
-has : (ns : List Node) (order : List ℕ) (ids : ℕ → Option ℕ) (p : List (List ℕ)) (u n : ℕ) (row : Row) (name : List ℕ) → IsTree ns order ids → length p ≡ u + 1 → is_relative p ≡ true → number_of ns order p ≡ None → number_of ns order (take u p) ≡ Some n → is_dir (node_at ns n).row.kind ≡ true → ids row.id ≡ None
+has : (ns : List Node) (order : List ℕ) (ids : ℕ → Option ℕ) (p : List (List ℕ)) (u n : ℕ) (row : Row) (name : List ℕ) → IsTree ns order ids → length p ≡ u + 1 → is_relative p ≡ true → number_of ns order p ≡ None → number_of ns order (take u p) ≡ Some n → is_dir (node_at ns n).row.kind ≡ true → length ns < 1000000 → ids row.id ≡ None
     → name ≡ get_or p u [] → HasGrown ns order ids p (take u p) (record { parent = n; name = name; row = row })
-has ns order ids p u n row name t e ruled absent housed directory fresh en = record {
+has ns order ids p u n row name t e ruled absent housed directory few fresh en = record {
   old = t;
   at = last-split p u e ∙ ap (λ (x : List ℕ). take u p ++ (x ∷ [])) (sym en);
   ruled = ruled;
   absent = absent;
   housed = housed;
   directory = directory;
+  few = few;
   fresh = fresh;
 }
 
@@ -66,7 +67,7 @@ returns-clause-tree c =
     let d : length c.args.path.now ≡ c.len-upto.result - 1 + 1 = let p = c.requires.deep in omega arith in
     both-tree c.args.nodes.now.items c.commit.new.nodes.items c.args.order.now.items c.commit.new.order.items (get nat_eq c.args.places.now) (get nat_eq c.commit.new.places) c.args.path.now (take (c.len-upto.result - 1) c.args.path.now)
     (record { parent = c.in-Some.n; name = c.in_ok-name.name; row = c.args.row }) c.place-at.result (take (c.len-upto.result - 1 + 1) c.args.path.now)
-    (has _ _ _ c.args.path.now (c.len-upto.result - 1) c.in-Some.n c.args.row c.in_ok-name.name c.requires.tree d c.len-upto.ensures.rule c.requires.absent (sym c.in-Some.ensures) (directory-number c.args.nodes.now.items c.args.order.now.items (take (c.len-upto.result - 1) c.args.path.now) c.in-Some.n (within c.args.nodes.now.items c.args.order.now.items c.args.path.now c.len-upto.result c.len-upto.ensures.len c.requires.housed) (sym c.in-Some.ensures)) c.requires.fresh (c.in_ok-name.ensures ∙ c.name.ensures))
+    (has _ _ _ c.args.path.now (c.len-upto.result - 1) c.in-Some.n c.args.row c.in_ok-name.name c.requires.tree d c.len-upto.ensures.rule c.requires.absent (sym c.in-Some.ensures) (directory-number c.args.nodes.now.items c.args.order.now.items (take (c.len-upto.result - 1) c.args.path.now) c.in-Some.n (within c.args.nodes.now.items c.args.order.now.items c.args.path.now c.len-upto.result c.len-upto.ensures.len c.requires.housed) (sym c.in-Some.ensures)) c.requires.count c.requires.fresh (c.in_ok-name.ensures ∙ c.name.ensures))
     (c.commit.ensures.nodes ∙ ap (λ (ms : List Node). ms ++ record { parent = c.in-Some.n; name = c.in_ok-name.name; row = c.args.row } ∷ []) c.make_room.ensures.nodes)
     (whole c.args.path.now (c.len-upto.result - 1) d)
     c.place-at.ensures
@@ -78,7 +79,7 @@ returns-clause-ok c =
     let d : length c.args.path.now ≡ c.len-upto.result - 1 + 1 = let p = c.requires.deep in omega arith in
     both-rows c.args.nodes.now.items c.commit.new.nodes.items c.args.order.now.items c.commit.new.order.items (get nat_eq c.args.places.now) c.args.path.now (take (c.len-upto.result - 1) c.args.path.now)
     (record { parent = c.in-Some.n; name = c.in_ok-name.name; row = c.args.row }) c.place-at.result (take (c.len-upto.result - 1 + 1) c.args.path.now)
-    (has _ _ _ c.args.path.now (c.len-upto.result - 1) c.in-Some.n c.args.row c.in_ok-name.name c.requires.tree d c.len-upto.ensures.rule c.requires.absent (sym c.in-Some.ensures) (directory-number c.args.nodes.now.items c.args.order.now.items (take (c.len-upto.result - 1) c.args.path.now) c.in-Some.n (within c.args.nodes.now.items c.args.order.now.items c.args.path.now c.len-upto.result c.len-upto.ensures.len c.requires.housed) (sym c.in-Some.ensures)) c.requires.fresh (c.in_ok-name.ensures ∙ c.name.ensures))
+    (has _ _ _ c.args.path.now (c.len-upto.result - 1) c.in-Some.n c.args.row c.in_ok-name.name c.requires.tree d c.len-upto.ensures.rule c.requires.absent (sym c.in-Some.ensures) (directory-number c.args.nodes.now.items c.args.order.now.items (take (c.len-upto.result - 1) c.args.path.now) c.in-Some.n (within c.args.nodes.now.items c.args.order.now.items c.args.path.now c.len-upto.result c.len-upto.ensures.len c.requires.housed) (sym c.in-Some.ensures)) c.requires.count c.requires.fresh (c.in_ok-name.ensures ∙ c.name.ensures))
     (c.commit.ensures.nodes ∙ ap (λ (ms : List Node). ms ++ record { parent = c.in-Some.n; name = c.in_ok-name.name; row = c.args.row } ∷ []) c.make_room.ensures.nodes)
     (whole c.args.path.now (c.len-upto.result - 1) d)
     c.place-at.ensures
