@@ -1,0 +1,33 @@
+-- The last name of a path, and a tree whose ids are found as before.
+use Rattle.std.proofs.Common.{◌≡◌, ℕ, ◌+◌, zero, suc, List, [], ◌∷◌, ◌++◌, length, get_or, take, Option, refl, sym, ◌∙◌, arith, take_all}
+use Rattle.std.proofs.lemmas.List.{take_more}
+use Rattle.inode_tree.specs.Paths.{last_name}
+use Rattle.inode_tree.specs.declared.rows.Node.{Node}
+use Rattle.inode_tree.specs.Arena.{IsTree}
+
+pub last-split : (p : List (List ℕ)) (u : ℕ) → length p ≡ u + 1 → p ≡ take u p ++ (get_or p u [] ∷ [])
+last-split p u e = sym (take_all (u + 1) p (omega arith)) ∙ take_more p u [] (omega arith)
+
+pub last-name : (p : List (List ℕ)) (u : ℕ) → length p ≡ u + 1 → last_name p ≡ get_or p u []
+last-name [] u e = absurd (omega arith)
+last-name (x ∷ []) zero e = refl
+last-name (x ∷ []) (suc u) e = absurd (omega arith)
+last-name (x ∷ y ∷ p) zero e = absurd (omega arith)
+last-name (x ∷ y ∷ p) (suc u) e = last-name (y ∷ p) u (omega arith)
+
+pub tree-same : (ns : List Node) (order : List ℕ) (ids ids' : ℕ → Option ℕ) → ((q : ℕ) → ids' q ≡ ids q) → IsTree ns order ids → IsTree ns order ids'
+tree-same ns order ids ids' e t = record {
+  linked = t.linked;
+  within = t.within;
+  rising = t.rising;
+  ruled = t.ruled;
+  root_is = t.root_is;
+  root_dir = t.root_dir;
+  nested = t.nested;
+  rooted = t.rooted;
+  full = t.full;
+  few = t.few;
+  named = λ k b. e _ ∙ t.named k b;
+  stands = λ id n f. t.stands id n (sym (e id) ∙ f);
+  housed = t.housed;
+}

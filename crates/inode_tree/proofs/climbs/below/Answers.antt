@@ -1,0 +1,19 @@
+use Rattle.std.proofs.Common.{arith, ◌≡◌, length, take, ℕ, Bool, ◌&&◌, List, refl, sym, ap, ◌∙◌, take_all, Ordering, Less, Equal, Greater}
+use Rattle.std.specs.Prelude.{nat_le}
+use Rattle.std.specs.Ordering.{is_eq}
+use Rattle.inode_tree.specs.Arena.{path_of, cmp_front}
+use Rattle.inode_tree.specs.Paths.{is_prefix}
+use Rattle.inode_tree.proofs.Prefixes.{prefix-front}
+use Rattle.inode_tree.proofs.climbs.below.Goals as goal
+
+reads : (p q : List (List ℕ)) (u : ℕ) (o : Ordering) (c : Bool) → u ≡ length p → o ≡ cmp_front q (take u p) → c ≡ nat_le (length p) (length q) → (is_eq o && c) ≡ is_prefix p q
+reads p q u o c eu eo ec = sym (prefix-front p q ∙ ap (λ (x : List (List ℕ)). is_eq (cmp_front q x) && nat_le (length p) (length q)) (sym (take_all u p (omega arith))) ∙ ap (λ (r : Ordering). is_eq r && nat_le (length p) (length q)) (sym eo) ∙ ap (λ (b : Bool). is_eq o && b) (sym ec))
+
+pub returns-in-Less : goal.returns-in-Less
+returns-in-Less c = reads c.args.path.now (path_of c.args.nodes.now.items c.args.n) c.len.result Less (nat_le (length c.args.path.now) (length (path_of c.args.nodes.now.items c.args.n))) c.len.ensures.len c.in-Less.ensures refl
+
+pub returns-in-Equal : goal.returns-in-Equal
+returns-in-Equal c = reads c.args.path.now (path_of c.args.nodes.now.items c.args.n) c.len.result Equal (nat_le c.len-in-Equal.result c.depth-d.result) c.len.ensures.len c.in-Equal.ensures (ap (λ (k : ℕ). nat_le k c.depth-d.result) c.len-in-Equal.ensures.len ∙ ap (nat_le (length c.args.path.now)) c.depth-d.ensures)
+
+pub returns-in-Greater : goal.returns-in-Greater
+returns-in-Greater c = reads c.args.path.now (path_of c.args.nodes.now.items c.args.n) c.len.result Greater (nat_le (length c.args.path.now) (length (path_of c.args.nodes.now.items c.args.n))) c.len.ensures.len c.in-Greater.ensures refl

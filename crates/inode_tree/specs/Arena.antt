@@ -1,0 +1,107 @@
+-- Nodes in one list, named by their places in it, and the paths that they stand for.
+use Rattle.std.specs.Prelude.{◌≡◌, ℕ, ◌<◌, ◌≤◌, zero, suc, true, ◌==◌, List, [], ◌∷◌, ◌++◌, length, map, slice_index_or, slice_set, Option, Some, None, if◌then◌else◌, ⊤}
+use Rattle.std.specs.declared.cmp.Ordering.{Ordering}
+use Rattle.std.specs.declared.cmp.Ordering.TheVariants.{Equal}
+use Rattle.std.specs.Ordering.{nat_cmp, ordering_then}
+use Rattle.std.specs.Cmp.Lexicographic.{slice_cmp}
+use Rattle.inode_tree.specs.declared.rows.Node.{Node}
+use Rattle.inode_tree.specs.declared.rows.Kind.{Kind}
+use Rattle.inode_tree.specs.declared.rows.Kind.TheVariants.{Dir}
+use Rattle.std.specs.Vec.{vec_len, vec_capacity}
+use Rattle.std.specs.Global.{Vec}
+use Rattle.std.specs.HashMap.{HashMap, spare}
+use Rattle.inode_tree.specs.Listed.{Listed}
+use Rattle.inode_tree.specs.Rows.{Entry, is_dir}
+pub use Rattle.inode_tree.specs.Rows.{AllAfter, IsRising}
+use Rattle.inode_tree.specs.Paths.{is_before, is_relative, same_path}
+
+abbrev pub blank : Node
+blank = record { parent = 0; name = []; row = record { id = 0; kind = Dir None } }
+
+abbrev pub node_at : List Node → ℕ → Node
+node_at ns n = slice_index_or ns n blank
+
+-- the names from a node up to the root, in at most so many steps
+unfoldable pub up : ℕ → List Node → ℕ → List (List ℕ)
+up zero ns n = []
+up (suc f) ns n = if n == 0 then [] else up f ns (node_at ns n).parent ++ ((node_at ns n).name ∷ [])
+
+-- a path has at most 100 names
+unfoldable pub path_of : List Node → ℕ → List (List ℕ)
+path_of ns n = up 128 ns n
+
+abbrev pub entry_at : List Node → ℕ → Entry
+entry_at ns n = record { path = path_of ns n; row = (node_at ns n).row }
+
+abbrev pub rows_of : List Node → List ℕ → List Entry
+rows_of ns order = map (entry_at ns) order
+
+-- each node's path is that of its directory and its name
+pub record IsLinked (ns : List Node) : Type 0 where
+  pub some : 0 < length ns
+  pub below : (m : ℕ) → m < length ns → (node_at ns m).parent < length ns
+  pub step : (m : ℕ) → m < length ns → (m ≡ 0 → ⊥) → path_of ns m ≡ path_of ns (node_at ns m).parent ++ ((node_at ns m).name ∷ [])
+
+-- how two paths compare as far as both go
+abbrev pub cmp_front : List (List ℕ) → List (List ℕ) → Ordering
+cmp_front [] p = Equal
+cmp_front (x ∷ q) [] = Equal
+cmp_front (x ∷ q) (y ∷ p) = ordering_then (slice_cmp nat_cmp x y) (cmp_front q p)
+
+-- how many rows come before a path
+abbrev pub rank : List Entry → List (List ℕ) → ℕ
+rank [] p = 0
+rank (e ∷ es) p = if is_before e.path p then suc (rank es p) else 0
+
+abbrev pub AllWithin : ℕ → List ℕ → Type 0
+AllWithin n [] = ⊤
+AllWithin n (k ∷ ks) = (k < n) × AllWithin n ks
+
+-- the difference at the k-th name, else the one found below it
+abbrev pub name_cmp : List ℕ → List (List ℕ) → ℕ → Ordering
+name_cmp x [] k = Equal
+name_cmp x (y ∷ p) zero = slice_cmp nat_cmp x y
+name_cmp x (y ∷ p) (suc k) = name_cmp x p k
+
+abbrev pub nearer_of : List ℕ → ℕ → List (List ℕ) → Ordering → Ordering
+nearer_of x k p found = ordering_then (name_cmp x p k) found
+
+-- the number of the row at a path
+abbrev pub number_of : List Node → List ℕ → List (List ℕ) → Option ℕ
+number_of ns [] p = None
+number_of ns (n ∷ order) p = if same_path (path_of ns n) p then Some n else number_of ns order p
+
+-- the nodes, the live ones in path order, and for each id its node
+pub record IsTree (ns : List Node) (order : List ℕ) (ids : ℕ → Option ℕ) : Type 0 where
+  pub linked : IsLinked ns
+  pub within : AllWithin (length ns) order
+  pub rising : IsRising (rows_of ns order)
+  -- each live node's path keeps the rule
+  pub ruled : (k : ℕ) → k < length order → is_relative (path_of ns (slice_index_or order k 0)) ≡ true
+  -- the root has id 0, and is a directory
+  pub root_is : (node_at ns 0).row.id ≡ 0
+  pub root_dir : is_dir (node_at ns 0).row.kind ≡ true
+  -- the root is live
+  pub rooted : (k : ℕ) × (k < length order) × (slice_index_or order k 0 ≡ 0)
+  pub full : length order ≡ length ns
+  pub few : length ns ≤ 1000000
+  -- each live node is found by its id
+  pub named : (k : ℕ) → k < length order → ids (node_at ns (slice_index_or order k 0)).row.id ≡ Some (slice_index_or order k 0)
+  -- and what is found is live and has that id
+  pub stands : (id n : ℕ) → ids id ≡ Some n → (k : ℕ) × (k < length order) × (slice_index_or order k 0 ≡ n) × ((node_at ns n).row.id ≡ id)
+  -- what a live node lies in is a directory
+  pub nested : (k : ℕ) → k < length order → is_dir (node_at ns (node_at ns (slice_index_or order k 0)).parent).row.kind ≡ true
+  -- and it is live
+  pub housed : (k : ℕ) → k < length order → (j : ℕ) × (j < length order) × (slice_index_or order j 0 ≡ (node_at ns (slice_index_or order k 0)).parent)
+
+-- there is memory for one more row
+abbrev pub HasRoom : {S : Type 0} → Vec Node → Listed → HashMap ℕ ℕ S → Type 0
+HasRoom nodes order places = (vec_len nodes < vec_capacity nodes) × (0 < order.spare) × (0 < spare places)
+
+-- the nodes with another kind at n
+abbrev pub rekind : List Node → ℕ → Kind → List Node
+rekind ns n kind = slice_set ns n (record { parent = (node_at ns n).parent; name = (node_at ns n).name; row = record { id = (node_at ns n).row.id; kind = kind } })
+
+-- the node is a live one
+abbrev pub IsLive : List ℕ → ℕ → Type 0
+IsLive order n = (k : ℕ) × (k < length order) × (slice_index_or order k 0 ≡ n)

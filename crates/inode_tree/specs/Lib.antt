@@ -1,0 +1,4 @@
+pub mod Arena
+pub mod Listed
+pub mod Paths
+pub mod Rows

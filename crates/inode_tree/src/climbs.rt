@@ -1,0 +1,118 @@
+//! Paths by climbing from a node to the root.
+ghost use Rattle.std.specs.Prelude.{◌≡◌, ◌<◌, ◌≤◌, length, take};
+ghost use Rattle.inode_tree.specs.Arena.{IsLinked, path_of, cmp_front, nearer_of, rows_of, IsRising, AllWithin, rank};
+ghost use Rattle.inode_tree.specs.Paths.{is_prefix, path_cmp};
+ghost use Rattle.std.specs.Cmp.Lexicographic.{slice_cmp};
+ghost use Rattle.std.specs.Ordering.{nat_cmp};
+
+use crate::order::Order;
+use crate::paths::NPath;
+use crate::rows::Node;
+use hk_base::Text;
+use std::cmp::Ordering;
+
+/// How many names the node's path has.
+pub fn depth(nodes: &Vec<Node>, n: u32) -> usize
+    requires linked { IsLinked nodes.now.items }
+    requires live { n < length nodes.now.items }
+    ensures { result ≡ length (path_of nodes.now.items n) }
+{
+    let mut m = n;
+    let mut d = 0usize;
+    'climb: while m != 0 {
+        m = nodes[m as usize].parent;
+        d += 1;
+    }
+    d
+}
+
+/// How the node's path and a path compare as far as both go.
+pub fn front(nodes: &Vec<Node>, n: u32, depth: usize, path: &NPath, upto: usize) -> Ordering
+    requires linked { IsLinked nodes.now.items }
+    requires live { n < length nodes.now.items }
+    requires upto { upto ≤ length path.now }
+    requires depth { depth ≡ length (path_of nodes.now.items n) }
+    ensures { result ≡ cmp_front (path_of nodes.now.items n) (take upto path.now) }
+{
+    let mut m = n;
+    let mut k = depth;
+    let mut found = Ordering::Equal;
+    'climb: while m != 0 {
+        k -= 1;
+        found = nearer(&nodes[m as usize], k, path, upto, found);
+        m = nodes[m as usize].parent;
+    }
+    found
+}
+
+fn compare_names(name: &Text, other: &Text) -> Ordering
+    ensures { result ≡ slice_cmp nat_cmp name.now other.now }
+{
+    name.as_str().as_bytes().cmp(other.as_str().as_bytes())
+}
+
+/// The difference at the k-th name, else the one found below it.
+fn nearer(node: &Node, k: usize, path: &NPath, upto: usize, found: Ordering) -> Ordering
+    requires { upto ≤ length path.now }
+    ensures { result ≡ nearer_of node.now.name k (take upto path.now) found }
+{
+    if k < upto {
+        match compare_names(&node.name, path.name(k)) {
+            Ordering::Less => Ordering::Less,
+            Ordering::Equal => found,
+            Ordering::Greater => Ordering::Greater,
+        }
+    } else {
+        found
+    }
+}
+
+pub fn compare(nodes: &Vec<Node>, n: u32, path: &NPath, upto: usize) -> Ordering
+    requires linked { IsLinked nodes.now.items }
+    requires live { n < length nodes.now.items }
+    requires upto { upto ≤ length path.now }
+    ensures { result ≡ path_cmp (path_of nodes.now.items n) (take upto path.now) }
+{
+    let d = depth(nodes, n);
+    match front(nodes, n, d, path, upto) {
+        Ordering::Less => Ordering::Less,
+        Ordering::Equal => d.cmp(&upto),
+        Ordering::Greater => Ordering::Greater,
+    }
+}
+
+/// How many rows come before the path.
+pub fn place(nodes: &Vec<Node>, order: &Order, path: &NPath, upto: usize) -> usize
+    requires linked { IsLinked nodes.now.items }
+    requires within { AllWithin (length nodes.now.items) order.now.items }
+    requires upto { upto ≤ length path.now }
+    requires rising { IsRising (rows_of nodes.now.items order.now.items) }
+    ensures { result ≡ rank (rows_of nodes.now.items order.now.items) (take upto path.now) }
+{
+    let mut low = 0usize;
+    let mut high = order.len();
+    'halve: while low < high {
+        let middle = low + (high - low) / 2;
+        let at = order.get(middle);
+        match compare(nodes, at, path, upto) {
+            Ordering::Less => low = middle + 1,
+            Ordering::Equal => high = middle,
+            Ordering::Greater => high = middle,
+        }
+    }
+    low
+}
+
+/// Whether the node's path is the path or lies below it.
+pub fn below(nodes: &Vec<Node>, n: u32, path: &NPath) -> bool
+    requires linked { IsLinked nodes.now.items }
+    requires live { n < length nodes.now.items }
+    ensures { result ≡ is_prefix path.now (path_of nodes.now.items n) }
+{
+    let d = depth(nodes, n);
+    match front(nodes, n, d, path, path.len()) {
+        Ordering::Less => false,
+        Ordering::Equal => path.len() <= d,
+        Ordering::Greater => false,
+    }
+}

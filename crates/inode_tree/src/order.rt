@@ -1,0 +1,322 @@
+//! Numbers in an order, in pieces of bounded length.
+ghost use Rattle.std.specs.Prelude.{◌≡◌, ◌<◌, ◌≤◌, ◌+◌, ◌++◌, ◌∷◌, [], length, take, drop, slice_index_or, OnOk, OnErr, IfOk, IsOk, IsSome, vec_capacity, vec_len};
+ghost use Rattle.std.specs.List.{insert};
+ghost use Rattle.inode_tree.specs.Listed.{starts_of, flat, halved, FitsAt, IsEmptyOr};
+
+use hk_base::NoMemory;
+use std::alloc::Global;
+use std::marker::Model;
+use std::mem;
+
+/// Up to 1,024 numbers, in memory that is there from the start.
+#[derive(Drop)]
+pub struct Piece {
+    numbers: Vec<u32>,
+}
+
+impl Model for Piece {
+    ghost use Rattle.std.specs.Prelude.{List, ℕ, ◌≤◌, length};
+    ghost use Rattle.std.specs.Vec.{vec_len, vec_capacity};
+
+    ghost Value = { List ℕ };
+
+    ghost view = { λ s. s.numbers.items };
+
+    ghost invariant = { λ s. (1024 ≤ vec_capacity s.numbers) × (length s.numbers.items ≤ 1024) };
+}
+
+impl Piece {
+    fn new(alloc: Global) -> Result<Piece, NoMemory>
+        ensures { IfOk result (λ p. p ≡ []) }
+    {
+        let numbers = Vec::with_capacity(alloc, 1024)?;
+        Ok(Piece { numbers })
+    }
+
+    fn len(&self) -> usize
+        ensures len { result ≡ length self.now }
+        ensures most { result ≤ 1024 }
+    {
+        self.numbers.len()
+    }
+
+    fn get(&self, i: usize) -> u32
+        requires { i < length self.now }
+        ensures { result ≡ slice_index_or self.now i 0 }
+    {
+        self.numbers[i]
+    }
+
+    fn insert(&mut self, i: usize, n: u32)
+        requires at { i ≤ length self.old }
+        requires room { length self.old < 1024 }
+        ensures { self.new ≡ insert self.old i n }
+    {
+        let _ = self.numbers.insert(i, n);
+    }
+
+    /// Moves the numbers from i on into an empty piece.
+    fn split(&mut self, i: usize, other: &mut Piece)
+        requires at { i ≤ length self.old }
+        requires empty { other.old ≡ [] }
+        ensures left { self.new ≡ take i self.old }
+        ensures right { other.new ≡ drop i self.old }
+    {
+        copy(&self.numbers.as_slice()[i..], &mut other.numbers);
+        self.numbers.truncate(i);
+    }
+}
+
+fn copy(from: &[u32], into: &mut Vec<u32>)
+    requires empty { into.old.items ≡ [] }
+    requires room { length from.now ≤ vec_capacity into.old }
+    ensures items { into.new.items ≡ from.now }
+    ensures room { vec_capacity into.new ≡ vec_capacity into.old }
+{
+    for n in from {
+        into.push_reserved(*n);
+    }
+}
+
+#[derive(Drop)]
+pub struct Order {
+    alloc: Global,
+    pieces: Vec<Piece>,
+    starts: Vec<u32>,
+    extra: Option<Piece>,
+}
+
+impl Model for Order {
+    ghost use Rattle.std.specs.Prelude.{◌≡◌, ◌<◌, ◌&&◌, nat_lt, length, if◌then◌else◌, is_some, Some, []};
+    ghost use Rattle.std.specs.Vec.{vec_len, vec_capacity};
+    ghost use Rattle.inode_tree.specs.Listed.{Listed, starts_of, flat, IsEmptyOr};
+
+    ghost Value = { Listed };
+
+    ghost view = { λ s. record { items = flat s.pieces.items; spare = if nat_lt (vec_len s.pieces) (vec_capacity s.pieces) && nat_lt (vec_len s.starts) (vec_capacity s.starts) && is_some s.extra then 1 else 0 } };
+
+    ghost invariant = { λ s. (s.starts.items ≡ starts_of 0 s.pieces.items) × IsEmptyOr s.extra };
+}
+
+/// The last piece that begins at or before the i-th number.
+fn locate(starts: &Vec<u32>, i: usize) -> usize
+    requires some { 0 < length starts.now.items }
+    requires first { slice_index_or starts.now.items 0 0 ≡ 0 }
+    ensures within { result < length starts.now.items }
+    ensures from { slice_index_or starts.now.items result 0 ≤ i }
+    ensures to { result + 1 < length starts.now.items → i < slice_index_or starts.now.items (result + 1) 0 }
+{
+    let mut low = 0usize;
+    let mut high = starts.len();
+    'halve: while high - low > 1 {
+        let middle = low + (high - low) / 2;
+        if starts[middle] as usize <= i {
+            low = middle;
+        } else {
+            high = middle;
+        }
+    }
+    low
+}
+
+fn count(pieces: &Vec<Piece>, starts: &Vec<u32>) -> usize
+    requires starts { starts.now.items ≡ starts_of 0 pieces.now.items }
+    ensures { result ≡ length (flat pieces.now.items) }
+{
+    let len = pieces.len();
+    if len == 0 {
+        return 0;
+    }
+    starts[len - 1] as usize + pieces[len - 1].len()
+}
+
+fn at(pieces: &Vec<Piece>, starts: &Vec<u32>, i: usize) -> u32
+    requires starts { starts.now.items ≡ starts_of 0 pieces.now.items }
+    requires within { i < length (flat pieces.now.items) }
+    ensures { result ≡ slice_index_or (flat pieces.now.items) i 0 }
+{
+    let c = locate(starts, i);
+    pieces[c].get(i - starts[c] as usize)
+}
+
+/// Writes the starts anew behind the c-th piece.
+fn renumber(pieces: &Vec<Piece>, starts: &mut Vec<u32>, c: usize)
+    requires c { c < length pieces.now.items }
+    requires starts { take (c + 1) starts.old.items ≡ take (c + 1) (starts_of 0 pieces.now.items) }
+    requires length { length starts.old.items ≡ length pieces.now.items }
+    requires count { length (flat pieces.now.items) ≤ 1000000 }
+    ensures starts { starts.new.items ≡ starts_of 0 pieces.now.items }
+    ensures room { vec_capacity starts.new ≡ vec_capacity starts.old }
+{
+    let mut j = c;
+    let mut from = starts[c] as usize;
+    'write: while j + 1 < pieces.len() {
+        from += pieces[j].len();
+        j += 1;
+        starts[j] = from as u32;
+    }
+}
+
+/// Puts a number in where its piece has room.
+fn put_in(pieces: &mut Vec<Piece>, starts: &mut Vec<u32>, c: usize, i: usize, n: u32)
+    requires starts { starts.old.items ≡ starts_of 0 pieces.old.items }
+    requires fits { FitsAt starts.old.items pieces.old.items c i }
+    requires count { length (flat pieces.old.items) < 1000000 }
+    ensures starts { starts.new.items ≡ starts_of 0 pieces.new.items }
+    ensures flat { flat pieces.new.items ≡ insert (flat pieces.old.items) i n }
+{
+    let k = i - starts[c] as usize;
+    pieces[c].insert(k, n);
+    renumber(pieces, starts, c);
+}
+
+fn slip_piece(pieces: &mut Vec<Piece>, i: usize, piece: Piece)
+    requires at { i ≤ length pieces.old.items }
+    requires room { vec_len pieces.old < vec_capacity pieces.old }
+    ensures { pieces.new.items ≡ insert pieces.old.items i piece }
+{
+    let _ = pieces.insert(i, piece);
+}
+
+fn slip_start(starts: &mut Vec<u32>, i: usize, start: u32)
+    requires at { i ≤ length starts.old.items }
+    requires room { vec_len starts.old < vec_capacity starts.old }
+    ensures { starts.new.items ≡ insert starts.old.items i start }
+{
+    let _ = starts.insert(i, start);
+}
+
+/// Cuts a piece in two.
+fn halve(pieces: &mut Vec<Piece>, starts: &mut Vec<u32>, c: usize, empty: Piece)
+    requires starts { starts.old.items ≡ starts_of 0 pieces.old.items }
+    requires c { c < length pieces.old.items }
+    requires full { 512 ≤ length (slice_index_or pieces.old.items c []) }
+    requires empty { empty ≡ [] }
+    requires count { length (flat pieces.old.items) < 1000000 }
+    requires room { (vec_len pieces.old < vec_capacity pieces.old) × (vec_len starts.old < vec_capacity starts.old) }
+    ensures starts { starts.new.items ≡ starts_of 0 pieces.new.items }
+    ensures halved { pieces.new.items ≡ halved pieces.old.items c }
+{
+    let mut other = empty;
+    pieces[c].split(512, &mut other);
+    slip_piece(pieces, c + 1, other);
+    slip_start(starts, c + 1, 0);
+    renumber(pieces, starts, c);
+}
+
+impl Order {
+    pub fn new(alloc: Global) -> Order
+        ensures { result.items ≡ [] }
+    {
+        Order {
+            alloc,
+            pieces: Vec::new(alloc),
+            starts: Vec::new(alloc),
+            extra: None,
+        }
+    }
+
+    pub fn len(&self) -> usize
+        ensures { result ≡ length self.now.items }
+    {
+        count(&self.pieces, &self.starts)
+    }
+
+    pub fn get(&self, i: usize) -> u32
+        requires { i < length self.now.items }
+        ensures { result ≡ slice_index_or self.now.items i 0 }
+    {
+        at(&self.pieces, &self.starts, i)
+    }
+
+    /// Takes memory for one more number.
+    pub fn reserve(&mut self) -> Result<(), NoMemory>
+        ensures same { self.new.items ≡ self.old.items }
+        ensures ok { OnOk result (0 < self.new.spare) }
+        ensures had { 0 < self.old.spare → IsOk result }
+    {
+        self.pieces.reserve(1)?;
+        self.starts.reserve(1)?;
+        more(self.alloc, &mut self.extra)?;
+        Ok(())
+    }
+
+    pub fn insert(&mut self, i: usize, n: u32)
+        requires within { i ≤ length self.old.items }
+        requires room { 0 < self.old.spare }
+        requires count { length self.old.items < 1000000 }
+        ensures { self.new.items ≡ insert self.old.items i n }
+    {
+        put(&mut self.pieces, &mut self.starts, &mut self.extra, i, n);
+    }
+}
+
+/// Makes an empty piece where there is none.
+fn more(alloc: Global, extra: &mut Option<Piece>) -> Result<(), NoMemory>
+    requires { IsEmptyOr extra.old }
+    ensures empty { IsEmptyOr extra.new }
+    ensures ok { OnOk result (IsSome extra.new) }
+    ensures had { IsSome extra.old → IsOk result }
+{
+    match extra {
+        Some(_) => Ok(()),
+        None => {
+            *extra = Some(Piece::new(alloc)?);
+            Ok(())
+        }
+    }
+}
+
+/// Puts a number in at a place, in memory that is ready.
+fn put(pieces: &mut Vec<Piece>, starts: &mut Vec<u32>, extra: &mut Option<Piece>, i: usize, n: u32)
+    requires starts { starts.old.items ≡ starts_of 0 pieces.old.items }
+    requires empty { IsEmptyOr extra.old }
+    requires within { i ≤ length (flat pieces.old.items) }
+    requires room { (vec_len pieces.old < vec_capacity pieces.old) × (vec_len starts.old < vec_capacity starts.old) × IsSome extra.old }
+    requires count { length (flat pieces.old.items) < 1000000 }
+    ensures starts { starts.new.items ≡ starts_of 0 pieces.new.items }
+    ensures empty { IsEmptyOr extra.new }
+    ensures flat { flat pieces.new.items ≡ insert (flat pieces.old.items) i n }
+{
+    if pieces.len() == 0 {
+        begin(pieces, starts, extra, n);
+        return;
+    }
+    let c = locate(starts, i);
+    if pieces[c].len() < 1024 {
+        put_in(pieces, starts, c, i, n);
+        return;
+    }
+    match mem::replace(extra, None) {
+        Some(empty) => {
+            halve(pieces, starts, c, empty);
+            if i <= starts[c + 1] as usize {
+                put_in(pieces, starts, c, i, n);
+            } else {
+                put_in(pieces, starts, c + 1, i, n);
+            }
+        }
+        None => (),
+    }
+}
+
+/// Puts the first number in.
+fn begin(pieces: &mut Vec<Piece>, starts: &mut Vec<u32>, extra: &mut Option<Piece>, n: u32)
+    requires none { pieces.old.items ≡ [] }
+    requires starts { starts.old.items ≡ [] }
+    requires empty { IsEmptyOr extra.old }
+    requires room { (vec_len pieces.old < vec_capacity pieces.old) × (vec_len starts.old < vec_capacity starts.old) × IsSome extra.old }
+    ensures starts { starts.new.items ≡ 0 ∷ [] }
+    ensures pieces { pieces.new.items ≡ (n ∷ []) ∷ [] }
+    ensures empty { IsEmptyOr extra.new }
+{
+    match mem::replace(extra, None) {
+        Some(empty) => {
+            let mut piece = empty;
+            piece.insert(0, n);
+            pieces.push_reserved(piece);
+            starts.push_reserved(0);
+        }
+        None => (),
+    }
+}

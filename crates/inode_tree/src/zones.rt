@@ -1,0 +1,63 @@
+//! Zones, by climbing.
+ghost use Rattle.std.specs.Prelude.{◌≡◌, ◌<◌, ◌≤◌, length, ℕ, Option};
+ghost use Rattle.inode_tree.specs.Arena.{IsTree, IsLive, rows_of, path_of};
+ghost use Rattle.inode_tree.specs.Rows.{zone_id, is_marked};
+
+use crate::order::Order;
+use crate::paths::NPath;
+use crate::rows::{Kind, Node};
+use crate::tree::seek;
+
+/// Whether the node is a directory that carries a key's name.
+fn marked(node: &Node) -> bool
+    ensures { result ≡ is_marked node.now.row }
+{
+    match &node.row.kind {
+        Kind::Dir { key } => key.is_some(),
+        Kind::File { .. } => false,
+    }
+}
+
+/// The id of the nearest marked directory at or above the node.
+fn zone_above(nodes: &Vec<Node>, order: &Order, n: u32) -> Option<u64>
+    requires tree { (ids : ℕ → Option ℕ) × IsTree nodes.now.items order.now.items ids }
+    requires live { IsLive order.now.items n }
+    ensures { result ≡ zone_id (rows_of nodes.now.items order.now.items) (path_of nodes.now.items n) }
+{
+    let _ = order;
+    let mut m = n;
+    'climb: while m != 0 {
+        if marked(&nodes[m as usize]) {
+            return Some(nodes[m as usize].row.id);
+        }
+        m = nodes[m as usize].parent;
+    }
+    if marked(&nodes[0]) {
+        return Some(nodes[0].row.id);
+    }
+    None
+}
+
+/// The number of the row at the longest front of the path that stands.
+fn standing(nodes: &Vec<Node>, order: &Order, path: &NPath) -> u32
+    requires tree { (ids : ℕ → Option ℕ) × IsTree nodes.now.items order.now.items ids }
+    ensures live { IsLive order.now.items result }
+    ensures zone { zone_id (rows_of nodes.now.items order.now.items) (path_of nodes.now.items result) ≡ zone_id (rows_of nodes.now.items order.now.items) path.now }
+{
+    let mut upto = path.len();
+    'shorten: while upto > 0 {
+        match seek(nodes, order, path, upto) {
+            Some(n) => return n,
+            None => upto -= 1,
+        }
+    }
+    0
+}
+
+/// The id of the deepest marked directory that is the path or lies above it.
+pub fn zone_at(nodes: &Vec<Node>, order: &Order, path: &NPath) -> Option<u64>
+    requires tree { (ids : ℕ → Option ℕ) × IsTree nodes.now.items order.now.items ids }
+    ensures { result ≡ zone_id (rows_of nodes.now.items order.now.items) path.now }
+{
+    zone_above(nodes, order, standing(nodes, order, path))
+}
