@@ -64,7 +64,7 @@ expect 'refusals' 0 '1 version k@0 H
 
 run_masked examples/bad-line.events
 expect 'a bad line' 3 '1 version k@0 H
-line 3 refused'
+line 4 refused'
 
 run replay </dev/null
 expect 'an empty input' 0 ''
