@@ -4,4 +4,5 @@ pub mod RunLemmas
 pub mod LineLemmas
 pub mod LoopLemmas
 pub mod FinishLemmas
+pub mod OnceLemmas
 pub mod WordLemmas

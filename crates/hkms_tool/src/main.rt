@@ -5,6 +5,7 @@ mod calls;
 mod command;
 mod event;
 mod fields;
+mod laws;
 mod lines;
 mod replay;
 mod stage;
