@@ -1,0 +1,5 @@
+mod CutLemmas
+mod KeyLemmas
+mod LoopLemmas
+mod SeenLemmas
+mod PartLemmas

@@ -1,0 +1,59 @@
+-- The texts of access control lists.
+use Rattle.std.specs.Prelude.{◌≡◌, ◌≢◌, ◌⊎◌, ℕ, ◌<◌, ◌≤◌, ◌==◌, not, ◌&&◌, Bool, true, false, List, [], ◌∷◌, length, codes, All, IsTrue}
+use Rattle.std.specs.List.{slice_split, list_all}
+use Rattle.std.specs.Str.{IsUtf8}
+use Rattle.prop_text.specs.declared.acls.Acl.{Acl}
+
+abbrev pub is_comma : ℕ → Bool
+is_comma b = b == 44
+
+abbrev pub is_space : ℕ → Bool
+is_space b = b == 32
+
+-- neither a space nor a comma
+abbrev pub is_plain : ℕ → Bool
+is_plain b = not (is_space b) && not (is_comma b)
+
+-- a user or a group: 1 to 255 bytes of UTF-8 without space and comma
+pub record IsName (bytes : List ℕ) : Type 0 where
+  pub some : 0 < length bytes
+  pub few : length bytes ≤ 255
+  pub plain : IsTrue (list_all is_plain bytes)
+  pub text : IsUtf8 bytes
+
+-- the parts between commas; no bytes are no part
+abbrev pub listed : List ℕ → List (List ℕ)
+listed [] = []
+listed (b ∷ bs) = slice_split is_comma (b ∷ bs)
+
+-- the bytes are the list of these names
+pub record SpellsNames (bytes : List ℕ) (names : List (List ℕ)) : Type 0 where
+  pub parts : listed bytes ≡ names
+  pub each : All IsName names
+
+-- the parts between spaces are users, or users and groups
+abbrev pub SpellsParts : List (List ℕ) → List (List ℕ) → List (List ℕ) → Type 0
+SpellsParts [] users groups = ⊥
+SpellsParts (first ∷ []) users groups = SpellsNames first users × (groups ≡ [])
+SpellsParts (first ∷ second ∷ []) users groups = SpellsNames first users × SpellsNames second groups
+SpellsParts (first ∷ second ∷ third ∷ more) users groups = ⊥
+
+abbrev pub everybody_text : List ℕ
+everybody_text = codes "*"
+
+-- `*`
+pub record SpellsEverybody (bytes : List ℕ) (acl : Acl) : Type 0 where
+  pub star : bytes ≡ everybody_text
+  pub everybody : acl.everybody ≡ true
+  pub no_users : acl.users ≡ []
+  pub no_groups : acl.groups ≡ []
+
+-- anything else: users, and behind a space groups
+pub record SpellsSome (bytes : List ℕ) (acl : Acl) : Type 0 where
+  pub no_star : bytes ≢ everybody_text
+  pub not_everybody : acl.everybody ≡ false
+  pub parts : SpellsParts (slice_split is_space bytes) acl.users acl.groups
+
+-- the bytes spell the access control list
+abbrev pub SpellsAcl : List ℕ → Acl → Type 0
+SpellsAcl bytes acl = SpellsEverybody bytes acl ⊎ SpellsSome bytes acl

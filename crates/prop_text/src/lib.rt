@@ -1,0 +1,26 @@
+//! The properties of the key management service, `kms-acls.properties`: access control lists, groups
+//! and sizes, read from a text.
+#![tactic(auto)]
+
+mod acls;
+mod cuts;
+mod faults;
+mod lines;
+mod names;
+mod ops;
+mod props;
+mod reading;
+mod seen;
+mod setting;
+mod sizes;
+mod values;
+
+pub use acls::{Acl, TextList};
+pub use faults::PropFault;
+pub use lines::{LineList, PropLine};
+pub use ops::AclOp;
+pub use props::{Props, read_props};
+pub use sizes::Sizes;
+
+#[cfg(test)]
+mod tests;

@@ -1,0 +1,246 @@
+//! Reading the names of properties.
+ghost use Rattle.std.specs.Prelude.{◌≡◌};
+ghost use Rattle.std.specs.List.{list_all};
+ghost use Rattle.prop_text.specs.Acls.{is_plain};
+ghost use Rattle.prop_text.specs.Names.{acl_name, blacklist_name, default_name, group_name, is_group_name, key_all, key_before, key_name, key_op, key_place, key_with, service_name, service_op, setting_of, size_name, whitelist_name};
+
+use crate::cuts::{before, behind};
+use crate::ops::AclOp;
+use crate::setting::{AclPlace, Setting, SizeName};
+use hk_base::KeyName;
+
+/// The operation of the service that has this name.
+#[tactic(auto, unfolding(crate::specs::Names::service_op))]
+fn service_op(text: &[u8]) -> Option<AclOp>
+    ensures { result ≡ service_op text.now }
+{
+    if text == b"CREATE".as_slice() {
+        return Some(AclOp::Create);
+    }
+    if text == b"DELETE".as_slice() {
+        return Some(AclOp::Delete);
+    }
+    if text == b"ROLLOVER".as_slice() {
+        return Some(AclOp::Rollover);
+    }
+    if text == b"GET".as_slice() {
+        return Some(AclOp::Get);
+    }
+    if text == b"GET_KEYS".as_slice() {
+        return Some(AclOp::GetKeys);
+    }
+    if text == b"GET_METADATA".as_slice() {
+        return Some(AclOp::GetMetadata);
+    }
+    if text == b"SET_KEY_MATERIAL".as_slice() {
+        return Some(AclOp::SetKeyMaterial);
+    }
+    if text == b"GENERATE_EEK".as_slice() {
+        return Some(AclOp::GenerateEek);
+    }
+    if text == b"DECRYPT_EEK".as_slice() {
+        return Some(AclOp::DecryptEek);
+    }
+    None
+}
+
+/// The operation on a key that has this name.
+#[tactic(auto, unfolding(crate::specs::Names::key_op))]
+fn key_op(text: &[u8]) -> Option<AclOp>
+    ensures { result ≡ key_op text.now }
+{
+    if text == b"MANAGEMENT".as_slice() {
+        return Some(AclOp::Management);
+    }
+    if text == b"GENERATE_EEK".as_slice() {
+        return Some(AclOp::GenerateEek);
+    }
+    if text == b"DECRYPT_EEK".as_slice() {
+        return Some(AclOp::DecryptEek);
+    }
+    if text == b"READ".as_slice() {
+        return Some(AclOp::Read);
+    }
+    None
+}
+
+#[tactic(auto, unfolding(crate::specs::Names::service_name))]
+fn service_place(name: &[u8]) -> Option<AclPlace>
+    ensures { result ≡ service_name name.now }
+{
+    let text = behind(b"hadoop.kms.acl.", name)?;
+    let op = service_op(text)?;
+    Some(AclPlace::Service { op })
+}
+
+#[tactic(auto, unfolding(crate::specs::Names::blacklist_name))]
+fn blacklist_place(name: &[u8]) -> Option<AclPlace>
+    ensures { result ≡ blacklist_name name.now }
+{
+    let text = behind(b"hadoop.kms.blacklist.", name)?;
+    let op = service_op(text)?;
+    Some(AclPlace::Blacklist { op })
+}
+
+#[tactic(auto, unfolding(crate::specs::Names::default_name))]
+fn default_place(name: &[u8]) -> Option<AclPlace>
+    ensures { result ≡ default_name name.now }
+{
+    let text = behind(b"default.key.acl.", name)?;
+    let op = key_op(text)?;
+    Some(AclPlace::Default { op })
+}
+
+#[tactic(auto, unfolding(crate::specs::Names::whitelist_name))]
+fn whitelist_place(name: &[u8]) -> Option<AclPlace>
+    ensures { result ≡ whitelist_name name.now }
+{
+    let text = behind(b"whitelist.key.acl.", name)?;
+    let op = key_op(text)?;
+    Some(AclPlace::Whitelist { op })
+}
+
+/// The key before an end.
+#[tactic(auto, unfolding(crate::specs::Names::key_before))]
+fn key_before(end: &[u8], bytes: &[u8]) -> Option<KeyName>
+    ensures { result ≡ key_before end.now bytes.now }
+{
+    let name = before(end, bytes)?;
+    KeyName::read(name)
+}
+
+/// `K.OP` for one operation, of which the end is given.
+#[tactic(auto, unfolding(crate::specs::Names::key_with))]
+fn key_with(op: AclOp, end: &[u8], bytes: &[u8]) -> Option<AclPlace>
+    ensures { result ≡ key_with op end.now bytes.now }
+{
+    let key = key_before(end, bytes)?;
+    Some(AclPlace::Key { key, op })
+}
+
+/// `K.ALL`.
+#[tactic(auto, unfolding(crate::specs::Names::key_all))]
+fn key_all(bytes: &[u8]) -> Option<AclPlace>
+    ensures { result ≡ key_all bytes.now }
+{
+    let key = key_before(b".ALL", bytes)?;
+    Some(AclPlace::KeyAll { key })
+}
+
+/// `K.OP` or `K.ALL`.
+#[tactic(auto, unfolding(crate::specs::Names::key_place))]
+fn key_and_op(bytes: &[u8]) -> Option<AclPlace>
+    ensures { result ≡ key_place bytes.now }
+{
+    if let Some(place) = key_with(AclOp::Management, b".MANAGEMENT", bytes) {
+        return Some(place);
+    }
+    if let Some(place) = key_with(AclOp::GenerateEek, b".GENERATE_EEK", bytes) {
+        return Some(place);
+    }
+    if let Some(place) = key_with(AclOp::DecryptEek, b".DECRYPT_EEK", bytes) {
+        return Some(place);
+    }
+    if let Some(place) = key_with(AclOp::Read, b".READ", bytes) {
+        return Some(place);
+    }
+    key_all(bytes)
+}
+
+#[tactic(auto, unfolding(crate::specs::Names::key_name))]
+fn key_place(name: &[u8]) -> Option<AclPlace>
+    ensures { result ≡ key_name name.now }
+{
+    let rest = behind(b"key.acl.", name)?;
+    key_and_op(rest)
+}
+
+/// The access control list that a name sets.
+#[tactic(auto, unfolding(crate::specs::Names::acl_name))]
+fn acl_place(name: &[u8]) -> Option<AclPlace>
+    ensures { result ≡ acl_name name.now }
+{
+    if let Some(place) = service_place(name) {
+        return Some(place);
+    }
+    if let Some(place) = blacklist_place(name) {
+        return Some(place);
+    }
+    if let Some(place) = key_place(name) {
+        return Some(place);
+    }
+    if let Some(place) = default_place(name) {
+        return Some(place);
+    }
+    whitelist_place(name)
+}
+
+/// Whether a byte is neither a space nor a comma.
+pub fn is_plain(byte: u8) -> bool
+    ensures { result ≡ is_plain byte }
+{
+    byte != b' ' && byte != b','
+}
+
+/// Whether no byte is a space or a comma.
+pub fn each_is_plain(bytes: &[u8]) -> bool
+    ensures { result ≡ list_all is_plain bytes.now }
+{
+    bytes.iter().all(|byte| is_plain(*byte))
+}
+
+#[tactic(auto, unfolding(crate::specs::Names::is_group_name))]
+fn is_group_name(bytes: &[u8]) -> bool
+    ensures { result ≡ is_group_name bytes.now }
+{
+    let plain = each_is_plain(bytes);
+    let len = bytes.len();
+    0 < len && len <= 255 && plain
+}
+
+#[tactic(auto, unfolding(crate::specs::Names::group_name))]
+fn group_setting(name: &[u8]) -> Option<Setting>
+    ensures { result ≡ group_name name.now }
+{
+    let group = behind(b"group.", name)?;
+    if is_group_name(group) {
+        Some(Setting::Group)
+    } else {
+        None
+    }
+}
+
+/// The size that a name sets.
+#[tactic(auto, unfolding(crate::specs::Names::size_name))]
+fn size_name(name: &[u8]) -> Option<SizeName>
+    ensures { result ≡ size_name name.now }
+{
+    if name == b"hkms.queue.size".as_slice() {
+        return Some(SizeName::QueueSize);
+    }
+    if name == b"hkms.queue.watermark".as_slice() {
+        return Some(SizeName::QueueWatermark);
+    }
+    if name == b"hkms.reencrypt.batch".as_slice() {
+        return Some(SizeName::BatchSize);
+    }
+    if name == b"hkms.cache".as_slice() {
+        return Some(SizeName::CacheSize);
+    }
+    None
+}
+
+/// What a name sets, or `None` where the name is not known.
+#[tactic(auto, unfolding(crate::specs::Names::setting_of))]
+pub fn read_name(name: &[u8]) -> Option<Setting>
+    ensures { result ≡ setting_of name.now }
+{
+    if let Some(place) = acl_place(name) {
+        return Some(Setting::List { place });
+    }
+    if let Some(setting) = group_setting(name) {
+        return Some(setting);
+    }
+    let which = size_name(name)?;
+    Some(Setting::Size { which })
+}

@@ -1,0 +1,46 @@
+//! Names that were set.
+ghost use Rattle.std.specs.Prelude.{◌≡◌, ℕ, List, [], ◌||◌, not, IfOk, OnOk};
+ghost use Rattle.std.specs.Str.{bytes_eq};
+ghost use Rattle.prop_text.specs.Properties.{is_among};
+
+use hk_base::NoMemory;
+use std::alloc::Global;
+use std::collections::BTreeSet;
+use std::marker::Model;
+
+/// Names, each kept once, which contracts see as a list in some order.
+#[derive(Drop)]
+pub struct Names {
+    alloc: Global,
+    names: BTreeSet<Vec<u8>>,
+}
+
+impl Model for Names {
+    ghost use Rattle.std.specs.Prelude.{ℕ, List, map};
+
+    ghost Value = { List (List ℕ) };
+
+    ghost view = { λ s. map (λ name. name.items) s.names.keys };
+}
+
+impl Names {
+    /// No names. It takes no memory.
+    pub fn new(alloc: Global) -> Names
+        ensures { result ≡ [] }
+    {
+        Names {
+            alloc,
+            names: BTreeSet::new(alloc),
+        }
+    }
+
+    /// Adds a name. Answers whether it is new. It takes time logarithmic in the number of names.
+    pub fn add(&mut self, name: &[u8]) -> Result<bool, NoMemory>
+        ensures new { IfOk result (λ new. new ≡ not (is_among name.now self.old)) }
+        ensures added { OnOk result ((other : List ℕ) → is_among other self.new ≡ (bytes_eq other name.now || is_among other self.old)) }
+    {
+        let name = Vec::from_slice(self.alloc, name)?;
+        let new = self.names.insert(name)?;
+        Ok(new)
+    }
+}

@@ -1,0 +1,32 @@
+//! What the name of a property sets.
+
+use crate::ops::AclOp;
+use hk_base::KeyName;
+
+/// Which access control list a name sets.
+#[derive(Drop)]
+pub enum AclPlace {
+    Service { op: AclOp },
+    Blacklist { op: AclOp },
+    Key { key: KeyName, op: AclOp },
+    KeyAll { key: KeyName },
+    Default { op: AclOp },
+    Whitelist { op: AclOp },
+}
+
+/// Which size a name sets.
+#[derive(Clone, Copy)]
+pub enum SizeName {
+    QueueSize,
+    QueueWatermark,
+    BatchSize,
+    CacheSize,
+}
+
+/// What a name sets.
+#[derive(Drop)]
+pub enum Setting {
+    List { place: AclPlace },
+    Group,
+    Size { which: SizeName },
+}
