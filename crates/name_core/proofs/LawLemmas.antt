@@ -1,0 +1,160 @@
+-- The laws of directories that are made.
+use Rattle.std.proofs.Common.{◌≡◌, ℕ, ◌<◌, ◌⊎◌, inl, inr, Bool, true, false, cond, not, ◌&&◌, is_none, is_some, List, [], ◌∷◌, Option, Some, None, refl, sym, ap, ◌∙◌, subst, arith}
+use Rattle.std.specs.Option.{option_map}
+use Rattle.std.specs.List.{All}
+use Rattle.std.proofs.lemmas.List.Elements.{All-cons, All-nil}
+use Rattle.std.specs.Str.{bytes_eq}
+use Rattle.inode_tree.specs.declared.rows.Row.{Row}
+use Rattle.inode_tree.specs.Paths.{is_before, is_prefix, parent, same_path}
+use Rattle.inode_tree.specs.Rows.{Entry, is_dir_at, is_marked, is_zone_over, longer, put, row_at, zone_of}
+use Rattle.inode_tree.proofs.Seeks.{same-is, same-itself}
+use Rattle.name_core.specs.declared.calls.NameCall.{NameCall}
+use Rattle.name_core.specs.declared.calls.NameCall.TheVariants as call
+use Rattle.name_core.specs.declared.calls.NameReply.{NameReply}
+use Rattle.name_core.specs.declared.calls.NameReply.TheVariants.{Done, Refused}
+use Rattle.name_core.specs.declared.calls.NameRefusal.{NameRefusal}
+use Rattle.name_core.specs.declared.calls.NameRefusal.TheVariants.{NoSuchPath, NotADirectory, Exists, TooManyInodes, NoMemory}
+use Rattle.name_core.specs.State.{NameState, first_state, is_full, next_id}
+use Rattle.name_core.specs.Calls.{NameActs, Plain, NoRoom, causes, deed, first_cause, info_reply, made, mkdir_causes, new_directory, path_of_zone, shown_at, unless_refused}
+use Rattle.name_core.specs.Laws.{IdsBelowNext, IdsRise, IdsStayBelow, MadeIsTold, OthersStay}
+use Rattle.name_core.proofs.RowLemmas.{BelowId, below-put}
+
+-- what holds of a mkdir that was done
+
+done-by : (s : NameState) (p : List (List ℕ)) (s' : NameState) → NameActs s (call.Mkdir p) Done s' → (first_cause (mkdir_causes s p) ≡ None) × (s' ≡ made s p)
+done-by s p s' (NoRoom, may, is) = let f : Done ≡ Refused NoMemory = ap (λ o. o.told) is in absurd cc
+done-by s p s' (Plain, may, is) = go (first_cause (mkdir_causes s p)) is
+  where
+    go : (o : Option NameRefusal) → (record { told = Done; state = s' }) ≡ unless_refused o s (record { answer = Done; state = made s p }) → (o ≡ None) × (s' ≡ made s p)
+    go None is = (refl, ap (λ o. o.state) is)
+    go (Some why) is = let f : Done ≡ Refused why = ap (λ o. o.told) is in absurd cc
+
+none-of : (o : Option Row) → is_some o ≡ false → o ≡ None
+none-of None h = refl
+none-of (Some row) h = absurd cc
+
+was-absent : (s : NameState) (p : List (List ℕ)) → first_cause (mkdir_causes s p) ≡ None → row_at s.table.rows p ≡ None
+was-absent s p h = none-of (row_at s.table.rows p) (go (is_none (row_at s.table.rows (parent p))) (not (is_dir_at (row_at s.table.rows (parent p)))) (is_some (row_at s.table.rows p)) (is_full s) h)
+  where
+    go : (a b c d : Bool) → first_cause ((a, NoSuchPath) ∷ (b, NotADirectory) ∷ (c, Exists) ∷ (d, TooManyInodes) ∷ []) ≡ None → c ≡ false
+    go true b c d h = absurd cc
+    go false true c d h = absurd cc
+    go false false true d h = absurd cc
+    go false false false d h = refl
+
+-- the rows with one more
+
+apart : (x : Entry) (es : List Entry) (p : List (List ℕ)) → row_at (x ∷ es) p ≡ None → (same_path x.path p ≡ false) × (row_at es p ≡ None)
+apart x es p h = go (same_path x.path p) h
+  where
+    go : (t : Bool) → cond t (Some x.row) (row_at es p) ≡ None → (t ≡ false) × (row_at es p ≡ None)
+    go true f = absurd cc
+    go false f = (refl, f)
+
+row-new : (e : Entry) (es : List Entry) → row_at es e.path ≡ None → row_at (put e es) e.path ≡ Some e.row
+row-new e [] h = ap (λ t. cond t (Some e.row) None) (same-itself e.path)
+row-new e (x ∷ es) h = go (is_before e.path x.path) (row-new e es (apart x es e.path h).1)
+  where
+    go : (b : Bool) → row_at (put e es) e.path ≡ Some e.row → row_at (cond b (e ∷ x ∷ es) (x ∷ put e es)) e.path ≡ Some e.row
+    go true rest = ap (λ t. cond t (Some e.row) (row_at (x ∷ es) e.path)) (same-itself e.path)
+    go false rest = ap (λ t. cond t (Some x.row) (row_at (put e es) e.path)) (apart x es e.path h).0 ∙ rest
+
+row-other : (e : Entry) (es : List Entry) (q : List (List ℕ)) → same_path e.path q ≡ false → row_at (put e es) q ≡ row_at es q
+row-other e [] q h = ap (λ t. cond t (Some e.row) None) h
+row-other e (x ∷ es) q h = go (is_before e.path x.path) (row-other e es q h)
+  where
+    go : (b : Bool) → row_at (put e es) q ≡ row_at es q → row_at (cond b (e ∷ x ∷ es) (x ∷ put e es)) q ≡ row_at (x ∷ es) q
+    go true rest = ap (λ t. cond t (Some e.row) (row_at (x ∷ es) q)) h
+    go false rest = ap (λ o. cond (same_path x.path q) (Some x.row) o) rest
+
+no-zone : (e : Entry) (q : List (List ℕ)) → is_marked e.row ≡ false → is_zone_over q e ≡ false
+no-zone e q h = ap (λ b. b && is_prefix e.path q) h
+
+-- a row without a mark is no zone
+zone-same : (e : Entry) (es : List Entry) (q : List (List ℕ)) → is_marked e.row ≡ false → zone_of (put e es) q ≡ zone_of es q
+zone-same e [] q h = ap (λ b. cond b (Some e) None) (no-zone e q h)
+zone-same e (x ∷ es) q h = go (is_before e.path x.path) (zone-same e es q h)
+  where
+    go : (b : Bool) → zone_of (put e es) q ≡ zone_of es q → zone_of (cond b (e ∷ x ∷ es) (x ∷ put e es)) q ≡ zone_of (x ∷ es) q
+    go true rest = ap (λ b. cond b (Some (longer e (zone_of (x ∷ es) q))) (zone_of (x ∷ es) q)) (no-zone e q h)
+    go false rest = ap (λ o. cond (is_zone_over q x) (Some (longer x o)) o) rest
+
+none-below : (b : Bool) → (b && false) ≡ false
+none-below true = refl
+none-below false = refl
+
+-- what lies above a path, but is not it, lies at or above its directory
+prefix-parent : (q p : List (List ℕ)) → same_path q p ≡ false → is_prefix q p ≡ is_prefix q (parent p)
+prefix-parent [] p h = refl
+prefix-parent (x ∷ q) [] h = refl
+prefix-parent (x ∷ []) (y ∷ []) h = h
+prefix-parent (x ∷ z ∷ q) (y ∷ []) h = none-below (bytes_eq x y)
+prefix-parent (x ∷ q) (y ∷ z ∷ p) h = go (bytes_eq x y) h (prefix-parent q (z ∷ p))
+  where
+    go : (b : Bool) → (b && same_path q (z ∷ p)) ≡ false → (same_path q (z ∷ p) ≡ false → is_prefix q (z ∷ p) ≡ is_prefix q (parent (z ∷ p)))
+        → (b && is_prefix q (z ∷ p)) ≡ (b && is_prefix q (parent (z ∷ p)))
+    go true h rest = rest h
+    go false h rest = refl
+
+zone-above : (es : List Entry) (p : List (List ℕ)) → row_at es p ≡ None → zone_of es p ≡ zone_of es (parent p)
+zone-above [] p h = refl
+zone-above (x ∷ es) p h =
+    let over : is_zone_over p x ≡ is_zone_over (parent p) x = ap (λ b. is_marked x.row && b) (prefix-parent x.path p (apart x es p h).0) in
+    let rest = zone-above es p (apart x es p h).1 in
+    λ i. cond (over i) (Some (longer x (rest i))) (rest i)
+
+-- what is told is the definition's reply, but for want of memory
+told-by : (s : NameState) (p : List (List ℕ)) (told : NameReply) (s' : NameState) → NameActs s (call.Info p) told s' → (told ≡ Refused NoMemory) ⊎ (told ≡ info_reply s.table.rows p)
+told-by s p told s' (NoRoom, may, is) = inl (ap (λ o. o.told) is)
+told-by s p told s' (Plain, may, is) = inr (go (row_at s.table.rows p) is)
+  where
+    go : (o : Option Row) → (record { told = told; state = s' }) ≡ unless_refused (cond (is_none o) (Some NoSuchPath) None) s (record { answer = shown_at (path_of_zone s.table.rows p) o; state = s })
+        → told ≡ shown_at (path_of_zone s.table.rows p) o
+    go None is = ap (λ o. o.told) is
+    go (Some row) is = ap (λ o. o.told) is
+
+pub made_is_told : MadeIsTold
+made_is_told s p s' told s'' did asked = go (told-by s' p told s'' asked)
+  where
+    absent : row_at s.table.rows p ≡ None
+    absent = was-absent s p (done-by s p s' did).0
+
+    zone_is : path_of_zone (put (new_directory s p) s.table.rows) p ≡ path_of_zone s.table.rows (parent p)
+    zone_is = ap (option_map (λ e. e.path)) (zone-same (new_directory s p) s.table.rows p refl ∙ zone-above s.table.rows p absent)
+
+    go : (told ≡ Refused NoMemory) ⊎ (told ≡ info_reply s'.table.rows p) → (told ≡ Refused NoMemory) ⊎ (told ≡ shown_at (path_of_zone s.table.rows (parent p)) (Some (new_directory s p).row))
+    go (inl wanting) = inl wanting
+    go (inr is) = inr (is ∙ ap (λ (t : NameState). info_reply t.table.rows p) (done-by s p s' did).1 ∙ (λ i. shown_at (zone_is i) (row-new (new_directory s p) s.table.rows absent i)))
+
+other : (p q : List (List ℕ)) → (q ≡ p → ⊥) → same_path p q ≡ false
+other p q h = go (same_path p q) refl
+  where
+    go : (t : Bool) → same_path p q ≡ t → t ≡ false
+    go true e = absurd (h (sym (same-is p q e)))
+    go false e = refl
+
+pub others_stay : OthersStay
+others_stay s p s' q did apart =
+    ap (λ (t : NameState). info_reply t.table.rows q) (done-by s p s' did).1
+    ∙ (λ i. shown_at (option_map (λ e. e.path) (zone-same (new_directory s p) s.table.rows q refl i)) (row-other (new_directory s p) s.table.rows q (other p q apart) i))
+
+pub ids_rise : IdsRise
+ids_rise s p s' did = subst (λ (t : NameState). next_id s < next_id t) (sym (done-by s p s' did).1) (omega arith)
+
+pub start_below : IdsBelowNext first_state
+start_below = All-cons (BelowId (next_id first_state)) _ [] (omega arith) (All-nil (BelowId (next_id first_state)))
+
+deed-below : (s : NameState) (c : NameCall) → IdsBelowNext s → IdsBelowNext (deed s c).state
+deed-below s (call.Mkdir p) below = below-put (new_directory s p) s.table.rows (next_id s) (next_id (made s p)) refl (omega arith) below
+deed-below s (call.Info p) below = below
+
+moved-below : (s s' : NameState) → s' ≡ s → IdsBelowNext s → IdsBelowNext s'
+moved-below s s' is below = subst (λ (t : NameState). All (BelowId (next_id t)) t.table.rows) (sym is) below
+
+pub ids_stay_below : IdsStayBelow
+ids_stay_below s c told s' (NoRoom, may, is) below = moved-below s s' (ap (λ o. o.state) is) below
+ids_stay_below s c told s' (Plain, may, is) below = go (first_cause (causes s c)) is
+  where
+    go : (o : Option NameRefusal) → (record { told = told; state = s' }) ≡ unless_refused o s (deed s c) → IdsBelowNext s'
+    go (Some why) is = moved-below s s' (ap (λ o. o.state) is) below
+    go None is = moved-below (deed s c).state s' (ap (λ o. o.state) is) (deed-below s c below)

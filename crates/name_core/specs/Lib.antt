@@ -1,0 +1,4 @@
+pub mod Calls
+pub mod Laws
+pub mod State
+pub mod Steps
