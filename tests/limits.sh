@@ -31,6 +31,25 @@ yes 'kms a metadata k' | head -n 10000 | expect 'the last event' 0 '10000 refuse
 yes 'kms a metadata k' | head -n 10001 | expect 'an event too many' 3 'line 10001 refused'
 yes '# nothing' | head -n 100000 | expect 'many quiet lines' 0 ''
 
+# repeat_name LENGTH COUNT: a path of so many names, each of so many letters
+repeat_name() {
+    local name
+    name=/$(repeat a "$1")
+    for ((i = 0; i < $2; i++)); do
+        printf '%s' "$name"
+    done
+}
+
+{ printf 'nn a mkdir '; repeat_name 255 1; } | expect 'the longest name of a path' 0 '1 done'
+{ printf 'nn a mkdir '; repeat_name 256 1; } | expect 'a name of a path too long' 0 '1 refused N1 BadPath'
+{ printf 'nn a mkdir '; repeat_name 79 100; } | expect 'the longest path' 0 '1 refused N2 NoSuchPath'
+{ printf 'nn a mkdir '; repeat_name 79 100; printf a; } | expect 'a path too long' 0 '1 refused N1 BadPath'
+{ printf 'nn a mkdir '; repeat_name 1 100; } | expect 'the deepest path' 0 '1 refused N2 NoSuchPath'
+{ printf 'nn a mkdir '; repeat_name 1 101; } | expect 'a path too deep' 0 '1 refused N1 BadPath'
+for ((i = 1; i < 10000; i++)); do
+    printf 'nn a mkdir /%s\n' "$i"
+done | { cat; echo 'nn a info /9999'; } | expect 'many directories' 0 '10000 dir 4294977295 - -'
+
 # Bytes that come one at a time are read as bytes that come together.
 while IFS= read -r -n 1 -d '' byte; do
     printf '%s' "$byte"

@@ -32,6 +32,17 @@ expect 'the decryption' 0 '1 version k@0 2b7e151628aed2a6abf7158809cf4f3c
 4 key 6bc1bee22e409f96e93d7e117393172a
 5 key e1eaa6798272d26e8cbeb663aa1b1b63'
 
+run replay <examples/namesystem.events
+expect 'the namesystem' 0 '1 dir 0 - -
+2 done
+3 done
+4 dir 4294967298 - -
+5 refused N3 Exists
+6 refused N2 NoSuchPath
+7 refused N2 NoSuchPath
+8 refused N1 BadPath
+9 refused K4 NoSuchKey'
+
 # Material that is drawn differs from run to run: all but its digits is compared.
 run_masked() {
     output=$("$hkms" replay <"$1" | sed -E 's/[0-9a-f]{32}/H/g'; exit "${PIPESTATUS[0]}")

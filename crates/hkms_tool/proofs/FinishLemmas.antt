@@ -1,10 +1,9 @@
 -- The last line behind the transcript.
-use Rattle.std.proofs.Common.{◌≡◌, ◌≢◌, ◌⊎◌, inl, inr, ℕ, ◌+◌, List, [], ◌∷◌, ◌++◌, length, refl, ap, sym, ◌∙◌, subst, Option, None, Some, append_assoc, append-nil, arith, codes}
-use Rattle.std.specs.Fmt.{decimal}
+use Rattle.std.proofs.Common.{◌≡◌, inl, inr, ℕ, ◌+◌, List, [], ◌∷◌, ◌++◌, length, refl, ap, sym, ◌∙◌, subst, Option, Some, append_assoc, append-nil}
 use Rattle.std.specs.Io.KnownBytes.{Appends}
 use Rattle.std.proofs.KnownBytes.{Appends-trans}
 use Rattle.hk_base.specs.Writing.{WroteFront}
-use Rattle.key_rows.specs.declared.calls.KmsReply.{KmsReply}
+use Rattle.world_run.specs.declared.event.Line.{Line}
 use Rattle.hkms_tool.specs.declared.replay.Ended.{Ended}
 use Rattle.hkms_tool.specs.declared.replay.Ended.TheVariants.{Done, BadLine, NoMemory, ReadFault, WriteFault}
 use Rattle.hkms_tool.specs.Transcript.{transcript}
@@ -16,7 +15,7 @@ finishes_bad ended count old new text how is line (inl h) = subst (λ (e : Ended
 finishes_bad ended count old new text how is line (inr h) = subst (λ (e : Ended). Finishes ended count old new e) (sym h.0) (inr (inl (is, subst (WroteFront old new) line h.1)))
 
 -- the lines that were played stand at the head of the text, whatever came next
-begun : (all : List ℕ) (lines : List (List ℕ)) (replies : List KmsReply) (text : List ℕ) (ended : Ended) → SaysSoFar all lines replies text ended → Starts all lines
+begun : (all : List ℕ) (lines : List (List ℕ)) (replies : List Line) (text : List ℕ) (ended : Ended) → SaysSoFar all lines replies text ended → Starts all lines
 begun all lines replies text Done says = ([], says.0 ∙ sym (append-nil lines))
 begun all lines replies text BadLine says = next says.0
   where
@@ -28,7 +27,7 @@ begun all lines replies text ReadFault says = says.0
 begun all lines replies text WriteFault says = says.0
 
 -- what was written is a front of the transcript
-front_of : (all : List ℕ) (lines : List (List ℕ)) (replies : List KmsReply) (text : List ℕ) (ended : Ended) → SaysSoFar all lines replies text ended → IsFront text (transcript 1 replies)
+front_of : (all : List ℕ) (lines : List (List ℕ)) (replies : List Line) (text : List ℕ) (ended : Ended) → SaysSoFar all lines replies text ended → IsFront text (transcript 1 replies)
 front_of all lines replies text Done says = ([], append-nil text ∙ says.1)
 front_of all lines replies text BadLine says = ([], append-nil text ∙ says.1)
 front_of all lines replies text NoMemory says = says.1
@@ -61,10 +60,10 @@ cut_last words left old mid new ended count last r wrote is =
     ))
 
 -- the transcript is whole where a line was refused or the input failed
-whole_bad : (all : List ℕ) (lines : List (List ℕ)) (replies : List KmsReply) (text : List ℕ) (ended : Ended) → ended ≡ BadLine → SaysSoFar all lines replies text ended → BadNext all lines (length replies) × (text ≡ transcript 1 replies)
+whole_bad : (all : List ℕ) (lines : List (List ℕ)) (replies : List Line) (text : List ℕ) (ended : Ended) → ended ≡ BadLine → SaysSoFar all lines replies text ended → BadNext all lines (length replies) × (text ≡ transcript 1 replies)
 whole_bad all lines replies text ended is says = subst (SaysSoFar all lines replies text) is says
 
-whole_fault : (all : List ℕ) (lines : List (List ℕ)) (replies : List KmsReply) (text : List ℕ) (ended : Ended) → ended ≡ ReadFault → SaysSoFar all lines replies text ended → Starts all lines × (text ≡ transcript 1 replies)
+whole_fault : (all : List ℕ) (lines : List (List ℕ)) (replies : List Line) (text : List ℕ) (ended : Ended) → ended ≡ ReadFault → SaysSoFar all lines replies text ended → Starts all lines × (text ≡ transcript 1 replies)
 whole_fault all lines replies text ended is says = subst (SaysSoFar all lines replies text) is says
 
 pub finished : (words : ℕ → ℕ) (left old mid new : Option (List ℕ)) (ended : Ended) (count : ℕ) (how : Ended) → Replayed words left old mid ended count → Finishes ended count mid new how → Replay words left old new how

@@ -1,15 +1,15 @@
 -- From the event of a line to the line.
-use Rattle.std.proofs.Common.{◌≡◌, ◌<◌, ◌≤◌, ◌⊎◌, inl, inr, ℕ, ◌+◌, List, [], ◌∷◌, ◌++◌, length, refl, ap, sym, ◌∙◌, subst, append-nil, arith, Option}
+use Rattle.std.proofs.Common.{◌<◌, ℕ, ◌+◌, List, [], ◌∷◌, sym, subst, append-nil}
 use Rattle.std.specs.Io.KnownBytes.{Appends}
 use Rattle.hk_base.specs.Writing.{WroteFront}
-use Rattle.hkms_tool.specs.declared.event.Event.{Event}
+use Rattle.world_run.specs.declared.event.Event.{Event}
 use Rattle.hkms_tool.specs.declared.stage.Play.{Play}
 use Rattle.hkms_tool.specs.declared.stage.Play.TheVariants.{Played, BadLine, Unread, Untold, Unwritten}
 use Rattle.hkms_tool.specs.Events.{Spells, most_events}
 use Rattle.hkms_tool.specs.Transcript.{line_text}
 use Rattle.hkms_tool.specs.Steps.{View, PlaysSo, EventPlaysSo, PlaysLine, PlaysEvent}
 
-plays_line : (old : View) (line : List ℕ) (event : Event) (new : View) → old.events < most_events → Spells line event → PlaysEvent old event.call new → PlaysLine old line new
+plays_line : (old : View) (line : List ℕ) (event : Event) (new : View) → old.events < most_events → Spells line event → PlaysEvent old event new → PlaysLine old line new
 plays_line old line event new few spells plays = record {
   replies = plays.reply ∷ [];
   drawn = plays.drawn;
@@ -18,7 +18,7 @@ plays_line old line event new few spells plays = record {
   counted = plays.counted;
 }
 
-pub event_line : (old : View) (line : List ℕ) (event : Event) (result : Play) (new : View) → old.events < most_events → Spells line event → EventPlaysSo old event.call result new → PlaysSo old line result new
+pub event_line : (old : View) (line : List ℕ) (event : Event) (result : Play) (new : View) → old.events < most_events → Spells line event → EventPlaysSo old event result new → PlaysSo old line result new
 unfolding plays_line
 event_line old line event Played new few spells plays =
     (plays_line old line event new few spells plays.0, subst (Appends old.written new.written) (sym (append-nil (line_text (old.events + 1) plays.0.reply))) plays.1)

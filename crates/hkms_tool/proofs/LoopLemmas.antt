@@ -1,14 +1,16 @@
 -- What was read, played and written so far.
-use Rattle.std.proofs.Common.{◌≡◌, ◌⊎◌, inl, inr, ℕ, ◌+◌, ◌<◌, ◌≤◌, ◌^◌, suc, List, [], ◌∷◌, ◌++◌, length, take, refl, ap, sym, ◌∙◌, subst, IsTrue, true, Option, None, Some, arith, append_assoc, append-nil, length-append}
+use Rattle.std.proofs.Common.{◌≡◌, inl, inr, ℕ, ◌+◌, ◌<◌, ◌≤◌, ◌^◌, List, [], ◌∷◌, ◌++◌, length, take, refl, ap, sym, ◌∙◌, subst, IsTrue, true, Option, None, Some, arith, append_assoc, append-nil, length-append}
 use Rattle.std.specs.List.{list_all, count_by}
 use Rattle.std.specs.Io.KnownBytes.{Appends, Consumes, IsAtEnd, prepend_known}
 use Rattle.std.proofs.KnownBytes.{Appends-trans, Appends-nil, Consumes-trans}
 use Rattle.std.proofs.Math.Seq.{take-append_seam}
 use Rattle.hk_base.specs.Reading.{IsMore}
 use Rattle.hk_base.specs.Writing.{WroteFront}
-use Rattle.key_rows.specs.declared.calls.KmsReply.{KmsReply}
-use Rattle.kms_core.specs.State.{KmsState, first_state}
-use Rattle.kms_core.specs.Calls.{KmsActs}
+use Rattle.world_run.specs.declared.event.Line.{Line}
+use Rattle.world_run.specs.World.{WorldState, first_world}
+use Rattle.world_run.specs.Step.{Step}
+use Rattle.world_run.specs.declared.event.Event.{Event}
+use Rattle.world_run.specs.declared.event.Event.TheVariants.{Kms, Mkdir, Info}
 use Rattle.hkms_tool.specs.declared.replay.Ended.{Ended}
 use Rattle.hkms_tool.specs.declared.replay.Ended.TheVariants as ended
 use Rattle.hkms_tool.specs.Lines.{is_line, is_lf, lines_of, text_of}
@@ -16,7 +18,7 @@ use Rattle.hkms_tool.specs.Events.{IsBad, IsRefused, Spells, longest_line, most_
 use Rattle.hkms_tool.specs.Transcript.{transcript, line_text}
 use Rattle.hkms_tool.specs.Run.{Played, behind, Run}
 use Rattle.hkms_tool.specs.Steps.{View, PlaysLine, LineActs}
-use Rattle.hkms_tool.specs.Replay.{Replayed, SaysSoFar, Starts, BadNext, IsFront, IsPast, longest_input}
+use Rattle.hkms_tool.specs.Replay.{Replayed, SaysSoFar, Starts, IsFront, longest_input}
 use Rattle.hkms_tool.proofs.SplitLemmas.{split_text, split_last, split_on, split_ended, parts, text_more, whole_more, count_lf}
 use Rattle.hkms_tool.proofs.RunLemmas.{run_more, events_quiet, events_more, transcript_more, length_run}
 
@@ -35,7 +37,7 @@ pub record Stand : Type 0 where
 
 pub record SoFar (b : Begin) (s : Stand) : Type 0 where
   pub lines : List (List ℕ)
-  pub replies : List KmsReply
+  pub replies : List Line
   pub drawn : ℕ
   pub played : Played b.words lines replies s.view.state drawn
   pub rest : (k : ℕ) → s.view.words k ≡ behind drawn b.words k
@@ -46,7 +48,7 @@ pub record SoFar (b : Begin) (s : Stand) : Type 0 where
   pub used_is : s.used ≡ length (text_of lines)
   pub wrote : Appends b.written s.view.written (transcript 1 replies)
 
-pub nothing_yet : (b : Begin) (s : Stand) → s.view.state ≡ first_state → ((k : ℕ) → s.view.words k ≡ b.words k) → s.view.events ≡ 0 → s.count ≡ 0 → s.used ≡ 0 → Consumes b.left s.ahead [] → Appends b.written s.view.written [] → SoFar b s
+pub nothing_yet : (b : Begin) (s : Stand) → s.view.state ≡ first_world → ((k : ℕ) → s.view.words k ≡ b.words k) → s.view.events ≡ 0 → s.count ≡ 0 → s.used ≡ 0 → Consumes b.left s.ahead [] → Appends b.written s.view.written [] → SoFar b s
 nothing_yet b s start words events count used consumed wrote = record {
   lines = [];
   replies = [];
@@ -62,7 +64,7 @@ nothing_yet b s start words events count used consumed wrote = record {
 }
 
 -- the lines with one more are played
-pub played_more : (words : ℕ → ℕ) (old : View) (lines : List (List ℕ)) (replies : List KmsReply) (drawn : ℕ) (line : List ℕ) (here : List KmsReply) (new : KmsState) (more : ℕ)
+pub played_more : (words : ℕ → ℕ) (old : View) (lines : List (List ℕ)) (replies : List Line) (drawn : ℕ) (line : List ℕ) (here : List Line) (new : WorldState) (more : ℕ)
     → Played words lines replies old.state drawn → ((k : ℕ) → old.words k ≡ behind drawn words k) → old.events ≡ length replies → LineActs old line here new more
     → Played words (lines ++ line ∷ []) (replies ++ here) new (drawn + more)
 played_more words old lines replies drawn line [] new more before rest numbered acts =
@@ -72,31 +74,31 @@ played_more words old lines replies drawn line [] new more before rest numbered 
       events = before.events;
       spelled = events_quiet lines before.events line before.spelled acts.0;
       few = before.few;
-      run = subst (λ (rs : List KmsReply). Run first_state words 1 before.events rs new (drawn + more)) (sym (append-nil replies))
-          (subst (λ (s : KmsState). Run first_state words 1 before.events replies s (drawn + more)) (sym same)
-          (subst (λ (t : ℕ). Run first_state words 1 before.events replies old.state t) none before.run));
+      run = subst (λ (rs : List Line). Run first_world words 1 before.events rs new (drawn + more)) (sym (append-nil replies))
+          (subst (λ (s : WorldState). Run first_world words 1 before.events replies s (drawn + more)) (sym same)
+          (subst (λ (t : ℕ). Run first_world words 1 before.events replies old.state t) none before.run));
     }
 played_more words old lines replies drawn line (reply ∷ []) new more before rest numbered acts =
     let words_path : old.words ≡ behind drawn words = λ i k. rest k i in
-    let each : length before.events ≡ length replies = length_run first_state words 1 before.events replies old.state drawn before.run in
+    let each : length before.events ≡ length replies = length_run first_world words 1 before.events replies old.state drawn before.run in
     let room : old.events < most_events = acts.2 in
     record {
       events = before.events ++ acts.0 ∷ [];
       spelled = events_more lines before.events line acts.0 before.spelled acts.1;
       few = omega (arith, length-append before.events (acts.0 ∷ []), each, numbered, room);
-      run = run_more first_state words 1 before.events replies old.state drawn acts.0 reply new more (old.events + 1) before.run (omega arith)
-          (subst (λ (w : ℕ → ℕ). KmsActs old.state w (old.events + 1) acts.0.call reply more new) words_path acts.3);
+      run = run_more first_world words 1 before.events replies old.state drawn acts.0 reply new more (old.events + 1) before.run (omega arith)
+          (subst (λ (w : ℕ → ℕ). Step old.state w (old.events + 1) acts.0 reply more new) words_path acts.3);
     }
 played_more words old lines replies drawn line (reply ∷ other ∷ here) new more before rest numbered acts = absurd acts
 
 -- the transcript with the replies to one more line
-transcript_here : (replies here : List KmsReply) (old : View) (line : List ℕ) (new : KmsState) (more : ℕ) → LineActs old line here new more → old.events ≡ length replies → transcript 1 (replies ++ here) ≡ transcript 1 replies ++ transcript (old.events + 1) here
+transcript_here : (replies here : List Line) (old : View) (line : List ℕ) (new : WorldState) (more : ℕ) → LineActs old line here new more → old.events ≡ length replies → transcript 1 (replies ++ here) ≡ transcript 1 replies ++ transcript (old.events + 1) here
 transcript_here replies [] old line new more acts numbered = ap (transcript 1) (append-nil replies) ∙ sym (append-nil (transcript 1 replies))
 transcript_here replies (reply ∷ []) old line new more acts numbered =
     transcript_more 1 replies reply ∙ ap (λ n. transcript 1 replies ++ line_text n reply) (omega arith) ∙ ap (λ l. transcript 1 replies ++ l) (sym (append-nil (line_text (old.events + 1) reply)))
 transcript_here replies (reply ∷ other ∷ here) old line new more acts numbered = absurd acts
 
-pub few_replies : (old : View) (line : List ℕ) (here : List KmsReply) (new : KmsState) (more : ℕ) → LineActs old line here new more → length here ≤ 1
+pub few_replies : (old : View) (line : List ℕ) (here : List Line) (new : WorldState) (more : ℕ) → LineActs old line here new more → length here ≤ 1
 few_replies old line [] new more acts = omega arith
 few_replies old line (reply ∷ []) new more acts = omega arith
 few_replies old line (reply ∷ other ∷ here) new more acts = absurd acts
@@ -173,7 +175,7 @@ pub read_fault : (b : Begin) (s : Stand) → SoFar b s → Replayed b.words b.le
 read_fault b s so = stops b s s.view.written ended.ReadFault so (Appends-nil _) (λ all told. (starts b s so all told, refl))
 
 -- the line comes after as many events as there are replies
-refused_here : (events : ℕ) (replies : List KmsReply) (line : List ℕ) → events ≡ length replies → IsRefused events line → IsRefused (length replies) line
+refused_here : (events : ℕ) (replies : List Line) (line : List ℕ) → events ≡ length replies → IsRefused events line → IsRefused (length replies) line
 refused_here events replies line numbered bad = subst (λ (n : ℕ). IsRefused n line) numbered bad
 
 pub bad_line : (b : Begin) (s : Stand) (line : List ℕ) (ahead written : Option (List ℕ)) → SoFar b s → is_line line ≡ true → Consumes s.ahead ahead (line ++ 10 ∷ []) → IsRefused s.view.events line → Appends s.view.written written []
@@ -189,11 +191,16 @@ bad_last b s line ahead written so is consumed end bad wrote =
     stops b s written ended.BadLine so wrote (λ all told.
     (inl (line, [], last_is b s line ahead so is consumed end all told, refused_here s.view.events so.replies line so.numbered bad), refl))
 
+spells_short : (line : List ℕ) (event : Event) → Spells line event → length line ≤ longest_line
+spells_short line (Kms user call) spells = spells.short
+spells_short line (Mkdir user path) spells = spells.short
+spells_short line (Info user path) spells = spells.short
+
 too_long_is_bad : (line : List ℕ) → longest_line < length line → IsBad line
 too_long_is_bad [] long = absurd (omega arith)
 too_long_is_bad (b ∷ bs) long = record {
   not_quiet = λ quiet. absurd (omega (arith, quiet.1));
-  no_event = λ event spells. absurd (omega (arith, spells.short));
+  no_event = λ event spells. absurd (omega (arith, spells_short (b ∷ bs) event spells));
 }
 
 pub too_long : (b : Begin) (s : Stand) (line : List ℕ) (ahead : Option (List ℕ)) → SoFar b s → is_line line ≡ true → Consumes s.ahead ahead line → length line ≡ 1048577
@@ -256,11 +263,11 @@ begins_last : (b : Begin) (s : Stand) (line : List ℕ) (ahead : Option (List �
 begins_last b s line ahead so is consumed end all told = ([], last_is b s line ahead so is consumed end all told ∙ sym (append-nil (so.lines ++ line ∷ [])))
 
 -- nothing of the answer was written
-untold : (replies : List KmsReply) (here told : List ℕ) → told ≡ transcript 1 replies ++ here → IsFront (transcript 1 replies ++ []) told
+untold : (replies : List Line) (here told : List ℕ) → told ≡ transcript 1 replies ++ here → IsFront (transcript 1 replies ++ []) told
 untold replies here told is = (here, ap (λ t. t ++ here) (append-nil (transcript 1 replies)) ∙ sym is)
 
 -- a front of the answer was written
-unwritten : (replies : List KmsReply) (here front more told : List ℕ) → front ++ more ≡ here → told ≡ transcript 1 replies ++ here → IsFront (transcript 1 replies ++ front) told
+unwritten : (replies : List Line) (here front more told : List ℕ) → front ++ more ≡ here → told ≡ transcript 1 replies ++ here → IsFront (transcript 1 replies ++ front) told
 unwritten replies here front more told whole is = (more, append_assoc (transcript 1 replies) front more ∙ ap (λ l. transcript 1 replies ++ l) whole ∙ sym is)
 
 pub untold_line : (b : Begin) (s : Stand) (line : List ℕ) (new : View) (ahead : Option (List ℕ)) → SoFar b s → PlaysLine s.view line new → Appends s.view.written new.written []
@@ -302,5 +309,5 @@ end_of bytes (Some xs) end = nothing xs (omega (arith, ap length end, length-app
 pub first_stop : (words : ℕ → ℕ) (left written : Option (List ℕ)) → Replayed words left written written ended.NoMemory 0
 first_stop words left written =
     let b : Begin = record { words = words; left = left; written = written } in
-    let s : Stand = record { view = record { state = first_state; words = words; events = 0; written = written }; ahead = prepend_known [] left; used = 0; count = 0 } in
+    let s : Stand = record { view = record { state = first_world; words = words; events = 0; written = written }; ahead = prepend_known [] left; used = 0; count = 0 } in
     no_memory b s written (nothing_yet b s refl (λ k. refl) refl refl refl (first_ahead left) (Appends-nil written)) (Appends-nil written)

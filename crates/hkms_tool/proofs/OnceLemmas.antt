@@ -1,16 +1,16 @@
 -- A line spells one event at most.
-use Rattle.std.proofs.Common.{◌≡◌, ◌⊎◌, ℕ, ◌+◌, ◌<◌, ◌≤◌, ◌^◌, List, [], ◌∷◌, ◌++◌, length, subst, Bool, true, false, ◌&&◌, ◌==◌, nat_lt, nat_le, Option, None, Some, Ok, Result, refl, ap, ap₂, sym, ◌∙◌, arith, append_assoc, codes}
+use Rattle.std.proofs.Common.{◌≡◌, ℕ, ◌<◌, ◌^◌, List, [], ◌∷◌, ◌++◌, length, subst, true, ◌&&◌, nat_lt, nat_le, Option, None, Some, Ok, refl, ap, ap₂, sym, ◌∙◌, arith, append_assoc, codes}
 use Rattle.std.specs.List.{list_all, onto_first}
 use Rattle.std.specs.Fmt.{decimal}
-use Rattle.hex.specs.Hex.{decode_of}
 use Rattle.percent_encoding.specs.Percent.{percent_decode}
 use Rattle.hk_base.specs.Names.{IsKeyName, is_name_byte, version_text}
 use Rattle.hk_base.proofs.Versions.{decimal_once}
 use Rattle.key_rows.specs.declared.calls.RawEdek.{RawEdek}
 use Rattle.key_rows.specs.declared.calls.KmsCall.{KmsCall}
 use Rattle.key_rows.specs.declared.calls.KmsCall.TheVariants.{Create, Roll, Metadata, Generate, Decrypt}
-use Rattle.hkms_tool.specs.declared.event.Event.{Event}
-use Rattle.hkms_tool.specs.Events.{fields_of, IsMaterial, IsQuiet, Spells, SpellsCall, SpellsMaterial, SpellsCreate, SpellsRoll, SpellsMetadata, SpellsGenerate, SpellsDecrypt}
+use Rattle.world_run.specs.declared.event.Event.{Event}
+use Rattle.world_run.specs.declared.event.Event.TheVariants.{Kms, Mkdir, Info}
+use Rattle.hkms_tool.specs.Events.{fields_of, IsMaterial, IsQuiet, Spells, SpellsCall, SpellsKms, SpellsPath, IsUser, IsPath, SpellsMaterial, SpellsCreate, SpellsRoll, SpellsMetadata, SpellsGenerate, SpellsDecrypt}
 use Rattle.hkms_tool.proofs.SplitLemmas.{both}
 
 -- versions
@@ -133,24 +133,80 @@ call_once fields (Decrypt m a) (Decrypt n b) x y = sent_once fields m n a b x y
 
 -- lines
 
-pub spelled_once : (line : List ℕ) (a b : Event) → Spells line a → Spells line b → a ≡ b
-spelled_once line a b x y =
+user_once : (f g user other : List ℕ) → f ≡ g → IsUser f user → IsUser g other → user ≡ other
+user_once f g user other field x y = sym x.decoded ∙ ap percent_decode field ∙ y.decoded
+
+path_once : (f g path other : List ℕ) → f ≡ g → IsPath f path → IsPath g other → path ≡ other
+path_once f g path other field x y = sym x.decoded ∙ ap percent_decode field ∙ y.decoded
+
+kms_once : (line user other : List ℕ) (c d : KmsCall) → SpellsKms line user c → SpellsKms line other d → Kms user c ≡ Kms other d
+kms_once line user other c d x y =
     let same = sym x.fields ∙ y.fields in
     let user_field : x.user_field ≡ y.user_field = cc in
     let call_fields : x.call_fields ≡ y.call_fields = cc in
-    let user : a.user ≡ b.user = sym x.user.decoded ∙ ap percent_decode user_field ∙ y.user.decoded in
-    let call : a.call ≡ b.call = call_once y.call_fields a.call b.call (subst (λ (fs : List (List ℕ)). SpellsCall fs a.call) call_fields x.call) y.call in
-    λ i. record { user = user i; call = call i }
+    let who : user ≡ other = user_once x.user_field y.user_field user other user_field x.user_is y.user_is in
+    let call : c ≡ d = call_once y.call_fields c d (subst (λ (fs : List (List ℕ)). SpellsCall fs c) call_fields x.call_is) y.call_is in
+    λ i. Kms (who i) (call i)
+
+-- two lines of one verb speak of one user and one path
+same_path : (verb line user other path also : List ℕ) → SpellsPath verb line user path → SpellsPath verb line other also → (user ≡ other) × (path ≡ also)
+same_path verb line user other path also x y =
+    let same = sym x.fields ∙ y.fields in
+    let user_field : x.user_field ≡ y.user_field = cc in
+    let path_field : x.path_field ≡ y.path_field = cc in
+    (user_once x.user_field y.user_field user other user_field x.user_is y.user_is, path_once x.path_field y.path_field path also path_field x.path_is y.path_is)
+
+not_nn : codes "kms" ≡ codes "nn" → ⊥
+not_nn e = cc
+
+other_service : {A : Type 0} (verb line user other path : List ℕ) (call : KmsCall) → SpellsKms line user call → SpellsPath verb line other path → A
+other_service verb line user other path call x y = other_verb (fields_of line) (x.user_field ∷ x.call_fields) (y.user_field ∷ verb ∷ y.path_field ∷ []) (codes "kms") (codes "nn") not_nn x.fields y.fields
+
+verbs_differ : codes "mkdir" ≡ codes "info" → ⊥
+verbs_differ e = cc
+
+other_path_verb : {A : Type 0} (verb second line user other path also : List ℕ) → (verb ≡ second → ⊥) → SpellsPath verb line user path → SpellsPath second line other also → A
+other_path_verb verb second line user other path also apart x y =
+    let same = sym x.fields ∙ y.fields in
+    let is : verb ≡ second = cc in
+    absurd (apart is)
+
+pub spelled_once : (line : List ℕ) (a b : Event) → Spells line a → Spells line b → a ≡ b
+spelled_once line (Kms user c) (Kms other d) x y = kms_once line user other c d x y
+spelled_once line (Kms user c) (Mkdir other path) x y = other_service (codes "mkdir") line user other path c x y
+spelled_once line (Kms user c) (Info other path) x y = other_service (codes "info") line user other path c x y
+spelled_once line (Mkdir user path) (Kms other d) x y = other_service (codes "mkdir") line other user path d y x
+spelled_once line (Mkdir user path) (Mkdir other also) x y =
+    let same = same_path (codes "mkdir") line user other path also x y in λ i. Mkdir (same.0 i) (same.1 i)
+spelled_once line (Mkdir user path) (Info other also) x y = other_path_verb (codes "mkdir") (codes "info") line user other path also verbs_differ x y
+spelled_once line (Info user path) (Kms other d) x y = other_service (codes "info") line other user path d y x
+spelled_once line (Info user path) (Mkdir other also) x y = other_path_verb (codes "mkdir") (codes "info") line other user also path verbs_differ y x
+spelled_once line (Info user path) (Info other also) x y =
+    let same = same_path (codes "info") line user other path also x y in λ i. Info (same.0 i) (same.1 i)
 
 -- the first byte of a line begins its first field
 first_byte : (b c : ℕ) (fields : List (List ℕ)) (more : List ℕ) (rest : List (List ℕ)) → onto_first b fields ≡ (c ∷ more) ∷ rest → b ≡ c
 first_byte b c [] more rest is = cc
 first_byte b c (f ∷ fs) more rest is = cc
 
--- a quiet line spells none: no field of it is `kms`
+none_of_empty : (c : ℕ) (more : List ℕ) (rest : List (List ℕ)) → fields_of [] ≡ (c ∷ more) ∷ rest → ⊥
+none_of_empty c more rest is = cc
+
+no_comment : (c : ℕ) (bs more : List ℕ) (rest : List (List ℕ)) (b : ℕ) → b ≡ 35 → fields_of (b ∷ bs) ≡ (c ∷ more) ∷ rest → 35 ≡ c
+no_comment c bs more rest b quiet is =
+    first_byte 35 c (fields_of bs) more rest (ap (λ d. fields_of (d ∷ bs)) (sym quiet) ∙ is)
+
+comment_is_not_kms : ◌≡◌ {A = ℕ} 35 107 → ⊥
+comment_is_not_kms is = omega (arith, is)
+
+comment_is_not_nn : ◌≡◌ {A = ℕ} 35 110 → ⊥
+comment_is_not_nn is = omega (arith, is)
+
+-- a quiet line spells none: no field of it is `kms` or `nn`
 pub quiet_spells_none : (line : List ℕ) (event : Event) → IsQuiet line → ¬ Spells line event
-quiet_spells_none [] event quiet = λ spells. let first : fields_of [] ≡ codes "kms" ∷ spells.user_field ∷ spells.call_fields = spells.fields in cc
-quiet_spells_none (b ∷ bs) event quiet = λ spells.
-    let comment : fields_of (35 ∷ bs) ≡ codes "kms" ∷ spells.user_field ∷ spells.call_fields = ap (λ c. fields_of (c ∷ bs)) (sym quiet.0) ∙ spells.fields in
-    let same : ◌≡◌ {A = ℕ} 35 107 = first_byte 35 107 (fields_of bs) (codes "ms") (spells.user_field ∷ spells.call_fields) comment in
-    absurd (omega arith)
+quiet_spells_none [] (Kms user call) quiet = λ x. none_of_empty 107 (codes "ms") (x.user_field ∷ x.call_fields) x.fields
+quiet_spells_none [] (Mkdir user path) quiet = λ x. none_of_empty 110 (codes "n") (x.user_field ∷ codes "mkdir" ∷ x.path_field ∷ []) x.fields
+quiet_spells_none [] (Info user path) quiet = λ x. none_of_empty 110 (codes "n") (x.user_field ∷ codes "info" ∷ x.path_field ∷ []) x.fields
+quiet_spells_none (b ∷ bs) (Kms user call) quiet = λ x. comment_is_not_kms (no_comment 107 bs (codes "ms") (x.user_field ∷ x.call_fields) b quiet.0 x.fields)
+quiet_spells_none (b ∷ bs) (Mkdir user path) quiet = λ x. comment_is_not_nn (no_comment 110 bs (codes "n") (x.user_field ∷ codes "mkdir" ∷ x.path_field ∷ []) b quiet.0 x.fields)
+quiet_spells_none (b ∷ bs) (Info user path) quiet = λ x. comment_is_not_nn (no_comment 110 bs (codes "n") (x.user_field ∷ codes "info" ∷ x.path_field ∷ []) b quiet.0 x.fields)

@@ -1,10 +1,9 @@
 -- A run that goes on.
-use Rattle.std.proofs.Common.{◌≡◌, ◌⊎◌, inl, inr, ℕ, ◌+◌, suc, List, [], ◌∷◌, ◌++◌, length, refl, ap, sym, ◌∙◌, subst, append_assoc, append-nil, arith, length-append}
-use Rattle.key_rows.specs.declared.calls.KmsReply.{KmsReply}
-use Rattle.key_rows.specs.declared.calls.KmsCall.{KmsCall}
-use Rattle.kms_core.specs.State.{KmsState}
-use Rattle.kms_core.specs.Calls.{KmsActs}
-use Rattle.hkms_tool.specs.declared.event.Event.{Event}
+use Rattle.std.proofs.Common.{◌≡◌, inl, inr, ℕ, ◌+◌, suc, List, [], ◌∷◌, ◌++◌, length, refl, ap, sym, ◌∙◌, subst, append_assoc, append-nil, arith}
+use Rattle.world_run.specs.declared.event.Line.{Line}
+use Rattle.world_run.specs.World.{WorldState}
+use Rattle.world_run.specs.Step.{Step}
+use Rattle.world_run.specs.declared.event.Event.{Event}
 use Rattle.hkms_tool.specs.Events.{IsQuiet, Spells}
 use Rattle.hkms_tool.specs.Transcript.{transcript, line_text}
 use Rattle.hkms_tool.specs.Run.{behind, Events, Run}
@@ -19,35 +18,35 @@ events_more [] events line event before spells = inr (event, [], spells, refl, a
 events_more (l ∷ lines) events line event (inl h) spells = inl (h.0, events_more lines events line event h.1 spells)
 events_more (l ∷ lines) events line event (inr h) spells = inr (h.0, h.1 ++ event ∷ [], h.2, events_more lines h.1 line event h.3 spells, ap (λ es. es ++ event ∷ []) h.4)
 
-same_step : (a b : KmsState) (u v : ℕ → ℕ) (m n : ℕ) (call : KmsCall) (reply : KmsReply) (drawn : ℕ) (new : KmsState) → a ≡ b → ((k : ℕ) → u k ≡ v k) → m ≡ n → KmsActs a u m call reply drawn new → KmsActs b v n call reply drawn new
-same_step a b u v m n call reply drawn new state words number step =
+same_step : (a b : WorldState) (u v : ℕ → ℕ) (m n : ℕ) (event : Event) (reply : Line) (drawn : ℕ) (new : WorldState) → a ≡ b → ((k : ℕ) → u k ≡ v k) → m ≡ n → Step a u m event reply drawn new → Step b v n event reply drawn new
+same_step a b u v m n event reply drawn new state words number step =
     let words_path : u ≡ v = λ i k. words k i in
-    subst (λ (x : KmsState). KmsActs x v n call reply drawn new) state (subst (λ (x : ℕ → ℕ). KmsActs a x n call reply drawn new) words_path (subst (λ (x : ℕ). KmsActs a u x call reply drawn new) number step))
+    subst (λ (x : WorldState). Step x v n event reply drawn new) state (subst (λ (x : ℕ → ℕ). Step a x n event reply drawn new) words_path (subst (λ (x : ℕ). Step a u x event reply drawn new) number step))
 
-pub run_more : (old : KmsState) (words : ℕ → ℕ) (number : ℕ) (events : List Event) (replies : List KmsReply) (mid : KmsState) (drawn : ℕ) (event : Event) (reply : KmsReply) (new : KmsState) (more last : ℕ)
-    → Run old words number events replies mid drawn → last ≡ number + length replies → KmsActs mid (behind drawn words) last event.call reply more new
+pub run_more : (old : WorldState) (words : ℕ → ℕ) (number : ℕ) (events : List Event) (replies : List Line) (mid : WorldState) (drawn : ℕ) (event : Event) (reply : Line) (new : WorldState) (more last : ℕ)
+    → Run old words number events replies mid drawn → last ≡ number + length replies → Step mid (behind drawn words) last event reply more new
     → Run old words number (events ++ event ∷ []) (replies ++ reply ∷ []) new (drawn + more)
 run_more old words number [] [] mid drawn event reply new more last run at step =
     let none : drawn ≡ 0 = run.1 in
-    let step0 : KmsActs old words number event.call reply more new =
-    same_step mid old (behind drawn words) words last number event.call reply more new run.0 (λ k. ap words (omega arith)) (omega arith) step in
+    let step0 : Step old words number event reply more new =
+    same_step mid old (behind drawn words) words last number event reply more new run.0 (λ k. ap words (omega arith)) (omega arith) step in
     (new, more, 0, step0, (refl, refl), omega arith)
 run_more old words number [] (r ∷ replies) mid drawn event reply new more last run at step = absurd run
 run_more old words number (e ∷ events) [] mid drawn event reply new more last run at step = absurd run
 run_more old words number (e ∷ events) (r ∷ replies) mid drawn event reply new more last run at step =
     let split : drawn ≡ run.1 + run.2 = run.5 in
-    let step1 : KmsActs mid (behind run.2 (behind run.1 words)) last event.call reply more new =
-    same_step mid mid (behind drawn words) (behind run.2 (behind run.1 words)) last last event.call reply more new refl (λ k. ap words (omega arith)) refl step in
+    let step1 : Step mid (behind run.2 (behind run.1 words)) last event reply more new =
+    same_step mid mid (behind drawn words) (behind run.2 (behind run.1 words)) last last event reply more new refl (λ k. ap words (omega arith)) refl step in
     (run.0, run.1, run.2 + more, run.3, run_more run.0 (behind run.1 words) (number + 1) events replies mid run.2 event reply new more last run.4 (omega arith) step1, omega arith)
 
 -- each event has a reply
-pub length_run : (old : KmsState) (words : ℕ → ℕ) (number : ℕ) (events : List Event) (replies : List KmsReply) (new : KmsState) (drawn : ℕ) → Run old words number events replies new drawn → length events ≡ length replies
+pub length_run : (old : WorldState) (words : ℕ → ℕ) (number : ℕ) (events : List Event) (replies : List Line) (new : WorldState) (drawn : ℕ) → Run old words number events replies new drawn → length events ≡ length replies
 length_run old words number [] [] new drawn run = refl
 length_run old words number [] (r ∷ replies) new drawn run = absurd run
 length_run old words number (e ∷ events) [] new drawn run = absurd run
 length_run old words number (e ∷ events) (r ∷ replies) new drawn run = ap (λ n. suc n) (length_run run.0 (behind run.1 words) (number + 1) events replies new run.2 run.4)
 
-pub transcript_more : (number : ℕ) (replies : List KmsReply) (reply : KmsReply) → transcript number (replies ++ reply ∷ []) ≡ transcript number replies ++ line_text (number + length replies) reply
+pub transcript_more : (number : ℕ) (replies : List Line) (reply : Line) → transcript number (replies ++ reply ∷ []) ≡ transcript number replies ++ line_text (number + length replies) reply
 transcript_more number [] reply = append-nil (line_text number reply) ∙ ap (λ n. line_text n reply) (omega arith)
 transcript_more number (r ∷ replies) reply =
     ap (λ l. line_text number r ++ l) (transcript_more (number + 1) replies reply)

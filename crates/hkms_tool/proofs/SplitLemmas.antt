@@ -1,6 +1,6 @@
 -- Lines and the text that they make.
-use Rattle.std.proofs.Common.{◌≡◌, ℕ, ◌+◌, ◌<◌, ◌≤◌, suc, List, [], ◌∷◌, ◌++◌, length, refl, ap, sym, ◌∙◌, subst, IsTrue, Bool, true, false, not, ◌&&◌, ◌==◌, cond, Option, None, Some, append_assoc, append-nil, arith, length-append}
-use Rattle.std.specs.List.{list_all, slice_split, onto_first, flat_map, count_by}
+use Rattle.std.proofs.Common.{◌≡◌, ℕ, ◌+◌, List, [], ◌∷◌, ◌++◌, length, refl, ap, sym, ◌∙◌, Bool, true, false, not, ◌&&◌, ◌==◌, cond, append_assoc, append-nil, arith}
+use Rattle.std.specs.List.{list_all, onto_first, count_by}
 use Rattle.std.proofs.lemmas.Grind.{flat_map-append}
 use Rattle.std.proofs.lemmas.List.Folds.{list_all-append}
 use Rattle.std.proofs.lemmas.List.Sums.{sum_by-cons}

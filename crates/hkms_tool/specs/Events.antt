@@ -1,5 +1,5 @@
 -- The event text: what a line says.
-use Rattle.std.specs.Prelude.{◌≡◌, ℕ, ◌+◌, ◌-◌, ◌^◌, ◌<◌, ◌≤◌, ◌⊎◌, ◌==◌, ◌&&◌, not, nat_le, Bool, List, [], ◌∷◌, length, codes, IsTrue, Option, None, Some, Ok, if◌then◌else◌}
+use Rattle.std.specs.Prelude.{◌≡◌, ℕ, ◌-◌, ◌^◌, ◌<◌, ◌≤◌, ◌⊎◌, ◌==◌, ◌&&◌, not, nat_le, Bool, List, [], ◌∷◌, length, codes, IsTrue, Option, None, Some, Ok, if◌then◌else◌}
 use Rattle.std.specs.List.{slice_split}
 use Rattle.std.specs.Str.{IsUtf8}
 use Rattle.hex.specs.Hex.{decode_of, is_hex_digit}
@@ -9,7 +9,8 @@ use Rattle.hk_base.specs.Names.{IsKeyName, version_text}
 use Rattle.key_rows.specs.declared.calls.RawEdek.{RawEdek}
 use Rattle.key_rows.specs.declared.calls.KmsCall.{KmsCall}
 use Rattle.key_rows.specs.declared.calls.KmsCall.TheVariants as call
-use Rattle.hkms_tool.specs.declared.event.Event.{Event}
+use Rattle.world_run.specs.declared.event.Event.{Event}
+use Rattle.world_run.specs.declared.event.Event.TheVariants as event
 
 -- a line has at most so many bytes
 abbrev pub longest_line : ℕ
@@ -102,14 +103,41 @@ SpellsCall fields (call.Metadata name) = SpellsMetadata fields name
 SpellsCall fields (call.Generate name count) = SpellsGenerate fields name count
 SpellsCall fields (call.Decrypt name sent) = SpellsDecrypt fields name sent
 
--- the line spells the event: `kms U` and a call
-pub record Spells (line : List ℕ) (event : Event) : Type 0 where
+-- the field spells a path, which is any bytes
+pub record IsPath (field path : List ℕ) : Type 0 where
+  pub escaped : IsTrue (is_escaped_from 0 field)
+  pub decoded : percent_decode field ≡ path
+
+-- the line is `kms U` and a call
+pub record SpellsKms (line user : List ℕ) (call : KmsCall) : Type 0 where
   pub short : length line ≤ longest_line
   pub user_field : List ℕ
   pub call_fields : List (List ℕ)
   pub fields : fields_of line ≡ codes "kms" ∷ user_field ∷ call_fields
-  pub user : IsUser user_field event.user
-  pub call : SpellsCall call_fields event.call
+  pub user_is : IsUser user_field user
+  pub call_is : SpellsCall call_fields call
+
+-- the line is `nn U`, this verb and a path
+pub record SpellsPath (verb line user path : List ℕ) : Type 0 where
+  pub short : length line ≤ longest_line
+  pub user_field : List ℕ
+  pub path_field : List ℕ
+  pub fields : fields_of line ≡ codes "nn" ∷ user_field ∷ verb ∷ path_field ∷ []
+  pub user_is : IsUser user_field user
+  pub path_is : IsPath path_field path
+
+-- the line spells the event
+abbrev pub Spells : List ℕ → Event → Type 0
+Spells line (event.Kms user call) = SpellsKms line user call
+Spells line (event.Mkdir user path) = SpellsPath (codes "mkdir") line user path
+Spells line (event.Info user path) = SpellsPath (codes "info") line user path
+
+-- the verbs that go with a path, and the event of each
+abbrev pub IsPathVerb : List ℕ → Type 0
+IsPathVerb verb = (verb ≡ codes "mkdir") ⊎ (verb ≡ codes "info")
+
+abbrev pub IsPathEvent : List ℕ → List ℕ → List ℕ → Event → Type 0
+IsPathEvent verb user path e = ((verb ≡ codes "mkdir") × (e ≡ event.Mkdir user path)) ⊎ ((verb ≡ codes "info") × (e ≡ event.Info user path))
 
 -- the line has no byte, or is a comment: its first byte is '#'
 abbrev pub IsQuiet : List ℕ → Type 0

@@ -1,9 +1,9 @@
 -- How a replay ends.
-use Rattle.std.specs.Prelude.{◌≡◌, ◌≢◌, ◌⊎◌, ℕ, ◌+◌, ◌<◌, ◌^◌, List, [], ◌∷◌, ◌++◌, length, count_by, take, codes, Option, None, Some}
+use Rattle.std.specs.Prelude.{◌≡◌, ◌⊎◌, ℕ, ◌+◌, ◌<◌, ◌^◌, List, [], ◌∷◌, ◌++◌, length, count_by, take, codes, Option, Some}
 use Rattle.std.specs.Fmt.{decimal}
 use Rattle.std.specs.Io.KnownBytes.{Appends}
-use Rattle.key_rows.specs.declared.calls.KmsReply.{KmsReply}
-use Rattle.kms_core.specs.State.{KmsState}
+use Rattle.world_run.specs.declared.event.Line.{Line}
+use Rattle.world_run.specs.World.{WorldState}
 use Rattle.hk_base.specs.Writing.{WroteFront}
 use Rattle.hkms_tool.specs.declared.replay.Ended.{Ended}
 use Rattle.hkms_tool.specs.declared.replay.Ended.TheVariants.{Done, BadLine, NoMemory, ReadFault, WriteFault}
@@ -57,7 +57,7 @@ IsWhole lines told whole =
     (whole ≡ told) ⊎ (whole ≡ told ++ refused_line (lines + 1)) ⊎ (whole ≡ told ++ read_fault_line) ⊎ ((front : List ℕ) × IsFront front told × (whole ≡ front ++ no_memory_line))
 
 -- Of the text `all` these lines were played, with these replies. All that was written is `text`.
-abbrev pub Says : List ℕ → List (List ℕ) → List KmsReply → List ℕ → Ended → Type 0
+abbrev pub Says : List ℕ → List (List ℕ) → List Line → List ℕ → Ended → Type 0
 Says all lines replies text Done = (lines_of all ≡ lines) × (text ≡ transcript 1 replies)
 Says all lines replies text BadLine = BadNext all lines (length replies) × (text ≡ transcript 1 replies ++ refused_line (length lines + 1))
 Says all lines replies text NoMemory = Starts all lines × (front : List ℕ) × IsFront front (transcript 1 replies) × (text ≡ front ++ no_memory_line)
@@ -67,8 +67,8 @@ Says all lines replies text WriteFault = Starts all lines × (whole : List ℕ) 
 -- A replay of what was left of an input, with these words to come, wrote behind the old output and ended so.
 pub record Replay (words : ℕ → ℕ) (left old new : Option (List ℕ)) (how : Ended) : Type 0 where
   pub lines : List (List ℕ)
-  pub replies : List KmsReply
-  pub state : KmsState
+  pub replies : List Line
+  pub state : WorldState
   pub drawn : ℕ
   pub text : List ℕ
   pub played : Played words lines replies state drawn
@@ -76,7 +76,7 @@ pub record Replay (words : ℕ → ℕ) (left old new : Option (List ℕ)) (how 
   pub says : (all : List ℕ) → left ≡ Some all → Says all lines replies text how
 
 -- the same before the last line is written
-abbrev pub SaysSoFar : List ℕ → List (List ℕ) → List KmsReply → List ℕ → Ended → Type 0
+abbrev pub SaysSoFar : List ℕ → List (List ℕ) → List Line → List ℕ → Ended → Type 0
 SaysSoFar all lines replies text Done = (lines_of all ≡ lines) × (text ≡ transcript 1 replies)
 SaysSoFar all lines replies text BadLine = BadNext all lines (length replies) × (text ≡ transcript 1 replies)
 SaysSoFar all lines replies text NoMemory = Starts all lines × IsFront text (transcript 1 replies)
@@ -85,8 +85,8 @@ SaysSoFar all lines replies text WriteFault = Starts all lines × IsFront text (
 
 pub record Replayed (words : ℕ → ℕ) (left old new : Option (List ℕ)) (ended : Ended) (count : ℕ) : Type 0 where
   pub lines : List (List ℕ)
-  pub replies : List KmsReply
-  pub state : KmsState
+  pub replies : List Line
+  pub state : WorldState
   pub drawn : ℕ
   pub text : List ℕ
   pub played : Played words lines replies state drawn

@@ -1,9 +1,9 @@
 -- A run of events.
 use Rattle.std.specs.Prelude.{◌≡◌, ◌⊎◌, ◌≤◌, ℕ, ◌+◌, List, [], ◌∷◌, length}
-use Rattle.key_rows.specs.declared.calls.KmsReply.{KmsReply}
-use Rattle.kms_core.specs.State.{KmsState, first_state}
-use Rattle.kms_core.specs.Calls.{KmsActs}
-use Rattle.hkms_tool.specs.declared.event.Event.{Event}
+use Rattle.world_run.specs.declared.event.Line.{Line}
+use Rattle.world_run.specs.World.{WorldState, first_world}
+use Rattle.world_run.specs.Step.{Step}
+use Rattle.world_run.specs.declared.event.Event.{Event}
 use Rattle.hkms_tool.specs.Events.{IsQuiet, Spells, most_events}
 
 -- the words behind the first n
@@ -17,17 +17,17 @@ Events (line ∷ lines) events = (IsQuiet line × Events lines events) ⊎ ((eve
 
 -- From a state on, with these words to come, events from this number on may be answered so, draw so many words, and
 -- leave this state. The moment of an event is its number.
-abbrev pub Run : KmsState → (ℕ → ℕ) → ℕ → List Event → List KmsReply → KmsState → ℕ → Type 0
+abbrev pub Run : WorldState → (ℕ → ℕ) → ℕ → List Event → List Line → WorldState → ℕ → Type 0
 Run old words number [] [] new drawn = (new ≡ old) × (drawn ≡ 0)
 Run old words number (event ∷ events) (reply ∷ replies) new drawn =
-    (mid : KmsState) × (first more : ℕ) × KmsActs old words number event.call reply first mid
+    (mid : WorldState) × (first more : ℕ) × Step old words number event reply first mid
     × Run mid (behind first words) (number + 1) events replies new more × (drawn ≡ first + more)
 Run old words number [] (reply ∷ replies) new drawn = ⊥
 Run old words number (event ∷ events) [] new drawn = ⊥
 
 -- the events of the lines were run from the first state on, with these replies
-pub record Played (words : ℕ → ℕ) (lines : List (List ℕ)) (replies : List KmsReply) (state : KmsState) (drawn : ℕ) : Type 0 where
+pub record Played (words : ℕ → ℕ) (lines : List (List ℕ)) (replies : List Line) (state : WorldState) (drawn : ℕ) : Type 0 where
   pub events : List Event
   pub spelled : Events lines events
   pub few : length events ≤ most_events
-  pub run : Run first_state words 1 events replies state drawn
+  pub run : Run first_world words 1 events replies state drawn

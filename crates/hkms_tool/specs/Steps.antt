@@ -1,12 +1,11 @@
 -- One line of a replay.
 use Rattle.std.specs.Prelude.{◌≡◌, ◌<◌, ℕ, ◌+◌, List, [], ◌∷◌, length, Option}
 use Rattle.std.specs.Io.KnownBytes.{Appends}
-use Rattle.key_rows.specs.declared.calls.KmsReply.{KmsReply}
-use Rattle.key_rows.specs.declared.calls.KmsCall.{KmsCall}
+use Rattle.world_run.specs.declared.event.Line.{Line}
 use Rattle.hk_base.specs.Writing.{WroteFront}
-use Rattle.kms_core.specs.State.{KmsState}
-use Rattle.kms_core.specs.Calls.{KmsActs}
-use Rattle.hkms_tool.specs.declared.event.Event.{Event}
+use Rattle.world_run.specs.World.{WorldState}
+use Rattle.world_run.specs.Step.{Step}
+use Rattle.world_run.specs.declared.event.Event.{Event}
 use Rattle.hkms_tool.specs.declared.stage.Play.{Play}
 use Rattle.hkms_tool.specs.declared.stage.Play.TheVariants.{Played, BadLine, Unread, Untold, Unwritten}
 use Rattle.hkms_tool.specs.Events.{IsQuiet, IsRefused, Spells, most_events}
@@ -14,19 +13,19 @@ use Rattle.hkms_tool.specs.Transcript.{transcript, line_text}
 
 -- where a replay stands between two lines
 pub record View : Type 0 where
-  pub state : KmsState
+  pub state : WorldState
   pub words : ℕ → ℕ
   pub events : ℕ
   pub written : Option (List ℕ)
 
 -- a line is quiet and has no reply, or is an event and has one
-abbrev pub LineActs : View → List ℕ → List KmsReply → KmsState → ℕ → Type 0
+abbrev pub LineActs : View → List ℕ → List Line → WorldState → ℕ → Type 0
 LineActs old line [] new drawn = IsQuiet line × (new ≡ old.state) × (drawn ≡ 0)
-LineActs old line (reply ∷ []) new drawn = (event : Event) × Spells line event × (old.events < most_events) × KmsActs old.state old.words (old.events + 1) event.call reply drawn new
+LineActs old line (reply ∷ []) new drawn = (event : Event) × Spells line event × (old.events < most_events) × Step old.state old.words (old.events + 1) event reply drawn new
 LineActs old line (reply ∷ other ∷ replies) new drawn = ⊥
 
 pub record PlaysLine (old : View) (line : List ℕ) (new : View) : Type 0 where
-  pub replies : List KmsReply
+  pub replies : List Line
   pub drawn : ℕ
   pub acts : LineActs old line replies new.state drawn
   pub rest : (k : ℕ) → new.words k ≡ old.words (drawn + k)
@@ -40,17 +39,17 @@ PlaysSo old line Unread new = Appends old.written new.written []
 PlaysSo old line Untold new = PlaysLine old line new × Appends old.written new.written []
 PlaysSo old line Unwritten new = (plays : PlaysLine old line new) × WroteFront old.written new.written (transcript (old.events + 1) plays.replies)
 
-pub record PlaysEvent (old : View) (call : KmsCall) (new : View) : Type 0 where
-  pub reply : KmsReply
+pub record PlaysEvent (old : View) (event : Event) (new : View) : Type 0 where
+  pub reply : Line
   pub drawn : ℕ
-  pub acts : KmsActs old.state old.words (old.events + 1) call reply drawn new.state
+  pub acts : Step old.state old.words (old.events + 1) event reply drawn new.state
   pub rest : (k : ℕ) → new.words k ≡ old.words (drawn + k)
   pub counted : new.events ≡ old.events + 1
 
 -- how the event of a line came out
-abbrev pub EventPlaysSo : View → KmsCall → Play → View → Type 0
-EventPlaysSo old call Played new = (plays : PlaysEvent old call new) × Appends old.written new.written (line_text (old.events + 1) plays.reply)
-EventPlaysSo old call BadLine new = ⊥
-EventPlaysSo old call Unread new = ⊥
-EventPlaysSo old call Untold new = PlaysEvent old call new × Appends old.written new.written []
-EventPlaysSo old call Unwritten new = (plays : PlaysEvent old call new) × WroteFront old.written new.written (line_text (old.events + 1) plays.reply)
+abbrev pub EventPlaysSo : View → Event → Play → View → Type 0
+EventPlaysSo old event Played new = (plays : PlaysEvent old event new) × Appends old.written new.written (line_text (old.events + 1) plays.reply)
+EventPlaysSo old event BadLine new = ⊥
+EventPlaysSo old event Unread new = ⊥
+EventPlaysSo old event Untold new = PlaysEvent old event new × Appends old.written new.written []
+EventPlaysSo old event Unwritten new = (plays : PlaysEvent old event new) × WroteFront old.written new.written (line_text (old.events + 1) plays.reply)

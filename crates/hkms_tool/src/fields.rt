@@ -2,7 +2,7 @@
 ghost use Rattle.std.specs.Prelude.{◌≡◌, ◌≤◌, ◌∷◌, [], ℕ, List, length, position, All, false, IfOk, IfNone, MatchOption, Option};
 ghost use Rattle.percent_encoding.specs.Percent.{percent_decode};
 ghost use Rattle.hex.specs.Hex.{is_hex_digit};
-ghost use Rattle.hkms_tool.specs.Events.{IsMaterial, IsUser, SpellsMaterial, fields_of, is_escaped_from, is_plain, is_space};
+ghost use Rattle.hkms_tool.specs.Events.{IsMaterial, IsPath, IsUser, SpellsMaterial, fields_of, is_escaped_from, is_plain, is_space};
 
 use hk_base::{ByteList, NoMemory, Text};
 use std::alloc::Global;
@@ -88,6 +88,16 @@ pub fn read_user(alloc: Global, field: &[u8]) -> Result<Option<Text>, NoMemory>
         return Ok(None);
     }
     Ok(Text::from_utf8(bytes))
+}
+
+/// The bytes that a field spells with its escapes, or `None` where it spells none.
+pub fn read_escaped(alloc: Global, field: &[u8]) -> Result<Option<ByteList>, NoMemory>
+    ensures { IfOk result (λ found. MatchOption found ((path : List ℕ) → ¬ IsPath field.now path) (IsPath field.now)) }
+{
+    if !is_escaped(field) {
+        return Ok(None);
+    }
+    Ok(Some(ByteList::of(decoded(alloc, field)?)))
 }
 
 /// The 16 bytes that 32 hexadecimal digits spell, or `None` where the field spells none.

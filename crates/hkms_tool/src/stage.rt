@@ -1,14 +1,14 @@
 //! A replay between two lines, and how it plays one.
 ghost use Rattle.std.specs.Prelude.{◌≡◌, ◌≤◌, ◌<◌, ◌^◌, length, IfOk};
 ghost use Rattle.hk_base.specs.Faults.{Rose};
-ghost use Rattle.kms_core.specs.State.{first_state};
+ghost use Rattle.world_run.specs.World.{first_world};
 ghost use Rattle.hkms_tool.specs.Steps.{EventPlaysSo, PlaysSo};
 
-use crate::event::{Event, LineFault, read_event};
+use crate::event::{LineFault, read_event};
 use crate::transcript::write_line;
 use hk_base::{ByteList, NoMemory, Sink, Words, write_all};
-use kms_core::Kms;
 use std::alloc::Global;
+use world_run::{Event, World};
 
 /// How many events an input has at most.
 const MOST_EVENTS: u64 = 10000;
@@ -28,24 +28,24 @@ pub enum Play {
     Unwritten,
 }
 
-/// The service, and how many events it has answered.
+/// Both services, and how many events they have answered.
 #[derive(Drop)]
 pub struct Stage {
     pub alloc: Global,
-    pub kms: Kms,
+    pub world: World,
     pub events: u64,
     pub answer: ByteList,
 }
 
 impl Stage {
-    /// The service in its first state, before the first event.
+    /// The services in their first state, before the first event.
     pub fn new(alloc: Global) -> Result<Stage, NoMemory>
-        ensures state { IfOk result (λ stage. stage.kms ≡ first_state) }
+        ensures state { IfOk result (λ stage. stage.world ≡ first_world) }
         ensures events { IfOk result (λ stage. stage.events ≡ 0) }
     {
         Ok(Stage {
             alloc,
-            kms: Kms::new(alloc)?,
+            world: World::start(alloc)?,
             events: 0,
             answer: ByteList::new(alloc),
         })
@@ -55,7 +55,7 @@ impl Stage {
     pub fn play_line<K: Sink, W: Words>(&mut self, line: &[u8], out: &mut K, words: &mut W) -> Play
         requires short { length line.now ≤ 1048576 }
         requires few { self.old.events ≤ 10000 }
-        ensures plays { PlaysSo (record { state = self.old.kms; words = W.to_come words.old; events = self.old.events; written = K.written out.old }) line.now result (record { state = self.new.kms; words = W.to_come words.new; events = self.new.events; written = K.written out.new }) }
+        ensures plays { PlaysSo (record { state = self.old.world; words = W.to_come words.old; events = self.old.events; written = K.written out.old }) line.now result (record { state = self.new.world; words = W.to_come words.new; events = self.new.events; written = K.written out.new }) }
         ensures few { self.new.events ≤ 10000 }
         ensures later { K.faults out.old ≤ K.faults out.new }
         ensures fault { result ≡ Play.Unwritten → Rose (K.faults out.old) (K.faults out.new) }
@@ -74,16 +74,15 @@ impl Stage {
 
     fn play_event<K: Sink, W: Words>(&mut self, event: Event, out: &mut K, words: &mut W) -> Play
         requires few { self.old.events < 10000 }
-        ensures plays { EventPlaysSo (record { state = self.old.kms; words = W.to_come words.old; events = self.old.events; written = K.written out.old }) event.call result (record { state = self.new.kms; words = W.to_come words.new; events = self.new.events; written = K.written out.new }) }
+        ensures plays { EventPlaysSo (record { state = self.old.world; words = W.to_come words.old; events = self.old.events; written = K.written out.old }) event result (record { state = self.new.world; words = W.to_come words.new; events = self.new.events; written = K.written out.new }) }
         ensures few { self.new.events ≤ 10000 }
         ensures later { K.faults out.old ≤ K.faults out.new }
         ensures fault { result ≡ Play.Unwritten → Rose (K.faults out.old) (K.faults out.new) }
     {
-        let Event { user, call } = event;
         self.events += 1;
-        let reply = self.kms.act(words, self.events, &user, call);
+        let told = self.world.step(words, self.events, event);
         self.answer.clear();
-        match write_line(self.alloc, self.events, &reply, &mut self.answer) {
+        match write_line(self.alloc, self.events, &told, &mut self.answer) {
             Err(_) => Play::Untold,
             Ok(()) => match write_all(out, self.answer.as_slice()) {
                 Ok(()) => Play::Played,

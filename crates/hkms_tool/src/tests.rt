@@ -220,6 +220,170 @@ fn lines_are_read_in_their_spellings(rt: HostRuntime) -> Result<(), Fail> {
     Ok(())
 }
 
+/// What a replay of one event answers.
+fn answer(alloc: Global, front: &[u8], path: &[u8]) -> Result<Vec<u8>, AllocError> {
+    let mut script = front.to_vec(alloc)?;
+    script.extend_from_slice(path)?;
+    Ok(replay(alloc, script.as_slice(), &[], HONEST)?.text)
+}
+
+#[test]
+fn paths_outside_the_rule_are_answered(rt: HostRuntime) -> Result<(), Fail> {
+    let cases = [
+        (b"/a".as_slice(), b"1 done\n".as_slice()),
+        (b"/%C3%A4%20%25".as_slice(), b"1 done\n".as_slice()),
+        (b"/.reserve".as_slice(), b"1 done\n".as_slice()),
+        (b"/...".as_slice(), b"1 done\n".as_slice()),
+        (b"/".as_slice(), b"1 refused N3 Exists\n".as_slice()),
+        (b"/a/b".as_slice(), b"1 refused N2 NoSuchPath\n".as_slice()),
+        (
+            b"/a%2Fb".as_slice(),
+            b"1 refused N2 NoSuchPath\n".as_slice(),
+        ),
+        (
+            b"/a/.reserved".as_slice(),
+            b"1 refused N2 NoSuchPath\n".as_slice(),
+        ),
+        (b"".as_slice(), b"1 refused N1 BadPath\n".as_slice()),
+        (b"a".as_slice(), b"1 refused N1 BadPath\n".as_slice()),
+        (b"//".as_slice(), b"1 refused N1 BadPath\n".as_slice()),
+        (b"//a".as_slice(), b"1 refused N1 BadPath\n".as_slice()),
+        (b"/a/".as_slice(), b"1 refused N1 BadPath\n".as_slice()),
+        (b"/a//b".as_slice(), b"1 refused N1 BadPath\n".as_slice()),
+        (b"/.".as_slice(), b"1 refused N1 BadPath\n".as_slice()),
+        (b"/a/../b".as_slice(), b"1 refused N1 BadPath\n".as_slice()),
+        (
+            b"/a/.snapshot".as_slice(),
+            b"1 refused N1 BadPath\n".as_slice(),
+        ),
+        (
+            b"/.reserved/raw".as_slice(),
+            b"1 refused N1 BadPath\n".as_slice(),
+        ),
+        (b"/a%3Ab".as_slice(), b"1 refused N1 BadPath\n".as_slice()),
+        (b"/a%00b".as_slice(), b"1 refused N1 BadPath\n".as_slice()),
+        (b"/%C3".as_slice(), b"1 refused N1 BadPath\n".as_slice()),
+    ];
+    for (path, wanted) in cases {
+        let told = answer(rt.alloc(), b"nn u mkdir ", path)?;
+        assert_eq!(rt; told.as_slice(), wanted, "mkdir {path:?}");
+        let asked = answer(rt.alloc(), b"nn u info ", path)?;
+        let bad = wanted == b"1 refused N1 BadPath\n".as_slice();
+        assert_eq!(rt;
+            asked.as_slice() == wanted,
+            bad || wanted.ends_with(b"N2 NoSuchPath\n"),
+            "info {path:?}"
+        );
+    }
+    Ok(())
+}
+
+/// A unit so many times, and a tail.
+fn repeated(alloc: Global, unit: &[u8], count: usize, tail: &[u8]) -> Result<Vec<u8>, AllocError> {
+    let mut bytes = Vec::new(alloc);
+    for _ in 0..count {
+        bytes.extend_from_slice(unit)?;
+    }
+    bytes.extend_from_slice(tail)?;
+    Ok(bytes)
+}
+
+#[test]
+fn paths_at_their_limits(rt: HostRuntime) -> Result<(), Fail> {
+    let longest = filled(rt.alloc(), b"/", b'a', 255, b"")?;
+    let name = filled(rt.alloc(), b"/", b'a', 79, b"")?;
+    let cases = [
+        (
+            longest.as_slice(),
+            1,
+            b"".as_slice(),
+            b"1 done\n".as_slice(),
+        ),
+        (
+            longest.as_slice(),
+            1,
+            b"a".as_slice(),
+            b"1 refused N1 BadPath\n".as_slice(),
+        ),
+        (
+            name.as_slice(),
+            100,
+            b"".as_slice(),
+            b"1 refused N2 NoSuchPath\n".as_slice(),
+        ),
+        (
+            name.as_slice(),
+            100,
+            b"a".as_slice(),
+            b"1 refused N1 BadPath\n".as_slice(),
+        ),
+        (
+            b"/a".as_slice(),
+            101,
+            b"".as_slice(),
+            b"1 refused N1 BadPath\n".as_slice(),
+        ),
+    ];
+    for (unit, count, tail, wanted) in cases {
+        let path = repeated(rt.alloc(), unit, count, tail)?;
+        let told = answer(rt.alloc(), b"nn u mkdir ", path.as_slice())?;
+        assert_eq!(rt; told.as_slice(), wanted, "{} bytes", path.len());
+    }
+    Ok(())
+}
+
+#[test]
+fn both_services_answer_in_one_run(rt: HostRuntime) -> Result<(), Fail> {
+    let script = b"nn u info /\n\
+        kms u create k 128 2b7e151628aed2a6abf7158809cf4f3c\n\
+        nn u mkdir /a\n\
+        nn u mkdir /a\n\
+        nn u mkdir /a/b\n\
+        kms u metadata k\n\
+        nn u info /a/b\n\
+        nn u info /b\n";
+    let text = b"1 dir 0 - -\n\
+        2 version k@0 2b7e151628aed2a6abf7158809cf4f3c\n\
+        3 done\n\
+        4 refused N3 Exists\n\
+        5 done\n\
+        6 meta k 128 1 2\n\
+        7 dir 4294967298 - -\n\
+        8 refused N2 NoSuchPath\n";
+    let played = replay(rt.alloc(), script, &[], HONEST)?;
+    assert_eq!(rt; played.status, 0);
+    assert_eq!(rt; played.text.as_slice(), text.as_slice());
+    Ok(())
+}
+
+#[test]
+fn path_lines_are_read_in_their_spellings(rt: HostRuntime) -> Result<(), Fail> {
+    let cases = [
+        (b"nn u mkdir ".as_slice(), 0),
+        (b"nn %75 info %2f".as_slice(), 0),
+        (b"nn u mkdir".as_slice(), 3),
+        (b"nn u mkdir /a b".as_slice(), 3),
+        (b"nn u mkdir /a ".as_slice(), 3),
+        (b"nn u mkdir  /a".as_slice(), 3),
+        (b"nn  mkdir /a".as_slice(), 3),
+        (b"nn u mkdir /a:b".as_slice(), 3),
+        (b"nn u mkdir /a,b".as_slice(), 3),
+        (b"nn u mkdir /%4".as_slice(), 3),
+        (b"nn u mkdir /%zz".as_slice(), 3),
+        (b"nn u mkdir /\xc3\xa4".as_slice(), 3),
+        (b"nn u Mkdir /a".as_slice(), 3),
+        (b"nn u list /a".as_slice(), 3),
+        (b"nn u metadata k".as_slice(), 3),
+        (b"kms u mkdir /a".as_slice(), 3),
+        (b"NN u mkdir /a".as_slice(), 3),
+    ];
+    for (line, status) in cases {
+        let played = replay(rt.alloc(), line, &[], HONEST)?;
+        assert_eq!(rt; played.status, status, "{line:?}");
+    }
+    Ok(())
+}
+
 #[test]
 fn an_event_too_many_is_refused(rt: HostRuntime) -> Result<(), Fail> {
     let mut script = Vec::new(rt.alloc());

@@ -1,4 +1,4 @@
-use Rattle.std.proofs.Common.{◌≡◌, ℕ, sym, ◌∙◌, ap, Bool, true, false, ◌==◌}
+use Rattle.std.proofs.Common.{◌≡◌, ◌∙◌, ap, true, false, ◌==◌}
 use Rattle.hkms_tool.proofs.FieldLemmas.{not_quiet}
 use Rattle.hkms_tool.proofs.event.read_event.Goals as goal
 

@@ -1,5 +1,3 @@
-use Rattle.std.proofs.Common.{◌≡◌, [], ◌∷◌, List, ℕ}
-use Rattle.hkms_tool.specs.Events.{fields_of}
 use Rattle.hkms_tool.proofs.FieldLemmas.{never_empty}
 use Rattle.hkms_tool.proofs.fields.only_field.Goals as goal
 

@@ -1,4 +1,4 @@
-use Rattle.std.proofs.Common.{◌≡◌, ◌∙◌, sym}
+use Rattle.std.proofs.Common.{◌∙◌}
 use Rattle.hkms_tool.proofs.FinishLemmas.{finishes_bad}
 use Rattle.hkms_tool.proofs.replay.finish.Goals as goal
 

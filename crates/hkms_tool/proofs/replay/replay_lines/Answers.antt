@@ -1,6 +1,6 @@
-use Rattle.std.proofs.Common.{◌≡◌, ℕ, ◌+◌, ◌≤◌, List, [], length, refl, sym, ◌∙◌, ap, arith}
+use Rattle.std.proofs.Common.{refl, arith}
 use Rattle.std.proofs.KnownBytes.{Appends-nil}
-use Rattle.hkms_tool.proofs.LoopLemmas.{nothing_yet, so_far_line, no_memory, read_fault, bad_line, bad_last, too_long, past, done, untold_line, untold_last, unwritten_line, unwritten_last, few_replies, first_ahead, first_stop, length_ended, end_of}
+use Rattle.hkms_tool.proofs.LoopLemmas.{nothing_yet, so_far_line, no_memory, read_fault, bad_line, bad_last, too_long, past, done, untold_line, untold_last, unwritten_line, unwritten_last, first_ahead, first_stop, length_ended, end_of}
 use Rattle.hkms_tool.proofs.replay.replay_lines.Goals as goal
 
 pub lines-init : goal.lines-init

@@ -1,4 +1,4 @@
-use Rattle.std.proofs.Common.{◌≡◌, ℕ, List, ◌+◌, ◌-◌, ◌≤◌, ◌^◌}
+use Rattle.std.proofs.Common.{◌-◌, ◌≤◌, ◌^◌}
 use Rattle.hk_base.specs.Reading.{ahead}
 use Rattle.hkms_tool.proofs.LoopLemmas.{SoFar}
 use Rattle.hkms_tool.proofs.replay.replay_lines.Given as goal
@@ -7,7 +7,7 @@ abbrev pub invariant-lines : goal.invariant-lines
 invariant-lines g l = record {
   so_far : SoFar (record { words = g.W.Words.to_come l.fn.words; left = g.S.Source.left l.fn.input; written = g.K.Sink.written l.fn.out })
       (record {
-        view = record { state = l.stage.kms; words = g.W.Words.to_come l.words; events = l.stage.events; written = g.K.Sink.written l.out };
+        view = record { state = l.stage.world; words = g.W.Words.to_come l.words; events = l.stage.events; written = g.K.Sink.written l.out };
         ahead = ahead l.reader (g.S.Source.left l.input);
         used = l.reader.used;
         count = l.count;

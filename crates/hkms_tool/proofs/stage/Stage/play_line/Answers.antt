@@ -1,4 +1,4 @@
-use Rattle.std.proofs.Common.{◌≡◌, ℕ, ◌+◌, ap, refl, [], arith}
+use Rattle.std.proofs.Common.{ℕ, ap, refl, [], arith}
 use Rattle.std.proofs.KnownBytes.{Appends-nil}
 use Rattle.hkms_tool.proofs.LineLemmas.{event_line}
 use Rattle.hkms_tool.proofs.stage.Stage.play_line.Goals as goal
