@@ -7,6 +7,7 @@ mod names;
 mod numbers;
 mod outside;
 mod reading;
+mod records;
 mod texts;
 mod writing;
 
@@ -15,5 +16,6 @@ pub use names::{Dek, Edek, Iv, KeyName, VersionName};
 pub use numbers::read_number;
 pub use outside::{Clock, Failed, Sink, Source, Words};
 pub use reading::{Next, Reader};
+pub use records::RecordFault;
 pub use texts::{ByteList, NoMemory, Text};
 pub use writing::write_all;

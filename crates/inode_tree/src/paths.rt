@@ -178,6 +178,11 @@ fn names_of(alloc: Global, bytes: &[u8]) -> Result<Vec<Text>, NoMemory>
 }
 
 impl From<NoMemory> for PathFault {
+    ghost use Rattle.std.specs.Prelude.{◌≡◌};
+    ghost use Rattle.inode_tree.specs.declared.paths.PathFault.TheVariants as fault;
+
+    ghost from_gives = { λ _ given. given ≡ fault.NoMemory };
+
     fn from(_: NoMemory) -> Self {
         PathFault::NoMemory
     }
