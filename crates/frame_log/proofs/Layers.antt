@@ -1,7 +1,7 @@
 -- What layers above logs need of them.
 use Rattle.std.proofs.Common.{◌≡◌, ◌⊎◌, inl, inr, ◌-◌, ℕ, suc, List, [], ◌∷◌, ◌++◌, None, Option, sym, ◌∙◌, ap, subst, arith}
 use Rattle.hk_base.specs.Disk.{DiskState, Tells, RunOn}
-use Rattle.frame_log.specs.Format.{log_of, Found, IsAtRest, IsHalfOpen, IsBeforeOrAfter, IsAsFound, At_rest, Half_open, Opened}
+use Rattle.frame_log.specs.Format.{log_of, Found, IsAtRest, IsHalfOpen, IsBeforeOrAfter, IsAsFound, At_rest, Half_open, Opened, IsRecovered, Log_as_found, No_log}
 use Rattle.frame_log.specs.Stands.{Stands, front, Is, IsSound}
 use Rattle.frame_log.specs.declared.log.Log.{Log}
 use Rattle.frame_log.proofs.Reading.{log_shut}
@@ -59,3 +59,13 @@ sound_found file found bytes s (Opened payloads gate is same) = half s.sound
     half : IsAtRest file s.payloads found ⊎ IsHalfOpen file s.payloads (s.payloads ++ s.payload ∷ []) found → IsSound file bytes
     half (inl rest) = let no_gate : suc gate ≡ 0 = cc (is, rest) in absurd (omega arith)
     half (inr h) = record { payloads = s.payloads ++ s.payload ∷ []; payload = s.payload; sound = inl (ap (log_of file) same ∙ h.then_on) }
+
+-- recovering a log leaves it as found
+pub recovered_log : (file : ℕ) (found bytes : List ℕ) (payloads : List (List ℕ)) (gate : ℕ) → log_of file found ≡ Found payloads gate → IsRecovered file found bytes → IsAsFound file found bytes
+recovered_log file found bytes payloads gate is (Log_as_found held) = held
+recovered_log file found bytes payloads gate is (No_log at none same) = absurd (cc (is, none))
+
+-- so it leaves a file that a run may start from, whatever it answers
+pub sound_recovered : (file : ℕ) (found bytes : List ℕ) → IsSound file found → IsRecovered file found bytes → IsSound file bytes
+sound_recovered file found bytes s (Log_as_found held) = sound_found file found bytes s held
+sound_recovered file found bytes s (No_log at none same) = subst (IsSound file) (sym same) s

@@ -1,4 +1,5 @@
 pub mod Examples
+pub mod Faults
 pub mod Format
 pub mod Scan
 pub mod Stands

@@ -2,7 +2,7 @@
 ghost use Rattle.std.specs.Prelude.{◌≡◌};
 ghost use Rattle.frame_log.specs.declared.fault.LogFault.TheVariants.{StoreFault, NoMemory};
 
-use hk_base::Failed;
+use hk_base::{Failed, NoMemory};
 use std::alloc::{AllocError, AllocFailed};
 
 /// Why a call of a log gave up.
@@ -56,5 +56,39 @@ impl<T: Drop> From<AllocFailed<T>> for LogFault {
 
     fn from(_: AllocFailed<T>) -> Self {
         LogFault::NoMemory
+    }
+}
+
+impl From<LogFault> for StartFault {
+    ghost use Rattle.frame_log.specs.Faults.{start_fault};
+
+    ghost from_gives = { λ fault given. given ≡ start_fault fault };
+
+    fn from(fault: LogFault) -> Self {
+        match fault {
+            LogFault::Damaged { at } => StartFault::Damaged { at },
+            LogFault::StoreFault => StartFault::StoreFault,
+            LogFault::NoMemory => StartFault::NoMemory,
+        }
+    }
+}
+
+impl From<NoMemory> for StartFault {
+    ghost use Rattle.frame_log.specs.declared.fault.StartFault.TheVariants as start;
+
+    ghost from_gives = { λ _ given. given ≡ start.NoMemory };
+
+    fn from(_: NoMemory) -> Self {
+        StartFault::NoMemory
+    }
+}
+
+impl From<NoMemory> for StoreRefusal {
+    ghost use Rattle.frame_log.specs.declared.fault.StoreRefusal.TheVariants as store;
+
+    ghost from_gives = { λ _ given. given ≡ store.NoMemory };
+
+    fn from(_: NoMemory) -> Self {
+        StoreRefusal::NoMemory
     }
 }

@@ -46,15 +46,17 @@ fn fresh(file: u8) -> [u8; 9]
 
 impl Log {
     ghost use Rattle.std.specs.Prelude.{◌+◌, ◌↔◌, ◌⊎◌, List, ℕ, Option, Some, None, slice_get, IfOk, OnOk, OnErr, IsErr, IsErrOf, IsTrue, if◌then◌else◌, IsSome};
-    ghost use Rattle.hk_base.specs.Disk.{Tells, RunOn, LeavesOnly};
+    ghost use Rattle.hk_base.specs.Disk.{Tells, RunOn, LeavesOnly, Only};
     ghost use Rattle.hk_base.specs.Faults.{Rose};
     ghost use Rattle.frame_log.specs.declared.fault.LogFault.TheVariants.{Damaged, StoreFault, NoMemory};
-    ghost use Rattle.frame_log.specs.Format.{log_of, Found, NoLog, placed, IsPayload, IsBeforeOrAfter, IsAsFound};
+    ghost use Rattle.frame_log.specs.Format.{log_of, Found, NoLog, placed, IsPayload, IsBeforeOrAfter, IsAsFound, IsRecovered};
     ghost use Rattle.frame_log.specs.Scan.{view};
     ghost use Rattle.frame_log.specs.Stands.{Stands, LeavesFrom};
 
     /// Reads the log of a file that a crash may have left, and shuts its end gate where that isn't 0.
     /// A file of at most 9 bytes is made a log without frames. It may be stopped at any moment too.
+    /// Whatever it answers, once the file is synced a crash leaves the log that was found, with its end
+    /// gate as it was, or shut, or read as 1.
     ///
     /// `Damaged` comes exactly where the file is no log, with the offset of the gate byte 1 that no
     /// frame follows, or 0 where the magic is another. Only the frames are kept in memory.
@@ -77,14 +79,39 @@ impl Log {
         ensures any_moment { Tells (D.state disk.old) → LeavesOnly file (D.state disk.old) (D.state disk.new)
             (λ c. (D.state disk.old).leaves file c ⊎ IsAsFound file ((D.state disk.old).reads file) c) }
 
-        // Since the first sync of the call it leaves the log found, or that with its end gate read as 1.
-        ensures since_sync { OnOk result (Tells (D.state disk.old) → LeavesFrom file (D.state disk.old) (D.state disk.new)
-            (IsAsFound file ((D.state disk.old).reads file))) }
+        // Whatever the answer, since the first sync of the call it leaves the log found, or that with its end
+        // gate read as 1, and what is no log byte for byte. Where that sync failed, nothing was written.
+        ensures since_sync { Tells (D.state disk.old) →
+            (IsErrOf result StoreFault × LeavesOnly file (D.state disk.old) (D.state disk.new) ((D.state disk.old).leaves file))
+            ⊎ LeavesFrom file (D.state disk.old) (D.state disk.new) (IsRecovered file ((D.state disk.old).reads file)) }
 
         ensures run { RunOn file (D.state disk.old) (D.state disk.new) }
         ensures cause { IsErrOf result StoreFault → Rose (D.state disk.old).faults (D.state disk.new).faults }
     {
-        disk.sync(file)?;
+        disk.sync(file)?; // What is read from here on is what a crash leaves.
+        Log::open_synced(alloc, disk, file)
+    }
+
+    /// Reads the log of a file of which a crash leaves what a read gives, and shuts its end gate where
+    /// that isn't 0. What it writes is left as the log found, or as that with its end gate read as 1.
+    fn open_synced<D: Disk>(
+        alloc: Global,
+        disk: &mut D,
+        file: u8,
+    ) -> Result<(Log, Frames), LogFault>
+        requires file { file < 2 }
+        requires synced { Tells (D.state disk.old) → Only ((D.state disk.old).reads file) ((D.state disk.old).leaves file) }
+
+        ensures log { IfOk result (λ r. Tells (D.state disk.old) → ((payloads : List (List ℕ)) × (gate : ℕ)
+            × (log_of file ((D.state disk.old).reads file) ≡ Found payloads gate)
+            × (view r.1 ≡ placed 8 payloads)
+            × Stands (D.state disk.new) r.0 payloads None)) }
+        ensures settled { IfOk result (λ r. (r.0.file ≡ file) × (r.0.unsettled ≡ None)) }
+        ensures damaged { (at : ℕ) → IsErrOf result (Damaged at) → Tells (D.state disk.old) → log_of file ((D.state disk.old).reads file) ≡ NoLog at }
+        ensures moments { Tells (D.state disk.old) → LeavesOnly file (D.state disk.old) (D.state disk.new) (IsRecovered file ((D.state disk.old).reads file)) }
+        ensures run { RunOn file (D.state disk.old) (D.state disk.new) }
+        ensures cause { IsErrOf result StoreFault → Rose (D.state disk.old).faults (D.state disk.new).faults }
+    {
         let size = disk.len(file)?;
         if size <= 9 {
             disk.write_at(file, 0, &fresh(file))?;

@@ -6,6 +6,7 @@ use disk_kinds::{FileDisk, MemDisk};
 use hk_base::Disk;
 use std::alloc::Global;
 use std::fs;
+use std::os::unix::fs::symlink;
 use std::process::Abort;
 use std::test::Fail;
 
@@ -192,5 +193,21 @@ fn on_real_files(rt: HostRuntime) -> Result<(), Fail> {
     );
     assert_eq!(rt; again.faults, 0);
     fs::remove_dir_all(&rt, "log")?;
+    Ok(())
+}
+
+#[test]
+fn a_sync_of_a_real_file_that_fails(rt: HostRuntime) -> Result<(), Fail> {
+    // No system can sync the null device.
+    fs::create_dir(&rt, "null")?;
+    symlink(&rt, "/dev/null", "null/keys.log")?;
+    let mut disk = FileDisk::open(&rt, rt.alloc(), "null")?;
+    match Log::recover(rt.alloc(), &mut disk, 0) {
+        Ok(_) => assert!(rt; false),
+        Err(fault) => assert_eq!(rt; fault, LogFault::StoreFault),
+    }
+    assert_eq!(rt; disk.faults, 1);
+    assert_eq!(rt; disk.sync(1), Ok(()));
+    fs::remove_dir_all(&rt, "null")?;
     Ok(())
 }

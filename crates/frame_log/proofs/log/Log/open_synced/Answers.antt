@@ -1,0 +1,353 @@
+use Rattle.std.proofs.Common.{rules, ◌≡◌, ◌≤◌, ◌++◌, [], ◌∷◌, List, ℕ, length, map, take, drop, IsTrue, true, false, refl, sym, ◌∙◌, ap, subst, arith, length-append}
+use Rattle.hk_base.specs.Disk.{DiskState, Tells, CallOn, LeavesOnly, written}
+use Rattle.hk_base.proofs.Runs.{begin, then, compose}
+use Rattle.frame_log.specs.Format.{magic, starts_with, NoLog, frames_at, IsRecovered, Log_as_found}
+use Rattle.frame_log.specs.Stands.{front, IsShut}
+use Rattle.frame_log.specs.Scan.{frame_view, IsScanned}
+use Rattle.frame_log.proofs.Goings.{going}
+use Rattle.frame_log.proofs.Reading.{short_log, front_long, magic_long}
+use Rattle.frame_log.proofs.Found.{untouched, head_is, other_magic, damaged, scanned, reads_as, gate_as_found, gate_shut, short_as_found, short_written}
+use Rattle.frame_log.proofs.log.Log.open_synced.Goals.{then-scan-ne-SHUT+in_ok-write_at-2+in_ok-sync-2, else-scan-ne-SHUT}
+use Rattle.frame_log.proofs.log.Log.open_synced.Goals as goal
+
+still : {file : ℕ} {old new : DiskState} → CallOn file old new → Tells old → Tells new
+still call told = subst (λ b. IsTrue b) (sym call.tells) told
+
+pub returns-in_err-write_at-clause-moments : goal.returns-in_err-write_at-clause-moments
+returns-in_err-write_at-clause-moments g c told =
+    let file = c.args.file in
+    let D0 = g.D.Disk.state c.args.disk.now in
+    let R = D0.reads file in
+    let P : List ℕ → Type 0 = λ b. IsRecovered file R b in
+    let file_in = c.requires.file in
+    let only0 : (b : List ℕ) → D0.leaves file b → b ≡ R = λ b h. c.requires.synced told b h in
+    let told1 = still c.len.ensures.call told in
+    let R1 = c.len.ensures.same.reads told in
+    let size : c.in_ok-size.size ≡ length R = c.in_ok-size.ensures.answer told in
+    let only1 : (b : List ℕ) → (g.D.Disk.state c.len.new.self).leaves file b → b ≡ R = λ b h. only0 b (c.len.ensures.same.leaves b h) in
+    let go1 = then (begin file D0 P) c.len.ensures.call file_in (λ b h. untouched file R b (only1 b h)) in
+    let short : length R ≤ 9 = omega (arith, size, c.if-size-le9.true) in
+    let bytes : c.fresh.result ≡ magic file ++ 0 ∷ [] = c.fresh.ensures in
+    let nine : length c.fresh.result ≡ 9 = omega (arith, ap length bytes, length-append (magic file) (0 ∷ []), magic_long file) in
+    let left : (b : List ℕ) → (g.D.Disk.state c.write_at.new.self).leaves file b → IsRecovered file R b = λ b h. Log_as_found (short_as_found file R _ short nine _ _ only1 c.write_at.ensures.crash b h) in
+    let go2 = then go1 c.write_at.ensures.call file_in left in
+    go2.moments
+
+pub returns-in_err-sync-clause-moments : goal.returns-in_err-sync-clause-moments
+returns-in_err-sync-clause-moments g c told =
+    let file = c.args.file in
+    let D0 = g.D.Disk.state c.args.disk.now in
+    let R = D0.reads file in
+    let P : List ℕ → Type 0 = λ b. IsRecovered file R b in
+    let file_in = c.requires.file in
+    let only0 : (b : List ℕ) → D0.leaves file b → b ≡ R = λ b h. c.requires.synced told b h in
+    let told1 = still c.len.ensures.call told in
+    let R1 = c.len.ensures.same.reads told in
+    let size : c.in_ok-size.size ≡ length R = c.in_ok-size.ensures.answer told in
+    let only1 : (b : List ℕ) → (g.D.Disk.state c.len.new.self).leaves file b → b ≡ R = λ b h. only0 b (c.len.ensures.same.leaves b h) in
+    let go1 = then (begin file D0 P) c.len.ensures.call file_in (λ b h. untouched file R b (only1 b h)) in
+    let short : length R ≤ 9 = omega (arith, size, c.if-size-le9.true) in
+    let bytes : c.fresh.result ≡ magic file ++ 0 ∷ [] = c.fresh.ensures in
+    let nine : length c.fresh.result ≡ 9 = omega (arith, ap length bytes, length-append (magic file) (0 ∷ []), magic_long file) in
+    let left : (b : List ℕ) → (g.D.Disk.state c.write_at.new.self).leaves file b → IsRecovered file R b = λ b h. Log_as_found (short_as_found file R _ short nine _ _ only1 c.write_at.ensures.crash b h) in
+    let go2 = then go1 c.write_at.ensures.call file_in left in
+    let go3 = then go2 c.sync.ensures.call file_in (λ b h. left b (c.sync.ensures.same.leaves b h)) in
+    go3.moments
+
+pub returns-then-size-le9-clause-moments : goal.returns-then-size-le9-clause-moments
+returns-then-size-le9-clause-moments g c told =
+    let file = c.args.file in
+    let D0 = g.D.Disk.state c.args.disk.now in
+    let R = D0.reads file in
+    let P : List ℕ → Type 0 = λ b. IsRecovered file R b in
+    let file_in = c.requires.file in
+    let only0 : (b : List ℕ) → D0.leaves file b → b ≡ R = λ b h. c.requires.synced told b h in
+    let told1 = still c.len.ensures.call told in
+    let R1 = c.len.ensures.same.reads told in
+    let size : c.in_ok-size.size ≡ length R = c.in_ok-size.ensures.answer told in
+    let only1 : (b : List ℕ) → (g.D.Disk.state c.len.new.self).leaves file b → b ≡ R = λ b h. only0 b (c.len.ensures.same.leaves b h) in
+    let go1 = then (begin file D0 P) c.len.ensures.call file_in (λ b h. untouched file R b (only1 b h)) in
+    let short : length R ≤ 9 = omega (arith, size, c.if-size-le9.true) in
+    let bytes : c.fresh.result ≡ magic file ++ 0 ∷ [] = c.fresh.ensures in
+    let nine : length c.fresh.result ≡ 9 = omega (arith, ap length bytes, length-append (magic file) (0 ∷ []), magic_long file) in
+    let left : (b : List ℕ) → (g.D.Disk.state c.write_at.new.self).leaves file b → IsRecovered file R b = λ b h. Log_as_found (short_as_found file R _ short nine _ _ only1 c.write_at.ensures.crash b h) in
+    let go2 = then go1 c.write_at.ensures.call file_in left in
+    let go3 = then go2 c.sync.ensures.call file_in (λ b h. left b (c.sync.ensures.same.leaves b h)) in
+    go3.moments
+
+pub returns-then-size-le9-clause-log : goal.returns-then-size-le9-clause-log
+returns-then-size-le9-clause-log g c told =
+    let file = c.args.file in
+    let D0 = g.D.Disk.state c.args.disk.now in
+    let R = D0.reads file in
+    let P : List ℕ → Type 0 = λ b. IsRecovered file R b in
+    let file_in = c.requires.file in
+    let only0 : (b : List ℕ) → D0.leaves file b → b ≡ R = λ b h. c.requires.synced told b h in
+    let told1 = still c.len.ensures.call told in
+    let R1 = c.len.ensures.same.reads told in
+    let size : c.in_ok-size.size ≡ length R = c.in_ok-size.ensures.answer told in
+    let only1 : (b : List ℕ) → (g.D.Disk.state c.len.new.self).leaves file b → b ≡ R = λ b h. only0 b (c.len.ensures.same.leaves b h) in
+    let short : length R ≤ 9 = omega (arith, size, c.if-size-le9.true) in
+    let bytes : c.fresh.result ≡ magic file ++ 0 ∷ [] = c.fresh.ensures in
+    let told2 = still c.write_at.ensures.call told1 in
+    let done = short_written file R c.fresh.result _ short bytes (subst (λ (l : List ℕ). (g.D.Disk.state c.write_at.new.self).reads file ≡ written 0 c.fresh.result l) R1 (c.in_ok-write_at.ensures.written told1)) in (
+      [],
+      0,
+      short_log file R short,
+      ap (map frame_view) c.new.ensures.items,
+      record {
+        sized = tt;
+        payload = tt;
+        end = sym (front_long file []);
+        waits = refl;
+        reads = subst (IsShut (front file [])) (sym (c.sync.ensures.same.reads told2)) done;
+        leaves = λ b h. subst (IsShut (front file [])) (sym (c.in_ok-sync.ensures.durable told2 b h)) done;
+      },
+    )
+
+pub returns-in_err-read-clause-moments : goal.returns-in_err-read-clause-moments
+returns-in_err-read-clause-moments g c told =
+    let file = c.args.file in
+    let D0 = g.D.Disk.state c.args.disk.now in
+    let R = D0.reads file in
+    let P : List ℕ → Type 0 = λ b. IsRecovered file R b in
+    let file_in = c.requires.file in
+    let only0 : (b : List ℕ) → D0.leaves file b → b ≡ R = λ b h. c.requires.synced told b h in
+    let told1 = still c.len.ensures.call told in
+    let R1 = c.len.ensures.same.reads told in
+    let size : c.in_ok-size.size ≡ length R = c.in_ok-size.ensures.answer told in
+    let only1 : (b : List ℕ) → (g.D.Disk.state c.len.new.self).leaves file b → b ≡ R = λ b h. only0 b (c.len.ensures.same.leaves b h) in
+    let go1 = then (begin file D0 P) c.len.ensures.call file_in (λ b h. untouched file R b (only1 b h)) in
+    let only2 : (b : List ℕ) → (g.D.Disk.state c.read.new.self).leaves file b → b ≡ R = λ b h. only1 b (c.read.ensures.same.leaves b h) in
+    let go2 = then go1 c.read.ensures.call file_in (λ b h. untouched file R b (only2 b h)) in
+    go2.moments
+
+pub returns-then-not-is_magic-clause-damaged : goal.returns-then-not-is_magic-clause-damaged
+returns-then-not-is_magic-clause-damaged g c at is told =
+    let file = c.args.file in
+    let D0 = g.D.Disk.state c.args.disk.now in
+    let R = D0.reads file in
+    let P : List ℕ → Type 0 = λ b. IsRecovered file R b in
+    let file_in = c.requires.file in
+    let only0 : (b : List ℕ) → D0.leaves file b → b ≡ R = λ b h. c.requires.synced told b h in
+    let told1 = still c.len.ensures.call told in
+    let R1 = c.len.ensures.same.reads told in
+    let size : c.in_ok-size.size ≡ length R = c.in_ok-size.ensures.answer told in
+    let only1 : (b : List ℕ) → (g.D.Disk.state c.len.new.self).leaves file b → b ≡ R = λ b h. only0 b (c.len.ensures.same.leaves b h) in
+    let long : 10 ≤ length R = omega (arith, size, c.if-size-le9.false) in
+    let told2 = still c.read.ensures.call told1 in
+    let R2 = c.read.ensures.same.reads told1 ∙ R1 in
+    let only2 : (b : List ℕ) → (g.D.Disk.state c.read.new.self).leaves file b → b ≡ R = λ b h. only1 b (c.read.ensures.same.leaves b h) in
+    let eight : length c.read.new.buf ≡ 8 = omega arith in
+    let head : starts_with (magic file) c.read.new.buf ≡ starts_with (magic file) R =
+    head_is file c.in_ok-read.field-0 c.read.new.buf R eight long (omega (arith, c.in_ok-read.ensures.answer told1, ap length R1)) (c.in_ok-read.ensures.bytes told1 ∙ ap (λ (l : List ℕ). take c.in_ok-read.field-0 l) R1) in
+    let where_at : 0 ≡ at = cc is in
+    let other : c.is_magic.result ≡ false = search rules in
+    other_magic file R long (sym head ∙ sym c.is_magic.ensures ∙ other) ∙ ap NoLog where_at
+
+pub returns-then-not-is_magic-clause-moments : goal.returns-then-not-is_magic-clause-moments
+returns-then-not-is_magic-clause-moments g c told =
+    let file = c.args.file in
+    let D0 = g.D.Disk.state c.args.disk.now in
+    let R = D0.reads file in
+    let P : List ℕ → Type 0 = λ b. IsRecovered file R b in
+    let file_in = c.requires.file in
+    let only0 : (b : List ℕ) → D0.leaves file b → b ≡ R = λ b h. c.requires.synced told b h in
+    let told1 = still c.len.ensures.call told in
+    let R1 = c.len.ensures.same.reads told in
+    let size : c.in_ok-size.size ≡ length R = c.in_ok-size.ensures.answer told in
+    let only1 : (b : List ℕ) → (g.D.Disk.state c.len.new.self).leaves file b → b ≡ R = λ b h. only0 b (c.len.ensures.same.leaves b h) in
+    let go1 = then (begin file D0 P) c.len.ensures.call file_in (λ b h. untouched file R b (only1 b h)) in
+    let only2 : (b : List ℕ) → (g.D.Disk.state c.read.new.self).leaves file b → b ≡ R = λ b h. only1 b (c.read.ensures.same.leaves b h) in
+    let go2 = then go1 c.read.ensures.call file_in (λ b h. untouched file R b (only2 b h)) in
+    go2.moments
+
+pub returns-in_err-scan-clause-damaged : goal.returns-in_err-scan-clause-damaged
+returns-in_err-scan-clause-damaged g c at is told =
+    let file = c.args.file in
+    let D0 = g.D.Disk.state c.args.disk.now in
+    let R = D0.reads file in
+    let P : List ℕ → Type 0 = λ b. IsRecovered file R b in
+    let file_in = c.requires.file in
+    let only0 : (b : List ℕ) → D0.leaves file b → b ≡ R = λ b h. c.requires.synced told b h in
+    let told1 = still c.len.ensures.call told in
+    let R1 = c.len.ensures.same.reads told in
+    let size : c.in_ok-size.size ≡ length R = c.in_ok-size.ensures.answer told in
+    let only1 : (b : List ℕ) → (g.D.Disk.state c.len.new.self).leaves file b → b ≡ R = λ b h. only0 b (c.len.ensures.same.leaves b h) in
+    let long : 10 ≤ length R = omega (arith, size, c.if-size-le9.false) in
+    let told2 = still c.read.ensures.call told1 in
+    let R2 = c.read.ensures.same.reads told1 ∙ R1 in
+    let only2 : (b : List ℕ) → (g.D.Disk.state c.read.new.self).leaves file b → b ≡ R = λ b h. only1 b (c.read.ensures.same.leaves b h) in
+    let eight : length c.read.new.buf ≡ 8 = omega arith in
+    let head : starts_with (magic file) c.read.new.buf ≡ starts_with (magic file) R =
+    head_is file c.in_ok-read.field-0 c.read.new.buf R eight long (omega (arith, c.in_ok-read.ensures.answer told1, ap length R1)) (c.in_ok-read.ensures.bytes told1 ∙ ap (λ (l : List ℕ). take c.in_ok-read.field-0 l) R1) in
+    let matches : c.is_magic.result ≡ true = search rules in
+    let begins : starts_with (magic file) R ≡ true = sym head ∙ sym c.is_magic.ensures ∙ matches in
+    let broken = c.in_err-scan.ensures.damaged at (search rules) told2 in
+    damaged file at R long begins (subst (λ (l : List ℕ). frames_at (length R) 8 (drop 8 l) ≡ NoLog at) R2 (subst (λ (k : ℕ). frames_at k 8 (drop 8 ((g.D.Disk.state c.read.new.self).reads file)) ≡ NoLog at) size broken))
+
+pub returns-in_err-scan-clause-moments : goal.returns-in_err-scan-clause-moments
+returns-in_err-scan-clause-moments g c told =
+    let file = c.args.file in
+    let D0 = g.D.Disk.state c.args.disk.now in
+    let R = D0.reads file in
+    let P : List ℕ → Type 0 = λ b. IsRecovered file R b in
+    let file_in = c.requires.file in
+    let only0 : (b : List ℕ) → D0.leaves file b → b ≡ R = λ b h. c.requires.synced told b h in
+    let told1 = still c.len.ensures.call told in
+    let R1 = c.len.ensures.same.reads told in
+    let size : c.in_ok-size.size ≡ length R = c.in_ok-size.ensures.answer told in
+    let only1 : (b : List ℕ) → (g.D.Disk.state c.len.new.self).leaves file b → b ≡ R = λ b h. only0 b (c.len.ensures.same.leaves b h) in
+    let go1 = then (begin file D0 P) c.len.ensures.call file_in (λ b h. untouched file R b (only1 b h)) in
+    let only2 : (b : List ℕ) → (g.D.Disk.state c.read.new.self).leaves file b → b ≡ R = λ b h. only1 b (c.read.ensures.same.leaves b h) in
+    let go2 = then go1 c.read.ensures.call file_in (λ b h. untouched file R b (only2 b h)) in
+    let go3 = compose go2 (going c.read_frames.ensures.run c.read_frames.ensures.moments) (λ b h. untouched file R b (only2 b h)) in
+    go3.moments
+
+pub returns-in_err-write_at-2-clause-moments : goal.returns-in_err-write_at-2-clause-moments
+returns-in_err-write_at-2-clause-moments g c told =
+    let file = c.args.file in
+    let D0 = g.D.Disk.state c.args.disk.now in
+    let R = D0.reads file in
+    let P : List ℕ → Type 0 = λ b. IsRecovered file R b in
+    let file_in = c.requires.file in
+    let only0 : (b : List ℕ) → D0.leaves file b → b ≡ R = λ b h. c.requires.synced told b h in
+    let told1 = still c.len.ensures.call told in
+    let R1 = c.len.ensures.same.reads told in
+    let size : c.in_ok-size.size ≡ length R = c.in_ok-size.ensures.answer told in
+    let only1 : (b : List ℕ) → (g.D.Disk.state c.len.new.self).leaves file b → b ≡ R = λ b h. only0 b (c.len.ensures.same.leaves b h) in
+    let go1 = then (begin file D0 P) c.len.ensures.call file_in (λ b h. untouched file R b (only1 b h)) in
+    let long : 10 ≤ length R = omega (arith, size, c.if-size-le9.false) in
+    let told2 = still c.read.ensures.call told1 in
+    let R2 = c.read.ensures.same.reads told1 ∙ R1 in
+    let only2 : (b : List ℕ) → (g.D.Disk.state c.read.new.self).leaves file b → b ≡ R = λ b h. only1 b (c.read.ensures.same.leaves b h) in
+    let go2 = then go1 c.read.ensures.call file_in (λ b h. untouched file R b (only2 b h)) in
+    let eight : length c.read.new.buf ≡ 8 = omega arith in
+    let head : starts_with (magic file) c.read.new.buf ≡ starts_with (magic file) R =
+    head_is file c.in_ok-read.field-0 c.read.new.buf R eight long (omega (arith, c.in_ok-read.ensures.answer told1, ap length R1)) (c.in_ok-read.ensures.bytes told1 ∙ ap (λ (l : List ℕ). take c.in_ok-read.field-0 l) R1) in
+    let matches : c.is_magic.result ≡ true = search rules in
+    let begins : starts_with (magic file) R ≡ true = sym head ∙ sym c.is_magic.ensures ∙ matches in
+    let go3 = compose go2 (going c.read_frames.ensures.run c.read_frames.ensures.moments) (λ b h. untouched file R b (only2 b h)) in
+    let only3 : (b : List ℕ) → (g.D.Disk.state c.read_frames.new.disk).leaves file b → b ≡ R = λ b h. only2 b (c.read_frames.ensures.same.leaves b h) in
+    let told3 = subst (λ b. IsTrue b) (sym c.read_frames.ensures.run.tells) told2 in
+    let R3 = c.read_frames.ensures.same.reads told2 ∙ R2 in
+    let s : IsScanned R c.in_ok-scan.scan = subst (λ (l : List ℕ). IsScanned l c.in_ok-scan.scan) R2 (c.in_ok-scan.ensures.scan told2) in
+    let is = scanned file R c.in_ok-scan.scan s begins in
+    let left : (b : List ℕ) → (g.D.Disk.state c.write_at-then-scan-ne-SHUT.new.self).leaves file b → IsRecovered file R b = λ b h. Log_as_found (gate_as_found file s.payloads c.in_ok-scan.scan.gate c.in_ok-scan.scan.end s.rest R s.sized is s.shut c.if-scan-ne-SHUT.true long s.end _ _ only3 c.write_at-then-scan-ne-SHUT.ensures.crash b h) in
+    let go4 = then go3 c.write_at-then-scan-ne-SHUT.ensures.call file_in left in
+    go4.moments
+
+pub returns-in_err-sync-2-clause-moments : goal.returns-in_err-sync-2-clause-moments
+returns-in_err-sync-2-clause-moments g c told =
+    let file = c.args.file in
+    let D0 = g.D.Disk.state c.args.disk.now in
+    let R = D0.reads file in
+    let P : List ℕ → Type 0 = λ b. IsRecovered file R b in
+    let file_in = c.requires.file in
+    let only0 : (b : List ℕ) → D0.leaves file b → b ≡ R = λ b h. c.requires.synced told b h in
+    let told1 = still c.len.ensures.call told in
+    let R1 = c.len.ensures.same.reads told in
+    let size : c.in_ok-size.size ≡ length R = c.in_ok-size.ensures.answer told in
+    let only1 : (b : List ℕ) → (g.D.Disk.state c.len.new.self).leaves file b → b ≡ R = λ b h. only0 b (c.len.ensures.same.leaves b h) in
+    let go1 = then (begin file D0 P) c.len.ensures.call file_in (λ b h. untouched file R b (only1 b h)) in
+    let long : 10 ≤ length R = omega (arith, size, c.if-size-le9.false) in
+    let told2 = still c.read.ensures.call told1 in
+    let R2 = c.read.ensures.same.reads told1 ∙ R1 in
+    let only2 : (b : List ℕ) → (g.D.Disk.state c.read.new.self).leaves file b → b ≡ R = λ b h. only1 b (c.read.ensures.same.leaves b h) in
+    let go2 = then go1 c.read.ensures.call file_in (λ b h. untouched file R b (only2 b h)) in
+    let eight : length c.read.new.buf ≡ 8 = omega arith in
+    let head : starts_with (magic file) c.read.new.buf ≡ starts_with (magic file) R =
+    head_is file c.in_ok-read.field-0 c.read.new.buf R eight long (omega (arith, c.in_ok-read.ensures.answer told1, ap length R1)) (c.in_ok-read.ensures.bytes told1 ∙ ap (λ (l : List ℕ). take c.in_ok-read.field-0 l) R1) in
+    let matches : c.is_magic.result ≡ true = search rules in
+    let begins : starts_with (magic file) R ≡ true = sym head ∙ sym c.is_magic.ensures ∙ matches in
+    let go3 = compose go2 (going c.read_frames.ensures.run c.read_frames.ensures.moments) (λ b h. untouched file R b (only2 b h)) in
+    let only3 : (b : List ℕ) → (g.D.Disk.state c.read_frames.new.disk).leaves file b → b ≡ R = λ b h. only2 b (c.read_frames.ensures.same.leaves b h) in
+    let told3 = subst (λ b. IsTrue b) (sym c.read_frames.ensures.run.tells) told2 in
+    let R3 = c.read_frames.ensures.same.reads told2 ∙ R2 in
+    let s : IsScanned R c.in_ok-scan.scan = subst (λ (l : List ℕ). IsScanned l c.in_ok-scan.scan) R2 (c.in_ok-scan.ensures.scan told2) in
+    let is = scanned file R c.in_ok-scan.scan s begins in
+    let left : (b : List ℕ) → (g.D.Disk.state c.write_at-then-scan-ne-SHUT.new.self).leaves file b → IsRecovered file R b = λ b h. Log_as_found (gate_as_found file s.payloads c.in_ok-scan.scan.gate c.in_ok-scan.scan.end s.rest R s.sized is s.shut c.if-scan-ne-SHUT.true long s.end _ _ only3 c.write_at-then-scan-ne-SHUT.ensures.crash b h) in
+    let go4 = then go3 c.write_at-then-scan-ne-SHUT.ensures.call file_in left in
+    let go5 = then go4 c.sync-then-scan-ne-SHUT.ensures.call file_in (λ b h. left b (c.sync-then-scan-ne-SHUT.ensures.same.leaves b h)) in
+    go5.moments
+
+pub returns-clause-moments : goal.returns-clause-moments
+returns-clause-moments g c told =
+    let file = c.args.file in
+    let D0 = g.D.Disk.state c.args.disk.now in
+    let R = D0.reads file in
+    let P : List ℕ → Type 0 = λ b. IsRecovered file R b in
+    let file_in = c.requires.file in
+    let only0 : (b : List ℕ) → D0.leaves file b → b ≡ R = λ b h. c.requires.synced told b h in
+    let told1 = still c.len.ensures.call told in
+    let R1 = c.len.ensures.same.reads told in
+    let size : c.in_ok-size.size ≡ length R = c.in_ok-size.ensures.answer told in
+    let only1 : (b : List ℕ) → (g.D.Disk.state c.len.new.self).leaves file b → b ≡ R = λ b h. only0 b (c.len.ensures.same.leaves b h) in
+    let go1 = then (begin file D0 P) c.len.ensures.call file_in (λ b h. untouched file R b (only1 b h)) in
+    let long : 10 ≤ length R = omega (arith, size, c.if-size-le9.false) in
+    let told2 = still c.read.ensures.call told1 in
+    let R2 = c.read.ensures.same.reads told1 ∙ R1 in
+    let only2 : (b : List ℕ) → (g.D.Disk.state c.read.new.self).leaves file b → b ≡ R = λ b h. only1 b (c.read.ensures.same.leaves b h) in
+    let go2 = then go1 c.read.ensures.call file_in (λ b h. untouched file R b (only2 b h)) in
+    let eight : length c.read.new.buf ≡ 8 = omega arith in
+    let head : starts_with (magic file) c.read.new.buf ≡ starts_with (magic file) R =
+    head_is file c.in_ok-read.field-0 c.read.new.buf R eight long (omega (arith, c.in_ok-read.ensures.answer told1, ap length R1)) (c.in_ok-read.ensures.bytes told1 ∙ ap (λ (l : List ℕ). take c.in_ok-read.field-0 l) R1) in
+    let matches : c.is_magic.result ≡ true = search rules in
+    let begins : starts_with (magic file) R ≡ true = sym head ∙ sym c.is_magic.ensures ∙ matches in
+    let go3 = compose go2 (going c.read_frames.ensures.run c.read_frames.ensures.moments) (λ b h. untouched file R b (only2 b h)) in
+    let only3 : (b : List ℕ) → (g.D.Disk.state c.read_frames.new.disk).leaves file b → b ≡ R = λ b h. only2 b (c.read_frames.ensures.same.leaves b h) in
+    let told3 = subst (λ b. IsTrue b) (sym c.read_frames.ensures.run.tells) told2 in
+    let R3 = c.read_frames.ensures.same.reads told2 ∙ R2 in
+    let s : IsScanned R c.in_ok-scan.scan = subst (λ (l : List ℕ). IsScanned l c.in_ok-scan.scan) R2 (c.in_ok-scan.ensures.scan told2) in
+    let is = scanned file R c.in_ok-scan.scan s begins in
+    elim c.if-scan-ne-SHUT.branch [
+      | then-scan-ne-SHUT+in_ok-write_at-2+in_ok-sync-2 w ↦
+          let left : (b : List ℕ) → (g.D.Disk.state w.write_at-then-scan-ne-SHUT.new.self).leaves file b → IsRecovered file R b = λ b h. Log_as_found (gate_as_found file s.payloads c.in_ok-scan.scan.gate c.in_ok-scan.scan.end s.rest R s.sized is s.shut w.if-scan-ne-SHUT.true long s.end _ _ only3 w.write_at-then-scan-ne-SHUT.ensures.crash b h) in
+          let go4 = then go3 w.write_at-then-scan-ne-SHUT.ensures.call file_in left in
+          let go5 = then go4 w.sync-then-scan-ne-SHUT.ensures.call file_in (λ b h. left b (w.sync-then-scan-ne-SHUT.ensures.same.leaves b h)) in
+          subst (λ d. LeavesOnly file D0 (g.D.Disk.state d) P) (sym w.disk-is) go5.moments
+      | else-scan-ne-SHUT w ↦ subst (λ d. LeavesOnly file D0 (g.D.Disk.state d) P) (sym w.disk-is) go3.moments
+    ]
+
+pub returns-clause-log : goal.returns-clause-log
+returns-clause-log g c told =
+    let file = c.args.file in
+    let D0 = g.D.Disk.state c.args.disk.now in
+    let R = D0.reads file in
+    let P : List ℕ → Type 0 = λ b. IsRecovered file R b in
+    let file_in = c.requires.file in
+    let only0 : (b : List ℕ) → D0.leaves file b → b ≡ R = λ b h. c.requires.synced told b h in
+    let told1 = still c.len.ensures.call told in
+    let R1 = c.len.ensures.same.reads told in
+    let size : c.in_ok-size.size ≡ length R = c.in_ok-size.ensures.answer told in
+    let only1 : (b : List ℕ) → (g.D.Disk.state c.len.new.self).leaves file b → b ≡ R = λ b h. only0 b (c.len.ensures.same.leaves b h) in
+    let long : 10 ≤ length R = omega (arith, size, c.if-size-le9.false) in
+    let told2 = still c.read.ensures.call told1 in
+    let R2 = c.read.ensures.same.reads told1 ∙ R1 in
+    let only2 : (b : List ℕ) → (g.D.Disk.state c.read.new.self).leaves file b → b ≡ R = λ b h. only1 b (c.read.ensures.same.leaves b h) in
+    let eight : length c.read.new.buf ≡ 8 = omega arith in
+    let head : starts_with (magic file) c.read.new.buf ≡ starts_with (magic file) R =
+    head_is file c.in_ok-read.field-0 c.read.new.buf R eight long (omega (arith, c.in_ok-read.ensures.answer told1, ap length R1)) (c.in_ok-read.ensures.bytes told1 ∙ ap (λ (l : List ℕ). take c.in_ok-read.field-0 l) R1) in
+    let matches : c.is_magic.result ≡ true = search rules in
+    let begins : starts_with (magic file) R ≡ true = sym head ∙ sym c.is_magic.ensures ∙ matches in
+    let only3 : (b : List ℕ) → (g.D.Disk.state c.read_frames.new.disk).leaves file b → b ≡ R = λ b h. only2 b (c.read_frames.ensures.same.leaves b h) in
+    let told3 = subst (λ b. IsTrue b) (sym c.read_frames.ensures.run.tells) told2 in
+    let R3 = c.read_frames.ensures.same.reads told2 ∙ R2 in
+    let s : IsScanned R c.in_ok-scan.scan = subst (λ (l : List ℕ). IsScanned l c.in_ok-scan.scan) R2 (c.in_ok-scan.ensures.scan told2) in
+    let is = scanned file R c.in_ok-scan.scan s begins in
+    let F = front file s.payloads in
+    let ends : c.in_ok-scan.scan.end ≡ length F = omega (arith, s.end, front_long file s.payloads) in
+    let found = reads_as file s.payloads c.in_ok-scan.scan.gate s.rest R s.sized is s.shut long in
+    elim c.if-scan-ne-SHUT.branch [
+      | then-scan-ne-SHUT+in_ok-write_at-2+in_ok-sync-2 w ↦
+          let told4 = still w.write_at-then-scan-ne-SHUT.ensures.call told3 in
+          let done = gate_shut file s.payloads c.in_ok-scan.scan.gate c.in_ok-scan.scan.end s.rest R _ is s.end (subst (λ (l : List ℕ). (g.D.Disk.state w.write_at-then-scan-ne-SHUT.new.self).reads file ≡ written c.in_ok-scan.scan.end (0 ∷ []) l) R3 (w.in_ok-write_at-2.ensures.written told3)) in
+          let reads5 : IsShut F ((g.D.Disk.state c.if-scan-ne-SHUT.disk).reads file) = subst (λ d. IsShut F ((g.D.Disk.state d).reads file)) (sym w.disk-is) (subst (IsShut F) (sym (w.sync-then-scan-ne-SHUT.ensures.same.reads told4)) done) in
+          let leaves5 : (b : List ℕ) → (g.D.Disk.state c.if-scan-ne-SHUT.disk).leaves file b → IsShut F b = subst (λ d. (b : List ℕ) → (g.D.Disk.state d).leaves file b → IsShut F b) (sym w.disk-is) (λ b h. subst (IsShut F) (sym (w.in_ok-sync-2.ensures.durable told4 b h)) done) in
+          (s.payloads, c.in_ok-scan.scan.gate, found, s.views, record { sized = s.sized; payload = tt; end = ends; waits = refl; reads = reads5; leaves = λ b h. leaves5 b h })
+      | else-scan-ne-SHUT w ↦
+          let done : IsShut F R = (s.rest, is ∙ ap (λ (k : ℕ). F ++ k ∷ s.rest) w.if-scan-ne-SHUT.false) in
+          let reads5 : IsShut F ((g.D.Disk.state c.if-scan-ne-SHUT.disk).reads file) = subst (λ d. IsShut F ((g.D.Disk.state d).reads file)) (sym w.disk-is) (subst (IsShut F) (sym R3) done) in
+          let leaves5 : (b : List ℕ) → (g.D.Disk.state c.if-scan-ne-SHUT.disk).leaves file b → IsShut F b = subst (λ d. (b : List ℕ) → (g.D.Disk.state d).leaves file b → IsShut F b) (sym w.disk-is) (λ b h. subst (IsShut F) (sym (only3 b h)) done) in
+          (s.payloads, c.in_ok-scan.scan.gate, found, s.views, record { sized = s.sized; payload = tt; end = ends; waits = refl; reads = reads5; leaves = λ b h. leaves5 b h })
+    ]
