@@ -6,7 +6,7 @@ use Rattle.hk_base.specs.Writing.{WroteFront}
 use Rattle.world_run.specs.declared.event.Line.{Line}
 use Rattle.hkms_tool.specs.declared.replay.Ended.{Ended}
 use Rattle.hkms_tool.specs.declared.replay.Ended.TheVariants.{Done, BadLine, NoMemory, ReadFault, WriteFault}
-use Rattle.hkms_tool.specs.Transcript.{transcript}
+use Rattle.replay_text.specs.Transcript.{transcript}
 use Rattle.hkms_tool.specs.Replay.{Replayed, Replay, SaysSoFar, Says, Starts, BadNext, IsFront, IsWhole, Finishes, WritesLast, refused_line, no_memory_line, read_fault_line}
 
 -- the line that says which line was refused

@@ -5,8 +5,9 @@ use Rattle.hk_base.specs.Writing.{WroteFront}
 use Rattle.world_run.specs.declared.event.Event.{Event}
 use Rattle.hkms_tool.specs.declared.stage.Play.{Play}
 use Rattle.hkms_tool.specs.declared.stage.Play.TheVariants.{Played, BadLine, Unread, Untold, Unwritten}
-use Rattle.hkms_tool.specs.Events.{Spells, most_events}
-use Rattle.hkms_tool.specs.Transcript.{line_text}
+use Rattle.replay_text.specs.Events.{Spells}
+use Rattle.hkms_tool.specs.Run.{most_events}
+use Rattle.replay_text.specs.Transcript.{line_text}
 use Rattle.hkms_tool.specs.Steps.{View, PlaysSo, EventPlaysSo, PlaysLine, PlaysEvent}
 
 plays_line : (old : View) (line : List ℕ) (event : Event) (new : View) → old.events < most_events → Spells line event → PlaysEvent old event new → PlaysLine old line new

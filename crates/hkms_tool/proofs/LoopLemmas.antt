@@ -6,21 +6,22 @@ use Rattle.std.proofs.KnownBytes.{Appends-trans, Appends-nil, Consumes-trans}
 use Rattle.std.proofs.Math.Seq.{take-append_seam}
 use Rattle.hk_base.specs.Reading.{IsMore}
 use Rattle.hk_base.specs.Writing.{WroteFront}
+use Rattle.world_run.specs.declared.event.Event.{Event}
 use Rattle.world_run.specs.declared.event.Line.{Line}
 use Rattle.world_run.specs.World.{WorldState, first_world}
-use Rattle.world_run.specs.Step.{Step}
-use Rattle.world_run.specs.declared.event.Event.{Event}
-use Rattle.world_run.specs.declared.event.Event.TheVariants.{Kms, Mkdir, Info}
+use Rattle.world_run.specs.Ledger.{nothing_drawn}
+use Rattle.world_run.proofs.StartLemmas.{first-linked, first-open}
+use Rattle.world_run.specs.Keeps.{LinkedStep}
 use Rattle.hkms_tool.specs.declared.replay.Ended.{Ended}
 use Rattle.hkms_tool.specs.declared.replay.Ended.TheVariants as ended
 use Rattle.hkms_tool.specs.Lines.{is_line, is_lf, lines_of, text_of}
-use Rattle.hkms_tool.specs.Events.{IsBad, IsRefused, Spells, longest_line, most_events}
-use Rattle.hkms_tool.specs.Transcript.{transcript, line_text}
-use Rattle.hkms_tool.specs.Run.{Played, behind, Run}
+use Rattle.replay_text.specs.Events.{IsBad, longest_line}
+use Rattle.replay_text.specs.Transcript.{transcript, line_text}
+use Rattle.hkms_tool.specs.Run.{IsRefused, Played, behind, most_events, Run, Events}
 use Rattle.hkms_tool.specs.Steps.{View, PlaysLine, LineActs}
 use Rattle.hkms_tool.specs.Replay.{Replayed, SaysSoFar, Starts, IsFront, longest_input}
 use Rattle.hkms_tool.proofs.SplitLemmas.{split_text, split_last, split_on, split_ended, parts, text_more, whole_more, count_lf}
-use Rattle.hkms_tool.proofs.RunLemmas.{run_more, events_quiet, events_more, transcript_more, length_run}
+use Rattle.hkms_tool.proofs.RunLemmas.{files_open, run_more, events_quiet, events_more, transcript_more, length_run}
 
 -- where a replay began: the words to come, what was left to read, and what was written
 pub record Begin : Type 0 where
@@ -48,12 +49,18 @@ pub record SoFar (b : Begin) (s : Stand) : Type 0 where
   pub used_is : s.used ≡ length (text_of lines)
   pub wrote : Appends b.written s.view.written (transcript 1 replies)
 
+-- a run from the first world on, in each of whose worlds the zone files open
+played_of : (words : ℕ → ℕ) (lines : List (List ℕ)) (replies : List Line) (state : WorldState) (drawn : ℕ) (events : List Event) → Events lines events → length events ≤ most_events
+    → Run first_world words 1 events replies state drawn → Played words lines replies state drawn
+played_of words lines replies state drawn events spelled few run =
+    record { events = events; spelled = spelled; few = few; run = run; files_open = files_open nothing_drawn first_world words 1 events replies state drawn first-linked first-open run }
+
 pub nothing_yet : (b : Begin) (s : Stand) → s.view.state ≡ first_world → ((k : ℕ) → s.view.words k ≡ b.words k) → s.view.events ≡ 0 → s.count ≡ 0 → s.used ≡ 0 → Consumes b.left s.ahead [] → Appends b.written s.view.written [] → SoFar b s
 nothing_yet b s start words events count used consumed wrote = record {
   lines = [];
   replies = [];
   drawn = 0;
-  played = record { events = []; spelled = refl; few = omega arith; run = (start, refl) };
+  played = played_of b.words [] [] s.view.state 0 [] refl (omega arith) (start, refl);
   rest = λ k. words k ∙ ap b.words (omega arith);
   numbered = events;
   counted = count;
@@ -70,25 +77,18 @@ pub played_more : (words : ℕ → ℕ) (old : View) (lines : List (List ℕ)) (
 played_more words old lines replies drawn line [] new more before rest numbered acts =
     let same : new ≡ old.state = acts.1 in
     let none : drawn ≡ drawn + more = omega (arith, acts.2) in
-    record {
-      events = before.events;
-      spelled = events_quiet lines before.events line before.spelled acts.0;
-      few = before.few;
-      run = subst (λ (rs : List Line). Run first_world words 1 before.events rs new (drawn + more)) (sym (append-nil replies))
-          (subst (λ (s : WorldState). Run first_world words 1 before.events replies s (drawn + more)) (sym same)
-          (subst (λ (t : ℕ). Run first_world words 1 before.events replies old.state t) none before.run));
-    }
+    played_of words (lines ++ line ∷ []) (replies ++ []) new (drawn + more) before.events (events_quiet lines before.events line before.spelled acts.0) before.few
+    (subst (λ (rs : List Line). Run first_world words 1 before.events rs new (drawn + more)) (sym (append-nil replies))
+    (subst (λ (s : WorldState). Run first_world words 1 before.events replies s (drawn + more)) (sym same)
+    (subst (λ (t : ℕ). Run first_world words 1 before.events replies old.state t) none before.run)))
 played_more words old lines replies drawn line (reply ∷ []) new more before rest numbered acts =
     let words_path : old.words ≡ behind drawn words = λ i k. rest k i in
     let each : length before.events ≡ length replies = length_run first_world words 1 before.events replies old.state drawn before.run in
     let room : old.events < most_events = acts.2 in
-    record {
-      events = before.events ++ acts.0 ∷ [];
-      spelled = events_more lines before.events line acts.0 before.spelled acts.1;
-      few = omega (arith, length-append before.events (acts.0 ∷ []), each, numbered, room);
-      run = run_more first_world words 1 before.events replies old.state drawn acts.0 reply new more (old.events + 1) before.run (omega arith)
-          (subst (λ (w : ℕ → ℕ). Step old.state w (old.events + 1) acts.0 reply more new) words_path acts.3);
-    }
+    played_of words (lines ++ line ∷ []) (replies ++ reply ∷ []) new (drawn + more) (before.events ++ acts.0 ∷ [])
+    (events_more lines before.events line acts.0 before.spelled acts.1) (omega (arith, length-append before.events (acts.0 ∷ []), each, numbered, room))
+    (run_more first_world words 1 before.events replies old.state drawn acts.0 reply new more (old.events + 1) before.run (omega arith)
+    (subst (λ (w : ℕ → ℕ). LinkedStep old.state w (old.events + 1) acts.0 reply more new) words_path acts.3))
 played_more words old lines replies drawn line (reply ∷ other ∷ here) new more before rest numbered acts = absurd acts
 
 -- the transcript with the replies to one more line
@@ -191,16 +191,11 @@ bad_last b s line ahead written so is consumed end bad wrote =
     stops b s written ended.BadLine so wrote (λ all told.
     (inl (line, [], last_is b s line ahead so is consumed end all told, refused_here s.view.events so.replies line so.numbered bad), refl))
 
-spells_short : (line : List ℕ) (event : Event) → Spells line event → length line ≤ longest_line
-spells_short line (Kms user call) spells = spells.short
-spells_short line (Mkdir user path) spells = spells.short
-spells_short line (Info user path) spells = spells.short
-
 too_long_is_bad : (line : List ℕ) → longest_line < length line → IsBad line
 too_long_is_bad [] long = absurd (omega arith)
 too_long_is_bad (b ∷ bs) long = record {
   not_quiet = λ quiet. absurd (omega (arith, quiet.1));
-  no_event = λ event spells. absurd (omega (arith, spells_short (b ∷ bs) event spells));
+  no_event = λ event spells. absurd (omega (arith, spells.short));
 }
 
 pub too_long : (b : Begin) (s : Stand) (line : List ℕ) (ahead : Option (List ℕ)) → SoFar b s → is_line line ≡ true → Consumes s.ahead ahead line → length line ≡ 1048577

@@ -1,6 +1,4 @@
 pub mod Lines
-pub mod Events
-pub mod Transcript
 pub mod Run
 pub mod Steps
 pub mod Replay

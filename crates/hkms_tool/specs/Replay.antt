@@ -8,9 +8,8 @@ use Rattle.hk_base.specs.Writing.{WroteFront}
 use Rattle.hkms_tool.specs.declared.replay.Ended.{Ended}
 use Rattle.hkms_tool.specs.declared.replay.Ended.TheVariants.{Done, BadLine, NoMemory, ReadFault, WriteFault}
 use Rattle.hkms_tool.specs.Lines.{lines_of, is_lf}
-use Rattle.hkms_tool.specs.Events.{IsRefused}
-use Rattle.hkms_tool.specs.Transcript.{transcript}
-use Rattle.hkms_tool.specs.Run.{Played}
+use Rattle.replay_text.specs.Transcript.{transcript}
+use Rattle.hkms_tool.specs.Run.{IsRefused, Played}
 
 -- an input has at most 2^40 bytes
 abbrev pub longest_input : ℕ

@@ -4,12 +4,13 @@ use Rattle.std.specs.Io.KnownBytes.{Appends}
 use Rattle.world_run.specs.declared.event.Line.{Line}
 use Rattle.hk_base.specs.Writing.{WroteFront}
 use Rattle.world_run.specs.World.{WorldState}
-use Rattle.world_run.specs.Step.{Step}
+use Rattle.world_run.specs.Keeps.{LinkedStep}
 use Rattle.world_run.specs.declared.event.Event.{Event}
 use Rattle.hkms_tool.specs.declared.stage.Play.{Play}
 use Rattle.hkms_tool.specs.declared.stage.Play.TheVariants.{Played, BadLine, Unread, Untold, Unwritten}
-use Rattle.hkms_tool.specs.Events.{IsQuiet, IsRefused, Spells, most_events}
-use Rattle.hkms_tool.specs.Transcript.{transcript, line_text}
+use Rattle.replay_text.specs.Events.{IsQuiet, Spells}
+use Rattle.hkms_tool.specs.Run.{IsRefused, most_events}
+use Rattle.replay_text.specs.Transcript.{transcript, line_text}
 
 -- where a replay stands between two lines
 pub record View : Type 0 where
@@ -21,7 +22,7 @@ pub record View : Type 0 where
 -- a line is quiet and has no reply, or is an event and has one
 abbrev pub LineActs : View → List ℕ → List Line → WorldState → ℕ → Type 0
 LineActs old line [] new drawn = IsQuiet line × (new ≡ old.state) × (drawn ≡ 0)
-LineActs old line (reply ∷ []) new drawn = (event : Event) × Spells line event × (old.events < most_events) × Step old.state old.words (old.events + 1) event reply drawn new
+LineActs old line (reply ∷ []) new drawn = (event : Event) × Spells line event × (old.events < most_events) × LinkedStep old.state old.words (old.events + 1) event reply drawn new
 LineActs old line (reply ∷ other ∷ replies) new drawn = ⊥
 
 pub record PlaysLine (old : View) (line : List ℕ) (new : View) : Type 0 where
@@ -42,7 +43,7 @@ PlaysSo old line Unwritten new = (plays : PlaysLine old line new) × WroteFront 
 pub record PlaysEvent (old : View) (event : Event) (new : View) : Type 0 where
   pub reply : Line
   pub drawn : ℕ
-  pub acts : Step old.state old.words (old.events + 1) event reply drawn new.state
+  pub acts : LinkedStep old.state old.words (old.events + 1) event reply drawn new.state
   pub rest : (k : ℕ) → new.words k ≡ old.words (drawn + k)
   pub counted : new.events ≡ old.events + 1
 

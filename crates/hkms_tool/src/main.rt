@@ -1,17 +1,12 @@
 //! hkms: the Hadoop key management server.
 #![tactic(auto)]
 
-mod calls;
 mod command;
-mod event;
-mod fields;
-mod laws;
 mod lines;
 mod replay;
 mod stage;
 #[cfg(test)]
 mod tests;
-mod transcript;
 
 use disk_kinds::{ChaWords, Reading, Writing};
 use hk_base::{Text, write_all};

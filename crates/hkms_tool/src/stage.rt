@@ -4,9 +4,8 @@ ghost use Rattle.hk_base.specs.Faults.{Rose};
 ghost use Rattle.world_run.specs.World.{first_world};
 ghost use Rattle.hkms_tool.specs.Steps.{EventPlaysSo, PlaysSo};
 
-use crate::event::{LineFault, read_event};
-use crate::transcript::write_line;
 use hk_base::{ByteList, NoMemory, Sink, Words, write_all};
+use replay_text::{LineFault, read_event, write_line};
 use std::alloc::Global;
 use world_run::{Event, World};
 

@@ -175,51 +175,6 @@ fn lines_users_and_names_at_their_limits(rt: HostRuntime) -> Result<(), Fail> {
     Ok(())
 }
 
-#[test]
-fn lines_are_read_in_their_spellings(rt: HostRuntime) -> Result<(), Fail> {
-    let cases = [
-        (b"kms %61lice metadata k".as_slice(), 0),
-        (b"kms %C3%a4 metadata k".as_slice(), 0),
-        (b"kms %c3 metadata k".as_slice(), 3),
-        (b"kms %4 metadata k".as_slice(), 3),
-        (b"kms %zz metadata k".as_slice(), 3),
-        (b"kms a:b metadata k".as_slice(), 3),
-        (b"kms  metadata k".as_slice(), 3),
-        (b"kms a  metadata k".as_slice(), 3),
-        (b"kms a metadata k ".as_slice(), 3),
-        (b" kms a metadata k".as_slice(), 3),
-        (b"kms a metadata k\r".as_slice(), 3),
-        (
-            b"kms a create k 128 00112233445566778899AABBCCDDEEFF".as_slice(),
-            0,
-        ),
-        (
-            b"kms a create k 128 00112233445566778899aabbccddeef".as_slice(),
-            3,
-        ),
-        (b"kms a create k 192 -".as_slice(), 3),
-        (b"kms a create k 128".as_slice(), 3),
-        (b"kms a roll k --".as_slice(), 3),
-        (b"kms a generate k 1000".as_slice(), 0),
-        (b"kms a generate k 1001".as_slice(), 3),
-        (b"kms a generate k 01".as_slice(), 3),
-        (
-            b"kms a decrypt k@01 00112233445566778899aabbccddeeff 00112233445566778899aabbccddeeff".as_slice(),
-            3,
-        ),
-        (
-            b"kms a decrypt k@1 00112233445566778899aabbccddeeff 0011".as_slice(),
-            3,
-        ),
-        (b"kms a delete k".as_slice(), 3),
-    ];
-    for (line, status) in cases {
-        let played = replay(rt.alloc(), line, &[], HONEST)?;
-        assert_eq!(rt; played.status, status, "{line:?}");
-    }
-    Ok(())
-}
-
 /// What a replay of one event answers.
 fn answer(alloc: Global, front: &[u8], path: &[u8]) -> Result<Vec<u8>, AllocError> {
     let mut script = front.to_vec(alloc)?;
@@ -356,31 +311,109 @@ fn both_services_answer_in_one_run(rt: HostRuntime) -> Result<(), Fail> {
     Ok(())
 }
 
+/// The events of a zone and of a file in it.
+const ZONE: &[u8] = b"kms a create k 128 2b7e151628aed2a6abf7158809cf4f3c\n\
+    nn a mkdir /z\n\
+    ask hdfs zone /z k\n\
+    draw 1\n\
+    finish 1\n\
+    ask a create /z/f\n\
+    draw 2\n\
+    finish 2\n\
+    nn a info /z/f\n\
+    finish 2\n\
+    kms a roll k 000102030405060708090a0b0c0d0e0f\n\
+    kms a decrypt k@0 0f0e0d0c0b0a09080706050403020100 874d6191b620e3261bef6864990db6ce\n";
+
 #[test]
-fn path_lines_are_read_in_their_spellings(rt: HostRuntime) -> Result<(), Fail> {
-    let cases = [
-        (b"nn u mkdir ".as_slice(), 0),
-        (b"nn %75 info %2f".as_slice(), 0),
-        (b"nn u mkdir".as_slice(), 3),
-        (b"nn u mkdir /a b".as_slice(), 3),
-        (b"nn u mkdir /a ".as_slice(), 3),
-        (b"nn u mkdir  /a".as_slice(), 3),
-        (b"nn  mkdir /a".as_slice(), 3),
-        (b"nn u mkdir /a:b".as_slice(), 3),
-        (b"nn u mkdir /a,b".as_slice(), 3),
-        (b"nn u mkdir /%4".as_slice(), 3),
-        (b"nn u mkdir /%zz".as_slice(), 3),
-        (b"nn u mkdir /\xc3\xa4".as_slice(), 3),
-        (b"nn u Mkdir /a".as_slice(), 3),
-        (b"nn u list /a".as_slice(), 3),
-        (b"nn u metadata k".as_slice(), 3),
-        (b"kms u mkdir /a".as_slice(), 3),
-        (b"NN u mkdir /a".as_slice(), 3),
+fn a_file_in_a_zone_opens_to_what_was_drawn(rt: HostRuntime) -> Result<(), Fail> {
+    let words = [
+        0x0c0d0e0f, 0x08090a0b, 0x04050607, 0x00010203, 0xe2bec16b, 0x969f402e, 0x117e3de9,
+        0x2a179373,
     ];
-    for (line, status) in cases {
-        let played = replay(rt.alloc(), line, &[], HONEST)?;
-        assert_eq!(rt; played.status, status, "{line:?}");
-    }
+    let played = replay(rt.alloc(), ZONE, &words, HONEST)?;
+    let text = b"1 version k@0 2b7e151628aed2a6abf7158809cf4f3c\n\
+        2 done\n\
+        3 ask 1 4294967298 metadata k\n\
+        4 reply 1 meta k 128 1 1\n\
+        5 done\n\
+        6 ask 2 4294967299 generate k\n\
+        7 reply 2 ready k@0:0f0e0d0c0b0a09080706050403020100:874d6191b620e3261bef6864990db6ce\n\
+        8 done\n\
+        9 file 4294967299 /z k@0:0f0e0d0c0b0a09080706050403020100:874d6191b620e3261bef6864990db6ce\n\
+        10 refused N16 AskGone 1 4\n\
+        11 version k@1 000102030405060708090a0b0c0d0e0f\n\
+        12 key 6bc1bee22e409f96e93d7e117393172a\n";
+    assert_eq!(rt; played.status, 0);
+    assert_eq!(rt; played.text.as_slice(), text.as_slice());
+    Ok(())
+}
+
+#[test]
+fn zones_that_are_refused(rt: HostRuntime) -> Result<(), Fail> {
+    let script = b"ask hdfs zone /x k\n\
+        nn a mkdir /d\n\
+        nn a mkdir /d/c\n\
+        ask hdfs zone /d k\n\
+        ask alice zone /d/c k\n\
+        ask hdfs zone /d/c k\n\
+        draw 1\n\
+        finish 1\n\
+        draw 2\n\
+        finish 2\n\
+        ask a create /d/f\n\
+        draw 2\n\
+        finish 2\n\
+        nn a info /d/f\n";
+    let text = b"1 refused N2 NoSuchPath\n\
+        2 done\n\
+        3 done\n\
+        4 refused N5 NotEmpty\n\
+        5 refused N6 NotSuperuser\n\
+        6 ask 1 4294967299 metadata k\n\
+        7 reply 1 refused K4 NoSuchKey\n\
+        8 refused N21 KeyRefused K4 NoSuchKey\n\
+        9 unknown\n\
+        10 unknown\n\
+        11 ask 2 4294967300 none\n\
+        12 reply 2 nothing\n\
+        13 done\n\
+        14 file 4294967300 - -\n";
+    let played = replay(rt.alloc(), script, &[], HONEST)?;
+    assert_eq!(rt; played.status, 0);
+    assert_eq!(rt; played.text.as_slice(), text.as_slice());
+    Ok(())
+}
+
+#[test]
+fn a_directory_that_became_a_zone_meanwhile(rt: HostRuntime) -> Result<(), Fail> {
+    let script = b"kms a create k 128 2b7e151628aed2a6abf7158809cf4f3c\n\
+        nn a mkdir /d\n\
+        ask a create /d/f\n\
+        ask hdfs zone /d k\n\
+        draw 2\n\
+        finish 1\n\
+        draw 1\n\
+        finish 2\n\
+        finish 2\n\
+        nn a info /d\n\
+        nn a info /d/f\n\
+        ask hdfs zone /d k\n";
+    let text = b"1 version k@0 2b7e151628aed2a6abf7158809cf4f3c\n\
+        2 done\n\
+        3 ask 1 4294967298 none\n\
+        4 ask 2 4294967299 metadata k\n\
+        5 reply 1 meta k 128 1 1\n\
+        6 done\n\
+        7 reply 2 nothing\n\
+        8 refused N17 ZoneChanged\n\
+        9 refused N16 AskGone 1 4\n\
+        10 dir 4294967297 /d k\n\
+        11 refused N2 NoSuchPath\n\
+        12 refused N7 AlreadyInZone\n";
+    let played = replay(rt.alloc(), script, &[], HONEST)?;
+    assert_eq!(rt; played.status, 0);
+    assert_eq!(rt; played.text.as_slice(), text.as_slice());
     Ok(())
 }
 

@@ -1,5 +1,5 @@
 -- Rows of a table: births rise, names stand once, and each row is a key.
-use Rattle.std.proofs.Common.{◌≡◌, ◌≢◌, ℕ, ◌<◌, ◌≤◌, List, [], ◌∷◌, ◌++◌, length, find, filter, Bool, true, false, ◌&&◌, cond, ◌==◌, Option, None, Some, is_none, IfSome, refl, ap, sym, ◌∙◌, arith}
+use Rattle.std.proofs.Common.{◌≡◌, ◌≢◌, ℕ, zero, suc, get_or, ◌<◌, ◌≤◌, List, [], ◌∷◌, ◌++◌, length, find, filter, Bool, true, false, ◌&&◌, cond, ◌==◌, Option, None, Some, is_none, IfSome, refl, ap, sym, ◌∙◌, arith}
 use Rattle.std.specs.List.{AllByRecursion}
 use Rattle.std.specs.Str.{bytes_eq}
 use Rattle.std.proofs.lemmas.Bool.Decides.{Decides-eqb}
@@ -38,6 +38,13 @@ found_has P p [] each = tt
 found_has P p (x ∷ xs) each =
     let Q : Bool → Type 0 = λ b. IfSome (cond b (Some x) (find p xs)) P in
     elim (p x) as Q [ true ↦ each.0 | false ↦ found_has P p xs each.1 ]
+
+-- the first row that passes a test is the one found
+pub find_at : (p : KeyRow → Bool) (rows : List KeyRow) (i : ℕ) (d : KeyRow) → i < length rows → p (get_or rows i d) ≡ true → ((k : ℕ) → k < i → p (get_or rows k d) ≡ false) → find p rows ≡ Some (get_or rows i d)
+find_at p [] i d within here before = absurd (omega arith)
+find_at p (row ∷ rows) zero d within here before = ap (λ b. cond b (Some row) (find p rows)) here
+find_at p (row ∷ rows) (suc i) d within here before =
+    ap (λ b. cond b (Some row) (find p rows)) (before 0 (omega arith)) ∙ find_at p rows i d (omega arith) here (λ k below. before (suc k) (omega arith))
 
 -- births
 

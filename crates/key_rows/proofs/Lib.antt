@@ -1,3 +1,6 @@
 pub mod Births
 pub mod Rolls
 pub mod TableLemmas
+pub mod Orders
+pub mod Fields
+pub mod RecordLemmas

@@ -40,7 +40,7 @@ pub length-rolled : (birth : ℕ) (material : List ℕ) (rows : List KeyRow) →
 length-rolled birth material [] = refl
 length-rolled birth material (row ∷ rows) = ap suc (length-rolled birth material rows)
 
-birth-rolled : (birth : ℕ) (material : List ℕ) (row : KeyRow) → (rolled birth material row).birth ≡ row.birth
+pub birth-rolled : (birth : ℕ) (material : List ℕ) (row : KeyRow) → (rolled birth material row).birth ≡ row.birth
 birth-rolled birth material row =
     let P : Bool → Type 0 = λ b. (cond b (with_material material row) row).birth ≡ row.birth in
     elim (is_born birth row) as P [ true ↦ refl | false ↦ refl ]

@@ -31,6 +31,16 @@ sound_create t birth name bits description created material is may =
       rows = each_more IsRow t.rows row is.rows (record { bits = f.1; some = omega arith; few = omega arith; materials = (long, tt) });
     }
 
+-- the name of a create is the name of no key
+pub is_absent : (t : Table) (birth : ℕ) (name : List ℕ) (bits : ℕ) (description : List ℕ) (created : ℕ) (material : List ℕ) → applies t (Create birth name bits description created material) ≡ true → is_none (find_name t.rows name) ≡ true
+is_absent t birth name bits description created material may =
+    let g = both (nat_lt 0 t.opening && is_none (find_name t.rows name) && opening_of birth == t.opening && nat_lt t.greatest birth && nat_lt (length t.rows) 10000 && is_length bits) (length material == bits / 8) may in
+    let f = both (nat_lt 0 t.opening && is_none (find_name t.rows name) && opening_of birth == t.opening && nat_lt t.greatest birth && nat_lt (length t.rows) 10000) (is_length bits) g.0 in
+    let e = both (nat_lt 0 t.opening && is_none (find_name t.rows name) && opening_of birth == t.opening && nat_lt t.greatest birth) (nat_lt (length t.rows) 10000) f.0 in
+    let d = both (nat_lt 0 t.opening && is_none (find_name t.rows name) && opening_of birth == t.opening) (nat_lt t.greatest birth) e.0 in
+    let c = both (nat_lt 0 t.opening && is_none (find_name t.rows name)) (opening_of birth == t.opening) d.0 in
+    (both (nat_lt 0 t.opening) (is_none (find_name t.rows name)) c.0).1
+
 pub sound_roll : (t : Table) (birth number : ℕ) (material : List ℕ) → IsTable t → applies t (Roll birth number material) ≡ true → IsTable (after t (Roll birth number material))
 sound_roll t birth number material is may =
     let a = both (nat_lt 0 t.opening) (may_roll (find_birth t.rows birth) number material) may in

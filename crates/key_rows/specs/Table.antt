@@ -13,6 +13,19 @@ pub record Table : Type 0 where
   pub greatest : ℕ
   pub rows : List KeyRow
 
+-- A table, and the room that it keeps for a command: one that applies and needs no more than `spare`
+-- takes no memory. The room is no part of the table.
+pub record Kept : Type 0 where
+  pub keys : Table
+  pub spare : ℕ
+
+-- what a command needs: room for the materials of the key that it makes or extends
+abbrev pub need : KeyCommand → ℕ
+need (Opened opening) = 0
+need (Create birth name bits description created material) = 1
+need (Roll birth number material) = number + 1
+need (Delete birth) = 0
+
 abbrev pub no_keys : Table
 no_keys = record { opening = 0; greatest = 0; rows = [] }
 

@@ -42,15 +42,23 @@ impl Description {
         }
     }
 
+    /// A copy of the text as a description.
+    pub(crate) fn from_str(alloc: Global, text: &str) -> Result<Description, NoMemory>
+        requires { length text.now ≤ 65535 }
+        ensures { IfOk result (λ description. description ≡ text.now) }
+    {
+        let text = String::from_str(alloc, text)?;
+        Ok(Description {
+            text: Text::of(text),
+        })
+    }
+
     /// The same description once more.
     pub fn copy(&self, alloc: Global) -> Result<Description, NoMemory>
         ensures { IfOk result (λ copy. copy ≡ self.now) }
     {
         let _ = &self.text;
-        let text = String::from_str(alloc, self.text.as_str())?;
-        Ok(Description {
-            text: Text::of(text),
-        })
+        Description::from_str(alloc, self.text.as_str())
     }
 
     pub fn as_text(&self) -> &Text

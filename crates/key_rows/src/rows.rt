@@ -1,5 +1,6 @@
 //! A key with its versions, and the commands that change the table of keys.
-ghost use Rattle.std.specs.Prelude.{◌≡◌, ◌∷◌, [], ◌++◌, length, slice_get, OnOk, OnErr, IfOk};
+ghost use Rattle.std.specs.Prelude.{◌≡◌, ◌∷◌, [], ◌++◌, length, slice_get, OnOk, OnErr, IfOk, IsOk, ◌<◌, ◌≤◌};
+ghost use Rattle.std.specs.Vec.{vec_capacity};
 
 use crate::description::Description;
 use hk_base::{Dek, KeyName, NoMemory};
@@ -28,6 +29,36 @@ impl DekList {
         let mut deks = Vec::new(alloc);
         deks.push(first)?;
         Ok(DekList { deks })
+    }
+
+    /// The material of a first version, in a buffer. It is `Ok` where the buffer has room.
+    pub(crate) fn in_buffer(buffer: Vec<Dek>, first: Dek) -> Result<DekList, NoMemory>
+        requires empty { buffer.items ≡ [] }
+        ensures made { IfOk result (λ deks. deks ≡ first ∷ []) }
+        ensures room { 0 < vec_capacity buffer → IsOk result }
+    {
+        let mut deks = buffer;
+        deks.push(first)?;
+        Ok(DekList { deks })
+    }
+
+    /// Adds the material of the next version in place or, where that has no room, in a buffer. It is
+    /// `Ok` where the buffer has room for all.
+    pub(crate) fn push_in(&mut self, buffer: Vec<Dek>, dek: Dek) -> Result<(), NoMemory>
+        requires empty { buffer.items ≡ [] }
+        ensures ok { OnOk result (self.new ≡ self.old ++ dek ∷ []) }
+        ensures err { OnErr result (self.new ≡ self.old) }
+        ensures room { length self.old < vec_capacity buffer → IsOk result }
+    {
+        if self.deks.len() < self.deks.capacity() || buffer.capacity() <= self.deks.len() {
+            self.deks.push(dek)?;
+            return Ok(());
+        }
+        let mut deks = buffer;
+        deks.extend_from_slice(self.deks.as_slice())?;
+        deks.push(dek)?;
+        self.deks = deks;
+        Ok(())
     }
 
     /// Adds the material of the next version. Where memory is wanting the list stays as it was.

@@ -1,46 +1,84 @@
 //! The table of keys.
-ghost use Rattle.std.specs.Prelude.{◌≡◌, ℕ, IsTrue, OnOk, OnErr, IfNone, IfSome, length, filter, map, not, option_map, position, false, All, Some};
+ghost use Rattle.std.specs.Prelude.{◌≡◌, ℕ, IsTrue, OnOk, OnErr, IfNone, IfSome, IfOk, length, filter, map, not, option_map, false, All, Some, IsOk, [], ◌<◌, ◌≤◌};
+ghost use Rattle.std.specs.Vec.{vec_capacity};
 ghost use Rattle.std.specs.Option.{option_copied};
-ghost use Rattle.key_rows.specs.Table.{after, applies, find_birth, find_birth, find_name, current_of, is_born, material_of, no_keys, rolled};
+ghost use Rattle.std.specs.List.{HoldsAt};
+ghost use Rattle.key_rows.specs.Names.{AreNames, IsIndex};
+ghost use Rattle.key_rows.specs.Table.{after, applies, find_birth, find_name, current_of, is_born, material_of, need, no_keys, rolled};
 ghost use Rattle.key_rows.specs.Sound.{IsRow, IsTable, Rising};
 
+use crate::applying::applies_to;
+use crate::by_name::{NamedBirth, birth_of, copy_names, put, take_out};
+use crate::name_list::NameList;
 use crate::rows::{DekList, KeyCommand, KeyRow};
 use hk_base::{Dek, KeyName, NoMemory, VersionName};
 use std::alloc::Global;
 use std::marker::Model;
+use std::mem;
 
 /// The keys that stand, in order of birth. Contracts see the last opening, the greatest birth that
-/// a key ever had, and the rows.
+/// a key ever had, and the rows; and beside these the room that is kept for a command (`spare`).
 #[derive(Drop)]
 pub struct KeyTable {
     alloc: Global,
     opening: u32,
     greatest: u64,
     rows: Vec<KeyRow>,
+    names: Vec<NamedBirth>,
+    ready: Vec<Dek>,
 }
 
 impl Model for KeyTable {
-    ghost use Rattle.key_rows.specs.Table.{Table};
+    ghost use Rattle.std.specs.Prelude.{◌≡◌, ◌&&◌, [], nat_lt, if◌then◌else◌};
+    ghost use Rattle.std.specs.Vec.{vec_len, vec_capacity};
+    ghost use Rattle.key_rows.specs.Table.{Kept};
     ghost use Rattle.key_rows.specs.Sound.{IsTable};
+    ghost use Rattle.key_rows.specs.Names.{IsIndex};
 
-    ghost Value = { Table };
+    ghost Value = { Kept };
 
-    ghost view = { λ t. record { opening = t.opening; greatest = t.greatest; rows = t.rows.items } };
+    ghost view = { λ t. record { keys = record { opening = t.opening; greatest = t.greatest; rows = t.rows.items }; spare = if nat_lt (vec_len t.rows) (vec_capacity t.rows) && nat_lt (vec_len t.names) (vec_capacity t.names) then vec_capacity t.ready else 0 } };
 
-    ghost invariant = { λ t. IsTable (record { opening = t.opening; greatest = t.greatest; rows = t.rows.items }) };
+    ghost invariant = { λ t. IsTable (record { opening = t.opening; greatest = t.greatest; rows = t.rows.items }) × IsIndex t.rows.items t.names.items × (t.ready.items ≡ []) };
 }
 
-fn row_of<'a>(rows: &'a Vec<KeyRow>, name: &KeyName) -> Option<&'a KeyRow>
-    ensures { option_copied result ≡ find_name rows.now.items name.now }
-{
-    rows.iter().find(|row| row.name.is(name))
-}
-
+/// The place of the key of a birth.
 fn place_of(rows: &Vec<KeyRow>, birth: u64) -> Option<usize>
-    ensures first { result ≡ position (is_born birth) rows.now.items }
+    requires { (top : ℕ) × Rising 0 rows.now.items top }
+    ensures place { IfSome result (λ place. (place < length rows.now.items) × HoldsAt (λ row. row.birth ≡ birth) rows.now.items place) }
     ensures none { IfNone result (All (λ row. is_born birth row ≡ false) rows.now.items) }
 {
-    rows.iter().position(|row| row.birth == birth)
+    match rows.binary_search_by_key(&birth, |row| row.birth) {
+        Err(_) => None,
+        Ok(place) => Some(place),
+    }
+}
+
+/// The key of a birth.
+pub(crate) fn row_at(rows: &Vec<KeyRow>, birth: u64) -> Option<&KeyRow>
+    requires { (top : ℕ) × Rising 0 rows.now.items top }
+    ensures { option_copied result ≡ find_birth rows.now.items birth }
+{
+    match place_of(rows, birth) {
+        None => None,
+        Some(place) => Some(&rows[place]),
+    }
+}
+
+/// The key of a name.
+pub(crate) fn row_of<'a>(
+    rows: &'a Vec<KeyRow>,
+    names: &Vec<NamedBirth>,
+    name: &KeyName,
+) -> Option<&'a KeyRow>
+    requires rising { (top : ℕ) × Rising 0 rows.now.items top }
+    requires index { IsIndex rows.now.items names.now.items }
+    ensures { option_copied result ≡ find_name rows.now.items name.now }
+{
+    match birth_of(names, name) {
+        None => None,
+        Some(birth) => row_at(rows, birth),
+    }
 }
 
 fn remove(rows: &mut Vec<KeyRow>, birth: u64)
@@ -49,9 +87,12 @@ fn remove(rows: &mut Vec<KeyRow>, birth: u64)
     rows.retain(|row| row.birth != birth);
 }
 
-/// Gives the key of the birth the material of its next version.
-fn roll(rows: &mut Vec<KeyRow>, birth: u64, material: Dek) -> Result<(), NoMemory>
-    requires { (top : ℕ) × Rising 0 rows.old.items top }
+/// Gives the key of the birth the material of its next version, where need be in a buffer. It is
+/// `Ok` where the buffer has room for all its materials.
+fn roll(rows: &mut Vec<KeyRow>, buffer: Vec<Dek>, birth: u64, material: Dek) -> Result<(), NoMemory>
+    requires rising { (top : ℕ) × Rising 0 rows.old.items top }
+    requires empty { buffer.items ≡ [] }
+    ensures room { IfSome (find_birth rows.old.items birth) (λ row. length row.materials < vec_capacity buffer) → IsOk result }
     ensures ok { OnOk result (rows.new.items ≡ map (rolled birth material) rows.old.items) }
     ensures err { OnErr result (rows.new.items ≡ rows.old.items) }
 {
@@ -59,55 +100,85 @@ fn roll(rows: &mut Vec<KeyRow>, birth: u64, material: Dek) -> Result<(), NoMemor
         None => Ok(()),
         Some(place) => {
             let row = &mut rows[place];
-            row.materials.push(material)?;
+            row.materials.push_in(buffer, material)?;
             Ok(())
         }
+    }
+}
+
+/// How many materials there is to be room for before a command is applied. A key that is rolled
+/// gets room for as many again, so that few rolls move its materials.
+fn versions_of(command: &KeyCommand) -> usize
+    ensures { need command.now ≤ result }
+{
+    match command {
+        KeyCommand::Create { .. } => 1,
+        KeyCommand::Roll { number, .. } => 2 * (*number as usize + 1),
+        KeyCommand::Opened { .. } => 0,
+        KeyCommand::Delete { .. } => 0,
     }
 }
 
 impl KeyTable {
     /// A table without keys, before any opening. It takes no memory.
     pub fn new(alloc: Global) -> KeyTable
-        ensures { result ≡ no_keys }
+        ensures { result.keys ≡ no_keys }
     {
         KeyTable {
             alloc,
             opening: 0,
             greatest: 0,
             rows: Vec::new(alloc),
+            names: Vec::new(alloc),
+            ready: Vec::new(alloc),
         }
     }
 
     /// The last opening, 0 where there was none.
     pub fn opening(&self) -> u32
-        ensures opening { result ≡ self.now.opening }
-        ensures table { IsTable self.now }
+        ensures opening { result ≡ self.now.keys.opening }
+        ensures table { IsTable self.now.keys }
     {
         self.opening
     }
 
     /// How many keys stand.
     pub fn count(&self) -> u32
-        ensures { result ≡ length self.now.rows }
+        ensures { result ≡ length self.now.keys.rows }
     {
         self.rows.len() as u32
     }
 
     /// The key of a name, or `None` where there is none. It takes no memory.
     pub fn find(&self, name: &KeyName) -> Option<&KeyRow>
-        ensures found { option_copied result ≡ find_name self.now.rows name.now }
+        ensures found { option_copied result ≡ find_name self.now.keys.rows name.now }
         ensures row { IfSome result (λ row. IsRow row.now) }
         // The birth is of this key alone.
-        ensures birth { IfSome result (λ row. find_birth self.now.rows row.now.birth ≡ Some row.now) }
-        ensures table { IsTable self.now }
+        ensures birth { IfSome result (λ row. find_birth self.now.keys.rows row.now.birth ≡ Some row.now) }
+        ensures table { IsTable self.now.keys }
     {
-        row_of(&self.rows, name)
+        row_of(&self.rows, &self.names, name)
+    }
+
+    /// The name of the key of a birth, or `None` where there is none. It takes no memory.
+    pub fn name_of(&self, birth: u64) -> Option<KeyName>
+        ensures { result ≡ option_map (λ row. row.name) (find_birth self.now.keys.rows birth) }
+    {
+        let row = row_at(&self.rows, birth)?;
+        Some(row.name)
+    }
+
+    /// The names of the keys in the order of their bytes, or want of memory.
+    pub fn names(&self) -> Result<NameList, NoMemory>
+        ensures { IfOk result (AreNames self.now.keys.rows) }
+    {
+        copy_names(self.alloc, &self.names)
     }
 
     /// The material of a version, or `None` where the key or the version is absent. It takes no
     /// memory.
     pub fn version(&self, version: &VersionName) -> Option<Dek>
-        ensures { result ≡ material_of self.now.rows version.now }
+        ensures { result ≡ material_of self.now.keys.rows version.now }
     {
         let row = self.find(&version.key)?;
         row.materials.get(version.number)
@@ -116,7 +187,7 @@ impl KeyTable {
     /// The current version of a key, which is its newest one, or `None` where the key is absent. It
     /// takes no memory.
     pub fn current(&self, name: &KeyName) -> Option<VersionName>
-        ensures { result ≡ option_map current_of (find_name self.now.rows name.now) }
+        ensures { result ≡ option_map current_of (find_name self.now.keys.rows name.now) }
     {
         let row = self.find(name)?;
         Some(VersionName {
@@ -125,11 +196,46 @@ impl KeyTable {
         })
     }
 
-    /// Applies a command. Where memory is wanting the table stays as it was.
+    /// Whether a command applies: an opening is the next one; a created key has a new name, a birth of
+    /// this opening above each before, a length and material of that length, and fewer than 10,000 keys
+    /// stand; a roll is of a key that stands and gives it its next version; a deleted key stands.
+    pub fn applies(&self, command: &KeyCommand) -> bool
+        ensures { result ≡ applies self.now.keys command.now }
+    {
+        applies_to(
+            self.opening,
+            self.greatest,
+            &self.rows,
+            &self.names,
+            command,
+        )
+    }
+
+    /// Takes the memory that a command will need. The keys stay as they were, also where memory is
+    /// wanting. After `Ok` the command, where it applies, is applied with `Ok`, for as long as the
+    /// table is left as it is.
+    pub fn reserve_apply(&mut self, command: &KeyCommand) -> Result<(), NoMemory>
+        ensures keys { self.new.keys ≡ self.old.keys }
+        ensures room { OnOk result (need command.now ≤ self.new.spare) }
+    {
+        let versions = versions_of(command);
+        if versions == 0 {
+            return Ok(());
+        }
+        let ready = Vec::with_capacity(self.alloc, versions)?;
+        self.rows.reserve(1)?;
+        self.names.reserve(1)?;
+        self.ready = ready;
+        Ok(())
+    }
+
+    /// Applies a command. Where memory is wanting the keys stay as they were. It is `Ok` where the
+    /// room kept is enough.
     pub fn apply(&mut self, command: KeyCommand) -> Result<(), NoMemory>
-        requires { IsTrue (applies self.old command) }
-        ensures ok { OnOk result (self.new ≡ after self.old command) }
-        ensures err { OnErr result (self.new ≡ self.old) }
+        requires { IsTrue (applies self.old.keys command) }
+        ensures ok { OnOk result (self.new.keys ≡ after self.old.keys command) }
+        ensures err { OnErr result (self.new.keys ≡ self.old.keys) }
+        ensures room { need command ≤ self.old.spare → IsOk result }
     {
         match command {
             KeyCommand::Opened { opening } => {
@@ -144,15 +250,18 @@ impl KeyTable {
                 created,
                 material,
             } => {
-                let materials = DekList::of(self.alloc, material)?;
-                self.rows.push(KeyRow {
+                let buffer = mem::replace(&mut self.ready, Vec::new(self.alloc));
+                let materials = DekList::in_buffer(buffer, material)?;
+                self.rows.reserve(1)?;
+                put(&mut self.names, name, birth)?;
+                self.rows.push_reserved(KeyRow {
                     name,
                     birth,
                     bits,
                     materials,
                     description,
                     created,
-                })?;
+                });
                 self.greatest = birth;
                 Ok(())
             }
@@ -161,11 +270,13 @@ impl KeyTable {
                 number: _,
                 material,
             } => {
-                roll(&mut self.rows, birth, material)?;
+                let buffer = mem::replace(&mut self.ready, Vec::new(self.alloc));
+                roll(&mut self.rows, buffer, birth, material)?;
                 Ok(())
             }
             KeyCommand::Delete { birth } => {
                 remove(&mut self.rows, birth);
+                take_out(&mut self.names, birth);
                 Ok(())
             }
         }

@@ -17,34 +17,18 @@ use Rattle.key_rows.specs.declared.calls.KmsReply.{KmsReply}
 use Rattle.key_rows.specs.declared.calls.KmsReply.TheVariants as reply
 use Rattle.key_rows.specs.declared.calls.KmsRefusal.{KmsRefusal}
 use Rattle.key_rows.specs.declared.calls.KmsRefusal.TheVariants as refusal
-use Rattle.key_rows.specs.Table.{find_name, is_named, is_length, material_of}
+use Rattle.key_rows.specs.Table.{is_named, is_length, material_of}
 use Rattle.key_rows.specs.Sound.{IsRow, IsTable}
 use Rattle.key_rows.proofs.TableLemmas.{found_row}
 use Rattle.kms_core.specs.State.{KmsState}
 use Rattle.kms_core.specs.Draws.{drawn, drawn_iv, drawn_dek, drawn_edek, drawn_edeks, place_of_draw, words_of_draw}
 use Rattle.kms_core.specs.Opening.{unseals}
-use Rattle.kms_core.specs.Calls.{Acts, Plain, NoRoom, Ending, MayEnd, outcome, deed, first_cause, unless_refused, sent_causes, generate_causes, generated, lacks_version, is_of_other_key, is_malformed, row_of, bits_of, edek_of, current_version, current_material}
+use Rattle.kms_core.specs.Calls.{Acts, Plain, NoRoom, Ending, MayEnd, outcome, deed, first_cause, unless_refused, sent_causes, generate_causes, generated, is_malformed, row_of, edek_of, current_version, current_material}
 use Rattle.kms_core.specs.Laws.{DecryptOpens, DrawsApart, DrawsReadTheirOwn, GeneratedDecrypts, GeneratedOpens, SameWords, dek_of_draw, sent_of}
 use Rattle.kms_core.proofs.DrawLemmas.{length-drawn}
+use Rattle.kms_core.specs.Steps.{opened_in}
+use Rattle.kms_core.proofs.SentLemmas.{none_stands, opened_is, same_cause, sent_has}
 use Rattle.kms_core.proofs.KeyLemmas.{each_get, found_passes, sent_allowed, version_at}
-
--- no cause stands: the first one doesn't, nor one of the rest
-none_stands : (cause : Bool) (why : KmsRefusal) (rest : List (Bool × KmsRefusal)) → first_cause ((cause, why) ∷ rest) ≡ None → (cause ≡ false) × (first_cause rest ≡ None)
-none_stands true why rest none = absurd cc
-none_stands false why rest none = (refl, none)
-
--- what is sent of a version that the named key has
-sent_has : (rows : List KeyRow) (name : List ℕ) (sent : RawEdek) (row : Option KeyRow) → find_name rows name ≡ row → is_none row ≡ false
-    → lacks_version row sent ≡ false → is_of_other_key name sent ≡ false → (material : List ℕ) × (material_of rows sent.version ≡ Some material)
-sent_has rows name sent None found stands has its = absurd cc
-sent_has rows name sent (Some row) found stands has its =
-    let within : sent.version.number < length row.materials = grind (arith, nat_tests, has) in
-    let same : bytes_eq sent.version.key name ≡ true = is_true (bytes_eq sent.version.key name) its in
-    (get_or row.materials sent.version.number [], version_at rows name sent.version.key sent.version.number row _ found same (slice_get-get_or row.materials sent.version.number [] within))
-  where
-    is_true : (b : Bool) → not b ≡ false → b ≡ true
-    is_true true e = refl
-    is_true false e = absurd cc
 
 -- what decrypt answers where there is no cause of a refusal
 decrypt_told : (s : KmsState) (words : ℕ → ℕ) (now : ℕ) (name : List ℕ) (sent : RawEdek) (told : KmsReply) (s' : KmsState) (words' : ℕ → ℕ)
@@ -57,18 +41,18 @@ decrypt_told s words now name sent told s' words' none acts = by_end acts.acts.0
     by_end Plain may is = ap (λ o. o.told) is ∙ ap (λ cause. (unless_refused cause s (deed s words now (call.Decrypt name sent))).told) none
     by_end (NoRoom some) may is = absurd cc
 
+-- what is sent without a cause of a refusal opens
+pub opens_to : (s : KmsState) (name : List ℕ) (sent : RawEdek) → first_cause (sent_causes (row_of s name) name sent) ≡ None → (key : List ℕ) × (unseals s.table.rows (edek_of sent) ≡ Some key)
+opens_to s name sent none = by_row (row_of s name) refl
+  where
+    by_row : (row : Option KeyRow) → row_of s name ≡ row → (key : List ℕ) × (unseals s.table.rows (edek_of sent) ≡ Some key)
+    by_row None found = let stands : is_none (row_of s name) ≡ false = (sent_has (row_of s name) name sent none).stands in absurd cc
+    by_row (Some row) found = (opened_in row sent, opened_is s name row sent found (same_cause s name row sent found ∙ none))
+
 pub decrypt_opens : DecryptOpens
 decrypt_opens s words now name sent told s' words' none acts =
-    let row = row_of s name in
-    let malformed : List (Bool × KmsRefusal) = (is_malformed (bits_of row) sent, refusal.BadMaterial) ∷ [] in
-    let other : List (Bool × KmsRefusal) = (is_of_other_key name sent, refusal.WrongKey) ∷ malformed in
-    let lacking : List (Bool × KmsRefusal) = (lacks_version row sent, refusal.NoSuchVersion) ∷ other in
-    let one = none_stands (is_none row) refusal.NoSuchKey lacking none in
-    let two = none_stands (lacks_version row sent) refusal.NoSuchVersion other one.1 in
-    let three = none_stands (is_of_other_key name sent) refusal.WrongKey malformed two.1 in
-    let has = sent_has s.table.rows name sent row refl one.0 two.0 three.0 in
-    let opens : unseals s.table.rows (edek_of sent) ≡ Some (unseal has.0 sent.iv sent.sealed) = ap (option_map (λ m. unseal m sent.iv sent.sealed)) has.1 in
-    (unseal has.0 sent.iv sent.sealed, opens, decrypt_told s words now name sent told s' words' none acts ∙ ap (λ o. reply.Key (unwrap_or o [])) opens)
+    let opens = opens_to s name sent none in
+    (opens.0, opens.1, decrypt_told s words now name sent told s' words' none acts ∙ ap (λ o. reply.Key (unwrap_or o [])) opens.1)
 
 -- what a generate that answers keys answers
 record Gave (s : KmsState) (words : ℕ → ℕ) (name : List ℕ) (count : ℕ) (keys : List Edek) (s' : KmsState) : Type 0 where
@@ -115,14 +99,14 @@ drawn_at version material words (suc n) number key is =
 
 -- the current version of a key that stands
 
-record Standing_key (s : KmsState) (name : List ℕ) (row : KeyRow) : Type 0 where
-  found : row_of s name ≡ Some row
-  sound : IsRow row
-  named : bytes_eq row.name name ≡ true
-  got : slice_get row.materials (length row.materials - 1) ≡ Some (current_material s name)
-  has : material_of s.table.rows (current_version (row_of s name)) ≡ Some (current_material s name)
+pub record Standing_key (s : KmsState) (name : List ℕ) (row : KeyRow) : Type 0 where
+  pub found : row_of s name ≡ Some row
+  pub sound : IsRow row
+  pub named : bytes_eq row.name name ≡ true
+  pub got : slice_get row.materials (length row.materials - 1) ≡ Some (current_material s name)
+  pub has : material_of s.table.rows (current_version (row_of s name)) ≡ Some (current_material s name)
 
-standing_key : (s : KmsState) (name : List ℕ) → IsTable s.table → is_none (row_of s name) ≡ false → (row : KeyRow) × Standing_key s name row
+pub standing_key : (s : KmsState) (name : List ℕ) → IsTable s.table → is_none (row_of s name) ≡ false → (row : KeyRow) × Standing_key s name row
 standing_key s name is stands = by_row (row_of s name) refl stands (found_row s.table name is)
   where
     by_row : (o : Option KeyRow) → row_of s name ≡ o → is_none o ≡ false → IfSome o IsRow → (row : KeyRow) × Standing_key s name row

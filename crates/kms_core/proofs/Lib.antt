@@ -1,4 +1,9 @@
+pub mod AnswerLemmas
+pub mod BirthLemmas
 pub mod DrawLemmas
 pub mod KeyLemmas
 pub mod LawLemmas
+pub mod NameLemmas
+pub mod ResealLemmas
+pub mod SentLemmas
 pub mod StepLemmas

@@ -1,5 +1,5 @@
 -- From the steps of a call to the call.
-use Rattle.std.proofs.Common.{◌≡◌, ℕ, ◌+◌, ◌/◌, ◌<◌, ◌≤◌, ◌⊎◌, inl, inr, List, [], length, Bool, true, false, ◌&&◌, ◌==◌, cond, nat_lt, nat_le, Option, None, Some, is_none, MatchBool, refl, ap, sym, ◌∙◌, subst, arith}
+use Rattle.std.proofs.Common.{◌≡◌, ℕ, ◌+◌, ◌/◌, ◌<◌, ◌≤◌, ◌⊎◌, inl, inr, List, [], length, Bool, true, false, ◌&&◌, ◌==◌, cond, nat_lt, nat_le, Option, None, Some, is_none, is_some, MatchOption, refl, ap, sym, ◌∙◌, subst, arith}
 use Rattle.std.proofs.lemmas.Bool.Decides.{Decides-eqb}
 use Rattle.key_rows.specs.declared.rows.KeyRow.{KeyRow}
 use Rattle.key_rows.specs.declared.rows.KeyCommand.TheVariants.{Roll}
@@ -7,19 +7,17 @@ use Rattle.key_rows.specs.Table.{applies, find_birth, material_of, may_roll}
 use Rattle.kms_core.specs.declared.service.Standing.{Standing}
 use Rattle.key_rows.specs.declared.calls.KmsCall.{KmsCall}
 use Rattle.key_rows.specs.declared.calls.KmsReply.{KmsReply}
-use Rattle.key_rows.specs.declared.calls.KmsReply.TheVariants.{Refused, Metadata, Ready, Key}
-use Rattle.key_rows.specs.declared.calls.RawEdek.{RawEdek}
+use Rattle.key_rows.specs.declared.calls.KmsReply.TheVariants.{Refused, Ready}
 use Rattle.hk_base.specs.declared.names.Edek.{Edek}
 use Rattle.std.specs.Option.{unwrap_or}
 use Rattle.kms_core.specs.declared.drawing.CurrentVersion.{CurrentVersion}
-use Rattle.kms_core.specs.Opening.{unseals}
 use Rattle.key_rows.specs.declared.calls.KmsCall.TheVariants as call
 use Rattle.key_rows.specs.declared.calls.KmsRefusal.TheVariants.{NoSuchKey, BadMaterial, TooManyVersions, TooManyAsked, NoMemory}
 use Rattle.key_rows.specs.declared.calls.KmsRefusal.{KmsRefusal}
 use Rattle.kms_core.specs.State.{KmsState}
-use Rattle.kms_core.specs.Calls.{Acts, Plain, NoRoom, takes_memory, causes, deed, first_cause, unless_refused, row_of, bits_of, versions_of, is_misfit, roll_causes, rolled, only_answer, meta_of, generate_causes, sent_causes, current_material, edek_of}
+use Rattle.kms_core.specs.Calls.{Acts, Plain, NoRoom, takes_memory, causes, deed, first_cause, unless_refused, row_of, bits_of, versions_of, is_misfit, roll_causes, rolled, deleted, only_answer, generate_causes, current_material}
 use Rattle.kms_core.specs.Draws.{material_for, words_for, drawn_edeks, place_of_draw}
-use Rattle.kms_core.specs.Steps.{Drew, DrewKeys, DrewSome, Enacts, IsCurrent, Opens, StandsSo}
+use Rattle.kms_core.specs.Steps.{Answers, Drew, DrewKeys, DrewSome, Enacts, IsCurrent, StandsSo}
 
 both_hold : (a b : Bool) → a ≡ true → b ≡ true → (a && b) ≡ true
 both_hold a b h g = ap (λ x. x && b) h ∙ g
@@ -83,21 +81,6 @@ rolls s words now name given key drawn told s' words' so fits room drawn_is rest
     (subst (λ (m : List ℕ). Enacts s (rolled s name (row_of s name) m 0) told s') same done)
     (λ k. rest k ∙ ap (λ n. words (words_for n given + k)) so.bits)
 
-pub tells_metadata : (s : KmsState) (words : ℕ → ℕ) (now : ℕ) (name : List ℕ) (told : KmsReply)
-    → MatchBool (is_none (row_of s name)) (told ≡ Refused NoSuchKey) ((told ≡ Refused NoMemory) ⊎ (told ≡ Metadata (meta_of name (row_of s name))))
-    → Acts s words now (call.Metadata name) told s words
-tells_metadata s words now name told says =
-    let P : Bool → Type 0 = λ b. is_none (row_of s name) ≡ b → MatchBool b (told ≡ Refused NoSuchKey) ((told ≡ Refused NoMemory) ⊎ (told ≡ Metadata (meta_of name (row_of s name)))) → Acts s words now (call.Metadata name) told s words in
-    let cases : P (is_none (row_of s name)) = elim (is_none (row_of s name)) as P [
-      | true ↦ λ e h. refuses s words now (call.Metadata name) NoSuchKey told s words (ap (λ b. cond b (Some NoSuchKey) None) e) h refl (λ k. refl)
-      | false ↦ λ e h. enacted s words now (call.Metadata name) told s words refl (ap (λ b. cond b (Some NoSuchKey) None) e) (answered h) (λ k. ap words (omega arith))
-    ] in
-    cases refl says
-  where
-    answered : ((told ≡ Refused NoMemory) ⊎ (told ≡ Metadata (meta_of name (row_of s name)))) → Enacts s (only_answer s (Metadata (meta_of name (row_of s name)))) told s
-    answered (inl wanting) = inr (wanting, refl)
-    answered (inr done) = inl (done, refl)
-
 -- memory is wanting in a call without another cause of refusal
 pub wanting : (s : KmsState) (words : ℕ → ℕ) (now : ℕ) (c : KmsCall) (words' : ℕ → ℕ) (drawn : ℕ)
     → takes_memory c ≡ true → first_cause (causes s c) ≡ None → drawn ≤ (deed s words now c).words → Drew words words' drawn
@@ -140,14 +123,35 @@ generates_none s words now name count current words' is few drew =
     wanting s words now (call.Generate name count) words' drew.drawn refl (may_generate (row_of s name) count is.stands few)
     (subst (λ (material : List ℕ). drew.drawn ≤ place_of_draw (length material) count) same drew.few) drew.rest
 
-pub decrypts : (s : KmsState) (words : ℕ → ℕ) (now : ℕ) (name : List ℕ) (sent : RawEdek) (key : List ℕ) → Opens s name sent key
-    → Acts s words now (call.Decrypt name sent) (Key key) s words
-decrypts s words now name sent key is = record {
-  drawn = 0;
-  acts = (Plain, tt, done (first_cause (sent_causes (row_of s name) name sent)) (unseals s.table.rows (edek_of sent)) is.allowed is.opens);
-  rest = λ k. ap words (omega arith);
-}
+-- a call that only answers
+pub answers : (s : KmsState) (words : ℕ → ℕ) (now : ℕ) (c : KmsCall) (answer told : KmsReply)
+    → deed s words now c ≡ only_answer s answer → Answers s c answer told → Acts s words now c told s words
+answers s words now c answer told deed_is says = by_cause (first_cause (causes s c)) refl says
   where
-    done : (cause : Option KmsRefusal) (opened : Option (List ℕ)) → cause ≡ None → opened ≡ Some key
-        → (record { told = Key key; drawn = 0; state = s }) ≡ unless_refused cause s (only_answer s (Key (unwrap_or opened [])))
-    done cause opened none is = (λ i. unless_refused (sym none i) s (only_answer s (Key (unwrap_or (sym is i) []))))
+    by_cause : (cause : Option KmsRefusal) → first_cause (causes s c) ≡ cause
+        → MatchOption cause ((told ≡ answer) ⊎ ((takes_memory c ≡ true) × (told ≡ Refused NoMemory))) (λ why. told ≡ Refused why) → Acts s words now c told s words
+    by_cause (Some why) stands is = refuses s words now c why told s words stands is refl (λ k. refl)
+    by_cause None none (inl is) = record {
+      drawn = 0;
+      acts = (Plain, tt, (λ i. record { told = is i; drawn = 0; state = s }) ∙ (λ i. unless_refused (sym none i) s (sym deed_is i)));
+      rest = λ k. ap words (omega arith);
+    }
+    by_cause None none (inr wanting) = record {
+      drawn = 0;
+      acts = (NoRoom 0, (wanting.0, none, omega arith), λ i. record { told = wanting.1 i; drawn = 0; state = s });
+      rest = λ k. ap words (omega arith);
+    }
+
+-- a key that stands is deleted, or memory is wanting
+pub deletes : (s : KmsState) (words : ℕ → ℕ) (now : ℕ) (name : List ℕ) (key : Standing) (told : KmsReply) (s' : KmsState) → StandsSo s name key
+    → Enacts s (deleted s key.birth) told s' → Acts s words now (call.Delete name) told s' words
+deletes s words now name key told s' so done =
+    enacted s words now (call.Delete name) told s' words refl (ap (λ b. cond b (Some NoSuchKey) None) so.stands)
+    (subst (λ (b : ℕ). Enacts s (deleted s b) told s') so.birth done) (λ k. ap words (omega arith))
+
+pub stands_born : (s : KmsState) (name : List ℕ) (key : Standing) → StandsSo s name key → is_some (find_birth s.table.rows key.birth) ≡ true
+stands_born s name key so = ap is_some so.found ∙ some (row_of s name) so.stands
+  where
+    some : (row : Option KeyRow) → is_none row ≡ false → is_some row ≡ true
+    some None stands = absurd cc
+    some (Some row) stands = refl

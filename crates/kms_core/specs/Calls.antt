@@ -1,5 +1,6 @@
 -- The calls of the key management service: what each is refused for, what it answers, and what it leaves.
-use Rattle.std.specs.Prelude.{◌≡◌, ◌≤◌, ℕ, ◌+◌, ◌/◌, Bool, true, false, not, ◌||◌, ◌==◌, nat_lt, nat_le, List, [], ◌∷◌, length, Option, Some, None, is_some, is_none, unwrap_or, bytes_eq, if◌then◌else◌}
+use Rattle.std.specs.Prelude.{◌≡◌, ◌≤◌, ℕ, ◌+◌, ◌/◌, Bool, true, false, not, ◌&&◌, ◌||◌, ◌==◌, nat_lt, nat_le, List, [], ◌∷◌, length, map, Option, Some, None, is_some, is_none, unwrap_or, bytes_eq, if◌then◌else◌}
+use Rattle.std.specs.List.{list_any}
 use Rattle.hk_base.specs.declared.names.Dek.{Dek}
 use Rattle.hk_base.specs.declared.names.Edek.{Edek}
 use Rattle.hk_base.specs.declared.names.KeyName.{KeyName}
@@ -15,9 +16,12 @@ use Rattle.key_rows.specs.declared.calls.KmsReply.{KmsReply}
 use Rattle.key_rows.specs.declared.calls.KmsReply.TheVariants as reply
 use Rattle.key_rows.specs.declared.calls.KmsRefusal.{KmsRefusal}
 use Rattle.key_rows.specs.declared.calls.KmsRefusal.TheVariants as refusal
+use Rattle.key_rows.specs.Shown.{Shown}
 use Rattle.key_rows.specs.Table.{find_name, is_length, material_of, current_of, after}
+use Rattle.eek_seal.specs.Seal.{seal}
 use Rattle.kms_core.specs.Draws.{material_for, words_for, drawn_edeks, place_of_draw}
 use Rattle.kms_core.specs.Opening.{unseals}
+use Rattle.kms_core.specs.Order.{names_in_order}
 use Rattle.kms_core.specs.State.{KmsState, next_birth, is_spent}
 
 -- causes of a refusal in the order of the rules; the first one that holds counts
@@ -66,9 +70,16 @@ is_misfit bits (Some material) = not (length material == bits / 8)
 abbrev pub is_full : KmsState → Bool
 is_full s = nat_le 10000 (length s.table.rows) || is_spent s
 
+abbrev pub is_absent : KmsState → KeyName → Bool
+is_absent s name = is_none (row_of s name)
+
+-- the key has no version of the number
+abbrev pub lacks_number : Option KeyRow → ℕ → Bool
+lacks_number row number = nat_le (versions_of row) number
+
 -- the key has no version of the number that was sent
 abbrev pub lacks_version : Option KeyRow → RawEdek → Bool
-lacks_version row sent = nat_le (versions_of row) sent.version.number
+lacks_version row sent = lacks_number row sent.version.number
 
 abbrev pub is_of_other_key : KeyName → RawEdek → Bool
 is_of_other_key name sent = not (bytes_eq sent.version.key name)
@@ -96,12 +107,34 @@ sent_causes row name sent =
     (is_none row, refusal.NoSuchKey) ∷ (lacks_version row sent, refusal.NoSuchVersion) ∷ (is_of_other_key name sent, refusal.WrongKey)
     ∷ (is_malformed (bits_of row) sent, refusal.BadMaterial) ∷ []
 
+-- of keys that are sent together: each cause is tried over all of them before the next one
+abbrev pub batch_causes : Option KeyRow → KeyName → List RawEdek → List (Bool × KmsRefusal)
+batch_causes row name sent =
+    (is_none row, refusal.NoSuchKey) ∷ (list_any (lacks_version row) sent, refusal.NoSuchVersion) ∷ (list_any (is_of_other_key name) sent, refusal.WrongKey)
+    ∷ (list_any (is_malformed (bits_of row)) sent, refusal.BadMaterial) ∷ (nat_lt 1000 (length sent), refusal.TooManyAsked) ∷ []
+
+abbrev pub version_causes : Option KeyRow → ℕ → List (Bool × KmsRefusal)
+version_causes row number = (is_none row, refusal.NoSuchKey) ∷ (lacks_number row number, refusal.NoSuchVersion) ∷ []
+
+-- of a call that asks for nothing but that the key stands
+abbrev pub absence_causes : Option KeyRow → List (Bool × KmsRefusal)
+absence_causes row = (is_none row, refusal.NoSuchKey) ∷ []
+
 abbrev pub causes : KmsState → KmsCall → List (Bool × KmsRefusal)
 causes s (call.Create name bits material description) = create_causes s name bits material
 causes s (call.Roll name material) = roll_causes (row_of s name) material
-causes s (call.Metadata name) = (is_none (row_of s name), refusal.NoSuchKey) ∷ []
+causes s (call.Delete name) = absence_causes (row_of s name)
+causes s (call.Invalidate name) = absence_causes (row_of s name)
+causes s (call.Metadata name) = absence_causes (row_of s name)
+causes s (call.Metadatas names) = (list_any (is_absent s) names, refusal.NoSuchKey) ∷ []
+causes s call.Names = []
+causes s (call.Current name) = absence_causes (row_of s name)
+causes s (call.Versions name) = absence_causes (row_of s name)
+causes s (call.Version version) = version_causes (row_of s version.key) version.number
 causes s (call.Generate name count) = generate_causes (row_of s name) count
 causes s (call.Decrypt name sent) = sent_causes (row_of s name) name sent
+causes s (call.Reencrypt name sent) = sent_causes (row_of s name) name sent
+causes s (call.Batch name sent) = batch_causes (row_of s name) name sent
 
 -- What a call that is not refused does: its answer, what it changes of the table, the state in which that takes
 -- effect, and how many words it draws.
@@ -134,11 +167,30 @@ rolled s name row material words =
       words = words;
     }
 
+-- the key of the birth is deleted, with all its versions
+abbrev pub deleted : KmsState → ℕ → Deed
+deleted s birth = record { answer = reply.Done; logs = Some (command.Delete birth); state = s; words = 0 }
+
 abbrev pub only_answer : KmsState → KmsReply → Deed
 only_answer s answer = record { answer = answer; logs = None; state = s; words = 0 }
 
 abbrev pub meta_of : KeyName → Option KeyRow → KeyMeta
 meta_of name row = record { name = name; bits = bits_of row; description = description_of row; created = created_of row; versions = versions_of row }
+
+-- what is known of each key, in the order asked
+abbrev pub metas_of : KmsState → List KeyName → List KeyMeta
+metas_of s names = map (λ name. meta_of name (row_of s name)) names
+
+-- the versions of a key with these materials, numbered from the first on
+abbrev pub versions_from : KeyName → ℕ → List Dek → List Shown
+versions_from name number [] = []
+versions_from name number (material ∷ materials) =
+    record { version = record { key = name; number = number }; material = Some material } ∷ versions_from name (number + 1) materials
+
+-- all versions of a key, in order of number
+abbrev pub all_versions : Option KeyRow → List Shown
+all_versions None = []
+all_versions (Some row) = versions_from row.name 0 row.materials
 
 -- so many data encryption keys under the current version, drawn from the next words on
 abbrev pub generated : KmsState → (ℕ → ℕ) → KeyName → ℕ → Deed
@@ -155,15 +207,39 @@ generated s words name count =
 abbrev pub edek_of : RawEdek → Edek
 edek_of sent = record { version = sent.version; iv = sent.iv; sealed = sent.sealed }
 
+-- what was sent opened under the material of its version
+abbrev pub opened : KmsState → RawEdek → Dek
+opened s sent = unwrap_or (unseals s.table.rows (edek_of sent)) []
+
+abbrev pub same_version : VersionName → VersionName → Bool
+same_version version other = bytes_eq version.key other.key && version.number == other.number
+
+-- the data encryption key that was sent, under the current version: as it is where it is on that version, else opened, and
+-- sealed with the same initialization vector
+abbrev pub resealed : KmsState → KeyName → RawEdek → Edek
+resealed s name sent =
+    let current = current_version (row_of s name) in
+    if same_version sent.version current then edek_of sent
+    else record { version = current; iv = sent.iv; sealed = seal (current_material s name) sent.iv (opened s sent) }
+
 abbrev pub deed : KmsState → (ℕ → ℕ) → ℕ → KmsCall → Deed
 deed s words now (call.Create name bits material description) =
     created s now name bits description (material_for words bits material) (words_for bits material)
 deed s words now (call.Roll name material) =
     let row = row_of s name in
     rolled s name row (material_for words (bits_of row) material) (words_for (bits_of row) material)
+deed s words now (call.Delete name) = deleted s (birth_of (row_of s name))
+deed s words now (call.Invalidate name) = only_answer s reply.Done
 deed s words now (call.Metadata name) = only_answer s (reply.Metadata (meta_of name (row_of s name)))
+deed s words now (call.Metadatas names) = only_answer s (reply.Metadatas (metas_of s names))
+deed s words now call.Names = only_answer s (reply.Names (names_in_order s.table.rows))
+deed s words now (call.Current name) = only_answer s (reply.Version (current_version (row_of s name)) (Some (current_material s name)))
+deed s words now (call.Versions name) = only_answer s (reply.Versions (all_versions (row_of s name)))
+deed s words now (call.Version version) = only_answer s (reply.Version version (material_of s.table.rows version))
 deed s words now (call.Generate name count) = generated s words name count
-deed s words now (call.Decrypt name sent) = only_answer s (reply.Key (unwrap_or (unseals s.table.rows (edek_of sent)) []))
+deed s words now (call.Decrypt name sent) = only_answer s (reply.Key (opened s sent))
+deed s words now (call.Reencrypt name sent) = only_answer s (reply.Resealed (resealed s name sent))
+deed s words now (call.Batch name sent) = only_answer s (reply.Ready (map (resealed s name) sent))
 
 abbrev pub done_with : Option KeyCommand → KmsState → KmsState
 done_with None s = s
@@ -194,9 +270,18 @@ pub data Ending : Type 0 where
 abbrev pub takes_memory : KmsCall → Bool
 takes_memory (call.Create name bits material description) = true
 takes_memory (call.Roll name material) = true
+takes_memory (call.Delete name) = true
+takes_memory (call.Invalidate name) = false
 takes_memory (call.Metadata name) = true
+takes_memory (call.Metadatas names) = true
+takes_memory call.Names = true
+takes_memory (call.Current name) = false
+takes_memory (call.Versions name) = true
+takes_memory (call.Version version) = false
 takes_memory (call.Generate name count) = true
 takes_memory (call.Decrypt name sent) = false
+takes_memory (call.Reencrypt name sent) = false
+takes_memory (call.Batch name sent) = true
 
 -- memory is wanting only where the call takes some and no other refusal comes, and no more words are drawn than else
 abbrev pub MayEnd : KmsState → (ℕ → ℕ) → ℕ → KmsCall → Ending → Type 0

@@ -1,6 +1,7 @@
 pub mod Draws
 pub mod State
 pub mod Opening
+pub mod Order
 pub mod Calls
 pub mod Laws
 pub mod Steps

@@ -1,23 +1,32 @@
 -- The steps of a call that the service takes one after another.
-use Rattle.std.specs.Prelude.{◌≡◌, ◌≤◌, ℕ, ◌+◌, ◌/◌, ◌⊎◌, false, is_none, List, None, Some, length}
+use Rattle.std.specs.Prelude.{◌≡◌, ◌≤◌, ℕ, ◌+◌, ◌-◌, ◌/◌, ◌⊎◌, true, false, is_none, List, [], None, Some, length, map, slice_get, unwrap_or, bytes_eq, MatchOption, if◌then◌else◌}
 use Rattle.hk_base.specs.declared.names.KeyName.{KeyName}
 use Rattle.hk_base.specs.declared.names.Dek.{Dek}
 use Rattle.hk_base.specs.declared.names.Edek.{Edek}
-use Rattle.key_rows.specs.Table.{find_birth, material_of}
+use Rattle.eek_seal.specs.Seal.{seal, unseal}
+use Rattle.key_rows.specs.declared.rows.KeyRow.{KeyRow}
+use Rattle.key_rows.specs.Table.{find_birth, material_of, current_of}
 use Rattle.key_rows.specs.declared.calls.RawEdek.{RawEdek}
+use Rattle.key_rows.specs.declared.calls.KmsCall.{KmsCall}
 use Rattle.key_rows.specs.declared.calls.KmsReply.{KmsReply}
 use Rattle.key_rows.specs.declared.calls.KmsReply.TheVariants.{Refused}
+use Rattle.key_rows.specs.declared.calls.KmsRefusal.{KmsRefusal}
 use Rattle.key_rows.specs.declared.calls.KmsRefusal.TheVariants.{NoMemory}
 use Rattle.kms_core.specs.State.{KmsState}
-use Rattle.kms_core.specs.Calls.{Deed, done_with, birth_of, bits_of, versions_of, row_of, current_version, first_cause, sent_causes, is_malformed, edek_of}
+use Rattle.kms_core.specs.Calls.{Deed, done_with, causes, takes_memory, birth_of, bits_of, versions_of, row_of, current_version, first_cause, sent_causes, batch_causes, is_malformed, edek_of, same_version}
 use Rattle.kms_core.specs.Draws.{drawn_edeks, place_of_draw}
-use Rattle.kms_core.specs.Opening.{unseals}
 use Rattle.kms_core.specs.declared.drawing.CurrentVersion.{CurrentVersion}
+use Rattle.kms_core.specs.declared.sent.Checked.{Checked}
 use Rattle.kms_core.specs.declared.service.Standing.{Standing}
 
 -- the deed is done, or memory is wanting and nothing changes
 abbrev pub Enacts : KmsState → Deed → KmsReply → KmsState → Type 0
 Enacts s d told s' = ((told ≡ d.answer) × (s' ≡ done_with d.logs d.state)) ⊎ ((told ≡ Refused NoMemory) × (s' ≡ s))
+
+-- a call that only answers: it is refused for its first cause, or answered, or memory is wanting where it takes some
+abbrev pub Answers : KmsState → KmsCall → KmsReply → KmsReply → Type 0
+Answers s c answer told =
+    MatchOption (first_cause (causes s c)) ((told ≡ answer) ⊎ ((takes_memory c ≡ true) × (told ≡ Refused NoMemory))) (λ why. told ≡ Refused why)
 
 -- what is known of a key that stands
 pub record StandsSo (s : KmsState) (name : KeyName) (key : Standing) : Type 0 where
@@ -48,10 +57,11 @@ pub record IsCurrent (s : KmsState) (name : KeyName) (current : CurrentVersion) 
   pub version : current.version ≡ current_version (row_of s name)
   pub material : material_of s.table.rows current.version ≡ Some current.material
 
--- what was sent has no cause of a refusal, and opens to the key
-pub record Opens (s : KmsState) (name : KeyName) (sent : RawEdek) (key : Dek) : Type 0 where
-  pub allowed : first_cause (sent_causes (row_of s name) name sent) ≡ None
-  pub opens : unseals s.table.rows (edek_of sent) ≡ Some key
+-- the current version of a key, with its material
+pub record IsNewest (row : KeyRow) (current : CurrentVersion) : Type 0 where
+  pub version : current.version ≡ current_of row
+  pub material : slice_get row.materials (length row.materials - 1) ≡ Some current.material
+  pub long : length current.material ≡ row.bits / 8
 
 -- what was sent is well formed, with these parts
 pub record HasParts (bits : ℕ) (sent : RawEdek) (vector key : List ℕ) : Type 0 where
@@ -59,3 +69,48 @@ pub record HasParts (bits : ℕ) (sent : RawEdek) (vector key : List ℕ) : Type
   pub iv : vector ≡ sent.iv
   pub sealed : key ≡ sent.sealed
   pub long : length key ≡ bits / 8
+
+-- what was sent has no cause of a refusal at its key
+abbrev pub Allowed : KeyRow → RawEdek → Type 0
+Allowed row sent = first_cause (sent_causes (Some row) row.name sent) ≡ None
+
+-- what was sent has no cause of a refusal at its key, and this is the material of its version, with its parts
+pub record Checks (row : KeyRow) (sent : RawEdek) (checked : Checked) : Type 0 where
+  pub allowed : Allowed row sent
+  pub same : bytes_eq sent.version.key row.name ≡ true
+  pub material : slice_get row.materials sent.version.number ≡ Some checked.material
+  pub iv : checked.iv ≡ sent.iv
+  pub sealed : checked.sealed ≡ sent.sealed
+  pub long : length checked.material ≡ row.bits / 8
+  pub as_long : length checked.sealed ≡ row.bits / 8
+
+-- what was sent opened under the material of its version
+abbrev pub opened_in : KeyRow → RawEdek → Dek
+opened_in row sent = unseal (unwrap_or (slice_get row.materials sent.version.number) []) sent.iv sent.sealed
+
+pub record OpensIn (row : KeyRow) (sent : RawEdek) (key : Dek) : Type 0 where
+  pub allowed : Allowed row sent
+  pub is : key ≡ opened_in row sent
+
+-- the key that was sent, under the current version
+abbrev pub resealed_in : KeyRow → RawEdek → Edek
+resealed_in row sent =
+    if same_version sent.version (current_of row) then edek_of sent
+    else record {
+      version = current_of row;
+      iv = sent.iv;
+      sealed = seal (unwrap_or (slice_get row.materials (length row.materials - 1)) []) sent.iv (opened_in row sent);
+    }
+
+pub record Reseals (row : KeyRow) (sent : RawEdek) (key : Edek) : Type 0 where
+  pub allowed : Allowed row sent
+  pub is : key ≡ resealed_in row sent
+
+-- keys that were sent together have no cause of a refusal, and these are they under the current version
+pub record ResealsAll (row : KeyRow) (sent : List RawEdek) (keys : List Edek) : Type 0 where
+  pub allowed : first_cause (batch_causes (Some row) row.name sent) ≡ None
+  pub are : keys ≡ map (resealed_in row) sent
+
+-- they are refused for a cause, or memory is wanting where there is none
+abbrev pub RefusesBatch : KeyRow → List RawEdek → KmsRefusal → Type 0
+RefusesBatch row sent why = MatchOption (first_cause (batch_causes (Some row) row.name sent)) (why ≡ NoMemory) (λ cause. cause ≡ why)

@@ -1,6 +1,6 @@
-//! What follows for data encryption keys that are generated and decrypted. The functions do nothing:
-//! their contracts are the laws.
-ghost use Rattle.kms_core.specs.Laws.{DecryptOpens, DrawsApart, DrawsReadTheirOwn, GeneratedDecrypts, GeneratedOpens};
+//! What follows for data encryption keys that are generated, decrypted and encrypted again, and for
+//! births. The functions do nothing: their contracts are the laws.
+ghost use Rattle.kms_core.specs.Laws.{BatchOpens, BirthsBelow, DecryptOpens, DeletedIsGone, DrawsApart, DrawsReadTheirOwn, GeneratedDecrypts, GeneratedOpens, GoneStays, ReencryptedOpens};
 
 /// What is sent to decrypt without a cause of a refusal is opened under its version, and the answer
 /// is the key that it opens to.
@@ -15,8 +15,23 @@ pub fn generated_keys_open()
     ensures decrypts { GeneratedDecrypts }
 {}
 
+/// What a reencrypt answers, and each key that a batch answers, is on the current version and opens
+/// to the data encryption key that what was sent for it opens to.
+pub fn reencrypted_keys_open()
+    ensures opens { ReencryptedOpens }
+    ensures batch { BatchOpens }
+{}
+
 /// The draws of a generate take different words of the stream, and each reads its own words alone.
 pub fn draws_use_different_words()
     ensures own { DrawsReadTheirOwn }
     ensures apart { DrawsApart }
+{}
+
+/// The birth of a deleted key is below the next one, and no call gives a birth below the next one,
+/// which no key has, to a key.
+pub fn births_never_come_again()
+    ensures stays { GoneStays }
+    ensures deleted { DeletedIsGone }
+    ensures below { BirthsBelow }
 {}

@@ -3,9 +3,14 @@
 
 mod drawing;
 mod laws;
+mod sent;
 mod service;
+mod told;
 
-pub use laws::{decrypt_opens, draws_use_different_words, generated_keys_open};
+pub use laws::{
+    births_never_come_again, decrypt_opens, draws_use_different_words, generated_keys_open,
+    reencrypted_keys_open,
+};
 pub use service::Kms;
 
 #[cfg(test)]

@@ -1,16 +1,22 @@
 //! The service and its calls.
-ghost use Rattle.std.specs.Prelude.{◌≡◌, ◌*◌, ◌/◌, ◌≤◌, ◌<◌, ◌^◌, ◌+◌, ℕ, List, true, false, IfOk, IfNone, IfSome, IsTrue, MatchBool, MatchOption, MatchResult, ◌⊎◌, None, Some, find, is_none, is_some, length};
+ghost use Rattle.std.specs.Prelude.{◌≡◌, ◌*◌, ◌/◌, ◌≤◌, ◌<◌, ◌^◌, ◌+◌, ℕ, true, false, IfOk, IfSome, IsTrue, MatchBool, MatchOption, MatchResult, None, Some, find, is_none, is_some, length, map};
+ghost use Rattle.std.specs.List.{list_any};
+ghost use Rattle.std.specs.Option.{option_copied};
+ghost use Rattle.key_rows.specs.Sound.{IsRow, IsTable};
 ghost use Rattle.key_rows.specs.declared.rows.KeyCommand.TheVariants as command;
-ghost use Rattle.key_rows.specs.Table.{applies, is_length};
-ghost use Rattle.kms_core.specs.State.{first_state};
-ghost use Rattle.kms_core.specs.Calls.{Acts, bits_of, create_causes, created, first_cause, is_full, is_malformed, is_misfit, only_answer, meta_of, roll_causes, rolled, row_of, sent_causes, shown};
-ghost use Rattle.kms_core.specs.Steps.{Enacts, HasParts, IsCurrent, Opens, StandsSo};
+ghost use Rattle.key_rows.specs.Table.{find_birth, is_length, material_of};
+ghost use Rattle.kms_core.specs.State.{first_state, next_birth};
+ghost use Rattle.kms_core.specs.Calls.{Acts, all_versions, create_causes, created, current_material, current_version, deleted, first_cause, is_absent, is_full, is_misfit, meta_of, metas_of, opened, resealed, rolled, row_of, shown};
+ghost use Rattle.kms_core.specs.Order.{names_in_order};
+ghost use Rattle.kms_core.specs.Steps.{Answers, Enacts, IsCurrent, StandsSo};
 
 use crate::drawing::{CurrentVersion, draw_edeks, material_for};
-use eek_seal::unseal;
-use hk_base::{ByteList, Dek, Iv, KeyName, NoMemory, Text, VersionName, Words};
+use crate::sent::{MOST_ASKED, newest, open, reseal, reseal_all};
+use crate::told::{meta, versions};
+use hk_base::{ByteList, Dek, KeyName, NoMemory, Text, VersionName, Words};
 use key_rows::{
-    Description, KeyCommand, KeyMeta, KeyTable, KmsCall, KmsRefusal, KmsReply, RawEdek,
+    Description, KeyCommand, KeyMeta, KeyRow, KeyTable, KmsCall, KmsRefusal, KmsReply, MetaList,
+    NameList, RawEdek, RawEdekList,
 };
 use std::alloc::Global;
 use std::marker::Model;
@@ -23,9 +29,6 @@ const MOST_KEYS: u32 = 10000;
 
 /// How many versions a key has at most.
 const MOST_VERSIONS: u16 = 65535;
-
-/// How many data encryption keys a call may ask for.
-const MOST_ASKED: u32 = 1000;
 
 /// What a change needs to know of a key.
 #[derive(Clone, Copy)]
@@ -50,9 +53,9 @@ impl Model for Kms {
 
     ghost Value = { KmsState };
 
-    ghost view = { λ a. record { table = a.table; next = a.next } };
+    ghost view = { λ a. record { table = a.table.keys; next = a.next } };
 
-    ghost invariant = { λ a. (0 < a.table.opening) × (a.table.opening < 2 ^ 32) × (a.table.greatest < a.table.opening * 2 ^ 32 + a.next) × (a.next ≤ 2 ^ 32) };
+    ghost invariant = { λ a. (0 < a.table.keys.opening) × (a.table.keys.opening < 2 ^ 32) × (a.table.keys.greatest < a.table.keys.opening * 2 ^ 32 + a.next) × (a.next ≤ 2 ^ 32) };
 }
 
 fn is_length(bits: u64) -> bool
@@ -84,8 +87,20 @@ impl Kms {
         })
     }
 
+    /// How many keys stand.
+    pub fn count(&self) -> u32
+        ensures count { result ≡ length self.now.table.rows }
+        ensures rules { IsTable self.now.table }
+        // Births in use lie below the next one.
+        ensures births { self.now.table.greatest < next_birth self.now }
+    {
+        let _ = self.table.opening();
+        self.table.count()
+    }
+
     /// Answers a call of a user. `now` is the moment, which a created key keeps. A refusal leaves
-    /// the keys as they were, and draws no word unless memory is wanting. Decrypt takes no memory.
+    /// the keys as they were, and draws no word unless memory is wanting. Invalidate, Current,
+    /// Version, Decrypt and Reencrypt take no memory.
     pub fn act<W: Words>(
         &mut self,
         words: &mut W,
@@ -103,9 +118,18 @@ impl Kms {
                 description,
             } => self.create(words, now, name, bits, material, description),
             KmsCall::Roll { name, material } => self.roll(words, now, name, material),
+            KmsCall::Delete { name } => self.delete(name),
+            KmsCall::Invalidate { name } => self.invalidate(name),
             KmsCall::Metadata { name } => self.metadata(name),
+            KmsCall::Metadatas { names } => self.metadatas(names),
+            KmsCall::Names => self.names(),
+            KmsCall::Current { name } => self.current_version(name),
+            KmsCall::Versions { name } => self.versions(name),
+            KmsCall::Version { version } => self.version(version),
             KmsCall::Generate { name, count } => self.generate(words, name, count),
             KmsCall::Decrypt { name, sent } => self.decrypt(name, sent),
+            KmsCall::Reencrypt { name, sent } => self.reencrypt(name, sent),
+            KmsCall::Batch { name, sent } => self.batch(name, sent),
         }
     }
 
@@ -240,21 +264,140 @@ impl Kms {
         shown(name, key.versions, material)
     }
 
-    fn metadata(&self, name: KeyName) -> KmsReply
-        ensures { MatchBool (is_none (row_of self.now name)) (result ≡ KmsReply.Refused KmsRefusal.NoSuchKey) ((result ≡ KmsReply.Refused KmsRefusal.NoMemory) ⊎ (result ≡ KmsReply.Metadata (meta_of name (row_of self.now name)))) }
+    fn delete(&mut self, name: KeyName) -> KmsReply
+        ensures { (words : ℕ → ℕ) (now : ℕ) → Acts self.old words now (KmsCall.Delete name) result self.new words }
     {
-        let Some(row) = self.table.find(&name) else {
+        let Some(key) = self.standing(&name) else {
             return KmsReply::Refused(KmsRefusal::NoSuchKey);
         };
-        match row.description.copy(self.alloc) {
-            Err(_) => KmsReply::Refused(KmsRefusal::NoMemory),
-            Ok(description) => KmsReply::Metadata(KeyMeta {
-                name,
-                bits: row.bits,
-                description,
-                created: row.created,
-                versions: row.materials.len() as u32,
-            }),
+        self.remove(key.birth)
+    }
+
+    /// Deletes the key of a birth, which stands.
+    fn remove(&mut self, birth: u64) -> KmsReply
+        requires { is_some (find_birth self.old.table.rows birth) ≡ true }
+        ensures { Enacts self.old (deleted self.old birth) result self.new }
+    {
+        let command = KeyCommand::Delete { birth };
+        if self.table.apply(command).is_err() {
+            return KmsReply::Refused(KmsRefusal::NoMemory);
+        }
+        KmsReply::Done
+    }
+
+    /// The key of a name, or `None` where it is absent.
+    fn key(&self, name: &KeyName) -> Option<&KeyRow>
+        ensures found { option_copied result ≡ row_of self.now name.now }
+        ensures row { IfSome result (λ row. IsRow row.now) }
+    {
+        self.table.find(name)
+    }
+
+    fn invalidate(&self, name: KeyName) -> KmsReply
+        ensures { Answers self.now (KmsCall.Invalidate name) KmsReply.Done result }
+    {
+        if self.key(&name).is_none() {
+            return KmsReply::Refused(KmsRefusal::NoSuchKey);
+        }
+        KmsReply::Done
+    }
+
+    fn metadata(&self, name: KeyName) -> KmsReply
+        ensures { Answers self.now (KmsCall.Metadata name) (KmsReply.Metadata (meta_of name (row_of self.now name))) result }
+    {
+        match self.meta(&name) {
+            Err(why) => KmsReply::Refused(why),
+            Ok(known) => KmsReply::Metadata(known),
+        }
+    }
+
+    /// What is known of a key.
+    fn meta(&self, name: &KeyName) -> Result<KeyMeta, KmsRefusal>
+        ensures { MatchResult result (λ known. (is_absent self.now name.now ≡ false) × (known ≡ meta_of name.now (row_of self.now name.now))) (λ why. MatchBool (is_absent self.now name.now) (why ≡ KmsRefusal.NoSuchKey) (why ≡ KmsRefusal.NoMemory)) }
+    {
+        let Some(row) = self.key(name) else {
+            return Err(KmsRefusal::NoSuchKey);
+        };
+        let known = meta(self.alloc, row)?;
+        Ok(known)
+    }
+
+    fn metadatas(&self, names: NameList) -> KmsReply
+        ensures { Answers self.now (KmsCall.Metadatas names) (KmsReply.Metadatas (metas_of self.now names)) result }
+    {
+        if self.lacks_any(names.as_slice()) {
+            return KmsReply::Refused(KmsRefusal::NoSuchKey);
+        }
+        match self.metas(names.as_slice()) {
+            Err(why) => KmsReply::Refused(why),
+            Ok(known) => KmsReply::Metadatas(known),
+        }
+    }
+
+    fn lacks_any(&self, names: &[KeyName]) -> bool
+        ensures { result ≡ list_any (is_absent self.now) names.now }
+    {
+        names.iter().any(|name| self.key(name).is_none())
+    }
+
+    /// What is known of keys that stand, in the order asked.
+    fn metas(&self, names: &[KeyName]) -> Result<MetaList, KmsRefusal>
+        requires { list_any (is_absent self.now) names.now ≡ false }
+        ensures { MatchResult result (λ known. known ≡ metas_of self.now names.now) (λ why. why ≡ KmsRefusal.NoMemory) }
+    {
+        let mut known = MetaList::with_room(self.alloc, names.len())?;
+        for name in names {
+            let meta = self.meta(name)?;
+            known.push(meta)?;
+        }
+        Ok(known)
+    }
+
+    fn names(&self) -> KmsReply
+        ensures { Answers self.now KmsCall.Names (KmsReply.Names (names_in_order self.now.table.rows)) result }
+    {
+        match self.table.names() {
+            Err(NoMemory) => KmsReply::Refused(KmsRefusal::NoMemory),
+            Ok(names) => KmsReply::Names(names),
+        }
+    }
+
+    fn current_version(&self, name: KeyName) -> KmsReply
+        ensures { Answers self.now (KmsCall.Current name) (KmsReply.Version (current_version (row_of self.now name)) (Some (current_material self.now name))) result }
+    {
+        match self.current(&name) {
+            None => KmsReply::Refused(KmsRefusal::NoSuchKey),
+            Some(current) => KmsReply::Version {
+                version: current.version,
+                material: Some(current.material),
+            },
+        }
+    }
+
+    fn versions(&self, name: KeyName) -> KmsReply
+        ensures { Answers self.now (KmsCall.Versions name) (KmsReply.Versions (all_versions (row_of self.now name))) result }
+    {
+        let Some(row) = self.key(&name) else {
+            return KmsReply::Refused(KmsRefusal::NoSuchKey);
+        };
+        match versions(self.alloc, row) {
+            Err(NoMemory) => KmsReply::Refused(KmsRefusal::NoMemory),
+            Ok(all) => KmsReply::Versions(all),
+        }
+    }
+
+    fn version(&self, version: VersionName) -> KmsReply
+        ensures { Answers self.now (KmsCall.Version version) (KmsReply.Version version (material_of self.now.table.rows version)) result }
+    {
+        let Some(row) = self.key(&version.key) else {
+            return KmsReply::Refused(KmsRefusal::NoSuchKey);
+        };
+        let Some(material) = row.materials.get(version.number) else {
+            return KmsReply::Refused(KmsRefusal::NoSuchVersion);
+        };
+        KmsReply::Version {
+            version,
+            material: Some(material),
         }
     }
 
@@ -277,57 +420,45 @@ impl Kms {
     fn current(&self, name: &KeyName) -> Option<CurrentVersion>
         ensures { MatchOption result (is_none (row_of self.now name.now) ≡ true) (IsCurrent self.now name.now) }
     {
-        let row = self.table.find(name)?;
-        let number = (row.materials.len() - 1) as u16;
-        let material = row.materials.get(number)?;
-        let key = row.name;
-        Some(CurrentVersion {
-            version: VersionName { key, number },
-            material,
-        })
+        let row = self.key(name)?;
+        newest(row)
     }
 
     fn decrypt(&self, name: KeyName, sent: RawEdek) -> KmsReply
-        ensures { (words : ℕ → ℕ) (now : ℕ) → Acts self.now words now (KmsCall.Decrypt name sent) result self.now words }
+        ensures { Answers self.now (KmsCall.Decrypt name sent) (KmsReply.Key (opened self.now sent)) result }
     {
-        match self.open(&name, &sent) {
+        let Some(row) = self.key(&name) else {
+            return KmsReply::Refused(KmsRefusal::NoSuchKey);
+        };
+        match open(row, &sent) {
             Err(why) => KmsReply::Refused(why),
             Ok(key) => KmsReply::Key(key),
         }
     }
 
-    /// What was sent opened under its version, which has to be one of the named key.
-    fn open(&self, name: &KeyName, sent: &RawEdek) -> Result<Dek, KmsRefusal>
-        ensures { MatchResult result (Opens self.now name.now sent.now) (λ why. first_cause (sent_causes (row_of self.now name.now) name.now sent.now) ≡ Some why) }
+    fn reencrypt(&self, name: KeyName, sent: RawEdek) -> KmsReply
+        ensures { Answers self.now (KmsCall.Reencrypt name sent) (KmsReply.Resealed (resealed self.now name sent)) result }
     {
-        let Some(row) = self.table.find(name) else {
-            return Err(KmsRefusal::NoSuchKey);
+        let Some(row) = self.key(&name) else {
+            return KmsReply::Refused(KmsRefusal::NoSuchKey);
         };
-        let Some(material) = row.materials.get(sent.version.number) else {
-            return Err(KmsRefusal::NoSuchVersion);
-        };
-        if !sent.version.key.is(name) {
-            return Err(KmsRefusal::WrongKey);
+        match reseal(row, &sent) {
+            Err(why) => KmsReply::Refused(why),
+            Ok(key) => KmsReply::Resealed(key),
         }
-        let Some((iv, sealed)) = parts(row.bits, sent) else {
-            return Err(KmsRefusal::BadMaterial);
-        };
-        Ok(unseal(&material, iv, &sealed))
     }
-}
 
-/// The initialization vector and the sealed key that were sent, or `None` where their lengths are
-/// not those for a key of `bits` bits.
-fn parts(bits: u16, sent: &RawEdek) -> Option<(Iv, Dek)>
-    requires { IsTrue (is_length bits) }
-    ensures { MatchOption result (is_malformed bits sent.now ≡ true) (λ parts. HasParts bits sent.now parts.0 parts.1) }
-{
-    let iv = Iv::read(sent.iv.as_slice())?;
-    let sealed = Dek::read(sent.sealed.as_slice())?;
-    if sealed.as_bytes().len() != bits as usize / 8 {
-        return None;
+    fn batch(&self, name: KeyName, sent: RawEdekList) -> KmsReply
+        ensures { Answers self.now (KmsCall.Batch name sent) (KmsReply.Ready (map (resealed self.now name) sent)) result }
+    {
+        let Some(row) = self.key(&name) else {
+            return KmsReply::Refused(KmsRefusal::NoSuchKey);
+        };
+        match reseal_all(self.alloc, row, sent.as_slice()) {
+            Err(why) => KmsReply::Refused(why),
+            Ok(keys) => KmsReply::Ready(keys),
+        }
     }
-    Some((iv, sealed))
 }
 
 /// A version with its material.

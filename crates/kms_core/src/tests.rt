@@ -4,7 +4,7 @@
 use super::*;
 use disk_kinds::ListWords;
 use hk_base::{ByteList, Dek, Edek, KeyName, Text, VersionName};
-use key_rows::{Description, KmsCall, KmsRefusal, KmsReply, RawEdek};
+use key_rows::{Description, KmsCall, KmsRefusal, KmsReply, NameList, RawEdek, RawEdekList};
 use std::alloc::Global;
 use std::process::Abort;
 
@@ -88,13 +88,52 @@ impl Desk {
         iv: &[u8],
         sealed: &[u8],
     ) -> KmsReply {
-        let sent = RawEdek {
+        let sent = self.sent(rt, version, iv, sealed);
+        let name = key_name(rt, name);
+        self.ask(KmsCall::Decrypt { name, sent })
+    }
+
+    fn sent(&self, rt: &impl Abort, version: VersionName, iv: &[u8], sealed: &[u8]) -> RawEdek {
+        RawEdek {
             version,
             iv: self.list(rt, iv),
             sealed: self.list(rt, sealed),
-        };
+        }
+    }
+
+    /// Reencrypts the key of the standard's example under the version that is said to have sealed
+    /// it.
+    fn reencrypt(&mut self, rt: &impl Abort, name: &[u8], version: VersionName) -> KmsReply {
+        let sent = self.sent(rt, version, VECTOR, SEALED);
         let name = key_name(rt, name);
-        self.ask(KmsCall::Decrypt { name, sent })
+        self.ask(KmsCall::Reencrypt { name, sent })
+    }
+
+    /// The same for that key so many times over, and the last time under another version.
+    fn batch(
+        &mut self,
+        rt: &impl Abort,
+        name: &[u8],
+        count: usize,
+        version: VersionName,
+        last: VersionName,
+    ) -> KmsReply {
+        let mut sent = RawEdekList::with_room(self.alloc, count).expect(rt, "memory");
+        for number in 0..count {
+            let version = if number + 1 == count { last } else { version };
+            let edek = self.sent(rt, version, VECTOR, SEALED);
+            sent.push(edek).expect(rt, "memory");
+        }
+        let name = key_name(rt, name);
+        self.ask(KmsCall::Batch { name, sent })
+    }
+
+    fn metadatas(&mut self, rt: &impl Abort, asked: &[&[u8]]) -> KmsReply {
+        let mut names = NameList::with_room(self.alloc, asked.len()).expect(rt, "memory");
+        for name in asked {
+            names.push(key_name(rt, name)).expect(rt, "memory");
+        }
+        self.ask(KmsCall::Metadatas { names })
     }
 }
 
@@ -234,6 +273,165 @@ fn a_rolled_key_seals_under_its_newest_version(rt: HostRuntime) {
         }
         _ => panic!(rt; "no metadata"),
     }
+}
+
+fn only_resealed(rt: &impl Abort, reply: KmsReply) -> Edek {
+    match reply {
+        KmsReply::Resealed(key) => key,
+        _ => panic!(rt; "no key"),
+    }
+}
+
+fn assert_done(rt: &impl Abort, reply: KmsReply) {
+    match reply {
+        KmsReply::Done => {}
+        _ => panic!(rt; "not done"),
+    }
+}
+
+#[test]
+fn a_key_is_encrypted_again_under_the_current_version(rt: HostRuntime) {
+    let mut desk = Desk::new(&rt, rt.alloc());
+    assert_version(&rt, desk.create(&rt, b"k", 128, MATERIAL), 0, MATERIAL);
+    let first = version(&rt, b"k", 0);
+    let same = only_resealed(&rt, desk.reencrypt(&rt, b"k", first));
+    assert_eq!(rt; same.version.number, 0);
+    assert_eq!(rt; same.iv.as_bytes(), VECTOR);
+    assert_eq!(rt; same.sealed.as_bytes(), SEALED);
+    assert_version(&rt, desk.roll(&rt, b"k", SEALED), 1, SEALED);
+    let again = only_resealed(&rt, desk.reencrypt(&rt, b"k", first));
+    assert_eq!(rt; again.version.number, 1);
+    assert_eq!(rt; again.iv.as_bytes(), VECTOR);
+    assert!(rt; again.sealed.as_bytes() != SEALED);
+    assert_key(&rt, desk.decrypt(&rt, b"k", &again), &BLOCKS[..16]);
+}
+
+#[test]
+fn a_batch_has_1000_keys_at_most(rt: HostRuntime) {
+    let mut desk = Desk::new(&rt, rt.alloc());
+    assert_version(&rt, desk.create(&rt, b"k", 128, MATERIAL), 0, MATERIAL);
+    assert_version(&rt, desk.roll(&rt, b"k", SEALED), 1, SEALED);
+    let [first, second] = [version(&rt, b"k", 0), version(&rt, b"k", 1)];
+    match desk.batch(&rt, b"k", 1000, first, second) {
+        KmsReply::Ready(keys) => {
+            assert_eq!(rt; keys.len(), 1000);
+            let key = keys.as_slice()[998];
+            assert_eq!(rt; key.version.number, 1);
+            assert_key(&rt, desk.decrypt(&rt, b"k", &key), &BLOCKS[..16]);
+            let last = keys.as_slice()[999];
+            assert_eq!(rt; last.sealed.as_bytes(), SEALED);
+        }
+        _ => panic!(rt; "no keys"),
+    }
+    let many = desk.batch(&rt, b"k", 1001, first, first);
+    assert_refused(&rt, many, KmsRefusal::TooManyAsked);
+}
+
+#[test]
+fn what_is_sent_is_refused_in_order(rt: HostRuntime) {
+    let mut desk = Desk::new(&rt, rt.alloc());
+    assert_version(&rt, desk.create(&rt, b"k", 128, MATERIAL), 0, MATERIAL);
+    assert_version(&rt, desk.create(&rt, b"j", 128, MATERIAL), 0, MATERIAL);
+    assert_version(&rt, desk.create(&rt, b"long", 256, BLOCKS), 0, BLOCKS);
+    let [first, second] = [version(&rt, b"k", 0), version(&rt, b"k", 1)];
+    let [other, long] = [version(&rt, b"j", 0), version(&rt, b"long", 0)];
+    let absent = desk.reencrypt(&rt, b"m", first);
+    assert_refused(&rt, absent, KmsRefusal::NoSuchKey);
+    let lacking = desk.reencrypt(&rt, b"j", second);
+    assert_refused(&rt, lacking, KmsRefusal::NoSuchVersion);
+    let wrong = desk.reencrypt(&rt, b"long", other);
+    assert_refused(&rt, wrong, KmsRefusal::WrongKey);
+    let short = desk.reencrypt(&rt, b"long", long);
+    assert_refused(&rt, short, KmsRefusal::BadMaterial);
+    let absent = desk.batch(&rt, b"m", 1, other, other);
+    assert_refused(&rt, absent, KmsRefusal::NoSuchKey);
+    // The key that lacks its version comes last.
+    let lacking = desk.batch(&rt, b"k", 2, other, second);
+    assert_refused(&rt, lacking, KmsRefusal::NoSuchVersion);
+    let wrong = desk.batch(&rt, b"k", 1, other, other);
+    assert_refused(&rt, wrong, KmsRefusal::WrongKey);
+    let short = desk.batch(&rt, b"long", 1001, long, long);
+    assert_refused(&rt, short, KmsRefusal::BadMaterial);
+}
+
+#[test]
+fn the_keys_are_told(rt: HostRuntime) {
+    let mut desk = Desk::new(&rt, rt.alloc());
+    assert_version(&rt, desk.create(&rt, b"b", 128, MATERIAL), 0, MATERIAL);
+    assert_version(&rt, desk.create(&rt, b"a", 256, BLOCKS), 0, BLOCKS);
+    assert_version(&rt, desk.create(&rt, b"Z", 128, MATERIAL), 0, MATERIAL);
+    match desk.ask(KmsCall::Names) {
+        KmsReply::Names(names) => {
+            assert_eq!(rt; names.len(), 3);
+            assert!(rt; names.as_slice()[0].is(&key_name(&rt, b"Z")));
+            assert!(rt; names.as_slice()[1].is(&key_name(&rt, b"a")));
+            assert!(rt; names.as_slice()[2].is(&key_name(&rt, b"b")));
+        }
+        _ => panic!(rt; "no names"),
+    }
+    match desk.metadatas(&rt, &[b"b", b"a", b"b"]) {
+        KmsReply::Metadatas(known) => {
+            assert_eq!(rt; known.len(), 3);
+            assert_eq!(rt; known.as_slice()[0].bits, 128);
+            assert_eq!(rt; known.as_slice()[1].bits, 256);
+            assert!(rt; known.as_slice()[2].name.is(&key_name(&rt, b"b")));
+        }
+        _ => panic!(rt; "no metadata"),
+    }
+    let absent = desk.metadatas(&rt, &[b"b", b"m"]);
+    assert_refused(&rt, absent, KmsRefusal::NoSuchKey);
+}
+
+#[test]
+fn the_versions_of_a_key_are_told(rt: HostRuntime) {
+    let mut desk = Desk::new(&rt, rt.alloc());
+    let name = key_name(&rt, b"k");
+    assert_version(&rt, desk.create(&rt, b"k", 128, MATERIAL), 0, MATERIAL);
+    assert_version(&rt, desk.roll(&rt, b"k", SEALED), 1, SEALED);
+    let current = desk.ask(KmsCall::Current { name });
+    assert_version(&rt, current, 1, SEALED);
+    let first = version(&rt, b"k", 0);
+    let first = desk.ask(KmsCall::Version { version: first });
+    assert_version(&rt, first, 0, MATERIAL);
+    let third = version(&rt, b"k", 2);
+    let third = desk.ask(KmsCall::Version { version: third });
+    assert_refused(&rt, third, KmsRefusal::NoSuchVersion);
+    match desk.ask(KmsCall::Versions { name }) {
+        KmsReply::Versions(all) => {
+            assert_eq!(rt; all.len(), 2);
+            let [first, second] = [all.as_slice()[0], all.as_slice()[1]];
+            assert_eq!(rt; first.version.number, 0);
+            assert!(rt; first.material == Dek::read(MATERIAL));
+            assert_eq!(rt; second.version.number, 1);
+            assert!(rt; second.material == Dek::read(SEALED));
+        }
+        _ => panic!(rt; "no versions"),
+    }
+}
+
+#[test]
+fn a_deleted_key_is_gone(rt: HostRuntime) {
+    let mut desk = Desk::new(&rt, rt.alloc());
+    let name = key_name(&rt, b"k");
+    assert_version(&rt, desk.create(&rt, b"k", 128, MATERIAL), 0, MATERIAL);
+    assert_version(&rt, desk.create(&rt, b"j", 128, SEALED), 0, SEALED);
+    assert_done(&rt, desk.ask(KmsCall::Invalidate { name }));
+    assert_done(&rt, desk.ask(KmsCall::Delete { name }));
+    let again = desk.ask(KmsCall::Delete { name });
+    assert_refused(&rt, again, KmsRefusal::NoSuchKey);
+    let absent = desk.ask(KmsCall::Invalidate { name });
+    assert_refused(&rt, absent, KmsRefusal::NoSuchKey);
+    let absent = desk.ask(KmsCall::Current { name });
+    assert_refused(&rt, absent, KmsRefusal::NoSuchKey);
+    let absent = desk.ask(KmsCall::Versions { name });
+    assert_refused(&rt, absent, KmsRefusal::NoSuchKey);
+    let absent = version(&rt, b"k", 0);
+    let absent = desk.ask(KmsCall::Version { version: absent });
+    assert_refused(&rt, absent, KmsRefusal::NoSuchKey);
+    let other = key_name(&rt, b"j");
+    let other = desk.ask(KmsCall::Current { name: other });
+    assert_version(&rt, other, 0, SEALED);
+    assert_version(&rt, desk.create(&rt, b"k", 128, SEALED), 0, SEALED);
 }
 
 /// Three letters for each number below 10,000.

@@ -1,7 +1,6 @@
--- The laws of directories that are made.
-use Rattle.std.proofs.Common.{◌≡◌, ℕ, ◌<◌, ◌⊎◌, inl, inr, Bool, true, false, cond, not, ◌&&◌, is_none, is_some, List, [], ◌∷◌, Option, Some, None, refl, sym, ap, ◌∙◌, subst, arith}
+-- The laws of directories that are made, and of ids.
+use Rattle.std.proofs.Common.{◌≡◌, ℕ, ◌<◌, ◌⊎◌, inl, inr, Bool, true, false, cond, not, ◌&&◌, is_none, is_some, List, [], ◌∷◌, Option, Some, None, Ok, Err, refl, sym, ap, ◌∙◌, subst, arith}
 use Rattle.std.specs.Option.{option_map}
-use Rattle.std.specs.List.{All}
 use Rattle.std.proofs.lemmas.List.Elements.{All-cons, All-nil}
 use Rattle.std.specs.Str.{bytes_eq}
 use Rattle.inode_tree.specs.declared.rows.Row.{Row}
@@ -16,8 +15,11 @@ use Rattle.name_core.specs.declared.calls.NameRefusal.{NameRefusal}
 use Rattle.name_core.specs.declared.calls.NameRefusal.TheVariants.{NoSuchPath, NotADirectory, Exists, TooManyInodes, NoMemory}
 use Rattle.name_core.specs.State.{NameState, first_state, is_full, next_id}
 use Rattle.name_core.specs.Calls.{NameActs, Plain, NoRoom, causes, deed, first_cause, info_reply, made, mkdir_causes, new_directory, path_of_zone, shown_at, unless_refused}
-use Rattle.name_core.specs.Laws.{IdsBelowNext, IdsRise, IdsStayBelow, MadeIsTold, OthersStay}
-use Rattle.name_core.proofs.RowLemmas.{BelowId, below-put}
+use Rattle.name_core.specs.Asks.{ask_causes, asked, note_of, opened, unless_not_asked}
+use Rattle.name_core.specs.Laws.{AskIdsRise, IdsBelowNext, IdsRise, IdsStayBelow, IdsStayByAsks, MadeIsTold, OthersStay}
+use Rattle.name_core.proofs.AskLemmas.{fit-ask, fit-row}
+use Rattle.name_core.proofs.RowLemmas.{BelowId}
+use Rattle.name_core.specs.declared.calls.AskNote.{AskNote}
 
 -- what holds of a mkdir that was done
 
@@ -29,7 +31,7 @@ done-by s p s' (Plain, may, is) = go (first_cause (mkdir_causes s p)) is
     go None is = (refl, ap (λ o. o.state) is)
     go (Some why) is = let f : Done ≡ Refused why = ap (λ o. o.told) is in absurd cc
 
-none-of : (o : Option Row) → is_some o ≡ false → o ≡ None
+pub none-of : (o : Option Row) → is_some o ≡ false → o ≡ None
 none-of None h = refl
 none-of (Some row) h = absurd cc
 
@@ -51,7 +53,7 @@ apart x es p h = go (same_path x.path p) h
     go true f = absurd cc
     go false f = (refl, f)
 
-row-new : (e : Entry) (es : List Entry) → row_at es e.path ≡ None → row_at (put e es) e.path ≡ Some e.row
+pub row-new : (e : Entry) (es : List Entry) → row_at es e.path ≡ None → row_at (put e es) e.path ≡ Some e.row
 row-new e [] h = ap (λ t. cond t (Some e.row) None) (same-itself e.path)
 row-new e (x ∷ es) h = go (is_before e.path x.path) (row-new e es (apart x es e.path h).1)
   where
@@ -59,7 +61,7 @@ row-new e (x ∷ es) h = go (is_before e.path x.path) (row-new e es (apart x es 
     go true rest = ap (λ t. cond t (Some e.row) (row_at (x ∷ es) e.path)) (same-itself e.path)
     go false rest = ap (λ t. cond t (Some x.row) (row_at (put e es) e.path)) (apart x es e.path h).0 ∙ rest
 
-row-other : (e : Entry) (es : List Entry) (q : List (List ℕ)) → same_path e.path q ≡ false → row_at (put e es) q ≡ row_at es q
+pub row-other : (e : Entry) (es : List Entry) (q : List (List ℕ)) → same_path e.path q ≡ false → row_at (put e es) q ≡ row_at es q
 row-other e [] q h = ap (λ t. cond t (Some e.row) None) h
 row-other e (x ∷ es) q h = go (is_before e.path x.path) (row-other e es q h)
   where
@@ -71,7 +73,7 @@ no-zone : (e : Entry) (q : List (List ℕ)) → is_marked e.row ≡ false → is
 no-zone e q h = ap (λ b. b && is_prefix e.path q) h
 
 -- a row without a mark is no zone
-zone-same : (e : Entry) (es : List Entry) (q : List (List ℕ)) → is_marked e.row ≡ false → zone_of (put e es) q ≡ zone_of es q
+pub zone-same : (e : Entry) (es : List Entry) (q : List (List ℕ)) → is_marked e.row ≡ false → zone_of (put e es) q ≡ zone_of es q
 zone-same e [] q h = ap (λ b. cond b (Some e) None) (no-zone e q h)
 zone-same e (x ∷ es) q h = go (is_before e.path x.path) (zone-same e es q h)
   where
@@ -96,7 +98,7 @@ prefix-parent (x ∷ q) (y ∷ z ∷ p) h = go (bytes_eq x y) h (prefix-parent q
     go true h rest = rest h
     go false h rest = refl
 
-zone-above : (es : List Entry) (p : List (List ℕ)) → row_at es p ≡ None → zone_of es p ≡ zone_of es (parent p)
+pub zone-above : (es : List Entry) (p : List (List ℕ)) → row_at es p ≡ None → zone_of es p ≡ zone_of es (parent p)
 zone-above [] p h = refl
 zone-above (x ∷ es) p h =
     let over : is_zone_over p x ≡ is_zone_over (parent p) x = ap (λ b. is_marked x.row && b) (prefix-parent x.path p (apart x es p h).0) in
@@ -104,7 +106,7 @@ zone-above (x ∷ es) p h =
     λ i. cond (over i) (Some (longer x (rest i))) (rest i)
 
 -- what is told is the definition's reply, but for want of memory
-told-by : (s : NameState) (p : List (List ℕ)) (told : NameReply) (s' : NameState) → NameActs s (call.Info p) told s' → (told ≡ Refused NoMemory) ⊎ (told ≡ info_reply s.table.rows p)
+pub told-by : (s : NameState) (p : List (List ℕ)) (told : NameReply) (s' : NameState) → NameActs s (call.Info p) told s' → (told ≡ Refused NoMemory) ⊎ (told ≡ info_reply s.table.rows p)
 told-by s p told s' (NoRoom, may, is) = inl (ap (λ o. o.told) is)
 told-by s p told s' (Plain, may, is) = inr (go (row_at s.table.rows p) is)
   where
@@ -126,7 +128,7 @@ made_is_told s p s' told s'' did asked = go (told-by s' p told s'' asked)
     go (inl wanting) = inl wanting
     go (inr is) = inr (is ∙ ap (λ (t : NameState). info_reply t.table.rows p) (done-by s p s' did).1 ∙ (λ i. shown_at (zone_is i) (row-new (new_directory s p) s.table.rows absent i)))
 
-other : (p q : List (List ℕ)) → (q ≡ p → ⊥) → same_path p q ≡ false
+pub other : (p q : List (List ℕ)) → (q ≡ p → ⊥) → same_path p q ≡ false
 other p q h = go (same_path p q) refl
   where
     go : (t : Bool) → same_path p q ≡ t → t ≡ false
@@ -141,15 +143,30 @@ others_stay s p s' q did apart =
 pub ids_rise : IdsRise
 ids_rise s p s' did = subst (λ (t : NameState). next_id s < next_id t) (sym (done-by s p s' did).1) (omega arith)
 
-pub start_below : IdsBelowNext first_state
-start_below = All-cons (BelowId (next_id first_state)) _ [] (omega arith) (All-nil (BelowId (next_id first_state)))
+pub ask_ids_rise : AskIdsRise
+ask_ids_rise s user a note s' (NoRoom, may, is) = let f : Ok note ≡ Err NoMemory = ap (λ o. o.told) is in absurd cc
+ask_ids_rise s user a note s' (Plain, may, is) = go (first_cause (ask_causes s user a)) is
+  where
+    go : (o : Option NameRefusal) → (record { told = Ok note; state = s' }) ≡ unless_not_asked o s a → (note.id ≡ next_id s) × (next_id s < next_id s')
+    go (Some why) is = let f : Ok note ≡ Err why = ap (λ o. o.told) is in absurd cc
+    go None is =
+        let same : note ≡ note_of (opened s a) = let f : Ok note ≡ Ok (note_of (opened s a)) = ap (λ o. o.told) is in cc in
+        (ap (λ (n : AskNote). n.id) same, subst (λ (t : NameState). next_id s < next_id t) (sym (ap (λ o. o.state) is)) (omega arith))
 
-deed-below : (s : NameState) (c : NameCall) → IdsBelowNext s → IdsBelowNext (deed s c).state
-deed-below s (call.Mkdir p) below = below-put (new_directory s p) s.table.rows (next_id s) (next_id (made s p)) refl (omega arith) below
-deed-below s (call.Info p) below = below
+pub start_below : IdsBelowNext first_state
+start_below = record {
+  of_rows = All-cons (BelowId (next_id first_state)) _ [] (omega arith) (All-nil (BelowId (next_id first_state)));
+  of_asks = tt;
+  free = tt;
+  rising = tt;
+}
 
 moved-below : (s s' : NameState) → s' ≡ s → IdsBelowNext s → IdsBelowNext s'
-moved-below s s' is below = subst (λ (t : NameState). All (BelowId (next_id t)) t.table.rows) (sym is) below
+moved-below s s' is below = subst IdsBelowNext (sym is) below
+
+deed-below : (s : NameState) (c : NameCall) → IdsBelowNext s → IdsBelowNext (deed s c).state
+deed-below s (call.Mkdir p) below = fit-row (new_directory s p) s.table.rows s.asks (next_id s) (next_id (made s p)) refl (omega arith) below
+deed-below s (call.Info p) below = below
 
 pub ids_stay_below : IdsStayBelow
 ids_stay_below s c told s' (NoRoom, may, is) below = moved-below s s' (ap (λ o. o.state) is) below
@@ -158,3 +175,11 @@ ids_stay_below s c told s' (Plain, may, is) below = go (first_cause (causes s c)
     go : (o : Option NameRefusal) → (record { told = told; state = s' }) ≡ unless_refused o s (deed s c) → IdsBelowNext s'
     go (Some why) is = moved-below s s' (ap (λ o. o.state) is) below
     go None is = moved-below (deed s c).state s' (ap (λ o. o.state) is) (deed-below s c below)
+
+pub ids_stay_by_asks : IdsStayByAsks
+ids_stay_by_asks s user a told s' (NoRoom, may, is) below = moved-below s s' (ap (λ o. o.state) is) below
+ids_stay_by_asks s user a told s' (Plain, may, is) below = go (first_cause (ask_causes s user a)) is
+  where
+    go : (o : Option NameRefusal) → (record { told = told; state = s' }) ≡ unless_not_asked o s a → IdsBelowNext s'
+    go (Some why) is = moved-below s s' (ap (λ o. o.state) is) below
+    go None is = moved-below (asked s a) s' (ap (λ o. o.state) is) (fit-ask (opened s a) s.table.rows s.asks (next_id s) (next_id (asked s a)) refl (omega arith) below)

@@ -26,7 +26,7 @@ all-either : (P : Entry → Type 0) (b : Bool) (xs ys : List Entry) → All P xs
 all-either P true xs ys h g = h
 all-either P false xs ys h g = g
 
-all-put : (P : Entry → Type 0) (e : Entry) (es : List Entry) → P e → All P es → All P (put e es)
+pub all-put : (P : Entry → Type 0) (e : Entry) (es : List Entry) → P e → All P es → All P (put e es)
 all-put P e [] p h = All-cons P e [] p h
 all-put P e (x ∷ xs) p h =
     all-either P (is_before e.path x.path) (e ∷ x ∷ xs) (x ∷ put e xs) (All-cons P e (x ∷ xs) p h)
@@ -60,7 +60,7 @@ zone-holds P p (e ∷ es) h =
     holds-either P (is_zone_over p e) (Some (longer e (zone_of es p))) (zone_of es p) (longer-holds P e (zone_of es p) (All-head P e es h) rest) rest
 
 -- the row that has the id of a path's zone is that zone's row
-zone-row : (rows : List Entry) (p : List (List ℕ)) (id : ℕ) → IsRows rows → zone_id rows p ≡ Some id → entry_of rows id ≡ zone_of rows p
+pub zone-row : (rows : List Entry) (p : List (List ℕ)) (id : ℕ) → IsRows rows → zone_id rows p ≡ Some id → entry_of rows id ≡ zone_of rows p
 zone-row rows p id good h = go (zone_of rows p) (zone-holds (λ e. entry_of rows e.row.id ≡ Some e) p rows good.once) h
   where
     go : (o : Option Entry) → HoldsOf (λ e. entry_of rows e.row.id ≡ Some e) o → option_map (λ e. e.row.id) o ≡ Some id → entry_of rows id ≡ o

@@ -47,7 +47,7 @@ new_directory s p = record { path = p; row = record { id = next_id s; kind = Dir
 
 -- the state with that row, whose id is used
 abbrev pub made : NameState → NPath → NameState
-made s p = record { table = record s.table { rows = put (new_directory s p) s.table.rows }; next = s.next + 1 }
+made s p = record s { table = record s.table { rows = put (new_directory s p) s.table.rows }; next = s.next + 1 }
 
 -- the path of the zone that a path lies in
 abbrev pub path_of_zone : List Entry → NPath → Option NPath

@@ -1,6 +1,10 @@
 //! The calls of the namesystem and its replies.
+ghost use Rattle.std.specs.Prelude.{◌≡◌};
+ghost use Rattle.name_core.specs.Asks.{answer_of};
+
 use hk_base::{Edek, KeyName};
 use inode_tree::NPath;
+use key_rows::{KmsRefusal, KmsReply};
 
 /// A call of the namesystem. Its paths are absolute ones.
 #[derive(Drop)]
@@ -24,10 +28,62 @@ pub enum NameRefusal {
     Exists,
     /// A directory is needed where a file stands.
     NotADirectory,
+    /// A directory that is to become a zone has something in it.
+    NotEmpty,
+    /// The user is not `hdfs`, who alone makes zones.
+    NotSuperuser,
+    /// A directory that is to become a zone is one, or lies in one.
+    AlreadyInZone,
+    /// No ask of the id is open: it was finished, or a restart dropped it. `opening` and `next` are
+    /// the number of the opening and the counter of its next id.
+    AskGone { opening: u32, next: u64 },
+    /// The zone of the path is not the one under which the ask was made.
+    ZoneChanged,
     /// 1,000,000 directories and files stand, or the ids of this start are used up.
     TooManyInodes,
+    /// The key management service refused the call that the ask wanted.
+    KeyRefused(KmsRefusal),
     /// There is no memory for the call.
     NoMemory,
+}
+
+/// What is asked of the namesystem that takes a call of the key management service in between. Its
+/// paths are absolute ones.
+#[derive(Drop)]
+pub enum Ask {
+    /// Makes a file, whose own directory has to stand. In a zone it gets an encrypted data
+    /// encryption key of its own.
+    Create { path: NPath },
+    /// Makes an empty directory a zone with this key (`hdfs crypto -createZone`). The superuser
+    /// `hdfs` alone may.
+    Zone { path: NPath, key: KeyName },
+}
+
+/// The call of the key management service that an ask wants made, as the user `hdfs`, before it is
+/// finished.
+#[derive(Clone, Copy)]
+pub enum Want {
+    /// None: a file outside all zones has no key.
+    Nothing,
+    /// A generate of one data encryption key under the key of the zone.
+    Generate(KeyName),
+    /// What is known of the key of a new zone, so that it is one that stands.
+    Metadata(KeyName),
+}
+
+/// What an ask that was accepted is told: its id, by which it is finished, and the call that is
+/// wanted.
+#[derive(Clone, Copy)]
+pub struct AskNote {
+    pub id: u64,
+    pub want: Want,
+}
+
+/// The reply to the call that an ask wanted, `None` where it wanted none.
+#[derive(Drop)]
+pub struct Answered {
+    pub id: u64,
+    pub reply: Option<KmsReply>,
 }
 
 /// The reply to a call: Mkdir is answered by Done, Info by Dir or File, and each by Refused where
@@ -49,4 +105,26 @@ pub enum NameReply {
         edek: Option<Edek>,
     },
     Refused(NameRefusal),
+}
+
+/// What a reply of the key management service says to the ask that wanted its call.
+#[derive(Clone, Copy)]
+pub enum KeyAnswer {
+    /// The call was refused.
+    Refused(KmsRefusal),
+    /// The call was answered, with this encrypted data encryption key where one was wanted.
+    Given(Option<Edek>),
+}
+
+impl Answered {
+    /// What the reply says to the ask.
+    pub fn answer(&self) -> KeyAnswer
+        ensures { result ≡ answer_of self.now.reply }
+    {
+        match &self.reply {
+            Some(KmsReply::Refused(why)) => KeyAnswer::Refused(*why),
+            Some(KmsReply::Ready(edeks)) => KeyAnswer::Given(edeks.as_slice().first().copied()),
+            _ => KeyAnswer::Given(None),
+        }
+    }
 }

@@ -1,6 +1,6 @@
-//! What follows for directories that are made. The functions do nothing: their contracts are the
-//! laws.
-ghost use Rattle.name_core.specs.Laws.{IdsBelowNext, IdsRise, IdsStayBelow, MadeIsTold, OthersStay};
+//! What follows for directories, files and zones that are made, for ids, and for asks that were finished.
+//! The functions do nothing: their contracts are the laws.
+ghost use Rattle.name_core.specs.Laws.{AskIdsRise, FileIsTold, FinishedForGood, FinishedOnce, IdsBelowNext, IdsRise, IdsStayBelow, IdsStayByAsks, IdsStayByFinishes, MadeIsTold, OthersStay, OthersStayByFile, ZoneIsAsAsked, ZoneIsTold};
 ghost use Rattle.name_core.specs.State.{first_state};
 
 /// A directory that was made is what is told of its path: with the next id, the zone that its own
@@ -10,10 +10,35 @@ pub fn made_directories_are_told()
     ensures others { OthersStay }
 {}
 
-/// A directory that is made raises the next id, which from the start and after each call is above
-/// all ids in use. So no two rows get the same id.
+/// A file that a finish made is what is told of its path: with the id of its ask, the zone that its
+/// own directory lies in, and the encrypted key that was given. The zone is the one under which the
+/// file was asked for. What is told of each other path stays.
+pub fn made_files_are_told()
+    ensures told { FileIsTold }
+    ensures zone { ZoneIsAsAsked }
+    ensures others { OthersStayByFile }
+{}
+
+/// A directory that a finish made a zone is told of its path: with the id that it had, itself as its
+/// zone, and the key that was asked for.
+pub fn made_zones_are_told()
+    ensures { ZoneIsTold }
+{}
+
+/// A directory that is made and an ask that is accepted raise the next id, which from the start and
+/// after each call, ask and finish is above all ids in use. So no two rows get the same id.
 pub fn ids_rise()
     ensures rise { IdsRise }
+    ensures rise_by_asks { AskIdsRise }
     ensures start { IdsBelowNext first_state }
     ensures stay { IdsStayBelow }
+    ensures stay_by_asks { IdsStayByAsks }
+    ensures stay_by_finishes { IdsStayByFinishes }
+{}
+
+/// After a finish that answered anything but want of memory, its ask is open no more: a finish of the
+/// same id finds none and changes nothing, at once and after any calls, asks and finishes.
+pub fn asks_are_finished_once()
+    ensures at_once { FinishedOnce }
+    ensures later { FinishedForGood }
 {}

@@ -1,46 +1,130 @@
-//! What the calls answer, what they are refused for, and what is told of zones and files.
+//! What calls, asks and finishes answer, what they are refused for, and what they leave.
+mod asks;
+mod calls;
+mod finishes;
+
 use super::*;
-use crate::rules::{info, to_be_made};
-use hk_base::{ByteList, Dek, Edek, Iv, KeyName, NoMemory, Text, VersionName};
-use inode_tree::{Kind, MOST_ROWS, NPath, Row, Tree};
+use hk_base::{ByteList, Dek, Edek, Iv, KeyName, Text, VersionName};
+use inode_tree::NPath;
+use key_rows::{Description, EdekList, KeyMeta, KmsReply};
 use std::alloc::Global;
 use std::process::Abort;
-use std::test::Fail;
 
 /// The id that the first directory gets.
 const FIRST_ID: u64 = 4294967297;
+
+/// The last id of the first opening.
+const LAST_ID: u64 = 8589934591;
+
+fn key_name(rt: &impl Abort) -> KeyName {
+    KeyName::read(b"key1").expect(rt, "a name")
+}
+
+/// An encrypted key whose bytes are all this one.
+fn encrypted(rt: &impl Abort, byte: u8) -> Edek {
+    let key = key_name(rt);
+    Edek {
+        version: VersionName { key, number: 0 },
+        iv: Iv::read(&[byte; 16]).expect(rt, "a vector"),
+        sealed: Dek::read(&[byte; 16]).expect(rt, "a key"),
+    }
+}
+
+/// The reply to a generate of one key.
+fn ready(rt: &impl Abort, alloc: Global, edek: Edek) -> Option<KmsReply> {
+    let mut edeks = EdekList::with_room(alloc, 1).expect(rt, "memory");
+    edeks.push(edek).expect(rt, "memory");
+    Some(KmsReply::Ready(edeks))
+}
+
+/// The reply to a metadata of a key that stands.
+fn known(rt: &impl Abort, alloc: Global) -> Option<KmsReply> {
+    Some(KmsReply::Metadata(KeyMeta {
+        name: key_name(rt),
+        bits: 128,
+        description: Description::empty(alloc),
+        created: 1,
+        versions: 1,
+    }))
+}
 
 fn path(rt: &impl Abort, alloc: Global, text: &str) -> NPath {
     NPath::read(alloc, text.as_bytes()).expect(rt, "a path")
 }
 
-/// A namesystem, and a user who calls it.
+/// A namesystem, and two users who call it: alice and the superuser.
 #[derive(Drop)]
 struct Desk {
     alloc: Global,
     name: Name,
-    user: Text,
+    alice: Text,
+    hdfs: Text,
 }
 
 impl Desk {
     fn new(rt: &impl Abort, alloc: Global) -> Desk {
-        Desk::with(alloc, Name::new(alloc).expect(rt, "memory"))
+        Desk::with(rt, alloc, Name::new(alloc).expect(rt, "memory"))
     }
 
-    fn with(alloc: Global, name: Name) -> Desk {
-        let user = Text::of(String::new(alloc));
-        Desk { alloc, name, user }
+    fn with(rt: &impl Abort, alloc: Global, name: Name) -> Desk {
+        let alice = user(rt, alloc, "alice");
+        let hdfs = user(rt, alloc, "hdfs");
+        Desk {
+            alloc,
+            name,
+            alice,
+            hdfs,
+        }
     }
 
     fn mkdir(&mut self, rt: &impl Abort, text: &str) -> NameReply {
         let path = path(rt, self.alloc, text);
-        self.name.act(&self.user, NameCall::Mkdir { path })
+        self.name.act(&self.alice, NameCall::Mkdir { path })
     }
 
     fn info(&mut self, rt: &impl Abort, text: &str) -> NameReply {
         let path = path(rt, self.alloc, text);
-        self.name.act(&self.user, NameCall::Info { path })
+        self.name.act(&self.alice, NameCall::Info { path })
     }
+
+    fn create(&mut self, rt: &impl Abort, text: &str) -> Result<AskNote, NameRefusal> {
+        let path = path(rt, self.alloc, text);
+        self.name.ask(&self.alice, Ask::Create { path })
+    }
+
+    fn zone(&mut self, rt: &impl Abort, text: &str) -> Result<AskNote, NameRefusal> {
+        let path = path(rt, self.alloc, text);
+        let key = key_name(rt);
+        self.name.ask(&self.hdfs, Ask::Zone { path, key })
+    }
+
+    /// Asks for a file, and tells the id of the ask.
+    fn ask_file(&mut self, rt: &impl Abort, text: &str) -> u64 {
+        let note = self.create(rt, text).expect(rt, "a note");
+        note.id
+    }
+
+    /// Asks for a zone, and tells the id of the ask.
+    fn ask_zone(&mut self, rt: &impl Abort, text: &str) -> u64 {
+        let note = self.zone(rt, text).expect(rt, "a note");
+        note.id
+    }
+
+    fn finish(&mut self, id: u64, reply: Option<KmsReply>) -> Result<(), NameRefusal> {
+        self.name.finish(Answered { id, reply })
+    }
+
+    /// Makes a directory and makes it a zone, which takes two ids.
+    fn make_zone(&mut self, rt: &impl Abort, text: &str) {
+        assert_done(rt, self.mkdir(rt, text));
+        let id = self.ask_zone(rt, text);
+        let reply = known(rt, self.alloc);
+        self.finish(id, reply).expect(rt, "a zone");
+    }
+}
+
+fn user(rt: &impl Abort, alloc: Global, name: &str) -> Text {
+    Text::of(String::from_str(alloc, name).expect(rt, "memory"))
 }
 
 fn assert_done(rt: &impl Abort, reply: NameReply) {
@@ -100,150 +184,5 @@ fn assert_file(
             assert!(rt; edek == sealed);
         }
         _ => panic!(rt; "no file"),
-    }
-}
-
-#[test]
-fn directories_get_rising_ids(rt: HostRuntime) {
-    let alloc = rt.alloc();
-    let mut desk = Desk::new(&rt, alloc);
-    assert_done(&rt, desk.mkdir(&rt, "/b"));
-    assert_done(&rt, desk.mkdir(&rt, "/a"));
-    assert_done(&rt, desk.mkdir(&rt, "/b/c"));
-    assert_directory(&rt, alloc, desk.info(&rt, "/"), 0, "", None);
-    assert_directory(&rt, alloc, desk.info(&rt, "/b"), FIRST_ID, "", None);
-    assert_directory(&rt, alloc, desk.info(&rt, "/a"), FIRST_ID + 1, "", None);
-    assert_directory(&rt, alloc, desk.info(&rt, "/b/c"), FIRST_ID + 2, "", None);
-}
-
-#[test]
-fn a_refused_call_changes_nothing(rt: HostRuntime) {
-    let alloc = rt.alloc();
-    let mut desk = Desk::new(&rt, alloc);
-    assert_done(&rt, desk.mkdir(&rt, "/a"));
-    assert_refused(&rt, desk.mkdir(&rt, "/x/y"), NameRefusal::NoSuchPath);
-    assert_refused(&rt, desk.mkdir(&rt, "/a"), NameRefusal::Exists);
-    assert_refused(&rt, desk.mkdir(&rt, "/"), NameRefusal::Exists);
-    assert_refused(&rt, desk.info(&rt, "/x"), NameRefusal::NoSuchPath);
-    assert_directory(&rt, alloc, desk.info(&rt, "/a"), FIRST_ID, "", None);
-    assert_done(&rt, desk.mkdir(&rt, "/x"));
-    assert_directory(&rt, alloc, desk.info(&rt, "/x"), FIRST_ID + 1, "", None);
-}
-
-#[test]
-fn an_opening_has_so_many_ids(rt: HostRuntime) {
-    let alloc = rt.alloc();
-    let mut desk = Desk::with(alloc, Name::with_one_id(alloc).expect(&rt, "memory"));
-    assert_done(&rt, desk.mkdir(&rt, "/a"));
-    assert_refused(&rt, desk.mkdir(&rt, "/b"), NameRefusal::TooManyInodes);
-    assert_refused(&rt, desk.mkdir(&rt, "/a"), NameRefusal::Exists);
-    assert_directory(&rt, alloc, desk.info(&rt, "/a"), 8589934591, "", None);
-}
-
-/// Adds a row where the rules allow it.
-fn offer(tree: &mut Tree, path: &NPath, row: Row) -> Result<bool, NoMemory> {
-    match to_be_made(tree, path) {
-        Some(_) => return Ok(false),
-        None => {}
-    }
-    match tree.row(row.id) {
-        Some(_) => return Ok(false),
-        None => {}
-    }
-    if tree.rows() >= MOST_ROWS {
-        return Ok(false);
-    }
-    let Row { id, kind } = row;
-    match kind {
-        Kind::Dir { .. } => tree.mkdir(path, id)?,
-        Kind::File { edek } => tree.add_file(path, id, edek)?,
-    }
-    Ok(true)
-}
-
-/// Marks the directory that has the id, where one has it.
-fn mark(tree: &mut Tree, id: u64, key: KeyName) -> bool {
-    match tree.row(id) {
-        Some(row) => {
-            if !row.kind.is_dir() {
-                return false;
-            }
-        }
-        None => return false,
-    }
-    tree.set_key(id, key);
-    true
-}
-
-fn key_name(rt: &impl Abort) -> KeyName {
-    KeyName::read(b"key1").expect(rt, "a name")
-}
-
-fn encrypted(rt: &impl Abort) -> Edek {
-    let key = key_name(rt);
-    Edek {
-        version: VersionName { key, number: 0 },
-        iv: Iv::read(&[7; 16]).expect(rt, "a vector"),
-        sealed: Dek::read(&[9; 16]).expect(rt, "a key"),
-    }
-}
-
-fn directory(id: u64) -> Row {
-    let kind = Kind::Dir { key: None };
-    Row { id, kind }
-}
-
-fn file(id: u64, edek: Option<Edek>) -> Row {
-    let kind = Kind::File { edek };
-    Row { id, kind }
-}
-
-/// A zone with a directory and a file in it, and a file outside.
-fn zone(rt: &impl Abort, alloc: Global) -> Tree {
-    let mut tree = Tree::new(alloc).expect(rt, "memory");
-    for (text, row) in [
-        ("/zone", directory(7)),
-        ("/zone/sub", directory(8)),
-        ("/zone/sub/secret", file(9, Some(encrypted(rt)))),
-        ("/plain", file(10, None)),
-    ] {
-        let added = offer(&mut tree, &path(rt, alloc, text), row);
-        assert!(rt; added.expect(rt, "memory"));
-    }
-    assert!(rt; mark(&mut tree, 7, key_name(rt)));
-    tree
-}
-
-fn told(rt: &impl Abort, alloc: Global, tree: &Tree, text: &str) -> NameReply {
-    info(tree, &path(rt, alloc, text))
-}
-
-#[test]
-fn the_zone_of_what_lies_in_it_is_told(rt: HostRuntime) {
-    let alloc = rt.alloc();
-    let tree = zone(&rt, alloc);
-    let key = Some(key_name(&rt));
-    let edek = Some(encrypted(&rt));
-    assert_directory(&rt, alloc, told(&rt, alloc, &tree, "/"), 0, "", None);
-    let reply = told(&rt, alloc, &tree, "/zone");
-    assert_directory(&rt, alloc, reply, 7, "/zone", key);
-    let reply = told(&rt, alloc, &tree, "/zone/sub");
-    assert_directory(&rt, alloc, reply, 8, "/zone", None);
-    let reply = told(&rt, alloc, &tree, "/zone/sub/secret");
-    assert_file(&rt, alloc, reply, 9, "/zone", edek);
-    assert_file(&rt, alloc, told(&rt, alloc, &tree, "/plain"), 10, "", None);
-}
-
-#[test]
-fn nothing_is_made_below_a_file(rt: HostRuntime) {
-    let alloc = rt.alloc();
-    let tree = zone(&rt, alloc);
-    for (text, why) in [
-        ("/plain/x", Some(NameRefusal::NotADirectory)),
-        ("/plain/x/y", Some(NameRefusal::NoSuchPath)),
-        ("/plain", Some(NameRefusal::Exists)),
-        ("/zone/sub/other", None),
-    ] {
-        assert!(rt; to_be_made(&tree, &path(&rt, alloc, text)) == why);
     }
 }

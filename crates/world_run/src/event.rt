@@ -1,22 +1,70 @@
 //! What may happen to the services, and how it is answered.
-use hk_base::{ByteList, Text};
+use hk_base::{ByteList, KeyName, Text};
 use key_rows::{KmsCall, KmsReply};
-use name_core::NameReply;
+use name_core::{AskNote, NameRefusal, NameReply};
 
-/// An event: one call of one user on one service. A path stands as the bytes that were given.
+/// An event: one call on one service. A path stands as the bytes that were given. Asks and replies
+/// that are kept are numbered from 1, each kind by itself, and stay: each may be used late, again
+/// or never.
 #[derive(Drop)]
 pub enum Event {
     /// A call of the key management service.
-    Kms { user: Text, call: KmsCall },
+    Kms {
+        user: Text,
+        call: KmsCall,
+    },
     /// Makes a directory of the namesystem.
-    Mkdir { user: Text, path: ByteList },
+    Mkdir {
+        user: Text,
+        path: ByteList,
+    },
     /// Asks what stands at a path of the namesystem.
-    Info { user: Text, path: ByteList },
+    Info {
+        user: Text,
+        path: ByteList,
+    },
+    /// Asks the namesystem to make a file. Where the ask is accepted its note is kept.
+    AskCreate {
+        user: Text,
+        path: ByteList,
+    },
+    /// Asks the namesystem to make a directory a zone with this key. Where the ask is accepted its
+    /// note is kept.
+    AskZone {
+        user: Text,
+        path: ByteList,
+        key: KeyName,
+    },
+    /// Makes the call of the key management service that the kept ask of this number wants, as the
+    /// user `hdfs`, and keeps the reply.
+    Draw {
+        ask: u32,
+    },
+    /// Finishes the ask that the kept reply of this number answers.
+    Finish {
+        reply: u32,
+    },
 }
 
 /// The answer to an event, which is a line of the transcript.
 #[derive(Drop)]
 pub enum Line {
+    /// The reply of the key management service.
     Kms(KmsReply),
+    /// The reply of the namesystem. A finish that was done is answered so too.
     Name(NameReply),
+    /// An ask was accepted, and its note is kept under this number.
+    Asked {
+        number: u64,
+        note: AskNote,
+    },
+    /// A reply is kept under this number, `None` where nothing was wanted.
+    Replied {
+        number: u64,
+        reply: Option<KmsReply>,
+    },
+    /// An ask or a finish was refused.
+    Refused(NameRefusal),
+    /// Nothing is kept under the number that was given.
+    Unknown,
 }

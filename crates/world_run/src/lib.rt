@@ -3,10 +3,16 @@
 #![tactic(auto)]
 
 mod event;
+mod kept;
+mod laws;
 mod world;
 
 pub use event::{Event, Line};
+pub use kept::KeptReply;
+pub use laws::the_first_world_is_linked;
 pub use world::World;
 
+#[cfg(test)]
+mod ask_tests;
 #[cfg(test)]
 mod tests;

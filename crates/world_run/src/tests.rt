@@ -63,7 +63,7 @@ impl Desk {
         let event = Event::Kms { user, call };
         match self.world.step(&mut self.words, now, event) {
             Line::Kms(reply) => reply,
-            Line::Name(_) => panic!(rt; "a reply of the namesystem"),
+            _ => panic!(rt; "no reply of the key service"),
         }
     }
 
@@ -93,7 +93,7 @@ impl Desk {
     fn name(&mut self, rt: &impl Abort, event: Event) -> NameReply {
         match self.world.step(&mut self.words, 5, event) {
             Line::Name(reply) => reply,
-            Line::Kms(_) => panic!(rt; "a reply of the key service"),
+            _ => panic!(rt; "no reply of the namesystem"),
         }
     }
 

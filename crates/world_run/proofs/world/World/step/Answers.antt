@@ -1,15 +1,26 @@
-use Rattle.std.proofs.Common.{refl, ap, arith}
+use Rattle.std.proofs.Common.{ℕ}
+use Rattle.world_run.specs.declared.event.Event.{Event}
+use Rattle.world_run.specs.declared.event.Line.{Line}
+use Rattle.world_run.specs.World.{WorldState}
+use Rattle.world_run.specs.Step.{Happens}
+use Rattle.world_run.specs.Keeps.{Steps}
+use Rattle.world_run.specs.Linked.{ServicesFit}
+use Rattle.world_run.proofs.KeepLemmas.{keeps-linked, linked-promise}
 use Rattle.world_run.proofs.world.World.step.Goals as goal
 
-pub returns-in-Kms : goal.returns-in-Kms
-returns-in-Kms g c = rw (← c.self.view_is, c.in-Kms.is) (record {
-  drawn = c.act.ensures.drawn;
-  step = record { reply = c.act.result; keys = c.act.new.self; acts = c.act.ensures.acts; told_is = refl; left = refl };
-  rest = c.act.ensures.rest;
-})
+steps : (w : WorldState) (words : ℕ → ℕ) (now : ℕ) (e : Event) (told : Line) (w' : WorldState) (words' : ℕ → ℕ) → ServicesFit w → ServicesFit w' → Happens w words now e told w' words' → Steps w words now e told w' words'
+steps w words now e told w' words' fit fit' h =
+    record {
+      drawn = h.drawn;
+      step = record {
+        step = h.step;
+        linked = λ hidden l. keeps-linked w words now e told h.drawn w' hidden fit h.step l;
+        files_open = λ hidden l. linked-promise w' _ fit' (keeps-linked w words now e told h.drawn w' hidden fit h.step l);
+      };
+      rest = h.rest;
+    }
 
-pub returns-in-Mkdir : goal.returns-in-Mkdir
-returns-in-Mkdir g c = rw c.in-Mkdir.is (record { drawn = 0; step = (refl, c.mkdir.ensures); rest = λ k. ap (g.W.Words.to_come c.args.words.now) (omega arith) })
-
-pub returns-in-Info : goal.returns-in-Info
-returns-in-Info g c = rw c.in-Info.is (record { drawn = 0; step = (refl, c.info.ensures); rest = λ k. ap (g.W.Words.to_come c.args.words.now) (omega arith) })
+pub returns : goal.returns
+returns g c =
+    steps c.args.self.now (g.W.Words.to_come c.args.words.now) c.args.now c.args.event c.happen-line.result c.happen-line.new.self (g.W.Words.to_come c.happen-line.new.words)
+    c.fits.ensures c.fits-2.ensures c.happen-line.ensures

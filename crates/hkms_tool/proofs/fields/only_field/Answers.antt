@@ -1,7 +1,0 @@
-use Rattle.hkms_tool.proofs.FieldLemmas.{never_empty}
-use Rattle.hkms_tool.proofs.fields.only_field.Goals as goal
-
-pub returns-in-Some : goal.returns-in-Some
-returns-in-Some c = λ field is.
-    let cut = rw c.in-Some.is at c.cut.ensures in
-    never_empty c.in-Some.field-0.now cc

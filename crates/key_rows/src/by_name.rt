@@ -1,0 +1,82 @@
+//! The births of the keys by their names.
+ghost use Rattle.std.specs.Prelude.{◌≡◌, ◌<◌, ◌≤◌, ◌∷◌, [], length, take, drop, filter, not, map, MatchResult, OnOk, OnErr, IfOk, IsOk, None, Some, bytes_eq, ◌==◌, if◌then◌else◌};
+ghost use Rattle.std.specs.List.{HoldsAt, insert};
+ghost use Rattle.std.specs.List.Sorted.{IsPartitionPoint};
+ghost use Rattle.std.specs.Vec.{vec_capacity, vec_len};
+ghost use Rattle.std.specs.declared.cmp.Ordering.TheVariants.{Less, Greater};
+ghost use Rattle.key_rows.specs.declared.by_name.NamedBirth.{NamedBirth};
+ghost use Rattle.key_rows.specs.Names.{InOrder, birth_in, name_cmp, names_of};
+
+use crate::name_list::NameList;
+use hk_base::{KeyName, NoMemory};
+use std::alloc::Global;
+use std::cmp::Ordering;
+
+/// The name of a key, and the key's birth.
+#[derive(Drop)]
+pub(crate) struct NamedBirth {
+    pub(crate) name: KeyName,
+    pub(crate) birth: u64,
+}
+
+fn compare(entry: &NamedBirth, name: &KeyName) -> Ordering
+    ensures { result ≡ name_cmp entry.now.name name.now }
+{
+    entry.name.as_bytes().cmp(name.as_bytes())
+}
+
+/// The place of a name, or the place where it is to be put in.
+fn search(entries: &Vec<NamedBirth>, name: &KeyName) -> Result<usize, usize>
+    requires { InOrder (names_of entries.now.items) }
+    ensures bound { MatchResult result (λ place. place < length entries.now.items) (λ place. place ≤ length entries.now.items) }
+    ensures place { MatchResult result (HoldsAt (λ entry. entry.name ≡ name.now) entries.now.items) (IsPartitionPoint (λ entry. name_cmp entry.name name.now ≡ Less) (λ entry. name_cmp entry.name name.now ≡ Greater) entries.now.items) }
+{
+    entries.binary_search_by(|entry| compare(entry, name))
+}
+
+/// The birth beside a name.
+pub(crate) fn birth_of(entries: &Vec<NamedBirth>, name: &KeyName) -> Option<u64>
+    requires { InOrder (names_of entries.now.items) }
+    ensures { result ≡ birth_in entries.now.items name.now }
+{
+    match search(entries, name) {
+        Err(_) => None,
+        Ok(place) => Some(entries[place].birth),
+    }
+}
+
+/// Puts in a name that is not there. It is `Ok` where there is room.
+pub(crate) fn put(entries: &mut Vec<NamedBirth>, name: KeyName, birth: u64) -> Result<(), NoMemory>
+    requires order { InOrder (names_of entries.old.items) }
+    requires absent { birth_in entries.old.items name ≡ None }
+    ensures order { InOrder (names_of entries.new.items) }
+    ensures ok { OnOk result ((other : KeyName) → birth_in entries.new.items other ≡ (if bytes_eq name other then Some birth else birth_in entries.old.items other)) }
+    ensures err { OnErr result (entries.new.items ≡ entries.old.items) }
+    ensures room { vec_len entries.old < vec_capacity entries.old → IsOk result }
+{
+    match search(entries, &name) {
+        Ok(_) => unreachable!(),
+        Err(place) => {
+            entries.insert(place, NamedBirth { name, birth })?;
+            Ok(())
+        }
+    }
+}
+
+/// Takes out the name beside a birth.
+pub(crate) fn take_out(entries: &mut Vec<NamedBirth>, birth: u64)
+    ensures { entries.new.items ≡ filter (λ entry. not (entry.birth == birth)) entries.old.items }
+{
+    entries.retain(|entry| entry.birth != birth);
+}
+
+/// The names in order.
+pub(crate) fn copy_names(alloc: Global, entries: &Vec<NamedBirth>) -> Result<NameList, NoMemory>
+    ensures { IfOk result (λ names. names ≡ names_of entries.now.items) }
+{
+    let mut names = NameList::with_room(alloc, entries.len())?;
+    for entry in entries {
+        names.push(entry.name)?;
+    }
+    Ok(names)
+}

@@ -1,0 +1,77 @@
+//! Lists of what is known of keys.
+ghost use Rattle.std.specs.Prelude.{◌≡◌, ◌∷◌, [], ◌++◌, length, OnOk, OnErr, IfOk};
+
+use crate::calls::KeyMeta;
+use hk_base::NoMemory;
+use std::alloc::Global;
+use std::marker::Model;
+
+/// What is known of some keys, which contracts see as a list.
+#[derive(Drop)]
+pub struct MetaList {
+    metas: Vec<KeyMeta>,
+}
+
+impl Model for MetaList {
+    ghost use Rattle.std.specs.Prelude.{List};
+    ghost use Rattle.key_rows.specs.declared.calls.KeyMeta.{KeyMeta};
+
+    ghost Value = { List KeyMeta };
+
+    ghost view = { λ a. a.metas.items };
+}
+
+impl MetaList {
+    /// No keys, with room for so many.
+    pub fn with_room(alloc: Global, count: usize) -> Result<MetaList, NoMemory>
+        ensures { IfOk result (λ metas. metas ≡ []) }
+    {
+        let metas = Vec::with_capacity(alloc, count)?;
+        Ok(MetaList { metas })
+    }
+
+    /// Adds what is known of a key at the end. Where memory is wanting the list stays as it was.
+    pub fn push(&mut self, meta: KeyMeta) -> Result<(), NoMemory>
+        ensures ok { OnOk result (self.new ≡ self.old ++ meta ∷ []) }
+        ensures err { OnErr result (self.new ≡ self.old) }
+    {
+        self.metas.push(meta)?;
+        Ok(())
+    }
+
+    pub fn as_slice(&self) -> &[KeyMeta]
+        ensures { result.now ≡ self.now }
+    {
+        self.metas.as_slice()
+    }
+
+    pub fn len(&self) -> usize
+        ensures { result ≡ length self.now }
+    {
+        self.metas.len()
+    }
+}
+
+#[cfg(test)]
+mod tests {
+    use super::*;
+    use crate::description::Description;
+    use hk_base::KeyName;
+    use std::test::Fail;
+
+    #[test]
+    fn what_is_known_is_added_at_the_end(rt: HostRuntime) -> Result<(), Fail> {
+        let known = KeyMeta {
+            name: KeyName::read(b"k").ok_or("a name")?,
+            bits: 192,
+            description: Description::empty(rt.alloc()),
+            created: 7,
+            versions: 2,
+        };
+        let mut metas = MetaList::with_room(rt.alloc(), 1).ok().ok_or("memory")?;
+        metas.push(known).ok().ok_or("memory")?;
+        assert_eq!(rt; metas.len(), 1);
+        assert_eq!(rt; metas.as_slice()[0].bits, 192);
+        Ok(())
+    }
+}

@@ -1,0 +1,218 @@
+//! Reading the records of the key log.
+ghost use Rattle.std.specs.Prelude.{◌≡◌, IfOk, IsErrOf, length, ◌≤◌};
+ghost use Rattle.std.specs.Int.{w16, w32, w64};
+ghost use Rattle.hk_base.specs.declared.records.RecordFault.TheVariants as fault;
+ghost use Rattle.key_rows.specs.Records.{HasSpelling, fits_bits, spelling};
+ghost use Rattle.key_rows.specs.Table.{is_length};
+ghost use Rattle.key_rows.specs.Reading.{Gives, bytes_at, command_at, create_at, delete_at, long_at, material_of, material_of_bits, name_of, number_at, opened_at, roll_at, short_at, text_of};
+
+use crate::description::Description;
+use crate::rows::KeyCommand;
+use hk_base::{Dek, KeyName, RecordFault};
+use std::alloc::Global;
+
+fn u16_at(bytes: &[u8]) -> Result<(u16, &[u8]), RecordFault>
+    ensures { Gives (λ x. (x.0, x.1.now)) result (number_at w16 bytes.now) }
+{
+    if bytes.len() < 2 {
+        return Err(RecordFault::NoRecord);
+    }
+    let (front, rest) = bytes.split_at(2);
+    let number = u16::from_be_bytes([front[0], front[1]]);
+    Ok((number, rest))
+}
+
+fn u32_at(bytes: &[u8]) -> Result<(u32, &[u8]), RecordFault>
+    ensures { Gives (λ x. (x.0, x.1.now)) result (number_at w32 bytes.now) }
+{
+    if bytes.len() < 4 {
+        return Err(RecordFault::NoRecord);
+    }
+    let (front, rest) = bytes.split_at(4);
+    let number = u32::from_be_bytes([front[0], front[1], front[2], front[3]]);
+    Ok((number, rest))
+}
+
+fn u64_at(bytes: &[u8]) -> Result<(u64, &[u8]), RecordFault>
+    ensures { Gives (λ x. (x.0, x.1.now)) result (number_at w64 bytes.now) }
+{
+    if bytes.len() < 8 {
+        return Err(RecordFault::NoRecord);
+    }
+    let (front, rest) = bytes.split_at(8);
+    let number = u64::from_be_bytes([
+        front[0], front[1], front[2], front[3], front[4], front[5], front[6], front[7],
+    ]);
+    Ok((number, rest))
+}
+
+/// So many bytes, and the bytes behind them.
+fn cut(bytes: &[u8], len: usize) -> Result<(&[u8], &[u8]), RecordFault>
+    ensures { Gives (λ x. (x.0.now, x.1.now)) result (bytes_at len bytes.now) }
+{
+    if bytes.len() < len {
+        return Err(RecordFault::NoRecord);
+    }
+    let (front, rest) = bytes.split_at(len);
+    Ok((front, rest))
+}
+
+/// The bytes behind a byte of length.
+#[tactic(auto, unfolding(crate::specs::Reading::short_at))]
+fn cut_short(bytes: &[u8]) -> Result<(&[u8], &[u8]), RecordFault>
+    ensures { Gives (λ x. (x.0.now, x.1.now)) result (short_at bytes.now) }
+{
+    match bytes {
+        [] => Err(RecordFault::NoRecord),
+        [len, rest @ ..] => cut(rest, *len as usize),
+    }
+}
+
+/// The bytes behind two bytes of length.
+#[tactic(auto, unfolding(crate::specs::Reading::long_at))]
+fn cut_long(bytes: &[u8]) -> Result<(&[u8], &[u8]), RecordFault>
+    ensures given { Gives (λ x. (x.0.now, x.1.now)) result (long_at bytes.now) }
+    ensures short { IfOk result (λ x. length x.0.now ≤ 65535) }
+{
+    let (len, rest) = u16_at(bytes)?;
+    cut(rest, len as usize)
+}
+
+/// All of the bytes as a name.
+fn name_of(bytes: &[u8]) -> Result<KeyName, RecordFault>
+    ensures { Gives (λ x. x) result (name_of bytes.now) }
+{
+    match KeyName::read(bytes) {
+        None => Err(RecordFault::NoRecord),
+        Some(name) => Ok(name),
+    }
+}
+
+/// All of the bytes as a text.
+fn text_of(bytes: &[u8]) -> Result<&str, RecordFault>
+    ensures { Gives (λ x. x.now) result (text_of bytes.now) }
+{
+    match str::from_utf8(bytes) {
+        Err(_) => Err(RecordFault::NoRecord),
+        Ok(text) => Ok(text),
+    }
+}
+
+/// All of the bytes as a description.
+fn description_of(alloc: Global, bytes: &[u8]) -> Result<Description, RecordFault>
+    requires { length bytes.now ≤ 65535 }
+    ensures { Gives (λ x. x) result (text_of bytes.now) }
+{
+    let text = text_of(bytes)?;
+    let description = Description::from_str(alloc, text)?;
+    Ok(description)
+}
+
+/// All of the bytes as material.
+fn material_of(bytes: &[u8]) -> Result<Dek, RecordFault>
+    ensures { Gives (λ x. x) result (material_of bytes.now) }
+{
+    match Dek::read(bytes) {
+        None => Err(RecordFault::NoRecord),
+        Some(material) => Ok(material),
+    }
+}
+
+pub(crate) fn is_length(bits: u16) -> bool
+    ensures { result ≡ is_length bits }
+{
+    bits == 128 || bits == 192 || bits == 256
+}
+
+/// All of the bytes as material of so many bits.
+fn material_of_bits(bits: u16, bytes: &[u8]) -> Result<Dek, RecordFault>
+    ensures { Gives (λ x. x) result (material_of_bits bits bytes.now) }
+{
+    let long = is_length(bits);
+    if !long || bytes.len() != bits as usize / 8 {
+        return Err(RecordFault::NoRecord);
+    }
+    Ok(Dek::of(bytes))
+}
+
+#[tactic(auto, unfolding(crate::specs::Reading::opened_at))]
+fn opened_of(bytes: &[u8]) -> Result<KeyCommand, RecordFault>
+    ensures { Gives (λ x. x) result (opened_at bytes.now) }
+{
+    let (opening, rest) = u32_at(bytes)?;
+    if !rest.is_empty() {
+        return Err(RecordFault::NoRecord);
+    }
+    Ok(KeyCommand::Opened { opening })
+}
+
+#[tactic(auto, unfolding(crate::specs::Reading::create_at))]
+fn create_of(alloc: Global, bytes: &[u8]) -> Result<KeyCommand, RecordFault>
+    ensures { Gives (λ x. x) result (create_at bytes.now) }
+{
+    let (birth, rest) = u64_at(bytes)?;
+    let (name, rest) = cut_short(rest)?;
+    let name = name_of(name)?;
+    let (bits, rest) = u16_at(rest)?;
+    let (text, rest) = cut_long(rest)?;
+    let description = description_of(alloc, text)?;
+    let (created, rest) = u64_at(rest)?;
+    let material = material_of_bits(bits, rest)?;
+    Ok(KeyCommand::Create {
+        birth,
+        name,
+        bits,
+        description,
+        created,
+        material,
+    })
+}
+
+#[tactic(auto, unfolding(crate::specs::Reading::roll_at))]
+fn roll_of(bytes: &[u8]) -> Result<KeyCommand, RecordFault>
+    ensures { Gives (λ x. x) result (roll_at bytes.now) }
+{
+    let (birth, rest) = u64_at(bytes)?;
+    let (number, rest) = u16_at(rest)?;
+    let material = material_of(rest)?;
+    Ok(KeyCommand::Roll {
+        birth,
+        number,
+        material,
+    })
+}
+
+#[tactic(auto, unfolding(crate::specs::Reading::delete_at))]
+fn delete_of(bytes: &[u8]) -> Result<KeyCommand, RecordFault>
+    ensures { Gives (λ x. x) result (delete_at bytes.now) }
+{
+    let (birth, rest) = u64_at(bytes)?;
+    if !rest.is_empty() {
+        return Err(RecordFault::NoRecord);
+    }
+    Ok(KeyCommand::Delete { birth })
+}
+
+#[tactic(auto, unfolding(crate::specs::Reading::command_at))]
+fn command_of(alloc: Global, bytes: &[u8]) -> Result<KeyCommand, RecordFault>
+    ensures { Gives (λ x. x) result (command_at bytes.now) }
+{
+    match bytes {
+        [1, rest @ ..] => opened_of(rest),
+        [2, rest @ ..] => create_of(alloc, rest),
+        [3, rest @ ..] => roll_of(rest),
+        [4, rest @ ..] => delete_of(rest),
+        _ => Err(RecordFault::NoRecord),
+    }
+}
+
+impl KeyCommand {
+    /// The command whose one spelling as a record of the key log the bytes are. `NoRecord` says
+    /// that they are the spelling of no command.
+    pub fn read(alloc: Global, bytes: &[u8]) -> Result<KeyCommand, RecordFault>
+        ensures read { IfOk result (λ command. HasSpelling command × (bytes.now ≡ spelling command)) }
+        ensures none { IsErrOf result fault.NoRecord → (command : KeyCommand) → HasSpelling command → ¬ (bytes.now ≡ spelling command) }
+    {
+        command_of(alloc, bytes)
+    }
+}

@@ -1,0 +1,133 @@
+//! Writing the records of the key log.
+ghost use Rattle.std.specs.Prelude.{◌≡◌, ◌≤◌, ◌++◌, ◌∷◌, IsTrue, OnOk, OnErr, length, take};
+ghost use Rattle.std.specs.Str.{IsUtf8};
+ghost use Rattle.hk_base.specs.Names.{IsKeyName, is_key_length};
+ghost use Rattle.std.specs.Int.{w16, w32, w64, to_be_bytes};
+ghost use Rattle.key_rows.specs.Records.{HasSpelling, fits, name_field, spelling, text_field};
+
+use crate::description::Description;
+use crate::rows::KeyCommand;
+use hk_base::{ByteList, Dek, KeyName, NoMemory};
+
+/// Appends a name with its length, or a front of that where memory is wanting.
+fn append_name(out: &mut ByteList, name: &KeyName) -> Result<(), NoMemory>
+    ensures ok { OnOk result (out.new ≡ out.old ++ name_field name.now) }
+    ensures is_name { OnOk result (IsKeyName name.now) }
+    ensures err { OnErr result (take (length out.old) out.new ≡ out.old) }
+{
+    let bytes = name.as_bytes();
+    out.push(bytes.len() as u8)?;
+    out.append(bytes)
+}
+
+/// Appends a description with its length, or a front of that where memory is wanting.
+fn append_text(out: &mut ByteList, description: &Description) -> Result<(), NoMemory>
+    ensures ok { OnOk result (out.new ≡ out.old ++ text_field description.now) }
+    ensures short { OnOk result (length description.now ≤ 65535) }
+    ensures is_text { OnOk result (IsUtf8 description.now) }
+    ensures err { OnErr result (take (length out.old) out.new ≡ out.old) }
+{
+    let text = description.as_text().as_str();
+    out.append(&(text.len() as u16).to_be_bytes())?;
+    out.append(text.as_bytes())
+}
+
+/// Appends the first byte of a record and a birth, or a front of that where memory is wanting.
+fn append_head(out: &mut ByteList, tag: u8, birth: u64) -> Result<(), NoMemory>
+    ensures ok { OnOk result (out.new ≡ out.old ++ tag ∷ to_be_bytes w64 birth) }
+    ensures err { OnErr result (take (length out.old) out.new ≡ out.old) }
+{
+    out.push(tag)?;
+    out.append(&birth.to_be_bytes())
+}
+
+/// Appends what a create's record begins with, or a front of that where memory is wanting.
+fn append_front(out: &mut ByteList, birth: u64, name: &KeyName, bits: u16) -> Result<(), NoMemory>
+    ensures ok { OnOk result (out.new ≡ out.old ++ 2 ∷ (to_be_bytes w64 birth ++ name_field name.now ++ to_be_bytes w16 bits)) }
+    ensures is_name { OnOk result (IsKeyName name.now) }
+    ensures err { OnErr result (take (length out.old) out.new ≡ out.old) }
+{
+    append_head(out, 2, birth)?;
+    append_name(out, name)?;
+    out.append(&bits.to_be_bytes())
+}
+
+/// Appends the rest of a create's record, or a front of that where memory is wanting.
+fn append_back(
+    out: &mut ByteList,
+    description: &Description,
+    created: u64,
+    material: &Dek,
+) -> Result<(), NoMemory>
+    ensures ok { OnOk result (out.new ≡ out.old ++ text_field description.now ++ to_be_bytes w64 created ++ material.now) }
+    ensures short { OnOk result (length description.now ≤ 65535) }
+    ensures is_text { OnOk result (IsUtf8 description.now) }
+    ensures err { OnErr result (take (length out.old) out.new ≡ out.old) }
+{
+    append_text(out, description)?;
+    out.append(&created.to_be_bytes())?;
+    out.append(material.as_bytes())
+}
+
+/// Appends the record of a roll, or a front of it where memory is wanting.
+fn append_roll(out: &mut ByteList, birth: u64, number: u16, material: &Dek) -> Result<(), NoMemory>
+    ensures ok { OnOk result (out.new ≡ out.old ++ 3 ∷ (to_be_bytes w64 birth ++ to_be_bytes w16 number ++ material.now)) }
+    ensures long { OnOk result (IsTrue (is_key_length (length material.now))) }
+    ensures err { OnErr result (take (length out.old) out.new ≡ out.old) }
+{
+    append_head(out, 3, birth)?;
+    out.append(&number.to_be_bytes())?;
+    out.append(material.as_bytes())
+}
+
+impl KeyCommand {
+    /// Appends the one spelling of the command as a record of the key log. Where memory is wanting
+    /// `out` stays as it was.
+    pub fn write(&self, out: &mut ByteList) -> Result<(), NoMemory>
+        requires { IsTrue (fits self.now) }
+        ensures ok { OnOk result (out.new ≡ out.old ++ spelling self.now) }
+        ensures spelled { OnOk result (HasSpelling self.now) }
+        ensures err { OnErr result (out.new ≡ out.old) }
+    {
+        let len = out.len();
+        match self.append_to(out) {
+            Ok(()) => Ok(()),
+            Err(wanting) => {
+                out.truncate(len);
+                Err(wanting)
+            }
+        }
+    }
+
+    /// Appends the spelling, or a front of it where memory is wanting.
+    fn append_to(&self, out: &mut ByteList) -> Result<(), NoMemory>
+        requires { IsTrue (fits self.now) }
+        ensures ok { OnOk result (out.new ≡ out.old ++ spelling self.now) }
+        ensures spelled { OnOk result (HasSpelling self.now) }
+        ensures err { OnErr result (take (length out.old) out.new ≡ out.old) }
+    {
+        match self {
+            KeyCommand::Opened { opening } => {
+                out.push(1)?;
+                out.append(&opening.to_be_bytes())
+            }
+            KeyCommand::Create {
+                birth,
+                name,
+                bits,
+                description,
+                created,
+                material,
+            } => {
+                append_front(out, *birth, name, *bits)?;
+                append_back(out, description, *created, material)
+            }
+            KeyCommand::Roll {
+                birth,
+                number,
+                material,
+            } => append_roll(out, *birth, *number, material),
+            KeyCommand::Delete { birth } => append_head(out, 4, *birth),
+        }
+    }
+}

@@ -1,0 +1,190 @@
+-- Calls that only answer.
+use Rattle.std.proofs.Common.{◌≡◌, ◌⊎◌, inl, inr, ℕ, zero, suc, ◌+◌, ◌<◌, List, [], ◌∷◌, ◌++◌, length, map, take, Bool, true, false, cond, nat_le, Option, None, Some, is_none, MatchBool, MatchOption, refl, ap, sym, ◌∙◌, subst, arith, get_or}
+use Rattle.std.specs.List.{list_any, slice_get}
+use Rattle.std.specs.Option.{option_and_then, unwrap_or}
+use Rattle.std.proofs.lemmas.Bool.Decides.{nat_tests}
+use Rattle.std.proofs.lemmas.List.{length-take-le, take_more}
+use Rattle.std.proofs.lemmas.Option.{slice_get-get_or, slice_get_within}
+use Rattle.hk_base.specs.declared.names.Edek.{Edek}
+use Rattle.hk_base.specs.declared.names.VersionName.{VersionName}
+use Rattle.key_rows.specs.declared.rows.KeyRow.{KeyRow}
+use Rattle.key_rows.specs.declared.calls.KeyMeta.{KeyMeta}
+use Rattle.key_rows.specs.declared.calls.KmsCall.{KmsCall}
+use Rattle.key_rows.specs.declared.calls.KmsCall.TheVariants as call
+use Rattle.key_rows.specs.declared.calls.KmsReply.{KmsReply}
+use Rattle.key_rows.specs.declared.calls.KmsReply.TheVariants as reply
+use Rattle.key_rows.specs.declared.calls.KmsRefusal.{KmsRefusal}
+use Rattle.key_rows.specs.declared.calls.KmsRefusal.TheVariants as refusal
+use Rattle.key_rows.specs.declared.calls.RawEdek.{RawEdek}
+use Rattle.key_rows.specs.Shown.{Shown}
+use Rattle.key_rows.specs.Table.{material_of}
+use Rattle.kms_core.specs.State.{KmsState}
+use Rattle.kms_core.specs.Calls.{all_versions, batch_causes, causes, current_material, current_version, first_cause, is_absent, meta_of, metas_of, opened, resealed, row_of, sent_causes, takes_memory, version_causes, versions_from}
+use Rattle.kms_core.specs.Steps.{Answers, OpensIn, RefusesBatch, Reseals, ResealsAll, resealed_in}
+use Rattle.kms_core.proofs.KeyLemmas.{named}
+use Rattle.kms_core.proofs.SentLemmas.{each_allowed, each_none, map_more, opened_is, resealed_is, same_cause, same_causes}
+
+-- the three ends of such a call
+
+abbrev Ends : KmsCall → KmsReply → KmsReply → Option KmsRefusal → Type 0
+Ends c answer told cause = MatchOption cause ((told ≡ answer) ⊎ ((takes_memory c ≡ true) × (told ≡ reply.Refused refusal.NoMemory))) (λ why. told ≡ reply.Refused why)
+
+pub answered : (s : KmsState) (c : KmsCall) (answer told : KmsReply) → first_cause (causes s c) ≡ None → told ≡ answer → Answers s c answer told
+answered s c answer told none is = subst (Ends c answer told) (sym none) (inl is)
+
+pub not_answered : (s : KmsState) (c : KmsCall) (answer : KmsReply) (why : KmsRefusal) → first_cause (causes s c) ≡ Some why → Answers s c answer (reply.Refused why)
+not_answered s c answer why stands = subst (Ends c answer (reply.Refused why)) (sym stands) refl
+
+pub no_room : (s : KmsState) (c : KmsCall) (answer : KmsReply) → takes_memory c ≡ true → first_cause (causes s c) ≡ None → Answers s c answer (reply.Refused refusal.NoMemory)
+no_room s c answer takes none = subst (Ends c answer (reply.Refused refusal.NoMemory)) (sym none) (inr (takes, refl))
+
+-- the key stands
+pub present : (row : Option KeyRow) → is_none row ≡ false → cond (is_none row) (Some refusal.NoSuchKey) None ≡ None
+present row stands = ap (λ b. cond b (Some refusal.NoSuchKey) None) stands
+
+-- what is known of keys
+
+pub known_of : (s : KmsState) (name : List ℕ) (row : KeyRow) (known : KeyMeta) → row_of s name ≡ Some row → known ≡ meta_of row.name (Some row)
+    → (is_absent s name ≡ false) × (known ≡ meta_of name (row_of s name))
+known_of s name row known found is =
+    let its = named s.table.rows name row found in
+    (ap is_none found, is ∙ (λ i. meta_of (its i) (sym found i)))
+
+pub tells_metadata : (s : KmsState) (name : List ℕ) (known : KeyMeta) → is_absent s name ≡ false → known ≡ meta_of name (row_of s name)
+    → Answers s (call.Metadata name) (reply.Metadata (meta_of name (row_of s name))) (reply.Metadata known)
+tells_metadata s name known stands is = answered s (call.Metadata name) _ _ (present (row_of s name) stands) (ap reply.Metadata is)
+
+pub tells_no_metadata : (s : KmsState) (name : List ℕ) (why : KmsRefusal) → MatchBool (is_absent s name) (why ≡ refusal.NoSuchKey) (why ≡ refusal.NoMemory)
+    → Answers s (call.Metadata name) (reply.Metadata (meta_of name (row_of s name))) (reply.Refused why)
+tells_no_metadata s name why is = by_row (is_absent s name) refl is
+  where
+    by_row : (absent : Bool) → is_absent s name ≡ absent → MatchBool absent (why ≡ refusal.NoSuchKey) (why ≡ refusal.NoMemory)
+        → Answers s (call.Metadata name) (reply.Metadata (meta_of name (row_of s name))) (reply.Refused why)
+    by_row true stands is = not_answered s (call.Metadata name) _ why (ap (λ b. cond b (Some refusal.NoSuchKey) None) stands ∙ ap Some (sym is))
+    by_row false stands is =
+        subst (λ (w : KmsRefusal). Answers s (call.Metadata name) (reply.Metadata (meta_of name (row_of s name))) (reply.Refused w)) (sym is)
+        (no_room s (call.Metadata name) _ refl (present (row_of s name) stands))
+
+-- of a key that stands nothing is refused but for want of memory
+pub only_wanting : (s : KmsState) (names : List (List ℕ)) (i : ℕ) (name : List ℕ) (why : KmsRefusal) → list_any (is_absent s) names ≡ false → i < length names → get_or names i name ≡ name
+    → MatchBool (is_absent s name) (why ≡ refusal.NoSuchKey) (why ≡ refusal.NoMemory) → why ≡ refusal.NoMemory
+only_wanting s names i name why stand within at is =
+    let stands : is_absent s name ≡ false = subst (λ (n : List ℕ). is_absent s n ≡ false) at (each_none (is_absent s) names i name stand within) in
+    by_row (is_absent s name) stands is
+  where
+    by_row : (absent : Bool) → absent ≡ false → MatchBool absent (why ≡ refusal.NoSuchKey) (why ≡ refusal.NoMemory) → why ≡ refusal.NoMemory
+    by_row true stands is = absurd cc
+    by_row false stands is = is
+
+pub one_more_known : (s : KmsState) (names : List (List ℕ)) (i : ℕ) (name : List ℕ) (known known' : List KeyMeta) (one : KeyMeta) → i < length names → get_or names i name ≡ name
+    → known ≡ metas_of s (take i names) → one ≡ meta_of name (row_of s name) → known' ≡ known ++ one ∷ [] → known' ≡ metas_of s (take (i + 1) names)
+one_more_known s names i name known known' one within at are is more =
+    more ∙ (λ j. are j ++ is j ∷ []) ∙ ap (λ n. metas_of s (take i names) ++ meta_of n (row_of s n) ∷ []) (sym at)
+    ∙ sym (map_more (λ n. meta_of n (row_of s n)) (take i names) (get_or names i name)) ∙ ap (metas_of s) (sym (take_more names i name within))
+
+pub tells_metadatas : (s : KmsState) (names : List (List ℕ)) (known : List KeyMeta) → list_any (is_absent s) names ≡ false → known ≡ metas_of s names
+    → Answers s (call.Metadatas names) (reply.Metadatas (metas_of s names)) (reply.Metadatas known)
+tells_metadatas s names known stand are =
+    answered s (call.Metadatas names) _ _ (ap (λ b. cond b (Some refusal.NoSuchKey) None) stand) (ap reply.Metadatas are)
+
+-- versions
+
+versions_from_more : (name : List ℕ) (number : ℕ) (materials : List (List ℕ)) (material : List ℕ)
+    → versions_from name number (materials ++ material ∷ [])
+    ≡ versions_from name number materials ++ record { version = record { key = name; number = number + length materials }; material = Some material } ∷ []
+versions_from_more name number [] material = ap (λ n. record { version = record { key = name; number = n }; material = Some material } ∷ []) (omega arith)
+versions_from_more name number (m ∷ ms) material =
+    let first : Shown = record { version = record { key = name; number = number }; material = Some m } in
+    ap (λ rest. first ∷ rest) (versions_from_more name (number + 1) ms material)
+    ∙ ap (λ n. first ∷ (versions_from name (number + 1) ms ++ record { version = record { key = name; number = n }; material = Some material } ∷ [])) (omega arith)
+
+pub one_more_version : (name : List ℕ) (materials : List (List ℕ)) (i : ℕ) (versions versions' : List Shown) → i < length materials
+    → versions ≡ versions_from name 0 (take i materials)
+    → versions' ≡ versions ++ record { version = record { key = name; number = i }; material = slice_get materials i } ∷ []
+    → versions' ≡ versions_from name 0 (take (i + 1) materials)
+one_more_version name materials i versions versions' within are more =
+    let material : List ℕ = get_or materials i [] in
+    more ∙ (λ j. are j ++ record { version = record { key = name; number = i }; material = slice_get-get_or materials i [] within j } ∷ [])
+    ∙ ap (λ n. versions_from name 0 (take i materials) ++ record { version = record { key = name; number = n }; material = Some material } ∷ []) (sym (front materials i within))
+    ∙ sym (versions_from_more name 0 (take i materials) material) ∙ ap (versions_from name 0) (sym (take_more materials i [] within))
+  where
+    front : (xs : List (List ℕ)) (i : ℕ) → i < length xs → 0 + length (take i xs) ≡ i
+    front xs i within = omega (arith, length-take-le i xs (omega (arith, within)))
+
+pub tells_versions : (s : KmsState) (name : List ℕ) (row : KeyRow) (versions : List Shown) → row_of s name ≡ Some row → versions ≡ versions_from row.name 0 row.materials
+    → Answers s (call.Versions name) (reply.Versions (all_versions (row_of s name))) (reply.Versions versions)
+tells_versions s name row versions found are =
+    answered s (call.Versions name) _ _ (present (row_of s name) (ap is_none found)) (ap reply.Versions (are ∙ ap all_versions (sym found)))
+
+pub tells_version : (s : KmsState) (version : VersionName) (row : KeyRow) (material : List ℕ) → row_of s version.key ≡ Some row → slice_get row.materials version.number ≡ Some material
+    → Answers s (call.Version version) (reply.Version version (material_of s.table.rows version)) (reply.Version version (Some material))
+tells_version s version row material found got =
+    let within : version.number < length row.materials = slice_get_within row.materials version.number material got in
+    let has : nat_le (length row.materials) version.number ≡ false = grind (arith, within) in
+    answered s (call.Version version) _ _ (ap (λ o. first_cause (version_causes o version.number)) found ∙ ap (λ b. cond b (Some refusal.NoSuchVersion) None) has)
+    (ap (reply.Version version) (sym (ap (λ o. by o) found ∙ got)))
+  where
+    by : Option KeyRow → Option (List ℕ)
+    by o = option_and_then (λ (r : KeyRow). slice_get r.materials version.number) o
+
+pub tells_no_version : (s : KmsState) (version : VersionName) (row : KeyRow) → row_of s version.key ≡ Some row → slice_get row.materials version.number ≡ None
+    → Answers s (call.Version version) (reply.Version version (material_of s.table.rows version)) (reply.Refused refusal.NoSuchVersion)
+tells_no_version s version row found got =
+    let lacks : nat_le (length row.materials) version.number ≡ true = beyond row.materials version.number got in
+    not_answered s (call.Version version) _ refusal.NoSuchVersion (ap (λ o. first_cause (version_causes o version.number)) found ∙ ap (λ b. cond b (Some refusal.NoSuchVersion) None) lacks)
+  where
+    beyond : (xs : List (List ℕ)) (i : ℕ) → slice_get xs i ≡ None → nat_le (length xs) i ≡ true
+    beyond [] i none = grind arith
+    beyond (x ∷ xs) zero none = absurd cc
+    beyond (x ∷ xs) (suc i) none = let rest = beyond xs i none in grind (arith, nat_tests, rest)
+
+pub tells_current : (s : KmsState) (name : List ℕ) (version : VersionName) (material : List ℕ) → is_none (row_of s name) ≡ false → version ≡ current_version (row_of s name)
+    → material_of s.table.rows version ≡ Some material
+    → Answers s (call.Current name) (reply.Version (current_version (row_of s name)) (Some (current_material s name))) (reply.Version version (Some material))
+tells_current s name version material stands version_is has =
+    let same : material ≡ current_material s name = sym (ap (λ v. unwrap_or (material_of s.table.rows v) []) (sym version_is) ∙ ap (λ o. unwrap_or o []) has) in
+    answered s (call.Current name) _ _ (present (row_of s name) stands) (λ i. reply.Version (version_is i) (Some (same i)))
+
+-- what is sent
+
+pub decrypts : (s : KmsState) (name : List ℕ) (sent : RawEdek) (row : KeyRow) (key : List ℕ) → row_of s name ≡ Some row → OpensIn row sent key
+    → Answers s (call.Decrypt name sent) (reply.Key (opened s sent)) (reply.Key key)
+decrypts s name sent row key found is =
+    answered s (call.Decrypt name sent) _ _ (sym (same_cause s name row sent found) ∙ is.allowed)
+    (ap reply.Key (is.is ∙ ap (λ o. unwrap_or o []) (sym (opened_is s name row sent found is.allowed))))
+
+pub decrypts_not : (s : KmsState) (name : List ℕ) (sent : RawEdek) (row : KeyRow) (why : KmsRefusal) → row_of s name ≡ Some row → first_cause (sent_causes (Some row) row.name sent) ≡ Some why
+    → Answers s (call.Decrypt name sent) (reply.Key (opened s sent)) (reply.Refused why)
+decrypts_not s name sent row why found stands = not_answered s (call.Decrypt name sent) _ why (sym (same_cause s name row sent found) ∙ stands)
+
+pub reencrypts : (s : KmsState) (name : List ℕ) (sent : RawEdek) (row : KeyRow) (key : Edek) → row_of s name ≡ Some row → Reseals row sent key
+    → Answers s (call.Reencrypt name sent) (reply.Resealed (resealed s name sent)) (reply.Resealed key)
+reencrypts s name sent row key found is =
+    answered s (call.Reencrypt name sent) _ _ (sym (same_cause s name row sent found) ∙ is.allowed)
+    (ap reply.Resealed (is.is ∙ resealed_is s name row sent found is.allowed))
+
+pub reencrypts_not : (s : KmsState) (name : List ℕ) (sent : RawEdek) (row : KeyRow) (why : KmsRefusal) → row_of s name ≡ Some row → first_cause (sent_causes (Some row) row.name sent) ≡ Some why
+    → Answers s (call.Reencrypt name sent) (reply.Resealed (resealed s name sent)) (reply.Refused why)
+reencrypts_not s name sent row why found stands = not_answered s (call.Reencrypt name sent) _ why (sym (same_cause s name row sent found) ∙ stands)
+
+same_map : {X Y : Type 0} (f g : X → Y) (xs : List X) (d : X) → ((i : ℕ) → i < length xs → f (get_or xs i d) ≡ g (get_or xs i d)) → map f xs ≡ map g xs
+same_map f g [] d same = refl
+same_map f g (x ∷ xs) d same = λ j. same 0 (omega arith) j ∷ same_map f g xs d (λ i within. same (suc i) (omega arith)) j
+
+pub reencrypts_all : (s : KmsState) (name : List ℕ) (sent : List RawEdek) (row : KeyRow) (keys : List Edek) → row_of s name ≡ Some row → ResealsAll row sent keys
+    → Answers s (call.Batch name sent) (reply.Ready (map (resealed s name) sent)) (reply.Ready keys)
+reencrypts_all s name sent row keys found is =
+    let none : RawEdek = record { version = record { key = []; number = 0 }; iv = []; sealed = [] } in
+    answered s (call.Batch name sent) _ _ (sym (same_causes s name row sent found) ∙ is.allowed)
+    (ap reply.Ready (is.are ∙ same_map (resealed_in row) (resealed s name) sent none
+    (λ i within. resealed_is s name row (get_or sent i none) found (each_allowed row sent i none is.allowed within))))
+
+pub reencrypts_none : (s : KmsState) (name : List ℕ) (sent : List RawEdek) (row : KeyRow) (why : KmsRefusal) → row_of s name ≡ Some row → RefusesBatch row sent why
+    → Answers s (call.Batch name sent) (reply.Ready (map (resealed s name) sent)) (reply.Refused why)
+reencrypts_none s name sent row why found is = by_cause (first_cause (batch_causes (Some row) row.name sent)) refl is
+  where
+    by_cause : (cause : Option KmsRefusal) → first_cause (batch_causes (Some row) row.name sent) ≡ cause → MatchOption cause (why ≡ refusal.NoMemory) (λ cause. cause ≡ why)
+        → Answers s (call.Batch name sent) (reply.Ready (map (resealed s name) sent)) (reply.Refused why)
+    by_cause None none is = subst (λ (w : KmsRefusal). Answers s (call.Batch name sent) (reply.Ready (map (resealed s name) sent)) (reply.Refused w)) (sym is)
+        (no_room s (call.Batch name sent) _ refl (sym (same_causes s name row sent found) ∙ none))
+    by_cause (Some cause) stands is = not_answered s (call.Batch name sent) _ why (sym (same_causes s name row sent found) ∙ stands ∙ ap Some is)

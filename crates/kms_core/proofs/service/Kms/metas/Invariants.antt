@@ -1,0 +1,6 @@
+use Rattle.std.proofs.Common.{◌≡◌, take}
+use Rattle.kms_core.specs.Calls.{metas_of}
+use Rattle.kms_core.proofs.service.Kms.metas.Given as goal
+
+abbrev pub invariant-loop-name : goal.invariant-loop-name
+invariant-loop-name l = l.known ≡ metas_of l.fn.self (take l.name-index l.fn.names)

@@ -1,0 +1,5 @@
+mod AskLemmas
+mod CallLemmas
+mod FieldLemmas
+mod ListLemmas
+mod OnceLemmas

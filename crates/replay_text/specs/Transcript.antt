@@ -1,0 +1,131 @@
+-- The transcript: a line for each event, with its number and its answer.
+use Rattle.std.specs.Prelude.{ℕ, ◌+◌, List, [], ◌∷◌, ◌++◌, codes, Option, None, Some}
+use Rattle.std.specs.Fmt.{decimal}
+use Rattle.std.specs.List.{flat_map}
+use Rattle.hex.specs.Hex.{encode_lower}
+use Rattle.hk_base.specs.declared.names.Edek.{Edek}
+use Rattle.percent_encoding.specs.Percent.{percent_encode}
+use Rattle.hk_base.specs.declared.names.KeyName.{KeyName}
+use Rattle.hk_base.specs.Names.{version_text}
+use Rattle.inode_tree.specs.declared.paths.NPath.{NPath}
+use Rattle.inode_tree.specs.Paths.{path_text}
+use Rattle.name_core.specs.declared.calls.NameReply.{NameReply}
+use Rattle.name_core.specs.declared.calls.NameReply.TheVariants as name
+use Rattle.name_core.specs.declared.calls.NameRefusal.{NameRefusal}
+use Rattle.name_core.specs.declared.calls.NameRefusal.TheVariants as why
+use Rattle.name_core.specs.declared.calls.Want.{Want}
+use Rattle.name_core.specs.declared.calls.Want.TheVariants as want
+use Rattle.world_run.specs.declared.event.Line.{Line}
+use Rattle.world_run.specs.declared.event.Line.TheVariants as line
+use Rattle.replay_text.specs.declared.transcript.TheConstants.{ESCAPED}
+use Rattle.key_rows.specs.declared.calls.KeyMeta.{KeyMeta}
+use Rattle.key_rows.specs.declared.calls.KmsReply.{KmsReply}
+use Rattle.key_rows.specs.declared.calls.KmsReply.TheVariants as reply
+use Rattle.key_rows.specs.Refusals.{refusal_text}
+use Rattle.key_rows.specs.Shown.{Shown}
+
+abbrev pub material_text : Option (List ℕ) → List ℕ
+material_text None = codes "-"
+material_text (Some material) = encode_lower material
+
+abbrev pub meta_text : KeyMeta → List ℕ
+meta_text meta = codes "meta " ++ meta.name ++ codes " " ++ decimal meta.bits ++ codes " " ++ decimal meta.versions ++ codes " " ++ decimal meta.created
+
+-- what is known of one key among others
+abbrev pub meta_part : KeyMeta → List ℕ
+meta_part meta = codes " " ++ meta.name ++ codes ":" ++ decimal meta.bits ++ codes ":" ++ decimal meta.versions ++ codes ":" ++ decimal meta.created
+
+abbrev pub name_part : KeyName → List ℕ
+name_part name = codes " " ++ name
+
+-- a version among others, with its material
+abbrev pub shown_part : Shown → List ℕ
+shown_part shown = codes " " ++ version_text shown.version.key shown.version.number ++ codes ":" ++ material_text shown.material
+
+-- an encrypted data encryption key: its version, its initialization vector and the sealed bytes
+abbrev pub edek_part : Edek → List ℕ
+edek_part edek = version_text edek.version.key edek.version.number ++ codes ":" ++ encode_lower edek.iv ++ codes ":" ++ encode_lower edek.sealed
+
+abbrev pub edek_text : Edek → List ℕ
+edek_text edek = codes " " ++ edek_part edek
+
+abbrev pub answer_text : KmsReply → List ℕ
+answer_text (reply.Version version material) = codes "version " ++ version_text version.key version.number ++ codes " " ++ material_text material
+answer_text reply.Done = codes "done"
+answer_text (reply.Metadata meta) = meta_text meta
+answer_text (reply.Metadatas metas) = codes "metas" ++ flat_map meta_part metas
+answer_text (reply.Names names) = codes "names" ++ flat_map name_part names
+answer_text (reply.Versions versions) = codes "versions" ++ flat_map shown_part versions
+answer_text (reply.Ready edeks) = codes "ready" ++ flat_map edek_text edeks
+answer_text (reply.Resealed edek) = codes "resealed " ++ edek_part edek
+answer_text (reply.Key dek) = codes "key " ++ encode_lower dek
+answer_text (reply.Refused why) = codes "refused " ++ refusal_text why
+
+abbrev pub name_refusal_text : NameRefusal → List ℕ
+name_refusal_text why.BadPath = codes "N1 BadPath"
+name_refusal_text why.NoSuchPath = codes "N2 NoSuchPath"
+name_refusal_text why.Exists = codes "N3 Exists"
+name_refusal_text why.NotADirectory = codes "N4 NotADirectory"
+name_refusal_text why.NotEmpty = codes "N5 NotEmpty"
+name_refusal_text why.NotSuperuser = codes "N6 NotSuperuser"
+name_refusal_text why.AlreadyInZone = codes "N7 AlreadyInZone"
+name_refusal_text (why.AskGone opening next) = codes "N16 AskGone " ++ decimal opening ++ codes " " ++ decimal next
+name_refusal_text why.ZoneChanged = codes "N17 ZoneChanged"
+name_refusal_text why.TooManyInodes = codes "N20 TooManyInodes"
+name_refusal_text (why.KeyRefused refused) = codes "N21 KeyRefused " ++ refusal_text refused
+name_refusal_text why.NoMemory = codes "N22 NoMemory"
+
+-- a path with the bytes escaped that may not stand for themselves
+abbrev pub escaped_path : NPath → List ℕ
+escaped_path path = percent_encode ESCAPED (path_text path)
+
+abbrev pub zone_text : Option NPath → List ℕ
+zone_text None = codes "-"
+zone_text (Some path) = escaped_path path
+
+abbrev pub key_text : Option KeyName → List ℕ
+key_text None = codes "-"
+key_text (Some key) = key
+
+-- an encrypted data encryption key in one field
+abbrev pub edek_field : Option Edek → List ℕ
+edek_field None = codes "-"
+edek_field (Some edek) = edek_part edek
+
+-- what stands at a path: its kind, its id and its zone, and behind them its key
+abbrev pub row_front : List ℕ → ℕ → Option NPath → List ℕ
+row_front kind id zone = kind ++ decimal id ++ codes " " ++ zone_text zone ++ codes " "
+
+abbrev pub name_text : NameReply → List ℕ
+name_text name.Done = codes "done"
+name_text (name.Dir id zone key) = row_front (codes "dir ") id zone ++ key_text key
+name_text (name.File id zone edek) = row_front (codes "file ") id zone ++ edek_field edek
+name_text (name.Refused why) = codes "refused " ++ name_refusal_text why
+
+-- the call that an ask wants, and of which key
+abbrev pub want_text : Want → List ℕ
+want_text want.Nothing = codes "none"
+want_text (want.Generate key) = codes "generate " ++ key
+want_text (want.Metadata key) = codes "metadata " ++ key
+
+-- a reply that is kept
+abbrev pub kept_text : Option KmsReply → List ℕ
+kept_text None = codes "nothing"
+kept_text (Some reply) = answer_text reply
+
+abbrev pub told_text : Line → List ℕ
+told_text (line.Kms reply) = answer_text reply
+told_text (line.Name reply) = name_text reply
+told_text (line.Asked number note) = codes "ask " ++ decimal number ++ codes " " ++ decimal note.id ++ codes " " ++ want_text note.want
+told_text (line.Replied number reply) = codes "reply " ++ decimal number ++ codes " " ++ kept_text reply
+told_text (line.Refused why) = codes "refused " ++ name_refusal_text why
+told_text line.Unknown = codes "unknown"
+
+-- the number of the event and its answer
+abbrev pub line_text : ℕ → Line → List ℕ
+line_text number told = decimal number ++ codes " " ++ told_text told ++ codes "\n"
+
+-- the answers of events from this number on
+abbrev pub transcript : ℕ → List Line → List ℕ
+transcript number [] = []
+transcript number (told ∷ more) = line_text number told ++ transcript (number + 1) more

@@ -1,0 +1,100 @@
+//! The lines of asks, and of what is kept of them.
+ghost use Rattle.std.specs.Prelude.{◌≡◌, ◌<◌, ◌^◌, ◌∷◌, [], ℕ, List, IfOk, MatchOption, codes};
+ghost use Rattle.std.specs.Fmt.{decimal};
+ghost use Rattle.replay_text.specs.Events.{SpellsAskCreate, SpellsAskZone, SpellsEvent, SpellsKept, fields_of};
+
+use crate::fields::{cut, only_field, read_escaped, read_small_number, read_user};
+use hk_base::{KeyName, NoMemory};
+use std::alloc::Global;
+use world_run::Event;
+
+/// `ask U`, a verb and what the verb takes, of which `ask` is read.
+pub fn read_ask(alloc: Global, fields: &[u8]) -> Result<Option<Event>, NoMemory>
+    ensures { IfOk result (λ found. MatchOption found (((user path : List ℕ) → ¬ SpellsAskCreate (codes "ask" ∷ fields_of fields.now) user path) × ((user path key : List ℕ) → ¬ SpellsAskZone (codes "ask" ∷ fields_of fields.now) user path key)) (SpellsEvent (codes "ask" ∷ fields_of fields.now))) }
+{
+    let (user, rest) = cut(fields);
+    let Some(rest) = rest else {
+        return Ok(None);
+    };
+    let (verb, rest) = cut(rest);
+    let Some(rest) = rest else {
+        return Ok(None);
+    };
+    if verb == b"create".as_slice() {
+        return read_create(alloc, user, rest);
+    }
+    if verb == b"zone".as_slice() {
+        return read_zone(alloc, user, rest);
+    }
+    Ok(None)
+}
+
+/// `ask U create P`, of which `create` is read.
+fn read_create(alloc: Global, user: &[u8], fields: &[u8]) -> Result<Option<Event>, NoMemory>
+    ensures { IfOk result (λ found. MatchOption found ((who path : List ℕ) → ¬ SpellsAskCreate (codes "ask" ∷ user.now ∷ codes "create" ∷ fields_of fields.now) who path) (SpellsEvent (codes "ask" ∷ user.now ∷ codes "create" ∷ fields_of fields.now))) }
+{
+    let Some(path) = only_field(fields) else {
+        return Ok(None);
+    };
+    let Some(user) = read_user(alloc, user)? else {
+        return Ok(None);
+    };
+    let Some(path) = read_escaped(alloc, path)? else {
+        return Ok(None);
+    };
+    Ok(Some(Event::AskCreate { user, path }))
+}
+
+/// `ask U zone P K`, of which `zone` is read.
+fn read_zone(alloc: Global, user: &[u8], fields: &[u8]) -> Result<Option<Event>, NoMemory>
+    ensures { IfOk result (λ found. MatchOption found ((who path key : List ℕ) → ¬ SpellsAskZone (codes "ask" ∷ user.now ∷ codes "zone" ∷ fields_of fields.now) who path key) (SpellsEvent (codes "ask" ∷ user.now ∷ codes "zone" ∷ fields_of fields.now))) }
+{
+    let (path, rest) = cut(fields);
+    let Some(rest) = rest else {
+        return Ok(None);
+    };
+    let Some(key) = only_field(rest) else {
+        return Ok(None);
+    };
+    let Some(key) = KeyName::read(key) else {
+        return Ok(None);
+    };
+    let Some(user) = read_user(alloc, user)? else {
+        return Ok(None);
+    };
+    let Some(path) = read_escaped(alloc, path)? else {
+        return Ok(None);
+    };
+    Ok(Some(Event::AskZone { user, path, key }))
+}
+
+/// `draw A`, of which `draw` is read.
+pub fn read_draw(fields: &[u8]) -> Option<Event>
+    ensures { MatchOption result ((ask : ℕ) → ¬ SpellsKept (codes "draw") (codes "draw" ∷ fields_of fields.now) ask) (SpellsEvent (codes "draw" ∷ fields_of fields.now)) }
+{
+    let Some(ask) = only_number(fields) else {
+        return None;
+    };
+    Some(Event::Draw { ask })
+}
+
+/// `finish R`, of which `finish` is read.
+pub fn read_finish(fields: &[u8]) -> Option<Event>
+    ensures { MatchOption result ((reply : ℕ) → ¬ SpellsKept (codes "finish") (codes "finish" ∷ fields_of fields.now) reply) (SpellsEvent (codes "finish" ∷ fields_of fields.now)) }
+{
+    let Some(reply) = only_number(fields) else {
+        return None;
+    };
+    Some(Event::Finish { reply })
+}
+
+/// The number below 2^32 that the only field spells, or `None` where there are more fields or it
+/// spells none.
+fn only_number(fields: &[u8]) -> Option<u32>
+    ensures { MatchOption result ((n : ℕ) → n < 2 ^ 32 → ¬ (fields_of fields.now ≡ decimal n ∷ [])) (λ n. (n < 2 ^ 32) × (fields_of fields.now ≡ decimal n ∷ [])) }
+{
+    let Some(field) = only_field(fields) else {
+        return None;
+    };
+    read_small_number(field)
+}

@@ -1,0 +1,130 @@
+//! Event lines.
+ghost use Rattle.std.specs.Prelude.{◌≡◌, ◌≢◌, ◌≤◌, ◌⊎◌, ◌∷◌, [], ℕ, List, length, codes, IfOk, MatchOption, MatchResult};
+ghost use Rattle.key_rows.specs.declared.calls.KmsCall.{KmsCall};
+ghost use Rattle.replay_text.specs.Events.{IsBad, IsPathEvent, IsPathVerb, IsQuiet, Spells, SpellsEvent, SpellsKms, SpellsPath, fields_of};
+ghost use Rattle.world_run.specs.declared.event.Event.{Event};
+ghost use Rattle.world_run.specs.declared.event.Event.TheVariants as event;
+
+use crate::asks::{read_ask, read_draw, read_finish};
+use crate::calls::read_call;
+use crate::fields::{cut, only_field, read_escaped, read_user};
+use hk_base::{ByteList, NoMemory, Text};
+use std::alloc::Global;
+use world_run::Event;
+
+/// Why a line has no event to give.
+#[derive(Clone, Copy, Debug, PartialEq, Eq)]
+pub enum LineFault {
+    /// It says neither an event nor nothing.
+    BadLine,
+    /// There is no memory for its event.
+    NoMemory,
+}
+
+/// The event of a line, or `None` where the line is empty or a comment.
+pub fn read_event(alloc: Global, line: &[u8]) -> Result<Option<Event>, LineFault>
+    requires { length line.now ≤ 1048576 }
+    ensures { MatchResult result (λ found. MatchOption found (IsQuiet line.now) (Spells line.now)) (λ fault. fault ≡ LineFault.BadLine → IsBad line.now) }
+{
+    if line.is_empty() {
+        return Ok(None);
+    }
+    if line[0] == b'#' {
+        return Ok(None);
+    }
+    match read_spelled(alloc, line) {
+        Err(_) => Err(LineFault::NoMemory),
+        Ok(None) => Err(LineFault::BadLine),
+        Ok(Some(event)) => Ok(Some(event)),
+    }
+}
+
+/// The event that a line spells, or `None` where it spells none.
+fn read_spelled(alloc: Global, line: &[u8]) -> Result<Option<Event>, NoMemory>
+    ensures { IfOk result (λ found. MatchOption found ((event : Event) → ¬ SpellsEvent (fields_of line.now) event) (SpellsEvent (fields_of line.now))) }
+{
+    let (first, rest) = cut(line);
+    let Some(rest) = rest else {
+        return Ok(None);
+    };
+    if first == b"kms".as_slice() {
+        return read_kms_event(alloc, rest);
+    }
+    if first == b"nn".as_slice() {
+        return read_path_event(alloc, rest);
+    }
+    if first == b"ask".as_slice() {
+        return read_ask(alloc, rest);
+    }
+    if first == b"draw".as_slice() {
+        return Ok(read_draw(rest));
+    }
+    if first == b"finish".as_slice() {
+        return Ok(read_finish(rest));
+    }
+    Ok(None)
+}
+
+/// `kms U` and a call, of which `kms` is read.
+fn read_kms_event(alloc: Global, fields: &[u8]) -> Result<Option<Event>, NoMemory>
+    ensures { IfOk result (λ found. MatchOption found ((user : List ℕ) (call : KmsCall) → ¬ SpellsKms (codes "kms" ∷ fields_of fields.now) user call) (SpellsEvent (codes "kms" ∷ fields_of fields.now))) }
+{
+    let (user, rest) = cut(fields);
+    let Some(rest) = rest else {
+        return Ok(None);
+    };
+    let Some(user) = read_user(alloc, user)? else {
+        return Ok(None);
+    };
+    let Some(call) = read_call(alloc, rest)? else {
+        return Ok(None);
+    };
+    Ok(Some(Event::Kms { user, call }))
+}
+
+/// The fields of `nn U VERB P`.
+#[derive(Clone, Copy)]
+struct PathFields<'a> {
+    user: &'a [u8],
+    verb: &'a [u8],
+    path: &'a [u8],
+}
+
+/// The fields behind `nn`.
+fn path_fields(fields: &[u8]) -> Option<PathFields<'_>>
+    ensures { MatchOption result ((user verb path : List ℕ) → ¬ (fields_of fields.now ≡ user ∷ verb ∷ path ∷ [])) (λ parts. fields_of fields.now ≡ parts.user.now ∷ parts.verb.now ∷ parts.path.now ∷ []) }
+{
+    let (user, rest) = cut(fields);
+    let (verb, rest) = cut(rest?);
+    let path = only_field(rest?)?;
+    Some(PathFields { user, verb, path })
+}
+
+/// `nn U`, a verb and a path, of which `nn` is read.
+fn read_path_event(alloc: Global, fields: &[u8]) -> Result<Option<Event>, NoMemory>
+    ensures { IfOk result (λ found. MatchOption found ((verb user path : List ℕ) → IsPathVerb verb → ¬ SpellsPath verb (codes "nn" ∷ fields_of fields.now) user path) (SpellsEvent (codes "nn" ∷ fields_of fields.now))) }
+{
+    let Some(parts) = path_fields(fields) else {
+        return Ok(None);
+    };
+    let Some(user) = read_user(alloc, parts.user)? else {
+        return Ok(None);
+    };
+    let Some(path) = read_escaped(alloc, parts.path)? else {
+        return Ok(None);
+    };
+    Ok(path_event(parts.verb, user, path))
+}
+
+/// The event of a verb that goes with a path, or `None` where there is no such verb.
+fn path_event(verb: &[u8], user: Text, path: ByteList) -> Option<Event>
+    ensures { MatchOption result (¬ IsPathVerb verb.now) (IsPathEvent verb.now user path) }
+{
+    if verb == b"mkdir".as_slice() {
+        return Some(Event::Mkdir { user, path });
+    }
+    if verb == b"info".as_slice() {
+        return Some(Event::Info { user, path });
+    }
+    None
+}

@@ -1,0 +1,373 @@
+//! Lines of the transcript.
+ghost use Rattle.std.specs.Prelude.{◌≡◌, ◌++◌, OnOk, codes};
+ghost use Rattle.std.specs.Fmt.{decimal};
+ghost use Rattle.std.specs.List.{flat_map};
+ghost use Rattle.hex.specs.Hex.{encode_lower};
+ghost use Rattle.key_rows.specs.Refusals.{refusal_text};
+ghost use Rattle.replay_text.specs.Transcript.{answer_text, edek_field, edek_part, edek_text, escaped_path, kept_text, key_text, line_text, material_text, meta_part, meta_text, name_part, name_refusal_text, name_text, row_front, shown_part, told_text, want_text, zone_text};
+
+use hk_base::{ByteList, Dek, Edek, KeyName, NoMemory};
+use inode_tree::NPath;
+use itoa::Buffer;
+use key_rows::{KeyMeta, KeyVersion, KmsRefusal, KmsReply};
+use name_core::{AskNote, NameRefusal, NameReply, Want};
+use percent_encoding::{AsciiSet, CONTROLS, percent_encode};
+use std::alloc::Global;
+use world_run::Line;
+
+/// The bytes of a path that may not stand for themselves, besides those that are not ASCII.
+pub const ESCAPED: AsciiSet = percent_encoding::ascii_set!(
+    CONTROLS.add(b' ').add(b'%').add(b',').add(b':')
+);
+
+/// Appends the number of an event and its answer. Where memory is wanting a front of the line may
+/// have been appended.
+pub fn write_line(
+    alloc: Global,
+    number: u64,
+    told: &Line,
+    out: &mut ByteList,
+) -> Result<(), NoMemory>
+    ensures { OnOk result (out.new ≡ out.old ++ line_text number told.now) }
+{
+    write_number(number, out)?;
+    out.push(b' ')?;
+    write_told(alloc, told, out)?;
+    out.push(b'\n')
+}
+
+fn write_number(number: u64, out: &mut ByteList) -> Result<(), NoMemory>
+    ensures { OnOk result (out.new ≡ out.old ++ decimal number) }
+{
+    let mut digits = Buffer::new();
+    out.append(digits.format(number).as_bytes())
+}
+
+fn write_told(alloc: Global, told: &Line, out: &mut ByteList) -> Result<(), NoMemory>
+    ensures { OnOk result (out.new ≡ out.old ++ told_text told.now) }
+{
+    match told {
+        Line::Kms(reply) => write_answer(alloc, reply, out),
+        Line::Name(reply) => write_name_reply(alloc, reply, out),
+        Line::Asked { number, note } => write_asked(*number, note, out),
+        Line::Replied { number, reply } => write_replied(alloc, *number, reply, out),
+        Line::Refused(why) => write_refused(why, out),
+        Line::Unknown => out.append(b"unknown"),
+    }
+}
+
+/// An ask that was accepted.
+fn write_asked(number: u64, note: &AskNote, out: &mut ByteList) -> Result<(), NoMemory>
+    ensures { OnOk result (out.new ≡ out.old ++ codes "ask " ++ decimal number ++ codes " " ++ decimal note.now.id ++ codes " " ++ want_text note.now.want) }
+{
+    out.append(b"ask ")?;
+    write_number(number, out)?;
+    out.push(b' ')?;
+    write_number(note.id, out)?;
+    out.push(b' ')?;
+    write_want(&note.want, out)
+}
+
+fn write_want(want: &Want, out: &mut ByteList) -> Result<(), NoMemory>
+    ensures { OnOk result (out.new ≡ out.old ++ want_text want.now) }
+{
+    match want {
+        Want::Nothing => out.append(b"none"),
+        Want::Generate(key) => {
+            out.append(b"generate ")?;
+            out.append(key.as_bytes())
+        }
+        Want::Metadata(key) => {
+            out.append(b"metadata ")?;
+            out.append(key.as_bytes())
+        }
+    }
+}
+
+/// A reply that is kept.
+fn write_replied(
+    alloc: Global,
+    number: u64,
+    reply: &Option<KmsReply>,
+    out: &mut ByteList,
+) -> Result<(), NoMemory>
+    ensures { OnOk result (out.new ≡ out.old ++ codes "reply " ++ decimal number ++ codes " " ++ kept_text reply.now) }
+{
+    out.append(b"reply ")?;
+    write_number(number, out)?;
+    out.push(b' ')?;
+    match reply {
+        None => out.append(b"nothing"),
+        Some(reply) => write_answer(alloc, reply, out),
+    }
+}
+
+fn write_refused(why: &NameRefusal, out: &mut ByteList) -> Result<(), NoMemory>
+    ensures { OnOk result (out.new ≡ out.old ++ codes "refused " ++ name_refusal_text why.now) }
+{
+    out.append(b"refused ")?;
+    write_name_refusal(why, out)
+}
+
+fn write_name_reply(alloc: Global, reply: &NameReply, out: &mut ByteList) -> Result<(), NoMemory>
+    ensures { OnOk result (out.new ≡ out.old ++ name_text reply.now) }
+{
+    match reply {
+        NameReply::Done => out.append(b"done"),
+        NameReply::Dir { id, zone, key } => {
+            write_row(alloc, b"dir ", *id, zone, out)?;
+            write_key_name(key, out)
+        }
+        NameReply::File { id, zone, edek } => {
+            write_row(alloc, b"file ", *id, zone, out)?;
+            write_edek_field(alloc, edek, out)
+        }
+        NameReply::Refused(why) => write_refused(why, out),
+    }
+}
+
+/// What comes before the key of a row: its kind, its id and its zone.
+fn write_row(
+    alloc: Global,
+    kind: &[u8],
+    id: u64,
+    zone: &Option<NPath>,
+    out: &mut ByteList,
+) -> Result<(), NoMemory>
+    ensures { OnOk result (out.new ≡ out.old ++ row_front kind.now id zone.now) }
+{
+    out.append(kind)?;
+    write_number(id, out)?;
+    out.push(b' ')?;
+    write_zone(alloc, zone, out)?;
+    out.push(b' ')
+}
+
+fn write_zone(alloc: Global, zone: &Option<NPath>, out: &mut ByteList) -> Result<(), NoMemory>
+    ensures { OnOk result (out.new ≡ out.old ++ zone_text zone.now) }
+{
+    match zone {
+        None => out.push(b'-'),
+        Some(path) => write_path(alloc, path, out),
+    }
+}
+
+fn write_path(alloc: Global, path: &NPath, out: &mut ByteList) -> Result<(), NoMemory>
+    ensures { OnOk result (out.new ≡ out.old ++ escaped_path path.now) }
+{
+    let mut bytes = ByteList::new(alloc);
+    path.write(&mut bytes)?;
+    let mut text = String::new(alloc);
+    percent_encode(bytes.as_slice(), ESCAPED).append_to(&mut text)?;
+    out.append(text.as_bytes())
+}
+
+fn write_key_name(key: &Option<KeyName>, out: &mut ByteList) -> Result<(), NoMemory>
+    ensures { OnOk result (out.new ≡ out.old ++ key_text key.now) }
+{
+    match key {
+        None => out.push(b'-'),
+        Some(key) => out.append(key.as_bytes()),
+    }
+}
+
+fn write_edek_field(alloc: Global, edek: &Option<Edek>, out: &mut ByteList) -> Result<(), NoMemory>
+    ensures { OnOk result (out.new ≡ out.old ++ edek_field edek.now) }
+{
+    match edek {
+        None => out.push(b'-'),
+        Some(edek) => write_edek_part(alloc, edek, out),
+    }
+}
+
+fn write_name_refusal(why: &NameRefusal, out: &mut ByteList) -> Result<(), NoMemory>
+    ensures { OnOk result (out.new ≡ out.old ++ name_refusal_text why.now) }
+{
+    match why {
+        NameRefusal::BadPath => out.append(b"N1 BadPath"),
+        NameRefusal::NoSuchPath => out.append(b"N2 NoSuchPath"),
+        NameRefusal::Exists => out.append(b"N3 Exists"),
+        NameRefusal::NotADirectory => out.append(b"N4 NotADirectory"),
+        NameRefusal::NotEmpty => out.append(b"N5 NotEmpty"),
+        NameRefusal::NotSuperuser => out.append(b"N6 NotSuperuser"),
+        NameRefusal::AlreadyInZone => out.append(b"N7 AlreadyInZone"),
+        NameRefusal::AskGone { opening, next } => write_ask_gone(*opening, *next, out),
+        NameRefusal::ZoneChanged => out.append(b"N17 ZoneChanged"),
+        NameRefusal::TooManyInodes => out.append(b"N20 TooManyInodes"),
+        NameRefusal::KeyRefused(refused) => write_key_refused(refused, out),
+        NameRefusal::NoMemory => out.append(b"N22 NoMemory"),
+    }
+}
+
+fn write_ask_gone(opening: u32, next: u64, out: &mut ByteList) -> Result<(), NoMemory>
+    ensures { OnOk result (out.new ≡ out.old ++ codes "N16 AskGone " ++ decimal opening ++ codes " " ++ decimal next) }
+{
+    out.append(b"N16 AskGone ")?;
+    write_number(opening as u64, out)?;
+    out.push(b' ')?;
+    write_number(next, out)
+}
+
+fn write_key_refused(refused: &KmsRefusal, out: &mut ByteList) -> Result<(), NoMemory>
+    ensures { OnOk result (out.new ≡ out.old ++ codes "N21 KeyRefused " ++ refusal_text refused.now) }
+{
+    out.append(b"N21 KeyRefused ")?;
+    refused.write(out)
+}
+
+fn write_answer(alloc: Global, reply: &KmsReply, out: &mut ByteList) -> Result<(), NoMemory>
+    ensures { OnOk result (out.new ≡ out.old ++ answer_text reply.now) }
+{
+    match reply {
+        KmsReply::Version { version, material } => {
+            out.append(b"version ")?;
+            version.write(out)?;
+            out.push(b' ')?;
+            write_material(alloc, material, out)
+        }
+        KmsReply::Done => out.append(b"done"),
+        KmsReply::Metadata(meta) => write_meta(meta, out),
+        KmsReply::Metadatas(metas) => {
+            out.append(b"metas")?;
+            write_metas(metas.as_slice(), out)
+        }
+        KmsReply::Names(names) => {
+            out.append(b"names")?;
+            write_names(names.as_slice(), out)
+        }
+        KmsReply::Versions(versions) => {
+            out.append(b"versions")?;
+            write_versions(alloc, versions.as_slice(), out)
+        }
+        KmsReply::Ready(edeks) => {
+            out.append(b"ready")?;
+            write_edeks(alloc, edeks.as_slice(), out)
+        }
+        KmsReply::Resealed(edek) => {
+            out.append(b"resealed ")?;
+            write_edek_part(alloc, edek, out)
+        }
+        KmsReply::Key(dek) => {
+            out.append(b"key ")?;
+            write_hex(alloc, dek.as_bytes(), out)
+        }
+        KmsReply::Refused(why) => {
+            out.append(b"refused ")?;
+            why.write(out)
+        }
+    }
+}
+
+fn write_material(alloc: Global, material: &Option<Dek>, out: &mut ByteList) -> Result<(), NoMemory>
+    ensures { OnOk result (out.new ≡ out.old ++ material_text material.now) }
+{
+    match material {
+        None => out.push(b'-'),
+        Some(material) => write_hex(alloc, material.as_bytes(), out),
+    }
+}
+
+fn write_hex(alloc: Global, bytes: &[u8], out: &mut ByteList) -> Result<(), NoMemory>
+    ensures { OnOk result (out.new ≡ out.old ++ encode_lower bytes.now) }
+{
+    out.append(hex::encode(alloc, bytes)?.as_bytes())
+}
+
+fn write_edeks(alloc: Global, edeks: &[Edek], out: &mut ByteList) -> Result<(), NoMemory>
+    ensures { OnOk result (out.new ≡ out.old ++ flat_map edek_text edeks.now) }
+{
+    'edeks: for edek in edeks {
+        write_edek(alloc, edek, out)?;
+    }
+    Ok(())
+}
+
+fn write_edek(alloc: Global, edek: &Edek, out: &mut ByteList) -> Result<(), NoMemory>
+    ensures { OnOk result (out.new ≡ out.old ++ edek_text edek.now) }
+{
+    out.push(b' ')?;
+    write_edek_part(alloc, edek, out)
+}
+
+fn write_edek_part(alloc: Global, edek: &Edek, out: &mut ByteList) -> Result<(), NoMemory>
+    ensures { OnOk result (out.new ≡ out.old ++ edek_part edek.now) }
+{
+    edek.version.write(out)?;
+    out.push(b':')?;
+    write_hex(alloc, edek.iv.as_bytes(), out)?;
+    out.push(b':')?;
+    write_hex(alloc, edek.sealed.as_bytes(), out)
+}
+
+fn write_metas(metas: &[KeyMeta], out: &mut ByteList) -> Result<(), NoMemory>
+    ensures { OnOk result (out.new ≡ out.old ++ flat_map meta_part metas.now) }
+{
+    'metas: for meta in metas {
+        write_meta_part(meta, out)?;
+    }
+    Ok(())
+}
+
+fn write_meta_part(meta: &KeyMeta, out: &mut ByteList) -> Result<(), NoMemory>
+    ensures { OnOk result (out.new ≡ out.old ++ meta_part meta.now) }
+{
+    out.push(b' ')?;
+    out.append(meta.name.as_bytes())?;
+    out.push(b':')?;
+    write_number(meta.bits as u64, out)?;
+    out.push(b':')?;
+    write_number(meta.versions as u64, out)?;
+    out.push(b':')?;
+    write_number(meta.created, out)
+}
+
+fn write_names(names: &[KeyName], out: &mut ByteList) -> Result<(), NoMemory>
+    ensures { OnOk result (out.new ≡ out.old ++ flat_map name_part names.now) }
+{
+    'names: for name in names {
+        write_name(name, out)?;
+    }
+    Ok(())
+}
+
+fn write_name(name: &KeyName, out: &mut ByteList) -> Result<(), NoMemory>
+    ensures { OnOk result (out.new ≡ out.old ++ name_part name.now) }
+{
+    out.push(b' ')?;
+    out.append(name.as_bytes())
+}
+
+fn write_versions(
+    alloc: Global,
+    versions: &[KeyVersion],
+    out: &mut ByteList,
+) -> Result<(), NoMemory>
+    ensures { OnOk result (out.new ≡ out.old ++ flat_map shown_part versions.now) }
+{
+    'versions: for version in versions {
+        write_shown(alloc, version, out)?;
+    }
+    Ok(())
+}
+
+fn write_shown(alloc: Global, shown: &KeyVersion, out: &mut ByteList) -> Result<(), NoMemory>
+    ensures { OnOk result (out.new ≡ out.old ++ shown_part shown.now) }
+{
+    out.push(b' ')?;
+    shown.version.write(out)?;
+    out.push(b':')?;
+    write_material(alloc, &shown.material, out)
+}
+
+fn write_meta(meta: &KeyMeta, out: &mut ByteList) -> Result<(), NoMemory>
+    ensures { OnOk result (out.new ≡ out.old ++ meta_text meta.now) }
+{
+    out.append(b"meta ")?;
+    out.append(meta.name.as_bytes())?;
+    out.push(b' ')?;
+    write_number(meta.bits as u64, out)?;
+    out.push(b' ')?;
+    write_number(meta.versions as u64, out)?;
+    out.push(b' ')?;
+    write_number(meta.created, out)
+}

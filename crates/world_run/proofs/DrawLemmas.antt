@@ -1,0 +1,211 @@
+-- What a draw for an ask answers, and what the key that it draws opens to.
+use Rattle.std.proofs.Common.{◌≡◌, ◌⊎◌, inl, inr, ℕ, ◌+◌, ◌*◌, ◌/◌, ◌<◌, ◌≤◌, Bool, true, false, cond, List, [], ◌∷◌, length, Option, Some, None, is_none, find, refl, sym, ap, subst, ◌∙◌, arith}
+use Rattle.std.specs.Prelude.{nat_lt, ◌≢◌, slice_get}
+use Rattle.std.specs.List.{AllByRecursion}
+use Rattle.std.specs.Option.{option_map, option_and_then}
+use Rattle.std.specs.Str.{bytes_eq}
+use Rattle.std.proofs.lemmas.Slice.Eq.{bytes_eq-Decides}
+use Rattle.hk_base.specs.declared.names.Dek.{Dek}
+use Rattle.hk_base.specs.declared.names.Edek.{Edek}
+use Rattle.hk_base.specs.declared.names.VersionName.{VersionName}
+use Rattle.key_rows.specs.declared.rows.KeyRow.{KeyRow}
+use Rattle.key_rows.specs.declared.calls.KmsCall.TheVariants as call
+use Rattle.key_rows.specs.declared.calls.KmsRefusal.{KmsRefusal}
+use Rattle.key_rows.specs.declared.calls.KmsRefusal.TheVariants.{NoSuchKey, TooManyAsked}
+use Rattle.key_rows.specs.declared.calls.KmsReply.{KmsReply}
+use Rattle.key_rows.specs.declared.calls.KmsReply.TheVariants as reply
+use Rattle.key_rows.specs.Sound.{IsTable, NamesOnce, Rising}
+use Rattle.key_rows.specs.Table.{current_of, find_name, is_named, material_of}
+use Rattle.kms_core.specs.Calls.{KmsActs, NoRoom, Plain, birth_of, causes, current_material, current_version, deed, first_cause, generate_causes, generated, row_of, unless_refused}
+use Rattle.kms_core.specs.Draws.{drawn as drawn_bytes, drawn_dek, drawn_edek, place_of_draw, words_of_draw}
+use Rattle.kms_core.specs.Laws.{dek_of_draw}
+use Rattle.kms_core.specs.Opening.{unseals}
+use Rattle.kms_core.specs.State.{KmsState}
+use Rattle.kms_core.proofs.DrawLemmas.{length-drawn}
+use Rattle.kms_core.proofs.KeyLemmas.{found_passes}
+use Rattle.kms_core.proofs.LawLemmas.{generated_opens}
+use Rattle.name_core.specs.declared.calls.Want.TheVariants as want
+use Rattle.name_core.specs.Asks.{answer_of}
+use Rattle.world_run.specs.Ledger.{draw_of}
+use Rattle.world_run.specs.Linked.{Answers, OpensTo, given}
+use Rattle.world_run.specs.Promise.{In}
+
+-- members of a table of keys
+
+rising-above : (low top : ℕ) (rows : List KeyRow) → Rising low rows top → (x : KeyRow) → In x rows → low < x.birth
+rising-above low top [] r x i = absurd i
+rising-above low top (y ∷ ys) r x (inl is) = subst (λ (z : KeyRow). low < z.birth) (sym is) r.0
+rising-above low top (y ∷ ys) r x (inr i) = let h = rising-above y.birth top ys r.1 x i in omega (arith, h, r.0)
+
+rising-once : (low top : ℕ) (rows : List KeyRow) → Rising low rows top → (x y : KeyRow) → In x rows → In y rows → x.birth ≡ y.birth → x ≡ y
+rising-once low top [] r x y i j same = absurd i
+rising-once low top (z ∷ zs) r x y (inl a) (inl b) same = a ∙ sym b
+rising-once low top (z ∷ zs) r x y (inl a) (inr j) same =
+    let h = rising-above z.birth top zs r.1 y j in absurd (omega (arith, h, same, ap (λ (k : KeyRow). k.birth) a))
+rising-once low top (z ∷ zs) r x y (inr i) (inl b) same =
+    let h = rising-above z.birth top zs r.1 x i in absurd (omega (arith, h, same, ap (λ (k : KeyRow). k.birth) b))
+rising-once low top (z ∷ zs) r x y (inr i) (inr j) same = rising-once z.birth top zs r.1 x y i j same
+
+found-in : (k : List ℕ) (rows : List KeyRow) (row : KeyRow) → find (is_named k) rows ≡ Some row → In row rows
+found-in k [] row h = absurd cc
+found-in k (y ∷ ys) row h = go (is_named k y) (found-in k ys row) h
+  where
+    go : (b : Bool) → (find (is_named k) ys ≡ Some row → In row ys) → cond b (Some y) (find (is_named k) ys) ≡ Some row → In row (y ∷ ys)
+    go true ih h = let is : y ≡ row = cc in inl (sym is)
+    go false ih h = inr (ih h)
+
+same-bytes : (a b : List ℕ) → bytes_eq a b ≡ true → a ≡ b
+same-bytes a b h = (bytes_eq-Decides a b).0 h
+
+each-in : (P : KeyRow → Type 0) (rows : List KeyRow) (x : KeyRow) → AllByRecursion P rows → In x rows → P x
+each-in P [] x h i = absurd i
+each-in P (y ∷ ys) x h (inl is) = subst P (sym is) h.0
+each-in P (y ∷ ys) x h (inr i) = each-in P ys x h.1 i
+
+-- a row is what is found under its name
+only-named : (k : List ℕ) (rows : List KeyRow) (row : KeyRow) → NamesOnce rows → In row rows → is_named k row ≡ true → find_name rows k ≡ Some row
+only-named k [] row once i named = absurd i
+only-named k (y ∷ ys) row once (inl is) named =
+    ap (λ b. cond b (Some y) (find (is_named k) ys)) (ap (is_named k) (sym is) ∙ named) ∙ ap Some (sym is)
+only-named k (y ∷ ys) row once (inr i) named = go (is_named k y) refl (only-named k ys row once.1 i named)
+  where
+    go : (b : Bool) → is_named k y ≡ b → find_name ys k ≡ Some row → cond b (Some y) (find (is_named k) ys) ≡ Some row
+    go true other ih = absurd (each-in (λ (x : KeyRow). x.name ≢ y.name) ys row once.0 i (same-bytes row.name k named ∙ sym (same-bytes y.name k other)))
+    go false other ih = ih
+
+at-number : VersionName → Option KeyRow → Option Dek
+at-number v o = option_and_then (λ (r : KeyRow). slice_get r.materials v.number) o
+
+among : (open_by : Dek → Dek) (rows : List KeyRow) (row : KeyRow) (v : VersionName) (dek : Dek) → NamesOnce rows → In row rows
+    → option_map open_by (material_of (row ∷ []) v) ≡ Some dek → option_map open_by (material_of rows v) ≡ Some dek
+unfolding at-number
+among open_by rows row v dek once i h = go (is_named v.key row) refl h
+  where
+    go : (b : Bool) → is_named v.key row ≡ b → option_map open_by (at-number v (cond b (Some row) None)) ≡ Some dek → option_map open_by (material_of rows v) ≡ Some dek
+    go true named h = ap (λ (o : Option KeyRow). option_map open_by (at-number v o)) (only-named v.key rows row once i named) ∙ h
+    go false named h = absurd cc
+
+alone : (open_by : Dek → Dek) (rows : List KeyRow) (row : KeyRow) (v : VersionName) (dek : Dek) → find_name rows v.key ≡ Some row → is_named v.key row ≡ true
+    → option_map open_by (material_of rows v) ≡ Some dek → option_map open_by (material_of (row ∷ []) v) ≡ Some dek
+unfolding at-number
+alone open_by rows row v dek found named h =
+    ap (λ (b : Bool). option_map open_by (at-number v (cond b (Some row) None))) named ∙ ap (λ (o : Option KeyRow). option_map open_by (at-number v o)) (sym found) ∙ h
+
+-- what a row opens by itself it opens among the others
+pub opens-among : (rows : List KeyRow) (row : KeyRow) (e : Edek) (dek : Dek) → NamesOnce rows → In row rows → unseals (row ∷ []) e ≡ Some dek → unseals rows e ≡ Some dek
+opens-among rows row e dek once i h = among _ rows row e.version dek once i h
+
+-- and the other way round, where it is found under its name
+opens-alone : (rows : List KeyRow) (row : KeyRow) (e : Edek) (dek : Dek) → find_name rows e.version.key ≡ Some row → is_named e.version.key row ≡ true → unseals rows e ≡ Some dek
+    → unseals (row ∷ []) e ≡ Some dek
+opens-alone rows row e dek found named h = alone _ rows row e.version dek found named h
+
+-- a metadata that was wanted
+
+pub record NoKeyGiven (name : List ℕ) (told : KmsReply) : Type 0 where
+  pub answers : Answers (want.Metadata name) (answer_of (Some told))
+  pub none : given (answer_of (Some told)) ≡ None
+
+pub meta-answers : (s : KmsState) (words : ℕ → ℕ) (now : ℕ) (name : List ℕ) (told : KmsReply) (drawn : ℕ) (s' : KmsState)
+    → KmsActs s words now (call.Metadata name) told drawn s' → NoKeyGiven name told
+meta-answers s words now name told drawn s' (NoRoom some, may, is) = subst (NoKeyGiven name) (sym (ap (λ o. o.told) is)) (record { answers = tt; none = refl })
+meta-answers s words now name told drawn s' (Plain, may, is) = subst (NoKeyGiven name) (sym (ap (λ o. o.told) is)) (go (first_cause (causes s (call.Metadata name))))
+  where
+    go : (o : Option KmsRefusal) → NoKeyGiven name (unless_refused o s (deed s words now (call.Metadata name))).told
+    go (Some why) = record { answers = tt; none = refl }
+    go None = record { answers = refl; none = refl }
+
+-- a generate of one key that was wanted
+
+pub record OneDrawn (s : KmsState) (words : ℕ → ℕ) (name : List ℕ) (e : Edek) (drawn : ℕ) (s' : KmsState) : Type 0 where
+  pub stands : is_none (row_of s name) ≡ false
+  pub drawn_is : e ≡ drawn_edek (current_version (row_of s name)) (current_material s name) words 0
+  pub same : s' ≡ s
+  pub took : drawn ≡ words_of_draw (length (current_material s name))
+
+abbrev pub Generated : KmsState → (ℕ → ℕ) → List ℕ → KmsReply → ℕ → KmsState → Type 0
+Generated s words name told drawn s' =
+    ((why : KmsRefusal) × (told ≡ reply.Refused why)) ⊎ ((e : Edek) × (told ≡ reply.Ready (e ∷ [])) × OneDrawn s words name e drawn s')
+
+stands-free : (b : Bool) (why : KmsRefusal) (rest : List (Bool × KmsRefusal)) → first_cause ((b, why) ∷ rest) ≡ None → b ≡ false
+stands-free true why rest h = absurd cc
+stands-free false why rest h = refl
+
+first-place : (n : ℕ) → place_of_draw n 0 ≡ 0
+first-place n = grind arith
+
+second-place : (n : ℕ) → place_of_draw n 1 ≡ words_of_draw n
+second-place n = grind arith
+
+pub generate-one : (s : KmsState) (words : ℕ → ℕ) (now : ℕ) (name : List ℕ) (told : KmsReply) (drawn : ℕ) (s' : KmsState)
+    → KmsActs s words now (call.Generate name 1) told drawn s' → Generated s words name told drawn s'
+generate-one s words now name told drawn s' (NoRoom some, may, is) = inl (_, ap (λ o. o.told) is)
+generate-one s words now name told drawn s' (Plain, may, is) = go (first_cause (generate_causes (row_of s name) 1)) refl is
+  where
+    go : (o : Option KmsRefusal) → first_cause (generate_causes (row_of s name) 1) ≡ o
+        → (record { told = told; drawn = drawn; state = s' }) ≡ unless_refused o s (generated s words name 1) → Generated s words name told drawn s'
+    go (Some why) cause is = inl (why, ap (λ o. o.told) is)
+    go None cause is =
+        inr (
+          drawn_edek (current_version (row_of s name)) (current_material s name) words (place_of_draw (length (current_material s name)) 0),
+          ap (λ o. o.told) is,
+          record {
+            stands = stands-free (is_none (row_of s name)) NoSuchKey ((nat_lt 1000 1, TooManyAsked) ∷ []) cause;
+            drawn_is = ap (drawn_edek (current_version (row_of s name)) (current_material s name) words) (first-place (length (current_material s name)));
+            same = ap (λ o. o.state) is;
+            took = ap (λ o. o.drawn) is ∙ second-place (length (current_material s name));
+          },
+        )
+
+-- the key that was drawn
+
+row-stands : (o : Option KeyRow) → is_none o ≡ false → (row : KeyRow) × (o ≡ Some row)
+row-stands None h = absurd cc
+row-stands (Some row) h = (row, refl)
+
+pub record FreshKey (s : KmsState) (words : ℕ → ℕ) (place : ℕ) (name : List ℕ) (e : Edek) : Type 0 where
+  pub of_name : e.version.key ≡ name
+  pub of_draw : e.version ≡ (draw_of s words place name).version
+  pub opens : OpensTo s.table.rows (draw_of s words place name) e
+  pub born : (draw_of s words place name).birth ≤ s.table.greatest
+
+rising-most : (low top : ℕ) (rows : List KeyRow) → Rising low rows top → (x : KeyRow) → In x rows → x.birth ≤ top
+rising-most low top [] r x i = absurd i
+rising-most low top (y ∷ ys) r x (inl is) = subst (λ (z : KeyRow). z.birth ≤ top) (sym is) (least y.birth top ys r.1)
+  where
+    least : (b t : ℕ) (zs : List KeyRow) → Rising b zs t → b ≤ t
+    least b t [] r = r
+    least b t (z ∷ zs) r = let h = least z.birth t zs r.1 in omega (arith, h, r.0)
+rising-most low top (y ∷ ys) r x (inr i) = rising-most y.birth top ys r.1 x i
+
+pub fresh-key : (s : KmsState) (words : ℕ → ℕ) (place now : ℕ) (name : List ℕ) (e : Edek) (drawn : ℕ) (s' : KmsState) → IsTable s.table
+    → KmsActs s words now (call.Generate name 1) (reply.Ready (e ∷ [])) drawn s' → OneDrawn s words name e drawn s' → FreshKey s words place name e
+fresh-key s words place now name e drawn s' table acts one =
+    let row = row-stands (row_of s name) one.stands in
+    let named : is_named name row.0 ≡ true = found_passes (is_named name) s.table.rows row.0 row.1 in
+    let version : e.version ≡ current_of row.0 = ap (λ (k : Edek). k.version) one.drawn_is ∙ ap current_version row.1 in
+    let key : e.version.key ≡ row.0.name = ap (λ (v : VersionName). v.key) version in
+    let found : find_name s.table.rows e.version.key ≡ Some row.0 = ap (find_name s.table.rows) (key ∙ same-bytes row.0.name name named) ∙ row.1 in
+    let opened : unseals s.table.rows e ≡ Some (draw_of s words place name).dek =
+    subst (λ (t : KmsState). unseals t.table.rows e ≡ Some (dek_of_draw s words name 0)) one.same
+    (generated_opens s words now name 1 (e ∷ []) s' (λ k. words (drawn + k)) table (record { drawn = drawn; acts = acts; rest = λ k. refl }) 0 e refl)
+    ∙ ap (λ (n : ℕ). Some (drawn_dek words n (length (current_material s name)))) (first-place (length (current_material s name))) in
+    record {
+      of_name = key ∙ same-bytes row.0.name name named;
+      of_draw = ap (λ (k : Edek). k.version) one.drawn_is;
+      opens = λ other i birth.
+          let is : other ≡ row.0 = rising-once 0 s.table.greatest s.table.rows table.births other row.0 i (found-in name s.table.rows row.0 row.1) (birth ∙ ap birth_of row.1) in
+          subst (λ (r : KeyRow). unseals (r ∷ []) e ≡ Some (draw_of s words place name).dek) (sym is)
+          (opens-alone s.table.rows row.0 e (draw_of s words place name).dek found (ap (λ (k : List ℕ). is_named k row.0) (key ∙ same-bytes row.0.name name named) ∙ named) opened);
+      born = subst (λ (b : ℕ). b ≤ s.table.greatest) (sym (ap birth_of row.1)) (rising-most 0 s.table.greatest s.table.rows table.births row.0 (found-in name s.table.rows row.0 row.1));
+    }
+
+-- its words
+pub words-of-draw : (s : KmsState) (words : ℕ → ℕ) (place : ℕ) (name : List ℕ) → words_of_draw (length (draw_of s words place name).dek) ≡ words_of_draw (length (current_material s name))
+words-of-draw s words place name =
+    let n : ℕ = length (current_material s name) in
+    let long : length (drawn_bytes words 4 (n / 4)) ≡ 4 * (n / 4) = length-drawn words 4 (n / 4) in
+    ap (λ (k : ℕ). 4 + k / 4) long ∙ ap (λ (k : ℕ). 4 + k) (quarter (n / 4))
+  where
+    quarter : (k : ℕ) → 4 * k / 4 ≡ k
+    quarter k = grind arith

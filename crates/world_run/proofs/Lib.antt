@@ -1,0 +1,9 @@
+pub mod DrawLemmas
+pub mod FinishLemmas
+pub mod KeepLemmas
+pub mod Laters
+pub mod Members
+pub mod RowLemmas
+pub mod StartLemmas
+pub mod StepLemmas
+pub mod WorldLemmas

@@ -1,0 +1,71 @@
+-- Members of lists, and what is kept under numbers.
+use Rattle.std.proofs.Common.{◌≡◌, ◌⊎◌, inl, inr, ℕ, zero, suc, List, [], ◌∷◌, ◌++◌, length, map, Some, slice_get, refl, sym, ap, arith}
+use Rattle.world_run.specs.Promise.{In}
+use Rattle.world_run.specs.World.{numbered}
+
+pub in-append : {X : Type 0} (x : X) (xs ys : List X) → In x (xs ++ ys) → In x xs ⊎ In x ys
+in-append x [] ys p = inr p
+in-append x (z ∷ xs) ys (inl e) = inl (inl e)
+in-append x (z ∷ xs) ys (inr p) = elim (in-append x xs ys p) [ inl q ↦ inl (inr q) | inr q ↦ inr q ]
+
+pub in-left : {X : Type 0} (x : X) (xs ys : List X) → In x xs → In x (xs ++ ys)
+in-left x [] ys p = absurd p
+in-left x (z ∷ xs) ys (inl e) = inl e
+in-left x (z ∷ xs) ys (inr p) = inr (in-left x xs ys p)
+
+pub in-right : {X : Type 0} (x : X) (xs ys : List X) → In x ys → In x (xs ++ ys)
+in-right x [] ys p = p
+in-right x (z ∷ xs) ys p = inr (in-right x xs ys p)
+
+-- a member of a list with one more
+pub in-more : {X : Type 0} (x y : X) (xs : List X) → In x (xs ++ y ∷ []) → In x xs ⊎ (x ≡ y)
+in-more x y xs p = elim (in-append x xs (y ∷ []) p) [ inl q ↦ inl q | inr q ↦ elim q [ inl e ↦ inr e | inr n ↦ absurd n ] ]
+
+pub in-map : {X Y : Type 0} (f : X → Y) (y : Y) (xs : List X) → In y (map f xs) → (x : X) × In x xs × (y ≡ f x)
+in-map f y [] p = absurd p
+in-map f y (x ∷ xs) (inl e) = (x, inl refl, e)
+in-map f y (x ∷ xs) (inr p) = let q = in-map f y xs p in (q.0, inr q.1, q.2)
+
+some-is : {X : Type 0} (x y : X) → Some x ≡ Some y → x ≡ y
+some-is x y h = cc
+
+got-in : {X : Type 0} (xs : List X) (n : ℕ) (x : X) → slice_get xs n ≡ Some x → In x xs
+got-in [] n x h = absurd cc
+got-in (y ∷ xs) zero x h = inl (sym (some-is y x h))
+got-in (y ∷ xs) (suc n) x h = inr (got-in xs n x h)
+
+pub numbered-in : {X : Type 0} (xs : List X) (n : ℕ) (x : X) → numbered xs n ≡ Some x → In x xs
+numbered-in xs zero x h = absurd cc
+numbered-in xs (suc n) x h = got-in xs n x h
+
+got-more : {X : Type 0} (xs : List X) (y : X) (n : ℕ) (x : X) → slice_get (xs ++ y ∷ []) n ≡ Some x → (slice_get xs n ≡ Some x) ⊎ ((n ≡ length xs) × (x ≡ y))
+got-more [] y zero x h = inr (refl, sym (some-is y x h))
+got-more [] y (suc n) x h = absurd cc
+got-more (z ∷ xs) y zero x h = inl h
+got-more (z ∷ xs) y (suc n) x h = elim (got-more xs y n x h) [ inl g ↦ inl g | inr g ↦ inr (ap suc g.0, g.1) ]
+
+-- what is kept in a list with one more: what was kept before, or the new one under the next number
+pub numbered-more : {X : Type 0} (xs : List X) (y : X) (n : ℕ) (x : X) → numbered (xs ++ y ∷ []) n ≡ Some x → (numbered xs n ≡ Some x) ⊎ ((n ≡ suc (length xs)) × (x ≡ y))
+numbered-more xs y zero x h = absurd cc
+numbered-more xs y (suc n) x h = elim (got-more xs y n x h) [ inl g ↦ inl g | inr g ↦ inr (ap suc g.0, g.1) ]
+
+got-within : {X : Type 0} (xs : List X) (n : ℕ) (x : X) → slice_get xs n ≡ Some x → n ≡ length xs → ⊥
+got-within [] n x h e = absurd cc
+got-within (y ∷ xs) zero x h e = absurd (omega (arith, e))
+got-within (y ∷ xs) (suc n) x h e = got-within xs n x h (omega (arith, e))
+
+-- nothing is kept under the next number yet
+pub numbered-within : {X : Type 0} (xs : List X) (n : ℕ) (x : X) → numbered xs n ≡ Some x → n ≡ suc (length xs) → ⊥
+numbered-within xs zero x h e = absurd cc
+numbered-within xs (suc n) x h e = got-within xs n x h (omega (arith, e))
+
+got-beside : {X Y : Type 0} (xs : List X) (ys : List Y) (n : ℕ) (x : X) → length ys ≡ length xs → slice_get xs n ≡ Some x → (y : Y) × (slice_get ys n ≡ Some y)
+got-beside [] ys n x same h = absurd cc
+got-beside (z ∷ xs) [] n x same h = absurd (omega (arith, same))
+got-beside (z ∷ xs) (y ∷ ys) zero x same h = (y, refl)
+got-beside (z ∷ xs) (y ∷ ys) (suc n) x same h = got-beside xs ys n x (omega (arith, same)) h
+
+-- what is kept beside in a list as long
+pub numbered-beside : {X Y : Type 0} (xs : List X) (ys : List Y) (n : ℕ) (x : X) → length ys ≡ length xs → numbered xs n ≡ Some x → (y : Y) × (numbered ys n ≡ Some y)
+numbered-beside xs ys zero x same h = absurd cc
+numbered-beside xs ys (suc n) x same h = got-beside xs ys n x same h

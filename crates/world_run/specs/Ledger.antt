@@ -1,0 +1,82 @@
+-- What is stored nowhere: which data encryption key was drawn for which file.
+use Rattle.std.specs.Prelude.{ℕ, ◌+◌, List, [], ◌∷◌, ◌++◌, length, Option, None, Some}
+use Rattle.hk_base.specs.declared.names.Dek.{Dek}
+use Rattle.hk_base.specs.declared.names.Iv.{Iv}
+use Rattle.hk_base.specs.declared.names.KeyName.{KeyName}
+use Rattle.hk_base.specs.declared.names.VersionName.{VersionName}
+use Rattle.key_rows.specs.declared.calls.KmsReply.{KmsReply}
+use Rattle.key_rows.specs.declared.calls.KmsReply.TheVariants.{Ready}
+use Rattle.kms_core.specs.Draws.{drawn_dek, drawn_iv}
+use Rattle.kms_core.specs.State.{KmsState}
+use Rattle.kms_core.specs.Calls.{birth_of, current_material, current_version, row_of}
+use Rattle.name_core.specs.declared.calls.AskNote.{AskNote}
+use Rattle.name_core.specs.declared.calls.NameReply.TheVariants.{Done}
+use Rattle.name_core.specs.declared.calls.Want.{Want}
+use Rattle.name_core.specs.declared.calls.Want.TheVariants.{Generate}
+use Rattle.world_run.specs.declared.event.Event.{Event}
+use Rattle.world_run.specs.declared.event.Event.TheVariants as event
+use Rattle.world_run.specs.declared.event.Line.{Line}
+use Rattle.world_run.specs.declared.event.Line.TheVariants as line
+use Rattle.world_run.specs.declared.kept.KeptReply.{KeptReply}
+use Rattle.world_run.specs.World.{WorldState, numbered}
+
+-- A data encryption key that was drawn: where its words begin in the stream of random words, the birth and the version
+-- of the key under which it was drawn, and what its words spell.
+pub record Draw : Type 0 where
+  pub place : ℕ
+  pub birth : ℕ
+  pub version : VersionName
+  pub iv : Iv
+  pub dek : Dek
+
+abbrev pub Ledger : Type 0
+Ledger = List (ℕ × Draw)
+
+-- how many words were drawn so far; of each kept reply the draw of its key, if it has one; and which draw the file of
+-- each id got
+pub record Hidden : Type 0 where
+  pub place : ℕ
+  pub replied : List (Option Draw)
+  pub ledger : Ledger
+
+-- nothing was drawn yet
+abbrev pub nothing_drawn : Hidden
+nothing_drawn = record { place = 0; replied = []; ledger = [] }
+
+-- the draw of a generate of one key
+abbrev pub draw_of : KmsState → (ℕ → ℕ) → ℕ → KeyName → Draw
+draw_of s words place name =
+    record {
+      place = place;
+      birth = birth_of (row_of s name);
+      version = current_version (row_of s name);
+      iv = drawn_iv words 0;
+      dek = drawn_dek words 0 (length (current_material s name));
+    }
+
+-- the draw behind the reply to what an ask wanted
+abbrev pub draw_told : KmsState → (ℕ → ℕ) → ℕ → Want → Option KmsReply → Option Draw
+draw_told s words place (Generate name) (Some (Ready (edek ∷ []))) = Some (draw_of s words place name)
+draw_told s words place _ _ = None
+
+abbrev pub draw_noted : KmsState → (ℕ → ℕ) → ℕ → Option AskNote → Option KmsReply → Option Draw
+draw_noted s words place None told = None
+draw_noted s words place (Some note) told = draw_told s words place note.want told
+
+-- the entry that a finish adds: the draw of the reply, under the id of the ask
+abbrev pub entry_of : Option KeptReply → Option (Option Draw) → Ledger
+entry_of (Some kept) (Some (Some draw)) = (kept.id, draw) ∷ []
+entry_of _ _ = []
+
+-- so many words more were drawn
+abbrev pub behind_words : ℕ → Hidden → Hidden
+behind_words drawn h = record h { place = h.place + drawn }
+
+-- what is hidden after an event that was answered so: a draw keeps what was drawn for its reply, and a finish that is
+-- done enters the draw of the reply that it used
+abbrev pub hidden_after : WorldState → (ℕ → ℕ) → Event → Line → ℕ → Hidden → Hidden
+hidden_after w words (event.Draw number) (line.Replied n told) drawn h =
+    record (behind_words drawn h) { replied = h.replied ++ draw_noted w.keys words h.place (numbered w.kept.notes number) told ∷ [] }
+hidden_after w words (event.Finish number) (line.Name Done) drawn h =
+    record (behind_words drawn h) { ledger = h.ledger ++ entry_of (numbered w.kept.replies number) (numbered h.replied number) }
+hidden_after w words _ _ drawn h = behind_words drawn h
