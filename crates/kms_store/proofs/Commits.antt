@@ -1,0 +1,52 @@
+-- What a commit and a settling leave.
+use Rattle.std.proofs.Common.{◌≡◌, ℕ, Bool, true, List, [], ◌∷◌, ◌++◌, map, Option, Some, None, sym, subst}
+use Rattle.std.specs.Prelude.{if◌then◌else◌, option_map, IfSome}
+use Rattle.hk_base.specs.Disk.{DiskState, LeavesOnly}
+use Rattle.frame_log.specs.Format.{IsBeforeOrAfter}
+use Rattle.frame_log.specs.Stands.{Stands}
+use Rattle.frame_log.specs.declared.log.Log.{Log}
+use Rattle.key_rows.proofs.Births.{each_more}
+use Rattle.key_rows.specs.Table.{Table, Kept, no_keys, applies, after}
+use Rattle.key_rows.specs.Records.{HasSpelling, spelling}
+use Rattle.key_rows.specs.declared.rows.KeyCommand.{KeyCommand}
+use Rattle.kms_store.specs.Replay.{key_replay}
+use Rattle.kms_store.specs.Store.{StoreState, StandsFor, IsWithOrWithout}
+use Rattle.kms_store.proofs.Replays.{replay_more, spelled_more}
+
+module _ (old new : DiskState) (store : StoreState) (commands : List KeyCommand) (command : KeyCommand) where
+  pub stands_alone : StandsFor old store commands → store.pending ≡ None → Stands old store.log (map spelling commands) None
+  stands_alone s none = subst (λ (o : Option KeyCommand). Stands old store.log (map spelling commands) (option_map spelling o)) none s.log
+
+  pub stands_beside : StandsFor old store commands → store.pending ≡ Some command → Stands old store.log (map spelling commands) (Some (spelling command))
+  stands_beside s some = subst (λ (o : Option KeyCommand). Stands old store.log (map spelling commands) (option_map spelling o)) some s.log
+
+  -- a command more
+  one_more : (log : Log) (table : Kept) (pending : Option KeyCommand) → StandsFor old store commands → pending ≡ None → HasSpelling command → applies store.table.keys command ≡ true → table.keys ≡ after store.table.keys command
+      → Stands new log (map spelling commands ++ spelling command ∷ []) None → StandsFor new (record { log = log; table = table; pending = pending }) (commands ++ command ∷ [])
+  one_more log table pending s none spelled may then_is stands = record {
+    spelled = each_more HasSpelling commands command s.spelled spelled;
+    makes = subst (λ (x : Table). key_replay no_keys (commands ++ command ∷ []) ≡ Some x) (sym then_is) (replay_more no_keys store.table.keys commands command s.makes may);
+    waits = subst (λ (o : Option KeyCommand). IfSome o HasSpelling) (sym none) tt;
+    log = subst (λ (o : Option KeyCommand). Stands new log (map spelling (commands ++ command ∷ [])) (option_map spelling o)) (sym none) (subst (λ (l : List (List ℕ)). Stands new log l None) (sym (spelled_more commands command)) stands);
+  }
+
+  pub committed : (log : Log) (table : Kept) (pending : Option KeyCommand) (payload : List ℕ) → StandsFor old store commands → store.pending ≡ None → pending ≡ None → HasSpelling command → payload ≡ spelling command
+      → applies store.table.keys command ≡ true → table.keys ≡ after store.table.keys command
+      → ((payloads : List (List ℕ)) → Stands old store.log payloads None → Stands new log (payloads ++ payload ∷ []) None)
+      → StandsFor new (record { log = log; table = table; pending = pending }) (commands ++ command ∷ [])
+  committed log table pending payload s alone none spelled is may then_is added =
+      one_more log table pending s none spelled may then_is (subst (λ (p : List ℕ). Stands new log (map spelling commands ++ p ∷ []) None) is (added (map spelling commands) (stands_alone s alone)))
+
+  -- the pending command was kept
+  pub kept : (log : Log) (table : Kept) (pending : Option KeyCommand) (was_kept : Bool) → StandsFor old store commands → store.pending ≡ Some command → pending ≡ None → was_kept ≡ true
+      → applies store.table.keys command ≡ true → table.keys ≡ after store.table.keys command
+      → ((payloads : List (List ℕ)) (payload : List ℕ) → Stands old store.log payloads (Some payload) → Stands new log (if was_kept then payloads ++ payload ∷ [] else payloads) None)
+      → StandsFor new (record { log = log; table = table; pending = pending }) (commands ++ command ∷ [])
+  kept log table pending was_kept s waits none true_is may then_is settled =
+      let spelled : HasSpelling command = subst (λ (o : Option KeyCommand). IfSome o HasSpelling) waits s.waits in
+      let whole : List (List ℕ) = map spelling commands ++ spelling command ∷ [] in
+      one_more log table pending s none spelled may then_is (subst (λ (b : Bool). Stands new log (if b then whole else map spelling commands) None) true_is (settled (map spelling commands) (spelling command) (stands_beside s waits)))
+
+  pub moments : (file : ℕ) (payload : List ℕ) → file ≡ 0 → payload ≡ spelling command → LeavesOnly file old new (IsBeforeOrAfter file (map spelling commands) payload) → LeavesOnly 0 old new (IsWithOrWithout commands command)
+  moments file payload zero_is is left =
+      subst (λ (p : List ℕ). LeavesOnly 0 old new (IsBeforeOrAfter 0 (map spelling commands) p)) is (subst (λ (k : ℕ). LeavesOnly k old new (IsBeforeOrAfter k (map spelling commands) payload)) zero_is left)

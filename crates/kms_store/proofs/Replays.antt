@@ -1,0 +1,89 @@
+-- Commands one after another.
+use Rattle.std.proofs.Common.{◌≡◌, ℕ, ◌+◌, ◌-◌, ◌/◌, ◌^◌, ◌<◌, ◌&&◌, ◌==◌, Bool, true, false, List, [], ◌∷◌, ◌++◌, map, Some, None, get_or, take, drop, take-append-drop, refl, sym, ◌∙◌, ap, subst, arith}
+use Rattle.std.specs.Prelude.{if◌then◌else◌, is_none, nat_lt, length}
+use Rattle.std.proofs.lemmas.List.{map-append, take_more, drop_more}
+use Rattle.std.proofs.lemmas.Bool.Decides.{Decides-eqb}
+use Rattle.key_rows.proofs.Births.{both, each_more}
+use Rattle.key_rows.specs.Table.{Table, no_keys, applies, after, find_name, is_length, opening_of}
+use Rattle.key_rows.specs.Records.{HasSpelling, spelling}
+use Rattle.key_rows.specs.declared.rows.KeyCommand.{KeyCommand}
+use Rattle.key_rows.specs.declared.rows.KeyCommand.TheVariants.{Opened, Create, Roll, Delete}
+use Rattle.frame_log.specs.Scan.{frame_view}
+use Rattle.frame_log.specs.declared.frames.Frame.{Frame}
+use Rattle.kms_store.specs.Replay.{key_replay, IsNext, IsNoNext, IsReplayed, IsStuck, HasRoomForBirths, payload_of}
+
+-- a command more, which applies
+pub replay_more : (t u : Table) (commands : List KeyCommand) (command : KeyCommand) → key_replay t commands ≡ Some u → applies u command ≡ true → key_replay t (commands ++ command ∷ []) ≡ Some (after u command)
+replay_more t u [] command is may =
+    let same : t ≡ u = cc is in
+    let here : applies t command ≡ true = subst (λ (x : Table). applies x command ≡ true) (sym same) may in
+    ap (λ (b : Bool). if b then Some (after t command) else None) here ∙ ap (λ (x : Table). Some (after x command)) same
+replay_more t u (first ∷ rest) command is may =
+    let P : Bool → Type 0 = λ b. (if b then key_replay (after t first) rest else None) ≡ Some u → (if b then key_replay (after t first) (rest ++ command ∷ []) else None) ≡ Some (after u command) in
+    (elim (applies t first) as P [ true ↦ (λ e. replay_more (after t first) u rest command e may) | false ↦ (λ e. absurd (cc e)) ]) is
+
+pub spelled_more : (commands : List KeyCommand) (command : KeyCommand) → map spelling (commands ++ command ∷ []) ≡ map spelling commands ++ spelling command ∷ []
+spelled_more commands command = map-append spelling commands (command ∷ [])
+
+pub replayed_none : IsReplayed [] no_keys
+replayed_none = record { commands = []; spelled = tt; are = refl; makes = refl }
+
+-- a frame more
+pub replayed_more : (frames : List (ℕ × List ℕ)) (frame : ℕ × List ℕ) (t u : Table) → IsReplayed frames t → IsNext t (payload_of frame) u → IsReplayed (frames ++ frame ∷ []) u
+replayed_more frames frame t u r n = record {
+  commands = r.commands ++ n.command ∷ [];
+  spelled = each_more HasSpelling r.commands n.command r.spelled n.spelled;
+  are =
+      map-append payload_of frames (frame ∷ [])
+      ∙ ap (λ (l : List (List ℕ)). l ++ payload_of frame ∷ []) r.are
+      ∙ ap (λ (p : List ℕ). map spelling r.commands ++ p ∷ []) n.spells
+      ∙ sym (spelled_more r.commands n.command);
+  makes = subst (λ (x : Table). key_replay no_keys (r.commands ++ n.command ∷ []) ≡ Some x) (sym n.then_is) (replay_more no_keys t r.commands n.command r.makes n.may);
+}
+
+-- births keep within the openings
+pub births_after : (t : Table) (command : KeyCommand) → applies t command ≡ true → HasRoomForBirths t → HasRoomForBirths (after t command)
+births_after t (Opened opening) may room = let next : opening ≡ t.opening + 1 = (Decides-eqb opening (t.opening + 1)).0 may in omega arith
+births_after t (Create birth name bits description created material) may room =
+    let g = both (nat_lt 0 t.opening && is_none (find_name t.rows name) && opening_of birth == t.opening && nat_lt t.greatest birth && nat_lt (length t.rows) 10000 && is_length bits) (length material == bits / 8) may in
+    let f = both (nat_lt 0 t.opening && is_none (find_name t.rows name) && opening_of birth == t.opening && nat_lt t.greatest birth && nat_lt (length t.rows) 10000) (is_length bits) g.0 in
+    let e = both (nat_lt 0 t.opening && is_none (find_name t.rows name) && opening_of birth == t.opening && nat_lt t.greatest birth) (nat_lt (length t.rows) 10000) f.0 in
+    let d = both (nat_lt 0 t.opening && is_none (find_name t.rows name) && opening_of birth == t.opening) (nat_lt t.greatest birth) e.0 in
+    let c = both (nat_lt 0 t.opening && is_none (find_name t.rows name)) (opening_of birth == t.opening) d.0 in
+    let present : birth / 2 ^ 32 ≡ t.opening = (Decides-eqb (opening_of birth) t.opening).0 c.1 in
+    omega arith
+births_after t (Roll birth number material) may room = room
+births_after t (Delete birth) may room = room
+
+pub next_births : (t u : Table) (payload : List ℕ) → IsNext t payload u → HasRoomForBirths t → HasRoomForBirths u
+next_births t u payload n room = subst HasRoomForBirths (sym n.then_is) (births_after t n.command n.may room)
+
+module _ (frames : List Frame) (i : ℕ) (frame : Frame) (inside : i < length frames) (is : frame ≡ get_or frames i frame) where
+  around : map frame_view frames ≡ map frame_view (take i frames) ++ frame_view frame ∷ map frame_view (drop (i + 1) frames)
+  around =
+      ap (map frame_view) (sym (take-append-drop i frames))
+      ∙ map-append frame_view (take i frames) (drop i frames)
+      ∙ ap (λ (l : List Frame). map frame_view (take i frames) ++ map frame_view l) (drop_more frames i frame inside ∙ ap (λ (f : Frame). f ∷ drop (i + 1) frames) (sym is))
+
+  so_far : map frame_view (take (i + 1) frames) ≡ map frame_view (take i frames) ++ frame_view frame ∷ []
+  so_far =
+      ap (map frame_view) (take_more frames i frame inside ∙ ap (λ (f : Frame). take i frames ++ f ∷ []) (sym is))
+      ∙ map-append frame_view (take i frames) (frame ∷ [])
+
+  -- the next frame is a command that applies
+  pub taken_here : (payload : List ℕ) (t u : Table) → IsReplayed (map frame_view (take i frames)) t → payload ≡ frame.payload.items → IsNext t payload u → IsReplayed (map frame_view (take (i + 1) frames)) u
+  taken_here payload t u r same n =
+      subst (λ (l : List (ℕ × List ℕ)). IsReplayed l u) (sym so_far) (replayed_more (map frame_view (take i frames)) (frame_view frame) t u r (subst (λ (p : List ℕ). IsNext t p u) same n))
+
+  -- it is none
+  pub stuck_here : (payload : List ℕ) (t : Table) (at : ℕ) → IsReplayed (map frame_view (take i frames)) t → payload ≡ frame.payload.items → IsNoNext t payload → at ≡ frame.at - 5 → IsStuck (map frame_view frames) at
+  stuck_here payload t at r same none place = record {
+    before = map frame_view (take i frames);
+    frame = frame_view frame;
+    behind = map frame_view (drop (i + 1) frames);
+    table = t;
+    split = around;
+    replayed = r;
+    not_next = subst (IsNoNext t) same none;
+    place = place;
+  }

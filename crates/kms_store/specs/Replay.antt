@@ -1,0 +1,62 @@
+-- What the records of a key log are together.
+use Rattle.std.specs.Prelude.{◌≡◌, ℕ, ◌+◌, ◌-◌, ◌*◌, ◌^◌, ◌<◌, Bool, true, false, List, [], ◌∷◌, ◌++◌, map, Option, Some, None, if◌then◌else◌}
+use Rattle.std.specs.List.{AllByRecursion}
+use Rattle.frame_log.specs.Scan.{frame_view}
+use Rattle.frame_log.specs.declared.frames.Frame.{Frame}
+use Rattle.key_rows.specs.Table.{Table, no_keys, applies, after}
+use Rattle.key_rows.specs.Records.{HasSpelling, spelling}
+use Rattle.key_rows.specs.declared.rows.KeyCommand.{KeyCommand}
+
+-- the table after commands, or None where one of them doesn't apply
+abbrev pub key_replay : Table → List KeyCommand → Option Table
+key_replay t [] = Some t
+key_replay t (command ∷ commands) = if applies t command then key_replay (after t command) commands else None
+
+-- the record spells a command that applies, and leaves this table
+pub record IsNext (t : Table) (payload : List ℕ) (u : Table) : Type 0 where
+  pub command : KeyCommand
+  pub spelled : HasSpelling command
+  pub spells : payload ≡ spelling command
+  pub may : applies t command ≡ true
+  pub then_is : u ≡ after t command
+
+-- the record spells no command, or one that doesn't apply
+abbrev pub IsNoNext : Table → List ℕ → Type 0
+IsNoNext t payload = (command : KeyCommand) → HasSpelling command → payload ≡ spelling command → applies t command ≡ false
+
+-- whether a record was taken: it is the next command, or none
+abbrev pub IsTaken : Table → List ℕ → Table → Bool → Type 0
+IsTaken t payload u true = IsNext t payload u
+IsTaken t payload u false = IsNoNext t payload
+
+abbrev pub place_of : ℕ × List ℕ → ℕ
+place_of frame = frame.0
+
+abbrev pub payload_of : ℕ × List ℕ → List ℕ
+payload_of frame = frame.1
+
+-- the payloads of frames
+abbrev pub payloads : List Frame → List (List ℕ)
+payloads frames = map payload_of (map frame_view frames)
+
+-- the payloads of these frames are commands, which make this table
+pub record IsReplayed (frames : List (ℕ × List ℕ)) (table : Table) : Type 0 where
+  pub commands : List KeyCommand
+  pub spelled : AllByRecursion HasSpelling commands
+  pub are : map payload_of frames ≡ map spelling commands
+  pub makes : key_replay no_keys commands ≡ Some table
+
+-- the payload of a frame is no command that applies behind those before it; its gate is at this offset
+pub record IsStuck (frames : List (ℕ × List ℕ)) (at : ℕ) : Type 0 where
+  pub before : List (ℕ × List ℕ)
+  pub frame : ℕ × List ℕ
+  pub behind : List (ℕ × List ℕ)
+  pub table : Table
+  pub split : frames ≡ before ++ frame ∷ behind
+  pub replayed : IsReplayed before table
+  pub not_next : IsNoNext table (payload_of frame)
+  pub place : at ≡ place_of frame - 5
+
+-- no birth is of a later opening than the last
+abbrev pub HasRoomForBirths : Table → Type 0
+HasRoomForBirths t = t.greatest < (t.opening + 1) * 2 ^ 32
