@@ -1,5 +1,5 @@
 mod CutLemmas
 mod KeyLemmas
 mod LoopLemmas
-mod SeenLemmas
+pub mod SeenLemmas
 mod PartLemmas

@@ -13,9 +13,9 @@ use Rattle.prop_text.specs.Properties.{is_among}
 abbrev pub by_bytes : {K : Type 0} → (K → List ℕ) → K → K → Ordering
 by_bytes f x y = slice_cmp nat_cmp (f x) (f y)
 
-pub has_bytes : {K : Type 0} (f : K → List ℕ) (k : K) (ks : List K) → list_any (is_at (by_bytes f k)) ks ≡ is_among (f k) (map f ks)
-has_bytes f k [] = refl
-has_bytes f k (y ∷ ys) = ap (λ t. t || list_any (is_at (by_bytes f k)) ys) (is_eq-slice_cmp (f k) (f y)) ∙ ap (λ t. bytes_eq (f k) (f y) || t) (has_bytes f k ys)
+pub has_bytes : {K : Type 0} (f : K → List ℕ) (bytes : List ℕ) (ks : List K) → list_any (is_at (λ k. slice_cmp nat_cmp bytes (f k))) ks ≡ is_among bytes (map f ks)
+has_bytes f bytes [] = refl
+has_bytes f bytes (y ∷ ys) = ap (λ t. t || list_any (is_at (λ k. slice_cmp nat_cmp bytes (f k))) ys) (is_eq-slice_cmp bytes (f y)) ∙ ap (λ t. bytes_eq bytes (f y) || t) (has_bytes f bytes ys)
 
 again : (a b : Bool) → (a || b) ≡ (a || (a || b))
 again true b = refl

@@ -7,7 +7,6 @@ mod cuts;
 mod faults;
 mod lines;
 mod names;
-mod ops;
 mod props;
 mod reading;
 mod seen;
@@ -18,8 +17,8 @@ mod values;
 pub use acls::{Acl, TextList};
 pub use faults::PropFault;
 pub use lines::{LineList, PropLine};
-pub use ops::AclOp;
 pub use props::{Props, read_props};
+pub use seen::Names;
 pub use sizes::Sizes;
 
 #[cfg(test)]

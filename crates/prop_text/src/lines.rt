@@ -2,8 +2,8 @@
 ghost use Rattle.std.specs.Prelude.{◌≡◌, ◌∷◌, ◌++◌, [], OnOk, OnErr};
 
 use crate::acls::{Acl, TextList};
-use crate::ops::AclOp;
 use hk_base::{KeyName, NoMemory, Text};
+use key_rows::AclOp;
 use std::alloc::Global;
 use std::marker::Model;
 

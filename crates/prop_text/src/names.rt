@@ -5,9 +5,9 @@ ghost use Rattle.prop_text.specs.Acls.{is_plain};
 ghost use Rattle.prop_text.specs.Names.{acl_name, blacklist_name, default_name, group_name, is_group_name, key_all, key_before, key_name, key_op, key_place, key_with, service_name, service_op, setting_of, size_name, whitelist_name};
 
 use crate::cuts::{before, behind};
-use crate::ops::AclOp;
 use crate::setting::{AclPlace, Setting, SizeName};
 use hk_base::KeyName;
+use key_rows::AclOp;
 
 /// The operation of the service that has this name.
 #[tactic(auto, unfolding(crate::specs::Names::service_op))]

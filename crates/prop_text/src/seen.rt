@@ -43,4 +43,11 @@ impl Names {
         let new = self.names.insert(name)?;
         Ok(new)
     }
+
+    /// Whether the name is there. It takes time logarithmic in the number of names.
+    pub fn has(&self, name: &[u8]) -> bool
+        ensures { result ≡ is_among name.now self.now }
+    {
+        self.names.contains(name)
+    }
 }

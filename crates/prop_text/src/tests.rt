@@ -253,3 +253,13 @@ fn ten_thousand_lines_are_read(rt: HostRuntime) -> Result<(), Fail> {
     assert_eq!(rt; fault(alloc, &text), repeated);
     Ok(())
 }
+
+#[test]
+fn a_name_is_kept_once(rt: HostRuntime) -> Result<(), Fail> {
+    let mut names = Names::new(rt.alloc());
+    assert_eq!(rt; names.add(b"alice"), Ok(true));
+    assert_eq!(rt; names.add(b"alice"), Ok(false));
+    assert!(rt; names.has(b"alice"));
+    assert!(rt; !names.has(b"bob"));
+    Ok(())
+}

@@ -6,7 +6,7 @@ use Rattle.prop_text.proofs.seen.Names.add.Goals as goal
 
 pub returns-clause-new : goal.returns-clause-new
 returns-clause-new c =
-    let has = has_bytes (λ k. k.items) c.in_ok-name.name c.self.inside.names.keys in
+    let has = has_bytes (λ k. k.items) c.in_ok-name.name.items c.self.inside.names.keys in
     c.in_ok-new.ensures.added ∙ ap not (has ∙ ap (λ name. is_among name (map (λ k. k.items) c.self.inside.names.keys)) c.in_ok-name.ensures.items ∙ ap (is_among c.args.name.now) c.self.view_is)
 
 pub returns-clause-added : goal.returns-clause-added

@@ -1,0 +1,5 @@
+mod NameLemmas
+mod FirstLemmas
+mod AddLemmas
+mod KeyLemmas
+mod StandingLemmas

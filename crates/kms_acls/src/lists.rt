@@ -1,0 +1,73 @@
+//! Lists that each speak of an operation.
+ghost use Rattle.std.specs.Prelude.{◌≡◌, ◌∷◌, ◌++◌, [], OnOk};
+ghost use Rattle.std.specs.Option.{option_copied};
+ghost use Rattle.kms_acls.specs.Lists.{list_of};
+ghost use Rattle.kms_acls.specs.Verdict.{same_op};
+
+use crate::members::Members;
+use hk_base::NoMemory;
+use key_rows::AclOp;
+use std::alloc::Global;
+use std::marker::Model;
+
+/// The list of an operation.
+#[derive(Drop)]
+pub struct OpList {
+    pub op: AclOp,
+    pub members: Members,
+}
+
+/// Lists of operations. A properties text has one for each operation at most, so there are few.
+#[derive(Drop)]
+pub struct OpLists {
+    lists: Vec<OpList>,
+}
+
+impl Model for OpLists {
+    ghost use Rattle.std.specs.Prelude.{List};
+    ghost use Rattle.kms_acls.specs.declared.lists.OpList.{OpList};
+
+    ghost Value = { List OpList };
+
+    ghost view = { λ a. a.lists.items };
+}
+
+fn same_op(a: AclOp, b: AclOp) -> bool
+    ensures { result ≡ same_op a b }
+{
+    a == b
+}
+
+impl OpLists {
+    /// No lists. It takes no memory.
+    pub fn new(alloc: Global) -> OpLists
+        ensures { result ≡ [] }
+    {
+        OpLists {
+            lists: Vec::new(alloc),
+        }
+    }
+
+    /// Adds the list of an operation. The first one of an operation counts.
+    pub fn add(&mut self, op: AclOp, members: Members) -> Result<(), NoMemory>
+        ensures { OnOk result (self.new ≡ self.old ++ record { op = op; members = members } ∷ []) }
+    {
+        self.lists.push(OpList { op, members })?;
+        Ok(())
+    }
+
+    /// The list of an operation, or `None` where there is none.
+    pub fn get(&self, op: AclOp) -> Option<&Members>
+        ensures { option_copied result ≡ list_of op self.now }
+    {
+        let list = self.lists.iter().find(|list| same_op(list.op, op))?;
+        Some(&list.members)
+    }
+}
+
+/// The lists of a key: those of an operation each, and the one of all operations.
+#[derive(Drop)]
+pub struct KeyLists {
+    pub by_op: OpLists,
+    pub all: Option<Members>,
+}

@@ -1,0 +1,53 @@
+//! Lists of users and groups, made for looking users up.
+ghost use Rattle.std.specs.Prelude.{◌≡◌, ℕ, List, IfOk};
+ghost use Rattle.prop_text.specs.Properties.{is_among};
+ghost use Rattle.kms_acls.specs.Lists.{acl_meaning, members_meaning};
+
+use hk_base::{NoMemory, Text};
+use prop_text::{Acl, Names, TextList};
+use std::alloc::Global;
+
+/// A list of users and groups, whose users are kept for looking them up.
+#[derive(Drop)]
+pub struct Members {
+    pub everybody: bool,
+    pub users: Names,
+    pub groups: TextList,
+}
+
+/// The names of a list, each once.
+pub fn set_of(alloc: Global, texts: &TextList) -> Result<Names, NoMemory>
+    ensures { IfOk result (λ names. (name : List ℕ) → is_among name names ≡ is_among name texts.now) }
+{
+    let mut names = Names::new(alloc);
+    for text in texts.as_slice() {
+        names.add(text.as_str().as_bytes())?;
+    }
+    Ok(names)
+}
+
+/// The same names in the same order.
+fn copy_of(alloc: Global, texts: &TextList) -> Result<TextList, NoMemory>
+    ensures { IfOk result (λ copy. copy ≡ texts.now) }
+{
+    let mut copy = TextList::new(alloc);
+    for text in texts.as_slice() {
+        copy.push(Text::of(String::from_str(alloc, text.as_str())?))?;
+    }
+    Ok(copy)
+}
+
+impl Members {
+    /// The users and groups of a list.
+    pub fn of(alloc: Global, acl: &Acl) -> Result<Members, NoMemory>
+        ensures { IfOk result (λ members. members_meaning members ≡ acl_meaning acl.now) }
+    {
+        let users = set_of(alloc, &acl.users)?;
+        let groups = copy_of(alloc, &acl.groups)?;
+        Ok(Members {
+            everybody: acl.everybody,
+            users,
+            groups,
+        })
+    }
+}
