@@ -1,0 +1,2 @@
+mod VersionLemmas
+mod Elements

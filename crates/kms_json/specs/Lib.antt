@@ -1,0 +1,4 @@
+pub mod Base64
+pub mod Members
+pub mod Versions
+pub mod Bodies

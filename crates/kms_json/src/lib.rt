@@ -1,0 +1,19 @@
+//! The JSON bodies of the key management service over REST: calls read from request bodies, and
+//! replies written as response bodies.
+#![tactic(auto)]
+
+mod base64_text;
+mod batch;
+mod create;
+mod decrypt;
+mod eek;
+mod faults;
+mod members;
+mod roll;
+
+pub use batch::read_batch;
+pub use create::read_create;
+pub use decrypt::read_eek;
+pub use eek::EekBody;
+pub use faults::{JsonFault, Member};
+pub use roll::read_roll;
