@@ -1,2 +1,5 @@
-mod VersionLemmas
+mod Adding
+mod AsciiLemmas
 mod Elements
+mod ReplyLemmas
+mod VersionLemmas

@@ -2,3 +2,5 @@ pub mod Base64
 pub mod Members
 pub mod Versions
 pub mod Bodies
+pub mod Replies
+pub mod Writing

@@ -9,11 +9,15 @@ mod decrypt;
 mod eek;
 mod faults;
 mod members;
+mod pieces;
+mod replies;
 mod roll;
+mod rows;
 
 pub use batch::read_batch;
 pub use create::read_create;
 pub use decrypt::read_eek;
 pub use eek::EekBody;
 pub use faults::{JsonFault, Member};
+pub use replies::write_reply;
 pub use roll::read_roll;
