@@ -1,5 +1,7 @@
 mod Adding
+mod Answered
 mod AsciiLemmas
+mod Base64Lemmas
 mod Elements
 mod ReplyLemmas
 mod VersionLemmas

@@ -1,5 +1,5 @@
 -- The text of a writer that wrote a reply.
-use Rattle.std.proofs.Common.{◌≡◌, ℕ, List, [], ◌++◌, Option, None, Some, refl, ap, sym, ◌∙◌}
+use Rattle.std.proofs.Common.{◌≡◌, [], ◌++◌, Option, None, Some, refl, ap, ◌∙◌}
 use Rattle.json.specs.Print.{print, print_from}
 use Rattle.json.specs.Written.{Written}
 use Rattle.serde_json.specs.Data.{Data}

@@ -1,5 +1,5 @@
 -- What a body stands for: a call of the key management service, or the first fault of its members.
-use Rattle.std.specs.Prelude.{◌≡◌, ℕ, ◌≤◌, nat_le, List, [], ◌∷◌, length, Option, None, Some, option_and_then, is_some, Result, Ok, Err, codes, if◌then◌else◌, IsUtf8, ⊤}
+use Rattle.std.specs.Prelude.{◌≡◌, ℕ, nat_le, List, [], ◌∷◌, length, Option, None, Some, option_and_then, is_some, Result, Ok, Err, codes, if◌then◌else◌, IsUtf8, ⊤}
 use Rattle.std.specs.Option.{ok_or}
 use Rattle.std.specs.Str.{bytes_eq}
 use Rattle.serde_json.specs.Data.{Data, Items, no_items, item}

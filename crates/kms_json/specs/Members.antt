@@ -1,5 +1,5 @@
 -- Members of a JSON object, and what their values give.
-use Rattle.std.specs.Prelude.{ℕ, List, Option, None, Some, option_and_then, Result, Ok, Err, codes}
+use Rattle.std.specs.Prelude.{ℕ, List, Option, None, Some, option_and_then, Result, Ok, Err}
 use Rattle.std.specs.Option.{ok_or}
 use Rattle.serde_json.specs.Data.{Data, null, boolean, number, string, array, object}
 use Rattle.serde_json.specs.Find.{get, as_str}

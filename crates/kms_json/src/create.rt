@@ -110,8 +110,5 @@ fn description_in(alloc: Global, object: &Value) -> Result<Description, JsonFaul
         return Err(JsonFault::BadValue(Member::Description));
     }
     let copy = Text::of(String::from_str(alloc, text)?);
-    match Description::of(copy) {
-        Some(description) => Ok(description),
-        None => Err(JsonFault::BadValue(Member::Description)),
-    }
+    Ok(Description::of(copy).unwrap())
 }

@@ -8,6 +8,7 @@ mod create;
 mod decrypt;
 mod eek;
 mod faults;
+mod laws;
 mod members;
 mod pieces;
 mod replies;
@@ -19,5 +20,13 @@ pub use create::read_create;
 pub use decrypt::read_eek;
 pub use eek::EekBody;
 pub use faults::{JsonFault, Member};
+pub use laws::{
+    base64_texts_give_their_bytes, bodies_have_one_answer, versions_are_named_by_their_texts,
+};
 pub use replies::write_reply;
 pub use roll::read_roll;
+
+#[cfg(test)]
+mod reply_tests;
+#[cfg(test)]
+mod tests;

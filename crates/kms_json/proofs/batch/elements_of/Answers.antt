@@ -1,7 +1,7 @@
-use Rattle.std.proofs.Common.{◌≡◌, Ok, Err, rules, ap, ◌∙◌, subst}
+use Rattle.std.proofs.Common.{◌≡◌, Ok, rules}
 use Rattle.serde_json.specs.View.{view}
 use Rattle.kms_json.specs.Bodies.{element_of}
-use Rattle.kms_json.proofs.Elements.{all_read, none_read, one_more, stops_here}
+use Rattle.kms_json.proofs.Elements.{none_read, one_more}
 use Rattle.kms_json.proofs.batch.elements_of.Goals as goal
 
 pub loop-item-init : goal.loop-item-init

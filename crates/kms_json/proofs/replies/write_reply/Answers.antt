@@ -1,4 +1,4 @@
-use Rattle.std.proofs.Common.{◌≡◌, ◌∙◌}
+use Rattle.std.proofs.Common.{◌∙◌}
 use Rattle.kms_json.specs.Replies.{reply_data}
 use Rattle.kms_json.proofs.ReplyLemmas.{text_written}
 use Rattle.kms_json.proofs.replies.write_reply.Goals as goal
