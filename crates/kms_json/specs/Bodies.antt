@@ -21,7 +21,7 @@ use Rattle.kms_json.specs.Versions.{version_named}
 abbrev pub IsBody : List ℕ → Data → Type 0
 IsBody body d = IsUtf8 body × (read body ≡ Some d)
 
--- a body at fault: it is no JSON value that this reading takes, or the value has the fault. Memory may want at any body.
+-- a body at fault: it is no JSON value that this reading takes, or its value has the fault. Memory may be wanting for any body.
 abbrev pub IsAtFault : {A : Type 0} → (Data → Result A JsonFault) → List ℕ → JsonFault → Type 0
 IsAtFault reading body fault.NotJson = (d : Data) → IsBody body d → reading d ≡ Err fault.NotJson
 IsAtFault reading body (fault.Missing m) = (d : Data) × (IsBody body d × (reading d ≡ Err (fault.Missing m)))

@@ -87,6 +87,7 @@ pub(crate) fn write_name(name: &KeyName, out: &mut Writer) -> Result<(), NoMemor
 fn write_version(alloc: Global, version: &VersionName, out: &mut Writer) -> Result<(), NoMemory>
     ensures { OnOk result (AddsValue (spec.version_data version.now) out.old out.new) }
 {
+    // Looking at both shows that the name keeps its rule and that the number is below 65,536.
     let _key = version.key.as_bytes();
     let _number = version.number;
     let mut text = ByteList::new(alloc);
