@@ -1,5 +1,5 @@
 //! The body of a call that gives a key its next version.
-ghost use Rattle.std.specs.Prelude.{◌≡◌, List, ℕ, IfOk, IfErr};
+ghost use Rattle.std.specs.Prelude.{◌≡◌, IfOk, IfErr};
 ghost use Rattle.serde_json.specs.View.{view};
 ghost use Rattle.kms_json.specs.Bodies as spec;
 
