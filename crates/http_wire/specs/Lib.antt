@@ -1,0 +1,6 @@
+pub mod Fields
+pub mod Heads
+pub mod Message
+pub mod Reading
+pub mod Requests
+pub mod Responses

@@ -1,0 +1,30 @@
+-- The text of a response (RFC 9112, section 4).
+use Rattle.std.specs.Prelude.{ℕ, List, [], ◌∷◌, ◌++◌, Bool, ◌||◌, ◌==◌, codes, decimal, length, unwrap_or, IsTrue, Option}
+use Rattle.http.specs.StatusCode.{code_digits, reason_phrase}
+
+-- the statuses that the services answer with
+abbrev pub is_status : ℕ → Bool
+is_status n = n == 200 || n == 201 || n == 400 || n == 401 || n == 403 || n == 404 || n == 405 || n == 409 || n == 413 || n == 431 || n == 500 || n == 501 || n == 503
+
+abbrev pub IsStatus : ℕ → Type 0
+IsStatus n = IsTrue (is_status n)
+
+-- the standard phrase of a status
+unfoldable pub phrase : ℕ → List ℕ
+phrase status = unwrap_or (reason_phrase status) []
+
+abbrev pub crlf : List ℕ
+crlf = 13 ∷ 10 ∷ []
+
+-- a body that is not empty is JSON
+unfoldable pub type_field : List ℕ → List ℕ
+type_field [] = []
+type_field (_ ∷ _) = codes "Content-Type: application/json" ++ crlf
+
+-- the whole response
+unfoldable pub response_text : ℕ → List ℕ → List ℕ
+response_text status body =
+    codes "HTTP/1.1 " ++ code_digits status ++ codes " " ++ phrase status ++ crlf
+    ++ type_field body
+    ++ codes "Content-Length: " ++ decimal (length body) ++ crlf ++ crlf
+    ++ body
