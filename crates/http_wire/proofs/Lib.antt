@@ -1,2 +1,5 @@
+pub mod AgreeLemmas
+pub mod FieldLemmas
 pub mod HeadLemmas
+pub mod NumberLemmas
 pub mod UsedLemmas
