@@ -1,6 +1,7 @@
 pub mod Fields
 pub mod Heads
 pub mod Message
+pub mod Parsing
 pub mod Reading
 pub mod Requests
 pub mod Responses

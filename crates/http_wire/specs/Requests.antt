@@ -25,9 +25,9 @@ pub record SpellsRequest (bytes : List ℕ) (message : Message) : Type 0 where
   pub keep : message.keep ≡ keeps h.minor (fields_of h)
 
 -- The bytes are a head, and its fields have this fault.
-pub record SpellsRefused (bytes : List ℕ) (fault : WireFault) : Type 0 where
+pub record Faulty (bytes : List ℕ) (fault : WireFault) : Type 0 where
   pub h : RequestHead
-  pub spells : SpellsHead bytes h
+  pub is : IsHead bytes h
   pub why : body_length (fields_of h) ≡ Err fault
 
 -- The bytes begin a head, and it does not end.
@@ -47,16 +47,28 @@ pub record BeginsBody (bytes : List ℕ) : Type 0 where
   pub sized : body_length (fields_of h) ≡ Ok size
   pub missing : length body < size
 
+-- why a head is refused
+abbrev pub Refuses : List ℕ → WireFault → Type 0
+Refuses bytes BadHead = (h : RequestHead) → ¬ IsHead bytes h
+Refuses bytes Chunked = Faulty bytes Chunked
+Refuses bytes BadLength = Faulty bytes BadLength
+Refuses bytes BodyTooLong = Faulty bytes BodyTooLong
+Refuses bytes End = ⊥
+Refuses bytes HeadTooLong = ⊥
+Refuses bytes EndedEarly = ⊥
+Refuses bytes ReadFault = ⊥
+Refuses bytes NoMemory = ⊥
+
 -- what the bytes that were used are, for each outcome
 abbrev pub Spells : List ℕ → Result Message WireFault → Type 0
 Spells used (Ok message) = SpellsRequest used message
 Spells used (Err End) = used ≡ []
 Spells used (Err EndedEarly) = BeginsHead used ⊎ BeginsBody used
 Spells used (Err HeadTooLong) = (length used ≡ 16384) × HasNoEnd used
-Spells used (Err BadHead) = IsHeadText used × ((h : RequestHead) → ¬ IsHead used h)
-Spells used (Err Chunked) = SpellsRefused used Chunked
-Spells used (Err BadLength) = SpellsRefused used BadLength
-Spells used (Err BodyTooLong) = SpellsRefused used BodyTooLong
+Spells used (Err BadHead) = IsHeadText used × Refuses used BadHead
+Spells used (Err Chunked) = IsHeadText used × Refuses used Chunked
+Spells used (Err BadLength) = IsHeadText used × Refuses used BadLength
+Spells used (Err BodyTooLong) = IsHeadText used × Refuses used BodyTooLong
 Spells used (Err ReadFault) = Unit {0}
 Spells used (Err NoMemory) = Unit {0}
 

@@ -6,9 +6,14 @@ mod bodies;
 mod faults;
 mod fields;
 mod heads;
+mod parsing;
 mod request;
+mod requests;
+mod responses;
 mod scratch;
 
 pub use faults::{SendFault, WireFault};
 pub use request::Request;
+pub use requests::read_request;
+pub use responses::write_response;
 pub use scratch::Scratch;
