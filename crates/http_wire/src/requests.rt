@@ -59,8 +59,9 @@ pub fn read_request<S: Source>(
     ensures read_fault { result ≡ Err WireFault.ReadFault → Rose (S.faults source.old) (S.faults source.new) }
 {
     let head = read_head(alloc, source, scratch)?;
-    let parts = parse_head(head.as_slice())?;
+    let bytes = head.as_slice();
+    let parts = parse_head(bytes)?;
     let body = read_body(alloc, source, scratch, parts.size)?;
-    let request = assemble(alloc, head.as_slice(), parts, body)?;
+    let request = assemble(alloc, bytes, parts, body)?;
     Ok(request)
 }
