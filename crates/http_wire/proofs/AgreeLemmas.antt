@@ -17,8 +17,8 @@ pub from_known : (n : ℕ) (all : List (List ℕ)) → from_here all (Some n) �
 from_known n [] = refl
 from_known n (value ∷ more) =
     elim (says n value) as (λ b. option_and_then (λ (m : ℕ). from_here more (Some m)) (cond b (Some n) None) ≡ cond (b && list_all (says n) more) (Some n) None) [
-      true ↦ from_known n more
-    | false ↦ refl
+      | true ↦ from_known n more
+      | false ↦ refl
     ]
 
 pub agreed_is : (all : List (List ℕ)) → from_here all None ≡ agreed all
@@ -27,8 +27,8 @@ agreed_is (value ∷ more) =
     let n = number_of value in
     rw (eq-eqb n n refl)
     (elim (is_number value) as (λ b. option_and_then (λ (m : ℕ). from_here more (Some m)) (cond b (Some n) None) ≡ cond ((b && true) && list_all (says n) more) (Some n) None) [
-      true ↦ from_known n more
-    | false ↦ refl
+      | true ↦ from_known n more
+      | false ↦ refl
     ])
 
 -- the number that the number so far and the fields from a place on agree on

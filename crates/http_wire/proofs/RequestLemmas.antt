@@ -3,13 +3,12 @@ use Rattle.std.proofs.Common.{◌≡◌, ℕ, ◌+◌, ◌<◌, List, ◌++◌, 
 use Rattle.std.specs.Io.KnownBytes.{Consumes}
 use Rattle.std.proofs.KnownBytes.{Consumes-trans}
 use Rattle.httparse.specs.Grammar.{RequestHead}
-use Rattle.httparse.specs.Spans.{span_bytes}
 use Rattle.http_wire.specs.declared.faults.WireFault.{WireFault}
 use Rattle.http_wire.specs.declared.faults.WireFault.TheVariants.{End, BadHead, HeadTooLong, BadLength, BodyTooLong, Chunked, EndedEarly, ReadFault, NoMemory}
 use Rattle.http_wire.specs.declared.parsing.Parts.{Parts}
 use Rattle.http_wire.specs.Fields.{fields_of, body_length}
 use Rattle.http_wire.specs.Message.{Message}
-use Rattle.http_wire.specs.Parsing.{HasParts}
+use Rattle.http_wire.specs.Parsing.{HasParts, message_from}
 use Rattle.http_wire.specs.Requests.{SpellsHead, SpellsRequest, BeginsBody, CutsBody, Spells, TakesHead, TakesBody, Takes, StopsInBody, Stops}
 
 spells_cut : (head body : List ℕ) (h : RequestHead) (size : ℕ) → SpellsHead head h → body_length (fields_of h) ≡ Ok size → (fault : WireFault) → CutsBody size body fault → Spells (head ++ body) (Err fault)
@@ -42,8 +41,8 @@ stops_without_memory old mid new head body size taken more = record {
 }
 
 -- both were read
-pub takes : (old mid new : Option (List ℕ)) (head body : List ℕ) (h : RequestHead) (parts : Parts) (message : Message) → TakesHead old mid head → HasParts head h parts → TakesBody mid new parts.size body → message.method ≡ span_bytes head parts.method → message.target ≡ span_bytes head parts.target → message.body ≡ body → message.keep ≡ parts.keep → Takes old new message
-takes old mid new head body h parts message taken has more method target same keep = record {
+pub takes : (old mid new : Option (List ℕ)) (head body : List ℕ) (h : RequestHead) (parts : Parts) (message : Message) → TakesHead old mid head → HasParts head h parts → TakesBody mid new parts.size body → message ≡ message_from head parts body → Takes old new message
+takes old mid new head body h parts message taken has more made = let same : message.body ≡ body = ap (λ (m : Message). m.body) made in record {
   bytes = head ++ body;
   used = Consumes-trans old mid new head body taken.used more.used;
   spells = record {
@@ -52,8 +51,8 @@ takes old mid new head body h parts message taken has more method target same ke
     spells = record { text = taken.text; is = has.is };
     whole = ap (λ b. head ++ b) (sym same);
     sized = has.sized ∙ ap (λ n. Ok n) (sym more.whole ∙ ap length (sym same));
-    method = method ∙ has.method;
-    target = target ∙ has.target;
-    keep = keep ∙ has.keep;
+    method = ap (λ (m : Message). m.method) made ∙ has.method;
+    target = ap (λ (m : Message). m.target) made ∙ has.target;
+    keep = ap (λ (m : Message). m.keep) made ∙ has.keep;
   };
 }

@@ -8,6 +8,7 @@ use Rattle.http_wire.specs.declared.faults.WireFault.{WireFault}
 use Rattle.http_wire.specs.declared.parsing.Parts.{Parts}
 use Rattle.http_wire.specs.Fields.{fields_of, body_length, keeps}
 use Rattle.http_wire.specs.Heads.{IsHead}
+use Rattle.http_wire.specs.Message.{Message}
 
 -- The spans are those of a head that all these bytes are.
 pub record FoundHead (bytes : List ℕ) (headers : List HeaderSpan) (spans : RequestSpans) (h : RequestHead) : Type 0 where
@@ -24,6 +25,10 @@ pub record HasParts (bytes : List ℕ) (h : RequestHead) (parts : Parts) : Type 
   pub target : span_bytes bytes parts.target ≡ h.target
   pub sized : body_length (fields_of h) ≡ Ok parts.size
   pub keep : parts.keep ≡ keeps h.minor (fields_of h)
+
+-- the request of a head with these parts and of a body
+abbrev pub message_from : List ℕ → Parts → List ℕ → Message
+message_from head parts body = record { method = span_bytes head parts.method; target = span_bytes head parts.target; body = body; keep = parts.keep }
 
 -- The parts that the fields give.
 pub record GivesParts (fields : List (List ℕ × List ℕ)) (spans : RequestSpans) (parts : Parts) : Type 0 where

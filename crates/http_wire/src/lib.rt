@@ -17,3 +17,6 @@ pub use request::Request;
 pub use requests::read_request;
 pub use responses::write_response;
 pub use scratch::Scratch;
+
+#[cfg(test)]
+mod tests;

@@ -37,11 +37,7 @@ fn find_head(bytes: &[u8], headers: &mut [HeaderSpan]) -> Option<RequestSpans>
 }
 
 /// The parts that the fields give, or why the head is refused.
-fn parts_of(
-    bytes: &[u8],
-    spans: RequestSpans,
-    headers: &[HeaderSpan],
-) -> Result<Parts, WireFault>
+fn parts_of(bytes: &[u8], spans: RequestSpans, headers: &[HeaderSpan]) -> Result<Parts, WireFault>
     requires { All (IsHeaderWithin (length bytes.now)) headers.now }
     ensures ok { IfOk result (GivesParts (map (header_bytes bytes.now) headers.now) spans) }
     ensures err { IfErr result (λ fault. body_length (map (header_bytes bytes.now) headers.now) ≡ Err fault) }

@@ -4,8 +4,7 @@ ghost use Rattle.std.specs.Str.{IsUtf8};
 ghost use Rattle.hk_base.specs.Faults.{Rose};
 ghost use Rattle.httparse.specs.Grammar.{RequestHead};
 ghost use Rattle.httparse.specs.Spans.{IsWithin, span_bytes};
-ghost use Rattle.http_wire.specs.Message.{Message};
-ghost use Rattle.http_wire.specs.Parsing.{HasParts};
+ghost use Rattle.http_wire.specs.Parsing.{message_from};
 ghost use Rattle.http_wire.specs.Reading.{ahead};
 ghost use Rattle.http_wire.specs.Requests.{Takes, Stops};
 
@@ -31,7 +30,7 @@ fn assemble(alloc: Global, head: &[u8], parts: Parts, body: ByteList) -> Result<
     requires method { IsWithin (length head.now) parts.method }
     requires target { IsWithin (length head.now) parts.target }
     requires utf8 { IsUtf8 (span_bytes head.now parts.target) }
-    ensures { IfOk result (λ request. request ≡ record { method = span_bytes head.now parts.method; target = span_bytes head.now parts.target; body = body; keep = parts.keep }) }
+    ensures { IfOk result (λ request. request ≡ message_from head.now parts body) }
 {
     Ok(Request {
         method: copy(alloc, parts.method.of(head))?,

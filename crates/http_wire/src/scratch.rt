@@ -77,7 +77,11 @@ impl Scratch {
             Ok(count) => {
                 self.from = 0;
                 self.to = count;
-                if count == 0 { Filled::End } else { Filled::More }
+                if count == 0 {
+                    Filled::End
+                } else {
+                    Filled::More
+                }
             }
             Err(_) => Filled::Fault,
         }

@@ -1,6 +1,5 @@
 use Rattle.std.proofs.Common.{◌∙◌, ap, sym, subst, refl}
 use Rattle.std.proofs.lemmas.Result.{err_from_is_err_and}
-use Rattle.http_wire.specs.Message.{Message}
 use Rattle.http_wire.specs.Reading.{ahead}
 use Rattle.http_wire.specs.Requests.{TakesHead}
 use Rattle.http_wire.proofs.RequestLemmas.{stops_in_body, stops_without_memory, takes}
@@ -31,5 +30,4 @@ returns-clause-request g c =
     let new = ahead c.read_body.new.scratch (g.S.Source.left c.read_body.new.source) in
     let taken = subst (λ head. TakesHead old mid head) (sym c.as_slice-bytes.ensures) c.in_ok-head.ensures.ok in
     let has = c.in_ok-parts.ensures.ok in
-    let made = c.in_ok-request.ensures in
-    takes old mid new c.as_slice-bytes.result.now c.in_ok-body.body has.0 c.in_ok-parts.parts c.in_ok-request.request taken has.1 c.in_ok-body.ensures.ok (ap (λ (m : Message). m.method) made) (ap (λ (m : Message). m.target) made) (ap (λ (m : Message). m.body) made) (ap (λ (m : Message). m.keep) made)
+    takes old mid new c.as_slice-bytes.result.now c.in_ok-body.body has.0 c.in_ok-parts.parts c.in_ok-request.request taken has.1 c.in_ok-body.ensures.ok c.in_ok-request.ensures
