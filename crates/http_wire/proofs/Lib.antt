@@ -5,4 +5,5 @@ pub mod NumberLemmas
 pub mod RefusedLemmas
 pub mod RequestLemmas
 pub mod ResponseLemmas
+pub mod StreamLemmas
 pub mod UsedLemmas

@@ -125,3 +125,29 @@ pub record StopsInBody (old new : Option (List ℕ)) (size : ℕ) (fault : WireF
   pub used : Consumes old new bytes
   pub cuts : CutsBody size bytes fault
   pub ended : Ended fault new
+
+-- the outcome is one of the bytes, and not of the outside
+abbrev pub IsOfBytes : Result Message WireFault → Type 0
+IsOfBytes (Ok message) = Unit {0}
+IsOfBytes (Err End) = Unit {0}
+IsOfBytes (Err BadHead) = Unit {0}
+IsOfBytes (Err HeadTooLong) = Unit {0}
+IsOfBytes (Err BadLength) = Unit {0}
+IsOfBytes (Err BodyTooLong) = Unit {0}
+IsOfBytes (Err Chunked) = Unit {0}
+IsOfBytes (Err EndedEarly) = Unit {0}
+IsOfBytes (Err ReadFault) = ⊥
+IsOfBytes (Err NoMemory) = ⊥
+
+-- nothing is left behind an outcome that says so
+abbrev pub UsedUp : Result Message WireFault → List ℕ → Type 0
+UsedUp (Ok message) rest = Unit {0}
+UsedUp (Err fault) rest = Ended fault (Some rest)
+
+-- What these bytes begin with, and what is left behind it.
+pub record Begins (all : List ℕ) (outcome : Result Message WireFault) (rest : List ℕ) : Type 0 where
+  pub used : List ℕ
+  pub whole : all ≡ used ++ rest
+  pub of_bytes : IsOfBytes outcome
+  pub spells : Spells used outcome
+  pub ended : UsedUp outcome rest
