@@ -1,6 +1,7 @@
 -- What a connection begins with is determined by its bytes.
 use Rattle.std.proofs.Common.{◌≡◌, ℕ, ◌+◌, ◌<◌, ◌≤◌, Bool, true, false, cond, ltb, List, [], ◌∷◌, ◌++◌, length, length-append, take, Result, Ok, Err, refl, sym, ap, ◌∙◌, subst, inl, inr, ⊎_elim, arith, append-nil, append_assoc}
-use Rattle.std.specs.Prelude.{◌⊎◌}
+use Rattle.std.specs.Prelude.{◌⊎◌, Option, None, Some, IfOk, IfErr}
+use Rattle.std.specs.Io.KnownBytes.{Consumes}
 use Rattle.std.proofs.lemmas.Bool.{cases_order, cond-true, cond-false, lt-ltb, le-ltb}
 use Rattle.std.proofs.lemmas.List.{take-append-le, take_all, append_cancel_left}
 use Rattle.httparse.specs.Grammar.{RequestHead}
@@ -10,7 +11,7 @@ use Rattle.http_wire.specs.declared.faults.WireFault.TheVariants.{End, BadHead, 
 use Rattle.http_wire.specs.Fields.{fields_of, body_length, keeps}
 use Rattle.http_wire.specs.Heads.{EndsHead, HasNoEnd, IsHeadText, IsHead}
 use Rattle.http_wire.specs.Message.{Message}
-use Rattle.http_wire.specs.Requests.{SpellsHead, SpellsRequest, BeginsHead, BeginsBody, Faulty, Refuses, Spells, Begins, IsOfBytes, UsedUp}
+use Rattle.http_wire.specs.Requests.{SpellsRequest, BeginsHead, BeginsBody, Faulty, Spells, Begins, IsOfBytes, UsedUp, Ended, Takes, Stops, IsExact}
 use Rattle.http_wire.proofs.HeadLemmas.{head_fits}
 
 -- ---- heads at the front of bytes
@@ -207,6 +208,32 @@ stage_of all used rest (Err NoMemory) whole of_bytes spells up = absurd of_bytes
 -- bytes begin with one outcome, and leave one rest
 pub begins_unique : (all : List ℕ) (o p : Outcome) (rest left : List ℕ) → Begins all o rest → Begins all p left → (o ≡ p) × (rest ≡ left)
 begins_unique all o p rest left one other =
-    let same : (let g : Outcome × List ℕ = (o, one.used) in g) ≡ (p, other.used) = unique_stage all (o, one.used) (p, other.used) (stage_of all one.used rest o one.whole one.of_bytes one.spells one.ended) (stage_of all other.used left p other.whole other.of_bytes other.spells other.ended) in
+    let same = unique_stage all (o, one.used) (p, other.used) (stage_of all one.used rest o one.whole one.of_bytes one.spells one.ended) (stage_of all other.used left p other.whole other.of_bytes other.spells other.ended) in
     let used : other.used ≡ one.used = sym (ap (λ (g : Outcome × List ℕ). g.1) same) in
     (ap (λ (g : Outcome × List ℕ). g.0) same, append_cancel_left one.used rest left (sym one.whole ∙ other.whole ∙ ap (λ (bytes : List ℕ). bytes ++ left) used))
+
+-- ---- what a call answers
+
+-- bytes that are told stay told
+told : (all used : List ℕ) (new : Option (List ℕ)) → Consumes (Some all) new used → (rest : List ℕ) × (new ≡ Some rest) × (all ≡ used ++ rest)
+told all used None taken = absurd taken
+told all used (Some rest) taken = (rest, refl, taken)
+
+exact_ok : (old new : Option (List ℕ)) (m : Message) → Takes old new m → IsExact old new (Ok m)
+exact_ok old new m takes all outcome rest is begins of_bytes =
+    let left = told all takes.bytes new (subst (λ (o : Option (List ℕ)). Consumes o new takes.bytes) is takes.used) in
+    let mine : Begins all (Ok m) left.0 = record { used = takes.bytes; whole = left.2; of_bytes = tt; spells = takes.spells; ended = tt } in
+    let same = begins_unique all (Ok m) outcome left.0 rest mine begins in
+    (same.0, left.1 ∙ ap (λ (bytes : List ℕ). Some bytes) same.1)
+
+exact_err : (old new : Option (List ℕ)) (fault : WireFault) → Stops old new fault → IsExact old new (Err fault)
+exact_err old new fault stops all outcome rest is begins of_bytes =
+    let left = told all stops.bytes new (subst (λ (o : Option (List ℕ)). Consumes o new stops.bytes) is stops.used) in
+    let ended : Ended fault (Some left.0) = subst (λ (o : Option (List ℕ)). Ended fault o) left.1 stops.ended in
+    let mine : Begins all (Err fault) left.0 = record { used = stops.bytes; whole = left.2; of_bytes = of_bytes; spells = stops.spells; ended = ended } in
+    let same = begins_unique all (Err fault) outcome left.0 rest mine begins in
+    (same.0, left.1 ∙ ap (λ (bytes : List ℕ). Some bytes) same.1)
+
+pub exactly : (old new : Option (List ℕ)) (result : Outcome) → IfOk result (Takes old new) → IfErr result (Stops old new) → IsExact old new result
+exactly old new (Ok m) takes stops = exact_ok old new m takes
+exactly old new (Err fault) takes stops = exact_err old new fault stops

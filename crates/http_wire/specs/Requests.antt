@@ -1,5 +1,5 @@
 -- What the bytes of a connection say, up to where a request or a fault ends.
-use Rattle.std.specs.Prelude.{◌≡◌, ◌⊎◌, ℕ, ◌<◌, List, [], ◌++◌, length, Result, Ok, Err, Option, Some}
+use Rattle.std.specs.Prelude.{◌≡◌, ◌⊎◌, ℕ, ◌<◌, List, [], ◌∷◌, ◌++◌, length, Result, Ok, Err, Option, None, Some, MatchBool}
 use Rattle.std.specs.Io.KnownBytes.{Consumes, IsAtEnd}
 use Rattle.httparse.specs.Grammar.{RequestHead}
 use Rattle.http_wire.specs.declared.faults.WireFault.{WireFault}
@@ -151,3 +151,14 @@ pub record Begins (all : List ℕ) (outcome : Result Message WireFault) (rest : 
   pub of_bytes : IsOfBytes outcome
   pub spells : Spells used outcome
   pub ended : UsedUp outcome rest
+
+-- Where the bytes to come are told, what they begin with is the answer, and what is left behind it is still to come,
+-- however the bytes are cut into reads: unless the source failed or memory was wanting.
+abbrev pub IsExact : Option (List ℕ) → Option (List ℕ) → Result Message WireFault → Type 0
+IsExact old new result = (all : List ℕ) (outcome : Result Message WireFault) (rest : List ℕ) → old ≡ Some all → Begins all outcome rest → IsOfBytes result → (result ≡ outcome) × (new ≡ Some rest)
+
+-- the requests of these bytes, up to the first that closes the connection or the first fault
+abbrev pub HasRequests : List ℕ → List Message → Option WireFault → Type 0
+HasRequests all [] None = ⊥
+HasRequests all [] (Some fault) = (rest : List ℕ) × Begins all (Err fault) rest
+HasRequests all (message ∷ more) last = (rest : List ℕ) × Begins all (Ok message) rest × MatchBool message.keep (HasRequests rest more last) ((more ≡ []) × (last ≡ None))

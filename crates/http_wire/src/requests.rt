@@ -6,7 +6,7 @@ ghost use Rattle.httparse.specs.Grammar.{RequestHead};
 ghost use Rattle.httparse.specs.Spans.{IsWithin, span_bytes};
 ghost use Rattle.http_wire.specs.Parsing.{message_from};
 ghost use Rattle.http_wire.specs.Reading.{ahead};
-ghost use Rattle.http_wire.specs.Requests.{Takes, Stops};
+ghost use Rattle.http_wire.specs.Requests.{Takes, Stops, IsExact};
 
 use crate::bodies::read_body;
 use crate::faults::WireFault;
@@ -40,14 +40,8 @@ fn assemble(alloc: Global, head: &[u8], parts: Parts, body: ByteList) -> Result<
     })
 }
 
-/// Reads one request, by RFC 9112. What comes is the scratch and then the source, and of that exactly
-/// the bytes of the request are used, however the source cuts them into reads; what was read past them
-/// stays in the scratch. A head has at most 16,384 bytes and 64 fields, a body at most 4,194,304 bytes,
-/// and no byte of a body is read before its length was accepted.
-///
-/// The faults are those of the bytes, in the order that `docs/rest.md` gives; `ReadFault` only where
-/// the source failed, `NoMemory` for want of memory. After a fault the connection is of no more use.
-pub fn read_request<S: Source>(
+/// Reads one request.
+fn read_message<S: Source>(
     alloc: Global,
     source: &mut S,
     scratch: &mut Scratch,
@@ -63,4 +57,27 @@ pub fn read_request<S: Source>(
     let body = read_body(alloc, source, scratch, parts.size)?;
     let request = assemble(alloc, bytes, parts, body)?;
     Ok(request)
+}
+
+/// Reads one request, by RFC 9112. What comes is the scratch and then the source, and of that exactly
+/// the bytes of the request are used, however the source cuts them into reads; what was read past them
+/// stays in the scratch. A head has at most 16,384 bytes and 64 fields, a body at most 4,194,304 bytes,
+/// and no byte of a body is used before its length was accepted. Memory is taken as bytes come.
+///
+/// The faults are those of the bytes, in the order that `docs/rest.md` gives; `ReadFault` only where
+/// the source failed, `NoMemory` for want of memory. After a fault the connection is of no more use:
+/// the bytes up to where it was seen are used.
+pub fn read_request<S: Source>(
+    alloc: Global,
+    source: &mut S,
+    scratch: &mut Scratch,
+) -> Result<Request, WireFault>
+    ensures request { IfOk result (Takes (ahead scratch.old (S.left source.old)) (ahead scratch.new (S.left source.new))) }
+    ensures fault { IfErr result (Stops (ahead scratch.old (S.left source.old)) (ahead scratch.new (S.left source.new))) }
+    ensures exact { IsExact (ahead scratch.old (S.left source.old)) (ahead scratch.new (S.left source.new)) result }
+
+    ensures later { S.faults source.old ≤ S.faults source.new }
+    ensures read_fault { result ≡ Err WireFault.ReadFault → Rose (S.faults source.old) (S.faults source.new) }
+{
+    read_message(alloc, source, scratch)
 }
