@@ -1,6 +1,6 @@
 -- What a connection begins with is determined by its bytes.
 use Rattle.std.proofs.Common.{◌≡◌, ℕ, ◌+◌, ◌<◌, ◌≤◌, Bool, true, false, cond, ltb, List, [], ◌∷◌, ◌++◌, length, length-append, take, Result, Ok, Err, refl, sym, ap, ◌∙◌, subst, inl, inr, ⊎_elim, arith, append-nil, append_assoc}
-use Rattle.std.specs.Prelude.{◌⊎◌, Option, None, Some, IfOk, IfErr}
+use Rattle.std.specs.Prelude.{◌⊎◌, Option, None, Some, IfOk, IfErr, MatchBool}
 use Rattle.std.specs.Io.KnownBytes.{Consumes}
 use Rattle.std.proofs.lemmas.Bool.{cases_order, cond-true, cond-false, lt-ltb, le-ltb}
 use Rattle.std.proofs.lemmas.List.{take-append-le, take_all, append_cancel_left}
@@ -11,7 +11,7 @@ use Rattle.http_wire.specs.declared.faults.WireFault.TheVariants.{End, BadHead, 
 use Rattle.http_wire.specs.Fields.{fields_of, body_length, keeps}
 use Rattle.http_wire.specs.Heads.{EndsHead, HasNoEnd, IsHeadText, IsHead}
 use Rattle.http_wire.specs.Message.{Message}
-use Rattle.http_wire.specs.Requests.{SpellsRequest, BeginsHead, BeginsBody, Faulty, Spells, Begins, IsOfBytes, UsedUp, Ended, Takes, Stops, IsExact}
+use Rattle.http_wire.specs.Requests.{SpellsRequest, BeginsHead, BeginsBody, Faulty, Spells, Begins, IsOfBytes, UsedUp, Ended, Takes, Stops, IsExact, HasRequests}
 use Rattle.http_wire.proofs.HeadLemmas.{head_fits}
 
 -- ---- heads at the front of bytes
@@ -237,3 +237,30 @@ exact_err old new fault stops all outcome rest is begins of_bytes =
 pub exactly : (old new : Option (List ℕ)) (result : Outcome) → IfOk result (Takes old new) → IfErr result (Stops old new) → IsExact old new result
 exactly old new (Ok m) takes stops = exact_ok old new m takes
 exactly old new (Err fault) takes stops = exact_err old new fault stops
+
+-- ---- the requests of a connection
+
+-- bytes have one list of requests and one end
+pub requests_unique : (all : List ℕ) (requests others : List Message) (last end : Option WireFault) → HasRequests all requests last → HasRequests all others end → (requests ≡ others) × (last ≡ end)
+requests_unique all [] others None end one other = absurd one
+requests_unique all [] [] (Some fault) None one other = absurd other
+requests_unique all [] [] (Some fault) (Some reason) one other =
+    let same = (begins_unique all (Err fault) (Err reason) one.0 other.0 one.1 other.1).0 in
+    let faults : fault ≡ reason = cc in
+    (refl, ap (λ (f : WireFault). Some f) faults)
+requests_unique all [] (message ∷ others) (Some fault) end one other =
+    let same = (begins_unique all (Err fault) (Ok message) one.0 other.0 one.1 other.1).0 in absurd (cc)
+requests_unique all (message ∷ more) [] last None one other = absurd other
+requests_unique all (message ∷ more) [] last (Some fault) one other =
+    let same = (begins_unique all (Ok message) (Err fault) one.0 other.0 one.1 other.1).0 in absurd (cc)
+requests_unique all (message ∷ more) (second ∷ others) last end one other =
+    let both = begins_unique all (Ok message) (Ok second) one.0 other.0 one.1 other.1 in
+    let first = both.0 in
+    let same : second ≡ message = cc in
+    let theirs = subst (λ (m : Message). MatchBool m.keep (HasRequests one.0 others end) ((others ≡ []) × (end ≡ None))) same (subst (λ (rest : List ℕ). MatchBool second.keep (HasRequests rest others end) ((others ≡ []) × (end ≡ None))) (sym both.1) other.2) in
+    let later = elim (message.keep) as (λ b. MatchBool b (HasRequests one.0 more last) ((more ≡ []) × (last ≡ None)) → MatchBool b (HasRequests one.0 others end) ((others ≡ []) × (end ≡ None)) → (more ≡ others) × (last ≡ end)) [
+      true ↦ (λ mine yours. requests_unique one.0 more others last end mine yours)
+    | false ↦ (λ mine yours. (mine.0 ∙ sym yours.0, mine.1 ∙ sym yours.1))
+    ] in
+    let joined = later one.2 theirs in
+    (ap (λ (m : Message). m ∷ more) (sym same) ∙ ap (λ (l : List Message). second ∷ l) joined.0, joined.1)
