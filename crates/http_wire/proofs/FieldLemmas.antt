@@ -1,12 +1,11 @@
 -- What the fields say, from what their places in the head say.
-use Rattle.std.proofs.Common.{◌≡◌, ℕ, Bool, true, false, cond, ◌||◌, codes, List, [], ◌∷◌, map, Result, Ok, Err, Option, refl, sym, ap, ◌∙◌}
+use Rattle.std.proofs.Common.{◌≡◌, ℕ, Bool, true, false, ◌||◌, codes, List, [], ◌∷◌, map, Err, refl, ap, ◌∙◌}
 use Rattle.std.specs.List.{list_any}
 use Rattle.std.proofs.lemmas.Bool.{cond-true, cond-false}
 use Rattle.httparse.specs.declared.spans.HeaderSpan.{HeaderSpan}
 use Rattle.httparse.specs.Spans.{header_bytes}
-use Rattle.http_wire.specs.declared.faults.WireFault.{WireFault}
 use Rattle.http_wire.specs.declared.faults.WireFault.TheVariants.{Chunked}
-use Rattle.http_wire.specs.Fields.{is_named, is_close, values, agreed, sized, body_length, keeps}
+use Rattle.http_wire.specs.Fields.{is_named, is_close, values, agreed, sized, body_length}
 
 list_any-map : {X Y : Type 0} (p : Y → Bool) (f : X → Y) (xs : List X) → list_any p (map f xs) ≡ list_any (λ x. p (f x)) xs
 list_any-map p f [] = refl

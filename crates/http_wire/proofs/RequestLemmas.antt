@@ -1,6 +1,5 @@
 -- A head and a body make a request.
-use Rattle.std.proofs.Common.{◌≡◌, ℕ, ◌+◌, ◌<◌, List, ◌++◌, length, Option, Result, Ok, Err, refl, sym, ap, ◌∙◌, subst, inl, inr}
-use Rattle.std.specs.Io.KnownBytes.{Consumes}
+use Rattle.std.proofs.Common.{◌≡◌, ℕ, List, ◌++◌, length, Option, Ok, Err, refl, sym, ap, ◌∙◌, inr}
 use Rattle.std.proofs.KnownBytes.{Consumes-trans}
 use Rattle.httparse.specs.Grammar.{RequestHead}
 use Rattle.http_wire.specs.declared.faults.WireFault.{WireFault}
@@ -9,7 +8,7 @@ use Rattle.http_wire.specs.declared.parsing.Parts.{Parts}
 use Rattle.http_wire.specs.Fields.{fields_of, body_length}
 use Rattle.http_wire.specs.Message.{Message}
 use Rattle.http_wire.specs.Parsing.{HasParts, message_from}
-use Rattle.http_wire.specs.Requests.{SpellsHead, SpellsRequest, BeginsBody, CutsBody, Spells, TakesHead, TakesBody, Takes, StopsInBody, Stops}
+use Rattle.http_wire.specs.Requests.{SpellsHead, CutsBody, Spells, TakesHead, TakesBody, Takes, StopsInBody, Stops}
 
 spells_cut : (head body : List ℕ) (h : RequestHead) (size : ℕ) → SpellsHead head h → body_length (fields_of h) ≡ Ok size → (fault : WireFault) → CutsBody size body fault → Spells (head ++ body) (Err fault)
 spells_cut head body h size is declared EndedEarly cut = inr (record { head = head; body = body; h = h; size = size; spells = is; whole = refl; sized = declared; missing = cut })

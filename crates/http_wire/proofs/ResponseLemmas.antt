@@ -1,5 +1,5 @@
 -- The status line, a part at a time.
-use Rattle.std.proofs.Common.{◌≡◌, ℕ, List, ◌++◌, codes, refl, sym, ap, ◌∙◌, append_assoc}
+use Rattle.std.proofs.Common.{◌≡◌, ℕ, List, ◌++◌, codes, ap, ◌∙◌, append_assoc}
 use Rattle.http.specs.StatusCode.{code_digits}
 use Rattle.http_wire.specs.Responses.{phrase, crlf, status_line}
 

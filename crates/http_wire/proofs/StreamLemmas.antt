@@ -1,5 +1,5 @@
 -- What a connection begins with is determined by its bytes.
-use Rattle.std.proofs.Common.{◌≡◌, ℕ, ◌+◌, ◌<◌, ◌≤◌, Bool, true, false, cond, ltb, List, [], ◌∷◌, ◌++◌, length, length-append, take, Result, Ok, Err, refl, sym, ap, ◌∙◌, subst, inl, inr, ⊎_elim, arith, append-nil, append_assoc}
+use Rattle.std.proofs.Common.{◌≡◌, ℕ, ◌<◌, ◌≤◌, true, false, cond, ltb, List, [], ◌∷◌, ◌++◌, length, length-append, take, Result, Ok, Err, refl, sym, ap, ◌∙◌, subst, inl, inr, ⊎_elim, arith, append-nil, append_assoc}
 use Rattle.std.specs.Prelude.{◌⊎◌, Option, None, Some, IfOk, IfErr, MatchBool}
 use Rattle.std.specs.Io.KnownBytes.{Consumes}
 use Rattle.std.proofs.lemmas.Bool.{cases_order, cond-true, cond-false, lt-ltb, le-ltb}
@@ -259,8 +259,8 @@ requests_unique all (message ∷ more) (second ∷ others) last end one other =
     let same : second ≡ message = cc in
     let theirs = subst (λ (m : Message). MatchBool m.keep (HasRequests one.0 others end) ((others ≡ []) × (end ≡ None))) same (subst (λ (rest : List ℕ). MatchBool second.keep (HasRequests rest others end) ((others ≡ []) × (end ≡ None))) (sym both.1) other.2) in
     let later = elim (message.keep) as (λ b. MatchBool b (HasRequests one.0 more last) ((more ≡ []) × (last ≡ None)) → MatchBool b (HasRequests one.0 others end) ((others ≡ []) × (end ≡ None)) → (more ≡ others) × (last ≡ end)) [
-      true ↦ (λ mine yours. requests_unique one.0 more others last end mine yours)
-    | false ↦ (λ mine yours. (mine.0 ∙ sym yours.0, mine.1 ∙ sym yours.1))
+      | true ↦ (λ mine yours. requests_unique one.0 more others last end mine yours)
+      | false ↦ (λ mine yours. (mine.0 ∙ sym yours.0, mine.1 ∙ sym yours.1))
     ] in
     let joined = later one.2 theirs in
     (ap (λ (m : Message). m ∷ more) (sym same) ∙ ap (λ (l : List Message). second ∷ l) joined.0, joined.1)

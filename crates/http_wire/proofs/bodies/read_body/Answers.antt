@@ -1,4 +1,4 @@
-use Rattle.std.proofs.Common.{◌≤◌, ◌-◌, ◌++◌, length, take, length-append, length-take, ap, subst, sym, ◌∙◌, arith}
+use Rattle.std.proofs.Common.{◌≤◌, ◌-◌, length, subst, sym, arith}
 use Rattle.std.specs.Io.KnownBytes.{Consumes}
 use Rattle.http_wire.specs.Reading.{ahead}
 use Rattle.http_wire.proofs.UsedLemmas.{used_from_scratch, within_size}
