@@ -80,7 +80,7 @@ fn response(alloc: Global, status: u16, body: &[u8]) -> Result<ByteList, NoMemor
 }
 
 /// Writes the response with this status and this body, by RFC 9112: its one text whole, or where
-/// the sink fails or memory is wanting a front of it. The status is one that the services answer with.
+/// the sink fails a front of it; for want of memory nothing. The status is one that the services answer with.
 /// A body that is not empty is JSON.
 pub fn write_response<K: Sink>(
     alloc: Global,
@@ -91,6 +91,8 @@ pub fn write_response<K: Sink>(
     requires { IsStatus status }
     ensures ok { OnOk result (Appends (K.written sink.old) (K.written sink.new) (response_text status body.now)) }
     ensures err { OnErr result (WroteFront (K.written sink.old) (K.written sink.new) (response_text status body.now)) }
+    ensures no_memory { result ≡ Err SendFault.NoMemory → K.written sink.new ≡ K.written sink.old }
+
     ensures later { K.faults sink.old ≤ K.faults sink.new }
     ensures write_fault { result ≡ Err SendFault.WriteFault → Rose (K.faults sink.old) (K.faults sink.new) }
 {
