@@ -1,5 +1,6 @@
 pub mod Fields
 pub mod Heads
+pub mod Laws
 pub mod Message
 pub mod Parsing
 pub mod Reading

@@ -6,6 +6,7 @@ mod bodies;
 mod faults;
 mod fields;
 mod heads;
+mod laws;
 mod parsing;
 mod request;
 mod requests;
@@ -13,6 +14,7 @@ mod responses;
 mod scratch;
 
 pub use faults::{SendFault, WireFault};
+pub use laws::requests_are_those_of_the_bytes;
 pub use request::Request;
 pub use requests::read_request;
 pub use responses::write_response;
