@@ -1,6 +1,6 @@
 -- Bytes of a source that were read and not used yet.
 use Rattle.std.specs.Prelude.{List, ℕ, [], ◌∷◌, Option}
-use Rattle.std.specs.Io.KnownBytes.{prepend_known, Consumes}
+use Rattle.std.specs.Io.KnownBytes.{prepend_known}
 use Rattle.http_wire.specs.declared.scratch.Next.{Next}
 use Rattle.http_wire.specs.declared.scratch.Next.TheVariants.{Byte, End, Fault}
 
@@ -13,7 +13,3 @@ abbrev pub byte_used : Next → List ℕ
 byte_used (Byte b) = b ∷ []
 byte_used End = []
 byte_used Fault = []
-
--- some bytes from the front were used
-abbrev pub UsesSome : Option (List ℕ) → Option (List ℕ) → Type 0
-UsesSome old new = (used : List ℕ) × Consumes old new used
