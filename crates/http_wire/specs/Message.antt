@@ -1,0 +1,10 @@
+-- A request, as contracts see it.
+use Rattle.std.specs.Prelude.{ℕ, List, Bool}
+
+pub record Message : Type 0 where
+  pub method : List ℕ
+  -- the request target, UTF-8
+  pub target : List ℕ
+  pub body : List ℕ
+  -- whether the connection is kept for another request
+  pub keep : Bool

@@ -1,0 +1,34 @@
+//! The bytes of a body.
+ghost use Rattle.std.specs.Prelude.{◌≡◌, ◌≤◌, length, IfOk, IfErr, Err};
+ghost use Rattle.hk_base.specs.Faults.{Rose};
+ghost use Rattle.http_wire.specs.Reading.{ahead};
+ghost use Rattle.http_wire.specs.Requests.{TakesBody, StopsInBody};
+
+use crate::faults::WireFault;
+use crate::scratch::{Filled, Scratch};
+use hk_base::{ByteList, Source};
+use std::alloc::Global;
+
+/// Reads a body of `size` bytes. Memory is taken for bytes that have come, not for those declared.
+pub(crate) fn read_body<S: Source>(
+    alloc: Global,
+    source: &mut S,
+    scratch: &mut Scratch,
+    size: usize,
+) -> Result<ByteList, WireFault>
+    ensures ok { IfOk result (TakesBody (ahead scratch.old (S.left source.old)) (ahead scratch.new (S.left source.new)) size) }
+    ensures err { IfErr result (StopsInBody (ahead scratch.old (S.left source.old)) (ahead scratch.new (S.left source.new)) size) }
+    ensures later { S.faults source.old ≤ S.faults source.new }
+    ensures read_fault { result ≡ Err WireFault.ReadFault → Rose (S.faults source.old) (S.faults source.new) }
+{
+    let mut body = ByteList::new(alloc);
+    'bytes: while body.len() < size {
+        let missing = size - body.len();
+        match scratch.fill(source) {
+            Filled::Fault => return Err(WireFault::ReadFault),
+            Filled::End => return Err(WireFault::EndedEarly),
+            Filled::More => scratch.give(missing, &mut body)?,
+        }
+    }
+    Ok(body)
+}

@@ -1,0 +1,24 @@
+//! The messages of HTTP/1.1 (RFC 9112): a request read from a source, whatever pieces it comes in, and
+//! a response written to a sink.
+#![tactic(auto)]
+
+mod bodies;
+mod faults;
+mod fields;
+mod heads;
+mod laws;
+mod parsing;
+mod request;
+mod requests;
+mod responses;
+mod scratch;
+
+pub use faults::{SendFault, WireFault};
+pub use laws::requests_are_those_of_the_bytes;
+pub use request::Request;
+pub use requests::read_request;
+pub use responses::write_response;
+pub use scratch::Scratch;
+
+#[cfg(test)]
+mod tests;

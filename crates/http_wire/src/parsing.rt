@@ -1,0 +1,64 @@
+//! What a head says.
+ghost use Rattle.std.specs.Prelude.{◌≡◌, ◌≤◌, List, ℕ, [], length, map, All, IfOk, IfErr, IfSome, IfNone, Err};
+ghost use Rattle.httparse.specs.Grammar.{RequestHead, ReadsRequest};
+ghost use Rattle.httparse.specs.Spans.{IsHeaderWithin, header_bytes};
+ghost use Rattle.http_wire.specs.Fields.{body_length};
+ghost use Rattle.http_wire.specs.Parsing.{FoundHead, HasParts, GivesParts};
+ghost use Rattle.http_wire.specs.Requests.{Refuses};
+
+use crate::faults::WireFault;
+use crate::fields::{body_length, keeps};
+use httparse::Status;
+use httparse::spans::{EMPTY_HEADER_SPAN, HeaderSpan, RequestSpans, Span, parse_request};
+
+/// How many fields a head has at most.
+const MOST_FIELDS: usize = 64;
+
+/// Where the parts of a request stand in its head, and what its fields say.
+#[derive(Clone, Copy, Debug, PartialEq, Eq)]
+pub(crate) struct Parts {
+    pub method: Span,
+    pub target: Span,
+    /// How many bytes the body has.
+    pub size: usize,
+    /// Whether the connection is kept.
+    pub keep: bool,
+}
+
+/// The spans of a head that all these bytes are, where its fields find room.
+fn find_head(bytes: &[u8], headers: &mut [HeaderSpan]) -> Option<RequestSpans>
+    ensures some { IfSome result (λ spans. (h : RequestHead) × FoundHead bytes.now headers.new spans h) }
+    ensures none { IfNone result ((h : RequestHead) → ReadsRequest bytes.now h [] → length h.fields ≤ length headers.old → ⊥) }
+{
+    match parse_request(bytes, headers) {
+        Ok(Status::Complete(spans)) if spans.len == bytes.len() => Some(spans),
+        _ => None,
+    }
+}
+
+/// The parts that the fields give, or why the head is refused.
+fn parts_of(bytes: &[u8], spans: RequestSpans, headers: &[HeaderSpan]) -> Result<Parts, WireFault>
+    requires { All (IsHeaderWithin (length bytes.now)) headers.now }
+    ensures ok { IfOk result (GivesParts (map (header_bytes bytes.now) headers.now) spans) }
+    ensures err { IfErr result (λ fault. body_length (map (header_bytes bytes.now) headers.now) ≡ Err fault) }
+{
+    let size = body_length(bytes, headers)?;
+    Ok(Parts {
+        method: spans.method,
+        target: spans.path,
+        size,
+        keep: keeps(spans.version, bytes, headers),
+    })
+}
+
+/// The parts of a head, or why it is refused.
+pub(crate) fn parse_head(bytes: &[u8]) -> Result<Parts, WireFault>
+    ensures ok { IfOk result (λ parts. (h : RequestHead) × HasParts bytes.now h parts) }
+    ensures err { IfErr result (Refuses bytes.now) }
+{
+    let mut headers = [EMPTY_HEADER_SPAN; MOST_FIELDS];
+    match find_head(bytes, &mut headers) {
+        None => Err(WireFault::BadHead),
+        Some(spans) => parts_of(bytes, spans, &headers[..spans.headers]),
+    }
+}

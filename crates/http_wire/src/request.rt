@@ -1,0 +1,37 @@
+//! A request.
+ghost use Rattle.std.specs.Prelude.{◌≡◌};
+ghost use Rattle.std.specs.Str.{IsUtf8};
+
+use hk_base::ByteList;
+use std::marker::Model;
+
+/// A request of HTTP/1.0 or HTTP/1.1. Its target is UTF-8.
+#[derive(Drop)]
+pub struct Request {
+    pub method: ByteList,
+    pub target: ByteList,
+    pub body: ByteList,
+    /// Whether the connection is kept for another request.
+    pub keep: bool,
+}
+
+impl Model for Request {
+    ghost use Rattle.std.specs.Str.{IsUtf8};
+    ghost use Rattle.http_wire.specs.Message.{Message};
+
+    ghost Value = { Message };
+
+    ghost view = { λ r. record { method = r.method; target = r.target; body = r.body; keep = r.keep } };
+
+    ghost invariant = { λ r. IsUtf8 r.target };
+}
+
+impl Request {
+    /// The target as a text.
+    pub fn target_text(&self) -> &str
+        ensures text { result.now ≡ self.now.target }
+        ensures utf8 { IsUtf8 self.now.target }
+    {
+        str::from_utf8(self.target.as_slice()).unwrap()
+    }
+}

@@ -1,0 +1,83 @@
+//! Reading a request.
+ghost use Rattle.std.specs.Prelude.{◌≡◌, ◌≤◌, List, ℕ, length, IfOk, IfErr, Err};
+ghost use Rattle.std.specs.Str.{IsUtf8};
+ghost use Rattle.hk_base.specs.Faults.{Rose};
+ghost use Rattle.httparse.specs.Grammar.{RequestHead};
+ghost use Rattle.httparse.specs.Spans.{IsWithin, span_bytes};
+ghost use Rattle.http_wire.specs.Parsing.{message_from};
+ghost use Rattle.http_wire.specs.Reading.{ahead};
+ghost use Rattle.http_wire.specs.Requests.{Takes, Stops, IsExact};
+
+use crate::bodies::read_body;
+use crate::faults::WireFault;
+use crate::heads::read_head;
+use crate::parsing::{Parts, parse_head};
+use crate::request::Request;
+use crate::scratch::Scratch;
+use hk_base::{ByteList, NoMemory, Source};
+use std::alloc::Global;
+
+fn copy(alloc: Global, bytes: &[u8]) -> Result<ByteList, NoMemory>
+    ensures { IfOk result (λ list. list ≡ bytes.now) }
+{
+    let mut list = ByteList::new(alloc);
+    list.append(bytes)?;
+    Ok(list)
+}
+
+/// The request of a head and a body.
+fn assemble(alloc: Global, head: &[u8], parts: Parts, body: ByteList) -> Result<Request, NoMemory>
+    requires method { IsWithin (length head.now) parts.method }
+    requires target { IsWithin (length head.now) parts.target }
+    requires utf8 { IsUtf8 (span_bytes head.now parts.target) }
+    ensures { IfOk result (λ request. request ≡ message_from head.now parts body) }
+{
+    Ok(Request {
+        method: copy(alloc, parts.method.of(head))?,
+        target: copy(alloc, parts.target.of(head))?,
+        body,
+        keep: parts.keep,
+    })
+}
+
+/// Reads one request.
+fn read_message<S: Source>(
+    alloc: Global,
+    source: &mut S,
+    scratch: &mut Scratch,
+) -> Result<Request, WireFault>
+    ensures request { IfOk result (Takes (ahead scratch.old (S.left source.old)) (ahead scratch.new (S.left source.new))) }
+    ensures fault { IfErr result (Stops (ahead scratch.old (S.left source.old)) (ahead scratch.new (S.left source.new))) }
+    ensures later { S.faults source.old ≤ S.faults source.new }
+    ensures read_fault { result ≡ Err WireFault.ReadFault → Rose (S.faults source.old) (S.faults source.new) }
+{
+    let head = read_head(alloc, source, scratch)?;
+    let bytes = head.as_slice();
+    let parts = parse_head(bytes)?;
+    let body = read_body(alloc, source, scratch, parts.size)?;
+    let request = assemble(alloc, bytes, parts, body)?;
+    Ok(request)
+}
+
+/// Reads one request, by RFC 9112. What comes is the scratch and then the source, and of that exactly
+/// the bytes of the request are used, however the source cuts them into reads; what was read past them
+/// stays in the scratch. A head has at most 16,384 bytes and 64 fields, a body at most 4,194,304 bytes,
+/// and no byte of a body is used before its length was accepted. Memory is taken as bytes come.
+///
+/// The faults are those of the bytes, in the order that `docs/rest.md` gives; `ReadFault` only where
+/// the source failed, `NoMemory` for want of memory. After a fault the connection is of no more use:
+/// the bytes up to where it was seen are used.
+pub fn read_request<S: Source>(
+    alloc: Global,
+    source: &mut S,
+    scratch: &mut Scratch,
+) -> Result<Request, WireFault>
+    ensures request { IfOk result (Takes (ahead scratch.old (S.left source.old)) (ahead scratch.new (S.left source.new))) }
+    ensures fault { IfErr result (Stops (ahead scratch.old (S.left source.old)) (ahead scratch.new (S.left source.new))) }
+    ensures exact { IsExact (ahead scratch.old (S.left source.old)) (ahead scratch.new (S.left source.new)) result }
+
+    ensures later { S.faults source.old ≤ S.faults source.new }
+    ensures read_fault { result ≡ Err WireFault.ReadFault → Rose (S.faults source.old) (S.faults source.new) }
+{
+    read_message(alloc, source, scratch)
+}

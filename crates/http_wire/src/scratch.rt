@@ -1,0 +1,126 @@
+//! Bytes that were read past a request.
+ghost use Rattle.std.specs.Prelude.{◌≡◌, ◌<◌, ◌≤◌, ◌++◌, ◌∷◌, [], length, take, drop, OnOk, OnErr};
+ghost use Rattle.std.specs.Io.KnownBytes.{Consumes, IsAtEnd};
+ghost use Rattle.hk_base.specs.Faults.{Rose};
+ghost use Rattle.http_wire.specs.Reading.{ahead, byte_used};
+
+use hk_base::{ByteList, NoMemory, Source};
+use std::marker::Model;
+
+/// How many bytes are asked of the source at a time.
+const PIECE: usize = 4096;
+
+/// Bytes that came with earlier ones and are still to be used: what a client sent behind a request.
+/// Contracts see those bytes. It takes no memory.
+#[derive(Drop)]
+pub struct Scratch {
+    piece: [u8; 4096],
+    from: usize,
+    to: usize,
+}
+
+impl Model for Scratch {
+    ghost use Rattle.std.specs.Prelude.{◌≤◌, ℕ, List, take, drop};
+
+    ghost Value = { List ℕ };
+
+    ghost view = { λ s. drop s.from (take s.to s.piece) };
+
+    ghost invariant = { λ s. (s.from ≤ s.to) × (s.to ≤ 4096) };
+}
+
+/// What comes next.
+#[derive(Clone, Copy, Debug, PartialEq, Eq)]
+pub(crate) enum Next {
+    Byte(u8),
+    /// The source is at its end.
+    End,
+    /// The source failed.
+    Fault,
+}
+
+/// Whether a byte is to come.
+#[derive(Clone, Copy, Debug, PartialEq, Eq)]
+pub(crate) enum Filled {
+    /// At least one byte is in the scratch.
+    More,
+    /// The source is at its end.
+    End,
+    /// The source failed.
+    Fault,
+}
+
+impl Scratch {
+    /// No bytes.
+    pub fn new() -> Scratch
+        ensures { result ≡ [] }
+    {
+        Scratch {
+            piece: [0; PIECE],
+            from: 0,
+            to: 0,
+        }
+    }
+
+    /// Reads a piece where nothing is left of the last one.
+    pub(crate) fn fill<S: Source>(&mut self, source: &mut S) -> Filled
+        ensures kept { Consumes (ahead self.old (S.left source.old)) (ahead self.new (S.left source.new)) [] }
+        ensures more { result ≡ Filled.More → 0 < length self.new }
+        ensures end { result ≡ Filled.End → IsAtEnd (ahead self.new (S.left source.new)) }
+        ensures later { S.faults source.old ≤ S.faults source.new }
+        ensures fault { result ≡ Filled.Fault → Rose (S.faults source.old) (S.faults source.new) }
+    {
+        if self.from < self.to {
+            return Filled::More;
+        }
+        match source.read(&mut self.piece) {
+            Ok(count) => {
+                self.from = 0;
+                self.to = count;
+                if count == 0 {
+                    Filled::End
+                } else {
+                    Filled::More
+                }
+            }
+            Err(_) => Filled::Fault,
+        }
+    }
+
+    /// Uses the next byte.
+    pub(crate) fn next<S: Source>(&mut self, source: &mut S) -> Next
+        ensures consumed { Consumes (ahead self.old (S.left source.old)) (ahead self.new (S.left source.new)) (byte_used result) }
+        ensures end { result ≡ Next.End → IsAtEnd (ahead self.new (S.left source.new)) }
+        ensures later { S.faults source.old ≤ S.faults source.new }
+        ensures fault { result ≡ Next.Fault → Rose (S.faults source.old) (S.faults source.new) }
+    {
+        match self.fill(source) {
+            Filled::Fault => Next::Fault,
+            Filled::End => Next::End,
+            Filled::More => Next::Byte(self.first()),
+        }
+    }
+
+    /// Uses the first byte of the scratch.
+    fn first(&mut self) -> u8
+        requires { 0 < length self.old }
+        ensures { self.old ≡ result ∷ self.new }
+    {
+        let byte = self.piece[self.from];
+        self.from += 1;
+        byte
+    }
+
+    /// Moves up to `most` bytes to the end of `out`. Where memory is wanting both stay as they were.
+    pub(crate) fn give(&mut self, most: usize, out: &mut ByteList) -> Result<(), NoMemory>
+        ensures given { OnOk result (out.new ≡ out.old ++ take most self.old) }
+        ensures left { OnOk result (self.new ≡ drop most self.old) }
+        ensures out { OnErr result (out.new ≡ out.old) }
+        ensures scratch { OnErr result (self.new ≡ self.old) }
+    {
+        let count = most.min(self.to - self.from);
+        out.append(&self.piece[self.from..self.from + count])?;
+        self.from += count;
+        Ok(())
+    }
+}
