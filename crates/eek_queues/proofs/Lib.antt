@@ -1,0 +1,4 @@
+pub mod Before
+pub mod Put
+pub mod Places
+pub mod Births
