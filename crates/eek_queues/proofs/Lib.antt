@@ -2,3 +2,4 @@ pub mod Before
 pub mod Put
 pub mod Places
 pub mod Births
+pub mod RingLemmas
