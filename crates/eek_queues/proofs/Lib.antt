@@ -3,3 +3,4 @@ pub mod Put
 pub mod Places
 pub mod Births
 pub mod RingLemmas
+pub mod Lowest

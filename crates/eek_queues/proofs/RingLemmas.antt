@@ -1,19 +1,20 @@
 -- The rings and the queues that they hold.
-use Rattle.std.proofs.Common.{◌≡◌, ℕ, ◌<◌, ◌≤◌, zero, suc, Bool, true, false, not, cond, List, [], ◌∷◌, length, map, get_or, set, refl, sym, ap, subst, ◌∙◌, arith}
-use Rattle.std.specs.Prelude.{◌==◌, nat_lt}
+use Rattle.std.proofs.Common.{◌≡◌, ℕ, ◌<◌, ◌≤◌, zero, suc, Bool, true, false, not, cond, List, [], ◌∷◌, Option, Some, None, length, map, get_or, set, refl, sym, ap, subst, ◌∙◌, arith}
+use Rattle.std.specs.Prelude.{◌==◌, nat_lt, slice_get, IsNone}
 use Rattle.std.specs.List.{AllByRecursion, insert, remove}
 use Rattle.std.specs.List.Sorted.{IsNonDecreasingBy}
 use Rattle.std.proofs.lemmas.Bool.Decides.{nat_tests}
 use Rattle.std.proofs.lemmas.List.{get_or-map, length-map, length-set, map-set}
+use Rattle.circular_buffer.specs.Buffer.{Buffer, buffer}
 use Rattle.hk_base.specs.declared.names.Edek.{Edek}
 use Rattle.eek_queues.specs.declared.order.Place.{Place}
 use Rattle.eek_queues.specs.declared.rings.Ring.{Ring}
-use Rattle.eek_queues.specs.Queues.{Queue, ready_in, has_queue, set_ready, dropped, put, put_queue}
+use Rattle.eek_queues.specs.Queues.{AllQueues, Queue, ready_in, has_queue, set_ready, dropped, put, put_queue}
 use Rattle.eek_queues.specs.Order.{InOrder, Stands, with_place, place_of, places_of}
 use Rattle.eek_queues.specs.Kept.{IsKept, Rising, queue_of, queues_of}
 use Rattle.eek_queues.proofs.Put.{Parted, length-put, map-put, put-insert}
 use Rattle.eek_queues.proofs.Places.{all-at, in_order-places_of}
-use Rattle.eek_queues.proofs.Births.{above-absent, absent-dropped, has-at, is-same, other-is, places-dropped, places-put, places-set, ready-at, rising-dropped, rising-put, rising-set, same-is, set-at}
+use Rattle.eek_queues.proofs.Births.{above-absent, absent-dropped, absent-ready, has-at, is-same, other-is, places-dropped, places-put, places-set, ready-at, rising-dropped, rising-put, rising-set, same-is, set-at}
 
 -- ---- where a birth stands
 
@@ -109,6 +110,47 @@ insert-ring rings at new b p =
     ap queues_of (sym (put-insert (λ (r s : Ring). nat_lt r.birth s.birth) new rings at b p))
     ∙ map-put (λ (q r : Queue). nat_lt q.birth r.birth) queue_of new rings
 
+-- what find and an index tell
+pub found : (rings : List Ring) (birth at : ℕ) (ring : Ring) → Rising (queues_of rings) → at < length rings → ring ≡ get_or rings at ring → ((d : Ring) → (get_or rings at d).birth ≡ birth) → IsAt rings birth at ring
+found rings birth at ring r b e f = record { rising = r; within = b; here = e; its_birth = ap (λ (x : Ring). x.birth) e ∙ f ring }
+
+pub has-found : (rings : List Ring) (birth at : ℕ) → Rising (queues_of rings) → at < length rings → ((d : Ring) → (get_or rings at d).birth ≡ birth) → has_queue (queues_of rings) birth ≡ true
+has-found [] birth at h b f = absurd (omega arith)
+has-found (r ∷ rs) birth at h b f =
+    has-at (queues_of (r ∷ rs)) birth at (queue_of r) h (omega (arith, length-map (r ∷ rs) queue_of, b))
+    (ap (λ (q : Queue). q.birth) (get_or-map queue_of (r ∷ rs) at r (queue_of r) b) ∙ f r)
+
+-- a ring whose keys are replaced is a queue whose keys are replaced
+pub replace-ring : (rings : List Ring) (birth at : ℕ) (ring new : Ring) (g : List Edek → List Edek) (size : ℕ) → IsAt rings birth at ring → new.birth ≡ ring.birth → new.ready ≡ buffer (g ring.ready.items) size
+    → queues_of (set rings at new) ≡ set_ready (queues_of rings) birth (g (ready_in (queues_of rings) birth))
+replace-ring rings birth at ring new g size h b e =
+    set-ring rings birth at ring h new (b ∙ h.its_birth)
+    ∙ ap (set_ready (queues_of rings) birth) (ap (λ (x : Buffer Edek). x.items) e ∙ ap g (sym (ready-ring rings birth at ring h)))
+
+-- what contracts see
+abbrev pub seen : ℕ → ℕ → List Queue → AllQueues
+seen size watermark qs = record { size = size; watermark = watermark; queues = qs }
+
+-- a change of the rings is a change of the queues that contracts see
+pub changed : (f : List Queue → List Queue) (old : AllQueues) (size watermark : ℕ) (rings rings' : List Ring) → seen size watermark (queues_of rings) ≡ old → queues_of rings' ≡ f (queues_of rings)
+    → seen size watermark (queues_of rings') ≡ seen old.size old.watermark (f old.queues)
+changed f old size watermark rings rings' view e =
+    ap (seen size watermark) e ∙ ap (λ (o : AllQueues). seen o.size o.watermark (f o.queues)) view
+
+module _ (old : AllQueues) (size watermark : ℕ) (rings : List Ring) (view : seen size watermark (queues_of rings) ≡ old) where
+  pub has-seen : (birth : ℕ) → has_queue old.queues birth ≡ has_queue (queues_of rings) birth
+  has-seen birth = ap (λ (o : AllQueues). has_queue o.queues birth) (sym view)
+
+  pub ready-seen : (birth at : ℕ) (ring : Ring) → IsAt rings birth at ring → ready_in old.queues birth ≡ ring.ready.items
+  ready-seen birth at ring h = ap (λ (o : AllQueues). ready_in o.queues birth) (sym view) ∙ ready-ring rings birth at ring h
+
+  pub absent-seen : (birth : ℕ) → has_queue (queues_of rings) birth ≡ false → ready_in old.queues birth ≡ []
+  absent-seen birth h = ap (λ (o : AllQueues). ready_in o.queues birth) (sym view) ∙ absent-ready (queues_of rings) birth h
+
+pub none-front : (xs : List Edek) (r : Option Edek) → r ≡ slice_get xs 0 → (IsNone r → xs ≡ []) × (xs ≡ [] → IsNone r)
+none-front [] r e = (λ h. refl, λ h. subst (λ (o : Option Edek). IsNone o) (sym e) refl)
+none-front (x ∷ xs) r e = (λ h. let k : IsNone (Some x) = subst (λ (o : Option Edek). IsNone o) e h in cc, λ h. cc)
+
 -- ---- each ring has its room
 
 module _ (P : Ring → Type 0) where
@@ -162,19 +204,22 @@ fewer-dropped (q ∷ qs) birth h = go (q.birth == birth) h (fewer-dropped qs bir
 -- ---- what is kept
 
 module _ (size n : ℕ) (rings : List Ring) (places : List Place) (spare : ℕ) (k : IsKept size n rings places spare) where
+  pub room-at : (birth at : ℕ) (ring : Ring) → IsAt rings birth at ring → ring.ready.capacity ≡ size
+  room-at birth at ring h = ap (λ (r : Ring). r.ready.capacity) h.here ∙ all-at (λ r. r.ready.capacity ≡ size) rings at ring k.sized h.within
+
+  pub stands-is : (birth count : ℕ) → has_queue (queues_of rings) birth ≡ true → count ≡ length (ready_in (queues_of rings) birth) → places ≡ with_place n (record { count = count; birth = birth }) (places_of n (dropped (queues_of rings) birth))
+  stands-is birth count h e =
+    k.order ∙ places-dropped n (queues_of rings) birth k.rising h ∙ (λ i. with_place n (record { count = sym e i; birth = birth }) (places_of n (dropped (queues_of rings) birth)))
+
   -- the queue of a birth stands in the order where its ready keys are so many
   pub stands : (birth count : ℕ) → has_queue (queues_of rings) birth ≡ true → count ≡ length (ready_in (queues_of rings) birth) → Stands n (record { count = count; birth = birth }) places spare
   stands birth count h e =
     record {
       others = places_of n (dropped (queues_of rings) birth);
-      is = k.order ∙ places-dropped n (queues_of rings) birth k.rising h ∙ (λ i. with_place n (record { count = sym e i; birth = birth }) (places_of n (dropped (queues_of rings) birth)));
+      is = stands-is birth count h e;
       order = in_order-places_of n (dropped (queues_of rings) birth);
       room = omega (arith, length-places_of n (dropped (queues_of rings) birth), fewer-dropped (queues_of rings) birth h, length-map rings queue_of, k.room);
     }
-
-  -- the places but that of a birth
-  pub others : ℕ → List Place
-  others birth = places_of n (dropped (queues_of rings) birth)
 
   pub kept-set : (birth at : ℕ) (ring new : Ring) (count : ℕ) (n' : ℕ) (places' : List Place) (spare' : ℕ) → IsAt rings birth at ring → new.birth ≡ birth → new.ready.capacity ≡ size → count ≡ length new.ready.items
       → n' ≡ n → places' ≡ with_place n (record { count = count; birth = birth }) (places_of n (dropped (queues_of rings) birth)) → spare ≤ spare' → IsKept size n' (set rings at new) places' spare'

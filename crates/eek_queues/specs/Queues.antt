@@ -47,13 +47,13 @@ put before x (y ∷ ys) = if before y x then y ∷ put before x ys else x ∷ y 
 abbrev pub put_queue : Queue → List Queue → List Queue
 put_queue q qs = put (λ a b. nat_lt a.birth b.birth) q qs
 
--- the queue with fewer ready keys, and of two with equally many the one of the lesser birth
-abbrev pub lower : Queue → Queue → Queue
-lower q r = if length q.ready == length r.ready then (if nat_lt r.birth q.birth then r else q) else (if nat_lt (length r.ready) (length q.ready) then r else q)
+-- q has fewer ready keys than r, or as many and the lesser birth
+abbrev pub is_lower : Queue → Queue → Bool
+is_lower q r = if length q.ready == length r.ready then nat_lt q.birth r.birth else nat_lt (length q.ready) (length r.ready)
 
 abbrev pub lower_of : Queue → Option Queue → Queue
 lower_of q None = q
-lower_of q (Some r) = lower q r
+lower_of q (Some r) = if is_lower r q then r else q
 
 -- of the queues with fewer ready keys than n, the lowest
 abbrev pub lowest : ℕ → List Queue → Option Queue

@@ -64,6 +64,8 @@ impl Queues {
         ensures length { result ≡ length (ready_in self.now.queues birth) }
         ensures within { result ≤ self.now.size }
     {
+        // no ring has room for more
+        let _size = self.size;
         match find(&self.rings, birth) {
             Some(at) => self.rings[at].ready.len() as u16,
             None => 0,
@@ -93,12 +95,16 @@ impl Queues {
     {
         let at = find(&self.rings, birth)?;
         let ring = &mut self.rings[at];
-        let ready = ring.ready.pop_front()?;
-        let left = ring.ready.len() as u16;
-        let from = Place { count: left + 1, birth };
-        let to = Place { count: left, birth };
-        self.order.follow(from, to);
-        Some(ready)
+        let count = ring.ready.len() as u16;
+        match ring.ready.pop_front() {
+            Some(ready) => {
+                let from = Place { count, birth };
+                let to = Place { count: count - 1, birth };
+                self.order.follow(from, to);
+                Some(ready)
+            }
+            None => None,
+        }
     }
 
     /// Puts a ready key last in the queue of a birth, which has to have one. A full queue gives the key
@@ -112,11 +118,15 @@ impl Queues {
         let at = find(&self.rings, birth).unwrap();
         let ring = &mut self.rings[at];
         let count = ring.ready.len() as u16;
-        ring.ready.try_push_back(ready)?;
-        let from = Place { count, birth };
-        let to = Place { count: count + 1, birth };
-        self.order.follow(from, to);
-        Ok(())
+        match ring.ready.try_push_back(ready) {
+            Ok(()) => {
+                let from = Place { count, birth };
+                let to = Place { count: count + 1, birth };
+                self.order.follow(from, to);
+                Ok(())
+            }
+            Err(back) => Err(back),
+        }
     }
 
     /// Empties the queue of a birth, which it keeps. Where it has none nothing changes.
