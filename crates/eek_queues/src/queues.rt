@@ -136,9 +136,9 @@ impl Queues {
         if let Some(at) = find(&self.rings, birth) {
             let ring = &mut self.rings[at];
             let from = Place { count: ring.ready.len() as u16, birth };
-            let to = Place { count: 0, birth };
+            let emptied = Place { count: 0, birth };
             ring.ready.clear();
-            self.order.follow(from, to);
+            self.order.follow(from, emptied);
         }
     }
 
