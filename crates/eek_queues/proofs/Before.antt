@@ -1,10 +1,9 @@
 -- The order of places is a total one.
-use Rattle.std.proofs.Common.{◌≡◌, ℕ, Bool, true, false, cond, arith}
+use Rattle.std.proofs.Common.{◌≡◌, ℕ, true, false, cond, arith}
 use Rattle.std.specs.Prelude.{◌==◌, nat_lt}
 use Rattle.std.proofs.lemmas.Bool.Decides.{nat_tests}
 use Rattle.eek_queues.specs.declared.order.Place.{Place}
 use Rattle.eek_queues.specs.Order.{is_before}
-
 
 test-self : (a x : ℕ) → cond (a == a) (nat_lt x x) (nat_lt a a) ≡ false
 test-self a x = grind (arith, nat_tests)

@@ -2,11 +2,10 @@
 use Rattle.std.proofs.Common.{◌≡◌, ◌≢◌, ℕ, ◌<◌, ◌≤◌, zero, suc, Bool, true, false, not, cond, List, [], ◌∷◌, length, map, get_or, set, refl, sym, ap, subst, ◌∙◌, arith}
 use Rattle.std.specs.Prelude.{◌==◌, nat_lt}
 use Rattle.std.specs.List.{AllByRecursion}
-use Rattle.std.proofs.lemmas.Bool.{both_ways}
 use Rattle.std.proofs.lemmas.Bool.Decides.{nat_tests}
 use Rattle.hk_base.specs.declared.names.Edek.{Edek}
 use Rattle.eek_queues.specs.declared.order.Place.{Place}
-use Rattle.eek_queues.specs.Queues.{Queue, ready_in, has_queue, with_ready, set_ready, dropped, put, put_queue}
+use Rattle.eek_queues.specs.Queues.{Queue, ready_in, has_queue, with_ready, set_ready, dropped, put_queue}
 use Rattle.eek_queues.specs.Order.{with_place, place_of, places_of}
 use Rattle.eek_queues.specs.Kept.{Rising}
 use Rattle.eek_queues.proofs.Put.{all-put}
@@ -99,6 +98,7 @@ dropped-set (q ∷ qs) birth ready = go (q.birth == birth) refl (dropped-set qs 
   where
     rest : List Queue
     rest = set_ready qs birth ready
+
     go : (t : Bool) → (q.birth == birth) ≡ t → dropped rest birth ≡ dropped qs birth
         → dropped (cond t (record { birth = birth; ready = ready }) q ∷ rest) birth ≡ cond (not t) (q ∷ dropped qs birth) (dropped qs birth)
     go true e ih = ap (λ t. cond (not t) (record { birth = birth; ready = ready } ∷ dropped rest birth) (dropped rest birth)) (same-is birth birth refl) ∙ ih
@@ -110,6 +110,7 @@ has-set (q ∷ qs) birth ready b = go (q.birth == birth) refl (has-set qs birth 
   where
     rest : List Queue
     rest = set_ready qs birth ready
+
     go : (t : Bool) → (q.birth == birth) ≡ t → has_queue rest b ≡ has_queue qs b
         → has_queue (cond t (record { birth = birth; ready = ready }) q ∷ rest) b ≡ cond (q.birth == b) true (has_queue qs b)
     go true e ih = ap (λ (x : ℕ). cond (x == b) true (has_queue rest b)) (sym (is-same q.birth birth e)) ∙ ap (cond (q.birth == b) true) ih
@@ -121,6 +122,7 @@ ready-set (q ∷ qs) birth ready h = go (q.birth == birth) refl h (ready-set qs 
   where
     rest : List Queue
     rest = set_ready qs birth ready
+
     go : (t : Bool) → (q.birth == birth) ≡ t → cond t true (has_queue qs birth) ≡ true → (has_queue qs birth ≡ true → ready_in rest birth ≡ ready)
         → ready_in (cond t (record { birth = birth; ready = ready }) q ∷ rest) birth ≡ ready
     go true e k ih = ap (λ t. cond t ready (ready_in rest birth)) (same-is birth birth refl)
@@ -139,10 +141,11 @@ birth-with_ready birth ready q = go (q.birth == birth) refl
 
 pub rising-set : (qs : List Queue) (birth : ℕ) (ready : List Edek) → Rising qs → Rising (set_ready qs birth ready)
 rising-set [] birth ready r = tt
-rising-set (q ∷ qs) birth ready r =
-    (subst (λ (b : ℕ). AllByRecursion (λ x. b < x.birth) (set_ready qs birth ready)) (sym (birth-with_ready birth ready q))
-      (all-mapped (λ x. q.birth < x.birth) (with_ready birth ready) qs (λ x h. subst (λ (b : ℕ). q.birth < b) (sym (birth-with_ready birth ready x)) h) r.0)
-    , rising-set qs birth ready r.1)
+rising-set (q ∷ qs) birth ready r = (
+  subst (λ (b : ℕ). AllByRecursion (λ x. b < x.birth) (set_ready qs birth ready)) (sym (birth-with_ready birth ready q))
+      (all-mapped (λ x. q.birth < x.birth) (with_ready birth ready) qs (λ x h. subst (λ (b : ℕ). q.birth < b) (sym (birth-with_ready birth ready x)) h) r.0),
+  rising-set qs birth ready r.1,
+)
 
 all-dropped : (P : Queue → Type 0) (qs : List Queue) (birth : ℕ) → AllByRecursion P qs → AllByRecursion P (dropped qs birth)
 all-dropped P [] birth all = tt
@@ -174,8 +177,8 @@ rising-put q (x ∷ xs) n r = go (nat_lt x.birth q.birth) refl (absent-parts x x
         → Rising (cond t (x ∷ put_queue q xs) (q ∷ x ∷ xs))
     go true e p ih = (all-put (λ a b. nat_lt a.birth b.birth) (λ y. x.birth < y.birth) q xs (below-is x.birth q.birth e) r.0, ih p.1 r.1)
     go false e p ih =
-      let l : q.birth < x.birth = above-is x.birth q.birth e p.0 in
-      ((l, all-so (λ y. x.birth < y.birth) (λ y. q.birth < y.birth) xs (λ y h. omega arith) r.0), r)
+        let l : q.birth < x.birth = above-is x.birth q.birth e p.0 in
+        ((l, all-so (λ y. x.birth < y.birth) (λ y. q.birth < y.birth) xs (λ y h. omega arith) r.0), r)
 
 -- ---- the places of the low queues
 
@@ -185,16 +188,17 @@ places-dropped n (q ∷ qs) birth r h = go (q.birth == birth) refl h (places-dro
   where
     place : List Edek → Place
     place ready = record { count = length ready; birth = birth }
+
     go : (t : Bool) → (q.birth == birth) ≡ t → cond t true (has_queue qs birth) ≡ true
         → (has_queue qs birth ≡ true → places_of n qs ≡ with_place n (record { count = length (ready_in qs birth); birth = birth }) (places_of n (dropped qs birth)))
         → with_place n (place_of q) (places_of n qs) ≡ with_place n (record { count = length (cond t q.ready (ready_in qs birth)); birth = birth }) (places_of n (cond (not t) (q ∷ dropped qs birth) (dropped qs birth)))
     go true e k ih =
-      let b : q.birth ≡ birth = is-same q.birth birth e in
-      let rest : dropped qs birth ≡ qs = absent-dropped qs birth (above-absent qs q.birth birth r.0 (omega arith)) in
-      λ i. with_place n (record { count = length q.ready; birth = b i }) (places_of n (sym rest i))
+        let b : q.birth ≡ birth = is-same q.birth birth e in
+        let rest : dropped qs birth ≡ qs = absent-dropped qs birth (above-absent qs q.birth birth r.0 (omega arith)) in
+        λ i. with_place n (record { count = length q.ready; birth = b i }) (places_of n (sym rest i))
     go false e k ih =
-      ap (with_place n (place_of q)) (ih k)
-      ∙ with_place-two n (place_of q) (record { count = length (ready_in qs birth); birth = birth }) (places_of n (dropped qs birth))
+        ap (with_place n (place_of q)) (ih k)
+        ∙ with_place-two n (place_of q) (record { count = length (ready_in qs birth); birth = birth }) (places_of n (dropped qs birth))
 
 pub places-set : (n : ℕ) (qs : List Queue) (birth : ℕ) (ready : List Edek) → Rising qs → has_queue qs birth ≡ true → places_of n (set_ready qs birth ready) ≡ with_place n (record { count = length ready; birth = birth }) (places_of n (dropped qs birth))
 places-set n qs birth ready r h =

@@ -4,8 +4,8 @@ use Rattle.std.specs.Prelude.{◌==◌, nat_lt, slice_get, All, IsNone}
 use Rattle.std.specs.Option.{option_map}
 use Rattle.std.proofs.lemmas.Bool.Decides.{nat_tests}
 use Rattle.eek_queues.specs.declared.order.Place.{Place}
-use Rattle.eek_queues.specs.Queues.{IsLowest, Queue, has_queue, is_lower, lower_of, lowest, put, ready_in}
-use Rattle.eek_queues.specs.Order.{is_before, place_of, places_of, with_place}
+use Rattle.eek_queues.specs.Queues.{IsLowest, Queue, is_lower, lower_of, lowest, put, ready_in}
+use Rattle.eek_queues.specs.Order.{is_before, place_of, places_of}
 use Rattle.eek_queues.specs.Kept.{Rising}
 use Rattle.eek_queues.proofs.Before.{before-along, before-back, before-self}
 use Rattle.eek_queues.proofs.Births.{has-at, ready-at}
@@ -99,29 +99,33 @@ is-low n (x ∷ xs) q h = go (nat_lt (length x.ready) n) refl (lowest n xs) refl
   where
     same : {a b : Queue} → Some a ≡ Some b → a ≡ b
     same e = cc
+
     later : (y : Queue) → IsLow n xs y → is_lower x y ≡ false → IsLow n (x ∷ xs) y
     later y i e = record { index = suc i.index; within = omega (arith, i.within); here = i.here; low = i.low; none_lower = all }
       where
         all : (k : ℕ) (d : Queue) → k < length (x ∷ xs) → is_lower (get_or (x ∷ xs) k d) y ≡ false
         all zero d b = e
         all (suc k) d b = i.none_lower k d (omega arith)
+
     first : length x.ready < n → ((k : ℕ) (d : Queue) → k < length xs → is_lower (get_or xs k d) x ≡ false) → IsLow n (x ∷ xs) x
     first l f = record { index = 0; within = omega arith; here = refl; low = l; none_lower = all }
       where
         all : (k : ℕ) (d : Queue) → k < length (x ∷ xs) → is_lower (get_or (x ∷ xs) k d) x ≡ false
         all zero d b = before-self (place_of x)
         all (suc k) d b = f k d (omega arith)
+
     two : (y : Queue) (t : Bool) → is_lower y x ≡ t → length x.ready < n → IsLow n xs y → IsLow n (x ∷ xs) (cond t y x)
     two y true e l i = later y i (before-back (place_of y) (place_of x) e)
     two y false e l i = first l (λ k d b. before-along (place_of x) (place_of y) (place_of (get_or xs k d)) e (i.none_lower k d b))
+
     go : (t : Bool) → nat_lt (length x.ready) n ≡ t → (o : Option Queue) → lowest n xs ≡ o → cond t (Some (lower_of x o)) o ≡ Some q → ((y : Queue) → lowest n xs ≡ Some y → IsLow n xs y) → IsLow n (x ∷ xs) q
     go true e None f h ih =
-      subst (IsLow n (x ∷ xs)) (same h) (first (low-is (length x.ready) n e) (λ k d b. not-lower x (get_or xs k d) n (low-is (length x.ready) n e) (lowest-none n xs f k d b)))
+        subst (IsLow n (x ∷ xs)) (same h) (first (low-is (length x.ready) n e) (λ k d b. not-lower x (get_or xs k d) n (low-is (length x.ready) n e) (lowest-none n xs f k d b)))
     go true e (Some y) f h ih = subst (IsLow n (x ∷ xs)) (same h) (two y (is_lower y x) refl (low-is (length x.ready) n e) (ih y f))
     go false e None f h ih = cc
     go false e (Some y) f h ih =
-      let i : IsLow n xs y = ih y f in
-      subst (IsLow n (x ∷ xs)) (same h) (later y i (not-lower y x n i.low (not-low (length x.ready) n e)))
+        let i : IsLow n xs y = ih y f in
+        subst (IsLow n (x ∷ xs)) (same h) (later y i (not-lower y x n i.low (not-low (length x.ready) n e)))
 
 no-fewer : (a x b y : ℕ) → cond (y == x) (nat_lt b a) (nat_lt y x) ≡ false → x ≤ y
 no-fewer a x b y h = grind (arith, nat_tests)
@@ -134,7 +138,7 @@ lowest-is n qs q r h =
     let i : IsLow n qs q = is-low n qs q h in
     let there : (get_or qs i.index q).birth ≡ q.birth = ap (λ (x : Queue). x.birth) i.here in
     let ready : length (ready_in qs q.birth) ≡ length q.ready =
-      ap length (ready-at qs q.birth i.index q r i.within there ∙ ap (λ (x : Queue). x.ready) i.here) in
+    ap length (ready-at qs q.birth i.index q r i.within there ∙ ap (λ (x : Queue). x.ready) i.here) in
     record {
       stands = has-at qs q.birth i.index q r i.within there;
       low = omega (arith, i.low, ready);

@@ -78,5 +78,5 @@ pub remove-with_place : (n : ℕ) (place : Place) (rest ps : List Place) (at : �
 remove-with_place n place rest ps at b e l h =
     let is : ps ≡ put is_before place rest = e ∙ low-place n place rest b in
     let r : (remove (put is_before place rest) at ≡ rest) × (at < length (put is_before place rest)) =
-      remove-put is_before place rest at (before-self place) (subst (λ xs. at ≤ length xs) is l) (subst (λ xs. Parted is_before place xs at) is h) in
+    remove-put is_before place rest at (before-self place) (subst (λ xs. at ≤ length xs) is l) (subst (λ xs. Parted is_before place xs at) is h) in
     subst (λ xs. (remove xs at ≡ rest) × (at < length xs)) (sym is) r

@@ -1,5 +1,5 @@
 -- An element put in at its place.
-use Rattle.std.proofs.Common.{◌≡◌, ℕ, ◌+◌, ◌<◌, ◌≤◌, zero, suc, Bool, true, false, cond, List, [], ◌∷◌, ◌++◌, take, drop, length, map, get_or, refl, sym, ap, subst, ◌∙◌, arith}
+use Rattle.std.proofs.Common.{◌≡◌, ℕ, ◌<◌, ◌≤◌, zero, suc, Bool, true, false, cond, List, [], ◌∷◌, length, map, refl, sym, ap, subst, ◌∙◌, arith}
 use Rattle.std.specs.List.{insert, remove, AllByRecursion}
 use Rattle.std.specs.List.Sorted.{IsPartitionPoint}
 use Rattle.std.proofs.lemmas.Bool.{both_ways}
@@ -17,10 +17,10 @@ module _ {X : Type 0} (before : X → X → Bool) where
   put-insert x [] zero b h = refl
   put-insert x [] (suc i) b h = absurd (omega arith)
   put-insert x (y ∷ ys) zero b h =
-    ap (λ (t : Bool). cond t (y ∷ put before x ys) (x ∷ y ∷ ys)) (h.1 0 y (omega arith) (omega arith))
+      ap (λ (t : Bool). cond t (y ∷ put before x ys) (x ∷ y ∷ ys)) (h.1 0 y (omega arith) (omega arith))
   put-insert x (y ∷ ys) (suc i) b h =
-    ap (λ (t : Bool). cond t (y ∷ put before x ys) (x ∷ y ∷ ys)) (h.0 0 y (omega arith) (omega arith))
-    ∙ ap (λ (zs : List X). y ∷ zs) (put-insert x ys i (omega arith) (parted-rest x y ys i h))
+      ap (λ (t : Bool). cond t (y ∷ put before x ys) (x ∷ y ∷ ys)) (h.0 0 y (omega arith) (omega arith))
+      ∙ ap (λ (zs : List X). y ∷ zs) (put-insert x ys i (omega arith) (parted-rest x y ys i h))
 
   pub length-put : (x : X) (ys : List X) → length (put before x ys) ≡ suc (length ys)
   length-put x [] = refl
@@ -41,8 +41,8 @@ module _ {X : Type 0} (before : X → X → Bool) where
           → (remove (cond t (y ∷ put before x ys) (x ∷ y ∷ ys)) i ≡ y ∷ ys) × (i < length (cond t (y ∷ put before x ys) (x ∷ y ∷ ys)))
       go ih true e zero b h = absurd (both_ways (before y x) (h.1 0 y (omega arith) (omega arith)) e)
       go ih true e (suc i) b h =
-        let r : (remove (put before x ys) i ≡ ys) × (i < length (put before x ys)) = ih i (omega arith) (parted-rest x y (put before x ys) i h) in
-        (ap (λ (zs : List X). y ∷ zs) r.0, omega (arith, r.1))
+          let r : (remove (put before x ys) i ≡ ys) × (i < length (put before x ys)) = ih i (omega arith) (parted-rest x y (put before x ys) i h) in
+          (ap (λ (zs : List X). y ∷ zs) r.0, omega (arith, r.1))
       go ih false e zero b h = (refl, omega arith)
       go ih false e (suc i) b h = absurd (both_ways (before x x) n (h.0 0 x (omega arith) (omega arith)))
 
@@ -71,6 +71,7 @@ module _ {X : Type 0} (before : X → X → Bool) (back : (a b : X) → before a
     where
       k : before b a ≡ false
       k = back a b h
+
       go : (t : Bool) → before y a ≡ t → (u : Bool) → before y b ≡ u → put before b (put before a ys) ≡ put before a (put before b ys) → put before b (put before a (y ∷ ys)) ≡ put before a (put before b (y ∷ ys))
       go true e true f ih = simp (e, f, ih)
       go false e true f ih = simp (e, f, h)
@@ -85,5 +86,5 @@ module _ {X : Type 0} (before : X → X → Bool) (back : (a b : X) → before a
       go true e u f = sym (put-later a b ys e)
       go false e true f = put-later b a ys f
       go false e false f =
-        let same : a ≡ b = either a b e f in
-        subst (λ c. put before a (put before c ys) ≡ put before c (put before a ys)) same refl
+          let same : a ≡ b = either a b e f in
+          subst (λ c. put before a (put before c ys) ≡ put before c (put before a ys)) same refl

@@ -1,5 +1,5 @@
 -- The rings and the queues that they hold.
-use Rattle.std.proofs.Common.{◌≡◌, ℕ, ◌<◌, ◌≤◌, zero, suc, Bool, true, false, not, cond, List, [], ◌∷◌, Option, Some, None, length, map, get_or, set, refl, sym, ap, subst, ◌∙◌, arith}
+use Rattle.std.proofs.Common.{◌≡◌, ℕ, ◌<◌, ◌≤◌, zero, suc, Bool, true, false, not, cond, List, [], ◌∷◌, Option, Some, length, get_or, set, refl, sym, ap, subst, ◌∙◌, arith}
 use Rattle.std.specs.Prelude.{◌==◌, nat_lt, slice_get, IsNone}
 use Rattle.std.specs.List.{AllByRecursion, insert, remove}
 use Rattle.std.specs.List.Sorted.{IsNonDecreasingBy}
@@ -12,9 +12,9 @@ use Rattle.eek_queues.specs.declared.rings.Ring.{Ring}
 use Rattle.eek_queues.specs.Queues.{AllQueues, Queue, ready_in, has_queue, set_ready, dropped, put, put_queue}
 use Rattle.eek_queues.specs.Order.{InOrder, Stands, with_place, place_of, places_of}
 use Rattle.eek_queues.specs.Kept.{IsKept, Rising, queue_of, queues_of}
-use Rattle.eek_queues.proofs.Put.{Parted, length-put, map-put, put-insert}
+use Rattle.eek_queues.proofs.Put.{length-put, map-put, put-insert}
 use Rattle.eek_queues.proofs.Places.{all-at, in_order-places_of}
-use Rattle.eek_queues.proofs.Births.{above-absent, absent-dropped, absent-ready, has-at, is-same, other-is, places-dropped, places-put, places-set, ready-at, rising-dropped, rising-put, rising-set, same-is, set-at}
+use Rattle.eek_queues.proofs.Births.{above-absent, absent-dropped, absent-ready, has-at, other-is, places-dropped, places-put, places-set, ready-at, rising-dropped, rising-put, rising-set, same-is, set-at}
 
 -- ---- where a birth stands
 
@@ -86,9 +86,9 @@ module _ (rings : List Ring) (birth at : ℕ) (ring : Ring) (h : IsAt rings birt
 
   pub set-ring : (new : Ring) → new.birth ≡ birth → queues_of (set rings at new) ≡ set_ready (queues_of rings) birth new.ready.items
   set-ring new e =
-    map-set queue_of rings at new
-    ∙ (λ i. set (queues_of rings) at (record { birth = e i; ready = new.ready.items }))
-    ∙ set-at (queues_of rings) birth at (queue_of ring) new.ready.items h.rising inside birth-there
+      map-set queue_of rings at new
+      ∙ (λ i. set (queues_of rings) at (record { birth = e i; ready = new.ready.items }))
+      ∙ set-at (queues_of rings) birth at (queue_of ring) new.ready.items h.rising inside birth-there
 
 remove-rings : (rings : List Ring) (birth at : ℕ) (d : Ring) → Rising (queues_of rings) → at < length rings → (get_or rings at d).birth ≡ birth → queues_of (remove rings at) ≡ dropped (queues_of rings) birth
 remove-rings [] birth at d h b e = absurd (omega arith)
@@ -209,49 +209,49 @@ module _ (size n : ℕ) (rings : List Ring) (places : List Place) (spare : ℕ) 
 
   pub stands-is : (birth count : ℕ) → has_queue (queues_of rings) birth ≡ true → count ≡ length (ready_in (queues_of rings) birth) → places ≡ with_place n (record { count = count; birth = birth }) (places_of n (dropped (queues_of rings) birth))
   stands-is birth count h e =
-    k.order ∙ places-dropped n (queues_of rings) birth k.rising h ∙ (λ i. with_place n (record { count = sym e i; birth = birth }) (places_of n (dropped (queues_of rings) birth)))
+      k.order ∙ places-dropped n (queues_of rings) birth k.rising h ∙ (λ i. with_place n (record { count = sym e i; birth = birth }) (places_of n (dropped (queues_of rings) birth)))
 
   -- the queue of a birth stands in the order where its ready keys are so many
   pub stands : (birth count : ℕ) → has_queue (queues_of rings) birth ≡ true → count ≡ length (ready_in (queues_of rings) birth) → Stands n (record { count = count; birth = birth }) places spare
   stands birth count h e =
-    record {
-      others = places_of n (dropped (queues_of rings) birth);
-      is = stands-is birth count h e;
-      order = in_order-places_of n (dropped (queues_of rings) birth);
-      room = omega (arith, length-places_of n (dropped (queues_of rings) birth), fewer-dropped (queues_of rings) birth h, length-map rings queue_of, k.room);
-    }
+      record {
+        others = places_of n (dropped (queues_of rings) birth);
+        is = stands-is birth count h e;
+        order = in_order-places_of n (dropped (queues_of rings) birth);
+        room = omega (arith, length-places_of n (dropped (queues_of rings) birth), fewer-dropped (queues_of rings) birth h, length-map rings queue_of, k.room);
+      }
 
   pub kept-set : (birth at : ℕ) (ring new : Ring) (count : ℕ) (n' : ℕ) (places' : List Place) (spare' : ℕ) → IsAt rings birth at ring → new.birth ≡ birth → new.ready.capacity ≡ size → count ≡ length new.ready.items
       → n' ≡ n → places' ≡ with_place n (record { count = count; birth = birth }) (places_of n (dropped (queues_of rings) birth)) → spare ≤ spare' → IsKept size n' (set rings at new) places' spare'
   kept-set birth at ring new count n' places' spare' h b c e m p s =
-    let is : queues_of (set rings at new) ≡ set_ready (queues_of rings) birth new.ready.items = set-ring rings birth at ring h new b in
-    let order : places' ≡ places_of n (queues_of (set rings at new)) =
+      let is : queues_of (set rings at new) ≡ set_ready (queues_of rings) birth new.ready.items = set-ring rings birth at ring h new b in
+      let order : places' ≡ places_of n (queues_of (set rings at new)) =
       p ∙ (λ i. with_place n (record { count = e i; birth = birth }) (places_of n (dropped (queues_of rings) birth)))
       ∙ sym (places-set n (queues_of rings) birth new.ready.items k.rising (has-ring rings birth at ring h)) ∙ ap (places_of n) (sym is) in
-    record {
-      rising = subst Rising (sym is) (rising-set (queues_of rings) birth new.ready.items k.rising);
-      sized = all-set (λ r. r.ready.capacity ≡ size) rings at new c k.sized;
-      order = order ∙ ap (λ (x : ℕ). places_of x (queues_of (set rings at new))) (sym m);
-      room = omega (arith, length-set rings at new, k.room, s);
-    }
+      record {
+        rising = subst Rising (sym is) (rising-set (queues_of rings) birth new.ready.items k.rising);
+        sized = all-set (λ r. r.ready.capacity ≡ size) rings at new c k.sized;
+        order = order ∙ ap (λ (x : ℕ). places_of x (queues_of (set rings at new))) (sym m);
+        room = omega (arith, length-set rings at new, k.room, s);
+      }
 
   pub kept-remove : (birth at : ℕ) (ring : Ring) (n' : ℕ) (places' : List Place) (spare' : ℕ) → IsAt rings birth at ring → n' ≡ n → places' ≡ places_of n (dropped (queues_of rings) birth) → spare ≤ spare' → IsKept size n' (remove rings at) places' spare'
   kept-remove birth at ring n' places' spare' h m p s =
-    let is : queues_of (remove rings at) ≡ dropped (queues_of rings) birth = remove-ring rings birth at ring h in
-    record {
-      rising = subst Rising (sym is) (rising-dropped (queues_of rings) birth k.rising);
-      sized = all-remove (λ r. r.ready.capacity ≡ size) rings at k.sized;
-      order = p ∙ ap (places_of n) (sym is) ∙ ap (λ (x : ℕ). places_of x (queues_of (remove rings at))) (sym m);
-      room = omega (arith, length-map (remove rings at) queue_of, length-map rings queue_of, ap length is, length-dropped (queues_of rings) birth, k.room, s);
-    }
+      let is : queues_of (remove rings at) ≡ dropped (queues_of rings) birth = remove-ring rings birth at ring h in
+      record {
+        rising = subst Rising (sym is) (rising-dropped (queues_of rings) birth k.rising);
+        sized = all-remove (λ r. r.ready.capacity ≡ size) rings at k.sized;
+        order = p ∙ ap (places_of n) (sym is) ∙ ap (λ (x : ℕ). places_of x (queues_of (remove rings at))) (sym m);
+        room = omega (arith, length-map (remove rings at) queue_of, length-map rings queue_of, ap length is, length-dropped (queues_of rings) birth, k.room, s);
+      }
 
   pub kept-insert : (at : ℕ) (new : Ring) (n' : ℕ) (places' : List Place) (spare' : ℕ) → has_queue (queues_of rings) new.birth ≡ false → at ≤ length rings → PartedAt rings new.birth at → new.ready.capacity ≡ size
       → n' ≡ n → places' ≡ with_place n (place_of (queue_of new)) places → suc (length rings) ≤ spare' → IsKept size n' (insert rings at new) places' spare'
   kept-insert at new n' places' spare' h b part c m p s =
-    let is : queues_of (insert rings at new) ≡ put_queue (queue_of new) (queues_of rings) = insert-ring rings at new b part in
-    record {
-      rising = subst Rising (sym is) (rising-put (queue_of new) (queues_of rings) h k.rising);
-      sized = all-insert (λ r. r.ready.capacity ≡ size) rings at new c k.sized;
-      order = p ∙ ap (with_place n (place_of (queue_of new))) k.order ∙ sym (places-put n (queue_of new) (queues_of rings)) ∙ ap (places_of n) (sym is) ∙ ap (λ (x : ℕ). places_of x (queues_of (insert rings at new))) (sym m);
-      room = omega (arith, length-map (insert rings at new) queue_of, length-map rings queue_of, ap length is, length-put (λ (q r : Queue). nat_lt q.birth r.birth) (queue_of new) (queues_of rings), s);
-    }
+      let is : queues_of (insert rings at new) ≡ put_queue (queue_of new) (queues_of rings) = insert-ring rings at new b part in
+      record {
+        rising = subst Rising (sym is) (rising-put (queue_of new) (queues_of rings) h k.rising);
+        sized = all-insert (λ r. r.ready.capacity ≡ size) rings at new c k.sized;
+        order = p ∙ ap (with_place n (place_of (queue_of new))) k.order ∙ sym (places-put n (queue_of new) (queues_of rings)) ∙ ap (places_of n) (sym is) ∙ ap (λ (x : ℕ). places_of x (queues_of (insert rings at new))) (sym m);
+        room = omega (arith, length-map (insert rings at new) queue_of, length-map rings queue_of, ap length is, length-put (λ (q r : Queue). nat_lt q.birth r.birth) (queue_of new) (queues_of rings), s);
+      }

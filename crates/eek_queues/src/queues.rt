@@ -99,7 +99,10 @@ impl Queues {
         match ring.ready.pop_front() {
             Some(ready) => {
                 let from = Place { count, birth };
-                let to = Place { count: count - 1, birth };
+                let to = Place {
+                    count: count - 1,
+                    birth,
+                };
                 self.order.follow(from, to);
                 Some(ready)
             }
@@ -121,7 +124,10 @@ impl Queues {
         match ring.ready.try_push_back(ready) {
             Ok(()) => {
                 let from = Place { count, birth };
-                let to = Place { count: count + 1, birth };
+                let to = Place {
+                    count: count + 1,
+                    birth,
+                };
                 self.order.follow(from, to);
                 Ok(())
             }
@@ -135,7 +141,10 @@ impl Queues {
     {
         if let Some(at) = find(&self.rings, birth) {
             let ring = &mut self.rings[at];
-            let from = Place { count: ring.ready.len() as u16, birth };
+            let from = Place {
+                count: ring.ready.len() as u16,
+                birth,
+            };
             let emptied = Place { count: 0, birth };
             ring.ready.clear();
             self.order.follow(from, emptied);
@@ -148,7 +157,10 @@ impl Queues {
     {
         if let Some(at) = find(&self.rings, birth) {
             let ring = self.rings.remove(at);
-            let place = Place { count: ring.ready.len() as u16, birth };
+            let place = Place {
+                count: ring.ready.len() as u16,
+                birth,
+            };
             self.order.leave(place);
         }
     }

@@ -1,4 +1,4 @@
-use Rattle.std.proofs.Common.{◌≡◌, ◌<◌, ◌∙◌, ℕ, Bool, true, false, List, Option, Some, None, get_or, length, ap, sym}
+use Rattle.std.proofs.Common.{◌≡◌, ◌<◌, ◌∙◌, ℕ, false, List, Option, Some, None, get_or, length, sym}
 use Rattle.std.specs.Option.{IfNone, IfSome, is_some}
 use Rattle.eek_queues.specs.declared.rings.Ring.{Ring}
 use Rattle.eek_queues.specs.Queues.{has_queue}
