@@ -4,3 +4,4 @@ pub mod Places
 pub mod Births
 pub mod RingLemmas
 pub mod Lowest
+pub mod Changes

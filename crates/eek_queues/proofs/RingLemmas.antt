@@ -2,7 +2,7 @@
 use Rattle.std.proofs.Common.{◌≡◌, ℕ, ◌<◌, ◌≤◌, zero, suc, Bool, true, false, not, cond, List, [], ◌∷◌, Option, Some, length, get_or, set, refl, sym, ap, subst, ◌∙◌, arith}
 use Rattle.std.specs.Prelude.{◌==◌, nat_lt, slice_get, IsNone}
 use Rattle.std.specs.List.{AllByRecursion, insert, remove}
-use Rattle.std.specs.List.Sorted.{IsNonDecreasingBy}
+use Rattle.std.specs.List.Sorted.{IsNonDecreasingBy, IsPartitionPoint}
 use Rattle.std.proofs.lemmas.Bool.Decides.{nat_tests}
 use Rattle.std.proofs.lemmas.List.{get_or-map, length-map, length-set, map-set}
 use Rattle.circular_buffer.specs.Buffer.{Buffer, buffer}
@@ -10,7 +10,7 @@ use Rattle.hk_base.specs.declared.names.Edek.{Edek}
 use Rattle.eek_queues.specs.declared.order.Place.{Place}
 use Rattle.eek_queues.specs.declared.rings.Ring.{Ring}
 use Rattle.eek_queues.specs.Queues.{AllQueues, Queue, ready_in, has_queue, set_ready, dropped, put, put_queue}
-use Rattle.eek_queues.specs.Order.{InOrder, Stands, with_place, place_of, places_of}
+use Rattle.eek_queues.specs.Order.{Stands, is_before, with_place, place_of, places_of}
 use Rattle.eek_queues.specs.Kept.{IsKept, Rising, queue_of, queues_of}
 use Rattle.eek_queues.proofs.Put.{length-put, map-put, put-insert}
 use Rattle.eek_queues.proofs.Places.{all-at, in_order-places_of}
@@ -32,7 +32,7 @@ births-rise (r ∷ rs) h (suc i) (suc j) d l b = births-rise rs h.1 i j d (omega
 
 -- the rings before the index have lesser births, and those from it on have not
 abbrev pub PartedAt : List Ring → ℕ → ℕ → Type 0
-PartedAt rings birth at = Rattle.std.specs.List.Sorted.IsPartitionPoint (λ (r : Ring). nat_lt r.birth birth ≡ true) (λ (r : Ring). nat_lt r.birth birth ≡ false) rings at
+PartedAt rings birth at = IsPartitionPoint (λ (r : Ring). nat_lt r.birth birth ≡ true) (λ (r : Ring). nat_lt r.birth birth ≡ false) rings at
 
 parted-next : (r : Ring) (rs : List Ring) (birth at : ℕ) → PartedAt (r ∷ rs) birth (suc at) → PartedAt rs birth at
 parted-next r rs birth at h = (λ k d low high. h.0 (suc k) d (omega arith) (omega arith), λ k d low high. h.1 (suc k) d (omega arith) (omega arith))
@@ -176,8 +176,8 @@ module _ (P : Ring → Type 0) where
 length-with : (n : ℕ) (place : Place) (ps : List Place) → length (with_place n place ps) ≤ suc (length ps)
 length-with n place ps = go (nat_lt place.count n)
   where
-    go : (t : Bool) → length (cond t (put Rattle.eek_queues.specs.Order.is_before place ps) ps) ≤ suc (length ps)
-    go true = omega (arith, length-put Rattle.eek_queues.specs.Order.is_before place ps)
+    go : (t : Bool) → length (cond t (put is_before place ps) ps) ≤ suc (length ps)
+    go true = omega (arith, length-put is_before place ps)
     go false = omega arith
 
 pub length-places_of : (n : ℕ) (qs : List Queue) → length (places_of n qs) ≤ length qs
