@@ -1,0 +1,25 @@
+-- What the fields of the queues keep.
+use Rattle.std.specs.Prelude.{◌≡◌, ◌<◌, ◌≤◌, ℕ, List, [], ◌∷◌, length, map}
+use Rattle.std.specs.List.{AllByRecursion}
+use Rattle.eek_queues.specs.declared.order.Place.{Place}
+use Rattle.eek_queues.specs.declared.rings.Ring.{Ring}
+use Rattle.eek_queues.specs.Queues.{Queue}
+use Rattle.eek_queues.specs.Order.{places_of}
+
+abbrev pub queue_of : Ring → Queue
+queue_of r = record { birth = r.birth; ready = r.ready.items }
+
+abbrev pub queues_of : List Ring → List Queue
+queues_of rings = map queue_of rings
+
+-- each birth is below the later ones
+abbrev pub Rising : List Queue → Type 0
+Rising [] = Unit {0}
+Rising (q ∷ qs) = AllByRecursion (λ r. q.birth < r.birth) qs × Rising qs
+
+-- the queues stand by birth, each ring has room for n keys, the places are those of the low queues, and there is room for one of each queue
+pub record IsKept (size n : ℕ) (rings : List Ring) (places : List Place) (spare : ℕ) : Type 0 where
+  pub rising : Rising (queues_of rings)
+  pub sized : AllByRecursion (λ r. r.ready.capacity ≡ size) rings
+  pub order : places ≡ places_of n (queues_of rings)
+  pub room : length rings ≤ spare

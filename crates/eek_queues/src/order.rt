@@ -1,0 +1,113 @@
+//! The low queues, in the order in which they are to be filled.
+ghost use Rattle.std.specs.Prelude.{◌≡◌, ◌<◌, ◌≤◌, [], List, length, slice_get, true, false, vec_capacity, OnOk};
+ghost use Rattle.std.specs.List.Sorted.{IsPartitionPoint};
+ghost use Rattle.eek_queues.specs.Order.{InOrder, Stands, is_before, with_place};
+
+use hk_base::NoMemory;
+use std::alloc::Global;
+
+/// Where a queue stands in the order: how many ready keys it has, and the birth of its key.
+#[derive(Clone, Copy)]
+pub struct Place {
+    pub count: u16,
+    pub birth: u64,
+}
+
+impl Place {
+    pub fn is_before(&self, other: &Place) -> bool
+        ensures { result ≡ is_before self.now other.now }
+    {
+        if self.count == other.count {
+            self.birth < other.birth
+        } else {
+            self.count < other.count
+        }
+    }
+}
+
+/// The places of the low queues. A queue is low where it has fewer ready keys than `limit`.
+#[derive(Drop)]
+pub struct Order {
+    pub limit: u16,
+    pub places: Vec<Place>,
+}
+
+impl Order {
+    /// No places. It takes no memory.
+    pub fn new(alloc: Global, limit: u16) -> Order
+        ensures limit { result.limit ≡ limit }
+        ensures places { result.places.items ≡ [] }
+    {
+        Order {
+            limit,
+            places: Vec::new(alloc),
+        }
+    }
+
+    /// Makes room for so many places in all.
+    pub fn reserve(&mut self, queues: usize) -> Result<(), NoMemory>
+        requires { length self.old.places.items ≤ queues }
+        ensures room { OnOk result (queues ≤ vec_capacity self.new.places) }
+        ensures more { vec_capacity self.old.places ≤ vec_capacity self.new.places }
+        ensures places { self.new.places.items ≡ self.old.places.items }
+        ensures limit { self.new.limit ≡ self.old.limit }
+    {
+        let held = self.places.len();
+        self.places.reserve(queues - held)?;
+        Ok(())
+    }
+
+    /// The first place, `None` where no queue is low.
+    pub fn first(&self) -> Option<Place>
+        ensures { result ≡ slice_get self.now.places.items 0 }
+    {
+        self.places.first().copied()
+    }
+
+    /// A queue comes to this place. It gets into the order if it is low there. It takes no memory.
+    pub fn enter(&mut self, place: Place)
+        requires order { InOrder self.old.places.items }
+        requires room { length self.old.places.items < vec_capacity self.old.places }
+        ensures places { self.new.places.items ≡ with_place self.old.limit place self.old.places.items }
+        ensures limit { self.new.limit ≡ self.old.limit }
+        ensures room { vec_capacity self.old.places ≤ vec_capacity self.new.places }
+    {
+        if place.count < self.limit {
+            let at = place_in(&self.places, place);
+            let _ = self.places.insert(at, place);
+        }
+    }
+
+    /// A queue leaves this place, where it stands. It takes no memory.
+    pub fn leave(&mut self, place: Place)
+        requires { Stands self.old.limit place self.old.places.items (vec_capacity self.old.places) }
+        ensures places { (others : List Place) → self.old.places.items ≡ with_place self.old.limit place others → self.new.places.items ≡ others }
+        ensures limit { self.new.limit ≡ self.old.limit }
+        ensures room { vec_capacity self.old.places ≤ vec_capacity self.new.places }
+    {
+        if place.count < self.limit {
+            let at = place_in(&self.places, place);
+            let _ = self.places.remove(at);
+        }
+    }
+
+    /// A queue goes from the place where it stands to another. It takes no memory.
+    pub fn follow(&mut self, from: Place, to: Place)
+        requires { Stands self.old.limit from self.old.places.items (vec_capacity self.old.places) }
+        ensures places { (others : List Place) → self.old.places.items ≡ with_place self.old.limit from others → self.new.places.items ≡ with_place self.old.limit to others }
+        ensures limit { self.new.limit ≡ self.old.limit }
+        ensures room { vec_capacity self.old.places ≤ vec_capacity self.new.places }
+    {
+        self.leave(from);
+        self.enter(to);
+    }
+}
+
+/// How many places are before a place.
+fn place_in(places: &Vec<Place>, place: Place) -> usize
+    requires { InOrder places.now.items }
+    ensures most { result ≤ length places.now.items }
+    ensures parted { IsPartitionPoint (λ p. is_before p place ≡ true) (λ p. is_before p place ≡ false) places.now.items result }
+{
+    places.as_slice().partition_point(|p| p.is_before(&place))
+}

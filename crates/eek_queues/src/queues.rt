@@ -1,0 +1,180 @@
+//! The queues of ready keys.
+ghost use Rattle.std.specs.Prelude.{◌≡◌, ◌↔◌, ◌∷◌, ◌++◌, ◌≤◌, [], true, false, length, drop, slice_get, All, IsNone, IfNone, IfSome, IsErr, IfErr, OnOk, OnErr};
+ghost use Rattle.std.specs.Option.{option_map};
+ghost use Rattle.eek_queues.specs.Queues.{IsLowest, dropped, has_queue, limit, lowest, put_queue, ready_in, set_ready};
+
+use crate::order::{Order, Place};
+use crate::rings::{Ring, find, place_of_birth};
+use circular_buffer::HeapCircularBuffer;
+use hk_base::{Edek, NoMemory};
+use std::alloc::Global;
+use std::marker::Model;
+
+/// Queues of encrypted keys that are ready to be handed out, at most one for each birth of a key.
+/// Contracts see how many ready keys a queue has room for, the watermark, and the queues in one list
+/// by birth, each with its ready keys, the front first.
+///
+/// A queue is low where it has fewer ready keys than the watermark and the size. Only `make` takes
+/// memory.
+#[derive(Drop)]
+pub struct Queues {
+    alloc: Global,
+    size: u16,
+    watermark: u16,
+    rings: Vec<Ring>,
+    order: Order,
+}
+
+impl Model for Queues {
+    ghost use Rattle.std.specs.Prelude.{◌≡◌, min, vec_capacity};
+    ghost use Rattle.eek_queues.specs.Queues.{AllQueues};
+    ghost use Rattle.eek_queues.specs.Kept.{IsKept, queues_of};
+
+    ghost Value = { AllQueues };
+
+    ghost view = { λ a. record { size = a.size; watermark = a.watermark; queues = queues_of a.rings.items } };
+
+    ghost invariant = { λ a. IsKept a.size a.order.limit a.rings.items a.order.places.items (vec_capacity a.order.places) × (a.order.limit ≡ min a.watermark a.size) };
+}
+
+impl Queues {
+    /// No queues. Each one made will have room for `size` ready keys, and be low below `watermark`.
+    /// It takes no memory.
+    pub fn new(alloc: Global, size: u16, watermark: u16) -> Queues
+        ensures { result ≡ record { size = size; watermark = watermark; queues = [] } }
+    {
+        Queues {
+            alloc,
+            size,
+            watermark,
+            rings: Vec::new(alloc),
+            order: Order::new(alloc, watermark.min(size)),
+        }
+    }
+
+    /// Whether the key with this birth has a queue.
+    pub fn has(&self, birth: u64) -> bool
+        ensures { result ≡ has_queue self.now.queues birth }
+    {
+        find(&self.rings, birth).is_some()
+    }
+
+    /// How many ready keys the key with this birth has, 0 where it has no queue.
+    pub fn length(&self, birth: u64) -> u16
+        ensures length { result ≡ length (ready_in self.now.queues birth) }
+        ensures within { result ≤ self.now.size }
+    {
+        // no ring has room for more
+        let _size = self.size;
+        match find(&self.rings, birth) {
+            Some(at) => self.rings[at].ready.len() as u16,
+            None => 0,
+        }
+    }
+
+    /// Gives a key its queue, which is empty. It has to have none. Where memory is wanting the queues
+    /// stay as they were.
+    pub fn make(&mut self, birth: u64) -> Result<(), NoMemory>
+        requires { has_queue self.old.queues birth ≡ false }
+        ensures ok { OnOk result (self.new ≡ record self.old { queues = put_queue (record { birth = birth; ready = [] }) self.old.queues }) }
+        ensures err { OnErr result (self.new ≡ self.old) }
+    {
+        self.order.reserve(self.rings.len() + 1)?;
+        let ready = HeapCircularBuffer::with_capacity(self.alloc, self.size as usize)?;
+        let at = place_of_birth(&self.rings, birth);
+        self.rings.insert(at, Ring { birth, ready })?;
+        self.order.enter(Place { count: 0, birth });
+        Ok(())
+    }
+
+    /// Takes the front ready key of a birth. `None` where its queue is empty or it has no queue.
+    pub fn take(&mut self, birth: u64) -> Option<Edek>
+        ensures value { result ≡ slice_get (ready_in self.old.queues birth) 0 }
+        ensures none { IsNone result ↔ (ready_in self.old.queues birth ≡ []) }
+        ensures queues { self.new ≡ record self.old { queues = set_ready self.old.queues birth (drop 1 (ready_in self.old.queues birth)) } }
+    {
+        let at = find(&self.rings, birth)?;
+        let ring = &mut self.rings[at];
+        let count = ring.ready.len() as u16;
+        match ring.ready.pop_front() {
+            Some(ready) => {
+                let from = Place { count, birth };
+                let to = Place {
+                    count: count - 1,
+                    birth,
+                };
+                self.order.follow(from, to);
+                Some(ready)
+            }
+            None => None,
+        }
+    }
+
+    /// Puts a ready key last in the queue of a birth, which has to have one. A full queue gives the key
+    /// back and stays as it was.
+    pub fn put(&mut self, birth: u64, ready: Edek) -> Result<(), Edek>
+        requires { has_queue self.old.queues birth ≡ true }
+        ensures full { IsErr result ↔ (length (ready_in self.old.queues birth) ≡ self.old.size) }
+        ensures ok { OnOk result (self.new ≡ record self.old { queues = set_ready self.old.queues birth (ready_in self.old.queues birth ++ ready ∷ []) }) }
+        ensures err { IfErr result (λ back. (back ≡ ready) × (self.new ≡ self.old)) }
+    {
+        let at = find(&self.rings, birth).unwrap();
+        let ring = &mut self.rings[at];
+        let count = ring.ready.len() as u16;
+        match ring.ready.try_push_back(ready) {
+            Ok(()) => {
+                let from = Place { count, birth };
+                let to = Place {
+                    count: count + 1,
+                    birth,
+                };
+                self.order.follow(from, to);
+                Ok(())
+            }
+            Err(back) => Err(back),
+        }
+    }
+
+    /// Empties the queue of a birth, which it keeps. Where it has none nothing changes.
+    pub fn drain(&mut self, birth: u64)
+        ensures { self.new ≡ record self.old { queues = set_ready self.old.queues birth [] } }
+    {
+        if let Some(at) = find(&self.rings, birth) {
+            let ring = &mut self.rings[at];
+            let from = Place {
+                count: ring.ready.len() as u16,
+                birth,
+            };
+            let emptied = Place { count: 0, birth };
+            ring.ready.clear();
+            self.order.follow(from, emptied);
+        }
+    }
+
+    /// Drops the queue of a birth with its ready keys. Where it has none nothing changes.
+    pub fn drop_queue(&mut self, birth: u64)
+        ensures { self.new ≡ record self.old { queues = dropped self.old.queues birth } }
+    {
+        if let Some(at) = find(&self.rings, birth) {
+            let ring = self.rings.remove(at);
+            let place = Place {
+                count: ring.ready.len() as u16,
+                birth,
+            };
+            self.order.leave(place);
+        }
+    }
+
+    /// The birth of the low queue with the fewest ready keys, and the least birth among equals.
+    /// `None` where no queue is low.
+    pub fn low(&self) -> Option<u64>
+        ensures value { result ≡ option_map (λ q. q.birth) (lowest (limit self.now) self.now.queues) }
+        ensures none { IsNone result ↔ All (λ q. limit self.now ≤ length q.ready) self.now.queues }
+        ensures lowest { IfSome result (IsLowest (limit self.now) self.now.queues) }
+    {
+        match self.order.first() {
+            Some(place) => Some(place.birth),
+            None => None,
+        }
+    }
+}
