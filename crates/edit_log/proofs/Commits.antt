@@ -1,5 +1,5 @@
 -- What a commit and a settling leave.
-use Rattle.std.proofs.Common.{◌≡◌, ℕ, ◌≤◌, Bool, true, false, List, [], ◌∷◌, ◌++◌, length, map, Option, Some, None, refl, sym, subst, arith}
+use Rattle.std.proofs.Common.{◌≡◌, ℕ, Bool, true, false, List, [], ◌∷◌, ◌++◌, map, Option, Some, None, refl, sym, subst, arith}
 use Rattle.std.specs.Prelude.{if◌then◌else◌, option_map, IfSome}
 use Rattle.std.proofs.lemmas.List.{map-append}
 use Rattle.hk_base.specs.Disk.{DiskState, LeavesOnly}

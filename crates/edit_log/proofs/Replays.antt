@@ -1,9 +1,9 @@
 -- Operations one after another.
-use Rattle.std.proofs.Common.{◌≡◌, ◌≢◌, ℕ, ◌+◌, ◌-◌, ◌<◌, Bool, true, false, List, [], ◌∷◌, ◌++◌, map, Option, Some, None, get_or, take, drop, take-append-drop, refl, sym, ◌∙◌, ap, subst}
+use Rattle.std.proofs.Common.{◌≡◌, ℕ, ◌+◌, ◌-◌, ◌<◌, Bool, true, false, List, [], ◌∷◌, ◌++◌, map, Some, None, get_or, take, drop, take-append-drop, refl, sym, ◌∙◌, ap, subst}
 use Rattle.std.specs.Prelude.{if◌then◌else◌, length}
 use Rattle.std.specs.List.{AllByRecursion}
 use Rattle.std.proofs.lemmas.List.{map-append, take_more, drop_more}
-use Rattle.edit_ops.specs.Records.{HasSpelling, spelling}
+use Rattle.edit_ops.specs.Records.{HasSpelling}
 use Rattle.edit_ops.specs.declared.ops.EditOp.{EditOp}
 use Rattle.frame_log.specs.Scan.{frame_view}
 use Rattle.frame_log.specs.declared.frames.Frame.{Frame}

@@ -1,7 +1,7 @@
 -- What a start finds and leaves.
 use Rattle.std.proofs.Common.{◌≡◌, ◌⊎◌, inl, inr, ⊎_elim, ℕ, ◌+◌, ◌-◌, List, [], ◌∷◌, ◌++◌, length, map, Option, Some, None, refl, sym, ◌∙◌, ap, subst, arith, length-append}
 use Rattle.std.specs.Int.{w32, to_be_bytes}
-use Rattle.std.proofs.lemmas.List.{map-append, append-nil}
+use Rattle.std.proofs.lemmas.List.{map-append}
 use Rattle.hk_base.specs.Disk.{DiskState, RunOn, LeavesOnly}
 use Rattle.hk_base.proofs.Runs.{Going, weaker, compose}
 use Rattle.frame_log.specs.Format.{log_of, Found, frames, behind, placed, IsAsFound, IsRecovered, Log_as_found}

@@ -1,4 +1,4 @@
-use Rattle.std.proofs.Common.{◌≡◌, sym, ◌∙◌, refl}
+use Rattle.std.proofs.Common.{sym, ◌∙◌}
 use Rattle.edit_ops.proofs.RecordLemmas.{one_spelling}
 use Rattle.edit_log.proofs.copies.operation_of.Goals as goal
 

@@ -1,8 +1,7 @@
 use Rattle.std.proofs.Common.{◌≡◌, ◌+◌, ℕ, List, [], ◌∷◌, ◌++◌, map, take, sym, subst}
 use Rattle.frame_log.specs.Scan.{frame_view}
-use Rattle.edit_ops.specs.declared.ops.EditOp.{EditOp}
 use Rattle.edit_log.specs.declared.op_list.PlacedOp.{PlacedOp}
-use Rattle.edit_log.specs.Replay.{IsTaken, IsNext, IsRead, then_last}
+use Rattle.edit_log.specs.Replay.{IsTaken, IsNext, IsRead}
 use Rattle.edit_log.proofs.Replays.{taken_here, stuck_here}
 use Rattle.edit_log.proofs.replay.read_ops.Goals as goal
 

@@ -1,4 +1,4 @@
-use Rattle.std.proofs.Common.{◌≡◌, List, ℕ, None, Option, map, ◌∙◌, ap, subst}
+use Rattle.std.proofs.Common.{◌≡◌, List, ℕ, map, ◌∙◌, ap, subst}
 use Rattle.frame_log.specs.Format.{placed}
 use Rattle.frame_log.specs.Scan.{frame_view}
 use Rattle.frame_log.specs.declared.frames.Frame.{Frame}

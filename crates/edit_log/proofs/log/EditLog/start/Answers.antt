@@ -1,4 +1,4 @@
-use Rattle.std.proofs.Common.{rules, ◌≡◌, ◌⊎◌, inl, inr, ⊎_elim, Bool, ℕ, ◌+◌, None, map, IsTrue, IsErrOf, sym, subst}
+use Rattle.std.proofs.Common.{rules, ◌≡◌, inl, inr, ⊎_elim, Bool, ℕ, ◌+◌, None, map, IsTrue, IsErrOf, sym, subst}
 use Rattle.hk_base.proofs.Runs.{Going, weaker}
 use Rattle.frame_log.specs.declared.fault.StartFault.TheVariants as start
 use Rattle.edit_ops.specs.declared.ops.EditOp.TheVariants.{Opened}
