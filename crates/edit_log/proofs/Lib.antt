@@ -1,0 +1,3 @@
+mod Replays
+mod Commits
+mod Starts

@@ -1,0 +1,13 @@
+//! The edit log: the operations of the namesystem that were acknowledged, kept on a disk so that a
+//! crash at any moment loses none of them.
+#![tactic(auto)]
+
+mod copies;
+mod log;
+mod op_list;
+mod replay;
+#[cfg(test)]
+mod tests;
+
+pub use log::EditLog;
+pub use op_list::{OpList, PlacedOp};

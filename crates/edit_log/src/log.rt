@@ -1,0 +1,245 @@
+//! The log of the namesystem's operations.
+use crate::copies::operation_of;
+use crate::op_list::OpList;
+use crate::replay::read_ops;
+use edit_ops::EditOp;
+use frame_log::{Log, LogFault, StartFault, StoreRefusal};
+use hk_base::{ByteList, Disk};
+use std::alloc::Global;
+use std::marker::Model;
+
+/// The number of the file that has the edit log.
+const NAMES: u8 = 1;
+
+/// The edit log on file 1 of a disk.
+///
+/// After a store fault in a commit one operation is pending: the disk may or may not hold its record.
+/// The next call that changes the namesystem settles it first.
+#[derive(Drop)]
+pub struct EditLog {
+    log: Log,
+    pending: Option<EditOp>,
+}
+
+impl Model for EditLog {
+    ghost use Rattle.std.specs.Prelude.{◌≡◌};
+    ghost use Rattle.edit_log.specs.Log.{EditLogState, WaitTogether};
+
+    ghost Value = { EditLogState };
+
+    ghost view = { λ a. record { log = a.log; pending = a.pending } };
+
+    ghost invariant = { λ a. (a.log.file ≡ 1) × WaitTogether a.pending a.log.unsettled };
+}
+
+impl EditLog {
+    ghost use Rattle.std.specs.Prelude.{◌≡◌, ◌≢◌, ◌<◌, ◌+◌, ◌⊎◌, ◌++◌, [], ◌∷◌, ℕ, List, Option, Some, None, Ok, IsTrue, IsErr, IfOk, OnOk, OnErr, IsErrOf, slice_get, map};
+    ghost use Rattle.hk_base.specs.Disk.{Tells, RunOn, LeavesOnly};
+    ghost use Rattle.hk_base.specs.Faults.{Rose};
+    ghost use Rattle.frame_log.specs.Format.{log_of, NoLog, IsAsFound, IsRecovered};
+    ghost use Rattle.frame_log.specs.Stands.{LeavesFrom};
+    ghost use Rattle.frame_log.specs.declared.fault.StoreRefusal.TheVariants as store;
+    ghost use Rattle.frame_log.specs.declared.fault.StartFault.TheVariants as start;
+    ghost use Rattle.edit_ops.specs.Records.{fits};
+    ghost use Rattle.edit_ops.specs.declared.ops.EditOp.{EditOp};
+    ghost use Rattle.edit_ops.specs.declared.ops.EditOp.TheVariants as op;
+    ghost use Rattle.edit_log.specs.declared.op_list.PlacedOp.{PlacedOp};
+    ghost use Rattle.edit_log.specs.Replay.{op_view};
+    ghost use Rattle.edit_log.specs.Log.{StandsFor, IsWithOrWithout, IsReadOf, IsEditLog, IsDamagedAt, IsLeftByStart};
+
+    /// Opens the edit log of a disk: reads its operations, and commits the record of a new opening. It
+    /// may be stopped at any moment, and started again. The operations are those found, without the
+    /// new opening, whose number is one more than the list's.
+    ///
+    /// `Damaged` comes exactly where the file is no log, or a record is no operation, or an opening that
+    /// isn't the last one and 1, or another operation before the first opening, with the offset of
+    /// the gate before the first such record. Whether the operations apply to one another is not asked:
+    /// a caller that asks it calls `recover`, and then `open`. `Spent` comes exactly where opening
+    /// 4,294,967,295 is recorded.
+    pub fn start<D: Disk>(alloc: Global, disk: &mut D) -> Result<(EditLog, OpList), StartFault>
+        ensures log { IfOk result (λ r. Tells (D.state disk.old) → IsEditLog ((D.state disk.old).reads 1) r.1.list.items r.1.opening
+            × StandsFor (D.state disk.new) r.0 (map op_view r.1.list.items ++ op.Opened (r.1.opening + 1) ∷ [])) }
+        ensures opened { IfOk result (λ r. (r.0.pending ≡ None) × (r.1.damaged ≡ None)) }
+        ensures damaged { (at : ℕ) → IsErrOf result (start.Damaged at) → Tells (D.state disk.old) → IsDamagedAt ((D.state disk.old).reads 1) at }
+        ensures spent { IsErrOf result start.Spent → Tells (D.state disk.old) → ((list : List PlacedOp) × IsEditLog ((D.state disk.old).reads 1) list 4294967295) }
+
+        // A crash at any moment leaves what it might have left before, or the log found, now or with its end
+        // gate read as 1, or its operations with the new opening or without it.
+        ensures any_moment { Tells (D.state disk.old) → LeavesOnly 1 (D.state disk.old) (D.state disk.new)
+            (λ c. (D.state disk.old).leaves 1 c ⊎ IsLeftByStart ((D.state disk.old).reads 1) c) }
+
+        // Whatever the answer, since the first sync of the call it leaves the latter alone. Where that sync
+        // failed, nothing was written.
+        ensures since_sync { Tells (D.state disk.old) →
+            (IsErrOf result start.StoreFault × LeavesOnly 1 (D.state disk.old) (D.state disk.new) ((D.state disk.old).leaves 1))
+            ⊎ LeavesFrom 1 (D.state disk.old) (D.state disk.new) (IsLeftByStart ((D.state disk.old).reads 1)) }
+
+        ensures run { RunOn 1 (D.state disk.old) (D.state disk.new) }
+        ensures cause { IsErrOf result start.StoreFault → Rose (D.state disk.old).faults (D.state disk.new).faults }
+    {
+        let (found, ops) = EditLog::recover(alloc, disk)?;
+        if let Some(at) = ops.damaged {
+            return Err(StartFault::Damaged { at });
+        }
+        let mut log = found;
+        log.open(alloc, disk, ops.opening)?;
+        Ok((log, ops))
+    }
+
+    /// Reads the operations of a disk's edit log, up to the first record that is no operation or is out
+    /// of turn, of which the list has the place. It commits nothing: the file is as it was found, or its
+    /// end gate, where that isn't 0, is shut. `Damaged` comes exactly where the file is no log.
+    ///
+    /// Where the list has all records, the log stands for its operations: `open` comes next, once they
+    /// are seen to apply to one another. Else the file is damaged, at the first operation that doesn't
+    /// apply or at the place that the list has.
+    pub fn recover<D: Disk>(alloc: Global, disk: &mut D) -> Result<(EditLog, OpList), StartFault>
+        ensures list { IfOk result (λ r. Tells (D.state disk.old) → IsReadOf ((D.state disk.old).reads 1) r.1.list.items r.1.opening r.1.damaged) }
+        ensures log { IfOk result (λ r. r.1.damaged ≡ None → Tells (D.state disk.old) → StandsFor (D.state disk.new) r.0 (map op_view r.1.list.items)) }
+        ensures settled { IfOk result (λ r. r.0.pending ≡ None) }
+        ensures damaged { (at : ℕ) → IsErrOf result (start.Damaged at) → Tells (D.state disk.old) → log_of 1 ((D.state disk.old).reads 1) ≡ NoLog at }
+        ensures spent { IsErrOf result start.Spent → ⊥ }
+
+        // A crash at any moment leaves what it might have left before, or the log found, or that with
+        // its end gate read as 1.
+        ensures any_moment { Tells (D.state disk.old) → LeavesOnly 1 (D.state disk.old) (D.state disk.new)
+            (λ c. (D.state disk.old).leaves 1 c ⊎ IsAsFound 1 ((D.state disk.old).reads 1) c) }
+
+        // Whatever the answer, since the first sync of the call it leaves the log found, or that with its end
+        // gate read as 1, and what is no log byte for byte. Where that sync failed, nothing was written.
+        ensures since_sync { Tells (D.state disk.old) →
+            (IsErrOf result start.StoreFault × LeavesOnly 1 (D.state disk.old) (D.state disk.new) ((D.state disk.old).leaves 1))
+            ⊎ LeavesFrom 1 (D.state disk.old) (D.state disk.new) (IsRecovered 1 ((D.state disk.old).reads 1)) }
+
+        ensures run { RunOn 1 (D.state disk.old) (D.state disk.new) }
+        ensures cause { IsErrOf result start.StoreFault → Rose (D.state disk.old).faults (D.state disk.new).faults }
+    {
+        let (log, frames) = Log::recover(alloc, disk, NAMES)?;
+        let ops = read_ops(alloc, frames.list.as_slice())?;
+        Ok((EditLog { log, pending: None }, ops))
+    }
+
+    /// Commits the record of the opening behind the last one, which is 0 where there is none. `Spent`
+    /// comes exactly where the last one is 4,294,967,295, with nothing changed. After `NoMemory` nothing
+    /// is changed either, and after `StoreFault` the opening is pending. It is never `Damaged`.
+    pub fn open<D: Disk>(
+        &mut self,
+        alloc: Global,
+        disk: &mut D,
+        last: u32,
+    ) -> Result<(), StartFault>
+        requires settled { self.old.pending ≡ None }
+        requires stands { Tells (D.state disk.old) → ((ops : List EditOp) × StandsFor (D.state disk.old) self.old ops) }
+
+        ensures committed { OnOk result (Tells (D.state disk.old) → (ops : List EditOp) → StandsFor (D.state disk.old) self.old ops
+            → StandsFor (D.state disk.new) self.new (ops ++ op.Opened (last + 1) ∷ [])) }
+        ensures opened { OnOk result (self.new.pending ≡ None) }
+        ensures pending { IsErrOf result start.StoreFault → self.new.pending ≡ Some (op.Opened (last + 1)) }
+        ensures memory { IsErrOf result start.NoMemory → (self.new ≡ self.old) × (disk.new ≡ disk.old) }
+        ensures spent { IsErrOf result start.Spent → (last ≡ 4294967295) × (self.new ≡ self.old) × (disk.new ≡ disk.old) }
+        ensures room { OnOk result (last < 4294967295) }
+        ensures damaged { (at : ℕ) → IsErrOf result (start.Damaged at) → ⊥ }
+        ensures refused { OnErr result (Tells (D.state disk.old) → (ops : List EditOp) → StandsFor (D.state disk.old) self.old ops
+            → StandsFor (D.state disk.new) self.new ops) }
+
+        // A crash at any moment of the call leaves the operations from before it, with the opening or without.
+        ensures any_moment { Tells (D.state disk.old) → (ops : List EditOp) → StandsFor (D.state disk.old) self.old ops
+            → LeavesOnly 1 (D.state disk.old) (D.state disk.new) (IsWithOrWithout ops (op.Opened (last + 1))) }
+
+        ensures run { RunOn 1 (D.state disk.old) (D.state disk.new) }
+        ensures cause { IsErrOf result start.StoreFault → Rose (D.state disk.old).faults (D.state disk.new).faults }
+    {
+        if last == u32::MAX {
+            return Err(StartFault::Spent);
+        }
+        let next = EditOp::Opened { opening: last + 1 };
+        match self.commit(alloc, disk, &next) {
+            Ok(()) => Ok(()),
+            Err(StoreRefusal::StoreFault) => Err(StartFault::StoreFault),
+            Err(StoreRefusal::NoMemory) => Err(StartFault::NoMemory),
+        }
+    }
+
+    /// Writes the record of an operation to the log. All memory is taken before the log is written:
+    /// after `NoMemory` all is as before. After `StoreFault` the operation is pending.
+    pub fn commit<D: Disk>(
+        &mut self,
+        alloc: Global,
+        disk: &mut D,
+        op: &EditOp,
+    ) -> Result<(), StoreRefusal>
+        requires settled { self.old.pending ≡ None }
+        requires fits { IsTrue (fits op.now) }
+        requires stands { Tells (D.state disk.old) → ((ops : List EditOp) × StandsFor (D.state disk.old) self.old ops) }
+
+        ensures committed { OnOk result (Tells (D.state disk.old) → (ops : List EditOp) → StandsFor (D.state disk.old) self.old ops
+            → StandsFor (D.state disk.new) self.new (ops ++ op.now ∷ [])) }
+        ensures done { OnOk result (self.new.pending ≡ None) }
+
+        ensures pending { IsErrOf result store.StoreFault → self.new.pending ≡ Some op.now }
+        ensures memory { IsErrOf result store.NoMemory → (self.new ≡ self.old) × (disk.new ≡ disk.old) }
+        ensures refused { OnErr result (Tells (D.state disk.old) → (ops : List EditOp) → StandsFor (D.state disk.old) self.old ops
+            → StandsFor (D.state disk.new) self.new ops) }
+
+        // A crash at any moment of the call leaves the operations from before it, with the new one or without.
+        ensures any_moment { Tells (D.state disk.old) → (ops : List EditOp) → StandsFor (D.state disk.old) self.old ops
+            → LeavesOnly 1 (D.state disk.old) (D.state disk.new) (IsWithOrWithout ops op.now) }
+
+        ensures run { RunOn 1 (D.state disk.old) (D.state disk.new) }
+        ensures cause { IsErrOf result store.StoreFault → Rose (D.state disk.old).faults (D.state disk.new).faults }
+    {
+        let mut record = ByteList::new(alloc);
+        op.write(&mut record)?;
+        let copy = operation_of(alloc, record.as_slice())?;
+        match self.log.append(alloc, disk, record.as_slice()) {
+            Ok(_) => return Ok(()),
+            Err(LogFault::StoreFault) => {
+                self.pending = Some(copy);
+                return Err(StoreRefusal::StoreFault);
+            }
+            // An append never finds the log damaged.
+            Err(_) => return Err(StoreRefusal::NoMemory),
+        }
+    }
+
+    /// Settles the pending operation: it is kept, and answered, where the gate byte before its record
+    /// reads 1 after a sync, and is dropped where it doesn't. Where none is pending nothing is done. After
+    /// `StoreFault`, the only refusal, it is still pending; memory was taken by the commit.
+    pub fn settle<D: Disk>(&mut self, disk: &mut D) -> Result<Option<EditOp>, StoreRefusal>
+        requires stands { Tells (D.state disk.old) → ((ops : List EditOp) × StandsFor (D.state disk.old) self.old ops) }
+
+        ensures nothing { self.old.pending ≡ None → (result ≡ Ok None) × (self.new ≡ self.old) × (disk.new ≡ disk.old) }
+        ensures settled { OnOk result (self.new.pending ≡ None) }
+        ensures answer { IfOk result (λ kept. (kept ≡ None) ⊎ (kept ≡ self.old.pending)) }
+        ensures kept { IfOk result (λ kept. Tells (D.state disk.old) → (ops : List EditOp) (op : EditOp) → StandsFor (D.state disk.old) self.old ops → self.old.pending ≡ Some op
+            → slice_get ((D.state disk.old).reads 1) self.old.log.end ≡ Some 1
+            → (kept ≡ Some op) × StandsFor (D.state disk.new) self.new (ops ++ op ∷ [])) }
+        ensures dropped { IfOk result (λ kept. Tells (D.state disk.old) → (ops : List EditOp) → StandsFor (D.state disk.old) self.old ops
+            → slice_get ((D.state disk.old).reads 1) self.old.log.end ≢ Some 1
+            → (kept ≡ None) × StandsFor (D.state disk.new) self.new ops) }
+        ensures still_pending { OnErr result (self.new ≡ self.old) }
+        ensures refused { OnErr result (Tells (D.state disk.old) → (ops : List EditOp) → StandsFor (D.state disk.old) self.old ops
+            → StandsFor (D.state disk.new) self.new ops) }
+        ensures fault { IsErr result → IsErrOf result store.StoreFault }
+
+        // A crash at any moment of the call leaves the operations from before it, with the pending one or without.
+        ensures any_moment { Tells (D.state disk.old) → (ops : List EditOp) (op : EditOp) → StandsFor (D.state disk.old) self.old ops → self.old.pending ≡ Some op
+            → LeavesOnly 1 (D.state disk.old) (D.state disk.new) (IsWithOrWithout ops op) }
+
+        ensures run { RunOn 1 (D.state disk.old) (D.state disk.new) }
+        ensures cause { OnErr result (Rose (D.state disk.old).faults (D.state disk.new).faults) }
+    {
+        if self.pending.is_none() {
+            return Ok(None);
+        }
+        let kept = match self.log.settle(disk) {
+            Ok(kept) => kept,
+            Err(_) => return Err(StoreRefusal::StoreFault),
+        };
+        let pending = self.pending.take();
+        if kept {
+            return Ok(pending);
+        }
+        Ok(None)
+    }
+}

@@ -1,0 +1,19 @@
+//! Operations with their places in the file.
+use edit_ops::EditOp;
+
+/// An operation, and the offset of the gate byte before its record.
+#[derive(Drop)]
+pub struct PlacedOp {
+    pub at: u64,
+    pub op: EditOp,
+}
+
+/// The operations of a log in the order of the file, up to the first record that is none or is out of
+/// turn. `opening` is the last opening among them, and 0 where there is none. `damaged` is the offset
+/// of the gate byte before that first record; it is `None` where all records are operations in turn.
+#[derive(Drop)]
+pub struct OpList {
+    pub list: Vec<PlacedOp>,
+    pub opening: u32,
+    pub damaged: Option<u64>,
+}

@@ -1,0 +1,3 @@
+pub mod PathText
+mod Parts
+pub mod RecordLemmas

@@ -1,0 +1,96 @@
+-- Records read from left to right: each field, and the bytes behind it.
+use Rattle.std.specs.Prelude.{ℕ, List, [], ◌∷◌, length, Option, Some, None, ◌==◌, if◌then◌else◌}
+use Rattle.std.specs.Int.{w16, w32, w64}
+use Rattle.hk_base.specs.Names.{Encrypted}
+use Rattle.inode_tree.specs.Paths.{read_path}
+use Rattle.key_rows.specs.Reading.{◌>>=◌, number_at, bytes_at, short_at, long_at, name_of, material_of}
+use Rattle.edit_ops.specs.declared.ops.EditOp.{EditOp}
+use Rattle.edit_ops.specs.declared.ops.EditOp.TheVariants.{Opened, Mkdir, File, Remove, Zone}
+
+-- what stands at the front of bytes and the bytes behind it, if something of the kind stands there
+abbrev pub Front : Type 0 → Type 0
+Front X = List ℕ → Option (X × List ℕ)
+
+-- what all of the bytes are, if they are something of the kind
+abbrev pub Whole : Type 0 → Type 0
+Whole X = List ℕ → Option X
+
+-- a front that is something as a whole
+abbrev pub front_of : {X : Type 0} → Front (List ℕ) → Whole X → Front X
+front_of front whole bytes = do
+  text ← front bytes
+  x ← whole text.0
+  Some (x, text.1)
+
+-- a front that nothing follows
+abbrev pub last : {X : Type 0} → Front X → Whole X
+last front bytes = do
+  x ← front bytes
+  if length x.1 == 0 then Some x.0 else None
+
+-- a front, and what the bytes behind it are
+abbrev pub then_of : {X Y : Type 0} → Front X → Whole Y → Whole (X × Y)
+then_of front whole bytes = do
+  x ← front bytes
+  y ← whole x.1
+  Some (x.0, y)
+
+abbrev pub as_of : {X Y : Type 0} → (X → Y) → Whole X → Whole Y
+as_of see whole bytes = do
+  x ← whole bytes
+  Some (see x)
+
+-- a byte 0 alone, or a byte 1 and something
+abbrev pub opt_of : {X : Type 0} → Whole X → Whole (Option X)
+opt_of whole [] = None
+opt_of whole (tag ∷ bytes) =
+    if tag == 0 then (if length bytes == 0 then Some None else None) else (if tag == 1 then as_of (λ x. Some x) whole bytes else None)
+
+abbrev pub name_at : Front (List ℕ)
+name_at = front_of short_at name_of
+
+unfoldable pub path_at : Front (List (List ℕ))
+path_at bytes = front_of long_at read_path bytes
+
+abbrev pub iv_of : Whole (List ℕ)
+iv_of bytes = if length bytes == 16 then Some bytes else None
+
+abbrev pub iv_at : Front (List ℕ)
+iv_at = front_of (bytes_at 16) iv_of
+
+abbrev pub sealed_at : Front (List ℕ)
+sealed_at = front_of short_at material_of
+
+abbrev pub encrypted : List ℕ × (ℕ × (List ℕ × List ℕ)) → Encrypted
+encrypted x = record { version = record { key = x.0; number = x.1.0 }; iv = x.1.1.0; sealed = x.1.1.1 }
+
+unfoldable pub edek_of : Whole Encrypted
+edek_of bytes = as_of encrypted (then_of name_at (then_of (number_at w16) (then_of iv_at (last sealed_at)))) bytes
+
+unfoldable pub opt_edek_of : Whole (Option Encrypted)
+opt_edek_of bytes = opt_of edek_of bytes
+
+unfoldable pub opened_of : Whole EditOp
+opened_of bytes = as_of Opened (last (number_at w32)) bytes
+
+unfoldable pub mkdir_of : Whole EditOp
+mkdir_of bytes = as_of (λ x. Mkdir x.0 x.1) (then_of (number_at w64) (last path_at)) bytes
+
+unfoldable pub file_of : Whole EditOp
+file_of bytes = as_of (λ x. File x.0 x.1.0 x.1.1) (then_of (number_at w64) (then_of path_at opt_edek_of)) bytes
+
+unfoldable pub remove_of : Whole EditOp
+remove_of bytes = as_of Remove (last path_at) bytes
+
+unfoldable pub zone_of : Whole EditOp
+zone_of bytes = as_of (λ x. Zone x.0 x.1) (then_of path_at (last name_at)) bytes
+
+-- the operation of a record, by the record's first byte
+unfoldable pub op_of : Whole EditOp
+op_of [] = None
+op_of (tag ∷ bytes) =
+    if tag == 1 then opened_of bytes
+    else (if tag == 2 then mkdir_of bytes
+    else (if tag == 3 then file_of bytes
+    else (if tag == 4 then remove_of bytes
+    else (if tag == 6 then zone_of bytes else None))))

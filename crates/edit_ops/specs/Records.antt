@@ -1,0 +1,57 @@
+-- The records of the edit log: the one spelling of each operation. Numbers are big-endian.
+use Rattle.std.specs.Prelude.{◌≡◌, ℕ, ◌<◌, ◌^◌, Bool, true, not, List, [], ◌∷◌, ◌++◌, length, Option, Some, None, IsTrue}
+use Rattle.std.specs.Int.{w16, w32, w64, to_be_bytes}
+use Rattle.hk_base.specs.Names.{Encrypted, IsKeyName, is_key_length}
+use Rattle.inode_tree.specs.Paths.{is_absolute, path_text, starts_reserved}
+use Rattle.key_rows.specs.Records.{name_field, text_field}
+use Rattle.edit_ops.specs.declared.ops.EditOp.{EditOp}
+use Rattle.edit_ops.specs.declared.ops.EditOp.TheVariants.{Opened, Mkdir, File, Remove, Zone}
+
+-- a path is two bytes of length and the path as it is written
+abbrev pub path_field : List (List ℕ) → List ℕ
+path_field path = text_field (path_text path)
+
+-- an encrypted data encryption key is the name of a key with its length, the version's number, the
+-- initialization vector, and the sealed bytes with one byte of length
+abbrev pub edek_field : Encrypted → List ℕ
+edek_field edek = name_field edek.version.key ++ (to_be_bytes w16 edek.version.number ++ (edek.iv ++ name_field edek.sealed))
+
+-- what may be absent is a byte 0, or a byte 1 and what is there
+abbrev pub opt_field : {X : Type 0} → (X → List ℕ) → Option X → List ℕ
+opt_field field None = 0 ∷ []
+opt_field field (Some x) = 1 ∷ field x
+
+-- The bytes of an operation.
+abbrev pub spelling : EditOp → List ℕ
+spelling (Opened opening) = 1 ∷ to_be_bytes w32 opening
+spelling (Mkdir id path) = 2 ∷ (to_be_bytes w64 id ++ path_field path)
+spelling (File id path edek) = 3 ∷ (to_be_bytes w64 id ++ (path_field path ++ opt_field edek_field edek))
+spelling (Remove path) = 4 ∷ path_field path
+spelling (Zone path key) = 6 ∷ (path_field path ++ name_field key)
+
+-- a path of an operation doesn't begin with `.reserved`
+abbrev pub fits : EditOp → Bool
+fits (Opened opening) = true
+fits (Mkdir id path) = not (starts_reserved path)
+fits (File id path edek) = not (starts_reserved path)
+fits (Remove path) = not (starts_reserved path)
+fits (Zone path key) = not (starts_reserved path)
+
+-- a key's name, a number below 65,536, 16 bytes, and 16, 24 or 32 bytes
+pub record IsEdek (edek : Encrypted) : Type 0 where
+  pub key : IsKeyName edek.version.key
+  pub number : edek.version.number < 2 ^ 16
+  pub iv : length edek.iv ≡ 16
+  pub sealed : IsTrue (is_key_length (length edek.sealed))
+
+abbrev pub IsOpt : {X : Type 0} → (X → Type 0) → Option X → Type 0
+IsOpt Is None = Unit {0}
+IsOpt Is (Some x) = Is x
+
+-- Which operations have a spelling: each number is in its range, and paths, names and keys keep their rules.
+abbrev pub HasSpelling : EditOp → Type 0
+HasSpelling (Opened opening) = opening < 2 ^ 32
+HasSpelling (Mkdir id path) = (id < 2 ^ 64) × IsTrue (is_absolute path)
+HasSpelling (File id path edek) = (id < 2 ^ 64) × IsTrue (is_absolute path) × IsOpt IsEdek edek
+HasSpelling (Remove path) = IsTrue (is_absolute path)
+HasSpelling (Zone path key) = IsTrue (is_absolute path) × IsKeyName key

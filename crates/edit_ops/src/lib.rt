@@ -1,0 +1,13 @@
+//! The operations of the namesystem, and their records in the edit log.
+#![tactic(auto)]
+
+mod laws;
+mod ops;
+mod reading;
+mod writing;
+
+pub use laws::operations_have_one_spelling;
+pub use ops::EditOp;
+
+#[cfg(test)]
+mod tests;

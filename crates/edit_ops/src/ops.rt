@@ -1,0 +1,63 @@
+//! What changes the namesystem.
+ghost use Rattle.std.specs.Prelude.{◌≡◌, not, length};
+ghost use Rattle.std.specs.Str.{bytes_eq};
+ghost use Rattle.inode_tree.specs.Paths.{is_relative, starts_reserved};
+ghost use Rattle.edit_ops.specs.Records.{fits};
+
+use hk_base::{Edek, KeyName};
+use inode_tree::NPath;
+
+/// An operation that changes the namesystem. An id is a number that no other operation uses.
+#[derive(Drop)]
+pub enum EditOp {
+    /// The namesystem was started; `opening` counts its starts from 1.
+    Opened {
+        opening: u32,
+    },
+    /// A directory was made.
+    Mkdir {
+        id: u64,
+        path: NPath,
+    },
+    /// A file was made. It has an encrypted data encryption key where it lies in a zone.
+    File {
+        id: u64,
+        path: NPath,
+        edek: Option<Edek>,
+    },
+    /// What stood at the path was removed, with all that lay below it.
+    Remove {
+        path: NPath,
+    },
+    /// A directory was made an encryption zone of a key.
+    Zone {
+        path: NPath,
+        key: KeyName,
+    },
+}
+
+/// Whether the first name of a path is `.reserved`.
+fn is_reserved(path: &NPath) -> bool
+    ensures { result ≡ starts_reserved path.now }
+{
+    if path.is_root() {
+        return false;
+    }
+    path.name(0).as_str().as_bytes() == b".reserved".as_slice()
+}
+
+impl EditOp {
+    /// Whether the operation has a spelling as a record of the edit log: its path, where it has one,
+    /// doesn't begin with the name `.reserved`. Each operation that was read has one.
+    pub fn has_spelling(&self) -> bool
+        ensures { result ≡ fits self.now }
+    {
+        match self {
+            EditOp::Opened { .. } => true,
+            EditOp::Mkdir { path, .. } => !is_reserved(path),
+            EditOp::File { path, .. } => !is_reserved(path),
+            EditOp::Remove { path } => !is_reserved(path),
+            EditOp::Zone { path, .. } => !is_reserved(path),
+        }
+    }
+}

@@ -1,0 +1,175 @@
+//! Writing the records of the edit log.
+ghost use Rattle.std.specs.Prelude.{◌≡◌, ◌≤◌, ◌++◌, ◌∷◌, true, IsTrue, OnOk, OnErr, length, take};
+ghost use Rattle.std.specs.Int.{w16, w32, w64, to_be_bytes};
+ghost use Rattle.hk_base.specs.Names.{IsKeyName};
+ghost use Rattle.inode_tree.specs.Paths.{is_relative, names_text, path_text};
+ghost use Rattle.key_rows.specs.Records.{name_field};
+ghost use Rattle.edit_ops.specs.Records.{HasSpelling, IsEdek, IsOpt, edek_field, fits, opt_field, path_field, spelling};
+
+use crate::ops::EditOp;
+use hk_base::{ByteList, Edek, KeyName, NoMemory};
+use inode_tree::NPath;
+
+/// Appends a name with its length, or a front of that where memory is wanting.
+fn append_name(out: &mut ByteList, name: &KeyName) -> Result<(), NoMemory>
+    ensures ok { OnOk result (out.new ≡ out.old ++ name_field name.now) }
+    ensures is_name { OnOk result (IsKeyName name.now) }
+    ensures err { OnErr result (take (length out.old) out.new ≡ out.old) }
+{
+    let bytes = name.as_bytes();
+    out.push(bytes.len() as u8)?;
+    out.append(bytes)
+}
+
+/// How many bytes a path has as it is written.
+fn text_len(path: &NPath) -> usize
+    ensures len { result ≡ length (path_text path.now) }
+    ensures short { result ≤ 8000 }
+    ensures rule { is_relative path.now ≡ true }
+{
+    let names = path.len();
+    if names == 0 {
+        return 1;
+    }
+    let mut len = 0;
+    for k in 0..names {
+        len += 1 + path.name(k).as_str().len();
+    }
+    len
+}
+
+/// Appends a path with its length, or a front of that where memory is wanting.
+fn append_path(out: &mut ByteList, path: &NPath) -> Result<(), NoMemory>
+    ensures ok { OnOk result (out.new ≡ out.old ++ path_field path.now) }
+    ensures rule { OnOk result (is_relative path.now ≡ true) }
+    ensures err { OnErr result (take (length out.old) out.new ≡ out.old) }
+{
+    let len = text_len(path);
+    out.append(&(len as u16).to_be_bytes())?;
+    path.write(out)
+}
+
+/// Appends an encrypted data encryption key, or a front of it where memory is wanting.
+fn append_edek(out: &mut ByteList, edek: &Edek) -> Result<(), NoMemory>
+    ensures ok { OnOk result (out.new ≡ out.old ++ edek_field edek.now) }
+    ensures is_edek { OnOk result (IsEdek edek.now) }
+    ensures err { OnErr result (take (length out.old) out.new ≡ out.old) }
+{
+    append_name(out, &edek.version.key)?;
+    out.append(&edek.version.number.to_be_bytes())?;
+    out.append(edek.iv.as_bytes())?;
+    let sealed = edek.sealed.as_bytes();
+    out.push(sealed.len() as u8)?;
+    out.append(sealed)
+}
+
+/// Appends what may be absent, or a front of it where memory is wanting.
+fn append_opt_edek(out: &mut ByteList, edek: &Option<Edek>) -> Result<(), NoMemory>
+    ensures ok { OnOk result (out.new ≡ out.old ++ opt_field edek_field edek.now) }
+    ensures is_edek { OnOk result (IsOpt IsEdek edek.now) }
+    ensures err { OnErr result (take (length out.old) out.new ≡ out.old) }
+{
+    match edek {
+        None => out.push(0),
+        Some(edek) => {
+            out.push(1)?;
+            append_edek(out, edek)
+        }
+    }
+}
+
+/// Appends the first byte of a record and an id, or a front of that where memory is wanting.
+fn append_head(out: &mut ByteList, tag: u8, id: u64) -> Result<(), NoMemory>
+    ensures ok { OnOk result (out.new ≡ out.old ++ tag ∷ to_be_bytes w64 id) }
+    ensures err { OnErr result (take (length out.old) out.new ≡ out.old) }
+{
+    out.push(tag)?;
+    out.append(&id.to_be_bytes())
+}
+
+/// Appends what a record with an id begins with, or a front of that where memory is wanting.
+fn append_front(out: &mut ByteList, tag: u8, id: u64, path: &NPath) -> Result<(), NoMemory>
+    ensures ok { OnOk result (out.new ≡ out.old ++ tag ∷ (to_be_bytes w64 id ++ path_field path.now)) }
+    ensures rule { OnOk result (is_relative path.now ≡ true) }
+    ensures err { OnErr result (take (length out.old) out.new ≡ out.old) }
+{
+    append_head(out, tag, id)?;
+    append_path(out, path)
+}
+
+/// Appends the record of a file that was made, or a front of it where memory is wanting.
+fn append_file(
+    out: &mut ByteList,
+    id: u64,
+    path: &NPath,
+    edek: &Option<Edek>,
+) -> Result<(), NoMemory>
+    ensures ok { OnOk result (out.new ≡ out.old ++ 3 ∷ (to_be_bytes w64 id ++ (path_field path.now ++ opt_field edek_field edek.now))) }
+    ensures rule { OnOk result (is_relative path.now ≡ true) }
+    ensures is_edek { OnOk result (IsOpt IsEdek edek.now) }
+    ensures err { OnErr result (take (length out.old) out.new ≡ out.old) }
+{
+    append_front(out, 3, id, path)?;
+    append_opt_edek(out, edek)
+}
+
+/// Appends the record of a removal, or a front of it where memory is wanting.
+fn append_remove(out: &mut ByteList, path: &NPath) -> Result<(), NoMemory>
+    ensures ok { OnOk result (out.new ≡ out.old ++ 4 ∷ path_field path.now) }
+    ensures rule { OnOk result (is_relative path.now ≡ true) }
+    ensures err { OnErr result (take (length out.old) out.new ≡ out.old) }
+{
+    out.push(4)?;
+    append_path(out, path)
+}
+
+/// Appends the record of a directory that was made a zone, or a front of it where memory is wanting.
+fn append_zone(out: &mut ByteList, path: &NPath, key: &KeyName) -> Result<(), NoMemory>
+    ensures ok { OnOk result (out.new ≡ out.old ++ 6 ∷ (path_field path.now ++ name_field key.now)) }
+    ensures rule { OnOk result (is_relative path.now ≡ true) }
+    ensures is_name { OnOk result (IsKeyName key.now) }
+    ensures err { OnErr result (take (length out.old) out.new ≡ out.old) }
+{
+    out.push(6)?;
+    append_path(out, path)?;
+    append_name(out, key)
+}
+
+impl EditOp {
+    /// Appends the one spelling of the operation as a record of the edit log. Where memory is wanting
+    /// `out` stays as it was.
+    pub fn write(&self, out: &mut ByteList) -> Result<(), NoMemory>
+        requires { IsTrue (fits self.now) }
+        ensures ok { OnOk result (out.new ≡ out.old ++ spelling self.now) }
+        ensures spelled { OnOk result (HasSpelling self.now) }
+        ensures err { OnErr result (out.new ≡ out.old) }
+    {
+        let len = out.len();
+        match self.append_to(out) {
+            Ok(()) => Ok(()),
+            Err(wanting) => {
+                out.truncate(len);
+                Err(wanting)
+            }
+        }
+    }
+
+    /// Appends the spelling, or a front of it where memory is wanting.
+    fn append_to(&self, out: &mut ByteList) -> Result<(), NoMemory>
+        requires { IsTrue (fits self.now) }
+        ensures ok { OnOk result (out.new ≡ out.old ++ spelling self.now) }
+        ensures spelled { OnOk result (HasSpelling self.now) }
+        ensures err { OnErr result (take (length out.old) out.new ≡ out.old) }
+    {
+        match self {
+            EditOp::Opened { opening } => {
+                out.push(1)?;
+                out.append(&opening.to_be_bytes())
+            }
+            EditOp::Mkdir { id, path } => append_front(out, 2, *id, path),
+            EditOp::File { id, path, edek } => append_file(out, *id, path, edek),
+            EditOp::Remove { path } => append_remove(out, path),
+            EditOp::Zone { path, key } => append_zone(out, path, key),
+        }
+    }
+}
