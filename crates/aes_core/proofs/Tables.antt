@@ -5,7 +5,7 @@ use Rattle.std.proofs.lemmas.List.FromFn.{get_or-map-range_with_len}
 use Rattle.aes_core.specs.Field.{field_product, power_of_x, s_box}
 use Rattle.aes_core.specs.Words.{byte_of, word_bytes}
 use Rattle.aes_core.specs.declared.key_schedule.TheConstants.{RCON}
-use Rattle.aes_core.specs.declared.round_tables.TheConstants.{PRODUCTS_0, PRODUCTS_1, PRODUCTS_2, PRODUCTS_3}
+use Rattle.aes_core.specs.declared.round_tables.TheConstants.{PRODUCTS}
 use Rattle.aes_core.specs.declared.substitution.TheConstants.{S_BOX}
 
 -- what one test over the numbers below n says of each of them
@@ -43,19 +43,19 @@ abbrev pub times_3 : ℕ → List ℕ
 times_3 s = s ∷ s ∷ field_product 3 s ∷ field_product 2 s ∷ []
 
 -- the tables of products against the table of the S-box
-table_0 : map (λ x. word_bytes (get_or PRODUCTS_0 x 0)) (range_with_len 0 256) ≡ map (λ x. times_0 (get_or S_BOX x 0)) (range_with_len 0 256)
+table_0 : map (λ x. word_bytes (get_or (get_or PRODUCTS 0 []) x 0)) (range_with_len 0 256) ≡ map (λ x. times_0 (get_or S_BOX x 0)) (range_with_len 0 256)
 unfolding field_product byte_of
 table_0 = refl
 
-table_1 : map (λ x. word_bytes (get_or PRODUCTS_1 x 0)) (range_with_len 0 256) ≡ map (λ x. times_1 (get_or S_BOX x 0)) (range_with_len 0 256)
+table_1 : map (λ x. word_bytes (get_or (get_or PRODUCTS 1 []) x 0)) (range_with_len 0 256) ≡ map (λ x. times_1 (get_or S_BOX x 0)) (range_with_len 0 256)
 unfolding field_product byte_of
 table_1 = refl
 
-table_2 : map (λ x. word_bytes (get_or PRODUCTS_2 x 0)) (range_with_len 0 256) ≡ map (λ x. times_2 (get_or S_BOX x 0)) (range_with_len 0 256)
+table_2 : map (λ x. word_bytes (get_or (get_or PRODUCTS 2 []) x 0)) (range_with_len 0 256) ≡ map (λ x. times_2 (get_or S_BOX x 0)) (range_with_len 0 256)
 unfolding field_product byte_of
 table_2 = refl
 
-table_3 : map (λ x. word_bytes (get_or PRODUCTS_3 x 0)) (range_with_len 0 256) ≡ map (λ x. times_3 (get_or S_BOX x 0)) (range_with_len 0 256)
+table_3 : map (λ x. word_bytes (get_or (get_or PRODUCTS 3 []) x 0)) (range_with_len 0 256) ≡ map (λ x. times_3 (get_or S_BOX x 0)) (range_with_len 0 256)
 unfolding field_product byte_of
 table_3 = refl
 
@@ -65,14 +65,14 @@ products_at table times x same within =
     same_below [] (λ y. word_bytes (get_or table y 0)) (λ y. times (get_or S_BOX y 0)) 256 x same within
     ∙ ap times (substituted_is x within)
 
-pub products_0_is : (x : ℕ) → x < 256 → word_bytes (get_or PRODUCTS_0 x 0) ≡ times_0 (s_box x)
-products_0_is x within = products_at PRODUCTS_0 times_0 x table_0 within
+pub products_0_is : (x : ℕ) → x < 256 → word_bytes (get_or (get_or PRODUCTS 0 []) x 0) ≡ times_0 (s_box x)
+products_0_is x within = products_at (get_or PRODUCTS 0 []) times_0 x table_0 within
 
-pub products_1_is : (x : ℕ) → x < 256 → word_bytes (get_or PRODUCTS_1 x 0) ≡ times_1 (s_box x)
-products_1_is x within = products_at PRODUCTS_1 times_1 x table_1 within
+pub products_1_is : (x : ℕ) → x < 256 → word_bytes (get_or (get_or PRODUCTS 1 []) x 0) ≡ times_1 (s_box x)
+products_1_is x within = products_at (get_or PRODUCTS 1 []) times_1 x table_1 within
 
-pub products_2_is : (x : ℕ) → x < 256 → word_bytes (get_or PRODUCTS_2 x 0) ≡ times_2 (s_box x)
-products_2_is x within = products_at PRODUCTS_2 times_2 x table_2 within
+pub products_2_is : (x : ℕ) → x < 256 → word_bytes (get_or (get_or PRODUCTS 2 []) x 0) ≡ times_2 (s_box x)
+products_2_is x within = products_at (get_or PRODUCTS 2 []) times_2 x table_2 within
 
-pub products_3_is : (x : ℕ) → x < 256 → word_bytes (get_or PRODUCTS_3 x 0) ≡ times_3 (s_box x)
-products_3_is x within = products_at PRODUCTS_3 times_3 x table_3 within
+pub products_3_is : (x : ℕ) → x < 256 → word_bytes (get_or (get_or PRODUCTS 3 []) x 0) ≡ times_3 (s_box x)
+products_3_is x within = products_at (get_or PRODUCTS 3 []) times_3 x table_3 within

@@ -8,12 +8,13 @@ use aes_core::AnyAes;
 
 /// The counter block `j` blocks after the first.
 #[inline(always)]
-#[tactic(auto, unfolding(crate::specs::Ctr::counter_block))]
+#[tactic(auto, using(crate::proofs::Counters::swapped_bytes), unfolding(crate::specs::Ctr::counter_block))]
 fn counter_block(counter: [u8; 16], j: u64) -> [u8; 16]
     ensures { result ≡ counter_block counter j }
 {
     let first = u128::from_be_bytes(counter);
-    first.wrapping_add(j as u128).to_be_bytes()
+    // Compiled code writes whole words here, where it would write byte after byte for to_be_bytes.
+    first.wrapping_add(j as u128).swap_bytes().to_le_bytes()
 }
 
 /// The block of the key stream `j` blocks after the first.
