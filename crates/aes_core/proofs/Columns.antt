@@ -1,10 +1,10 @@
 -- Columns as words: their sums, and the columns of a round.
-use Rattle.std.proofs.Common.{◌≡◌, ℕ, suc, ap, ◌+◌, ◌*◌, ◌/◌, ◌%◌, ◌^◌, ◌<◌, ◌≤◌, List, [], ◌∷◌, ◌++◌, get_or, length, slice_index, slice_index_or, refl, ◌∙◌, arith, bit_xor}
+use Rattle.std.proofs.Common.{◌≡◌, ℕ, ◌+◌, ◌*◌, ◌/◌, ◌%◌, ◌^◌, ◌<◌, List, [], ◌∷◌, ◌++◌, get_or, slice_index, slice_index_or, refl, ◌∙◌, arith, bit_xor}
 use Rattle.std.proofs.lemmas.Nat.{xor_shr, xor_mod, xor_comm}
 use Rattle.std.specs.Int.Bits.{xor_assoc}
 use Rattle.std.specs.Int.{w32, from_le_bytes}
 use Rattle.aes_core.specs.Field.{field_product, s_box}
-use Rattle.aes_core.specs.Aes.{add_round_key, mix_columns, mixed, shift_rows, state_after, sub_bytes, word, xor_word}
+use Rattle.aes_core.specs.Aes.{add_round_key, mixed, word, xor_word}
 use Rattle.aes_core.specs.Words.{byte_of, mixed_word, word_bytes}
 use Rattle.aes_core.specs.declared.round_tables.TheConstants.{PRODUCTS}
 use Rattle.aes_core.proofs.Tables.{products_0_is, products_1_is, products_2_is, products_3_is, times_0, times_1, times_2, times_3}
@@ -69,38 +69,3 @@ unfolding add_round_key
 add_round_key-by_columns words round state p q s t p_is q_is s_is t_is =
     let none_more : 4 * round + 0 ≡ 4 * round = omega arith in
     rw (none_more, p_is, q_is, s_is, t_is) refl
-
--- a full round
-abbrev full_round : List (List ℕ) → ℕ → List ℕ → List ℕ
-full_round words round state = add_round_key words round (mix_columns (shift_rows (sub_bytes state)))
-
--- one more round
-pub state_after-suc : (words : List (List ℕ)) (block : List ℕ) (n : ℕ) (state next : List ℕ) → state ≡ state_after words block n → next ≡ full_round words (suc n) state → next ≡ state_after words block (suc n)
-unfolding state_after
-state_after-suc words block n state next state_is next_is = next_is ∙ ap (λ (before : List ℕ). full_round words (suc n) before) state_is
-
--- two more rounds
-pub state_after-two_more : (words : List (List ℕ)) (block : List ℕ) (n : ℕ) (state next last : List ℕ) → state ≡ state_after words block n
-    → next ≡ full_round words (suc n) state → last ≡ full_round words (suc (suc n)) next → last ≡ state_after words block (suc (suc n))
-state_after-two_more words block n state next last state_is next_is last_is =
-    state_after-suc words block (suc n) next last (state_after-suc words block n state next state_is next_is) last_is
-
--- the first nine rounds
-pub state_after-nine : (words : List (List ℕ)) (block s0 s1 s2 s3 s4 s5 s6 s7 s8 s9 : List ℕ) → s0 ≡ add_round_key words 0 block
-    → s1 ≡ full_round words 1 s0
-    → s2 ≡ full_round words 2 s1
-    → s3 ≡ full_round words 3 s2
-    → s4 ≡ full_round words 4 s3
-    → s5 ≡ full_round words 5 s4
-    → s6 ≡ full_round words 6 s5
-    → s7 ≡ full_round words 7 s6
-    → s8 ≡ full_round words 8 s7
-    → s9 ≡ full_round words 9 s8
-    → s9 ≡ state_after words block 9
-unfolding state_after
-state_after-nine words block s0 s1 s2 s3 s4 s5 s6 s7 s8 s9 is_0 is_1 is_2 is_3 is_4 is_5 is_6 is_7 is_8 is_9 =
-    let after_2 = state_after-two_more words block 0 s0 s1 s2 is_0 is_1 is_2 in
-    let after_4 = state_after-two_more words block 2 s2 s3 s4 after_2 is_3 is_4 in
-    let after_6 = state_after-two_more words block 4 s4 s5 s6 after_4 is_5 is_6 in
-    let after_8 = state_after-two_more words block 6 s6 s7 s8 after_6 is_7 is_8 in
-    state_after-suc words block 8 s8 s9 after_8 is_9

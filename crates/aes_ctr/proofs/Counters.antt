@@ -1,5 +1,5 @@
 -- The bytes of a number, turned around.
-use Rattle.std.proofs.Common.{◌≡◌, ℕ, zero, suc, ◌+◌, ◌*◌, ◌/◌, ◌%◌, ◌^◌, ◌<◌, List, [], ◌∷◌, length, get_or, refl, sym, ap, ◌∙◌, arith}
+use Rattle.std.proofs.Common.{◌≡◌, ℕ, zero, suc, ◌+◌, ◌*◌, ◌/◌, ◌%◌, ◌^◌, ◌<◌, List, [], ◌∷◌, length, get_or, sym, ap, ◌∙◌, arith}
 use Rattle.std.specs.Int.{w128, from_be_bytes, swap_bytes, to_be_bytes, to_le_bytes}
 use Rattle.std.proofs.Math.Nat.{pow-succ', div-div-eq-div-mul}
 

@@ -135,7 +135,12 @@ fn assert_pieces(rt: &impl Abort, key: &AnyAes, counter: [u8; 16]) {
     for offset in 0..=40usize {
         for length in 0..=300usize {
             let mut bytes = message();
-            ctr_at(key, counter, offset as u64, &mut bytes[offset..offset + length]);
+            ctr_at(
+                key,
+                counter,
+                offset as u64,
+                &mut bytes[offset..offset + length],
+            );
             let mut want = message();
             want[offset..offset + length].copy_from_slice(&whole[offset..offset + length]);
             assert_eq!(rt; bytes.as_slice(), want.as_slice());

@@ -1,4 +1,4 @@
-use Rattle.std.proofs.Common.{◌≡◌, ◌≤◌, length, arith, ◌∙◌}
+use Rattle.std.proofs.Common.{length, arith}
 use Rattle.aes_ctr.proofs.Blocks.{all_done, none_done}
 use Rattle.aes_ctr.proofs.ctr_at.Goals as goal
 

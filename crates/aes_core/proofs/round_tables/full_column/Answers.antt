@@ -1,4 +1,4 @@
-use Rattle.std.proofs.Common.{◌≡◌, arith}
+use Rattle.std.proofs.Common.{arith}
 use Rattle.aes_core.proofs.Columns.{full_column_is}
 use Rattle.aes_core.proofs.round_tables.full_column.Goals as goal
 

@@ -1,4 +1,3 @@
-use Rattle.std.proofs.Common.{◌≡◌, ◌∙◌, refl, List, ℕ}
 use Rattle.aes_core.proofs.Columns.{sum_is}
 use Rattle.aes_core.proofs.rounds.last_column.Goals as goal
 

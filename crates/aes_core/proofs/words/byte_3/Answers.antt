@@ -1,4 +1,4 @@
-use Rattle.std.proofs.Common.{◌/◌, ◌^◌, arith}
+use Rattle.std.proofs.Common.{arith}
 use Rattle.aes_core.specs.Words.{byte_of}
 use Rattle.aes_core.proofs.words.byte_3.Goals as goal
 

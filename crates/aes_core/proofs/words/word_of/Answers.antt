@@ -1,4 +1,3 @@
-use Rattle.std.proofs.Common.{arith}
 use Rattle.aes_core.proofs.Columns.{word_bytes-from_le_bytes}
 use Rattle.aes_core.proofs.words.word_of.Goals as goal
 

@@ -1,4 +1,4 @@
-use Rattle.std.proofs.Common.{◌≡◌, ◌+◌, ◌/◌, refl, arith}
+use Rattle.std.proofs.Common.{◌+◌, ◌/◌, refl, arith}
 use Rattle.aes_ctr.proofs.Blocks.{block_done}
 use Rattle.aes_ctr.proofs.pieces.xor_block.Goals as goal
 

@@ -1,4 +1,4 @@
-use Rattle.std.proofs.Common.{◌≡◌, ◌+◌, ◌-◌, ◌/◌, ◌%◌, refl, arith, ◌∙◌, length, get_or}
+use Rattle.std.proofs.Common.{◌≡◌, ◌+◌, ◌-◌, ◌/◌, ◌%◌, refl, arith}
 use Rattle.std.proofs.Math.ListN.{length-set}
 use Rattle.aes_ctr.specs.Ctr.{stream_byte}
 use Rattle.aes_ctr.proofs.Blocks.{byte_done}

@@ -1,4 +1,4 @@
-use Rattle.std.proofs.Common.{◌≡◌, ℕ, ◌+◌, ◌/◌, List, [], ap, arith, get_or}
+use Rattle.std.proofs.Common.{ℕ, ◌+◌, ◌/◌, List, [], ap, arith, get_or}
 use Rattle.aes_ctr.proofs.Blocks.{block_done}
 use Rattle.aes_ctr.proofs.pieces.xor_eight_blocks.Goals as goal
 
