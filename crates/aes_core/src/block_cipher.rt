@@ -3,7 +3,7 @@ ghost use Rattle.std.specs.Prelude.{◌≡◌, ◌+◌, ◌*◌, List, ℕ, leng
 ghost use Rattle.aes_core.specs.Aes.{cipher, expanded_key, IsKeySize, key_bytes};
 
 use crate::key_schedule::{key_term, xor_word};
-use crate::state::encrypted;
+use crate::rounds::encrypted;
 use std::marker::Model;
 
 /// AES (FIPS 197) under one key of `NK` words, which are expanded to `W` words: `Aes<4, 44>` is
@@ -44,6 +44,6 @@ impl<const NK: usize, const W: usize> Aes<NK, W> {
     pub fn encrypt_block(&self, block: &[u8; 16]) -> [u8; 16]
         ensures { result ≡ cipher self.now block.now }
     {
-        encrypted(&self.words, NK + 6, block)
+        encrypted::<NK, W>(&self.words, block)
     }
 }

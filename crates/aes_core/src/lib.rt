@@ -5,8 +5,10 @@
 mod any_length;
 mod block_cipher;
 mod key_schedule;
-mod state;
+mod round_tables;
+mod rounds;
 mod substitution;
+mod words;
 
 pub use any_length::AnyAes;
 pub use block_cipher::Aes;

@@ -1,4 +1,6 @@
-//! The vectors of FIPS 197 and of NIST SP 800-38A.
+//! The vectors of FIPS 197 and of NIST SP 800-38A, and the cipher byte by byte beside the code.
+mod byte_wise;
+
 use crate::{Aes, AnyAes};
 use hk_base::Dek;
 use std::process::Abort;
@@ -111,4 +113,40 @@ fn sp_800_38a_ecb_aes_256(rt: HostRuntime) {
         0x23304b7a39f9f3ff067d8d8f9e24ecc7,
     ];
     assert_encrypts(&rt, key, wanted);
+}
+
+/// Fills the bytes from a generator of pseudorandom numbers (xorshift), and returns its next state.
+fn filled(seed: u64, bytes: &mut [u8]) -> u64 {
+    let mut state = seed;
+    for byte in bytes.iter_mut() {
+        state ^= state << 13;
+        state ^= state >> 7;
+        state ^= state << 17;
+        *byte = state.to_be_bytes()[0];
+    }
+    state
+}
+
+/// Twelve keys of each length, and a block under each, byte by byte and by the code: keys and blocks of
+/// zeros, of ones, and others.
+#[test]
+fn the_code_agrees_with_the_cipher_byte_by_byte(rt: HostRuntime) {
+    let mut seed = 0x2545f4914f6cdd1d;
+    let mut key = [0u8; 32];
+    let mut block = [0u8; 16];
+    for turn in 0..12u32 {
+        for nk in [4usize, 6, 8] {
+            let bytes = &key[..4 * nk];
+            let material = Dek::read(bytes).expect(&rt, "a key has 16, 24 or 32 bytes");
+            let want = byte_wise::encrypted(bytes, nk, &block);
+            assert_eq!(rt; AnyAes::of(&material).encrypt_block(&block), want);
+        }
+        if turn == 0 {
+            key = [0xff; 32];
+            block = [0xff; 16];
+        } else {
+            seed = filled(seed, &mut key);
+            seed = filled(seed, &mut block);
+        }
+    }
 }

@@ -3,28 +3,15 @@
 //! decryption are one operation. No call takes memory.
 #![tactic(auto)]
 
+mod pieces;
+mod stream;
+
 ghost use Rattle.std.specs.Prelude.{◌≡◌, ◌+◌, ◌^◌, ◌<◌, length};
-ghost use Rattle.aes_core.specs.Aes.{cipher};
 ghost use Rattle.aes_core.specs.AnyAes.{key_of};
-ghost use Rattle.aes_ctr.specs.Ctr.{counter_block, ctr};
+ghost use Rattle.aes_ctr.specs.Ctr.{ctr};
 
+use crate::pieces::{xor_blocks, xor_bytes, xor_eights};
 use aes_core::AnyAes;
-
-/// The counter block `j` blocks after the first.
-#[tactic(auto, unfolding(crate::specs::Ctr::counter_block))]
-fn counter_block(counter: [u8; 16], j: u64) -> [u8; 16]
-    ensures { result ≡ counter_block counter j }
-{
-    let first = u128::from_be_bytes(counter);
-    first.wrapping_add(j as u128).to_be_bytes()
-}
-
-/// The block of the key stream `j` blocks after the first.
-fn stream_block(key: &AnyAes, counter: [u8; 16], j: u64) -> [u8; 16]
-    ensures { result ≡ cipher (key_of key.now) (counter_block counter j) }
-{
-    key.encrypt_block(&counter_block(counter, j))
-}
 
 /// Encrypts or decrypts the bytes in place: xors the key stream from the counter on into them.
 pub fn ctr_xor(key: &AnyAes, counter: [u8; 16], bytes: &mut [u8])
@@ -40,15 +27,16 @@ pub fn ctr_at(key: &AnyAes, counter: [u8; 16], offset: u64, bytes: &mut [u8])
     requires { offset + length bytes.old < 2 ^ 64 }
     ensures { bytes.new ≡ ctr (key_of key.now) counter offset bytes.old }
 {
-    let mut stream = stream_block(key, counter, offset / 16);
-    for i in 0..bytes.len() {
-        let place = offset + i as u64;
-        if place % 16 == 0 {
-            let next = stream_block(key, counter, place / 16);
-            stream = next;
-        }
-        bytes[i] ^= stream[(place % 16) as usize];
+    let end = bytes.len();
+    let border = ((16 - offset % 16) % 16) as usize;
+    if end <= border {
+        xor_bytes(key, counter, offset, bytes, 0, end);
+        return;
     }
+    xor_bytes(key, counter, offset, bytes, 0, border);
+    let eights_end = xor_eights(key, counter, offset, bytes, border);
+    let blocks_end = xor_blocks(key, counter, offset, bytes, eights_end);
+    xor_bytes(key, counter, offset, bytes, blocks_end, end);
 }
 
 #[cfg(test)]

@@ -1,4 +1,4 @@
-//! The vectors of NIST SP 800-38A, and the wrap of the counter.
+//! The vectors of NIST SP 800-38A, the wrap of the counter, and pieces of messages.
 use crate::{ctr_at, ctr_xor};
 use aes_core::AnyAes;
 use hk_base::Dek;
@@ -97,4 +97,73 @@ fn the_counter_wraps(rt: HostRuntime) {
     let mut bytes = [0u8; 17];
     ctr_xor(&key, [0xff; 16], &mut bytes);
     assert_eq!(rt; bytes[16], 0x66);
+}
+
+/// Bytes of the longest message below, which holds each piece of up to 300 bytes that begins up to 40
+/// bytes behind its start.
+const LONGEST: usize = 340;
+
+/// A message without a pattern of 16 or 128 bytes.
+fn message() -> [u8; LONGEST] {
+    let mut bytes = [0u8; LONGEST];
+    for (i, byte) in bytes.iter_mut().enumerate() {
+        *byte = (i % 251) as u8;
+    }
+    bytes
+}
+
+/// Counter mode block by block and byte by byte.
+fn xor_byte_wise(key: &AnyAes, counter: [u8; 16], bytes: &mut [u8]) {
+    let first = u128::from_be_bytes(counter);
+    for (i, block) in bytes.chunks_mut(16).enumerate() {
+        let stream = key.encrypt_block(&first.wrapping_add(i as u128).to_be_bytes());
+        for (byte, other) in block.iter_mut().zip(stream.iter()) {
+            *byte ^= *other;
+        }
+    }
+}
+
+/// Each piece of up to 300 bytes that begins up to 40 bytes behind the start of the message is the
+/// same as in the message encrypted whole, which is the same as encrypted byte by byte. What stands
+/// around the piece stays.
+fn assert_pieces(rt: &impl Abort, key: &AnyAes, counter: [u8; 16]) {
+    let mut whole = message();
+    ctr_xor(key, counter, &mut whole);
+    let mut byte_wise = message();
+    xor_byte_wise(key, counter, &mut byte_wise);
+    assert_eq!(rt; whole.as_slice(), byte_wise.as_slice());
+    for offset in 0..=40usize {
+        for length in 0..=300usize {
+            let mut bytes = message();
+            ctr_at(
+                key,
+                counter,
+                offset as u64,
+                &mut bytes[offset..offset + length],
+            );
+            let mut want = message();
+            want[offset..offset + length].copy_from_slice(&whole[offset..offset + length]);
+            assert_eq!(rt; bytes.as_slice(), want.as_slice());
+        }
+    }
+}
+
+#[test]
+fn pieces_at_each_offset_and_length(rt: HostRuntime) {
+    let key = cipher_of(&rt, &[0x2b; 16]);
+    assert_pieces(&rt, &key, COUNTER);
+}
+
+/// The counter wraps behind the first block.
+#[test]
+fn pieces_under_the_greatest_counter(rt: HostRuntime) {
+    let key = cipher_of(&rt, &[0x8e; 24]);
+    assert_pieces(&rt, &key, [0xff; 16]);
+}
+
+/// The carry goes through the low eight bytes of the counter behind the fifth block.
+#[test]
+fn pieces_under_a_counter_that_carries(rt: HostRuntime) {
+    let key = cipher_of(&rt, &[0x60; 32]);
+    assert_pieces(&rt, &key, 0xfffffffffffffffb_u128.to_be_bytes());
 }

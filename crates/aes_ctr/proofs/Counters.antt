@@ -1,0 +1,52 @@
+-- The bytes of a number, turned around.
+use Rattle.std.proofs.Common.{◌≡◌, ℕ, zero, suc, ◌+◌, ◌*◌, ◌/◌, ◌%◌, ◌^◌, ◌<◌, List, [], ◌∷◌, length, get_or, sym, ap, ◌∙◌, arith}
+use Rattle.std.specs.Int.{w128, from_be_bytes, swap_bytes, to_be_bytes, to_le_bytes}
+use Rattle.std.proofs.Math.Nat.{pow-succ', div-div-eq-div-mul}
+
+abbrev AreBytes : List ℕ → Type 0
+AreBytes [] = Unit {0}
+AreBytes (b ∷ bs) = (b < 256) × AreBytes bs
+
+-- the number of some bytes, the lowest first
+abbrev number : List ℕ → ℕ
+number [] = 0
+number (b ∷ bs) = b + 256 * number bs
+
+byte_of-number : (bs : List ℕ) (i : ℕ) → AreBytes bs → i < length bs → number bs / 256 ^ i % 256 ≡ get_or bs i 0
+byte_of-number [] i small within = absurd (omega arith)
+byte_of-number (b ∷ bs) zero small within = omega (arith, small.0)
+byte_of-number (b ∷ bs) (suc i) small within =
+    let rest : (b + 256 * number bs) / 256 ≡ number bs = omega (arith, small.0) in
+    let shifted : (b + 256 * number bs) / 256 ^ suc i ≡ number bs / 256 ^ i =
+    ap (λ (m : ℕ). (b + 256 * number bs) / m) (pow-succ' 256 i) ∙ sym (div-div-eq-div-mul (b + 256 * number bs) 256 (256 ^ i)) ∙ ap (λ (m : ℕ). m / 256 ^ i) rest in
+    ap (λ (m : ℕ). m % 256) shifted ∙ byte_of-number bs i small.1 (omega arith)
+
+-- what is read with the first byte highest, and written with the lowest byte first
+read_and_written : (n0 n1 n2 n3 n4 n5 n6 n7 n8 n9 n10 n11 n12 n13 n14 n15 : ℕ) → AreBytes (n15 ∷ n14 ∷ n13 ∷ n12 ∷ n11 ∷ n10 ∷ n9 ∷ n8 ∷ n7 ∷ n6 ∷ n5 ∷ n4 ∷ n3 ∷ n2 ∷ n1 ∷ n0 ∷ [])
+    → to_le_bytes w128 (from_be_bytes w128 (n0 ∷ n1 ∷ n2 ∷ n3 ∷ n4 ∷ n5 ∷ n6 ∷ n7 ∷ n8 ∷ n9 ∷ n10 ∷ n11 ∷ n12 ∷ n13 ∷ n14 ∷ n15 ∷ [])) ≡ n15 ∷ n14 ∷ n13 ∷ n12 ∷ n11 ∷ n10 ∷ n9 ∷ n8 ∷ n7 ∷ n6 ∷ n5 ∷ n4 ∷ n3 ∷ n2 ∷ n1 ∷ n0 ∷ []
+read_and_written n0 n1 n2 n3 n4 n5 n6 n7 n8 n9 n10 n11 n12 n13 n14 n15 small =
+    let turned : List ℕ = n15 ∷ n14 ∷ n13 ∷ n12 ∷ n11 ∷ n10 ∷ n9 ∷ n8 ∷ n7 ∷ n6 ∷ n5 ∷ n4 ∷ n3 ∷ n2 ∷ n1 ∷ n0 ∷ [] in
+    let is : from_be_bytes w128 (n0 ∷ n1 ∷ n2 ∷ n3 ∷ n4 ∷ n5 ∷ n6 ∷ n7 ∷ n8 ∷ n9 ∷ n10 ∷ n11 ∷ n12 ∷ n13 ∷ n14 ∷ n15 ∷ []) ≡ number turned = omega arith in
+    let at_0 : number turned % 256 ≡ n15 = omega (arith, small.0) in
+    let at_1 = byte_of-number turned 1 small (omega arith) in
+    let at_2 = byte_of-number turned 2 small (omega arith) in
+    let at_3 = byte_of-number turned 3 small (omega arith) in
+    let at_4 = byte_of-number turned 4 small (omega arith) in
+    let at_5 = byte_of-number turned 5 small (omega arith) in
+    let at_6 = byte_of-number turned 6 small (omega arith) in
+    let at_7 = byte_of-number turned 7 small (omega arith) in
+    let at_8 = byte_of-number turned 8 small (omega arith) in
+    let at_9 = byte_of-number turned 9 small (omega arith) in
+    let at_10 = byte_of-number turned 10 small (omega arith) in
+    let at_11 = byte_of-number turned 11 small (omega arith) in
+    let at_12 = byte_of-number turned 12 small (omega arith) in
+    let at_13 = byte_of-number turned 13 small (omega arith) in
+    let at_14 = byte_of-number turned 14 small (omega arith) in
+    let at_15 = byte_of-number turned 15 small (omega arith) in
+    rw is (λ i. at_0 i ∷ at_1 i ∷ at_2 i ∷ at_3 i ∷ at_4 i ∷ at_5 i ∷ at_6 i ∷ at_7 i ∷ at_8 i ∷ at_9 i ∷ at_10 i ∷ at_11 i ∷ at_12 i ∷ at_13 i ∷ at_14 i ∷ at_15 i ∷ [])
+
+-- a number whose bytes are swapped, written with its lowest byte first, has its own bytes with the highest first
+pub swapped_bytes : (n : ℕ) → to_le_bytes w128 (swap_bytes w128 n) ≡ to_be_bytes w128 n
+swapped_bytes n =
+    read_and_written (n % 256) (n / 256 ^ 1 % 256) (n / 256 ^ 2 % 256) (n / 256 ^ 3 % 256) (n / 256 ^ 4 % 256) (n / 256 ^ 5 % 256) (n / 256 ^ 6 % 256) (n / 256 ^ 7 % 256) (n / 256 ^ 8 % 256) (n / 256 ^ 9 % 256) (n / 256 ^ 10 % 256) (n / 256 ^ 11 % 256) (n / 256 ^ 12 % 256) (n / 256 ^ 13 % 256) (n / 256 ^ 14 % 256) (n / 256 ^ 15 % 256)
+    (omega arith, (omega arith, (omega arith, (omega arith, (omega arith, (omega arith, (omega arith, (omega arith, (omega arith, (omega arith, (omega arith, (omega arith, (omega arith, (omega arith, (omega arith, (omega arith, tt))))))))))))))))

@@ -1,0 +1,52 @@
+//! The key stream, block by block.
+ghost use Rattle.std.specs.Prelude.{◌≡◌, ◌+◌, ◌^◌, ◌<◌, [], ◌∷◌};
+ghost use Rattle.aes_core.specs.Aes.{cipher};
+ghost use Rattle.aes_core.specs.AnyAes.{key_of};
+ghost use Rattle.aes_ctr.specs.Ctr.{counter_block};
+
+use aes_core::AnyAes;
+
+/// The counter block `j` blocks after the first.
+#[inline(always)]
+#[tactic(auto, using(crate::proofs::Counters::swapped_bytes), unfolding(crate::specs::Ctr::counter_block))]
+fn counter_block(counter: [u8; 16], j: u64) -> [u8; 16]
+    ensures { result ≡ counter_block counter j }
+{
+    let first = u128::from_be_bytes(counter);
+    // Compiled code writes whole words here, where it would write byte after byte for to_be_bytes.
+    first.wrapping_add(j as u128).swap_bytes().to_le_bytes()
+}
+
+/// The block of the key stream `j` blocks after the first.
+#[inline(always)]
+pub(crate) fn stream_block(key: &AnyAes, counter: [u8; 16], j: u64) -> [u8; 16]
+    ensures { result ≡ cipher (key_of key.now) (counter_block counter j) }
+{
+    key.encrypt_block(&counter_block(counter, j))
+}
+
+/// Eight blocks of the key stream, from block `j` on.
+#[inline(always)]
+pub(crate) fn eight_stream_blocks(key: &AnyAes, counter: [u8; 16], j: u64) -> [[u8; 16]; 8]
+    requires { j + 7 < 2 ^ 64 }
+    ensures { result ≡
+        cipher (key_of key.now) (counter_block counter j)
+        ∷ cipher (key_of key.now) (counter_block counter (j + 1))
+        ∷ cipher (key_of key.now) (counter_block counter (j + 2))
+        ∷ cipher (key_of key.now) (counter_block counter (j + 3))
+        ∷ cipher (key_of key.now) (counter_block counter (j + 4))
+        ∷ cipher (key_of key.now) (counter_block counter (j + 5))
+        ∷ cipher (key_of key.now) (counter_block counter (j + 6))
+        ∷ cipher (key_of key.now) (counter_block counter (j + 7)) ∷ [] }
+{
+    [
+        stream_block(key, counter, j),
+        stream_block(key, counter, j + 1),
+        stream_block(key, counter, j + 2),
+        stream_block(key, counter, j + 3),
+        stream_block(key, counter, j + 4),
+        stream_block(key, counter, j + 5),
+        stream_block(key, counter, j + 6),
+        stream_block(key, counter, j + 7),
+    ]
+}
