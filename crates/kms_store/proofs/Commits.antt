@@ -1,7 +1,7 @@
 -- What a commit and a settling leave.
-use Rattle.std.proofs.Common.{◌≡◌, ℕ, Bool, true, List, [], ◌∷◌, ◌++◌, map, Option, Some, None, sym, subst}
+use Rattle.std.proofs.Common.{◌≡◌, ℕ, Bool, true, List, [], ◌∷◌, ◌++◌, map, Option, Some, None, sym, ap, ◌∙◌, subst}
 use Rattle.std.specs.Prelude.{if◌then◌else◌, option_map, IfSome}
-use Rattle.hk_base.specs.Disk.{DiskState, LeavesOnly}
+use Rattle.hk_base.specs.Disk.{DiskState, LeavesOnly, Tells}
 use Rattle.frame_log.specs.Format.{IsBeforeOrAfter}
 use Rattle.frame_log.specs.Stands.{Stands}
 use Rattle.frame_log.specs.declared.log.Log.{Log}
@@ -10,7 +10,7 @@ use Rattle.key_rows.specs.Table.{Table, Kept, no_keys, applies, after}
 use Rattle.key_rows.specs.Records.{HasSpelling, spelling}
 use Rattle.key_rows.specs.declared.rows.KeyCommand.{KeyCommand}
 use Rattle.kms_store.specs.Replay.{key_replay}
-use Rattle.kms_store.specs.Store.{StoreState, StandsFor, IsWithOrWithout}
+use Rattle.kms_store.specs.Store.{Settles, StoreState, StandsFor, IsWithOrWithout, settled_commands, settled_table}
 use Rattle.kms_store.proofs.Replays.{replay_more, spelled_more}
 
 module _ (old new : DiskState) (store : StoreState) (commands : List KeyCommand) (command : KeyCommand) where
@@ -50,3 +50,13 @@ module _ (old new : DiskState) (store : StoreState) (commands : List KeyCommand)
   pub moments : (file : ℕ) (payload : List ℕ) → file ≡ 0 → payload ≡ spelling command → LeavesOnly file old new (IsBeforeOrAfter file (map spelling commands) payload) → LeavesOnly 0 old new (IsWithOrWithout commands command)
   moments file payload zero_is is left =
       subst (λ (p : List ℕ). LeavesOnly 0 old new (IsBeforeOrAfter 0 (map spelling commands) p)) is (subst (λ (k : ℕ). LeavesOnly k old new (IsBeforeOrAfter k (map spelling commands) payload)) zero_is left)
+
+-- the pending command was kept, and took effect
+pub settles_kept : (old new : DiskState) (store store' : StoreState) (command : KeyCommand) → store.pending ≡ Some command → store'.pending ≡ None → store'.table.keys ≡ after store.table.keys command
+    → (Tells old → (commands : List KeyCommand) → StandsFor old store commands → StandsFor new store' (commands ++ command ∷ [])) → Settles old new store store'
+settles_kept old new store store' command waits none then_is added = record {
+  kept = true;
+  none = none;
+  table = then_is ∙ ap (λ (o : Option KeyCommand). settled_table true o store.table.keys) (sym waits);
+  log = λ told commands s. subst (λ (o : Option KeyCommand). StandsFor new store' (commands ++ settled_commands true o)) (sym waits) (added told commands s);
+}

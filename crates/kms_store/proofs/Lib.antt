@@ -1,3 +1,4 @@
-mod Replays
 mod Commits
+pub mod Layers
+pub mod Replays
 mod Starts

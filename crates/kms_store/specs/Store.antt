@@ -1,11 +1,11 @@
 -- A store over a key log, and what it stands for.
-use Rattle.std.specs.Prelude.{◌≡◌, ℕ, ◌+◌, List, ◌∷◌, ◌++◌, map, Option, Some, None, option_map, IfSome}
+use Rattle.std.specs.Prelude.{◌≡◌, ℕ, ◌+◌, Bool, true, false, List, [], ◌∷◌, ◌++◌, map, Option, Some, None, option_map, IfSome}
 use Rattle.std.specs.List.{AllByRecursion}
-use Rattle.hk_base.specs.Disk.{DiskState}
-use Rattle.frame_log.specs.Format.{log_of, Found, NoLog, end_of, IsBeforeOrAfter, IsRecovered}
+use Rattle.hk_base.specs.Disk.{DiskState, Tells}
+use Rattle.frame_log.specs.Format.{log_of, Found, NoLog, end_of, IsAtRest, IsBeforeOrAfter, IsRecovered}
 use Rattle.frame_log.specs.Stands.{Stands}
 use Rattle.frame_log.specs.declared.log.Log.{Log}
-use Rattle.key_rows.specs.Table.{Table, Kept, no_keys}
+use Rattle.key_rows.specs.Table.{Table, Kept, after, applies, no_keys}
 use Rattle.key_rows.specs.Records.{HasSpelling, spelling}
 use Rattle.key_rows.specs.declared.rows.KeyCommand.{KeyCommand}
 use Rattle.key_rows.specs.declared.rows.KeyCommand.TheVariants.{Opened}
@@ -30,6 +30,24 @@ pub record StandsFor (disk : DiskState) (store : StoreState) (commands : List Ke
   pub makes : key_replay no_keys commands ≡ Some store.table.keys
   pub waits : IfSome store.pending HasSpelling
   pub log : Stands disk store.log (map spelling commands) (option_map spelling store.pending)
+
+-- the table, and what is acknowledged, once the pending command was settled: it was kept, or not
+abbrev pub settled_table : Bool → Option KeyCommand → Table → Table
+settled_table kept None t = t
+settled_table true (Some command) t = after t command
+settled_table false (Some command) t = t
+
+abbrev pub settled_commands : Bool → Option KeyCommand → List KeyCommand
+settled_commands kept None = []
+settled_commands true (Some command) = command ∷ []
+settled_commands false (Some command) = []
+
+-- The pending command was settled, and was kept or not.
+pub record Settles (old new : DiskState) (store store' : StoreState) : Type 0 where
+  pub kept : Bool
+  pub none : store'.pending ≡ None
+  pub table : store'.table.keys ≡ settled_table kept store.pending store.table.keys
+  pub log : Tells old → (commands : List KeyCommand) → StandsFor old store commands → StandsFor new store' (commands ++ settled_commands kept store.pending)
 
 -- a key log of these commands, with one more or without it, now and where its end gate byte is read as 1
 abbrev pub IsWithOrWithout : List KeyCommand → KeyCommand → List ℕ → Type 0
@@ -76,3 +94,27 @@ pub record IsOpening (frames : List (ℕ × List ℕ)) (bytes : List ℕ) : Type
   pub table : Table
   pub replayed : IsReplayed frames table
   pub left : IsWithOrWithout replayed.commands (next_opening table) bytes
+
+-- what a crash may leave of a log: these commands, with one more or without it, now and where the end gate byte is read as 1
+abbrev pub IsLogOf : List KeyCommand → Option KeyCommand → List ℕ → Type 0
+IsLogOf commands None bytes = IsAtRest 0 (map spelling commands) bytes
+IsLogOf commands (Some command) bytes = IsWithOrWithout commands command bytes
+
+abbrev pub Applies : Table → Option KeyCommand → Type 0
+Applies t more = IfSome more (λ command. applies t command ≡ true)
+
+-- A key log that a run may start from: its commands make a table, and one more, which applies, may be behind them.
+pub record IsSoundLog (bytes : List ℕ) (commands : List KeyCommand) (more : Option KeyCommand) (table : Table) : Type 0 where
+  pub spelled : AllByRecursion HasSpelling commands
+  pub spelled_more : IfSome more HasSpelling
+  pub makes : key_replay no_keys commands ≡ Some table
+  pub fits : Applies table more
+  pub log : IsLogOf commands more bytes
+
+-- What a crash may leave of the log of these commands, which make a table, while one is pending: that log, or the one with
+-- the pending command, with one more command, which applies, or without it.
+pub record IsLeftOf (table : Table) (pending : Option KeyCommand) (commands : List KeyCommand) (bytes : List ℕ) : Type 0 where
+  pub kept : Bool
+  pub more : Option KeyCommand
+  pub fits : Applies (settled_table kept pending table) more
+  pub log : IsLogOf (commands ++ settled_commands kept pending) more bytes

@@ -43,7 +43,7 @@ impl Store {
     ghost use Rattle.key_rows.specs.Table.{Table, applies, after, material_of};
     ghost use Rattle.key_rows.specs.declared.rows.KeyCommand.{KeyCommand};
     ghost use Rattle.kms_store.specs.Replay.{IsReplayed, IsStuck, payloads};
-    ghost use Rattle.kms_store.specs.Store.{StandsFor, IsWithOrWithout, IsKeyLog, IsDamagedAt, IsLeftByStart, IsOpening, next_opening};
+    ghost use Rattle.kms_store.specs.Store.{StandsFor, IsWithOrWithout, IsKeyLog, IsDamagedAt, IsLeftByStart, IsOpening, Settles, next_opening};
 
     /// Opens the key log of a disk, makes the table of its commands, and commits the record of a new
     /// opening. It may be stopped at any moment, and started again.
@@ -171,6 +171,7 @@ impl Store {
 
         ensures nothing { self.old.pending ≡ None → (result ≡ Ok tt) × (self.new ≡ self.old) × (disk.new ≡ disk.old) }
         ensures settled { OnOk result (self.new.pending ≡ None) }
+        ensures settles { OnOk result (Settles (D.state disk.old) (D.state disk.new) self.old self.new) }
         ensures table { OnOk result ((self.new.table.keys ≡ self.old.table.keys)
             ⊎ ((command : KeyCommand) × (self.old.pending ≡ Some command) × (self.new.table.keys ≡ after self.old.table.keys command))) }
         ensures kept { OnOk result (Tells (D.state disk.old) → (commands : List KeyCommand) (command : KeyCommand) → StandsFor (D.state disk.old) self.old commands → self.old.pending ≡ Some command
@@ -230,7 +231,9 @@ impl Store {
 
     /// The number of this opening.
     pub fn opening(&self) -> u32
-        ensures { result ≡ self.now.table.keys.opening }
+        ensures opening { result ≡ self.now.table.keys.opening }
+        // The log is that of file 0.
+        ensures file { self.now.log.file ≡ 0 }
     {
         self.table.opening()
     }
