@@ -1,0 +1,6 @@
+pub mod Blocks
+pub mod Compares
+pub mod Kids
+pub mod OrderLemmas
+pub mod Positions
+pub mod Zones
