@@ -3,4 +3,5 @@ pub mod Compares
 pub mod Kids
 pub mod OrderLemmas
 pub mod Positions
+pub mod Taken
 pub mod Zones

@@ -64,7 +64,7 @@ module _ {A : Type 0} (R : A → A → Ordering) (total : IsTotalOrder R) where
   parted-rest : (key x : A) (xs : List A) (i : ℕ) → Parted key (x ∷ xs) (suc i) → Parted key xs i
   parted-rest key x xs i h = (λ k d low high. h.0 (suc k) d (omega arith) (omega arith), λ k d low high. h.1 (suc k) d (omega arith) (omega arith))
 
-  after-at : (x : A) (xs : List A) (k : ℕ) (d : A) → AllAfterBy R x xs → k < length xs → before x (get_or xs k d) ≡ true
+  pub after-at : (x : A) (xs : List A) (k : ℕ) (d : A) → AllAfterBy R x xs → k < length xs → before x (get_or xs k d) ≡ true
   after-at x [] k d a h = absurd (omega arith)
   after-at x (y ∷ ys) zero d a h = a.0
   after-at x (y ∷ ys) (suc k) d a h = after-at x ys k d a.1 (omega arith)

@@ -2,6 +2,7 @@
 use Rattle.std.proofs.Common.{◌≡◌, ℕ, ◌+◌, ◌-◌, ◌<◌, ◌≤◌, zero, suc, Bool, true, false, cond, ◌&&◌, ◌||◌, List, [], ◌∷◌, ◌++◌, length, get_or, take, Option, Some, None, refl, sym, ap, ◌∙◌, subst, arith}
 use Rattle.std.specs.Prelude.{nat_lt, ⊤}
 use Rattle.std.specs.Option.{option_map, option_map_or}
+use Rattle.std.specs.Str.{bytes_eq}
 use Rattle.std.proofs.lemmas.List.{take_more}
 use Rattle.std.proofs.lemmas.Bool.Decides.{nat_tests}
 use Rattle.inode_tree.specs.declared.rows.Row.{Row}
@@ -75,7 +76,7 @@ is-lt a b h = grind (arith, nat_tests)
 prefix-length : (a p : List (List ℕ)) → is_prefix a p ≡ true → length a ≤ length p
 prefix-length [] p h = omega arith
 prefix-length (x ∷ a) [] h = cc
-prefix-length (x ∷ a) (y ∷ p) h = let i : length a ≤ length p = prefix-length a p (and-parts _ _ h).1 in omega arith
+prefix-length (x ∷ a) (y ∷ p) h = let i : length a ≤ length p = prefix-length a p (and-parts (bytes_eq x y) (is_prefix a p) h).1 in omega arith
 
 zone-short : (es : List Entry) (p : List (List ℕ)) (f : Entry) → zone_of es p ≡ Some f → length f.path ≤ length p
 zone-short [] p f h = cc

@@ -1,7 +1,7 @@
 -- Snapshots: the directories that may have them, and the rows as they were.
 use Rattle.std.specs.Prelude.{◌≡◌, ℕ, ◌≤◌, Bool, true, false, not, ◌&&◌, ◌==◌, List, [], length, map, Option, Some, None, if◌then◌else◌, bytes_eq}
 use Rattle.std.specs.declared.cmp.Ordering.{Ordering}
-use Rattle.std.specs.List.{All, filter, find, list_any}
+use Rattle.std.specs.List.{filter, find, list_all, list_any}
 use Rattle.std.specs.Option.{option_map, option_map_or}
 use Rattle.std.specs.Ordering.{nat_cmp, ordering_then}
 use Rattle.std.specs.Cmp.Lexicographic.{slice_cmp}
@@ -22,9 +22,16 @@ pub record Snapshots : Type 0 where
   pub allowed : List ℕ
   pub taken : List Snapshot
 
+abbrev pub no_snapshots : Snapshots
+no_snapshots = record { allowed = []; taken = [] }
+
 -- by directory, and by name there, byte by byte
 abbrev pub snapshot_cmp : Snapshot → Snapshot → Ordering
 snapshot_cmp s t = ordering_then (nat_cmp s.dir t.dir) (slice_cmp nat_cmp s.name t.name)
+
+-- what a snapshot is sought by
+abbrev pub key_of : ℕ → List ℕ → Snapshot
+key_of dir name = record { dir = dir; name = name; rows = [] }
 
 abbrev pub is_among : ℕ → List ℕ → Bool
 is_among id ids = list_any (λ i. i == id) ids
@@ -97,6 +104,6 @@ pub record IsSnapshots (s : Snapshots) : Type 0 where
   -- the snapshots stand by directory and name, none twice
   pub order : IsRisingBy snapshot_cmp s.taken
   -- each is of a directory that may have some
-  pub housed : All (λ t. is_among t.dir s.allowed ≡ true) s.taken
+  pub housed : list_all (λ t. is_among t.dir s.allowed) s.taken ≡ true
   -- a directory has at most 65,536
   pub few : (dir : ℕ) → count_of s.taken dir ≤ 65536
