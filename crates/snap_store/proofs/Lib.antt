@@ -1,5 +1,7 @@
 pub mod Blocks
 pub mod Compares
+pub mod Counts
+pub mod Kept
 pub mod Kids
 pub mod OrderLemmas
 pub mod Positions

@@ -63,7 +63,7 @@ module _ (xs : List Snapshot) (dir : ℕ) (name : List ℕ) (i : ℕ) (r : IsRis
 eq-turned : (a b : ℕ) → (a == b) ≡ is_eq (nat_cmp a b)
 eq-turned a b = grind (arith, nat_tests)
 
-among-sought : (xs : List ℕ) (id : ℕ) → is_among id xs ≡ is_some (seek nat_cmp nat_cmp_total id xs)
+pub among-sought : (xs : List ℕ) (id : ℕ) → is_among id xs ≡ is_some (seek nat_cmp nat_cmp_total id xs)
 among-sought [] id = refl
 among-sought (x ∷ xs) id = ap (λ (b : Bool). b || is_among id xs) (eq-turned x id) ∙ go (is_eq (nat_cmp x id)) (among-sought xs id)
   where
