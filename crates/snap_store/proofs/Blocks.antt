@@ -1,7 +1,7 @@
 -- The rows at and below a path stand together, and seen from it they stand in order.
 use Rattle.std.proofs.Common.{◌≡◌, ℕ, ◌+◌, ◌<◌, ◌≤◌, zero, suc, Bool, true, false, cond, ◌&&◌, List, [], ◌∷◌, ◌++◌, length, drop, map, Option, Some, None, refl, sym, ap, ◌∙◌, subst, arith, append_assoc, Ordering}
 use Rattle.std.proofs.lemmas.List.{append-nil}
-use Rattle.std.specs.Prelude.{slice_get}
+use Rattle.std.specs.Prelude.{◌==◌, IsSome, is_some, slice_get}
 use Rattle.std.specs.List.{filter}
 use Rattle.std.specs.Option.{option_map, option_map_or}
 use Rattle.std.specs.Ordering.{nat_cmp, is_lt, ordering_then}
@@ -12,12 +12,13 @@ use Rattle.std.proofs.lemmas.Cmp.{nat_list_cmp_total, tied_itself}
 use Rattle.std.specs.declared.cmp.Ordering.TheVariants.{Equal}
 use Rattle.inode_tree.specs.Arena.{rank}
 use Rattle.inode_tree.specs.Below.{rows_below, seen_from}
-use Rattle.inode_tree.specs.Paths.{is_before, is_prefix, path_cmp}
-use Rattle.inode_tree.specs.Rows.{AllAfter, Entry, IsRising, entry_of}
+use Rattle.inode_tree.specs.Paths.{is_before, is_prefix, path_cmp, same_path}
+use Rattle.inode_tree.specs.Rows.{AllAfter, Entry, IsRising, entry_of, row_at}
 use Rattle.snap_store.specs.Snapshots.{frozen}
 use Rattle.inode_tree.proofs.Blocks.{between, prefix-not-before}
 use Rattle.inode_tree.proofs.PathLemmas.{and-parts}
 use Rattle.inode_tree.proofs.Ranks.{before-trans}
+use Rattle.inode_tree.proofs.ZoneLemmas.{prefix-itself}
 
 -- the rows at and below p
 abbrev pub under : List (List ℕ) → List Entry → List Entry
@@ -130,3 +131,35 @@ frozen-at es dir p h = go (entry_of es dir) h
     go : (o : Option Entry) → option_map (λ (e : Entry). e.path) o ≡ Some p → option_map_or (λ e. rows_below es e.path) o [] ≡ rows_below es p
     go None f = cc
     go (Some e) f = let g : e.path ≡ p = cc in ap (rows_below es) g
+
+drop-all : (p : List (List ℕ)) → drop (length p) p ≡ []
+drop-all [] = refl
+drop-all (x ∷ p) = drop-all p
+
+-- among them is that of the directory itself
+own-row : (es : List Entry) (dir : ℕ) (e : Entry) → entry_of es dir ≡ Some e → is_some (row_at (rows_below es e.path) []) ≡ true
+own-row [] dir e h = cc
+own-row (x ∷ es) dir e h = go (x.row.id == dir) h (own-row es dir e)
+  where
+    keep : (t : Bool) → is_some (row_at (rows_below es e.path) []) ≡ true → is_some (row_at (map (seen_from (length e.path)) (cond t (x ∷ under e.path es) (under e.path es))) []) ≡ true
+    keep false k = k
+    keep true k = two (same_path (drop (length e.path) x.path) [])
+      where
+        two : (u : Bool) → is_some (cond u (Some x.row) (row_at (rows_below es e.path) [])) ≡ true
+        two true = refl
+        two false = k
+
+    go : (t : Bool) → cond t (Some x) (entry_of es dir) ≡ Some e → (entry_of es dir ≡ Some e → is_some (row_at (rows_below es e.path) []) ≡ true) → is_some (row_at (rows_below (x ∷ es) e.path) []) ≡ true
+    go false f ih = keep (is_prefix e.path x.path) (ih f)
+    go true f ih =
+        let g : x ≡ e = cc in
+        subst (λ (y : Entry). is_some (row_at (rows_below (x ∷ es) y.path) []) ≡ true) g
+        (ap (λ (b : Bool). is_some (row_at (map (seen_from (length x.path)) (cond b (x ∷ under x.path es) (under x.path es))) [])) (prefix-itself x.path)
+        ∙ ap (λ (p : List (List ℕ)). is_some (cond (same_path p []) (Some x.row) (row_at (rows_below es x.path) []))) (drop-all x.path))
+
+pub frozen-own : (es : List Entry) (dir : ℕ) (rows : List Entry) → IsSome (entry_of es dir) → rows ≡ frozen es dir → is_some (row_at rows []) ≡ true
+frozen-own es dir rows h f = ap (λ (rs : List Entry). is_some (row_at rs [])) f ∙ go (entry_of es dir) refl h
+  where
+    go : (o : Option Entry) → entry_of es dir ≡ o → IsSome o → is_some (row_at (option_map_or (λ e. rows_below es e.path) o []) []) ≡ true
+    go None e s = cc
+    go (Some x) e s = own-row es dir x e

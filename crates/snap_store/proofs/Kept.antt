@@ -1,13 +1,15 @@
 -- What always holds of the snapshots holds after each change.
 use Rattle.std.proofs.Common.{◌≡◌, ℕ, ◌+◌, ◌<◌, ◌≤◌, zero, suc, Bool, true, false, cond, not, ◌&&◌, ◌||◌, List, [], ◌∷◌, length, Option, Some, None, is_some, refl, sym, ap, ◌∙◌, subst, arith, Ordering}
 use Rattle.std.specs.Prelude.{◌==◌, Result, Ok, Err, OnOk, OnErr}
-use Rattle.std.specs.List.{filter, insert, list_all, list_any}
+use Rattle.std.specs.List.{filter, find, insert, list_all, list_any}
 use Rattle.std.specs.Ordering.{is_lt, nat_cmp}
 use Rattle.std.proofs.lemmas.Bool.Decides.{nat_tests}
 use Rattle.std.proofs.lemmas.Cmp.{nat_cmp_total}
+use Rattle.std.specs.Option.{option_map, option_map_or}
+use Rattle.inode_tree.specs.Rows.{Entry, row_at}
 use Rattle.inode_tree.proofs.PathLemmas.{and-parts}
 use Rattle.snap_store.specs.Ordered.{IsRisingBy, put_by}
-use Rattle.snap_store.specs.Snapshots.{IsSnapshots, Snapshot, count_of, is_among, is_named, is_of, put_snapshot, snapshot_cmp, snapshot_named, with_id, without_id, without_snapshot}
+use Rattle.snap_store.specs.Snapshots.{IsSnapshots, Snapshot, count_of, is_among, is_named, is_of, put_snapshot, rows_in, snapshot_cmp, snapshot_named, with_id, without_id, without_snapshot}
 use Rattle.snap_store.proofs.OrderLemmas.{Parted, put-insert, rising-filter, rising-put, seek}
 use Rattle.snap_store.proofs.Taken.{among-sought, named-sought, snapshot-total}
 
@@ -157,11 +159,35 @@ either : {A E X : Type 0} (P : X → Type 0) (r : Result A E) (new changed old :
 either P (Ok a) new changed old h k p q = subst P (sym h) p
 either P (Err e) new changed old h k p q = subst P (sym k) q
 
+find-all : (p q : Snapshot → Bool) (xs : List Snapshot) (x : Snapshot) → list_all p xs ≡ true → find q xs ≡ Some x → p x ≡ true
+find-all p q [] x h e = cc
+find-all p q (y ∷ ys) x h e = go (q y) (and-parts (p y) (list_all p ys) h) e (find-all p q ys x)
+  where
+    go : (t : Bool) → (p y ≡ true) × (list_all p ys ≡ true) → cond t (Some y) (find q ys) ≡ Some x → (list_all p ys ≡ true → find q ys ≡ Some x → p x ≡ true) → p x ≡ true
+    go true w f ih = let g : y ≡ x = cc in subst (λ (z : Snapshot). p z ≡ true) g w.0
+    go false w f ih = ih w.1 f
+
+pub rows-found : (xs : List Snapshot) (dir : ℕ) (name : List ℕ) (rows : List Entry) → Some rows ≡ option_map (λ (s : Snapshot). s.rows) (snapshot_named xs dir name) → rows ≡ rows_in xs dir name
+rows-found xs dir name rows h = go (snapshot_named xs dir name) h
+  where
+    go : (o : Option Snapshot) → Some rows ≡ option_map (λ (s : Snapshot). s.rows) o → rows ≡ option_map_or (λ s. s.rows) o []
+    go None f = cc
+    go (Some x) f = cc
+
+-- a snapshot is there where the directory's own row is
+pub named-look : (xs : List Snapshot) (dir : ℕ) (name : List ℕ) → list_all (λ t. is_some (row_at t.rows [])) xs ≡ true → is_some (row_at (rows_in xs dir name) []) ≡ is_some (snapshot_named xs dir name)
+named-look xs dir name h = go (snapshot_named xs dir name) refl
+  where
+    go : (o : Option Snapshot) → snapshot_named xs dir name ≡ o → is_some (row_at (option_map_or (λ s. s.rows) o []) []) ≡ is_some o
+    go None e = refl
+    go (Some x) e = find-all (λ t. is_some (row_at t.rows [])) (is_named dir name) xs x h e
+
 module _ (ids : List ℕ) (xs : List Snapshot) (s : IsSnapshots (record { allowed = ids; taken = xs })) where
   pub kept-allow : {A E : Type 0} (r : Result A E) (id : ℕ) (new : List ℕ) → IsRisingBy nat_cmp new → OnOk r (new ≡ with_id id ids) → OnErr r (new ≡ ids) → IsSnapshots (record { allowed = new; taken = xs })
   kept-allow r id new rising h k = record {
     ids = rising;
     order = s.order;
+    rooted = s.rooted;
     housed = either (λ (is : List ℕ). list_all (λ t. is_among t.dir is) xs ≡ true) r new (with_id id ids) ids h k (all-from (λ t. is_among t.dir ids) (λ t. is_among t.dir (with_id id ids)) xs (λ x. among-with x.dir id ids) s.housed) s.housed;
     few = s.few;
   }
@@ -170,6 +196,7 @@ module _ (ids : List ℕ) (xs : List Snapshot) (s : IsSnapshots (record { allowe
   kept-disallow id h = record {
     ids = rising-filter nat_cmp nat_cmp_total (λ i. not (i == id)) ids s.ids;
     order = s.order;
+    rooted = s.rooted;
     housed = all-from (λ t. not (t.dir == id) && is_among t.dir ids) (λ t. is_among t.dir (without_id id ids)) xs
         (λ x b. let w = and-parts (not (x.dir == id)) (is_among x.dir ids) b in among-without x.dir id ids (not-true (x.dir == id) w.0) w.1)
         (all-both (λ t. not (t.dir == id)) (λ t. is_among t.dir ids) xs (none-of xs id h) s.housed);
@@ -181,14 +208,16 @@ module _ (ids : List ℕ) (xs : List Snapshot) (s : IsSnapshots (record { allowe
     ids = s.ids;
     order = rising-filter snapshot_cmp snapshot-total (λ t. not (is_named dir name t)) xs s.order;
     housed = all-filter (λ t. is_among t.dir ids) (λ t. not (is_named dir name t)) xs s.housed;
+    rooted = all-filter (λ t. is_some (row_at t.rows [])) (λ t. not (is_named dir name t)) xs s.rooted;
     few = λ d. let a = count-filter (λ t. not (is_named dir name t)) xs d in let b = s.few d in omega arith;
   }
 
-  put-kept : (t : Snapshot) → is_among t.dir ids ≡ true → snapshot_named xs t.dir t.name ≡ None → count_of xs t.dir < 65536 → IsSnapshots (record { allowed = ids; taken = put_snapshot t xs })
-  put-kept t h n b = record {
+  put-kept : (t : Snapshot) → is_among t.dir ids ≡ true → snapshot_named xs t.dir t.name ≡ None → count_of xs t.dir < 65536 → is_some (row_at t.rows []) ≡ true → IsSnapshots (record { allowed = ids; taken = put_snapshot t xs })
+  put-kept t h n b own = record {
     ids = s.ids;
     order = rising-put snapshot_cmp snapshot-total t xs s.order (sym (named-sought xs t.dir t.name) ∙ n);
     housed = all-put (λ u. is_among u.dir ids) t xs h s.housed;
+    rooted = all-put (λ u. is_some (row_at u.rows [])) t xs own s.rooted;
     few = λ d. go d (t.dir == d) refl (count-put t xs d);
   }
     where
@@ -199,6 +228,6 @@ module _ (ids : List ℕ) (xs : List Snapshot) (s : IsSnapshots (record { allowe
       go d true e f = let g : count_of xs d < 65536 = subst (λ (k : ℕ). count_of xs k < 65536) (same t.dir d e) b in omega arith
       go d false e f = let g = s.few d in omega arith
 
-  pub kept-take : {A E : Type 0} (r : Result A E) (t : Snapshot) (new : List Snapshot) → is_among t.dir ids ≡ true → snapshot_named xs t.dir t.name ≡ None → count_of xs t.dir < 65536
+  pub kept-take : {A E : Type 0} (r : Result A E) (t : Snapshot) (new : List Snapshot) → is_among t.dir ids ≡ true → snapshot_named xs t.dir t.name ≡ None → count_of xs t.dir < 65536 → is_some (row_at t.rows []) ≡ true
       → OnOk r (new ≡ put_snapshot t xs) → OnErr r (new ≡ xs) → IsSnapshots (record { allowed = ids; taken = new })
-  kept-take r t new h n b ok err = either (λ (ys : List Snapshot). IsSnapshots (record { allowed = ids; taken = ys })) r new (put_snapshot t xs) xs ok err (put-kept t h n b) s
+  kept-take r t new h n b own ok err = either (λ (ys : List Snapshot). IsSnapshots (record { allowed = ids; taken = ys })) r new (put_snapshot t xs) xs ok err (put-kept t h n b own) s

@@ -1,5 +1,5 @@
 -- Snapshots: the directories that may have them, and the rows as they were.
-use Rattle.std.specs.Prelude.{◌≡◌, ℕ, ◌≤◌, Bool, true, false, not, ◌&&◌, ◌==◌, List, [], length, map, Option, Some, None, if◌then◌else◌, bytes_eq}
+use Rattle.std.specs.Prelude.{◌≡◌, ℕ, ◌≤◌, Bool, true, false, not, ◌&&◌, ◌==◌, List, [], length, map, Option, Some, None, is_some, if◌then◌else◌, bytes_eq}
 use Rattle.std.specs.declared.cmp.Ordering.{Ordering}
 use Rattle.std.specs.List.{filter, find, list_all, list_any}
 use Rattle.std.specs.Option.{option_map, option_map_or}
@@ -105,5 +105,7 @@ pub record IsSnapshots (s : Snapshots) : Type 0 where
   pub order : IsRisingBy snapshot_cmp s.taken
   -- each is of a directory that may have some
   pub housed : list_all (λ t. is_among t.dir s.allowed) s.taken ≡ true
+  -- each has the row of the directory itself
+  pub rooted : list_all (λ t. is_some (row_at t.rows [])) s.taken ≡ true
   -- a directory has at most 65,536
   pub few : (dir : ℕ) → count_of s.taken dir ≤ 65536

@@ -5,3 +5,6 @@ mod rows;
 mod snaps;
 
 pub use snaps::{MOST_SNAPSHOTS, Snaps};
+
+#[cfg(test)]
+mod tests;

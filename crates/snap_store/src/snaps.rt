@@ -21,7 +21,7 @@ pub const MOST_SNAPSHOTS: u32 = 65_536;
 
 /// A snapshot of a directory.
 #[derive(Drop)]
-pub struct Taken {
+struct Taken {
     dir: u64,
     name: Text,
     rows: FrozenRows,
@@ -291,9 +291,11 @@ impl Snaps {
     }
 
     /// The row that a snapshot has at a path, as it is seen from the directory. `None` where there is
-    /// no such snapshot, or none stood there.
+    /// no such snapshot, or none stood there. With no names it is the row of the directory itself,
+    /// which each snapshot has.
     pub fn look(&self, dir: u64, name: &Text, below: &NPath) -> Option<Row>
-        ensures { result ≡ row_at (rows_in self.now.taken dir name.now) below.now }
+        ensures own { below.now ≡ [] → is_some result ≡ is_some (snapshot_named self.now.taken dir name.now) }
+        ensures row { result ≡ row_at (rows_in self.now.taken dir name.now) below.now }
     {
         match rows_of(&self.taken, dir, name) {
             Some(rows) => rows.look(below),

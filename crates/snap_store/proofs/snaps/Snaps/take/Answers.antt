@@ -1,5 +1,6 @@
 use Rattle.std.proofs.Common.{◌≡◌, ◌∙◌, ◌<◌, ℕ, ap, sym, subst}
 use Rattle.snap_store.specs.Snapshots.{Snapshots, count_of, is_among, snapshot_named}
+use Rattle.snap_store.proofs.Blocks.{frozen-own}
 use Rattle.snap_store.proofs.Kept.{kept-take}
 use Rattle.snap_store.proofs.snaps.Snaps.take.Goals as goal
 
@@ -9,4 +10,5 @@ invariant_of-self c =
     (ap (λ (s : Snapshots). is_among c.args.dir s.allowed) c.self.view_is ∙ c.requires.allowed)
     (ap (λ (s : Snapshots). snapshot_named s.taken c.args.dir c.args.name) c.self.view_is ∙ c.requires.free)
     (subst (λ (s : Snapshots). count_of s.taken c.args.dir < 65536) (sym c.self.view_is) c.requires.room)
+    (frozen-own c.args.tree.now c.args.dir c.in_ok-rows.rows c.requires.stands c.in_ok-rows.ensures)
     c.put.ensures.ok c.put.ensures.err
