@@ -78,7 +78,7 @@ lt-le a b h k = grind (arith, nat_tests)
 
 -- by the first snapshot of the directory, and the first behind those
 module _ (xs : List Snapshot) (dir first end : ℕ) (most : first ≤ length xs) (all : end ≤ length xs)
-  (low : IsPartitionPoint (λ x. nat_lt x.dir dir ≡ true) (λ x. nat_lt x.dir dir ≡ false) xs first) (high : IsPartitionPoint (λ x. nat_le x.dir dir ≡ true) (λ x. nat_le x.dir dir ≡ false) xs end) where
+    (low : IsPartitionPoint (λ x. nat_lt x.dir dir ≡ true) (λ x. nat_lt x.dir dir ≡ false) xs first) (high : IsPartitionPoint (λ x. nat_le x.dir dir ≡ true) (λ x. nat_le x.dir dir ≡ false) xs end) where
   pub in-order : first ≤ end
   in-order = elim (cases_lt end first) [ inl a ↦ absurd (lt-le (get_or xs end (key_of 0 [])).dir dir (low.0 end (key_of 0 []) (omega arith) a) (high.1 end (key_of 0 []) (omega arith) (omega arith))) | inr a ↦ a ]
 

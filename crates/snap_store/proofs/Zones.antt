@@ -21,10 +21,12 @@ UnmarkedAt q (e ∷ es) = (same_path e.path q ≡ true → is_marked e.row ≡ f
 
 after-unmarked : (p q : List (List ℕ)) (es : List Entry) → p ≡ q → AllAfter p es → UnmarkedAt q es
 after-unmarked p q [] e a = tt
-after-unmarked p q (x ∷ es) e a =
-    ((λ s. let f : same_path p x.path ≡ false = before-not-same p x.path a.0 in
+after-unmarked p q (x ∷ es) e a = (
+  (λ s. let f : same_path p x.path ≡ false = before-not-same p x.path a.0 in
       let g : same_path x.path p ≡ false = same-turned p x.path f in
-      let h : same_path x.path p ≡ true = ap (same_path x.path) e ∙ s in cc), after-unmarked p q es e a.1)
+      let h : same_path x.path p ≡ true = ap (same_path x.path) e ∙ s in cc),
+  after-unmarked p q es e a.1,
+)
 
 unmarked-at : (es : List Entry) (q : List (List ℕ)) → IsRising es → option_map_or is_marked (row_at es q) false ≡ false → UnmarkedAt q es
 unmarked-at [] q r h = tt
@@ -125,8 +127,8 @@ zone-here (e ∷ es) p r h = go (same_path e.path p) refl h (zone-here es p r.1)
             let l : length f.path ≡ length p = cc in
             let pre : is_prefix e.path p ≡ true = (and-parts (is_marked e.row) (is_prefix e.path p) t).1 in
             let b : nat_lt (length e.path) (length f.path) ≡ true = is-lt (length e.path) (length f.path) (λ g.
-                let w : e.path ≡ p = prefix-whole e.path p pre (omega arith) in
-                let v : same_path e.path p ≡ true = ap (λ (q : List (List ℕ)). same_path q p) w ∙ same-itself p in cc) in
+            let w : e.path ≡ p = prefix-whole e.path p pre (omega arith) in
+            let v : same_path e.path p ≡ true = ap (λ (q : List (List ℕ)). same_path q p) w ∙ same-itself p in cc) in
             ap (λ (u : Bool). Some (length (cond u f e).path)) b ∙ k
 
 take-length : (n : ℕ) (q : List (List ℕ)) → n ≤ length q → length (take n q) ≡ n

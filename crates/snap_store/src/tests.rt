@@ -187,7 +187,10 @@ fn the_zone_in_a_snapshot_is_the_deepest_mark_of_then(rt: HostRuntime) -> Result
     assert!(rt; offer(alloc, &mut snaps, &tree, 1, text(alloc, "s")?)?);
     let s = text(alloc, "s")?;
     for (below, depth) in [("/", 0), ("/f", 0), ("/d", 1), ("/d/e", 1), ("/d/x/y", 1)] {
-        assert!(rt; snaps.zone_in(1, &s, &path(alloc, below)?) == Some(depth), "{below}");
+        assert!(rt;
+            snaps.zone_in(1, &s, &path(alloc, below)?) == Some(depth),
+            "{below}"
+        );
     }
     Ok(())
 }
@@ -271,7 +274,11 @@ fn a_name_may_have_255_bytes(rt: HostRuntime) -> Result<(), Fail> {
     assert!(rt; offer(alloc, &mut snaps, &tree, 1, text(alloc, long.as_str())?)?);
     let stands = snaps.name_at(1, 0).ok_or("a snapshot")?;
     assert_eq!(rt; stands.as_str().len(), 255);
-    assert!(rt; snaps.look(1, &text(alloc, long.as_str())?, &NPath::root(alloc)).is_some());
+    assert!(rt;
+        snaps
+            .look(1, &text(alloc, long.as_str())?, &NPath::root(alloc))
+            .is_some()
+    );
     Ok(())
 }
 

@@ -23,7 +23,7 @@ pub loop-at-preserved : goal.loop-at-preserved
 loop-at-preserved c = record {
   done = c.loop-at.invariant.done
       ∙ copied-step c.loop-at.rows.items c.args.tree.now c.args.path.now c.loop-at.at c.in_ok-copy_row.field-0 c.if-not-place_is_below.ensures
-          (ap (λ (n : ℕ). option_map (seen_from n) (slice_get c.args.tree.now c.loop-at.at)) (sym c.len-depth.ensures.len) ∙ c.in_ok-copy_row.ensures)
+      (ap (λ (n : ℕ). option_map (seen_from n) (slice_get c.args.tree.now c.loop-at.at)) (sym c.len-depth.ensures.len) ∙ c.in_ok-copy_row.ensures)
       ∙ ap (λ (done : List Entry). copied done c.args.tree.now c.args.path.now (c.loop-at.at + 1)) (sym c.in_ok-push.ensures.items);
   depth = c.len-depth.ensures.len;
   end = c.rows-at-end.ensures.count;

@@ -11,5 +11,5 @@ pub returns-clause-ok : goal.returns-clause-ok
 returns-clause-ok c =
     c.in_ok-insert.ensures.items
     ∙ taken-put c.args.taken.now.items c.args.snapshot c.place-at.result c.requires.free c.place-at.ensures.most
-        (subst (λ (dir : ℕ). Parted snapshot_cmp snapshot-total (key_of dir c.args.snapshot.name) c.args.taken.now.items c.place-at.result) c.dir.ensures
-        (subst (λ (name : List ℕ). Parted snapshot_cmp snapshot-total (key_of c.dir.result name) c.args.taken.now.items c.place-at.result) c.name.ensures c.place-at.ensures.parted))
+    (subst (λ (dir : ℕ). Parted snapshot_cmp snapshot-total (key_of dir c.args.snapshot.name) c.args.taken.now.items c.place-at.result) c.dir.ensures
+    (subst (λ (name : List ℕ). Parted snapshot_cmp snapshot-total (key_of c.dir.result name) c.args.taken.now.items c.place-at.result) c.name.ensures c.place-at.ensures.parted))
