@@ -182,8 +182,8 @@ named-look xs dir name h = go (snapshot_named xs dir name) refl
     go None e = refl
     go (Some x) e = find-all (λ t. is_some (row_at t.rows [])) (is_named dir name) xs x h e
 
-module _ (ids : List ℕ) (xs : List Snapshot) (s : IsSnapshots (record { allowed = ids; taken = xs })) where
-  pub kept-allow : {A E : Type 0} (r : Result A E) (id : ℕ) (new : List ℕ) → IsRisingBy nat_cmp new → OnOk r (new ≡ with_id id ids) → OnErr r (new ≡ ids) → IsSnapshots (record { allowed = new; taken = xs })
+module _ (ids : List ℕ) (xs : List Snapshot) (s : IsSnapshots ids xs) where
+  pub kept-allow : {A E : Type 0} (r : Result A E) (id : ℕ) (new : List ℕ) → IsRisingBy nat_cmp new → OnOk r (new ≡ with_id id ids) → OnErr r (new ≡ ids) → IsSnapshots new xs
   kept-allow r id new rising h k = record {
     ids = rising;
     order = s.order;
@@ -192,7 +192,7 @@ module _ (ids : List ℕ) (xs : List Snapshot) (s : IsSnapshots (record { allowe
     few = s.few;
   }
 
-  pub kept-disallow : (id : ℕ) → count_of xs id ≡ 0 → IsSnapshots (record { allowed = without_id id ids; taken = xs })
+  pub kept-disallow : (id : ℕ) → count_of xs id ≡ 0 → IsSnapshots (without_id id ids) xs
   kept-disallow id h = record {
     ids = rising-filter nat_cmp nat_cmp_total (λ i. not (i == id)) ids s.ids;
     order = s.order;
@@ -203,7 +203,7 @@ module _ (ids : List ℕ) (xs : List Snapshot) (s : IsSnapshots (record { allowe
     few = s.few;
   }
 
-  pub kept-remove : (dir : ℕ) (name : List ℕ) → IsSnapshots (record { allowed = ids; taken = without_snapshot xs dir name })
+  pub kept-remove : (dir : ℕ) (name : List ℕ) → IsSnapshots ids (without_snapshot xs dir name)
   kept-remove dir name = record {
     ids = s.ids;
     order = rising-filter snapshot_cmp snapshot-total (λ t. not (is_named dir name t)) xs s.order;
@@ -212,7 +212,7 @@ module _ (ids : List ℕ) (xs : List Snapshot) (s : IsSnapshots (record { allowe
     few = λ d. let a = count-filter (λ t. not (is_named dir name t)) xs d in let b = s.few d in omega arith;
   }
 
-  put-kept : (t : Snapshot) → is_among t.dir ids ≡ true → snapshot_named xs t.dir t.name ≡ None → count_of xs t.dir < 65536 → is_some (row_at t.rows []) ≡ true → IsSnapshots (record { allowed = ids; taken = put_snapshot t xs })
+  put-kept : (t : Snapshot) → is_among t.dir ids ≡ true → snapshot_named xs t.dir t.name ≡ None → count_of xs t.dir < 65536 → is_some (row_at t.rows []) ≡ true → IsSnapshots ids (put_snapshot t xs)
   put-kept t h n b own = record {
     ids = s.ids;
     order = rising-put snapshot_cmp snapshot-total t xs s.order (sym (named-sought xs t.dir t.name) ∙ n);
@@ -229,5 +229,5 @@ module _ (ids : List ℕ) (xs : List Snapshot) (s : IsSnapshots (record { allowe
       go d false e f = let g = s.few d in omega arith
 
   pub kept-take : {A E : Type 0} (r : Result A E) (t : Snapshot) (new : List Snapshot) → is_among t.dir ids ≡ true → snapshot_named xs t.dir t.name ≡ None → count_of xs t.dir < 65536 → is_some (row_at t.rows []) ≡ true
-      → OnOk r (new ≡ put_snapshot t xs) → OnErr r (new ≡ xs) → IsSnapshots (record { allowed = ids; taken = new })
-  kept-take r t new h n b own ok err = either (λ (ys : List Snapshot). IsSnapshots (record { allowed = ids; taken = ys })) r new (put_snapshot t xs) xs ok err (put-kept t h n b own) s
+      → OnOk r (new ≡ put_snapshot t xs) → OnErr r (new ≡ xs) → IsSnapshots ids new
+  kept-take r t new h n b own ok err = either (λ (ys : List Snapshot). IsSnapshots ids ys) r new (put_snapshot t xs) xs ok err (put-kept t h n b own) s

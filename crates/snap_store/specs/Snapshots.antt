@@ -17,13 +17,15 @@ pub record Snapshot : Type 0 where
   pub name : List ℕ
   pub rows : List Entry
 
--- the ids of the directories that may have snapshots, and the snapshots
+-- the ids of the directories that may have snapshots, the snapshots, and for how many more ids there is memory
 pub record Snapshots : Type 0 where
   pub allowed : List ℕ
   pub taken : List Snapshot
+  pub spare : ℕ
 
-abbrev pub no_snapshots : Snapshots
-no_snapshots = record { allowed = []; taken = [] }
+-- what has to be spare for one more directory
+abbrev pub need_allow : ℕ → ℕ
+need_allow dir = 1
 
 -- by directory, and by name there, byte by byte
 abbrev pub snapshot_cmp : Snapshot → Snapshot → Ordering
@@ -98,14 +100,14 @@ abbrev pub allowed_below : List Entry → List ℕ → List (List ℕ) → Bool
 allowed_below rows allowed p = list_any (λ id. at_or_below rows id p && not (at_or_above rows id p)) allowed
 
 -- what always holds of them
-pub record IsSnapshots (s : Snapshots) : Type 0 where
+pub record IsSnapshots (allowed : List ℕ) (taken : List Snapshot) : Type 0 where
   -- the ids rise
-  pub ids : IsRisingBy nat_cmp s.allowed
+  pub ids : IsRisingBy nat_cmp allowed
   -- the snapshots stand by directory and name, none twice
-  pub order : IsRisingBy snapshot_cmp s.taken
+  pub order : IsRisingBy snapshot_cmp taken
   -- each is of a directory that may have some
-  pub housed : list_all (λ t. is_among t.dir s.allowed) s.taken ≡ true
+  pub housed : list_all (λ t. is_among t.dir allowed) taken ≡ true
   -- each has the row of the directory itself
-  pub rooted : list_all (λ t. is_some (row_at t.rows [])) s.taken ≡ true
+  pub rooted : list_all (λ t. is_some (row_at t.rows [])) taken ≡ true
   -- a directory has at most 65,536
-  pub few : (dir : ℕ) → count_of s.taken dir ≤ 65536
+  pub few : (dir : ℕ) → count_of taken dir ≤ 65536

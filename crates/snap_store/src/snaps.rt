@@ -1,5 +1,5 @@
 //! The snapshots, by directory and name.
-ghost use Rattle.std.specs.Prelude.{◌≡◌, ◌<◌, ◌≤◌, ◌&&◌, None, Some, [], length, take, drop, not, nat_lt, nat_le, slice_get, true, false, is_some, IsSome, IsTrue, IfOk, IfSome, OnOk, OnErr};
+ghost use Rattle.std.specs.Prelude.{◌≡◌, ◌<◌, ◌≤◌, ◌&&◌, None, Some, [], length, take, drop, not, nat_lt, nat_le, slice_get, true, false, is_some, vec_len, vec_capacity, IsOk, IsSome, IsTrue, IfOk, IfSome, OnOk, OnErr};
 ghost use Rattle.std.specs.List.{filter, remove};
 ghost use Rattle.std.specs.List.Sorted.{IsPartitionPoint};
 ghost use Rattle.std.specs.Option.{option_and_then, option_map, option_map_or};
@@ -7,7 +7,7 @@ ghost use Rattle.std.specs.Ordering.{is_lt, nat_cmp};
 ghost use Rattle.inode_tree.specs.Below.{at_or_above, at_or_below};
 ghost use Rattle.inode_tree.specs.Rows.{entry_of, row_at};
 ghost use Rattle.snap_store.specs.Ordered.{IsRisingBy};
-ghost use Rattle.snap_store.specs.Snapshots.{IsSnapshots, allowed_above, allowed_below, count_in, count_of, frozen, holds_snapshot, is_among, is_named, is_of, key_of, list_in, names_of, no_snapshots, put_snapshot, rows_in, snapshot_cmp, snapshot_named, with_id, without_id, without_snapshot, zone_depth};
+ghost use Rattle.snap_store.specs.Snapshots.{IsSnapshots, allowed_above, allowed_below, count_in, count_of, frozen, holds_snapshot, is_among, is_named, is_of, key_of, list_in, names_of, need_allow, put_snapshot, rows_in, snapshot_cmp, snapshot_named, with_id, without_id, without_snapshot, zone_depth};
 
 use crate::rows::{FrozenRows, compare_names};
 use hk_base::{NoMemory, Text};
@@ -155,6 +155,7 @@ fn put_id(ids: &mut Vec<u64>, id: u64) -> Result<(), NoMemory>
     ensures rising { IsRisingBy nat_cmp ids.new.items }
     ensures ok { OnOk result (ids.new.items ≡ with_id id ids.old.items) }
     ensures err { OnErr result (ids.new.items ≡ ids.old.items) }
+    ensures room { vec_len ids.old < vec_capacity ids.old → IsOk result }
 {
     match find_id(ids, id) {
         Some(_) => Ok(()),
@@ -226,19 +227,22 @@ pub struct Snaps {
 }
 
 impl Model for Snaps {
+    ghost use Rattle.std.specs.Prelude.{◌-◌};
+    ghost use Rattle.std.specs.Vec.{vec_len, vec_capacity};
     ghost use Rattle.snap_store.specs.Snapshots.{IsSnapshots, Snapshots};
 
     ghost Value = { Snapshots };
 
-    ghost view = { λ snaps. record { allowed = snaps.allowed.items; taken = snaps.taken.items } };
+    ghost view = { λ snaps. record { allowed = snaps.allowed.items; taken = snaps.taken.items; spare = vec_capacity snaps.allowed - vec_len snaps.allowed } };
 
-    ghost invariant = { λ snaps. IsSnapshots (record { allowed = snaps.allowed.items; taken = snaps.taken.items }) };
+    ghost invariant = { λ snaps. IsSnapshots snaps.allowed.items snaps.taken.items };
 }
 
 impl Snaps {
     /// No directory may have snapshots, and there are none. It takes no memory.
     pub fn new(alloc: Global) -> Snaps
-        ensures { result ≡ no_snapshots }
+        ensures allowed { result.allowed ≡ [] }
+        ensures taken { result.taken ≡ [] }
     {
         Snaps {
             alloc,
@@ -253,8 +257,20 @@ impl Snaps {
         ensures ok { OnOk result (self.new.allowed ≡ with_id dir self.old.allowed) }
         ensures err { OnErr result (self.new.allowed ≡ self.old.allowed) }
         ensures taken { self.new.taken ≡ self.old.taken }
+        ensures spare { need_allow dir ≤ self.old.spare → IsOk result }
     {
         put_id(&mut self.allowed, dir)
+    }
+
+    /// Takes memory for one more directory that may have snapshots. Nothing else changes; once it was
+    /// `Ok`, `allow` is too.
+    pub fn reserve_allow(&mut self, dir: u64) -> Result<(), NoMemory>
+        ensures ok { OnOk result (need_allow dir ≤ self.new.spare) }
+        ensures allowed { self.new.allowed ≡ self.old.allowed }
+        ensures taken { self.new.taken ≡ self.old.taken }
+    {
+        self.allowed.reserve(1)?;
+        Ok(())
     }
 
     /// Lets a directory, which has to have no snapshots, have none from now on. It takes no memory.
@@ -328,7 +344,7 @@ impl Snaps {
     /// How many snapshots a directory has: at most 65,536. `None` where it may have none.
     pub fn count(&self, dir: u64) -> Option<u32>
         ensures count { result ≡ count_in self.now dir }
-        ensures rules { IsSnapshots self.now }
+        ensures rules { IsSnapshots self.now.allowed self.now.taken }
     {
         match find_id(&self.allowed, dir) {
             Some(_) => Some((end_of(&self.taken, dir) - first_of(&self.taken, dir)) as u32),
