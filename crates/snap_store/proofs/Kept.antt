@@ -4,12 +4,14 @@ use Rattle.std.specs.Prelude.{◌==◌, Result, Ok, Err, OnOk, OnErr}
 use Rattle.std.specs.List.{filter, find, insert, list_all, list_any}
 use Rattle.std.specs.Ordering.{is_lt, nat_cmp}
 use Rattle.std.proofs.lemmas.Bool.Decides.{nat_tests}
+use Rattle.std.specs.Str.{bytes_eq}
 use Rattle.std.proofs.lemmas.Cmp.{nat_cmp_total}
+use Rattle.std.proofs.lemmas.Slice.Eq.{bytes_eq-Decides}
 use Rattle.std.specs.Option.{option_map, option_map_or}
 use Rattle.inode_tree.specs.Rows.{Entry, row_at}
 use Rattle.inode_tree.proofs.PathLemmas.{and-parts}
 use Rattle.snap_store.specs.Ordered.{IsRisingBy, put_by}
-use Rattle.snap_store.specs.Snapshots.{IsSnapshots, Snapshot, count_of, is_among, is_named, is_of, put_snapshot, rows_in, snapshot_cmp, snapshot_named, with_id, without_id, without_snapshot}
+use Rattle.snap_store.specs.Snapshots.{IsSnapshots, Snapshot, count_of, is_among, is_named, is_of, key_of, put_snapshot, rows_in, snapshot_cmp, snapshot_named, with_id, without_id, without_snapshot}
 use Rattle.snap_store.proofs.OrderLemmas.{Parted, put-insert, rising-filter, rising-put, seek}
 use Rattle.snap_store.proofs.Taken.{among-sought, named-sought, snapshot-total}
 
@@ -231,3 +233,48 @@ module _ (ids : List ℕ) (xs : List Snapshot) (s : IsSnapshots ids xs) where
   pub kept-take : {A E : Type 0} (r : Result A E) (t : Snapshot) (new : List Snapshot) → is_among t.dir ids ≡ true → snapshot_named xs t.dir t.name ≡ None → count_of xs t.dir < 65536 → is_some (row_at t.rows []) ≡ true
       → OnOk r (new ≡ put_snapshot t xs) → OnErr r (new ≡ xs) → IsSnapshots ids new
   kept-take r t new h n b own ok err = either (λ (ys : List Snapshot). IsSnapshots ids ys) r new (put_snapshot t xs) xs ok err (put-kept t h n b own) s
+
+find-put : (q : Snapshot → Bool) (z : Snapshot) (xs : List Snapshot) → q z ≡ false → find q (put_snapshot z xs) ≡ find q xs
+find-put q z [] e = ap (λ (t : Bool). cond t (Some z) None) e
+find-put q z (x ∷ xs) e = go (is_lt (snapshot_cmp z x)) (find-put q z xs e)
+  where
+    go : (t : Bool) → find q (put_snapshot z xs) ≡ find q xs → find q (cond t (z ∷ x ∷ xs) (x ∷ put_snapshot z xs)) ≡ find q (x ∷ xs)
+    go true h = ap (λ (u : Bool). cond u (Some z) (find q (x ∷ xs))) e
+    go false h = ap (λ (o : Option Snapshot). cond (q x) (Some x) o) h
+
+find-filter : (p q : Snapshot → Bool) (xs : List Snapshot) → ((x : Snapshot) → q x ≡ true → p x ≡ true) → find q (filter p xs) ≡ find q xs
+find-filter p q [] f = refl
+find-filter p q (x ∷ xs) f = go (p x) refl (q x) refl (find-filter p q xs f)
+  where
+    go : (t : Bool) → p x ≡ t → (u : Bool) → q x ≡ u → find q (filter p xs) ≡ find q xs → find q (cond t (x ∷ filter p xs) (filter p xs)) ≡ cond u (Some x) (find q xs)
+    go true e u g h = ap (λ (b : Bool). cond b (Some x) (find q (filter p xs))) g ∙ ap (λ (o : Option Snapshot). cond u (Some x) o) h
+    go false e true g h = let k : p x ≡ true = f x g in cc
+    go false e false g h = h
+
+-- a snapshot with another name, or of another directory
+other : (dir : ℕ) (name : List ℕ) (d : ℕ) (n : List ℕ) (x : Snapshot) → is_named dir name (key_of d n) ≡ false → is_named d n x ≡ true → is_named dir name x ≡ false
+other dir name d n x h e =
+    let w = and-parts (x.dir == d) (bytes_eq x.name n) e in
+    let i : d ≡ x.dir = same x.dir d w.0 in
+    let j : n ≡ x.name = sym ((bytes_eq-Decides x.name n).0 w.1) in
+    subst (λ (m : List ℕ). is_named dir name (key_of x.dir m) ≡ false) j (subst (λ (k : ℕ). is_named dir name (key_of k n) ≡ false) i h)
+  where
+    same : (a b : ℕ) → (a == b) ≡ true → b ≡ a
+    same a b h = grind (arith, nat_tests)
+
+own-name : (t : Snapshot) → is_named t.dir t.name t ≡ true
+own-name t = both (t.dir == t.dir) (bytes_eq t.name t.name) (yes t.dir) ((bytes_eq-Decides t.name t.name).1 refl)
+  where
+    yes : (a : ℕ) → (a == a) ≡ true
+    yes a = grind (arith, nat_tests)
+
+pub others-remove : (xs : List Snapshot) (dir : ℕ) (name : List ℕ) (d : ℕ) (n : List ℕ) → is_named dir name (key_of d n) ≡ false → snapshot_named (without_snapshot xs dir name) d n ≡ snapshot_named xs d n
+others-remove xs dir name d n h = find-filter (λ s. not (is_named dir name s)) (is_named d n) xs (λ x e. ap not (other dir name d n x h e))
+
+pub others-take : {A E : Type 0} (xs : List Snapshot) (r : Result A E) (t : Snapshot) (new : List Snapshot) → OnOk r (new ≡ put_snapshot t xs) → OnErr r (new ≡ xs)
+    → (d : ℕ) (n : List ℕ) → is_named t.dir t.name (key_of d n) ≡ false → snapshot_named new d n ≡ snapshot_named xs d n
+others-take xs r t new ok err d n h = either (λ (ys : List Snapshot). snapshot_named ys d n ≡ snapshot_named xs d n) r new (put_snapshot t xs) xs ok err (find-put (is_named d n) t xs (no (is_named d n t) refl)) refl
+  where
+    no : (b : Bool) → is_named d n t ≡ b → b ≡ false
+    no true e = let f : is_named t.dir t.name t ≡ false = other t.dir t.name d n t h e in let g = own-name t in cc
+    no false e = refl

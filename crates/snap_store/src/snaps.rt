@@ -1,5 +1,5 @@
 //! The snapshots, by directory and name.
-ghost use Rattle.std.specs.Prelude.{◌≡◌, ◌<◌, ◌≤◌, ◌&&◌, None, Some, [], length, take, drop, not, nat_lt, nat_le, slice_get, true, false, is_some, vec_len, vec_capacity, IsOk, IsSome, IsTrue, IfOk, IfSome, OnOk, OnErr};
+ghost use Rattle.std.specs.Prelude.{◌≡◌, ℕ, List, ◌<◌, ◌≤◌, ◌&&◌, None, Some, [], length, take, drop, not, nat_lt, nat_le, slice_get, true, false, is_some, vec_len, vec_capacity, IsOk, IsSome, IsTrue, IfOk, IfSome, OnOk, OnErr};
 ghost use Rattle.std.specs.List.{filter, remove};
 ghost use Rattle.std.specs.List.Sorted.{IsPartitionPoint};
 ghost use Rattle.std.specs.Option.{option_and_then, option_map, option_map_or};
@@ -284,7 +284,8 @@ impl Snaps {
 
     /// Takes a snapshot of a directory: the rows at and below it stay in it as they are. The
     /// directory has to stand and to be one that may have snapshots, the name to be free there, and
-    /// there to be fewer than 65,536 snapshots of it. Where memory is wanting all stays as it was.
+    /// there to be fewer than 65,536 snapshots of it. The other snapshots stay as they are. Where memory
+    /// is wanting all stays as it was.
     pub fn take(&mut self, tree: &Tree, dir: u64, name: Text) -> Result<(), NoMemory>
         requires stands { IsSome (entry_of tree.now dir) }
         requires allowed { IsTrue (is_among dir self.old.allowed) }
@@ -292,15 +293,18 @@ impl Snaps {
         requires room { count_of self.old.taken dir < 65536 }
         ensures ok { OnOk result (self.new.taken ≡ put_snapshot (record { dir = dir; name = name; rows = frozen tree.now dir }) self.old.taken) }
         ensures err { OnErr result (self.new.taken ≡ self.old.taken) }
+        ensures others { (d : ℕ) (n : List ℕ) → is_named dir name (key_of d n) ≡ false → snapshot_named self.new.taken d n ≡ snapshot_named self.old.taken d n }
         ensures allowed { self.new.allowed ≡ self.old.allowed }
     {
         let rows = FrozenRows::of(self.alloc, tree, dir)?;
         put(&mut self.taken, Taken { dir, name, rows })
     }
 
-    /// Removes a snapshot; where there is none, nothing changes. It takes no memory.
+    /// Removes a snapshot; where there is none, nothing changes. The other snapshots stay as they
+    /// are. It takes no memory.
     pub fn remove(&mut self, dir: u64, name: &Text)
         ensures taken { self.new.taken ≡ without_snapshot self.old.taken dir name.now }
+        ensures others { (d : ℕ) (n : List ℕ) → is_named dir name.now (key_of d n) ≡ false → snapshot_named self.new.taken d n ≡ snapshot_named self.old.taken d n }
         ensures allowed { self.new.allowed ≡ self.old.allowed }
     {
         remove(&mut self.taken, dir, name);
