@@ -133,28 +133,66 @@ fn listed(alloc: Global, list: &Option<ChildList>) -> Result<String, AllocError>
     Ok(out)
 }
 
+fn taken(
+    alloc: Global,
+    snaps: &mut Snaps,
+    tree: &Tree,
+    dir: u64,
+    name: &str,
+) -> Result<bool, Fail> {
+    Ok(offer(alloc, snaps, tree, dir, text(alloc, name)?)?)
+}
+
+fn looks(
+    alloc: Global,
+    snaps: &Snaps,
+    name: &str,
+    below: &str,
+    row: Option<Row>,
+) -> Result<bool, Fail> {
+    Ok(snaps.look(1, &text(alloc, name)?, &path(alloc, below)?) == row)
+}
+
+fn lists(alloc: Global, snaps: &Snaps, below: &str, names: &str) -> Result<bool, Fail> {
+    let list = snaps.list(1, &text(alloc, "s")?, &path(alloc, below)?)?;
+    Ok(listed(alloc, &list)?.as_str() == names)
+}
+
+fn zone_is(alloc: Global, snaps: &Snaps, below: &str, depth: u8) -> Result<bool, Fail> {
+    Ok(snaps.zone_in(1, &text(alloc, "s")?, &path(alloc, below)?) == Some(depth))
+}
+
+fn removed(alloc: Global, snaps: &mut Snaps, name: &str) -> Result<(), Fail> {
+    snaps.remove(1, &text(alloc, name)?);
+    Ok(())
+}
+
+fn stands_at(snaps: &Snaps, at: u32, name: &str) -> bool {
+    match snaps.name_at(1, at) {
+        Some(stands) => stands.as_str() == name,
+        None => false,
+    }
+}
+
 #[test]
 fn a_snapshot_stays_as_it_was_when_the_tree_changes(rt: HostRuntime) -> Result<(), Fail> {
     let alloc = rt.alloc();
-    let key = KeyName::read(b"key1").ok_or("a name")?;
     let mut tree = small_tree(alloc)?;
     let mut snaps = Snaps::new(alloc);
     snaps.allow(1)?;
-    assert!(rt; offer(alloc, &mut snaps, &tree, 1, text(alloc, "s")?)?);
+    assert!(rt; taken(alloc, &mut snaps, &tree, 1, "s")?);
     assert!(rt; make(&mut tree, &path(alloc, "/a/g")?, 6, false)?);
-    assert!(rt; mark(&mut tree, 1, key));
-    let s = text(alloc, "s")?;
-    let root = NPath::root(alloc);
-    assert!(rt; snaps.look(1, &s, &root) == Some(directory(1, None)));
-    assert!(rt; snaps.look(1, &s, &path(alloc, "/d/e")?) == Some(file(3)));
-    assert!(rt; snaps.look(1, &s, &path(alloc, "/f")?) == Some(file(4)));
-    assert!(rt; snaps.look(1, &s, &path(alloc, "/g")?) == None);
-    assert!(rt; snaps.look(5, &s, &root) == None);
-    assert!(rt; snaps.zone_in(1, &s, &path(alloc, "/d")?) == None);
-    assert!(rt; offer(alloc, &mut snaps, &tree, 1, text(alloc, "t")?)?);
-    let t = text(alloc, "t")?;
-    assert!(rt; snaps.look(1, &t, &root) == Some(directory(1, Some(key))));
-    assert!(rt; snaps.look(1, &t, &path(alloc, "/g")?) == Some(file(6)));
+    assert!(rt; taken(alloc, &mut snaps, &tree, 1, "t")?);
+    for (name, below, row) in [
+        ("s", "/", Some(directory(1, None))),
+        ("s", "/d/e", Some(file(3))),
+        ("s", "/f", Some(file(4))),
+        ("s", "/g", None),
+        ("t", "/g", Some(file(6))),
+        ("u", "/", None),
+    ] {
+        assert!(rt; looks(alloc, &snaps, name, below, row)?, "{name} {below}");
+    }
     Ok(())
 }
 
@@ -164,14 +202,11 @@ fn lists_what_lay_in_a_directory(rt: HostRuntime) -> Result<(), Fail> {
     let tree = small_tree(alloc)?;
     let mut snaps = Snaps::new(alloc);
     snaps.allow(1)?;
-    assert!(rt; offer(alloc, &mut snaps, &tree, 1, text(alloc, "s")?)?);
-    let s = text(alloc, "s")?;
+    assert!(rt; lists(alloc, &snaps, "/", "-")?);
+    assert!(rt; taken(alloc, &mut snaps, &tree, 1, "s")?);
     for (below, names) in [("/", "d/f "), ("/d", "e "), ("/d/e", "-"), ("/x", "-")] {
-        let list = snaps.list(1, &s, &path(alloc, below)?)?;
-        assert_eq!(rt; listed(alloc, &list)?.as_str(), names);
+        assert!(rt; lists(alloc, &snaps, below, names)?, "{below}");
     }
-    let none = snaps.list(1, &text(alloc, "t")?, &NPath::root(alloc))?;
-    assert_eq!(rt; listed(alloc, &none)?.as_str(), "-");
     Ok(())
 }
 
@@ -182,15 +217,12 @@ fn the_zone_in_a_snapshot_is_the_deepest_mark_of_then(rt: HostRuntime) -> Result
     let mut tree = small_tree(alloc)?;
     let mut snaps = Snaps::new(alloc);
     snaps.allow(1)?;
-    assert!(rt; mark(&mut tree, 1, key));
-    assert!(rt; mark(&mut tree, 2, key));
-    assert!(rt; offer(alloc, &mut snaps, &tree, 1, text(alloc, "s")?)?);
-    let s = text(alloc, "s")?;
+    for id in [1, 2] {
+        assert!(rt; mark(&mut tree, id, key));
+    }
+    assert!(rt; taken(alloc, &mut snaps, &tree, 1, "s")?);
     for (below, depth) in [("/", 0), ("/f", 0), ("/d", 1), ("/d/e", 1), ("/d/x/y", 1)] {
-        assert!(rt;
-            snaps.zone_in(1, &s, &path(alloc, below)?) == Some(depth),
-            "{below}"
-        );
+        assert!(rt; zone_is(alloc, &snaps, below, depth)?, "{below}");
     }
     Ok(())
 }
@@ -200,31 +232,46 @@ fn names_stand_in_byte_order_by_directory(rt: HostRuntime) -> Result<(), Fail> {
     let alloc = rt.alloc();
     let tree = small_tree(alloc)?;
     let mut snaps = Snaps::new(alloc);
-    assert!(rt; !offer(alloc, &mut snaps, &tree, 1, text(alloc, "s")?)?);
-    snaps.allow(5)?;
+    assert!(rt; !taken(alloc, &mut snaps, &tree, 1, "s")?);
+    for dir in [5, 1, 5] {
+        snaps.allow(dir)?;
+    }
+    for (dir, name, free) in [
+        (1, "b", true),
+        (5, "b", true),
+        (1, "a!", true),
+        (1, "a", true),
+        (1, "B", true),
+        (1, "a", false),
+    ] {
+        assert!(rt;
+            taken(alloc, &mut snaps, &tree, dir, name)? == free,
+            "{name}"
+        );
+    }
+    removed(alloc, &mut snaps, "a!")?;
+    assert!(rt; snaps.count(5) == Some(1));
+    for (at, name, stands) in [
+        (0, "B", true),
+        (1, "a", true),
+        (2, "b", true),
+        (3, "b", false),
+    ] {
+        assert!(rt; stands_at(&snaps, at, name) == stands, "{name}");
+    }
+    Ok(())
+}
+
+#[test]
+fn a_directory_with_snapshots_is_not_disallowed(rt: HostRuntime) -> Result<(), Fail> {
+    let alloc = rt.alloc();
+    let tree = small_tree(alloc)?;
+    let mut snaps = Snaps::new(alloc);
+    snaps.reserve_allow(1)?;
     snaps.allow(1)?;
-    snaps.allow(5)?;
-    for name in ["b", "a!", "a", "B"] {
-        assert!(rt; offer(alloc, &mut snaps, &tree, 1, text(alloc, name)?)?);
-        assert!(rt; offer(alloc, &mut snaps, &tree, 5, text(alloc, name)?)?);
-        assert!(rt; !offer(alloc, &mut snaps, &tree, 1, text(alloc, name)?)?);
-    }
-    snaps.remove(1, &text(alloc, "a!")?);
-    snaps.remove(1, &text(alloc, "c")?);
-    assert!(rt; snaps.count(1) == Some(3));
-    assert!(rt; snaps.count(5) == Some(4));
-    assert!(rt; snaps.count(2) == None);
-    let mut at = 0;
-    for name in ["B", "a", "b"] {
-        let stands = snaps.name_at(1, at).ok_or("a snapshot")?;
-        assert_eq!(rt; stands.as_str(), name);
-        at += 1;
-    }
-    assert!(rt; snaps.name_at(1, 3).is_none());
+    assert!(rt; taken(alloc, &mut snaps, &tree, 1, "s")?);
     assert!(rt; !forbid(&mut snaps, 1));
-    for name in ["B", "a", "b"] {
-        snaps.remove(1, &text(alloc, name)?);
-    }
+    removed(alloc, &mut snaps, "s")?;
     assert!(rt; forbid(&mut snaps, 1));
     assert!(rt; snaps.count(1) == None);
     Ok(())
@@ -236,27 +283,18 @@ fn knows_where_snapshots_are_and_may_be(rt: HostRuntime) -> Result<(), Fail> {
     let tree = small_tree(alloc)?;
     let mut snaps = Snaps::new(alloc);
     snaps.allow(2)?;
-    for (text, above, below) in [
-        ("/", false, true),
-        ("/a", false, true),
-        ("/a/d", false, false),
-        ("/a/d/e", true, false),
-        ("/a!", false, false),
+    assert!(rt; taken(alloc, &mut snaps, &tree, 2, "s")?);
+    for (text, above, below, holds) in [
+        ("/", false, true, true),
+        ("/a", false, true, true),
+        ("/a/d", false, false, true),
+        ("/a/d/e", true, false, false),
+        ("/a!", false, false, false),
     ] {
         let path = path(alloc, text)?;
         assert!(rt; snaps.allowed_above(&tree, &path) == above, "{text}");
         assert!(rt; snaps.allowed_below(&tree, &path) == below, "{text}");
-        assert!(rt; !snaps.holds(&tree, &path));
-    }
-    assert!(rt; offer(alloc, &mut snaps, &tree, 2, text(alloc, "s")?)?);
-    for (text, holds) in [
-        ("/", true),
-        ("/a", true),
-        ("/a/d", true),
-        ("/a/d/e", false),
-        ("/a!", false),
-    ] {
-        assert!(rt; snaps.holds(&tree, &path(alloc, text)?) == holds, "{text}");
+        assert!(rt; snaps.holds(&tree, &path) == holds, "{text}");
     }
     Ok(())
 }
@@ -271,32 +309,25 @@ fn a_name_may_have_255_bytes(rt: HostRuntime) -> Result<(), Fail> {
     for _ in 0..255 {
         long.push('x')?;
     }
-    assert!(rt; offer(alloc, &mut snaps, &tree, 1, text(alloc, long.as_str())?)?);
-    let stands = snaps.name_at(1, 0).ok_or("a snapshot")?;
-    assert_eq!(rt; stands.as_str().len(), 255);
-    assert!(rt;
-        snaps
-            .look(1, &text(alloc, long.as_str())?, &NPath::root(alloc))
-            .is_some()
-    );
+    assert!(rt; taken(alloc, &mut snaps, &tree, 1, long.as_str())?);
+    assert!(rt; stands_at(&snaps, 0, long.as_str()));
+    assert!(rt; looks(alloc, &snaps, long.as_str(), "/", Some(directory(1, None)))?);
     Ok(())
 }
 
 #[test]
 fn an_empty_directory_has_at_most_65536_snapshots(rt: HostRuntime) -> Result<(), Fail> {
     let alloc = rt.alloc();
-    let tree = small_tree(alloc)?;
+    let mut tree = Tree::new(alloc)?;
+    assert!(rt; make(&mut tree, &path(alloc, "/e")?, 1, true)?);
     let mut snaps = Snaps::new(alloc);
-    snaps.allow(5)?;
+    snaps.allow(1)?;
     for i in 0..MOST_SNAPSHOTS {
         let name = Text::of(format!(in alloc; "{i:05}")?);
-        assert!(rt; offer(alloc, &mut snaps, &tree, 5, name)?);
+        assert!(rt; offer(alloc, &mut snaps, &tree, 1, name)?);
     }
-    assert!(rt; snaps.count(5) == Some(MOST_SNAPSHOTS));
-    assert!(rt; !offer(alloc, &mut snaps, &tree, 5, text(alloc, "one more")?)?);
-    let last = snaps.name_at(5, MOST_SNAPSHOTS - 1).ok_or("a snapshot")?;
-    assert_eq!(rt; last.as_str(), "65535");
-    let first = snaps.look(5, &text(alloc, "00000")?, &NPath::root(alloc));
-    assert!(rt; first == Some(directory(5, None)));
+    assert!(rt; snaps.count(1) == Some(MOST_SNAPSHOTS));
+    assert!(rt; !taken(alloc, &mut snaps, &tree, 1, "one more")?);
+    assert!(rt; stands_at(&snaps, MOST_SNAPSHOTS - 1, "65535"));
     Ok(())
 }
