@@ -1,5 +1,5 @@
 -- Rows by their places, and paths from a directory on.
-use Rattle.std.proofs.Common.{◌≡◌, ℕ, ◌+◌, ◌-◌, ◌<◌, ◌≤◌, zero, suc, Bool, true, false, ◌&&◌, List, [], ◌∷◌, ◌++◌, length, get_or, take, drop, Option, Some, None, refl, sym, ap, ◌∙◌, subst, arith, length-append, Ordering}
+use Rattle.std.proofs.Common.{◌≡◌, ℕ, ◌+◌, ◌-◌, ◌<◌, ◌≤◌, zero, suc, Bool, true, false, ◌&&◌, List, [], ◌∷◌, ◌++◌, length, get_or, drop, Option, Some, None, refl, sym, ap, ◌∙◌, arith, length-append, Ordering}
 use Rattle.std.specs.declared.cmp.Ordering.TheVariants.{Less, Equal, Greater}
 use Rattle.std.specs.Prelude.{nat_le, slice_get, Result, Ok, Err, IfOk}
 use Rattle.std.specs.List.{list_all}
@@ -9,7 +9,7 @@ use Rattle.std.specs.Cmp.Lexicographic.{slice_cmp}
 use Rattle.std.proofs.lemmas.Bool.Decides.{nat_tests}
 use Rattle.std.proofs.lemmas.Cmp.{nat_list_cmp_total}
 use Rattle.inode_tree.specs.declared.rows.Node.{Node}
-use Rattle.inode_tree.specs.Arena.{IsTree, cmp_front, entry_at, node_at, path_of, rows_of}
+use Rattle.inode_tree.specs.Arena.{IsTree, cmp_front, entry_at, rows_of}
 use Rattle.inode_tree.specs.Paths.{is_component, is_prefix, is_relative, is_short, names_text, path_text}
 use Rattle.inode_tree.specs.Rows.{Entry, entry_of}
 use Rattle.inode_tree.proofs.PathLemmas.{and-parts}

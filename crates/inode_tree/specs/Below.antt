@@ -1,5 +1,5 @@
 -- The rows at and below a directory.
-use Rattle.std.specs.Prelude.{ℕ, Bool, false, List, [], length, map, drop}
+use Rattle.std.specs.Prelude.{ℕ, Bool, false, List, length, map, drop}
 use Rattle.std.specs.List.{filter}
 use Rattle.std.specs.Option.{option_map_or}
 use Rattle.inode_tree.specs.Paths.{is_prefix}

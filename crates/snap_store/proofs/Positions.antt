@@ -1,13 +1,12 @@
 -- The row at a path, by its place among rising rows.
-use Rattle.std.proofs.Common.{◌≡◌, ℕ, ◌<◌, ◌≤◌, Bool, true, false, cond, List, [], ◌∷◌, length, get_or, Option, Some, None, refl, sym, ap, ◌∙◌, Ordering}
+use Rattle.std.proofs.Common.{◌≡◌, ℕ, ◌<◌, ◌≤◌, Bool, true, false, cond, List, [], ◌∷◌, length, get_or, Some, None, refl, sym, ap, ◌∙◌, Ordering}
 use Rattle.std.specs.Cmp.{IsTotalOrder}
 use Rattle.std.specs.Option.{option_map}
-use Rattle.std.specs.Ordering.{is_eq, is_lt, on}
+use Rattle.std.specs.Ordering.{is_eq, is_lt}
 use Rattle.std.specs.List.Sorted.{IsPartitionPoint}
 use Rattle.std.proofs.lemmas.Cmp.{on_total}
 use Rattle.inode_tree.specs.declared.rows.Kind.TheVariants.{Dir}
-use Rattle.inode_tree.specs.declared.rows.Row.{Row}
-use Rattle.inode_tree.specs.Paths.{path_cmp, same_path}
+use Rattle.inode_tree.specs.Paths.{path_cmp}
 use Rattle.inode_tree.specs.Rows.{AllAfter, Entry, IsRising, row_at}
 use Rattle.inode_tree.proofs.Ranks.{path-total}
 use Rattle.inode_tree.proofs.Seeks.{same-cmp}

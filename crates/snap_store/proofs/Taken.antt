@@ -1,21 +1,18 @@
 -- Snapshots and ids in their order.
-use Rattle.std.proofs.Common.{◌≡◌, ℕ, ◌+◌, ◌-◌, ◌<◌, ◌≤◌, zero, suc, Bool, true, false, cond, not, ◌&&◌, ◌||◌, List, [], ◌∷◌, ◌++◌, length, get_or, take, drop, map, Option, Some, None, is_some, refl, sym, ap, ◌∙◌, subst, arith, Ordering, inl, inr}
-use Rattle.std.specs.Prelude.{◌==◌, nat_le, nat_lt, slice_get}
+use Rattle.std.proofs.Common.{◌≡◌, ℕ, ◌<◌, ◌≤◌, zero, suc, Bool, true, false, cond, not, ◌&&◌, ◌||◌, List, [], ◌∷◌, length, get_or, Option, Some, None, is_some, refl, sym, ap, ◌∙◌, arith, Ordering}
+use Rattle.std.specs.Prelude.{◌==◌, nat_lt, slice_get}
 use Rattle.std.specs.declared.cmp.Ordering.TheVariants.{Less, Equal, Greater}
 use Rattle.std.specs.Cmp.{IsTotalOrder}
-use Rattle.std.specs.List.{filter, find, list_all, list_any, remove}
+use Rattle.std.specs.List.{filter, find, remove}
 use Rattle.std.specs.List.Sorted.{IsNonDecreasingBy, IsPartitionPoint, IsPartitionedBy}
-use Rattle.std.specs.Option.{option_and_then, option_map_or}
 use Rattle.std.specs.Ordering.{is_eq, is_lt, nat_cmp, ordering_then}
 use Rattle.std.specs.Cmp.Lexicographic.{slice_cmp}
-use Rattle.std.specs.Str.{bytes_eq}
-use Rattle.std.proofs.lemmas.Bool.{cases_lt}
 use Rattle.std.proofs.lemmas.Bool.Decides.{nat_tests}
 use Rattle.std.proofs.lemmas.Cmp.{nat_cmp_total, nat_list_cmp_total, on_total, then_total}
 use Rattle.std.proofs.lemmas.Map.Text.{is_eq-slice_cmp}
-use Rattle.snap_store.specs.Ordered.{AllAfterBy, IsRisingBy, put_by}
-use Rattle.snap_store.specs.Snapshots.{Snapshot, count_of, is_among, is_named, is_of, key_of, put_snapshot, snapshot_cmp, snapshot_named, with_id, without_id, without_snapshot}
-use Rattle.snap_store.proofs.OrderLemmas.{Parted, after-at, put-insert, rid, rising-filter, rising-parted, rising-put, seek, seek-at, seek-past}
+use Rattle.snap_store.specs.Ordered.{IsRisingBy}
+use Rattle.snap_store.specs.Snapshots.{Snapshot, is_among, is_named, key_of, snapshot_cmp, snapshot_named, without_id, without_snapshot}
+use Rattle.snap_store.proofs.OrderLemmas.{Parted, after-at, rid, rising-parted, seek, seek-at, seek-past}
 
 pub snapshot-total : IsTotalOrder snapshot_cmp
 snapshot-total = then_total (on_total (λ (s : Snapshot). s.dir) nat_cmp_total) (on_total (λ (s : Snapshot). s.name) nat_list_cmp_total)

@@ -5,8 +5,7 @@ use Rattle.std.specs.Option.{option_map, option_map_or}
 use Rattle.std.specs.Str.{bytes_eq}
 use Rattle.std.proofs.lemmas.List.{take_more}
 use Rattle.std.proofs.lemmas.Bool.Decides.{nat_tests}
-use Rattle.inode_tree.specs.declared.rows.Row.{Row}
-use Rattle.inode_tree.specs.Paths.{is_before, is_prefix, same_path}
+use Rattle.inode_tree.specs.Paths.{is_prefix, same_path}
 use Rattle.inode_tree.specs.Rows.{AllAfter, Entry, IsRising, is_marked, longer, row_at, zone_of}
 use Rattle.inode_tree.proofs.PathLemmas.{and-parts}
 use Rattle.inode_tree.proofs.Seeks.{before-not-same, same-is, same-itself}

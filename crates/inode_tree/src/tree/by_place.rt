@@ -1,6 +1,6 @@
 //! Rows by their places in path order, and as they are seen from a directory.
 ghost use Rattle.std.specs.Prelude.{◌≡◌, ◌<◌, ◌≤◌, ◌-◌, Some, length, drop, slice_get, IsTrue, IfOk};
-ghost use Rattle.std.specs.Option.{option_map, option_map_or};
+ghost use Rattle.std.specs.Option.{option_map};
 ghost use Rattle.inode_tree.specs.Arena.{IsLinked, path_of, rank};
 ghost use Rattle.inode_tree.specs.Below.{at_or_above, at_or_below};
 ghost use Rattle.inode_tree.specs.Paths.{is_prefix, is_relative};

@@ -1,7 +1,7 @@
-use Rattle.std.proofs.Common.{◌≡◌, ◌∙◌, ◌<◌, ℕ, length, sym, ap, arith, take, Ordering, Less, Equal, Greater}
-use Rattle.std.specs.Ordering.{nat_cmp, ordering_then}
+use Rattle.std.proofs.Common.{◌≡◌, ◌∙◌, ◌<◌, ℕ, length, sym, ap, arith, Less, Equal, Greater}
+use Rattle.std.specs.Ordering.{nat_cmp}
 use Rattle.std.proofs.lemmas.Bool.Decides.{nat_tests}
-use Rattle.snap_store.proofs.Compares.{from, names-end, names-step}
+use Rattle.snap_store.proofs.Compares.{names-end, names-step}
 use Rattle.snap_store.proofs.rows.compare.Goals as goal
 
 more : (a b : ℕ) → b < a → nat_cmp a b ≡ Greater

@@ -1,4 +1,4 @@
-use Rattle.std.proofs.Common.{◌≡◌, ◌∙◌, ◌+◌, ℕ, List, Some, false, true, sym, ap, arith, length, []}
+use Rattle.std.proofs.Common.{◌∙◌, ◌+◌, ℕ, List, sym, ap, arith, []}
 use Rattle.std.specs.Prelude.{slice_get}
 use Rattle.std.specs.Option.{option_map}
 use Rattle.inode_tree.specs.Below.{seen_from}

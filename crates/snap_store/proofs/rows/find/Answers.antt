@@ -1,4 +1,4 @@
-use Rattle.std.proofs.Common.{◌≡◌, ◌∙◌, ◌<◌, Some, sym, ap, arith, take, length, Ordering, Less, Equal, Greater}
+use Rattle.std.proofs.Common.{◌∙◌, Some, sym, ap, arith, take, Less, Equal, Greater}
 use Rattle.inode_tree.specs.declared.rows.Row.{Row}
 use Rattle.snap_store.proofs.Positions.{row-here, row-past}
 use Rattle.snap_store.proofs.rows.find.Goals as goal

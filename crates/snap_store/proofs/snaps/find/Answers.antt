@@ -1,4 +1,4 @@
-use Rattle.std.proofs.Common.{◌≡◌, ◌<◌, sym, arith, length, Ordering, Less, Equal, Greater}
+use Rattle.std.proofs.Common.{sym, arith, Less, Equal, Greater}
 use Rattle.snap_store.proofs.Taken.{here, missing}
 use Rattle.snap_store.proofs.snaps.find.Goals as goal
 

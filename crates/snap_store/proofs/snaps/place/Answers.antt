@@ -1,11 +1,10 @@
-use Rattle.std.proofs.Common.{◌≡◌, Bool, rules, subst, ℕ, List, true, false, sym}
-use Rattle.std.specs.Prelude.{nat_le, nat_lt}
-use Rattle.std.specs.Ordering.{is_lt, nat_cmp}
-use Rattle.std.proofs.lemmas.List.Sorted.{IsPartitionPoint-from_clause, IsPartitionedBy-leb, IsPartitionedBy-ltb}
+use Rattle.std.proofs.Common.{◌≡◌, Bool, rules, subst, List, true, false, sym}
+use Rattle.std.specs.Ordering.{is_lt}
+use Rattle.std.proofs.lemmas.List.Sorted.{IsPartitionPoint-from_clause}
 use Rattle.std.specs.List.Sorted.{IsPartitionPoint, IsPartitionedBy}
 use Rattle.snap_store.specs.Snapshots.{Snapshot, key_of, snapshot_cmp}
 use Rattle.snap_store.proofs.OrderLemmas.{rising-parted}
-use Rattle.snap_store.proofs.Taken.{dirs-rise, ids-parted, snapshot-total}
+use Rattle.snap_store.proofs.Taken.{snapshot-total}
 use Rattle.snap_store.proofs.snaps.place.Goals as goal
 
 test : Snapshot → Snapshot → Bool

@@ -1,6 +1,5 @@
-use Rattle.std.proofs.Common.{◌≡◌, ◌∙◌, ◌≤◌, ℕ, List, length, sym, ap, subst}
-use Rattle.std.specs.List.{insert}
-use Rattle.snap_store.specs.Snapshots.{Snapshot, key_of}
+use Rattle.std.proofs.Common.{◌∙◌, ℕ, List, subst}
+use Rattle.snap_store.specs.Snapshots.{key_of}
 use Rattle.snap_store.proofs.Kept.{taken-put}
 use Rattle.snap_store.proofs.OrderLemmas.{Parted}
 use Rattle.snap_store.proofs.Taken.{snapshot-total}

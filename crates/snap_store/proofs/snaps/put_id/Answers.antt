@@ -1,4 +1,4 @@
-use Rattle.std.proofs.Common.{◌≡◌, ◌∙◌, List, ℕ, sym, subst}
+use Rattle.std.proofs.Common.{◌∙◌, sym, subst}
 use Rattle.std.specs.Ordering.{nat_cmp}
 use Rattle.snap_store.specs.Ordered.{IsRisingBy}
 use Rattle.snap_store.proofs.Kept.{id-put}

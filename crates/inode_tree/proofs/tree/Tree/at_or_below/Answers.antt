@@ -1,4 +1,4 @@
-use Rattle.std.proofs.Common.{◌≡◌, ◌∙◌, ℕ, List, Some, None, ap, sym}
+use Rattle.std.proofs.Common.{◌∙◌, List, Some, None, ap, sym}
 use Rattle.std.specs.HashMap.{get}
 use Rattle.std.specs.Bool.{nat_eq}
 use Rattle.inode_tree.specs.Below.{at_or_below}

@@ -1,4 +1,4 @@
-use Rattle.std.proofs.Common.{◌≡◌, ◌∙◌, ◌≤◌, ℕ, List, ap, arith, take, take_all, length}
+use Rattle.std.proofs.Common.{◌∙◌, List, ap, arith, take, take_all}
 use Rattle.inode_tree.specs.Arena.{rank, rows_of}
 use Rattle.inode_tree.specs.Rows.{Entry}
 use Rattle.inode_tree.proofs.Ranks.{length-rows, rank-most}

@@ -1,4 +1,4 @@
-use Rattle.std.proofs.Common.{◌≡◌, ◌∙◌, ◌<◌, ℕ, List, Some, ap, sym, subst, arith, length}
+use Rattle.std.proofs.Common.{◌∙◌, ◌<◌, ℕ, List, ap, sym, subst, length}
 use Rattle.std.specs.Prelude.{slice_get}
 use Rattle.std.specs.Option.{option_map}
 use Rattle.inode_tree.specs.Rows.{Entry}
@@ -13,4 +13,4 @@ returns c =
     let at : c.args.at < length c.self.inside.order.items = live-at _ _ c.args.self.now c.args.at c.self.view_is c.requires in
     ap (λ (rows : List Entry). option_map (λ (e : Entry). e.row) (slice_get rows c.args.at)) (sym c.self.view_is)
     ∙ at-place (λ (e : Entry). e.row) c.self.inside.nodes.items c.self.inside.order.items c.args.at c.get.result c.index.result.now.row at c.get.ensures
-        (ap (λ (x : Node). x.row) (node-default c.self.inside.nodes.items c.get.result c.index.result.now (subst (λ (k : ℕ). k < length c.self.inside.nodes.items) (sym c.get.ensures) (within-at _ _ _ c.self.invariant.within at)) c.index.ensures))
+    (ap (λ (x : Node). x.row) (node-default c.self.inside.nodes.items c.get.result c.index.result.now (subst (λ (k : ℕ). k < length c.self.inside.nodes.items) (sym c.get.ensures) (within-at _ _ _ c.self.invariant.within at)) c.index.ensures))

@@ -1,5 +1,4 @@
-use Rattle.std.proofs.Common.{◌≡◌, ◌∙◌, ◌<◌, ◌-◌, ℕ, List, [], get_or, sym, ap, subst, arith, length}
-use Rattle.inode_tree.specs.declared.listing.Child.{Child}
+use Rattle.std.proofs.Common.{◌∙◌, ◌<◌, ◌-◌, ℕ, [], get_or, sym, ap, subst, arith, length}
 use Rattle.inode_tree.specs.Listing.{child_of}
 use Rattle.inode_tree.specs.Rows.{Entry}
 use Rattle.snap_store.proofs.Kids.{last-at}

@@ -1,4 +1,4 @@
-use Rattle.std.proofs.Common.{◌≡◌, ◌∙◌, ◌+◌, ℕ, List, sym, ap, arith, take, length, Ordering, Less, Equal, Greater}
+use Rattle.std.proofs.Common.{◌∙◌, ℕ, sym, ap, arith, take, Less, Equal, Greater}
 use Rattle.inode_tree.specs.Paths.{is_child, path_cmp}
 use Rattle.inode_tree.specs.Rows.{Entry}
 use Rattle.snap_store.proofs.Kids.{child-by, child-not}

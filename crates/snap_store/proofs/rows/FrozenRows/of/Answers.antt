@@ -1,8 +1,5 @@
-use Rattle.std.proofs.Common.{◌≡◌, ◌∙◌, ℕ, List, [], Option, Some, sym, ap, subst}
-use Rattle.std.specs.Option.{option_map, option_map_or}
-use Rattle.inode_tree.specs.Below.{rows_below}
-use Rattle.inode_tree.specs.Rows.{Entry, IsRising, entry_of}
-use Rattle.snap_store.specs.Snapshots.{frozen}
+use Rattle.std.proofs.Common.{◌∙◌, sym, subst}
+use Rattle.inode_tree.specs.Rows.{IsRising}
 use Rattle.snap_store.proofs.Blocks.{frozen-at, rising-below}
 use Rattle.snap_store.proofs.rows.FrozenRows.of.Goals as goal
 

@@ -1,4 +1,4 @@
-use Rattle.std.proofs.Common.{◌≡◌, ◌∙◌, ◌-◌, ℕ, Bool, Some, None, cond, arith, ap, sym}
+use Rattle.std.proofs.Common.{◌∙◌, ℕ, Bool, Some, None, cond, arith, ap, sym}
 use Rattle.snap_store.specs.Snapshots.{Snapshots, count_in, count_of}
 use Rattle.snap_store.proofs.Counts.{counted, in-order}
 use Rattle.snap_store.proofs.snaps.Snaps.count.Goals as goal

@@ -1,5 +1,5 @@
-use Rattle.std.proofs.Common.{◌≡◌, ◌∙◌, ℕ, List, ap, sym, subst}
-use Rattle.snap_store.specs.Snapshots.{IsSnapshots, Snapshot, Snapshots, count_of}
+use Rattle.std.proofs.Common.{◌∙◌, ℕ, List, ap, sym, subst}
+use Rattle.snap_store.specs.Snapshots.{IsSnapshots, Snapshots, count_of}
 use Rattle.snap_store.proofs.Kept.{kept-disallow}
 use Rattle.snap_store.proofs.snaps.Snaps.disallow.Goals as goal
 

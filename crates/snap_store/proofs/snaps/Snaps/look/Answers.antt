@@ -1,6 +1,5 @@
-use Rattle.std.proofs.Common.{◌≡◌, ◌∙◌, List, [], ap}
+use Rattle.std.proofs.Common.{◌∙◌, List, [], ap}
 use Rattle.std.specs.Prelude.{is_some}
-use Rattle.inode_tree.specs.declared.rows.Row.{Row}
 use Rattle.inode_tree.specs.Rows.{Entry, row_at}
 use Rattle.snap_store.specs.Snapshots.{Snapshots, snapshot_named}
 use Rattle.snap_store.proofs.Kept.{named-look, rows-found}

@@ -1,4 +1,4 @@
-use Rattle.std.proofs.Common.{◌≡◌, ◌∙◌, ◌<◌, ◌≤◌, ◌-◌, ℕ, List, Some, arith, ap, sym}
+use Rattle.std.proofs.Common.{◌∙◌, ℕ, List, Some, ap, sym}
 use Rattle.std.specs.Prelude.{slice_get}
 use Rattle.snap_store.specs.Snapshots.{Snapshots, names_of}
 use Rattle.snap_store.proofs.Counts.{in-order, name-inside, name-past}

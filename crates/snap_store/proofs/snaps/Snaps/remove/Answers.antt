@@ -1,4 +1,4 @@
-use Rattle.std.proofs.Common.{◌≡◌, ◌∙◌, ℕ, List, ap, sym, subst}
+use Rattle.std.proofs.Common.{◌∙◌, List, ap, sym, subst}
 use Rattle.snap_store.specs.Snapshots.{IsSnapshots, Snapshot, Snapshots, snapshot_named}
 use Rattle.snap_store.proofs.Kept.{kept-remove, others-remove}
 use Rattle.snap_store.proofs.snaps.Snaps.remove.Goals as goal

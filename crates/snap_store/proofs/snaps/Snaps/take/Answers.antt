@@ -1,4 +1,4 @@
-use Rattle.std.proofs.Common.{◌≡◌, ◌∙◌, ◌<◌, ℕ, ap, sym, subst}
+use Rattle.std.proofs.Common.{◌∙◌, ◌<◌, ap, sym, subst}
 use Rattle.snap_store.specs.Snapshots.{Snapshots, count_of, is_among, snapshot_named}
 use Rattle.snap_store.proofs.Blocks.{frozen-own}
 use Rattle.snap_store.proofs.Kept.{kept-take, others-take}
