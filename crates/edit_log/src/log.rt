@@ -52,7 +52,7 @@ impl EditLog {
     /// new opening, whose number is one more than the list's.
     ///
     /// `Damaged` comes exactly where the file is no log, or a record is no operation, or an opening that
-    /// isn't the last one and 1, or another operation before the first opening, with the offset of
+    /// isn't one more than the last, or another operation before the first opening, with the offset of
     /// the gate before the first such record. Whether the operations apply to one another is not asked:
     /// a caller that asks it calls `recover`, and then `open`. `Spent` comes exactly where opening
     /// 4,294,967,295 is recorded.

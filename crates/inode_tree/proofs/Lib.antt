@@ -8,6 +8,7 @@ pub mod Lasts
 pub mod Orders
 pub mod PathLemmas
 pub mod Pieces
+pub mod Places
 pub mod Prefixes
 pub mod Puts
 pub mod Ranks

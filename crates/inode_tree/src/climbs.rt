@@ -116,3 +116,17 @@ pub fn below(nodes: &Vec<Node>, n: u32, path: &NPath) -> bool
         Ordering::Greater => false,
     }
 }
+
+/// Whether the node's path is the path or leads to it.
+pub fn above(nodes: &Vec<Node>, n: u32, path: &NPath) -> bool
+    requires linked { IsLinked nodes.now.items }
+    requires live { n < length nodes.now.items }
+    ensures { result ≡ is_prefix (path_of nodes.now.items n) path.now }
+{
+    let d = depth(nodes, n);
+    match front(nodes, n, d, path, path.len()) {
+        Ordering::Less => false,
+        Ordering::Equal => d <= path.len(),
+        Ordering::Greater => false,
+    }
+}

@@ -9,6 +9,8 @@ ghost use Rattle.inode_tree.specs.Arena.{HasRoom, IsLinked, IsTree, number_of, p
 ghost use Rattle.inode_tree.specs.declared.rows.Kind.TheVariants.{Dir, File};
 ghost use Rattle.inode_tree.specs.Rows.{IsRows, entry_of, has_children, is_dir, is_dir_at, put, root_only, row_at, set_kind, zone_id};
 
+mod by_place;
+
 use crate::climbs::{below, compare, place};
 use crate::order::Order;
 use crate::paths::NPath;

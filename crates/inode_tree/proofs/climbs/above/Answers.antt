@@ -1,0 +1,19 @@
+use Rattle.std.proofs.Common.{arith, ◌≡◌, length, take, ℕ, Bool, ◌&&◌, List, refl, sym, ap, ◌∙◌, take_all, Ordering, Less, Equal, Greater}
+use Rattle.std.specs.Prelude.{nat_le}
+use Rattle.std.specs.Ordering.{is_eq}
+use Rattle.inode_tree.specs.Arena.{path_of, cmp_front}
+use Rattle.inode_tree.specs.Paths.{is_prefix}
+use Rattle.inode_tree.proofs.Places.{prefix-back}
+use Rattle.inode_tree.proofs.climbs.above.Goals as goal
+
+reads : (p q : List (List ℕ)) (u : ℕ) (o : Ordering) (b : Bool) → u ≡ length p → o ≡ cmp_front q (take u p) → b ≡ nat_le (length q) (length p) → (is_eq o && b) ≡ is_prefix q p
+reads p q u o b eu eo eb = sym (prefix-back q p ∙ ap (λ (x : List (List ℕ)). is_eq (cmp_front q x) && nat_le (length q) (length p)) (sym (take_all u p (omega arith))) ∙ ap (λ (r : Ordering). is_eq r && nat_le (length q) (length p)) (sym eo) ∙ ap (λ (t : Bool). is_eq o && t) (sym eb))
+
+pub returns-in-Less : goal.returns-in-Less
+returns-in-Less c = reads c.args.path.now (path_of c.args.nodes.now.items c.args.n) c.len.result Less (nat_le (length (path_of c.args.nodes.now.items c.args.n)) (length c.args.path.now)) c.len.ensures.len c.in-Less.ensures refl
+
+pub returns-in-Equal : goal.returns-in-Equal
+returns-in-Equal c = reads c.args.path.now (path_of c.args.nodes.now.items c.args.n) c.len.result Equal (nat_le c.depth-d.result c.len-in-Equal.result) c.len.ensures.len c.in-Equal.ensures (ap (λ (k : ℕ). nat_le k c.len-in-Equal.result) c.depth-d.ensures ∙ ap (nat_le (length (path_of c.args.nodes.now.items c.args.n))) c.len-in-Equal.ensures.len)
+
+pub returns-in-Greater : goal.returns-in-Greater
+returns-in-Greater c = reads c.args.path.now (path_of c.args.nodes.now.items c.args.n) c.len.result Greater (nat_le (length (path_of c.args.nodes.now.items c.args.n)) (length c.args.path.now)) c.len.ensures.len c.in-Greater.ensures refl

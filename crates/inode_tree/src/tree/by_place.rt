@@ -1,0 +1,87 @@
+//! Rows by their places in path order, and as they are seen from a directory.
+ghost use Rattle.std.specs.Prelude.{◌≡◌, ◌<◌, ◌≤◌, ◌-◌, Some, length, drop, slice_get, IsTrue, IfOk};
+ghost use Rattle.std.specs.Option.{option_map};
+ghost use Rattle.inode_tree.specs.Arena.{IsLinked, path_of, rank};
+ghost use Rattle.inode_tree.specs.Below.{at_or_above, at_or_below};
+ghost use Rattle.inode_tree.specs.Paths.{is_prefix, is_relative};
+
+use super::{Tree, copy_of};
+use crate::climbs::{above, below, depth, place};
+use crate::paths::NPath;
+use crate::rows::{Node, Row};
+use hk_base::NoMemory;
+use std::alloc::Global;
+
+impl Tree {
+    /// How many rows come before a path in path order. That is the place of the row at the path,
+    /// where one stands there.
+    pub fn place(&self, path: &NPath) -> u32
+        ensures { result ≡ rank self.now path.now }
+    {
+        place(&self.nodes, &self.order, path, path.len()) as u32
+    }
+
+    /// The row at a place in path order, from 0.
+    pub fn row_at_place(&self, at: u32) -> Row
+        requires { at < length self.now }
+        ensures { option_map (λ e. e.row) (slice_get self.now at) ≡ Some result }
+    {
+        self.nodes[self.order.get(at as usize) as usize].row
+    }
+
+    /// Whether the path of the row at a place is the path or lies below it.
+    pub fn place_is_below(&self, at: u32, path: &NPath) -> bool
+        requires { at < length self.now }
+        ensures { option_map (λ e. is_prefix path.now e.path) (slice_get self.now at) ≡ Some result }
+    {
+        below(&self.nodes, self.order.get(at as usize), path)
+    }
+
+    /// The path of the row at a place without its first `from` names: as it is seen from the
+    /// directory that these lead to.
+    pub fn path_from(&self, at: u32, from: usize) -> Result<NPath, NoMemory>
+        requires { at < length self.now }
+        ensures { IfOk result (λ path. option_map (λ e. drop from e.path) (slice_get self.now at) ≡ Some path) }
+    {
+        let n = self.order.get(at as usize);
+        let count = depth(&self.nodes, n).saturating_sub(from);
+        build_last(self.alloc, &self.nodes, n, count)
+    }
+
+    /// Whether the row that has an id is at the path or below it; not so where none has it.
+    pub fn at_or_below(&self, id: u64, path: &NPath) -> bool
+        ensures { result ≡ at_or_below self.now id path.now }
+    {
+        match self.places.get(&id) {
+            Some(n) => below(&self.nodes, *n, path),
+            None => false,
+        }
+    }
+
+    /// Whether the row that has an id is at the path or above it; not so where none has it.
+    pub fn at_or_above(&self, id: u64, path: &NPath) -> bool
+        ensures { result ≡ at_or_above self.now id path.now }
+    {
+        match self.places.get(&id) {
+            Some(n) => above(&self.nodes, *n, path),
+            None => false,
+        }
+    }
+}
+
+/// The last names of a node's path.
+fn build_last(alloc: Global, nodes: &Vec<Node>, n: u32, count: usize) -> Result<NPath, NoMemory>
+    requires linked { IsLinked nodes.now.items }
+    requires live { n < length nodes.now.items }
+    requires rule { IsTrue (is_relative (path_of nodes.now.items n)) }
+    requires count { count ≤ length (path_of nodes.now.items n) }
+    ensures { IfOk result (λ path. path ≡ drop (length (path_of nodes.now.items n) - count) (path_of nodes.now.items n)) }
+{
+    if count == 0 {
+        return Ok(NPath::root(alloc));
+    }
+    let node = &nodes[n as usize];
+    let mut path = build_last(alloc, nodes, node.parent, count - 1)?;
+    path.push(copy_of(alloc, &node.name)?)?;
+    Ok(path)
+}

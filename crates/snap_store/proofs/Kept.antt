@@ -1,0 +1,280 @@
+-- What always holds of the snapshots holds after each change.
+use Rattle.std.proofs.Common.{◌≡◌, ℕ, ◌<◌, ◌≤◌, suc, Bool, true, false, cond, not, ◌&&◌, ◌||◌, List, [], ◌∷◌, length, Option, Some, None, is_some, refl, sym, ap, ◌∙◌, subst, arith}
+use Rattle.std.specs.Prelude.{◌==◌, Result, Ok, Err, OnOk, OnErr}
+use Rattle.std.specs.List.{filter, find, insert, list_all, list_any}
+use Rattle.std.specs.Ordering.{is_lt, nat_cmp}
+use Rattle.std.proofs.lemmas.Bool.Decides.{nat_tests}
+use Rattle.std.specs.Str.{bytes_eq}
+use Rattle.std.proofs.lemmas.Cmp.{nat_cmp_total}
+use Rattle.std.proofs.lemmas.Slice.Eq.{bytes_eq-Decides}
+use Rattle.std.specs.Option.{option_map, option_map_or}
+use Rattle.inode_tree.specs.Rows.{Entry, row_at}
+use Rattle.inode_tree.proofs.PathLemmas.{and-parts}
+use Rattle.snap_store.specs.Ordered.{IsRisingBy, put_by}
+use Rattle.snap_store.specs.Snapshots.{IsSnapshots, Snapshot, count_of, is_among, is_named, is_of, key_of, put_snapshot, rows_in, snapshot_cmp, snapshot_named, with_id, without_id, without_snapshot}
+use Rattle.snap_store.proofs.OrderLemmas.{Parted, put-insert, rising-filter, rising-put, seek}
+use Rattle.snap_store.proofs.Taken.{among-sought, named-sought, snapshot-total}
+
+none-from : {X : Type 0} (o : Option X) → is_some o ≡ false → o ≡ None
+none-from None h = refl
+none-from (Some x) h = cc
+
+new-id : (ids : List ℕ) (id : ℕ) → is_among id ids ≡ false → seek nat_cmp nat_cmp_total id ids ≡ None
+new-id ids id h = none-from (seek nat_cmp nat_cmp_total id ids) (sym (among-sought ids id) ∙ h)
+
+-- an id that isn't among them is put in at its place
+pub id-put : (ids : List ℕ) (id i : ℕ) → IsRisingBy nat_cmp ids → is_among id ids ≡ false → i ≤ length ids → Parted nat_cmp nat_cmp_total id ids i → (insert ids i id ≡ with_id id ids) × IsRisingBy nat_cmp (insert ids i id)
+id-put ids id i r h b p =
+    let e : put_by nat_cmp id ids ≡ insert ids i id = put-insert nat_cmp nat_cmp_total id ids i b p (new-id ids id h) in (
+      sym (ap (λ (t : Bool). cond t ids (put_by nat_cmp id ids)) h ∙ e),
+      subst (IsRisingBy nat_cmp) e (rising-put nat_cmp nat_cmp_total id ids r (new-id ids id h)),
+    )
+
+pub taken-put : (xs : List Snapshot) (s : Snapshot) (i : ℕ) → snapshot_named xs s.dir s.name ≡ None → i ≤ length xs → Parted snapshot_cmp snapshot-total s xs i → insert xs i s ≡ put_snapshot s xs
+taken-put xs s i h b p = sym (put-insert snapshot_cmp snapshot-total s xs i b p (sym (named-sought xs s.dir s.name) ∙ h))
+
+or-right : (a b : Bool) → b ≡ true → (a || b) ≡ true
+or-right true b h = refl
+or-right false b h = h
+
+or-map : (a b c : Bool) → (b ≡ true → c ≡ true) → (a || b) ≡ true → (a || c) ≡ true
+or-map true b c f h = refl
+or-map false b c f h = f h
+
+any-put : (p : ℕ → Bool) (z : ℕ) (xs : List ℕ) → list_any p xs ≡ true → list_any p (put_by nat_cmp z xs) ≡ true
+any-put p z [] h = cc
+any-put p z (x ∷ xs) h = go (is_lt (nat_cmp z x)) (any-put p z xs)
+  where
+    go : (t : Bool) → (list_any p xs ≡ true → list_any p (put_by nat_cmp z xs) ≡ true) → list_any p (cond t (z ∷ x ∷ xs) (x ∷ put_by nat_cmp z xs)) ≡ true
+    go true ih = or-right (p z) (p x || list_any p xs) h
+    go false ih = or-map (p x) (list_any p xs) (list_any p (put_by nat_cmp z xs)) ih h
+
+among-with : (x id : ℕ) (ids : List ℕ) → is_among x ids ≡ true → is_among x (with_id id ids) ≡ true
+among-with x id ids h = go (is_among id ids)
+  where
+    go : (t : Bool) → is_among x (cond t ids (put_by nat_cmp id ids)) ≡ true
+    go true = h
+    go false = any-put (λ i. i == x) id ids h
+
+same-through : (a b x : ℕ) → (b == x) ≡ true → (a == b) ≡ true → (a == x) ≡ true
+same-through a b x h k = grind (arith, nat_tests)
+
+among-without : (x id : ℕ) (ids : List ℕ) → (x == id) ≡ false → is_among x ids ≡ true → is_among x (without_id id ids) ≡ true
+among-without x id [] e h = cc
+among-without x id (y ∷ ys) e h = go (y == id) refl (y == x) refl (among-without x id ys e) h
+  where
+    turned : (a b c : ℕ) → (a == b) ≡ true → (a == c) ≡ true → (c == b) ≡ true
+    turned a b c h k = grind (arith, nat_tests)
+
+    go : (t : Bool) → (y == id) ≡ t → (u : Bool) → (y == x) ≡ u → (is_among x ys ≡ true → is_among x (without_id id ys) ≡ true) → (u || is_among x ys) ≡ true
+        → is_among x (cond (not t) (y ∷ without_id id ys) (without_id id ys)) ≡ true
+    go true f true g ih k = let m : (x == id) ≡ true = turned y id x f g in cc
+    go true f false g ih k = ih k
+    go false f true g ih k = ap (λ (b : Bool). b || is_among x (without_id id ys)) g
+    go false f false g ih k = or-right (y == x) (is_among x (without_id id ys)) (ih k)
+
+both : (a b : Bool) → a ≡ true → b ≡ true → (a && b) ≡ true
+both a b e f = cc
+
+all-from : (p q : Snapshot → Bool) (xs : List Snapshot) → ((x : Snapshot) → p x ≡ true → q x ≡ true) → list_all p xs ≡ true → list_all q xs ≡ true
+all-from p q [] f h = refl
+all-from p q (x ∷ xs) f h = let w = and-parts (p x) (list_all p xs) h in both (q x) (list_all q xs) (f x w.0) (all-from p q xs f w.1)
+
+all-put : (p : Snapshot → Bool) (z : Snapshot) (xs : List Snapshot) → p z ≡ true → list_all p xs ≡ true → list_all p (put_snapshot z xs) ≡ true
+all-put p z [] e h = both (p z) true e refl
+all-put p z (x ∷ xs) e h = go (is_lt (snapshot_cmp z x)) (and-parts (p x) (list_all p xs) h) (all-put p z xs e)
+  where
+    go : (t : Bool) → (p x ≡ true) × (list_all p xs ≡ true) → (list_all p xs ≡ true → list_all p (put_snapshot z xs) ≡ true) → list_all p (cond t (z ∷ x ∷ xs) (x ∷ put_snapshot z xs)) ≡ true
+    go true w ih = both (p z) (p x && list_all p xs) e h
+    go false w ih = both (p x) (list_all p (put_snapshot z xs)) w.0 (ih w.1)
+
+all-filter : (p q : Snapshot → Bool) (xs : List Snapshot) → list_all p xs ≡ true → list_all p (filter q xs) ≡ true
+all-filter p q [] h = refl
+all-filter p q (x ∷ xs) h = go (q x) (and-parts (p x) (list_all p xs) h) (all-filter p q xs)
+  where
+    go : (t : Bool) → (p x ≡ true) × (list_all p xs ≡ true) → (list_all p xs ≡ true → list_all p (filter q xs) ≡ true) → list_all p (cond t (x ∷ filter q xs) (filter q xs)) ≡ true
+    go true w ih = both (p x) (list_all p (filter q xs)) w.0 (ih w.1)
+    go false w ih = ih w.1
+
+count-head : (x : Snapshot) (xs : List Snapshot) (dir : ℕ) → count_of (x ∷ xs) dir ≡ cond (x.dir == dir) (suc (count_of xs dir)) (count_of xs dir)
+count-head x xs dir = go (x.dir == dir)
+  where
+    go : (t : Bool) → length (cond t (x ∷ filter (is_of dir) xs) (filter (is_of dir) xs)) ≡ cond t (suc (length (filter (is_of dir) xs))) (length (filter (is_of dir) xs))
+    go true = refl
+    go false = refl
+
+count-put : (z : Snapshot) (xs : List Snapshot) (dir : ℕ) → count_of (put_snapshot z xs) dir ≡ cond (z.dir == dir) (suc (count_of xs dir)) (count_of xs dir)
+count-put z [] dir = count-head z [] dir
+count-put z (x ∷ xs) dir = go (is_lt (snapshot_cmp z x)) (count-put z xs dir)
+  where
+    swap : (u v : Bool) (n : ℕ) → cond u (suc (cond v (suc n) n)) (cond v (suc n) n) ≡ cond v (suc (cond u (suc n) n)) (cond u (suc n) n)
+    swap true true n = refl
+    swap true false n = refl
+    swap false true n = refl
+    swap false false n = refl
+
+    go : (t : Bool) → count_of (put_snapshot z xs) dir ≡ cond (z.dir == dir) (suc (count_of xs dir)) (count_of xs dir) → count_of (cond t (z ∷ x ∷ xs) (x ∷ put_snapshot z xs)) dir ≡ cond (z.dir == dir) (suc (count_of (x ∷ xs) dir)) (count_of (x ∷ xs) dir)
+    go true h = count-head z (x ∷ xs) dir
+    go false h =
+        count-head x (put_snapshot z xs) dir ∙ ap (λ (n : ℕ). cond (x.dir == dir) (suc n) n) h
+        ∙ swap (x.dir == dir) (z.dir == dir) (count_of xs dir)
+        ∙ ap (λ (n : ℕ). cond (z.dir == dir) (suc n) n) (sym (count-head x xs dir))
+
+count-filter : (q : Snapshot → Bool) (xs : List Snapshot) (dir : ℕ) → count_of (filter q xs) dir ≤ count_of xs dir
+count-filter q [] dir = omega arith
+count-filter q (x ∷ xs) dir = go (q x) (x.dir == dir) (count-filter q xs dir)
+  where
+    step : (u : Bool) → length (filter (is_of dir) (filter q xs)) ≤ length (filter (is_of dir) xs) → length (cond u (x ∷ filter (is_of dir) (filter q xs)) (filter (is_of dir) (filter q xs))) ≤ length (cond u (x ∷ filter (is_of dir) xs) (filter (is_of dir) xs))
+    step true h = omega arith
+    step false h = h
+
+    skip : (u : Bool) → length (filter (is_of dir) (filter q xs)) ≤ length (filter (is_of dir) xs) → length (filter (is_of dir) (filter q xs)) ≤ length (cond u (x ∷ filter (is_of dir) xs) (filter (is_of dir) xs))
+    skip true h = omega arith
+    skip false h = h
+
+    go : (t u : Bool) → length (filter (is_of dir) (filter q xs)) ≤ length (filter (is_of dir) xs) → length (filter (is_of dir) (cond t (x ∷ filter q xs) (filter q xs))) ≤ length (filter (is_of dir) (x ∷ xs))
+    go true u h = step (x.dir == dir) h
+    go false u h = skip (x.dir == dir) h
+
+-- none of a directory
+none-of : (xs : List Snapshot) (dir : ℕ) → count_of xs dir ≡ 0 → list_all (λ s. not (s.dir == dir)) xs ≡ true
+none-of [] dir h = refl
+none-of (x ∷ xs) dir h = go (x.dir == dir) h (none-of xs dir)
+  where
+    go : (t : Bool) → length (cond t (x ∷ filter (is_of dir) xs) (filter (is_of dir) xs)) ≡ 0 → (count_of xs dir ≡ 0 → list_all (λ s. not (s.dir == dir)) xs ≡ true) → (not t && list_all (λ s. not (s.dir == dir)) xs) ≡ true
+    go true f ih = absurd (omega arith)
+    go false f ih = ih f
+
+all-both : (p q : Snapshot → Bool) (xs : List Snapshot) → list_all p xs ≡ true → list_all q xs ≡ true → list_all (λ s. p s && q s) xs ≡ true
+all-both p q [] h k = refl
+all-both p q (x ∷ xs) h k =
+    let v = and-parts (p x) (list_all p xs) h in
+    let w = and-parts (q x) (list_all q xs) k in
+    both (p x && q x) (list_all (λ s. p s && q s) xs) (both (p x) (q x) v.0 w.0) (all-both p q xs v.1 w.1)
+
+not-true : (b : Bool) → not b ≡ true → b ≡ false
+not-true true h = cc
+not-true false h = refl
+
+-- a change that a result speaks of, or none
+either : {A E X : Type 0} (P : X → Type 0) (r : Result A E) (new changed old : X) → OnOk r (new ≡ changed) → OnErr r (new ≡ old) → P changed → P old → P new
+either P (Ok a) new changed old h k p q = subst P (sym h) p
+either P (Err e) new changed old h k p q = subst P (sym k) q
+
+find-all : (p q : Snapshot → Bool) (xs : List Snapshot) (x : Snapshot) → list_all p xs ≡ true → find q xs ≡ Some x → p x ≡ true
+find-all p q [] x h e = cc
+find-all p q (y ∷ ys) x h e = go (q y) (and-parts (p y) (list_all p ys) h) e (find-all p q ys x)
+  where
+    go : (t : Bool) → (p y ≡ true) × (list_all p ys ≡ true) → cond t (Some y) (find q ys) ≡ Some x → (list_all p ys ≡ true → find q ys ≡ Some x → p x ≡ true) → p x ≡ true
+    go true w f ih = let g : y ≡ x = cc in subst (λ (z : Snapshot). p z ≡ true) g w.0
+    go false w f ih = ih w.1 f
+
+pub rows-found : (xs : List Snapshot) (dir : ℕ) (name : List ℕ) (rows : List Entry) → Some rows ≡ option_map (λ (s : Snapshot). s.rows) (snapshot_named xs dir name) → rows ≡ rows_in xs dir name
+rows-found xs dir name rows h = go (snapshot_named xs dir name) h
+  where
+    go : (o : Option Snapshot) → Some rows ≡ option_map (λ (s : Snapshot). s.rows) o → rows ≡ option_map_or (λ s. s.rows) o []
+    go None f = cc
+    go (Some x) f = cc
+
+-- a snapshot is there where the directory's own row is
+pub named-look : (xs : List Snapshot) (dir : ℕ) (name : List ℕ) → list_all (λ t. is_some (row_at t.rows [])) xs ≡ true → is_some (row_at (rows_in xs dir name) []) ≡ is_some (snapshot_named xs dir name)
+named-look xs dir name h = go (snapshot_named xs dir name) refl
+  where
+    go : (o : Option Snapshot) → snapshot_named xs dir name ≡ o → is_some (row_at (option_map_or (λ s. s.rows) o []) []) ≡ is_some o
+    go None e = refl
+    go (Some x) e = find-all (λ t. is_some (row_at t.rows [])) (is_named dir name) xs x h e
+
+module _ (ids : List ℕ) (xs : List Snapshot) (s : IsSnapshots ids xs) where
+  pub kept-allow : {A E : Type 0} (r : Result A E) (id : ℕ) (new : List ℕ) → IsRisingBy nat_cmp new → OnOk r (new ≡ with_id id ids) → OnErr r (new ≡ ids) → IsSnapshots new xs
+  kept-allow r id new rising h k = record {
+    ids = rising;
+    order = s.order;
+    rooted = s.rooted;
+    housed = either (λ (is : List ℕ). list_all (λ t. is_among t.dir is) xs ≡ true) r new (with_id id ids) ids h k (all-from (λ t. is_among t.dir ids) (λ t. is_among t.dir (with_id id ids)) xs (λ x. among-with x.dir id ids) s.housed) s.housed;
+    few = s.few;
+  }
+
+  pub kept-disallow : (id : ℕ) → count_of xs id ≡ 0 → IsSnapshots (without_id id ids) xs
+  kept-disallow id h = record {
+    ids = rising-filter nat_cmp nat_cmp_total (λ i. not (i == id)) ids s.ids;
+    order = s.order;
+    rooted = s.rooted;
+    housed = all-from (λ t. not (t.dir == id) && is_among t.dir ids) (λ t. is_among t.dir (without_id id ids)) xs
+        (λ x b. let w = and-parts (not (x.dir == id)) (is_among x.dir ids) b in among-without x.dir id ids (not-true (x.dir == id) w.0) w.1)
+        (all-both (λ t. not (t.dir == id)) (λ t. is_among t.dir ids) xs (none-of xs id h) s.housed);
+    few = s.few;
+  }
+
+  pub kept-remove : (dir : ℕ) (name : List ℕ) → IsSnapshots ids (without_snapshot xs dir name)
+  kept-remove dir name = record {
+    ids = s.ids;
+    order = rising-filter snapshot_cmp snapshot-total (λ t. not (is_named dir name t)) xs s.order;
+    housed = all-filter (λ t. is_among t.dir ids) (λ t. not (is_named dir name t)) xs s.housed;
+    rooted = all-filter (λ t. is_some (row_at t.rows [])) (λ t. not (is_named dir name t)) xs s.rooted;
+    few = λ d. let a = count-filter (λ t. not (is_named dir name t)) xs d in let b = s.few d in omega arith;
+  }
+
+  put-kept : (t : Snapshot) → is_among t.dir ids ≡ true → snapshot_named xs t.dir t.name ≡ None → count_of xs t.dir < 65536 → is_some (row_at t.rows []) ≡ true → IsSnapshots ids (put_snapshot t xs)
+  put-kept t h n b own = record {
+    ids = s.ids;
+    order = rising-put snapshot_cmp snapshot-total t xs s.order (sym (named-sought xs t.dir t.name) ∙ n);
+    housed = all-put (λ u. is_among u.dir ids) t xs h s.housed;
+    rooted = all-put (λ u. is_some (row_at u.rows [])) t xs own s.rooted;
+    few = λ d. go d (t.dir == d) refl (count-put t xs d);
+  }
+    where
+      same : (a b : ℕ) → (a == b) ≡ true → a ≡ b
+      same a b h = grind (arith, nat_tests)
+
+      go : (d : ℕ) (u : Bool) → (t.dir == d) ≡ u → count_of (put_snapshot t xs) d ≡ cond u (suc (count_of xs d)) (count_of xs d) → count_of (put_snapshot t xs) d ≤ 65536
+      go d true e f = let g : count_of xs d < 65536 = subst (λ (k : ℕ). count_of xs k < 65536) (same t.dir d e) b in omega arith
+      go d false e f = let g = s.few d in omega arith
+
+  pub kept-take : {A E : Type 0} (r : Result A E) (t : Snapshot) (new : List Snapshot) → is_among t.dir ids ≡ true → snapshot_named xs t.dir t.name ≡ None → count_of xs t.dir < 65536 → is_some (row_at t.rows []) ≡ true
+      → OnOk r (new ≡ put_snapshot t xs) → OnErr r (new ≡ xs) → IsSnapshots ids new
+  kept-take r t new h n b own ok err = either (λ (ys : List Snapshot). IsSnapshots ids ys) r new (put_snapshot t xs) xs ok err (put-kept t h n b own) s
+
+find-put : (q : Snapshot → Bool) (z : Snapshot) (xs : List Snapshot) → q z ≡ false → find q (put_snapshot z xs) ≡ find q xs
+find-put q z [] e = ap (λ (t : Bool). cond t (Some z) None) e
+find-put q z (x ∷ xs) e = go (is_lt (snapshot_cmp z x)) (find-put q z xs e)
+  where
+    go : (t : Bool) → find q (put_snapshot z xs) ≡ find q xs → find q (cond t (z ∷ x ∷ xs) (x ∷ put_snapshot z xs)) ≡ find q (x ∷ xs)
+    go true h = ap (λ (u : Bool). cond u (Some z) (find q (x ∷ xs))) e
+    go false h = ap (λ (o : Option Snapshot). cond (q x) (Some x) o) h
+
+find-filter : (p q : Snapshot → Bool) (xs : List Snapshot) → ((x : Snapshot) → q x ≡ true → p x ≡ true) → find q (filter p xs) ≡ find q xs
+find-filter p q [] f = refl
+find-filter p q (x ∷ xs) f = go (p x) refl (q x) refl (find-filter p q xs f)
+  where
+    go : (t : Bool) → p x ≡ t → (u : Bool) → q x ≡ u → find q (filter p xs) ≡ find q xs → find q (cond t (x ∷ filter p xs) (filter p xs)) ≡ cond u (Some x) (find q xs)
+    go true e u g h = ap (λ (b : Bool). cond b (Some x) (find q (filter p xs))) g ∙ ap (λ (o : Option Snapshot). cond u (Some x) o) h
+    go false e true g h = let k : p x ≡ true = f x g in cc
+    go false e false g h = h
+
+-- a snapshot with another name, or of another directory
+other : (dir : ℕ) (name : List ℕ) (d : ℕ) (n : List ℕ) (x : Snapshot) → is_named dir name (key_of d n) ≡ false → is_named d n x ≡ true → is_named dir name x ≡ false
+other dir name d n x h e =
+    let w = and-parts (x.dir == d) (bytes_eq x.name n) e in
+    let i : d ≡ x.dir = same x.dir d w.0 in
+    let j : n ≡ x.name = sym ((bytes_eq-Decides x.name n).0 w.1) in
+    subst (λ (m : List ℕ). is_named dir name (key_of x.dir m) ≡ false) j (subst (λ (k : ℕ). is_named dir name (key_of k n) ≡ false) i h)
+  where
+    same : (a b : ℕ) → (a == b) ≡ true → b ≡ a
+    same a b h = grind (arith, nat_tests)
+
+own-name : (t : Snapshot) → is_named t.dir t.name t ≡ true
+own-name t = both (t.dir == t.dir) (bytes_eq t.name t.name) (yes t.dir) ((bytes_eq-Decides t.name t.name).1 refl)
+  where
+    yes : (a : ℕ) → (a == a) ≡ true
+    yes a = grind (arith, nat_tests)
+
+pub others-remove : (xs : List Snapshot) (dir : ℕ) (name : List ℕ) (d : ℕ) (n : List ℕ) → is_named dir name (key_of d n) ≡ false → snapshot_named (without_snapshot xs dir name) d n ≡ snapshot_named xs d n
+others-remove xs dir name d n h = find-filter (λ s. not (is_named dir name s)) (is_named d n) xs (λ x e. ap not (other dir name d n x h e))
+
+pub others-take : {A E : Type 0} (xs : List Snapshot) (r : Result A E) (t : Snapshot) (new : List Snapshot) → OnOk r (new ≡ put_snapshot t xs) → OnErr r (new ≡ xs)
+    → (d : ℕ) (n : List ℕ) → is_named t.dir t.name (key_of d n) ≡ false → snapshot_named new d n ≡ snapshot_named xs d n
+others-take xs r t new ok err d n h = either (λ (ys : List Snapshot). snapshot_named ys d n ≡ snapshot_named xs d n) r new (put_snapshot t xs) xs ok err (find-put (is_named d n) t xs (no (is_named d n t) refl)) refl
+  where
+    no : (b : Bool) → is_named d n t ≡ b → b ≡ false
+    no true e = let f : is_named t.dir t.name t ≡ false = other t.dir t.name d n t h e in let g = own-name t in cc
+    no false e = refl

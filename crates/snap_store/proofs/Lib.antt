@@ -1,0 +1,9 @@
+pub mod Blocks
+pub mod Compares
+pub mod Counts
+pub mod Kept
+pub mod Kids
+pub mod OrderLemmas
+pub mod Positions
+pub mod Taken
+pub mod Zones

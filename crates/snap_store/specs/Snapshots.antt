@@ -1,0 +1,113 @@
+-- Snapshots: the directories that may have them, and the rows as they were.
+use Rattle.std.specs.Prelude.{◌≡◌, ℕ, ◌≤◌, Bool, true, not, ◌&&◌, ◌==◌, List, [], length, map, Option, Some, None, is_some, if◌then◌else◌, bytes_eq}
+use Rattle.std.specs.declared.cmp.Ordering.{Ordering}
+use Rattle.std.specs.List.{filter, find, list_all, list_any}
+use Rattle.std.specs.Option.{option_map, option_map_or}
+use Rattle.std.specs.Ordering.{nat_cmp, ordering_then}
+use Rattle.std.specs.Cmp.Lexicographic.{slice_cmp}
+use Rattle.inode_tree.specs.declared.listing.Child.{Child}
+use Rattle.inode_tree.specs.Below.{at_or_above, at_or_below, rows_below}
+use Rattle.inode_tree.specs.Listing.{children}
+use Rattle.inode_tree.specs.Rows.{Entry, entry_of, is_dir_at, row_at, zone_of}
+use Rattle.snap_store.specs.Ordered.{IsRisingBy, put_by}
+
+-- of which directory a snapshot is, its name, and the rows at and below the directory as they were, seen from it
+pub record Snapshot : Type 0 where
+  pub dir : ℕ
+  pub name : List ℕ
+  pub rows : List Entry
+
+-- the ids of the directories that may have snapshots, the snapshots, and for how many more ids there is memory
+pub record Snapshots : Type 0 where
+  pub allowed : List ℕ
+  pub taken : List Snapshot
+  pub spare : ℕ
+
+-- what has to be spare for one more directory
+abbrev pub need_allow : ℕ → ℕ
+need_allow dir = 1
+
+-- by directory, and by name there, byte by byte
+abbrev pub snapshot_cmp : Snapshot → Snapshot → Ordering
+snapshot_cmp s t = ordering_then (nat_cmp s.dir t.dir) (slice_cmp nat_cmp s.name t.name)
+
+-- what a snapshot is sought by
+abbrev pub key_of : ℕ → List ℕ → Snapshot
+key_of dir name = record { dir = dir; name = name; rows = [] }
+
+abbrev pub is_among : ℕ → List ℕ → Bool
+is_among id ids = list_any (λ i. i == id) ids
+
+-- the ids with one more, which may be there already
+abbrev pub with_id : ℕ → List ℕ → List ℕ
+with_id id ids = if is_among id ids then ids else put_by nat_cmp id ids
+
+abbrev pub without_id : ℕ → List ℕ → List ℕ
+without_id id ids = filter (λ i. not (i == id)) ids
+
+abbrev pub is_of : ℕ → Snapshot → Bool
+is_of dir s = s.dir == dir
+
+abbrev pub is_named : ℕ → List ℕ → Snapshot → Bool
+is_named dir name s = s.dir == dir && bytes_eq s.name name
+
+abbrev pub snapshot_named : List Snapshot → ℕ → List ℕ → Option Snapshot
+snapshot_named taken dir name = find (is_named dir name) taken
+
+abbrev pub without_snapshot : List Snapshot → ℕ → List ℕ → List Snapshot
+without_snapshot taken dir name = filter (λ s. not (is_named dir name s)) taken
+
+abbrev pub put_snapshot : Snapshot → List Snapshot → List Snapshot
+put_snapshot = put_by snapshot_cmp
+
+-- the rows of a snapshot; where there is none, no rows
+abbrev pub rows_in : List Snapshot → ℕ → List ℕ → List Entry
+rows_in taken dir name = option_map_or (λ s. s.rows) (snapshot_named taken dir name) []
+
+-- the rows at and below the directory that has the id, seen from it
+abbrev pub frozen : List Entry → ℕ → List Entry
+frozen rows dir = option_map_or (λ e. rows_below rows e.path) (entry_of rows dir) []
+
+-- the names of a directory's snapshots, by bytes
+abbrev pub names_of : List Snapshot → ℕ → List (List ℕ)
+names_of taken dir = map (λ s. s.name) (filter (is_of dir) taken)
+
+abbrev pub count_of : List Snapshot → ℕ → ℕ
+count_of taken dir = length (filter (is_of dir) taken)
+
+-- how many snapshots a directory has, where it may have some
+abbrev pub count_in : Snapshots → ℕ → Option ℕ
+count_in s dir = if is_among dir s.allowed then Some (count_of s.taken dir) else None
+
+-- what lies in a directory, where the rows have it as one
+abbrev pub list_in : List Entry → List (List ℕ) → Option (List Child)
+list_in rows p = if is_dir_at (row_at rows p) then Some (children rows p) else None
+
+-- how many names lead to the zone that a path lies in
+abbrev pub zone_depth : List Entry → List (List ℕ) → Option ℕ
+zone_depth rows p = option_map (λ e. length e.path) (zone_of rows p)
+
+-- a snapshot is of a directory at the path or below it
+abbrev pub holds_snapshot : List Entry → List Snapshot → List (List ℕ) → Bool
+holds_snapshot rows taken p = list_any (λ s. at_or_below rows s.dir p) taken
+
+-- a directory that may have snapshots is above the path, and not at it
+abbrev pub allowed_above : List Entry → List ℕ → List (List ℕ) → Bool
+allowed_above rows allowed p = list_any (λ id. at_or_above rows id p && not (at_or_below rows id p)) allowed
+
+-- or below the path, and not at it
+abbrev pub allowed_below : List Entry → List ℕ → List (List ℕ) → Bool
+allowed_below rows allowed p = list_any (λ id. at_or_below rows id p && not (at_or_above rows id p)) allowed
+
+-- what always holds of them
+pub record IsSnapshots (allowed : List ℕ) (taken : List Snapshot) : Type 0 where
+  -- the ids rise
+  pub ids : IsRisingBy nat_cmp allowed
+  -- the snapshots stand by directory and name, none twice
+  pub order : IsRisingBy snapshot_cmp taken
+  -- each is of a directory that may have some
+  pub housed : list_all (λ t. is_among t.dir allowed) taken ≡ true
+  -- each has the row of the directory itself
+  pub rooted : list_all (λ t. is_some (row_at t.rows [])) taken ≡ true
+  -- a directory has at most 65,536
+  pub few : (dir : ℕ) → count_of taken dir ≤ 65536

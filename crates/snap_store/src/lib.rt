@@ -1,0 +1,10 @@
+//! Snapshots of directories: the rows at and below a directory as they were.
+#![tactic(auto)]
+
+mod rows;
+mod snaps;
+
+pub use snaps::{MOST_SNAPSHOTS, Snaps};
+
+#[cfg(test)]
+mod tests;

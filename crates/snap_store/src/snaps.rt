@@ -1,0 +1,413 @@
+//! The snapshots, by directory and name.
+ghost use Rattle.std.specs.Prelude.{◌≡◌, ℕ, List, ◌<◌, ◌≤◌, ◌&&◌, None, Some, [], length, take, not, nat_lt, nat_le, slice_get, true, false, is_some, vec_len, vec_capacity, IsOk, IsSome, IsTrue, IfOk, IfSome, OnOk, OnErr};
+ghost use Rattle.std.specs.List.{remove};
+ghost use Rattle.std.specs.List.Sorted.{IsPartitionPoint};
+ghost use Rattle.std.specs.Option.{option_and_then, option_map, option_map_or};
+ghost use Rattle.std.specs.Ordering.{is_lt, nat_cmp};
+ghost use Rattle.inode_tree.specs.Below.{at_or_above, at_or_below};
+ghost use Rattle.inode_tree.specs.Rows.{entry_of, row_at};
+ghost use Rattle.snap_store.specs.Ordered.{IsRisingBy};
+ghost use Rattle.snap_store.specs.Snapshots.{IsSnapshots, allowed_above, allowed_below, count_in, count_of, frozen, holds_snapshot, is_among, is_named, key_of, list_in, names_of, need_allow, put_snapshot, rows_in, snapshot_cmp, snapshot_named, with_id, without_id, without_snapshot, zone_depth};
+
+use crate::rows::{FrozenRows, compare_names};
+use hk_base::{NoMemory, Text};
+use inode_tree::{ChildList, NPath, Row, Tree};
+use std::alloc::Global;
+use std::cmp::Ordering;
+use std::marker::Model;
+
+/// The most snapshots of a directory.
+pub const MOST_SNAPSHOTS: u32 = 65_536;
+
+/// A snapshot of a directory.
+#[derive(Drop)]
+struct Taken {
+    dir: u64,
+    name: Text,
+    rows: FrozenRows,
+}
+
+impl Model for Taken {
+    ghost use Rattle.snap_store.specs.Snapshots.{Snapshot};
+
+    ghost Value = { Snapshot };
+
+    ghost view = { λ taken. record { dir = taken.dir; name = taken.name; rows = taken.rows } };
+}
+
+impl Taken {
+    fn dir(&self) -> u64
+        ensures { result ≡ self.now.dir }
+    {
+        self.dir
+    }
+
+    fn name(&self) -> &Text
+        ensures { result.now ≡ self.now.name }
+    {
+        &self.name
+    }
+
+    fn rows(&self) -> &FrozenRows
+        ensures { result.now ≡ self.now.rows }
+    {
+        &self.rows
+    }
+
+    fn compare(&self, dir: u64, name: &Text) -> Ordering
+        ensures { result ≡ snapshot_cmp self.now (key_of dir name.now) }
+    {
+        match self.dir.cmp(&dir) {
+            Ordering::Less => Ordering::Less,
+            Ordering::Equal => compare_names(&self.name, name),
+            Ordering::Greater => Ordering::Greater,
+        }
+    }
+
+    fn comes_before(&self, dir: u64, name: &Text) -> bool
+        ensures { result ≡ is_lt (snapshot_cmp self.now (key_of dir name.now)) }
+    {
+        match self.compare(dir, name) {
+            Ordering::Less => true,
+            Ordering::Equal => false,
+            Ordering::Greater => false,
+        }
+    }
+}
+
+/// How many snapshots come before that of the directory with the name.
+fn place(taken: &Vec<Taken>, dir: u64, name: &Text) -> usize
+    requires { IsRisingBy snapshot_cmp taken.now.items }
+    ensures most { result ≤ length taken.now.items }
+    ensures parted { IsPartitionPoint (λ s. is_lt (snapshot_cmp s (key_of dir name.now)) ≡ true) (λ s. is_lt (snapshot_cmp s (key_of dir name.now)) ≡ false) taken.now.items result }
+{
+    taken
+        .as_slice()
+        .partition_point(|snapshot| snapshot.comes_before(dir, name))
+}
+
+/// Where the snapshot of the directory with the name stands.
+fn find(taken: &Vec<Taken>, dir: u64, name: &Text) -> Option<usize>
+    requires { IsRisingBy snapshot_cmp taken.now.items }
+    ensures within { IfSome result (λ at. at < length taken.now.items) }
+    ensures found { option_and_then (λ at. slice_get taken.now.items at) result ≡ snapshot_named taken.now.items dir name.now }
+    ensures rest { option_map_or (λ at. remove taken.now.items at) result taken.now.items ≡ without_snapshot taken.now.items dir name.now }
+{
+    let at = place(taken, dir, name);
+    if at == taken.len() {
+        return None;
+    }
+    match taken[at].compare(dir, name) {
+        Ordering::Less => None,
+        Ordering::Equal => Some(at),
+        Ordering::Greater => None,
+    }
+}
+
+/// How many snapshots are of directories with a lower id.
+fn first_of(taken: &Vec<Taken>, dir: u64) -> usize
+    requires { IsRisingBy snapshot_cmp taken.now.items }
+    ensures most { result ≤ length taken.now.items }
+    ensures parted { IsPartitionPoint (λ s. nat_lt s.dir dir ≡ true) (λ s. nat_lt s.dir dir ≡ false) taken.now.items result }
+{
+    taken
+        .as_slice()
+        .partition_point(|snapshot| snapshot.dir() < dir)
+}
+
+/// How many snapshots are of directories with no higher id.
+fn end_of(taken: &Vec<Taken>, dir: u64) -> usize
+    requires { IsRisingBy snapshot_cmp taken.now.items }
+    ensures most { result ≤ length taken.now.items }
+    ensures parted { IsPartitionPoint (λ s. nat_le s.dir dir ≡ true) (λ s. nat_le s.dir dir ≡ false) taken.now.items result }
+{
+    taken
+        .as_slice()
+        .partition_point(|snapshot| snapshot.dir() <= dir)
+}
+
+/// How many ids are lower.
+fn place_id(ids: &Vec<u64>, id: u64) -> usize
+    requires { IsRisingBy nat_cmp ids.now.items }
+    ensures most { result ≤ length ids.now.items }
+    ensures parted { IsPartitionPoint (λ i. nat_lt i id ≡ true) (λ i. nat_lt i id ≡ false) ids.now.items result }
+{
+    ids.as_slice().partition_point(|other| *other < id)
+}
+
+/// Where the id stands.
+fn find_id(ids: &Vec<u64>, id: u64) -> Option<usize>
+    requires { IsRisingBy nat_cmp ids.now.items }
+    ensures within { IfSome result (λ at. at < length ids.now.items) }
+    ensures found { is_some result ≡ is_among id ids.now.items }
+    ensures rest { option_map_or (λ at. remove ids.now.items at) result ids.now.items ≡ without_id id ids.now.items }
+{
+    let at = place_id(ids, id);
+    if at == ids.len() {
+        return None;
+    }
+    if ids[at] == id { Some(at) } else { None }
+}
+
+/// Adds an id, which may be there already.
+fn put_id(ids: &mut Vec<u64>, id: u64) -> Result<(), NoMemory>
+    requires { IsRisingBy nat_cmp ids.old.items }
+    ensures rising { IsRisingBy nat_cmp ids.new.items }
+    ensures ok { OnOk result (ids.new.items ≡ with_id id ids.old.items) }
+    ensures err { OnErr result (ids.new.items ≡ ids.old.items) }
+    ensures room { vec_len ids.old < vec_capacity ids.old → IsOk result }
+{
+    match find_id(ids, id) {
+        Some(_) => Ok(()),
+        None => {
+            let at = place_id(ids, id);
+            ids.insert(at, id)?;
+            Ok(())
+        }
+    }
+}
+
+/// Takes an id away.
+fn remove_id(ids: &mut Vec<u64>, id: u64)
+    requires { IsRisingBy nat_cmp ids.old.items }
+    ensures { ids.new.items ≡ without_id id ids.old.items }
+{
+    match find_id(ids, id) {
+        Some(at) => {
+            let _id = ids.remove(at);
+        }
+        None => {}
+    }
+}
+
+/// Adds a snapshot.
+fn put(taken: &mut Vec<Taken>, snapshot: Taken) -> Result<(), NoMemory>
+    requires rising { IsRisingBy snapshot_cmp taken.old.items }
+    requires free { snapshot_named taken.old.items snapshot.dir snapshot.name ≡ None }
+    ensures ok { OnOk result (taken.new.items ≡ put_snapshot snapshot taken.old.items) }
+    ensures err { OnErr result (taken.new.items ≡ taken.old.items) }
+{
+    let at = place(taken, snapshot.dir(), snapshot.name());
+    taken.insert(at, snapshot)?;
+    Ok(())
+}
+
+/// Takes a snapshot away.
+fn remove(taken: &mut Vec<Taken>, dir: u64, name: &Text)
+    requires { IsRisingBy snapshot_cmp taken.old.items }
+    ensures { taken.new.items ≡ without_snapshot taken.old.items dir name.now }
+{
+    match find(taken, dir, name) {
+        Some(at) => {
+            let _snapshot = taken.remove(at);
+        }
+        None => {}
+    }
+}
+
+/// The rows of a snapshot.
+fn rows_of<'a>(taken: &'a Vec<Taken>, dir: u64, name: &Text) -> Option<&'a FrozenRows>
+    requires { IsRisingBy snapshot_cmp taken.now.items }
+    ensures { option_map (λ rows. rows.now) result ≡ option_map (λ s. s.rows) (snapshot_named taken.now.items dir name.now) }
+{
+    match find(taken, dir, name) {
+        Some(at) => Some(taken[at].rows()),
+        None => None,
+    }
+}
+
+/// The directories that may have snapshots, and the snapshots. Contracts see the ids of the
+/// directories in rising order, and the snapshots by directory and name, byte by byte, each with the
+/// rows at and below its directory as they were when it was taken.
+#[derive(Drop)]
+pub struct Snaps {
+    alloc: Global,
+    allowed: Vec<u64>,
+    taken: Vec<Taken>,
+}
+
+impl Model for Snaps {
+    ghost use Rattle.std.specs.Prelude.{◌-◌};
+    ghost use Rattle.std.specs.Vec.{vec_len, vec_capacity};
+    ghost use Rattle.snap_store.specs.Snapshots.{IsSnapshots, Snapshots};
+
+    ghost Value = { Snapshots };
+
+    ghost view = { λ snaps. record { allowed = snaps.allowed.items; taken = snaps.taken.items; spare = vec_capacity snaps.allowed - vec_len snaps.allowed } };
+
+    ghost invariant = { λ snaps. IsSnapshots snaps.allowed.items snaps.taken.items };
+}
+
+impl Snaps {
+    /// No directory may have snapshots, and there are none. It takes no memory.
+    pub fn new(alloc: Global) -> Snaps
+        ensures allowed { result.allowed ≡ [] }
+        ensures taken { result.taken ≡ [] }
+    {
+        Snaps {
+            alloc,
+            allowed: Vec::new(alloc),
+            taken: Vec::new(alloc),
+        }
+    }
+
+    /// Lets a directory have snapshots, which it may be already. Where memory is wanting all stays
+    /// as it was.
+    pub fn allow(&mut self, dir: u64) -> Result<(), NoMemory>
+        ensures ok { OnOk result (self.new.allowed ≡ with_id dir self.old.allowed) }
+        ensures err { OnErr result (self.new.allowed ≡ self.old.allowed) }
+        ensures taken { self.new.taken ≡ self.old.taken }
+        ensures spare { need_allow dir ≤ self.old.spare → IsOk result }
+    {
+        put_id(&mut self.allowed, dir)
+    }
+
+    /// Takes memory for one more directory that may have snapshots. Nothing else changes; once it was
+    /// `Ok`, `allow` is too.
+    pub fn reserve_allow(&mut self, dir: u64) -> Result<(), NoMemory>
+        ensures ok { OnOk result (need_allow dir ≤ self.new.spare) }
+        ensures allowed { self.new.allowed ≡ self.old.allowed }
+        ensures taken { self.new.taken ≡ self.old.taken }
+    {
+        self.allowed.reserve(1)?;
+        Ok(())
+    }
+
+    /// Lets a directory, which has to have no snapshots, have none from now on. It takes no memory.
+    pub fn disallow(&mut self, dir: u64)
+        requires { count_of self.old.taken dir ≡ 0 }
+        ensures allowed { self.new.allowed ≡ without_id dir self.old.allowed }
+        ensures taken { self.new.taken ≡ self.old.taken }
+    {
+        remove_id(&mut self.allowed, dir);
+    }
+
+    /// Takes a snapshot of a directory: the rows at and below it stay in it as they are. The
+    /// directory has to stand and to be one that may have snapshots, the name to be free there, and
+    /// there to be fewer than 65,536 snapshots of it. The other snapshots stay as they are. Where memory
+    /// is wanting all stays as it was.
+    pub fn take(&mut self, tree: &Tree, dir: u64, name: Text) -> Result<(), NoMemory>
+        requires stands { IsSome (entry_of tree.now dir) }
+        requires allowed { IsTrue (is_among dir self.old.allowed) }
+        requires free { snapshot_named self.old.taken dir name ≡ None }
+        requires room { count_of self.old.taken dir < 65536 }
+        ensures ok { OnOk result (self.new.taken ≡ put_snapshot (record { dir = dir; name = name; rows = frozen tree.now dir }) self.old.taken) }
+        ensures err { OnErr result (self.new.taken ≡ self.old.taken) }
+        ensures others { (d : ℕ) (n : List ℕ) → is_named dir name (key_of d n) ≡ false → snapshot_named self.new.taken d n ≡ snapshot_named self.old.taken d n }
+        ensures allowed { self.new.allowed ≡ self.old.allowed }
+    {
+        let rows = FrozenRows::of(self.alloc, tree, dir)?;
+        put(&mut self.taken, Taken { dir, name, rows })
+    }
+
+    /// Removes a snapshot; where there is none, nothing changes. The other snapshots stay as they
+    /// are. It takes no memory.
+    pub fn remove(&mut self, dir: u64, name: &Text)
+        ensures taken { self.new.taken ≡ without_snapshot self.old.taken dir name.now }
+        ensures others { (d : ℕ) (n : List ℕ) → is_named dir name.now (key_of d n) ≡ false → snapshot_named self.new.taken d n ≡ snapshot_named self.old.taken d n }
+        ensures allowed { self.new.allowed ≡ self.old.allowed }
+    {
+        remove(&mut self.taken, dir, name);
+    }
+
+    /// The row that a snapshot has at a path, as it is seen from the directory. `None` where there is
+    /// no such snapshot, or none stood there. With no names it is the row of the directory itself,
+    /// which each snapshot has.
+    pub fn look(&self, dir: u64, name: &Text, below: &NPath) -> Option<Row>
+        ensures own { below.now ≡ [] → is_some result ≡ is_some (snapshot_named self.now.taken dir name.now) }
+        ensures row { result ≡ row_at (rows_in self.now.taken dir name.now) below.now }
+    {
+        match rows_of(&self.taken, dir, name) {
+            Some(rows) => rows.look(below),
+            None => None,
+        }
+    }
+
+    /// What lay in a directory of a snapshot. `None` exactly where the snapshot has no directory at
+    /// the path.
+    pub fn list(&self, dir: u64, name: &Text, below: &NPath) -> Result<Option<ChildList>, NoMemory>
+        ensures { IfOk result (λ list. list ≡ list_in (rows_in self.now.taken dir name.now) below.now) }
+    {
+        match rows_of(&self.taken, dir, name) {
+            Some(rows) => rows.list(below),
+            None => Ok(None),
+        }
+    }
+
+    /// How many names of the path lead to the directory whose zone the path lay in: to the deepest
+    /// directory at or above it that was marked. `None` where there was none.
+    pub fn zone_in(&self, dir: u64, name: &Text, below: &NPath) -> Option<u8>
+        ensures { result ≡ zone_depth (rows_in self.now.taken dir name.now) below.now }
+    {
+        match rows_of(&self.taken, dir, name) {
+            Some(rows) => rows.zone(below),
+            None => None,
+        }
+    }
+
+    /// How many snapshots a directory has: at most 65,536. `None` where it may have none.
+    pub fn count(&self, dir: u64) -> Option<u32>
+        ensures count { result ≡ count_in self.now dir }
+        ensures rules { IsSnapshots self.now.allowed self.now.taken }
+    {
+        match find_id(&self.allowed, dir) {
+            Some(_) => Some((end_of(&self.taken, dir) - first_of(&self.taken, dir)) as u32),
+            None => None,
+        }
+    }
+
+    /// The name of a directory's snapshot at a place in byte order, from 0. `None` where there are no
+    /// more.
+    pub fn name_at(&self, dir: u64, at: u32) -> Option<&Text>
+        ensures { option_map (λ name. name.now) result ≡ slice_get (names_of self.now.taken dir) at }
+    {
+        let first = first_of(&self.taken, dir);
+        let end = end_of(&self.taken, dir);
+        if (at as usize) < end - first {
+            Some(self.taken[first + at as usize].name())
+        } else {
+            None
+        }
+    }
+
+    /// Whether there is a snapshot of a directory at the path or below it.
+    pub fn holds(&self, tree: &Tree, path: &NPath) -> bool
+        ensures { result ≡ holds_snapshot tree.now self.now.taken path.now }
+    {
+        self.taken
+            .iter()
+            .any(|snapshot| tree.at_or_below(snapshot.dir(), path))
+    }
+
+    /// Whether a directory above the path, and not at it, may have snapshots.
+    pub fn allowed_above(&self, tree: &Tree, path: &NPath) -> bool
+        ensures { result ≡ allowed_above tree.now self.now.allowed path.now }
+    {
+        self.allowed.iter().any(|dir| is_above(tree, *dir, path))
+    }
+
+    /// Whether a directory below the path, and not at it, may have snapshots.
+    pub fn allowed_below(&self, tree: &Tree, path: &NPath) -> bool
+        ensures { result ≡ allowed_below tree.now self.now.allowed path.now }
+    {
+        self.allowed.iter().any(|dir| is_below(tree, *dir, path))
+    }
+}
+
+/// Whether the row of the id is above the path, and not at it.
+fn is_above(tree: &Tree, id: u64, path: &NPath) -> bool
+    ensures { result ≡ (at_or_above tree.now id path.now && not (at_or_below tree.now id path.now)) }
+{
+    let above = tree.at_or_above(id, path);
+    let below = tree.at_or_below(id, path);
+    above && !below
+}
+
+/// Whether the row of the id is below the path, and not at it.
+fn is_below(tree: &Tree, id: u64, path: &NPath) -> bool
+    ensures { result ≡ (at_or_below tree.now id path.now && not (at_or_above tree.now id path.now)) }
+{
+    let above = tree.at_or_above(id, path);
+    let below = tree.at_or_below(id, path);
+    below && !above
+}
