@@ -7,7 +7,7 @@ ghost use Rattle.disk_kinds.specs.Untold.{untold};
 use crate::pieces::copy_front;
 use hk_base::{Disk, Failed, LONGEST_FILE};
 use std::alloc::Global;
-use std::fs::{File, OpenOptions};
+use std::fs::{File, OpenOptions, TryLockError};
 use std::io::{self, ErrorKind};
 use std::os::unix::fs::FileExt;
 use std::rt::Files;
@@ -23,6 +23,11 @@ const PIECE: usize = 4096;
 ///
 /// The system may drop what a sync could not write. So once a sync of a file failed, each later one
 /// of it fails, until the file is opened again.
+///
+/// It holds an exclusive lock on each file for as long as it lives, so that no other process that
+/// locks them, as each `FileDisk` does, reads or writes them meanwhile. A process that asks for no
+/// lock is not kept off. The system lets the locks go when the process ends, however it ends, so
+/// nothing is left to be cleared after a crash.
 #[derive(Drop)]
 pub struct FileDisk {
     keys: File,
@@ -32,7 +37,7 @@ pub struct FileDisk {
     pub faults: u64,
 }
 
-/// Opens a file to be read and written, and makes it where it is missing.
+/// Opens a file to be read and written, makes it where it is missing, and locks it without waiting.
 fn open_log<R: Files<File = File>>(
     files: &R,
     alloc: Global,
@@ -40,11 +45,19 @@ fn open_log<R: Files<File = File>>(
     name: &str,
 ) -> io::Result<File> {
     let path = format!(in alloc; "{folder}/{name}")?;
-    OpenOptions::new()
+    let file = OpenOptions::new()
         .read(true)
         .write(true)
         .create(true)
-        .open(files, path.as_str())
+        .open(files, path.as_str())?;
+    match file.try_lock() {
+        Ok(()) => Ok(file),
+        Err(TryLockError::WouldBlock) => Err(io::Error::new(
+            ErrorKind::WouldBlock,
+            "another process holds the log",
+        )),
+        Err(TryLockError::Error(error)) => Err(error),
+    }
 }
 
 fn read_tried(file: &File, buf: &mut [u8], at: u64) -> Result<usize, Failed>
@@ -149,7 +162,9 @@ fn write_all(file: &File, bytes: &[u8], at: u64) -> Result<(), Failed> {
 }
 
 impl FileDisk {
-    /// Opens both files of a folder, as `.`, and makes those that are missing.
+    /// Opens both files of a folder, as `.`, makes those that are missing, and locks them. Where
+    /// another process holds one of them, or another `FileDisk` of this one, it fails at once with
+    /// `ErrorKind::WouldBlock`, and holds neither. It changes nothing in a file that was there.
     pub fn open<R: Files<File = File>>(
         files: &R,
         alloc: Global,
@@ -288,11 +303,53 @@ mod tests {
             fs::read(&rt, "disk/names.log")?.as_slice(),
             b"name".as_slice()
         );
+        drop(disk);
         let mut again = FileDisk::open(&rt, rt.alloc(), "disk")?;
         assert_eq!(rt; again.len(0), Ok(6));
         assert_eq!(rt; again.write_at(0, LONGEST_FILE, b"a"), Err(Failed));
         assert_eq!(rt; again.faults, 1);
         fs::remove_dir_all(&rt, "disk")?;
+        Ok(())
+    }
+
+    fn is_held(rt: &HostRuntime, folder: &str) -> bool {
+        match FileDisk::open(rt, rt.alloc(), folder) {
+            Ok(_) => false,
+            Err(error) => error.kind() == ErrorKind::WouldBlock,
+        }
+    }
+
+    #[test]
+    fn is_held_while_it_lives(rt: HostRuntime) -> Result<(), Fail> {
+        fs::create_dir(&rt, "held")?;
+        let mut disk = FileDisk::open(&rt, rt.alloc(), "held")?;
+        assert_eq!(rt; disk.write_at(0, 0, b"abc"), Ok(()));
+        assert_eq!(rt; is_held(&rt, "held"), true);
+        assert_eq!(rt; is_held(&rt, "held"), true);
+        assert_eq!(rt; disk.len(0), Ok(3));
+        assert_eq!(rt; disk.faults, 0);
+        drop(disk);
+        assert_eq!(rt; is_held(&rt, "held"), false);
+        assert_eq!(rt;
+            fs::read(&rt, "held/keys.log")?.as_slice(),
+            b"abc".as_slice()
+        );
+        fs::remove_dir_all(&rt, "held")?;
+        Ok(())
+    }
+
+    #[test]
+    fn is_held_by_either_file(rt: HostRuntime) -> Result<(), Fail> {
+        fs::create_dir(&rt, "either")?;
+        let names = File::create(&rt, "either/names.log")?;
+        names.lock()?;
+        assert_eq!(rt; is_held(&rt, "either"), true);
+        names.unlock()?;
+        assert_eq!(rt; is_held(&rt, "either"), false);
+        let keys = File::open(&rt, "either/keys.log")?;
+        keys.lock()?;
+        assert_eq!(rt; is_held(&rt, "either"), true);
+        fs::remove_dir_all(&rt, "either")?;
         Ok(())
     }
 }

@@ -4,7 +4,6 @@ ghost use Rattle.std.specs.Prelude.{◌≤◌, ◌^◌, length};
 mod moments;
 
 use crate::calls::CallPlan;
-pub(crate) use moments::overwritten;
 use std::alloc::Global;
 
 /// A change of a file since its last sync.

@@ -3,13 +3,10 @@ ghost use Rattle.std.specs.Prelude.{◌≤◌, ◌^◌, length};
 
 mod calls;
 
-use std::alloc::Global;
-
 /// Two files in memory. A call fails only where a write finds no memory or a file would pass 2^62
 /// bytes, and nothing is kept of what a crash might have left.
 #[derive(Drop)]
 pub struct PlainDisk {
-    alloc: Global,
     first: Vec<u8>,
     second: Vec<u8>,
     faults: u64,

@@ -183,6 +183,7 @@ fn on_real_files(rt: HostRuntime) -> Result<(), Fail> {
         written.as_slice()
     );
     assert_eq!(rt; disk.write_at(0, 21, b"\x07"), Ok(()));
+    drop(disk);
     let mut again = FileDisk::open(&rt, rt.alloc(), "log")?;
     let (log, frames) = Log::recover(rt.alloc(), &mut again, 0)?;
     assert_eq!(rt; log.end, 21);

@@ -189,12 +189,7 @@ impl MemDisk {
 }
 
 /// What a file reads as after a write.
-pub(crate) fn overwritten(
-    alloc: Global,
-    old: &[u8],
-    at: u64,
-    bytes: &[u8],
-) -> Result<Vec<u8>, AllocError>
+fn overwritten(alloc: Global, old: &[u8], at: u64, bytes: &[u8]) -> Result<Vec<u8>, AllocError>
     requires { at ≤ length old.now }
     ensures { IfOk result (λ v. v.items ≡ written at bytes.now old.now) }
 {

@@ -1,14 +1,14 @@
 //! The calls of a disk that keeps no record.
-ghost use Rattle.std.specs.Prelude.{◌≡◌, ◌≤◌, ◌<◌, ◌+◌, ◌^◌, [], length};
+ghost use Rattle.std.specs.Prelude.{◌≡◌, ◌≤◌, ◌<◌, ◌+◌, ◌-◌, ◌^◌, [], length, OnOk, OnErr};
 ghost use Rattle.std.proofs.Common.{refl};
+ghost use Rattle.hk_base.specs.Disk.{written};
 ghost use Rattle.hk_base.specs.Faults.{Rose};
 ghost use Rattle.disk_kinds.specs.Plain.{plain_state, contents, faults_of, within};
 
 use super::PlainDisk;
-use crate::mem_disk::overwritten;
 use crate::pieces::copy_front;
 use hk_base::{Disk, Failed, LONGEST_FILE};
-use std::alloc::Global;
+use std::alloc::{AllocError, Global};
 
 impl PlainDisk {
     /// A disk of two empty files.
@@ -18,7 +18,6 @@ impl PlainDisk {
         ensures faults { faults_of result ≡ 0 }
     {
         PlainDisk {
-            alloc,
             first: Vec::new(alloc),
             second: Vec::new(alloc),
             faults: 0,
@@ -40,6 +39,23 @@ impl PlainDisk {
         if file == 0 { &self.first } else { &self.second }
     }
 
+    /// Writes into a file in place. Where memory is wanting nothing changes.
+    fn write_in_place(&mut self, file: u8, at: usize, bytes: &[u8]) -> Result<(), AllocError>
+        requires file { file < 2 }
+        requires place { at ≤ length (contents self.old file) }
+        requires limit { at + length bytes.now ≤ 2 ^ 62 }
+        ensures written { OnOk result (contents self.new file ≡ written at bytes.now (contents self.old file)) }
+        ensures other { contents self.new (1 - file) ≡ contents self.old (1 - file) }
+        ensures same { OnErr result (contents self.new file ≡ contents self.old file) }
+        ensures faults { faults_of self.new ≡ faults_of self.old }
+    {
+        if file == 0 {
+            overwrite(&mut self.first, at, bytes)
+        } else {
+            overwrite(&mut self.second, at, bytes)
+        }
+    }
+
     fn fault(&mut self) -> Failed
         ensures same { contents self.new ≡ contents self.old }
         ensures rose { Rose (faults_of self.old) (faults_of self.new) }
@@ -48,6 +64,19 @@ impl PlainDisk {
         self.faults = self.faults.saturating_add(1);
         Failed
     }
+}
+
+/// Writes over the bytes at an offset, and past the end. Where memory is wanting nothing changes.
+fn overwrite(file: &mut Vec<u8>, at: usize, bytes: &[u8]) -> Result<(), AllocError>
+    requires { at ≤ length file.old.items }
+    ensures written { OnOk result (file.new.items ≡ written at bytes.now file.old.items) }
+    ensures same { OnErr result (file.new.items ≡ file.old.items) }
+{
+    let inside = bytes.len().min(file.len() - at);
+    let (over, past) = bytes.split_at(inside);
+    file.extend_from_slice(past)?;
+    file[at..at + inside].copy_from_slice(over);
+    Ok(())
 }
 
 impl Disk for PlainDisk {
@@ -74,15 +103,8 @@ impl Disk for PlainDisk {
         if at > LONGEST_FILE || size > LONGEST_FILE - at {
             return Err(self.fault());
         }
-        match overwritten(self.alloc, self.file(file), at, bytes) {
-            Ok(new) => {
-                if file == 0 {
-                    self.first = new;
-                } else {
-                    self.second = new;
-                }
-                Ok(())
-            }
+        match self.write_in_place(file, at as usize, bytes) {
+            Ok(()) => Ok(()),
             Err(_) => Err(self.fault()),
         }
     }
@@ -117,6 +139,20 @@ mod tests {
         let mut piece = [0u8; 2];
         assert_eq!(rt; disk.read(1, 1, &mut piece), Ok(2));
         assert_eq!(rt; piece, *b"BC");
+        assert_eq!(rt; disk.write_at(1, 2, b"cde"), Ok(()));
+        assert_eq!(rt; disk.bytes(1), b"aBcde".as_slice());
         assert_eq!(rt; disk.bytes(0), b"".as_slice());
+    }
+
+    #[test]
+    fn a_long_log_is_written_in_place(rt: HostRuntime) {
+        let mut disk = PlainDisk::new(rt.alloc());
+        let frame = [7u8; 100];
+        for _ in 0..10_000 {
+            let end = disk.bytes(0).len() as u64;
+            assert_eq!(rt; disk.write_at(0, end, &frame), Ok(()));
+        }
+        assert_eq!(rt; disk.len(0), Ok(1_000_000));
+        assert_eq!(rt; disk.bytes(0).iter().all(|byte| *byte == 7), true);
     }
 }
