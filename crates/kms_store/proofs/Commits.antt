@@ -2,6 +2,7 @@
 use Rattle.std.proofs.Common.{◌≡◌, ℕ, Bool, true, List, [], ◌∷◌, ◌++◌, map, Option, Some, None, sym, ap, ◌∙◌, subst}
 use Rattle.std.specs.Prelude.{if◌then◌else◌, option_map, IfSome}
 use Rattle.hk_base.specs.Disk.{DiskState, LeavesOnly, Tells}
+use Rattle.hk_base.proofs.Runs.{weaker}
 use Rattle.frame_log.specs.Format.{IsBeforeOrAfter}
 use Rattle.frame_log.specs.Stands.{Stands}
 use Rattle.frame_log.specs.declared.log.Log.{Log}
@@ -10,7 +11,7 @@ use Rattle.key_rows.specs.Table.{Table, Kept, no_keys, applies, after}
 use Rattle.key_rows.specs.Records.{HasSpelling, spelling}
 use Rattle.key_rows.specs.declared.rows.KeyCommand.{KeyCommand}
 use Rattle.kms_store.specs.Replay.{key_replay}
-use Rattle.kms_store.specs.Store.{Settles, StoreState, StandsFor, IsWithOrWithout, settled_commands, settled_table}
+use Rattle.kms_store.specs.Store.{Settles, StoreState, StandsFor, IsWritten, settled_commands, settled_table}
 use Rattle.kms_store.proofs.Replays.{replay_more, spelled_more}
 
 module _ (old new : DiskState) (store : StoreState) (commands : List KeyCommand) (command : KeyCommand) where
@@ -47,9 +48,9 @@ module _ (old new : DiskState) (store : StoreState) (commands : List KeyCommand)
       let whole : List (List ℕ) = map spelling commands ++ spelling command ∷ [] in
       one_more log table pending s none spelled may then_is (subst (λ (b : Bool). Stands new log (if b then whole else map spelling commands) None) true_is (settled (map spelling commands) (spelling command) (stands_beside s waits)))
 
-  pub moments : (file : ℕ) (payload : List ℕ) → file ≡ 0 → payload ≡ spelling command → LeavesOnly file old new (IsBeforeOrAfter file (map spelling commands) payload) → LeavesOnly 0 old new (IsWithOrWithout commands command)
-  moments file payload zero_is is left =
-      subst (λ (p : List ℕ). LeavesOnly 0 old new (IsBeforeOrAfter 0 (map spelling commands) p)) is (subst (λ (k : ℕ). LeavesOnly k old new (IsBeforeOrAfter k (map spelling commands) payload)) zero_is left)
+  pub moments : (file : ℕ) (payload : List ℕ) → file ≡ 0 → HasSpelling command → payload ≡ spelling command → LeavesOnly file old new (IsBeforeOrAfter file (map spelling commands) payload) → LeavesOnly 0 old new (IsWritten commands command)
+  moments file payload zero_is spelled is left =
+      weaker (λ c with. (spelled, with)) (subst (λ (p : List ℕ). LeavesOnly 0 old new (IsBeforeOrAfter 0 (map spelling commands) p)) is (subst (λ (k : ℕ). LeavesOnly k old new (IsBeforeOrAfter k (map spelling commands) payload)) zero_is left))
 
 -- the pending command was kept, and took effect
 pub settles_kept : (old new : DiskState) (store store' : StoreState) (command : KeyCommand) → store.pending ≡ Some command → store'.pending ≡ None → store'.table.keys ≡ after store.table.keys command

@@ -1,12 +1,12 @@
 -- What layers above a store need of its log.
-use Rattle.std.proofs.Common.{◌≡◌, ◌⊎◌, inl, inr, ℕ, zero, suc, ◌+◌, ◌==◌, Bool, true, false, List, [], ◌∷◌, ◌++◌, map, Option, Some, None, refl, sym, ap, ◌∙◌, subst, arith}
-use Rattle.std.specs.Prelude.{IfSome, if◌then◌else◌, length, option_map, ◌≢◌}
+use Rattle.std.proofs.Common.{◌≡◌, inl, inr, ℕ, suc, ◌+◌, Bool, true, false, List, [], ◌∷◌, ◌++◌, map, Option, Some, None, refl, sym, ap, ◌∙◌, subst, arith}
+use Rattle.std.specs.Prelude.{IfSome, if◌then◌else◌, length, option_map}
 use Rattle.std.specs.List.{AllByRecursion}
 use Rattle.std.proofs.lemmas.Bool.Decides.{Decides-eqb}
 use Rattle.std.proofs.lemmas.List.{append-nil, append_cancel_right}
 use Rattle.hk_base.specs.Disk.{DiskState}
-use Rattle.frame_log.specs.Format.{log_of, Found, IsAsFound, IsAtRest, IsBeforeOrAfter, IsHalfOpen, IsPayload, At_rest, Half_open, Opened, IsRecovered, Log_as_found, No_log}
-use Rattle.frame_log.specs.Stands.{Is, Stands, front}
+use Rattle.frame_log.specs.Format.{log_of, Found, IsAtRest, IsBeforeOrAfter, IsHalfOpen, IsPayload, At_rest, Half_open, Opened, Log_as_found, No_log}
+use Rattle.frame_log.specs.Stands.{Is, front}
 use Rattle.frame_log.proofs.Reading.{before_or_after, end_push, log_shut}
 use Rattle.key_rows.specs.Table.{Table, after, applies, no_keys}
 use Rattle.key_rows.specs.Records.{HasSpelling, spelling}
@@ -53,23 +53,24 @@ found_is bytes commands more table s payloads gate found = go more s.log
     go (Some command) (inr (inl with)) = let is : payloads ≡ map spelling commands ++ spelling command ∷ [] = cc (found, with) in (true, is ∙ sym (spelled_more commands command))
     go (Some command) (inr (inr half)) = let is : payloads ≡ map spelling commands = cc (found, half.now) in (false, is ∙ as_they_are)
 
--- the commands of a sound log, and the table that they make, once its last one was settled
+-- the commands of a log, and the table that they make, once its last one was settled
+spelled_behind : (commands : List KeyCommand) (more : Option KeyCommand) → AllByRecursion HasSpelling commands → IfSome more HasSpelling → (kept : Bool) → AllByRecursion HasSpelling (commands ++ settled_commands kept more)
+spelled_behind commands None spelled h kept = subst (AllByRecursion HasSpelling) (sym (append-nil commands)) spelled
+spelled_behind commands (Some command) spelled h true = each_more HasSpelling commands command spelled h
+spelled_behind commands (Some command) spelled h false = subst (AllByRecursion HasSpelling) (sym (append-nil commands)) spelled
+
+makes_behind : (commands : List KeyCommand) (more : Option KeyCommand) (table : Table) → key_replay no_keys commands ≡ Some table → Applies table more → (kept : Bool)
+    → key_replay no_keys (commands ++ settled_commands kept more) ≡ Some (settled_table kept more table)
+makes_behind commands None table makes may kept = ap (key_replay no_keys) (append-nil commands) ∙ makes
+makes_behind commands (Some command) table makes may true = replay_more no_keys table commands command makes may
+makes_behind commands (Some command) table makes may false = ap (key_replay no_keys) (append-nil commands) ∙ makes
+
 pub spelled_settled : (bytes : List ℕ) (commands : List KeyCommand) (more : Option KeyCommand) (table : Table) → IsSoundLog bytes commands more table → (kept : Bool) → AllByRecursion HasSpelling (commands ++ settled_commands kept more)
-spelled_settled bytes commands more table s kept = go kept more s.spelled_more
-  where
-    go : (kept : Bool) (o : Option KeyCommand) → IfSome o HasSpelling → AllByRecursion HasSpelling (commands ++ settled_commands kept o)
-    go true (Some command) h = each_more HasSpelling commands command s.spelled h
-    go false (Some command) h = subst (AllByRecursion HasSpelling) (sym (append-nil commands)) s.spelled
-    go kept None h = subst (AllByRecursion HasSpelling) (sym (append-nil commands)) s.spelled
+spelled_settled bytes commands more table s kept = spelled_behind commands more s.spelled s.spelled_more kept
 
 pub makes_settled : (bytes : List ℕ) (commands : List KeyCommand) (more : Option KeyCommand) (table : Table) → IsSoundLog bytes commands more table → (kept : Bool)
     → key_replay no_keys (commands ++ settled_commands kept more) ≡ Some (settled_table kept more table)
-makes_settled bytes commands more table s kept = go kept more s.fits
-  where
-    go : (kept : Bool) (o : Option KeyCommand) → Applies table o → key_replay no_keys (commands ++ settled_commands kept o) ≡ Some (settled_table kept o table)
-    go true (Some command) may = replay_more no_keys table commands command s.makes may
-    go false (Some command) may = ap (key_replay no_keys) (append-nil commands) ∙ s.makes
-    go kept None may = ap (key_replay no_keys) (append-nil commands) ∙ s.makes
+makes_settled bytes commands more table s kept = makes_behind commands more table s.makes s.fits kept
 
 -- what a start finds in a sound log
 pub record Finds (commands : List KeyCommand) (more : Option KeyCommand) (table : Table) (found : List KeyCommand) (made : Table) : Type 0 where
@@ -94,7 +95,8 @@ left_by_start bytes commands more table s left (Opening found made k written) =
       kept = f.kept;
       more = Some (next_opening made);
       fits = (Decides-eqb (made.opening + 1) ((settled_table f.kept more table).opening + 1)).1 (ap (λ (t : Table). t.opening + 1) f.table_is);
-      log = subst (λ (l : List KeyCommand). IsWithOrWithout l (next_opening made) left) f.commands_are written;
+      spelled = written.0;
+      log = subst (λ (l : List KeyCommand). IsWithOrWithout l (next_opening made) left) f.commands_are written.1;
     }
 left_by_start bytes commands more table s left (Recovered (No_log at none same)) = absurd (none_found more s.log)
   where
@@ -105,27 +107,39 @@ left_by_start bytes commands more table s left (Recovered (No_log at none same))
     none_found (Some command) (inr (inr half)) = let now = half.now in absurd (cc (none, now))
 left_by_start bytes commands more table s left (Recovered (Log_as_found (At_rest payloads gate found rest))) =
     let is = found_is bytes commands more table s payloads gate found in
-    record { kept = is.0; more = None; fits = tt; log = subst (λ (l : List (List ℕ)). IsAtRest 0 l left) is.1 rest }
-left_by_start bytes commands more table s left (Recovered (Log_as_found (Half_open payloads gate other found now same))) = go more s.log s.fits
+    record { kept = is.0; more = None; fits = tt; spelled = tt; log = subst (λ (l : List (List ℕ)). IsAtRest 0 l left) is.1 rest }
+left_by_start bytes commands more table s left (Recovered (Log_as_found (Half_open payloads gate other found now same))) = go more s.log s.fits s.spelled_more
   where
-    go : (o : Option KeyCommand) → IsLogOf commands o bytes → Applies table o → IsLeftOf table o commands left
-    go None rest may = let no_gate : suc gate ≡ 0 = cc (found, rest) in absurd (omega arith)
-    go (Some command) (inl before) may = let no_gate : suc gate ≡ 0 = cc (found, before) in absurd (omega arith)
-    go (Some command) (inr (inl with)) may = let no_gate : suc gate ≡ 0 = cc (found, with) in absurd (omega arith)
-    go (Some command) (inr (inr half)) may =
+    go : (o : Option KeyCommand) → IsLogOf commands o bytes → Applies table o → IfSome o HasSpelling → IsLeftOf table o commands left
+    go None rest may spelled = let no_gate : suc gate ≡ 0 = cc (found, rest) in absurd (omega arith)
+    go (Some command) (inl before) may spelled = let no_gate : suc gate ≡ 0 = cc (found, before) in absurd (omega arith)
+    go (Some command) (inr (inl with)) may spelled = let no_gate : suc gate ≡ 0 = cc (found, with) in absurd (omega arith)
+    go (Some command) (inr (inr half)) may spelled =
         let half_now = half.now in
         let one : payloads ≡ map spelling commands = cc (found, half_now) in
         let half_left : IsHalfOpen 0 (map spelling commands) (map spelling commands ++ spelling command ∷ []) left =
         record { gate = suc other; not_shut = omega arith; now = now ∙ ap (λ (l : List (List ℕ)). Found l (suc other)) one; then_on = ap (log_of 0) same ∙ half.then_on } in
-        record { kept = false; more = Some command; fits = may; log = subst (λ (l : List KeyCommand). IsWithOrWithout l command left) (sym (append-nil commands)) (inr (inr half_left)) }
-left_by_start bytes commands more table s left (Recovered (Log_as_found (Opened payloads gate found same))) = go more s.log s.fits
+        record { kept = false; more = Some command; fits = may; spelled = spelled; log = subst (λ (l : List KeyCommand). IsWithOrWithout l command left) (sym (append-nil commands)) (inr (inr half_left)) }
+left_by_start bytes commands more table s left (Recovered (Log_as_found (Opened payloads gate found same))) = go more s.log s.fits s.spelled_more
   where
-    go : (o : Option KeyCommand) → IsLogOf commands o bytes → Applies table o → IsLeftOf table o commands left
-    go None rest may = let no_gate : suc gate ≡ 0 = cc (found, rest) in absurd (omega arith)
-    go (Some command) (inl before) may = let no_gate : suc gate ≡ 0 = cc (found, before) in absurd (omega arith)
-    go (Some command) (inr (inl with)) may = let no_gate : suc gate ≡ 0 = cc (found, with) in absurd (omega arith)
-    go (Some command) (inr (inr half)) may =
-        record { kept = false; more = Some command; fits = may; log = subst (λ (l : List KeyCommand). IsWithOrWithout l command left) (sym (append-nil commands)) (inr (inl (ap (log_of 0) same ∙ half.then_on))) }
+    go : (o : Option KeyCommand) → IsLogOf commands o bytes → Applies table o → IfSome o HasSpelling → IsLeftOf table o commands left
+    go None rest may spelled = let no_gate : suc gate ≡ 0 = cc (found, rest) in absurd (omega arith)
+    go (Some command) (inl before) may spelled = let no_gate : suc gate ≡ 0 = cc (found, before) in absurd (omega arith)
+    go (Some command) (inr (inl with)) may spelled = let no_gate : suc gate ≡ 0 = cc (found, with) in absurd (omega arith)
+    go (Some command) (inr (inr half)) may spelled =
+        record { kept = false; more = Some command; fits = may; spelled = spelled; log = subst (λ (l : List KeyCommand). IsWithOrWithout l command left) (sym (append-nil commands)) (inr (inl (ap (log_of 0) same ∙ half.then_on))) }
+
+-- what a crash may leave of the log of these commands is a sound log, of them and of what was settled of the pending one
+pub sound_left : (table : Table) (pending : Option KeyCommand) (commands : List KeyCommand) (bytes : List ℕ) → AllByRecursion HasSpelling commands → IfSome pending HasSpelling
+    → key_replay no_keys commands ≡ Some table → Applies table pending → (l : IsLeftOf table pending commands bytes)
+    → IsSoundLog bytes (commands ++ settled_commands l.kept pending) l.more (settled_table l.kept pending table)
+sound_left table pending commands bytes spelled waits makes applies l = record {
+  spelled = spelled_behind commands pending spelled waits l.kept;
+  spelled_more = l.spelled;
+  makes = makes_behind commands pending table makes applies l.kept;
+  fits = l.fits;
+  log = l.log;
+}
 
 -- the log of a store is a sound one
 pub sound_store : (d : DiskState) (store : StoreState) (commands : List KeyCommand) → store.log.file ≡ 0 → Applies store.table.keys store.pending → StandsFor d store commands
@@ -145,6 +159,7 @@ left_by_store d store commands of_file may s bytes left = record {
   kept = false;
   more = store.pending;
   fits = subst (λ (t : Table). Applies t store.pending) (sym (unsettled store.pending)) may;
+  spelled = s.waits;
   log = subst (λ (l : List KeyCommand). IsLogOf l store.pending bytes) (sym (ap (λ (l : List KeyCommand). commands ++ l) (none store.pending) ∙ append-nil commands))
       (log_of_store d store commands of_file s bytes (s.log.leaves bytes (subst (λ (k : ℕ). d.leaves k bytes) (sym of_file) left)));
 }

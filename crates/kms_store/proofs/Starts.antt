@@ -14,7 +14,7 @@ use Rattle.key_rows.specs.Table.{Table, Kept}
 use Rattle.key_rows.specs.Records.{spelling}
 use Rattle.key_rows.specs.declared.rows.KeyCommand.TheVariants.{Opened}
 use Rattle.kms_store.specs.Replay.{IsReplayed, IsStuck, payload_of, payloads, place_of}
-use Rattle.kms_store.specs.Store.{StandsFor, IsWithOrWithout, IsKeyLog, IsNoKeyLog, IsLeftByStart, Recovered, Opening, IsOpening}
+use Rattle.kms_store.specs.Store.{StandsFor, IsWritten, IsKeyLog, IsNoKeyLog, IsLeftByStart, Recovered, Opening, IsOpening}
 
 pub if_ok : {T E : Type 0} {P Q : T → Type 0} (result : Result T E) → ((x : T) → P x → Q x) → IfOk result P → IfOk result Q
 if_ok (Ok x) f held = f x held
@@ -82,8 +82,8 @@ began disk log table list r stands = record {
   log = subst (λ (l : List (List ℕ)). Stands disk log l None) r.are stands;
 }
 
-pub opening_moments : (old new : DiskState) (framed : List (ℕ × List ℕ)) (table : Table) (n : ℕ) (r : IsReplayed framed table) → n ≡ table.opening → LeavesOnly 0 old new (IsWithOrWithout r.commands (Opened (n + 1))) → LeavesOnly 0 old new (IsOpening framed)
-opening_moments old new framed table n r is moments = weaker (λ c left. record { table = table; replayed = r; left = subst (λ (k : ℕ). IsWithOrWithout r.commands (Opened (k + 1)) c) is left }) moments
+pub opening_moments : (old new : DiskState) (framed : List (ℕ × List ℕ)) (table : Table) (n : ℕ) (r : IsReplayed framed table) → n ≡ table.opening → LeavesOnly 0 old new (IsWritten r.commands (Opened (n + 1))) → LeavesOnly 0 old new (IsOpening framed)
+opening_moments old new framed table n r is moments = weaker (λ c left. record { table = table; replayed = r; left = subst (λ (k : ℕ). IsWritten r.commands (Opened (k + 1)) c) is left }) moments
 
 pub left_as_found : (bytes : List ℕ) (leaves : List ℕ → Type 0) (c : List ℕ) → leaves c ⊎ IsAsFound 0 bytes c → leaves c ⊎ IsLeftByStart bytes c
 left_as_found bytes leaves c (inl past) = inl past

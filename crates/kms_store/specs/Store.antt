@@ -53,6 +53,10 @@ pub record Settles (old new : DiskState) (store store' : StoreState) : Type 0 wh
 abbrev pub IsWithOrWithout : List KeyCommand → KeyCommand → List ℕ → Type 0
 IsWithOrWithout commands command bytes = IsBeforeOrAfter 0 (map spelling commands) (spelling command) bytes
 
+-- the same of a command that can be written
+abbrev pub IsWritten : List KeyCommand → KeyCommand → List ℕ → Type 0
+IsWritten commands command bytes = HasSpelling command × IsWithOrWithout commands command bytes
+
 -- the file is a log of these commands, each of which applies, and they make this table
 pub record IsKeyLog (bytes : List ℕ) (commands : List KeyCommand) (table : Table) : Type 0 where
   pub gate : ℕ
@@ -87,13 +91,13 @@ next_opening table = Opened (table.opening + 1)
 -- the record of the new opening or without it
 pub data IsLeftByStart (found bytes : List ℕ) : Type 0 where
   Recovered : IsRecovered 0 found bytes → IsLeftByStart found bytes
-  Opening : (commands : List KeyCommand) (table : Table) → IsKeyLog found commands table → IsWithOrWithout commands (next_opening table) bytes → IsLeftByStart found bytes
+  Opening : (commands : List KeyCommand) (table : Table) → IsKeyLog found commands table → IsWritten commands (next_opening table) bytes → IsLeftByStart found bytes
 
 -- the log of the commands of these frames, with the record of the new opening or without it
 pub record IsOpening (frames : List (ℕ × List ℕ)) (bytes : List ℕ) : Type 0 where
   pub table : Table
   pub replayed : IsReplayed frames table
-  pub left : IsWithOrWithout replayed.commands (next_opening table) bytes
+  pub left : IsWritten replayed.commands (next_opening table) bytes
 
 -- what a crash may leave of a log: these commands, with one more or without it, now and where the end gate byte is read as 1
 abbrev pub IsLogOf : List KeyCommand → Option KeyCommand → List ℕ → Type 0
@@ -117,4 +121,5 @@ pub record IsLeftOf (table : Table) (pending : Option KeyCommand) (commands : Li
   pub kept : Bool
   pub more : Option KeyCommand
   pub fits : Applies (settled_table kept pending table) more
+  pub spelled : IfSome more HasSpelling
   pub log : IsLogOf (commands ++ settled_commands kept pending) more bytes

@@ -43,7 +43,7 @@ impl Store {
     ghost use Rattle.key_rows.specs.Table.{Table, applies, after, material_of};
     ghost use Rattle.key_rows.specs.declared.rows.KeyCommand.{KeyCommand};
     ghost use Rattle.kms_store.specs.Replay.{IsReplayed, IsStuck, payloads};
-    ghost use Rattle.kms_store.specs.Store.{StandsFor, IsWithOrWithout, IsKeyLog, IsDamagedAt, IsLeftByStart, IsOpening, Settles, next_opening};
+    ghost use Rattle.kms_store.specs.Store.{Applies, StandsFor, IsWithOrWithout, IsWritten, IsKeyLog, IsDamagedAt, IsLeftByStart, IsOpening, Settles, next_opening};
 
     /// Opens the key log of a disk, makes the table of its commands, and commits the record of a new
     /// opening. It may be stopped at any moment, and started again.
@@ -141,7 +141,7 @@ impl Store {
 
         // A crash at any moment of the call leaves the commands from before it, with the new one or without.
         ensures any_moment { Tells (D.state disk.old) → (commands : List KeyCommand) → StandsFor (D.state disk.old) self.old commands
-            → LeavesOnly 0 (D.state disk.old) (D.state disk.new) (IsWithOrWithout commands command) }
+            → LeavesOnly 0 (D.state disk.old) (D.state disk.new) (IsWritten commands command) }
 
         ensures run { RunOn 0 (D.state disk.old) (D.state disk.new) }
         ensures cause { IsErrOf result store.StoreFault → Rose (D.state disk.old).faults (D.state disk.new).faults }
@@ -229,11 +229,12 @@ impl Store {
         &self.table
     }
 
-    /// The number of this opening.
+    /// The number of this opening. The pending command, if there is one, applies to the table.
     pub fn opening(&self) -> u32
         ensures opening { result ≡ self.now.table.keys.opening }
         // The log is that of file 0.
         ensures file { self.now.log.file ≡ 0 }
+        ensures pending { Applies self.now.table.keys self.now.pending }
     {
         self.table.opening()
     }

@@ -26,4 +26,4 @@ returns-in-Ok-clause-any_moment g c told commands s =
     let log_is : inside.log ≡ now.log = ap (λ (x : StoreState). x.log) c.self.view_is in
     let spells : c.as_slice.result.now ≡ spelling c.args.command = search rules in
     let stands = subst (λ l. Stands (g.D.Disk.state c.args.disk.now) l (map spelling commands) None) (sym log_is) (stands_alone (g.D.Disk.state c.args.disk.now) (g.D.Disk.state c.append.new.disk) now commands c.args.command s c.requires.settled) in
-    moments (g.D.Disk.state c.args.disk.now) (g.D.Disk.state c.append.new.disk) now commands c.args.command inside.log.file c.as_slice.result.now c.self.invariant.0 spells (c.append.ensures.any_moment told (map spelling commands) stands)
+    moments (g.D.Disk.state c.args.disk.now) (g.D.Disk.state c.append.new.disk) now commands c.args.command inside.log.file c.as_slice.result.now c.self.invariant.0 c.in_ok-write.ensures.spelled spells (c.append.ensures.any_moment told (map spelling commands) stands)
