@@ -1,5 +1,8 @@
 -- Births of keys after a call.
-use Rattle.std.proofs.Common.{◌≡◌, ℕ, ◌+◌, ◌<◌, ◌≤◌, List, [], ◌∷◌, ◌++◌, map, find, filter, Bool, true, false, not, ◌==◌, cond, Option, None, Some, is_none, IfSome, refl, ap, sym, ◌∙◌, subst, arith}
+use Rattle.std.specs.Prelude.{⊤, ◌&&◌, length, nat_lt}
+use Rattle.std.proofs.lemmas.Bool.Decides.{nat_tests}
+use Rattle.std.proofs.Common.{◌≡◌, ℕ, ◌+◌, ◌*◌, ◌^◌, ◌/◌, ◌<◌, ◌≤◌, inl, inr, List, [], ◌∷◌, ◌++◌, map, find, filter, Bool, true, false, not, ◌==◌, cond, Option, None, Some, is_none, IfSome, refl, ap, sym, ◌∙◌, subst, arith}
+use Rattle.hk_base.specs.Faults.{Rose}
 use Rattle.key_rows.specs.declared.rows.KeyRow.{KeyRow}
 use Rattle.key_rows.specs.declared.calls.KmsCall.{KmsCall}
 use Rattle.key_rows.specs.declared.calls.KmsCall.TheVariants as call
@@ -7,25 +10,17 @@ use Rattle.key_rows.specs.declared.calls.KmsReply.{KmsReply}
 use Rattle.key_rows.specs.declared.calls.KmsReply.TheVariants as reply
 use Rattle.key_rows.specs.declared.calls.KmsRefusal.{KmsRefusal}
 use Rattle.key_rows.specs.declared.calls.KmsRefusal.TheVariants as refusal
-use Rattle.key_rows.specs.Table.{find_birth, is_born, is_named, rolled, with_material}
+use Rattle.key_rows.specs.declared.rows.KeyCommand.{KeyCommand}
+use Rattle.key_rows.specs.declared.rows.KeyCommand.TheVariants.{Opened, Create, Roll, Delete}
+use Rattle.key_rows.specs.Table.{Table, after, applies, find_birth, find_name, is_born, is_length, is_named, opening_of, rolled, with_material}
 use Rattle.key_rows.specs.Sound.{Rising}
-use Rattle.key_rows.proofs.Births.{other_number}
-use Rattle.kms_core.specs.State.{KmsState, next_birth}
-use Rattle.kms_core.specs.Calls.{Acts, Plain, NoRoom, Ending, birth_of, causes, deed, deleted, done_with, first_cause, outcome, row_of, unless_refused}
-use Rattle.kms_core.specs.Laws.{BirthsBelow, DeletedIsGone, Gone, GoneStays}
-
--- the state after a call is as it was, or that of its deed
-after_call : (P : KmsState → Type 0) (s : KmsState) (words : ℕ → ℕ) (now : ℕ) (c : KmsCall) (told : KmsReply) (s' : KmsState) (words' : ℕ → ℕ)
-    → Acts s words now c told s' words' → P s → P (done_with (deed s words now c).logs (deed s words now c).state) → P s'
-after_call P s words now c told s' words' acts here there = by_end acts.acts.0 acts.acts.2
-  where
-    by_cause : (cause : Option KmsRefusal) → (record { told = told; drawn = acts.drawn; state = s' }) ≡ unless_refused cause s (deed s words now c) → P s'
-    by_cause (Some why) is = subst P (sym (ap (λ o. o.state) is)) here
-    by_cause None is = subst P (sym (ap (λ o. o.state) is)) there
-
-    by_end : (e : Ending) → (record { told = told; drawn = acts.drawn; state = s' }) ≡ outcome s words now c e → P s'
-    by_end Plain is = by_cause (first_cause (causes s c)) is
-    by_end (NoRoom some) is = subst P (sym (ap (λ o. o.state) is)) here
+use Rattle.key_rows.proofs.Births.{both, other_number}
+use Rattle.key_rows.proofs.TableLemmas.{sound_create, sound_roll, sound_delete}
+use Rattle.kms_store.specs.Store.{settled_table}
+use Rattle.kms_core.specs.State.{IsPending, IsService, KmsState, ServiceState, next_birth, settled}
+use Rattle.kms_core.specs.Service.{ServesBy, is_change}
+use Rattle.kms_core.specs.Calls.{KmsActs, Plain, NoRoom, Ending, birth_of, causes, deed, deleted, done_with, first_cause, outcome, row_of, unless_refused, versions_of}
+use Rattle.kms_core.specs.Laws.{DeletedIsGone, Gone, GoneStays, GoneStaysAtStart}
 
 -- what is not found stays so
 
@@ -75,55 +70,118 @@ none_left birth (row ∷ rows) =
 
 -- a birth that is gone
 
-made_gone : (s : KmsState) (row : KeyRow) (birth : ℕ) → row.birth ≡ next_birth s → Gone s birth → is_none (find_birth (s.table.rows ++ row ∷ []) birth) ≡ true
-made_gone s row birth born gone = none_more (is_born birth) s.table.rows row gone.absent (other_number row.birth birth (λ same. absurd (omega (arith, born, gone.below))))
+made_gone : (t : Table) (row : KeyRow) (birth : ℕ) → t.greatest < row.birth → Gone t birth → is_none (find_birth (t.rows ++ row ∷ []) birth) ≡ true
+made_gone t row birth new gone = none_more (is_born birth) t.rows row gone.absent (other_number row.birth birth (λ same. absurd (omega (arith, same, new, gone.used))))
 
-gone_after : (s : KmsState) (words : ℕ → ℕ) (now : ℕ) (c : KmsCall) (birth : ℕ) → Gone s birth → Gone (done_with (deed s words now c).logs (deed s words now c).state) birth
-gone_after s words now (call.Create name bits material description) birth gone =
-    record { below = omega (arith, gone.below); absent = made_gone s _ birth refl gone }
-gone_after s words now (call.Roll name material) birth gone =
-    record { below = gone.below; absent = none_rolled birth (birth_of (row_of s name)) _ s.table.rows gone.absent }
-gone_after s words now (call.Delete name) birth gone =
-    record { below = gone.below; absent = none_filter (is_born birth) (λ row. not (is_born (birth_of (row_of s name)) row)) s.table.rows gone.absent }
-gone_after s words now (call.Invalidate name) birth gone = gone
-gone_after s words now (call.Metadata name) birth gone = gone
-gone_after s words now (call.Metadatas names) birth gone = gone
-gone_after s words now call.Names birth gone = gone
-gone_after s words now (call.Current name) birth gone = gone
-gone_after s words now (call.Versions name) birth gone = gone
-gone_after s words now (call.Version version) birth gone = gone
-gone_after s words now (call.Generate name count) birth gone = gone
-gone_after s words now (call.Decrypt name sent) birth gone = gone
-gone_after s words now (call.Reencrypt name sent) birth gone = gone
-gone_after s words now (call.Batch name sent) birth gone = gone
+-- a command whose birth, if it makes a key, is a new one
+abbrev IsNew : Table → KeyCommand → Type 0
+IsNew t (Opened opening) = ⊤
+IsNew t (Create birth name bits description created material) = t.greatest < birth
+IsNew t (Roll birth number material) = ⊤
+IsNew t (Delete birth) = ⊤
+
+gone_after : (t : Table) (command : KeyCommand) (birth : ℕ) → IsNew t command → Gone t birth → Gone (after t command) birth
+gone_after t (Opened opening) birth new gone = record { used = gone.used; absent = gone.absent }
+gone_after t (Create made name bits description created material) birth new gone = record { used = omega (arith, new, gone.used); absent = made_gone t _ birth new gone }
+gone_after t (Roll rolled number material) birth new gone = record { used = gone.used; absent = none_rolled birth rolled material t.rows gone.absent }
+gone_after t (Delete gone_too) birth new gone = record { used = gone.used; absent = none_filter (is_born birth) (λ row. not (is_born gone_too row)) t.rows gone.absent }
+
+-- a command that applies makes a key of a new birth
+new_birth : (t : Table) (command : KeyCommand) → applies t command ≡ true → IsNew t command
+new_birth t (Opened opening) may = tt
+new_birth t (Create birth name bits description created material) may =
+    let a = both (nat_lt 0 t.opening && is_none (find_name t.rows name) && opening_of birth == t.opening && nat_lt t.greatest birth && nat_lt (length t.rows) 10000 && is_length bits) (length material == bits / 8) may in
+    let b = both (nat_lt 0 t.opening && is_none (find_name t.rows name) && opening_of birth == t.opening && nat_lt t.greatest birth && nat_lt (length t.rows) 10000) (is_length bits) a.0 in
+    let c = both (nat_lt 0 t.opening && is_none (find_name t.rows name) && opening_of birth == t.opening && nat_lt t.greatest birth) (nat_lt (length t.rows) 10000) b.0 in
+    let d = both (nat_lt 0 t.opening && is_none (find_name t.rows name) && opening_of birth == t.opening) (nat_lt t.greatest birth) c.0 in
+    let is = d.1 in grind (arith, nat_tests, is)
+new_birth t (Roll birth number material) may = tt
+new_birth t (Delete birth) may = tt
+
+pub gone_behind : (t : Table) (command : KeyCommand) (birth : ℕ) → applies t command ≡ true → Gone t birth → Gone (after t command) birth
+gone_behind t command birth may gone = gone_after t command birth (new_birth t command may) gone
+
+gone_settled : (kept : Bool) (pending : Option KeyCommand) (s : KmsState) (birth : ℕ) → IfSome pending (IsPending s) → Gone s.table birth → Gone (settled_table kept pending s.table) birth
+gone_settled kept None s birth waits gone = gone
+gone_settled true (Some command) s birth waits gone = gone_behind s.table command birth waits.fits gone
+gone_settled false (Some command) s birth waits gone = gone
+
+-- births lie below the next one also when the pending command was settled
+pub below_settled : (kept : Bool) (s : ServiceState) → IsService s → (settled kept s).table.greatest < next_birth (settled kept s)
+below_settled kept s is = go kept s.pending is.waits
+  where
+    go : (kept : Bool) (o : Option KeyCommand) → IfSome o (IsPending s.keys) → (settled_table kept o s.keys.table).greatest < (settled_table kept o s.keys.table).opening * 2 ^ 32 + s.keys.next
+    go kept None waits = is.births
+    go true (Some command) waits = let b = waits.births in let o = waits.same_opening in omega (arith, b, ap (λ (n : ℕ). n * 2 ^ 32) o)
+    go false (Some command) waits = is.births
+
+-- what a call on keys leaves
+
+after_call : (P : KmsState → Type 0) (s : KmsState) (words : ℕ → ℕ) (now : ℕ) (c : KmsCall) (told : KmsReply) (drawn : ℕ) (s' : KmsState)
+    → KmsActs s words now c told drawn s' → P s → P (done_with (deed s words now c).logs (deed s words now c).state) → P s'
+after_call P s words now c told drawn s' (e, may, is) here there = by_end e is
+  where
+    by_cause : (cause : Option KmsRefusal) → (record { told = told; drawn = drawn; state = s' }) ≡ unless_refused cause s (deed s words now c) → P s'
+    by_cause (Some why) is = subst P (sym (ap (λ o. o.state) is)) here
+    by_cause None is = subst P (sym (ap (λ o. o.state) is)) there
+
+    by_end : (e : Ending) → (record { told = told; drawn = drawn; state = s' }) ≡ outcome s words now c e → P s'
+    by_end Plain is = by_cause (first_cause (causes s c)) is
+    by_end (NoRoom some) is = subst P (sym (ap (λ o. o.state) is)) here
+
+deed_gone : (s : KmsState) (words : ℕ → ℕ) (now : ℕ) (c : KmsCall) (birth : ℕ) → s.table.greatest < next_birth s → Gone s.table birth → Gone (done_with (deed s words now c).logs (deed s words now c).state).table birth
+deed_gone s words now (call.Create name bits material description) birth below gone = gone_after s.table (Create (next_birth s) name bits description now _) birth below gone
+deed_gone s words now (call.Roll name material) birth below gone = gone_after s.table (Roll (birth_of (row_of s name)) (versions_of (row_of s name)) _) birth tt gone
+deed_gone s words now (call.Delete name) birth below gone = gone_after s.table (Delete (birth_of (row_of s name))) birth tt gone
+deed_gone s words now (call.Invalidate name) birth below gone = gone
+deed_gone s words now (call.Metadata name) birth below gone = gone
+deed_gone s words now (call.Metadatas names) birth below gone = gone
+deed_gone s words now call.Names birth below gone = gone
+deed_gone s words now (call.Current name) birth below gone = gone
+deed_gone s words now (call.Versions name) birth below gone = gone
+deed_gone s words now (call.Version version) birth below gone = gone
+deed_gone s words now (call.Generate name count) birth below gone = gone
+deed_gone s words now (call.Decrypt name sent) birth below gone = gone
+deed_gone s words now (call.Reencrypt name sent) birth below gone = gone
+deed_gone s words now (call.Batch name sent) birth below gone = gone
+
+-- a deed whose command was not written changes no table
+pub deed_keeps : (s : KmsState) (words : ℕ → ℕ) (now : ℕ) (c : KmsCall) → (deed s words now c).state.table ≡ s.table
+deed_keeps s words now (call.Create name bits material description) = refl
+deed_keeps s words now (call.Roll name material) = refl
+deed_keeps s words now (call.Delete name) = refl
+deed_keeps s words now (call.Invalidate name) = refl
+deed_keeps s words now (call.Metadata name) = refl
+deed_keeps s words now (call.Metadatas names) = refl
+deed_keeps s words now call.Names = refl
+deed_keeps s words now (call.Current name) = refl
+deed_keeps s words now (call.Versions name) = refl
+deed_keeps s words now (call.Version version) = refl
+deed_keeps s words now (call.Generate name count) = refl
+deed_keeps s words now (call.Decrypt name sent) = refl
+deed_keeps s words now (call.Reencrypt name sent) = refl
+deed_keeps s words now (call.Batch name sent) = refl
 
 pub gone_stays : GoneStays
-gone_stays s words now c told s' words' acts birth gone = after_call (λ t. Gone t birth) s words now c told s' words' acts gone (gone_after s words now c birth gone)
+gone_stays s words now c before later told drawn logged s' is serves birth gone = go (is_change c) serves
+  where
+    base_gone : (kept : Bool) → Gone (settled kept s).table birth
+    base_gone kept = gone_settled kept s.pending s.keys birth is.waits gone
 
--- births that were used are below the next one
+    go : (b : Bool) → ServesBy b s words now c (Rose before later) told drawn logged s' → Gone s'.keys.table birth
+    go false r = subst (λ (t : ServiceState). Gone t.keys.table birth) (sym r.same) gone
+    go true (inl u) = subst (λ (t : ServiceState). Gone t.keys.table birth) (sym u.same) gone
+    go true (inr (kept, inl w)) =
+        subst (λ (t : ServiceState). Gone t.keys.table birth) (sym w.left)
+        (after_call (λ (t : KmsState). Gone t.table birth) (settled kept s) words now c told drawn w.changed w.acts (base_gone kept)
+        (deed_gone (settled kept s) words now c birth (below_settled kept s is) (base_gone kept)))
+    go true (inr (kept, inr u)) =
+        subst (λ (t : ServiceState). Gone t.keys.table birth) (sym u.left) (subst (λ (t : Table). Gone t birth) (sym (deed_keeps (settled kept s) words now c)) (base_gone kept))
 
-below_after : (s : KmsState) (words : ℕ → ℕ) (now : ℕ) (c : KmsCall) → s.table.greatest < next_birth s
-    → (done_with (deed s words now c).logs (deed s words now c).state).table.greatest < next_birth (done_with (deed s words now c).logs (deed s words now c).state)
-below_after s words now (call.Create name bits material description) below = omega arith
-below_after s words now (call.Roll name material) below = below
-below_after s words now (call.Delete name) below = below
-below_after s words now (call.Invalidate name) below = below
-below_after s words now (call.Metadata name) below = below
-below_after s words now (call.Metadatas names) below = below
-below_after s words now call.Names below = below
-below_after s words now (call.Current name) below = below
-below_after s words now (call.Versions name) below = below
-below_after s words now (call.Version version) below = below
-below_after s words now (call.Generate name count) below = below
-below_after s words now (call.Decrypt name sent) below = below
-below_after s words now (call.Reencrypt name sent) below = below
-below_after s words now (call.Batch name sent) below = below
-
-pub births_below : BirthsBelow
-births_below = (
-  omega arith,
-  λ s words now c told s' words' acts below. after_call (λ t. t.table.greatest < next_birth t) s words now c told s' words' acts below (below_after s words now c below),
-)
+pub gone_stays_at_start : GoneStaysAtStart
+gone_stays_at_start s kept is birth gone =
+    let there = gone_settled kept s.pending s.keys birth is.waits gone in
+    record { used = there.used; absent = there.absent }
 
 -- a key that stands was born
 
@@ -147,21 +205,46 @@ record Deleted (s : KmsState) (name : List ℕ) (s' : KmsState) : Type 0 where
   stands : is_none (row_of s name) ≡ false
   state : s' ≡ done_with (deleted s (birth_of (row_of s name))).logs s
 
-was_deleted : (s : KmsState) (words : ℕ → ℕ) (now : ℕ) (name : List ℕ) (s' : KmsState) (words' : ℕ → ℕ) → Acts s words now (call.Delete name) reply.Done s' words' → Deleted s name s'
-was_deleted s words now name s' words' acts = by_end acts.acts.0 acts.acts.2
+was_deleted : (s : KmsState) (words : ℕ → ℕ) (now : ℕ) (name : List ℕ) (drawn : ℕ) (s' : KmsState) → KmsActs s words now (call.Delete name) reply.Done drawn s' → Deleted s name s'
+was_deleted s words now name drawn s' (e, may, is) = by_end e is
   where
     by_row : (absent : Bool) → is_none (row_of s name) ≡ absent
-        → (record { told = reply.Done; drawn = acts.drawn; state = s' }) ≡ unless_refused (cond absent (Some refusal.NoSuchKey) None) s (deed s words now (call.Delete name)) → Deleted s name s'
+        → (record { told = reply.Done; drawn = drawn; state = s' }) ≡ unless_refused (cond absent (Some refusal.NoSuchKey) None) s (deed s words now (call.Delete name)) → Deleted s name s'
     by_row true stands is = let no : reply.Done ≡ reply.Refused refusal.NoSuchKey = ap (λ o. o.told) is in absurd cc
     by_row false stands is = record { stands = stands; state = ap (λ o. o.state) is }
 
-    by_end : (e : Ending) → (record { told = reply.Done; drawn = acts.drawn; state = s' }) ≡ outcome s words now (call.Delete name) e → Deleted s name s'
+    by_end : (e : Ending) → (record { told = reply.Done; drawn = drawn; state = s' }) ≡ outcome s words now (call.Delete name) e → Deleted s name s'
     by_end Plain is = by_row (is_none (row_of s name)) refl is
     by_end (NoRoom some) is = let no : reply.Done ≡ reply.Refused refusal.NoMemory = ap (λ o. o.told) is in absurd cc
 
-pub deleted_is_gone : DeletedIsGone
-deleted_is_gone s words now name s' words' is below acts =
-    let done = was_deleted s words now name s' words' acts in
+-- births rise also when the pending command was settled
+rising_settled : (kept : Bool) (s : ServiceState) → IsService s → Rising 0 (settled kept s).table.rows (settled kept s).table.greatest
+rising_settled kept s is = go kept s.pending is.waits
+  where
+    behind : (command : KeyCommand) → applies s.keys.table command ≡ true → Rising 0 (after s.keys.table command).rows (after s.keys.table command).greatest
+    behind (Opened opening) may = is.table.births
+    behind (Create birth name bits description created material) may = (sound_create s.keys.table birth name bits description created material is.table may).births
+    behind (Roll birth number material) may = (sound_roll s.keys.table birth number material is.table may).births
+    behind (Delete birth) may = (sound_delete s.keys.table birth is.table).births
+
+    go : (kept : Bool) (o : Option KeyCommand) → IfSome o (IsPending s.keys) → Rising 0 (settled_table kept o s.keys.table).rows (settled_table kept o s.keys.table).greatest
+    go kept None waits = is.table.births
+    go true (Some command) waits = behind command waits.fits
+    go false (Some command) waits = is.table.births
+
+deleted_in : (s : KmsState) (words : ℕ → ℕ) (now : ℕ) (name : List ℕ) (drawn : ℕ) (s' : KmsState) → Rising 0 s.table.rows s.table.greatest
+    → KmsActs s words now (call.Delete name) reply.Done drawn s' → Gone s'.table (birth_of (row_of s name))
+deleted_in s words now name drawn s' rising acts =
+    let done = was_deleted s words now name drawn s' acts in
     let birth : ℕ = birth_of (row_of s name) in
-    let used : birth ≤ s.table.greatest = birth_below (row_of s name) s.table.greatest done.stands (born 0 (is_named name) s.table.rows s.table.greatest is.births) in
-    subst (λ (t : KmsState). Gone t birth) (sym done.state) (record { below = omega (arith, used, below); absent = none_left birth s.table.rows })
+    let used : birth ≤ s.table.greatest = birth_below (row_of s name) s.table.greatest done.stands (born 0 (is_named name) s.table.rows s.table.greatest rising) in
+    subst (λ (t : KmsState). Gone t.table birth) (sym done.state) (record { used = used; absent = none_left birth s.table.rows })
+
+pub deleted_is_gone : DeletedIsGone
+deleted_is_gone s words now name before later drawn logged s' is serves = go serves
+  where
+    go : ServesBy true s words now (call.Delete name) (Rose before later) reply.Done drawn logged s' → (kept : Bool) × Gone s'.keys.table (birth_of (row_of (settled kept s) name))
+    go (inl u) = let no : reply.Done ≡ reply.Refused refusal.StoreFault = u.told_is in absurd cc
+    go (inr (kept, inl w)) =
+        (kept, subst (λ (t : ServiceState). Gone t.keys.table (birth_of (row_of (settled kept s) name))) (sym w.left) (deleted_in (settled kept s) words now name drawn w.changed (rising_settled kept s is) w.acts))
+    go (inr (kept, inr u)) = let no : reply.Done ≡ reply.Refused refusal.StoreFault = u.told_is in absurd cc

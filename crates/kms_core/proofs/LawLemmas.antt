@@ -23,7 +23,7 @@ use Rattle.key_rows.proofs.TableLemmas.{found_row}
 use Rattle.kms_core.specs.State.{KmsState}
 use Rattle.kms_core.specs.Draws.{drawn, drawn_iv, drawn_dek, drawn_edek, drawn_edeks, place_of_draw, words_of_draw}
 use Rattle.kms_core.specs.Opening.{unseals}
-use Rattle.kms_core.specs.Calls.{Acts, Plain, NoRoom, Ending, MayEnd, outcome, deed, first_cause, unless_refused, sent_causes, generate_causes, generated, is_malformed, row_of, edek_of, current_version, current_material}
+use Rattle.kms_core.specs.Calls.{CallActs, Plain, NoRoom, Ending, MayEnd, outcome, deed, first_cause, unless_refused, sent_causes, generate_causes, generated, is_malformed, row_of, edek_of, current_version, current_material}
 use Rattle.kms_core.specs.Laws.{DecryptOpens, DrawsApart, DrawsReadTheirOwn, GeneratedDecrypts, GeneratedOpens, SameWords, dek_of_draw, sent_of}
 use Rattle.kms_core.proofs.DrawLemmas.{length-drawn}
 use Rattle.kms_core.specs.Steps.{opened_in}
@@ -32,7 +32,7 @@ use Rattle.kms_core.proofs.KeyLemmas.{each_get, found_passes, sent_allowed, vers
 
 -- what decrypt answers where there is no cause of a refusal
 decrypt_told : (s : KmsState) (words : ℕ → ℕ) (now : ℕ) (name : List ℕ) (sent : RawEdek) (told : KmsReply) (s' : KmsState) (words' : ℕ → ℕ)
-    → first_cause (sent_causes (row_of s name) name sent) ≡ None → Acts s words now (call.Decrypt name sent) told s' words'
+    → first_cause (sent_causes (row_of s name) name sent) ≡ None → CallActs s words now (call.Decrypt name sent) told s' words'
     → told ≡ reply.Key (unwrap_or (unseals s.table.rows (edek_of sent)) [])
 decrypt_told s words now name sent told s' words' none acts = by_end acts.acts.0 acts.acts.1 acts.acts.2
   where
@@ -61,7 +61,7 @@ record Gave (s : KmsState) (words : ℕ → ℕ) (name : List ℕ) (count : ℕ)
   same : s' ≡ s
 
 gave : (s : KmsState) (words : ℕ → ℕ) (now : ℕ) (name : List ℕ) (count : ℕ) (keys : List Edek) (s' : KmsState) (words' : ℕ → ℕ)
-    → Acts s words now (call.Generate name count) (reply.Ready keys) s' words' → Gave s words name count keys s'
+    → CallActs s words now (call.Generate name count) (reply.Ready keys) s' words' → Gave s words name count keys s'
 gave s words now name count keys s' words' acts = by_end acts.acts.0 acts.acts.2
   where
     by_cause : (cause : Option KmsRefusal) → first_cause (generate_causes (row_of s name) count) ≡ cause
@@ -174,7 +174,7 @@ generated_decrypts s words now name count keys s' words' is acts number key at l
     let row = standing_key s name is all.stands in
     let drawn_key = drawn_at (current_version (row_of s name)) (current_material s name) words count number key (ap (λ ks. slice_get ks number) (sym all.drawn) ∙ at) in
     let opens = generated_opens_to s words name number key row.1.has drawn_key in
-    let answered_in : Acts s later then (call.Decrypt name (sent_of key)) told s'' later' = subst (λ (t : KmsState). Acts t later then (call.Decrypt name (sent_of key)) told s'' later') all.same answered in
+    let answered_in : CallActs s later then (call.Decrypt name (sent_of key)) told s'' later' = subst (λ (t : KmsState). CallActs t later then (call.Decrypt name (sent_of key)) told s'' later') all.same answered in
     decrypt_told s later then name (sent_of key) told s'' later' (no_cause s words name number key row.0 row.1 drawn_key) answered_in
     ∙ ap (λ o. reply.Key (unwrap_or o [])) opens
   where

@@ -6,4 +6,5 @@ pub mod LawLemmas
 pub mod NameLemmas
 pub mod ResealLemmas
 pub mod SentLemmas
+pub mod ServiceLemmas
 pub mod StepLemmas

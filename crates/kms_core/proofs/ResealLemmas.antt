@@ -20,7 +20,7 @@ use Rattle.key_rows.specs.declared.rows.KeyRow.{KeyRow}
 use Rattle.key_rows.specs.Sound.{IsTable}
 use Rattle.kms_core.specs.State.{KmsState}
 use Rattle.kms_core.specs.Opening.{unseals}
-use Rattle.kms_core.specs.Calls.{Acts, Plain, NoRoom, Ending, outcome, accepted, deed, causes, first_cause, unless_refused, only_answer, sent_causes, batch_causes, lacks_version, is_of_other_key, is_malformed, row_of, bits_of, edek_of, current_version, current_material, same_version, opened, resealed}
+use Rattle.kms_core.specs.Calls.{CallActs, Plain, NoRoom, Ending, outcome, accepted, deed, causes, first_cause, unless_refused, only_answer, sent_causes, batch_causes, lacks_version, is_of_other_key, is_malformed, row_of, bits_of, edek_of, current_version, current_material, same_version, opened, resealed}
 use Rattle.kms_core.specs.Laws.{BatchOpens, ReencryptedOpens, SameKey}
 use Rattle.kms_core.proofs.KeyLemmas.{sent_allowed}
 use Rattle.kms_core.proofs.LawLemmas.{Standing_key, standing_key, opens_to}
@@ -33,7 +33,7 @@ record Told (s : KmsState) (c : KmsCall) (answer told : KmsReply) (s' : KmsState
   same : s' ≡ s
 
 has_told : (s : KmsState) (words : ℕ → ℕ) (now : ℕ) (c : KmsCall) (answer told : KmsReply) (s' : KmsState) (words' : ℕ → ℕ)
-    → deed s words now c ≡ only_answer s answer → ((why : KmsRefusal) → told ≡ reply.Refused why → ⊥) → Acts s words now c told s' words' → Told s c answer told s'
+    → deed s words now c ≡ only_answer s answer → ((why : KmsRefusal) → told ≡ reply.Refused why → ⊥) → CallActs s words now c told s' words' → Told s c answer told s'
 has_told s words now c answer told s' words' deed_is let_go acts = by_end acts.acts.0 acts.acts.2
   where
     by_cause : (cause : Option KmsRefusal) → first_cause (causes s c) ≡ cause → (record { told = told; drawn = acts.drawn; state = s' }) ≡ unless_refused cause s (deed s words now c)

@@ -15,8 +15,8 @@ use Rattle.key_rows.specs.declared.calls.KmsCall.TheVariants as call
 use Rattle.key_rows.specs.declared.calls.KmsRefusal.TheVariants.{NoSuchKey, BadMaterial, TooManyVersions, TooManyAsked, NoMemory}
 use Rattle.key_rows.specs.declared.calls.KmsRefusal.{KmsRefusal}
 use Rattle.kms_core.specs.State.{KmsState}
-use Rattle.kms_core.specs.Calls.{Acts, Plain, NoRoom, takes_memory, causes, deed, first_cause, unless_refused, row_of, bits_of, versions_of, is_misfit, roll_causes, rolled, deleted, only_answer, generate_causes, current_material}
-use Rattle.kms_core.specs.Draws.{material_for, words_for, drawn_edeks, place_of_draw}
+use Rattle.kms_core.specs.Calls.{CallActs, Plain, NoRoom, takes_memory, causes, deed, first_cause, unless_refused, row_of, bits_of, versions_of, is_misfit, roll_causes, only_answer, generate_causes, current_material}
+use Rattle.kms_core.specs.Draws.{drawn_edeks, place_of_draw}
 use Rattle.kms_core.specs.Steps.{Answers, Drew, DrewKeys, DrewSome, Enacts, IsCurrent, StandsSo}
 
 both_hold : (a b : Bool) → a ≡ true → b ≡ true → (a && b) ≡ true
@@ -27,7 +27,7 @@ all_three a b c f g h = both_hold (a && b) c (both_hold a b f g) h
 
 -- a call for which a cause stands is refused
 pub refuses : (s : KmsState) (words : ℕ → ℕ) (now : ℕ) (c : KmsCall) (why : KmsRefusal) (told : KmsReply) (s' : KmsState) (words' : ℕ → ℕ)
-    → first_cause (causes s c) ≡ Some why → told ≡ Refused why → s' ≡ s → ((k : ℕ) → words' k ≡ words k) → Acts s words now c told s' words'
+    → first_cause (causes s c) ≡ Some why → told ≡ Refused why → s' ≡ s → ((k : ℕ) → words' k ≡ words k) → CallActs s words now c told s' words'
 refuses s words now c why told s' words' cause told_is same rest = record {
   drawn = 0;
   acts = (Plain, tt, cc);
@@ -37,7 +37,7 @@ refuses s words now c why told s' words' cause told_is same rest = record {
 -- a call without a cause of refusal does its deed
 pub enacted : (s : KmsState) (words : ℕ → ℕ) (now : ℕ) (c : KmsCall) (told : KmsReply) (s' : KmsState) (words' : ℕ → ℕ)
     → takes_memory c ≡ true → first_cause (causes s c) ≡ None → Enacts s (deed s words now c) told s'
-    → ((k : ℕ) → words' k ≡ words ((deed s words now c).words + k)) → Acts s words now c told s' words'
+    → ((k : ℕ) → words' k ≡ words ((deed s words now c).words + k)) → CallActs s words now c told s' words'
 enacted s words now c told s' words' takes none (inl done) rest = record {
   drawn = (deed s words now c).words;
   acts = (Plain, tt, cc);
@@ -69,22 +69,16 @@ allowed row given stands fits room =
     ∙ ap (λ b. cond b (Some BadMaterial) (cond (nat_le 65535 (versions_of row)) (Some TooManyVersions) None)) fits
     ∙ ap (λ b. cond b (Some TooManyVersions) None) room
 
-pub rolls : (s : KmsState) (words : ℕ → ℕ) (now : ℕ) (name : List ℕ) (given : Option (List ℕ)) (key : Standing) (drawn : List ℕ) (told : KmsReply) (s' : KmsState) (words' : ℕ → ℕ)
-    → StandsSo s name key → is_misfit key.bits given ≡ false → key.versions < 65535 → drawn ≡ material_for words key.bits given
-    → ((k : ℕ) → words' k ≡ words (words_for key.bits given + k)) → Enacts s (rolled s name (row_of s name) drawn 0) told s'
-    → Acts s words now (call.Roll name given) told s' words'
-rolls s words now name given key drawn told s' words' so fits room drawn_is rest done =
+pub may_be_rolled : (s : KmsState) (name : List ℕ) (given : Option (List ℕ)) (key : Standing) → StandsSo s name key → is_misfit key.bits given ≡ false → key.versions < 65535
+    → first_cause (roll_causes (row_of s name) given) ≡ None
+may_be_rolled s name given key so fits room =
     let full : nat_le 65535 (versions_of (row_of s name)) ≡ false = ap (λ n. nat_le 65535 n) (sym so.versions) ∙ grind (arith, room) in
-    let none = allowed (row_of s name) given so.stands (ap (λ n. is_misfit n given) (sym so.bits) ∙ fits) full in
-    let same : drawn ≡ material_for words (bits_of (row_of s name)) given = drawn_is ∙ ap (λ n. material_for words n given) so.bits in
-    enacted s words now (call.Roll name given) told s' words' refl none
-    (subst (λ (m : List ℕ). Enacts s (rolled s name (row_of s name) m 0) told s') same done)
-    (λ k. rest k ∙ ap (λ n. words (words_for n given + k)) so.bits)
+    allowed (row_of s name) given so.stands (ap (λ n. is_misfit n given) (sym so.bits) ∙ fits) full
 
 -- memory is wanting in a call without another cause of refusal
 pub wanting : (s : KmsState) (words : ℕ → ℕ) (now : ℕ) (c : KmsCall) (words' : ℕ → ℕ) (drawn : ℕ)
     → takes_memory c ≡ true → first_cause (causes s c) ≡ None → drawn ≤ (deed s words now c).words → Drew words words' drawn
-    → Acts s words now c (Refused NoMemory) s words'
+    → CallActs s words now c (Refused NoMemory) s words'
 wanting s words now c words' drawn takes none few rest = record {
   drawn = drawn;
   acts = (NoRoom drawn, (takes, none, few), refl);
@@ -96,7 +90,7 @@ current_is s name current is =
     ap (λ version. unwrap_or (material_of s.table.rows version) []) (sym is.version) ∙ ap (λ o. unwrap_or o []) is.material
 
 pub refuses_many : (s : KmsState) (words : ℕ → ℕ) (now : ℕ) (name : List ℕ) (count : ℕ) → is_none (row_of s name) ≡ false → nat_lt 1000 count ≡ true
-    → Acts s words now (call.Generate name count) (Refused TooManyAsked) s words
+    → CallActs s words now (call.Generate name count) (Refused TooManyAsked) s words
 refuses_many s words now name count stands many =
     refuses s words now (call.Generate name count) TooManyAsked (Refused TooManyAsked) s words
     (ap (λ b. cond b (Some NoSuchKey) (cond (nat_lt 1000 count) (Some TooManyAsked) None)) stands ∙ ap (λ b. cond b (Some TooManyAsked) None) many)
@@ -108,7 +102,7 @@ may_generate row count stands few =
 
 pub generates : (s : KmsState) (words : ℕ → ℕ) (now : ℕ) (name : List ℕ) (count : ℕ) (current : CurrentVersion) (keys : List Edek) (words' : ℕ → ℕ)
     → IsCurrent s name current → nat_lt 1000 count ≡ false → DrewKeys current words words' count keys
-    → Acts s words now (call.Generate name count) (Ready keys) s words'
+    → CallActs s words now (call.Generate name count) (Ready keys) s words'
 generates s words now name count current keys words' is few drew =
     let same : current.material ≡ current_material s name = sym (current_is s name current is) in
     enacted s words now (call.Generate name count) (Ready keys) s words' refl (may_generate (row_of s name) count is.stands few)
@@ -117,7 +111,7 @@ generates s words now name count current keys words' is few drew =
 
 pub generates_none : (s : KmsState) (words : ℕ → ℕ) (now : ℕ) (name : List ℕ) (count : ℕ) (current : CurrentVersion) (words' : ℕ → ℕ)
     → IsCurrent s name current → nat_lt 1000 count ≡ false → DrewSome current words words' count
-    → Acts s words now (call.Generate name count) (Refused NoMemory) s words'
+    → CallActs s words now (call.Generate name count) (Refused NoMemory) s words'
 generates_none s words now name count current words' is few drew =
     let same : current.material ≡ current_material s name = sym (current_is s name current is) in
     wanting s words now (call.Generate name count) words' drew.drawn refl (may_generate (row_of s name) count is.stands few)
@@ -125,11 +119,11 @@ generates_none s words now name count current words' is few drew =
 
 -- a call that only answers
 pub answers : (s : KmsState) (words : ℕ → ℕ) (now : ℕ) (c : KmsCall) (answer told : KmsReply)
-    → deed s words now c ≡ only_answer s answer → Answers s c answer told → Acts s words now c told s words
+    → deed s words now c ≡ only_answer s answer → Answers s c answer told → CallActs s words now c told s words
 answers s words now c answer told deed_is says = by_cause (first_cause (causes s c)) refl says
   where
     by_cause : (cause : Option KmsRefusal) → first_cause (causes s c) ≡ cause
-        → MatchOption cause ((told ≡ answer) ⊎ ((takes_memory c ≡ true) × (told ≡ Refused NoMemory))) (λ why. told ≡ Refused why) → Acts s words now c told s words
+        → MatchOption cause ((told ≡ answer) ⊎ ((takes_memory c ≡ true) × (told ≡ Refused NoMemory))) (λ why. told ≡ Refused why) → CallActs s words now c told s words
     by_cause (Some why) stands is = refuses s words now c why told s words stands is refl (λ k. refl)
     by_cause None none (inl is) = record {
       drawn = 0;
@@ -141,13 +135,6 @@ answers s words now c answer told deed_is says = by_cause (first_cause (causes s
       acts = (NoRoom 0, (wanting.0, none, omega arith), λ i. record { told = wanting.1 i; drawn = 0; state = s });
       rest = λ k. ap words (omega arith);
     }
-
--- a key that stands is deleted, or memory is wanting
-pub deletes : (s : KmsState) (words : ℕ → ℕ) (now : ℕ) (name : List ℕ) (key : Standing) (told : KmsReply) (s' : KmsState) → StandsSo s name key
-    → Enacts s (deleted s key.birth) told s' → Acts s words now (call.Delete name) told s' words
-deletes s words now name key told s' so done =
-    enacted s words now (call.Delete name) told s' words refl (ap (λ b. cond b (Some NoSuchKey) None) so.stands)
-    (subst (λ (b : ℕ). Enacts s (deleted s b) told s') so.birth done) (λ k. ap words (omega arith))
 
 pub stands_born : (s : KmsState) (name : List ℕ) (key : Standing) → StandsSo s name key → is_some (find_birth s.table.rows key.birth) ≡ true
 stands_born s name key so = ap is_some so.found ∙ some (row_of s name) so.stands

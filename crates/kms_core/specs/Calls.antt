@@ -297,7 +297,7 @@ abbrev pub KmsActs : KmsState → (ℕ → ℕ) → ℕ → KmsCall → KmsReply
 KmsActs s words now c told drawn s' = (e : Ending) × MayEnd s words now c e × (record { told = told; drawn = drawn; state = s' } ≡ outcome s words now c e)
 
 -- the same with the words that are to come afterwards
-pub record Acts (s : KmsState) (words : ℕ → ℕ) (now : ℕ) (c : KmsCall) (told : KmsReply) (s' : KmsState) (words' : ℕ → ℕ) : Type 0 where
+pub record CallActs (s : KmsState) (words : ℕ → ℕ) (now : ℕ) (c : KmsCall) (told : KmsReply) (s' : KmsState) (words' : ℕ → ℕ) : Type 0 where
   pub drawn : ℕ
   pub acts : KmsActs s words now c told drawn s'
   pub rest : (k : ℕ) → words' k ≡ words (drawn + k)

@@ -1,5 +1,6 @@
 -- What follows for data encryption keys that are generated, decrypted and encrypted again, and for births.
-use Rattle.std.specs.Prelude.{◌≡◌, ℕ, ◌+◌, ◌<◌, ◌≤◌, List, length, true, None, Some, is_none, slice_get}
+use Rattle.std.specs.Prelude.{◌≡◌, ℕ, ◌+◌, ◌<◌, ◌≤◌, Bool, List, length, true, None, Some, is_none, slice_get}
+use Rattle.hk_base.specs.Faults.{Rose}
 use Rattle.hk_base.specs.declared.names.Dek.{Dek}
 use Rattle.hk_base.specs.declared.names.Edek.{Edek}
 use Rattle.hk_base.specs.declared.names.KeyName.{KeyName}
@@ -9,18 +10,20 @@ use Rattle.key_rows.specs.declared.calls.KmsCall.TheVariants as call
 use Rattle.key_rows.specs.declared.calls.KmsReply.{KmsReply}
 use Rattle.key_rows.specs.declared.calls.KmsReply.TheVariants as reply
 use Rattle.key_rows.specs.declared.calls.RawEdek.{RawEdek}
-use Rattle.key_rows.specs.Table.{find_birth}
+use Rattle.key_rows.specs.Table.{Table, find_birth}
 use Rattle.key_rows.specs.Sound.{IsTable}
 use Rattle.kms_core.specs.Draws.{drawn_dek, drawn_edek, place_of_draw, words_of_draw}
 use Rattle.kms_core.specs.Opening.{unseals}
-use Rattle.kms_core.specs.State.{KmsState, first_state, next_birth}
-use Rattle.kms_core.specs.Calls.{Acts, birth_of, current_version, first_cause, sent_causes, row_of, edek_of, current_material}
+use Rattle.key_rows.specs.declared.rows.KeyCommand.{KeyCommand}
+use Rattle.kms_core.specs.State.{IsService, KmsState, ServiceState, opened, settled}
+use Rattle.kms_core.specs.Service.{Serves}
+use Rattle.kms_core.specs.Calls.{CallActs, birth_of, current_version, first_cause, sent_causes, row_of, edek_of, current_material}
 
 -- what is sent without a cause of a refusal is always opened, and nothing else is answered
 abbrev pub DecryptOpens : Type 0
 DecryptOpens =
     (s : KmsState) (words : ℕ → ℕ) (now : ℕ) (name : KeyName) (sent : RawEdek) (told : KmsReply) (s' : KmsState) (words' : ℕ → ℕ)
-    → first_cause (sent_causes (row_of s name) name sent) ≡ None → Acts s words now (call.Decrypt name sent) told s' words'
+    → first_cause (sent_causes (row_of s name) name sent) ≡ None → CallActs s words now (call.Decrypt name sent) told s' words'
     → (key : Dek) × (unseals s.table.rows (edek_of sent) ≡ Some key) × (told ≡ reply.Key key)
 
 -- the data key of the draw of this number in a generate
@@ -33,7 +36,7 @@ dek_of_draw s words name number =
 abbrev pub GeneratedOpens : Type 0
 GeneratedOpens =
     (s : KmsState) (words : ℕ → ℕ) (now : ℕ) (name : KeyName) (count : ℕ) (keys : List Edek) (s' : KmsState) (words' : ℕ → ℕ)
-    → IsTable s.table → Acts s words now (call.Generate name count) (reply.Ready keys) s' words'
+    → IsTable s.table → CallActs s words now (call.Generate name count) (reply.Ready keys) s' words'
     → (number : ℕ) (key : Edek) → slice_get keys number ≡ Some key → unseals s'.table.rows key ≡ Some (dek_of_draw s words name number)
 
 -- the encrypted key as it is sent back
@@ -44,10 +47,10 @@ sent_of key = record { version = key.version; iv = key.iv; sealed = key.sealed }
 abbrev pub GeneratedDecrypts : Type 0
 GeneratedDecrypts =
     (s : KmsState) (words : ℕ → ℕ) (now : ℕ) (name : KeyName) (count : ℕ) (keys : List Edek) (s' : KmsState) (words' : ℕ → ℕ)
-    → IsTable s.table → Acts s words now (call.Generate name count) (reply.Ready keys) s' words'
+    → IsTable s.table → CallActs s words now (call.Generate name count) (reply.Ready keys) s' words'
     → (number : ℕ) (key : Edek) → slice_get keys number ≡ Some key
     → (later : ℕ → ℕ) (then : ℕ) (told : KmsReply) (s'' : KmsState) (later' : ℕ → ℕ)
-    → Acts s' later then (call.Decrypt name (sent_of key)) told s'' later' → told ≡ reply.Key (dek_of_draw s words name number)
+    → CallActs s' later then (call.Decrypt name (sent_of key)) told s'' later' → told ≡ reply.Key (dek_of_draw s words name number)
 
 -- What is sent and what is answered for it open to one data encryption key, with one initialization vector, and what is
 -- answered is on the current version.
@@ -62,39 +65,38 @@ pub record SameKey (s : KmsState) (name : KeyName) (sent : RawEdek) (s' : KmsSta
 abbrev pub ReencryptedOpens : Type 0
 ReencryptedOpens =
     (s : KmsState) (words : ℕ → ℕ) (now : ℕ) (name : KeyName) (sent : RawEdek) (key : Edek) (s' : KmsState) (words' : ℕ → ℕ)
-    → IsTable s.table → Acts s words now (call.Reencrypt name sent) (reply.Resealed key) s' words' → SameKey s name sent s' key
+    → IsTable s.table → CallActs s words now (call.Reencrypt name sent) (reply.Resealed key) s' words' → SameKey s name sent s' key
 
 -- and so does each key of a batch; as many are answered as were sent
 abbrev pub BatchOpens : Type 0
 BatchOpens =
     (s : KmsState) (words : ℕ → ℕ) (now : ℕ) (name : KeyName) (sent : List RawEdek) (keys : List Edek) (s' : KmsState) (words' : ℕ → ℕ)
-    → IsTable s.table → Acts s words now (call.Batch name sent) (reply.Ready keys) s' words'
+    → IsTable s.table → CallActs s words now (call.Batch name sent) (reply.Ready keys) s' words'
     → (length keys ≡ length sent)
     × ((place : ℕ) (one : RawEdek) (key : Edek) → slice_get sent place ≡ Some one → slice_get keys place ≡ Some key → SameKey s name one s' key)
 
--- no key has the birth, and it is below the next one
-pub record Gone (s : KmsState) (birth : ℕ) : Type 0 where
-  pub below : birth < next_birth s
-  pub absent : is_none (find_birth s.table.rows birth) ≡ true
+-- a birth that was used, and that no key has
+pub record Gone (t : Table) (birth : ℕ) : Type 0 where
+  pub used : birth ≤ t.greatest
+  pub absent : is_none (find_birth t.rows birth) ≡ true
 
 -- no call gives such a birth to a key
 abbrev pub GoneStays : Type 0
 GoneStays =
-    (s : KmsState) (words : ℕ → ℕ) (now : ℕ) (c : KmsCall) (told : KmsReply) (s' : KmsState) (words' : ℕ → ℕ)
-    → Acts s words now c told s' words' → (birth : ℕ) → Gone s birth → Gone s' birth
+    (s : ServiceState) (words : ℕ → ℕ) (now : ℕ) (c : KmsCall) (before later : ℕ) (told : KmsReply) (drawn : ℕ) (logged : List KeyCommand) (s' : ServiceState)
+    → IsService s → Serves s words now c (Rose before later) told drawn logged s' → (birth : ℕ) → Gone s.keys.table birth → Gone s'.keys.table birth
+
+-- nor does a start, whether it finds the pending command or not
+abbrev pub GoneStaysAtStart : Type 0
+GoneStaysAtStart =
+    (s : ServiceState) (kept : Bool) → IsService s → (birth : ℕ) → Gone s.keys.table birth → Gone (opened (settled kept s).table).keys.table birth
 
 -- the birth of a deleted key is such a one
 abbrev pub DeletedIsGone : Type 0
 DeletedIsGone =
-    (s : KmsState) (words : ℕ → ℕ) (now : ℕ) (name : KeyName) (s' : KmsState) (words' : ℕ → ℕ)
-    → IsTable s.table → s.table.greatest < next_birth s → Acts s words now (call.Delete name) reply.Done s' words' → Gone s' (birth_of (row_of s name))
-
--- each birth that was used is below the next one: in the first state, and after a call where it is so before it
-abbrev pub BirthsBelow : Type 0
-BirthsBelow =
-    (first_state.table.greatest < next_birth first_state)
-    × ((s : KmsState) (words : ℕ → ℕ) (now : ℕ) (c : KmsCall) (told : KmsReply) (s' : KmsState) (words' : ℕ → ℕ)
-    → Acts s words now c told s' words' → s.table.greatest < next_birth s → s'.table.greatest < next_birth s')
+    (s : ServiceState) (words : ℕ → ℕ) (now : ℕ) (name : KeyName) (before later : ℕ) (drawn : ℕ) (logged : List KeyCommand) (s' : ServiceState)
+    → IsService s → Serves s words now (call.Delete name) (Rose before later) reply.Done drawn logged s'
+    → (kept : Bool) × Gone s'.keys.table (birth_of (row_of (settled kept s) name))
 
 -- these many words from the place on are the same in both streams
 abbrev pub SameWords : (ℕ → ℕ) → (ℕ → ℕ) → ℕ → ℕ → Type 0

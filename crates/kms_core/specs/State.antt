@@ -1,6 +1,9 @@
 -- The key management service in an opening.
-use Rattle.std.specs.Prelude.{ℕ, ◌+◌, ◌*◌, ◌^◌, Bool, nat_le}
-use Rattle.key_rows.specs.Table.{Table, no_keys}
+use Rattle.std.specs.Prelude.{◌≡◌, ℕ, ◌+◌, ◌*◌, ◌^◌, ◌<◌, Bool, true, nat_le, Option, None, IfSome}
+use Rattle.key_rows.specs.declared.rows.KeyCommand.{KeyCommand}
+use Rattle.key_rows.specs.Sound.{IsTable}
+use Rattle.key_rows.specs.Table.{Table, after, applies}
+use Rattle.kms_store.specs.Store.{StoreState, next_opening, settled_table}
 
 -- the keys, and the counter of the next birth
 pub record KmsState : Type 0 where
@@ -15,6 +18,39 @@ next_birth s = s.table.opening * 2 ^ 32 + s.next
 abbrev pub is_spent : KmsState → Bool
 is_spent s = nat_le (2 ^ 32) s.next
 
--- a service without keys in its first opening
-abbrev pub first_state : KmsState
-first_state = record { table = record no_keys { opening = 1 }; next = 1 }
+-- the service over a disk: its keys, and the command of which the disk may or may not hold the record
+pub record ServiceState : Type 0 where
+  pub keys : KmsState
+  pub pending : Option KeyCommand
+
+-- the keys once the pending command was settled: it was kept, or not
+abbrev pub settled : Bool → ServiceState → KmsState
+settled kept s = record s.keys { table = settled_table kept s.pending s.keys.table }
+
+-- behind a start that found this table: in the opening that follows, with nothing pending
+abbrev pub opened : Table → ServiceState
+opened t = record { keys = record { table = after t (next_opening t); next = 1 }; pending = None }
+
+-- a command that may be pending beside these keys: it applies in this opening, and the birth of a key that it would make is taken
+pub record IsPending (s : KmsState) (command : KeyCommand) : Type 0 where
+  pub fits : applies s.table command ≡ true
+  pub same_opening : (after s.table command).opening ≡ s.table.opening
+  pub births : (after s.table command).greatest < next_birth s
+
+-- What every service keeps: births in use lie below the next one.
+pub record IsService (s : ServiceState) : Type 0 where
+  pub table : IsTable s.keys.table
+  pub births : s.keys.table.greatest < next_birth s.keys
+  pub waits : IfSome s.pending (IsPending s.keys)
+
+-- A service that runs: its store, and the counter of the next birth.
+pub record Running : Type 0 where
+  pub store : StoreState
+  pub next : ℕ
+
+abbrev pub keys_of : Running → KmsState
+keys_of r = record { table = r.store.table.keys; next = r.next }
+
+-- what a running service is, whatever its disk
+abbrev pub service_of : Running → ServiceState
+service_of r = record { keys = keys_of r; pending = r.store.pending }

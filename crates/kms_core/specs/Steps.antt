@@ -1,5 +1,5 @@
 -- The steps of a call that the service takes one after another.
-use Rattle.std.specs.Prelude.{◌≡◌, ◌≤◌, ℕ, ◌+◌, ◌-◌, ◌/◌, ◌⊎◌, true, false, is_none, List, [], None, Some, length, map, slice_get, unwrap_or, bytes_eq, MatchOption, if◌then◌else◌}
+use Rattle.std.specs.Prelude.{◌≡◌, ◌≤◌, ℕ, Bool, ◌+◌, ◌-◌, ◌/◌, ◌⊎◌, true, false, is_none, is_some, List, [], None, Some, length, map, slice_get, unwrap_or, bytes_eq, MatchOption, if◌then◌else◌}
 use Rattle.hk_base.specs.declared.names.KeyName.{KeyName}
 use Rattle.hk_base.specs.declared.names.Dek.{Dek}
 use Rattle.hk_base.specs.declared.names.Edek.{Edek}
@@ -11,8 +11,13 @@ use Rattle.key_rows.specs.declared.calls.KmsCall.{KmsCall}
 use Rattle.key_rows.specs.declared.calls.KmsReply.{KmsReply}
 use Rattle.key_rows.specs.declared.calls.KmsReply.TheVariants.{Refused}
 use Rattle.key_rows.specs.declared.calls.KmsRefusal.{KmsRefusal}
-use Rattle.key_rows.specs.declared.calls.KmsRefusal.TheVariants.{NoMemory}
-use Rattle.kms_core.specs.State.{KmsState}
+use Rattle.key_rows.specs.declared.calls.KmsRefusal.TheVariants.{NoMemory, StoreFault}
+use Rattle.key_rows.specs.declared.rows.KeyCommand.{KeyCommand}
+use Rattle.hk_base.specs.Disk.{DiskState}
+use Rattle.hk_base.specs.Faults.{Rose}
+use Rattle.kms_store.specs.Store.{IsLeftOf, settled_commands}
+use Rattle.kms_core.specs.State.{KmsState, Running, ServiceState, keys_of, service_of, settled}
+use Rattle.kms_core.specs.Service.{Changes, IsGrowing, Logs, listed}
 use Rattle.kms_core.specs.Calls.{Deed, done_with, causes, takes_memory, birth_of, bits_of, versions_of, row_of, current_version, first_cause, sent_causes, batch_causes, is_malformed, edek_of, same_version}
 use Rattle.kms_core.specs.Draws.{drawn_edeks, place_of_draw}
 use Rattle.kms_core.specs.declared.drawing.CurrentVersion.{CurrentVersion}
@@ -114,3 +119,39 @@ pub record ResealsAll (row : KeyRow) (sent : List RawEdek) (keys : List Edek) : 
 -- they are refused for a cause, or memory is wanting where there is none
 abbrev pub RefusesBatch : KeyRow → List RawEdek → KmsRefusal → Type 0
 RefusesBatch row sent why = MatchOption (first_cause (batch_causes (Some row) row.name sent)) (why ≡ NoMemory) (λ cause. cause ≡ why)
+
+-- Calls over a disk.
+
+-- A deed beside which nothing was pending: it was written and done; or memory is wanting, and nothing changes; or the disk failed
+-- when its command was written, which is then pending.
+abbrev pub EndsSo : KmsState → Deed → Type 0 → KmsReply → List KeyCommand → ServiceState → Type 0
+EndsSo s d fault told logged s' =
+    ((told ≡ d.answer) × (logged ≡ listed d.logs) × (s' ≡ record { keys = done_with d.logs d.state; pending = None }))
+    ⊎ ((told ≡ Refused NoMemory) × (logged ≡ []) × (s' ≡ record { keys = s; pending = None }))
+    ⊎ (fault × (told ≡ Refused StoreFault) × (logged ≡ []) × (s' ≡ record { keys = d.state; pending = d.logs }))
+
+pub record Commits (old new : DiskState) (r : Running) (d : Deed) (told : KmsReply) (r' : Running) : Type 0 where
+  pub logged : List KeyCommand
+  pub ends : EndsSo (keys_of r) d (Rose old.faults new.faults) told logged (service_of r')
+  pub disk : Logs old new r.store r'.store (IsGrowing r.store.table.keys) logged
+
+-- the pending command was settled, and was kept or not
+pub record Settling (old new : DiskState) (r r' : Running) : Type 0 where
+  pub kept : Bool
+  pub service : service_of r' ≡ record { keys = settled kept (service_of r); pending = None }
+  pub disk : Logs old new r.store r'.store (IsLeftOf r.store.table.keys r.store.pending) (settled_commands kept r.store.pending)
+
+-- the disk failed, and the command is still pending
+pub record IsUnsettled (old new : DiskState) (r r' : Running) : Type 0 where
+  pub waits : is_some r.store.pending ≡ true
+  pub failed : Rose old.faults new.faults
+  pub same : r' ≡ r
+  pub disk : Logs old new r.store r'.store (IsLeftOf r.store.table.keys r.store.pending) []
+
+-- a change of keys while nothing is pending
+pub record ActsSettled (old new : DiskState) (r : Running) (words : ℕ → ℕ) (now : ℕ) (c : KmsCall) (told : KmsReply) (r' : Running) (words' : ℕ → ℕ) : Type 0 where
+  pub drawn : ℕ
+  pub logged : List KeyCommand
+  pub changes : Changes (keys_of r) [] words now c (Rose old.faults new.faults) told drawn logged (service_of r')
+  pub rest : Drew words words' drawn
+  pub disk : Logs old new r.store r'.store (IsGrowing r.store.table.keys) logged

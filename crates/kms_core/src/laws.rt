@@ -1,6 +1,6 @@
 //! What follows for data encryption keys that are generated, decrypted and encrypted again, and for
 //! births. The functions do nothing: their contracts are the laws.
-ghost use Rattle.kms_core.specs.Laws.{BatchOpens, BirthsBelow, DecryptOpens, DeletedIsGone, DrawsApart, DrawsReadTheirOwn, GeneratedDecrypts, GeneratedOpens, GoneStays, ReencryptedOpens};
+ghost use Rattle.kms_core.specs.Laws.{BatchOpens, DecryptOpens, DeletedIsGone, DrawsApart, DrawsReadTheirOwn, GeneratedDecrypts, GeneratedOpens, GoneStays, GoneStaysAtStart, ReencryptedOpens};
 
 /// What is sent to decrypt without a cause of a refusal is opened under its version, and the answer
 /// is the key that it opens to.
@@ -28,10 +28,10 @@ pub fn draws_use_different_words()
     ensures apart { DrawsApart }
 {}
 
-/// The birth of a deleted key is below the next one, and no call gives a birth below the next one,
-/// which no key has, to a key.
+/// The birth of a deleted key was used, and no key has it. No call gives such a birth to a key, and
+/// no start does.
 pub fn births_never_come_again()
     ensures stays { GoneStays }
+    ensures at_start { GoneStaysAtStart }
     ensures deleted { DeletedIsGone }
-    ensures below { BirthsBelow }
 {}

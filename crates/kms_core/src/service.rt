@@ -1,23 +1,30 @@
 //! The service and its calls.
-ghost use Rattle.std.specs.Prelude.{◌≡◌, ◌*◌, ◌/◌, ◌≤◌, ◌<◌, ◌^◌, ◌+◌, ℕ, true, false, IfOk, IfSome, IsTrue, MatchBool, MatchOption, MatchResult, None, Some, find, is_none, is_some, length, map};
+ghost use Rattle.std.specs.Prelude.{◌≡◌, ◌*◌, ◌/◌, ◌≤◌, ◌<◌, ◌^◌, ◌+◌, ◌⊎◌, ℕ, List, true, false, IfOk, IfSome, IsErrOf, IsTrue, MatchBool, MatchOption, MatchResult, None, Some, find, is_none, is_some, length, map};
 ghost use Rattle.std.specs.List.{list_any};
 ghost use Rattle.std.specs.Option.{option_copied};
-ghost use Rattle.key_rows.specs.Sound.{IsRow, IsTable};
-ghost use Rattle.key_rows.specs.declared.rows.KeyCommand.TheVariants as command;
-ghost use Rattle.key_rows.specs.Table.{find_birth, is_length, material_of};
-ghost use Rattle.kms_core.specs.State.{first_state, next_birth};
-ghost use Rattle.kms_core.specs.Calls.{Acts, all_versions, create_causes, created, current_material, current_version, deleted, first_cause, is_absent, is_full, is_misfit, meta_of, metas_of, opened, resealed, rolled, row_of, shown};
+ghost use Rattle.hk_base.specs.Disk.{LeavesOnly, RunOn, Tells};
+ghost use Rattle.hk_base.specs.Faults.{Rose};
+ghost use Rattle.frame_log.specs.declared.fault.StartFault.TheVariants as start;
+ghost use Rattle.key_rows.specs.Sound.{IsRow};
+ghost use Rattle.key_rows.specs.declared.rows.KeyCommand.{KeyCommand};
+ghost use Rattle.key_rows.specs.Table.{Table, find_birth, is_length, material_of};
+ghost use Rattle.kms_store.specs.Store.{IsDamagedAt, IsKeyLog, IsLeftByStart, StandsFor};
+ghost use Rattle.kms_core.specs.State.{IsService, keys_of, service_of};
+ghost use Rattle.kms_core.specs.Calls.{CallActs, all_versions, create_causes, created, current_material, current_version, deleted, first_cause, is_absent, is_full, is_misfit, meta_of, metas_of, opened, resealed, rolled, row_of, shown};
 ghost use Rattle.kms_core.specs.Order.{names_in_order};
-ghost use Rattle.kms_core.specs.Steps.{Answers, Enacts, IsCurrent, StandsSo};
+ghost use Rattle.kms_core.specs.Service.{Acts, Starts};
+ghost use Rattle.kms_core.specs.Steps.{ActsSettled, Answers, Commits, IsCurrent, StandsSo, Settling, IsUnsettled};
 
 use crate::drawing::{CurrentVersion, draw_edeks, material_for};
 use crate::sent::{MOST_ASKED, newest, open, reseal, reseal_all};
 use crate::told::{meta, versions};
-use hk_base::{ByteList, Dek, KeyName, NoMemory, Text, VersionName, Words};
+use frame_log::{StartFault, StoreRefusal};
+use hk_base::{ByteList, Dek, Disk, KeyName, NoMemory, Text, VersionName, Words};
 use key_rows::{
-    Description, KeyCommand, KeyMeta, KeyRow, KeyTable, KmsCall, KmsRefusal, KmsReply, MetaList,
-    NameList, RawEdek, RawEdekList,
+    Description, KeyCommand, KeyMeta, KeyRow, KmsCall, KmsRefusal, KmsReply, MetaList, NameList,
+    RawEdek, RawEdekList,
 };
+use kms_store::Store;
 use std::alloc::Global;
 use std::marker::Model;
 
@@ -38,24 +45,28 @@ struct Standing {
     versions: u16,
 }
 
-/// The key management service in an opening. Contracts see the table of keys and the counter of the
-/// next birth.
+/// The key management service in an opening, over the key log on file 0 of a disk. Contracts see its
+/// store and the counter of the next birth; what a call means is said of its keys and its pending
+/// command.
+///
+/// Each call that takes a disk is to be given the disk that the service was started on.
 #[derive(Drop)]
 pub struct Kms {
     alloc: Global,
-    table: KeyTable,
+    store: Store,
     next: u64,
 }
 
 impl Model for Kms {
-    ghost use Rattle.std.specs.Prelude.{◌+◌, ◌*◌, ◌^◌, ◌<◌, ◌≤◌};
-    ghost use Rattle.kms_core.specs.State.{KmsState};
+    ghost use Rattle.std.specs.Prelude.{◌≡◌, ◌+◌, ◌*◌, ◌^◌, ◌<◌, ◌≤◌, IfSome};
+    ghost use Rattle.key_rows.specs.Table.{after};
+    ghost use Rattle.kms_core.specs.State.{Running};
 
-    ghost Value = { KmsState };
+    ghost Value = { Running };
 
-    ghost view = { λ a. record { table = a.table.keys; next = a.next } };
+    ghost view = { λ a. record { store = a.store; next = a.next } };
 
-    ghost invariant = { λ a. (0 < a.table.keys.opening) × (a.table.keys.opening < 2 ^ 32) × (a.table.keys.greatest < a.table.keys.opening * 2 ^ 32 + a.next) × (a.next ≤ 2 ^ 32) };
+    ghost invariant = { λ a. (0 < a.store.table.keys.opening) × (a.store.table.keys.opening < 2 ^ 32) × (a.store.table.keys.greatest < a.store.table.keys.opening * 2 ^ 32 + a.next) × (a.next ≤ 2 ^ 32) × IfSome a.store.pending (λ command. ((after a.store.table.keys command).opening ≡ a.store.table.keys.opening) × ((after a.store.table.keys command).greatest < a.store.table.keys.opening * 2 ^ 32 + a.next)) };
 }
 
 fn is_length(bits: u64) -> bool
@@ -74,41 +85,71 @@ fn is_misfit(bits: u64, material: &Option<ByteList>) -> bool
 }
 
 impl Kms {
-    /// A service without keys, in its first opening.
-    pub fn new(alloc: Global) -> Result<Kms, NoMemory>
-        ensures { IfOk result (λ kms. kms ≡ first_state) }
+    /// Opens the key log on file 0 of a disk, makes the table of its commands, and records a new
+    /// opening behind them. It may be stopped at any moment, and started again.
+    ///
+    /// `Damaged` comes exactly where the file is no log, or a record is no command or doesn't apply,
+    /// with the offset of its gate. `Spent` comes exactly where opening 4,294,967,295 is recorded.
+    pub fn start<D: Disk>(alloc: Global, disk: &mut D) -> Result<Kms, StartFault>
+        ensures started { IfOk result (Starts (D.state disk.old) (D.state disk.new)) }
+        ensures damaged { (at : ℕ) → IsErrOf result (start.Damaged at) → Tells (D.state disk.old) → IsDamagedAt ((D.state disk.old).reads 0) at }
+        ensures spent { IsErrOf result start.Spent → Tells (D.state disk.old) → ((commands : List KeyCommand) × (table : Table)
+            × IsKeyLog ((D.state disk.old).reads 0) commands table × (table.opening ≡ 4294967295)) }
+
+        // A crash at any moment leaves what it might have left before, or the log found, now or with its end
+        // gate read as 1, or its commands with the new opening or without it.
+        ensures any_moment { Tells (D.state disk.old) → LeavesOnly 0 (D.state disk.old) (D.state disk.new)
+            (λ c. (D.state disk.old).leaves 0 c ⊎ IsLeftByStart ((D.state disk.old).reads 0) c) }
+
+        ensures run { RunOn 0 (D.state disk.old) (D.state disk.new) }
+        ensures cause { IsErrOf result start.StoreFault → Rose (D.state disk.old).faults (D.state disk.new).faults }
     {
-        let mut table = KeyTable::new(alloc);
-        table.apply(KeyCommand::Opened { opening: 1 })?;
+        let store = Store::start(alloc, disk)?;
+        let _ = store.opening();
         Ok(Kms {
             alloc,
-            table,
+            store,
             next: 1,
         })
     }
 
     /// How many keys stand.
     pub fn count(&self) -> u32
-        ensures count { result ≡ length self.now.table.rows }
-        ensures rules { IsTable self.now.table }
-        // Births in use lie below the next one.
-        ensures births { self.now.table.greatest < next_birth self.now }
+        ensures count { result ≡ length self.now.store.table.keys.rows }
+        ensures rules { IsService (service_of self.now) }
+        // The log is that of file 0.
+        ensures file { self.now.store.log.file ≡ 0 }
     {
-        let _ = self.table.opening();
-        self.table.count()
+        let _ = self.store.opening();
+        let table = self.store.table();
+        let _ = table.opening();
+        table.count()
+    }
+
+    /// The number of this opening.
+    pub fn opening(&self) -> u32
+        ensures { result ≡ self.now.store.table.keys.opening }
+    {
+        self.store.opening()
     }
 
     /// Answers a call of a user. `now` is the moment, which a created key keeps. A refusal leaves
-    /// the keys as they were, and draws no word unless memory is wanting. Invalidate, Current,
-    /// Version, Decrypt and Reencrypt take no memory.
-    pub fn act<W: Words>(
+    /// the keys as they were, and draws no word unless memory is wanting or the disk fails.
+    ///
+    /// Create, Roll and Delete are written to the log before they take effect. They settle the
+    /// pending command first. Where the disk fails, StoreFault is answered: the command of the call is
+    /// then pending, or still the one before. Invalidate, Current, Version, Decrypt and Reencrypt take
+    /// no memory.
+    pub fn act<D: Disk, W: Words>(
         &mut self,
+        disk: &mut D,
         words: &mut W,
         now: u64,
         _user: &Text,
         call: KmsCall,
     ) -> KmsReply
-        ensures { Acts self.old (W.to_come words.old) now call result self.new (W.to_come words.new) }
+        requires stands { Tells (D.state disk.old) → ((commands : List KeyCommand) × StandsFor (D.state disk.old) self.old.store commands) }
+        ensures { Acts (D.state disk.old) (D.state disk.new) self.old (W.to_come words.old) now call result self.new (W.to_come words.new) }
     {
         match call {
             KmsCall::Create {
@@ -116,9 +157,9 @@ impl Kms {
                 bits,
                 material,
                 description,
-            } => self.create(words, now, name, bits, material, description),
-            KmsCall::Roll { name, material } => self.roll(words, now, name, material),
-            KmsCall::Delete { name } => self.delete(name),
+            } => self.create(disk, words, now, name, bits, material, description),
+            KmsCall::Roll { name, material } => self.roll(disk, words, now, name, material),
+            KmsCall::Delete { name } => self.delete(disk, name),
             KmsCall::Invalidate { name } => self.invalidate(name),
             KmsCall::Metadata { name } => self.metadata(name),
             KmsCall::Metadatas { names } => self.metadatas(names),
@@ -133,8 +174,19 @@ impl Kms {
         }
     }
 
-    fn create<W: Words>(
+    /// Settles the pending command, if there is one. Where the disk fails it is still pending.
+    fn settle<D: Disk>(&mut self, disk: &mut D) -> Result<(), StoreRefusal>
+        requires stands { Tells (D.state disk.old) → ((commands : List KeyCommand) × StandsFor (D.state disk.old) self.old.store commands) }
+        ensures { MatchResult result (λ _. Settling (D.state disk.old) (D.state disk.new) self.old self.new) (λ _. IsUnsettled (D.state disk.old) (D.state disk.new) self.old self.new) }
+    {
+        let _ = self.store.opening();
+        self.store.settle(disk)?;
+        Ok(())
+    }
+
+    fn create<D: Disk, W: Words>(
         &mut self,
+        disk: &mut D,
         words: &mut W,
         now: u64,
         name: KeyName,
@@ -142,13 +194,35 @@ impl Kms {
         material: Option<ByteList>,
         description: Description,
     ) -> KmsReply
-        ensures { Acts self.old (W.to_come words.old) now (KmsCall.Create name bits material description) result self.new (W.to_come words.new) }
+        requires stands { Tells (D.state disk.old) → ((commands : List KeyCommand) × StandsFor (D.state disk.old) self.old.store commands) }
+        ensures { Acts (D.state disk.old) (D.state disk.new) self.old (W.to_come words.old) now (KmsCall.Create name bits material description) result self.new (W.to_come words.new) }
+    {
+        match self.settle(disk) {
+            Err(_) => KmsReply::Refused(KmsRefusal::StoreFault),
+            Ok(()) => self.create_settled(disk, words, now, name, bits, material, description),
+        }
+    }
+
+    /// Creates a key while nothing is pending.
+    fn create_settled<D: Disk, W: Words>(
+        &mut self,
+        disk: &mut D,
+        words: &mut W,
+        now: u64,
+        name: KeyName,
+        bits: u64,
+        material: Option<ByteList>,
+        description: Description,
+    ) -> KmsReply
+        requires settled { self.old.store.pending ≡ None }
+        requires stands { Tells (D.state disk.old) → ((commands : List KeyCommand) × StandsFor (D.state disk.old) self.old.store commands) }
+        ensures { ActsSettled (D.state disk.old) (D.state disk.new) self.old (W.to_come words.old) now (KmsCall.Create name bits material description) result self.new (W.to_come words.new) }
     {
         if let Some(why) = self.create_refusal(&name, bits, &material) {
             return KmsReply::Refused(why);
         }
         let material = material_for(words, bits, material);
-        self.add(now, name, bits as u16, material, description)
+        self.add(disk, now, name, bits as u16, material, description)
     }
 
     fn create_refusal(
@@ -157,9 +231,9 @@ impl Kms {
         bits: u64,
         material: &Option<ByteList>,
     ) -> Option<KmsRefusal>
-        ensures { result ≡ first_cause (create_causes self.now name.now bits material.now) }
+        ensures { result ≡ first_cause (create_causes (keys_of self.now) name.now bits material.now) }
     {
-        if self.table.find(name).is_some() {
+        if self.key(name).is_some() {
             return Some(KmsRefusal::KeyExists);
         }
         if !is_length(bits) {
@@ -175,27 +249,30 @@ impl Kms {
     }
 
     fn is_full(&self) -> bool
-        ensures { result ≡ is_full self.now }
+        ensures { result ≡ is_full (keys_of self.now) }
     {
-        self.table.count() >= MOST_KEYS || self.next >= BIRTHS
+        self.store.table().count() >= MOST_KEYS || self.next >= BIRTHS
     }
 
-    /// Adds a key, all being checked.
-    fn add(
+    /// Adds a key, all being checked. Its birth is used also where the disk fails.
+    fn add<D: Disk>(
         &mut self,
+        disk: &mut D,
         now: u64,
         name: KeyName,
         bits: u16,
         material: Dek,
         description: Description,
     ) -> KmsReply
-        requires absent { is_some (row_of self.old name) ≡ false }
-        requires room { is_full self.old ≡ false }
+        requires absent { is_some (row_of (keys_of self.old) name) ≡ false }
+        requires room { is_full (keys_of self.old) ≡ false }
         requires bits { IsTrue (is_length bits) }
         requires length { length material ≡ bits / 8 }
-        ensures { Enacts self.old (created self.old now name bits description material 0) result self.new }
+        requires settled { self.old.store.pending ≡ None }
+        requires stands { Tells (D.state disk.old) → ((commands : List KeyCommand) × StandsFor (D.state disk.old) self.old.store commands) }
+        ensures { Commits (D.state disk.old) (D.state disk.new) self.old (created (keys_of self.old) now name bits description material 0) result self.new }
     {
-        let birth = self.table.opening() as u64 * BIRTHS + self.next;
+        let birth = self.store.opening() as u64 * BIRTHS + self.next;
         let command = KeyCommand::Create {
             birth,
             name,
@@ -204,21 +281,48 @@ impl Kms {
             created: now,
             material,
         };
-        if self.table.apply(command).is_err() {
-            return KmsReply::Refused(KmsRefusal::NoMemory);
+        match self.store.commit(self.alloc, disk, command) {
+            Err(StoreRefusal::NoMemory) => KmsReply::Refused(KmsRefusal::NoMemory),
+            Err(StoreRefusal::StoreFault) => {
+                self.next += 1;
+                KmsReply::Refused(KmsRefusal::StoreFault)
+            }
+            Ok(()) => {
+                self.next += 1;
+                shown(name, 0, material)
+            }
         }
-        self.next += 1;
-        shown(name, 0, material)
     }
 
-    fn roll<W: Words>(
+    fn roll<D: Disk, W: Words>(
         &mut self,
+        disk: &mut D,
         words: &mut W,
         now: u64,
         name: KeyName,
         material: Option<ByteList>,
     ) -> KmsReply
-        ensures { Acts self.old (W.to_come words.old) now (KmsCall.Roll name material) result self.new (W.to_come words.new) }
+        requires stands { Tells (D.state disk.old) → ((commands : List KeyCommand) × StandsFor (D.state disk.old) self.old.store commands) }
+        ensures { Acts (D.state disk.old) (D.state disk.new) self.old (W.to_come words.old) now (KmsCall.Roll name material) result self.new (W.to_come words.new) }
+    {
+        match self.settle(disk) {
+            Err(_) => KmsReply::Refused(KmsRefusal::StoreFault),
+            Ok(()) => self.roll_settled(disk, words, now, name, material),
+        }
+    }
+
+    /// Rolls a key over while nothing is pending.
+    fn roll_settled<D: Disk, W: Words>(
+        &mut self,
+        disk: &mut D,
+        words: &mut W,
+        now: u64,
+        name: KeyName,
+        material: Option<ByteList>,
+    ) -> KmsReply
+        requires settled { self.old.store.pending ≡ None }
+        requires stands { Tells (D.state disk.old) → ((commands : List KeyCommand) × StandsFor (D.state disk.old) self.old.store commands) }
+        ensures { ActsSettled (D.state disk.old) (D.state disk.new) self.old (W.to_come words.old) now (KmsCall.Roll name material) result self.new (W.to_come words.new) }
     {
         let Some(key) = self.standing(&name) else {
             return KmsReply::Refused(KmsRefusal::NoSuchKey);
@@ -230,15 +334,15 @@ impl Kms {
             return KmsReply::Refused(KmsRefusal::TooManyVersions);
         }
         let material = material_for(words, key.bits as u64, material);
-        self.add_version(name, key, material)
+        self.add_version(disk, name, key, material)
     }
 
     /// What a change needs to know of a key, or `None` where the key is absent.
     fn standing(&self, name: &KeyName) -> Option<Standing>
-        ensures known { MatchOption result (is_none (row_of self.now name.now) ≡ true) (StandsSo self.now name.now) }
+        ensures known { MatchOption result (is_none (row_of (keys_of self.now) name.now) ≡ true) (StandsSo (keys_of self.now) name.now) }
         ensures length { IfSome result (λ key. IsTrue (is_length key.bits)) }
     {
-        let row = self.table.find(name)?;
+        let row = self.store.table().find(name)?;
         Some(Standing {
             birth: row.birth,
             bits: row.bits,
@@ -247,54 +351,79 @@ impl Kms {
     }
 
     /// Adds the next version of a key, all being checked.
-    fn add_version(&mut self, name: KeyName, key: Standing, material: Dek) -> KmsReply
-        requires key { StandsSo self.old name key }
+    fn add_version<D: Disk>(
+        &mut self,
+        disk: &mut D,
+        name: KeyName,
+        key: Standing,
+        material: Dek,
+    ) -> KmsReply
+        requires key { StandsSo (keys_of self.old) name key }
         requires room { key.versions < 65535 }
         requires length { length material ≡ key.bits / 8 }
-        ensures { Enacts self.old (rolled self.old name (row_of self.old name) material 0) result self.new }
+        requires settled { self.old.store.pending ≡ None }
+        requires stands { Tells (D.state disk.old) → ((commands : List KeyCommand) × StandsFor (D.state disk.old) self.old.store commands) }
+        ensures { Commits (D.state disk.old) (D.state disk.new) self.old (rolled (keys_of self.old) name (row_of (keys_of self.old) name) material 0) result self.new }
     {
         let command = KeyCommand::Roll {
             birth: key.birth,
             number: key.versions,
             material,
         };
-        if self.table.apply(command).is_err() {
-            return KmsReply::Refused(KmsRefusal::NoMemory);
+        match self.store.commit(self.alloc, disk, command) {
+            Err(StoreRefusal::NoMemory) => KmsReply::Refused(KmsRefusal::NoMemory),
+            Err(StoreRefusal::StoreFault) => KmsReply::Refused(KmsRefusal::StoreFault),
+            Ok(()) => shown(name, key.versions, material),
         }
-        shown(name, key.versions, material)
     }
 
-    fn delete(&mut self, name: KeyName) -> KmsReply
-        ensures { (words : ℕ → ℕ) (now : ℕ) → Acts self.old words now (KmsCall.Delete name) result self.new words }
+    fn delete<D: Disk>(&mut self, disk: &mut D, name: KeyName) -> KmsReply
+        requires stands { Tells (D.state disk.old) → ((commands : List KeyCommand) × StandsFor (D.state disk.old) self.old.store commands) }
+        ensures { (words : ℕ → ℕ) (now : ℕ) → Acts (D.state disk.old) (D.state disk.new) self.old words now (KmsCall.Delete name) result self.new words }
+    {
+        match self.settle(disk) {
+            Err(_) => KmsReply::Refused(KmsRefusal::StoreFault),
+            Ok(()) => self.delete_settled(disk, name),
+        }
+    }
+
+    /// Deletes a key while nothing is pending.
+    fn delete_settled<D: Disk>(&mut self, disk: &mut D, name: KeyName) -> KmsReply
+        requires settled { self.old.store.pending ≡ None }
+        requires stands { Tells (D.state disk.old) → ((commands : List KeyCommand) × StandsFor (D.state disk.old) self.old.store commands) }
+        ensures { (words : ℕ → ℕ) (now : ℕ) → ActsSettled (D.state disk.old) (D.state disk.new) self.old words now (KmsCall.Delete name) result self.new words }
     {
         let Some(key) = self.standing(&name) else {
             return KmsReply::Refused(KmsRefusal::NoSuchKey);
         };
-        self.remove(key.birth)
+        self.remove(disk, key.birth)
     }
 
     /// Deletes the key of a birth, which stands.
-    fn remove(&mut self, birth: u64) -> KmsReply
-        requires { is_some (find_birth self.old.table.rows birth) ≡ true }
-        ensures { Enacts self.old (deleted self.old birth) result self.new }
+    fn remove<D: Disk>(&mut self, disk: &mut D, birth: u64) -> KmsReply
+        requires born { is_some (find_birth self.old.store.table.keys.rows birth) ≡ true }
+        requires settled { self.old.store.pending ≡ None }
+        requires stands { Tells (D.state disk.old) → ((commands : List KeyCommand) × StandsFor (D.state disk.old) self.old.store commands) }
+        ensures { Commits (D.state disk.old) (D.state disk.new) self.old (deleted (keys_of self.old) birth) result self.new }
     {
         let command = KeyCommand::Delete { birth };
-        if self.table.apply(command).is_err() {
-            return KmsReply::Refused(KmsRefusal::NoMemory);
+        match self.store.commit(self.alloc, disk, command) {
+            Err(StoreRefusal::NoMemory) => KmsReply::Refused(KmsRefusal::NoMemory),
+            Err(StoreRefusal::StoreFault) => KmsReply::Refused(KmsRefusal::StoreFault),
+            Ok(()) => KmsReply::Done,
         }
-        KmsReply::Done
     }
 
     /// The key of a name, or `None` where it is absent.
     fn key(&self, name: &KeyName) -> Option<&KeyRow>
-        ensures found { option_copied result ≡ row_of self.now name.now }
+        ensures found { option_copied result ≡ row_of (keys_of self.now) name.now }
         ensures row { IfSome result (λ row. IsRow row.now) }
     {
-        self.table.find(name)
+        self.store.table().find(name)
     }
 
     fn invalidate(&self, name: KeyName) -> KmsReply
-        ensures { Answers self.now (KmsCall.Invalidate name) KmsReply.Done result }
+        ensures { Answers (keys_of self.now) (KmsCall.Invalidate name) KmsReply.Done result }
     {
         if self.key(&name).is_none() {
             return KmsReply::Refused(KmsRefusal::NoSuchKey);
@@ -303,7 +432,7 @@ impl Kms {
     }
 
     fn metadata(&self, name: KeyName) -> KmsReply
-        ensures { Answers self.now (KmsCall.Metadata name) (KmsReply.Metadata (meta_of name (row_of self.now name))) result }
+        ensures { Answers (keys_of self.now) (KmsCall.Metadata name) (KmsReply.Metadata (meta_of name (row_of (keys_of self.now) name))) result }
     {
         match self.meta(&name) {
             Err(why) => KmsReply::Refused(why),
@@ -313,7 +442,7 @@ impl Kms {
 
     /// What is known of a key.
     fn meta(&self, name: &KeyName) -> Result<KeyMeta, KmsRefusal>
-        ensures { MatchResult result (λ known. (is_absent self.now name.now ≡ false) × (known ≡ meta_of name.now (row_of self.now name.now))) (λ why. MatchBool (is_absent self.now name.now) (why ≡ KmsRefusal.NoSuchKey) (why ≡ KmsRefusal.NoMemory)) }
+        ensures { MatchResult result (λ known. (is_absent (keys_of self.now) name.now ≡ false) × (known ≡ meta_of name.now (row_of (keys_of self.now) name.now))) (λ why. MatchBool (is_absent (keys_of self.now) name.now) (why ≡ KmsRefusal.NoSuchKey) (why ≡ KmsRefusal.NoMemory)) }
     {
         let Some(row) = self.key(name) else {
             return Err(KmsRefusal::NoSuchKey);
@@ -323,7 +452,7 @@ impl Kms {
     }
 
     fn metadatas(&self, names: NameList) -> KmsReply
-        ensures { Answers self.now (KmsCall.Metadatas names) (KmsReply.Metadatas (metas_of self.now names)) result }
+        ensures { Answers (keys_of self.now) (KmsCall.Metadatas names) (KmsReply.Metadatas (metas_of (keys_of self.now) names)) result }
     {
         if self.lacks_any(names.as_slice()) {
             return KmsReply::Refused(KmsRefusal::NoSuchKey);
@@ -335,15 +464,15 @@ impl Kms {
     }
 
     fn lacks_any(&self, names: &[KeyName]) -> bool
-        ensures { result ≡ list_any (is_absent self.now) names.now }
+        ensures { result ≡ list_any (is_absent (keys_of self.now)) names.now }
     {
         names.iter().any(|name| self.key(name).is_none())
     }
 
     /// What is known of keys that stand, in the order asked.
     fn metas(&self, names: &[KeyName]) -> Result<MetaList, KmsRefusal>
-        requires { list_any (is_absent self.now) names.now ≡ false }
-        ensures { MatchResult result (λ known. known ≡ metas_of self.now names.now) (λ why. why ≡ KmsRefusal.NoMemory) }
+        requires { list_any (is_absent (keys_of self.now)) names.now ≡ false }
+        ensures { MatchResult result (λ known. known ≡ metas_of (keys_of self.now) names.now) (λ why. why ≡ KmsRefusal.NoMemory) }
     {
         let mut known = MetaList::with_room(self.alloc, names.len())?;
         for name in names {
@@ -354,16 +483,16 @@ impl Kms {
     }
 
     fn names(&self) -> KmsReply
-        ensures { Answers self.now KmsCall.Names (KmsReply.Names (names_in_order self.now.table.rows)) result }
+        ensures { Answers (keys_of self.now) KmsCall.Names (KmsReply.Names (names_in_order (keys_of self.now).table.rows)) result }
     {
-        match self.table.names() {
+        match self.store.table().names() {
             Err(NoMemory) => KmsReply::Refused(KmsRefusal::NoMemory),
             Ok(names) => KmsReply::Names(names),
         }
     }
 
     fn current_version(&self, name: KeyName) -> KmsReply
-        ensures { Answers self.now (KmsCall.Current name) (KmsReply.Version (current_version (row_of self.now name)) (Some (current_material self.now name))) result }
+        ensures { Answers (keys_of self.now) (KmsCall.Current name) (KmsReply.Version (current_version (row_of (keys_of self.now) name)) (Some (current_material (keys_of self.now) name))) result }
     {
         match self.current(&name) {
             None => KmsReply::Refused(KmsRefusal::NoSuchKey),
@@ -375,7 +504,7 @@ impl Kms {
     }
 
     fn versions(&self, name: KeyName) -> KmsReply
-        ensures { Answers self.now (KmsCall.Versions name) (KmsReply.Versions (all_versions (row_of self.now name))) result }
+        ensures { Answers (keys_of self.now) (KmsCall.Versions name) (KmsReply.Versions (all_versions (row_of (keys_of self.now) name))) result }
     {
         let Some(row) = self.key(&name) else {
             return KmsReply::Refused(KmsRefusal::NoSuchKey);
@@ -387,7 +516,7 @@ impl Kms {
     }
 
     fn version(&self, version: VersionName) -> KmsReply
-        ensures { Answers self.now (KmsCall.Version version) (KmsReply.Version version (material_of self.now.table.rows version)) result }
+        ensures { Answers (keys_of self.now) (KmsCall.Version version) (KmsReply.Version version (material_of (keys_of self.now).table.rows version)) result }
     {
         let Some(row) = self.key(&version.key) else {
             return KmsReply::Refused(KmsRefusal::NoSuchKey);
@@ -402,7 +531,7 @@ impl Kms {
     }
 
     fn generate<W: Words>(&self, words: &mut W, name: KeyName, count: u32) -> KmsReply
-        ensures { (now : ℕ) → Acts self.now (W.to_come words.old) now (KmsCall.Generate name count) result self.now (W.to_come words.new) }
+        ensures { (now : ℕ) → CallActs (keys_of self.now) (W.to_come words.old) now (KmsCall.Generate name count) result (keys_of self.now) (W.to_come words.new) }
     {
         let Some(current) = self.current(&name) else {
             return KmsReply::Refused(KmsRefusal::NoSuchKey);
@@ -418,14 +547,14 @@ impl Kms {
 
     /// The current version of a key with its material, or `None` where the key is absent.
     fn current(&self, name: &KeyName) -> Option<CurrentVersion>
-        ensures { MatchOption result (is_none (row_of self.now name.now) ≡ true) (IsCurrent self.now name.now) }
+        ensures { MatchOption result (is_none (row_of (keys_of self.now) name.now) ≡ true) (IsCurrent (keys_of self.now) name.now) }
     {
         let row = self.key(name)?;
         newest(row)
     }
 
     fn decrypt(&self, name: KeyName, sent: RawEdek) -> KmsReply
-        ensures { Answers self.now (KmsCall.Decrypt name sent) (KmsReply.Key (opened self.now sent)) result }
+        ensures { Answers (keys_of self.now) (KmsCall.Decrypt name sent) (KmsReply.Key (opened (keys_of self.now) sent)) result }
     {
         let Some(row) = self.key(&name) else {
             return KmsReply::Refused(KmsRefusal::NoSuchKey);
@@ -437,7 +566,7 @@ impl Kms {
     }
 
     fn reencrypt(&self, name: KeyName, sent: RawEdek) -> KmsReply
-        ensures { Answers self.now (KmsCall.Reencrypt name sent) (KmsReply.Resealed (resealed self.now name sent)) result }
+        ensures { Answers (keys_of self.now) (KmsCall.Reencrypt name sent) (KmsReply.Resealed (resealed (keys_of self.now) name sent)) result }
     {
         let Some(row) = self.key(&name) else {
             return KmsReply::Refused(KmsRefusal::NoSuchKey);
@@ -449,7 +578,7 @@ impl Kms {
     }
 
     fn batch(&self, name: KeyName, sent: RawEdekList) -> KmsReply
-        ensures { Answers self.now (KmsCall.Batch name sent) (KmsReply.Ready (map (resealed self.now name) sent)) result }
+        ensures { Answers (keys_of self.now) (KmsCall.Batch name sent) (KmsReply.Ready (map (resealed (keys_of self.now) name) sent)) result }
     {
         let Some(row) = self.key(&name) else {
             return KmsReply::Refused(KmsRefusal::NoSuchKey);

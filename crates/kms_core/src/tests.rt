@@ -1,12 +1,15 @@
 //! The service over given words. The keys are those of the examples of counter mode in NIST SP
 //! 800-38A, appendix F.5: the initialization vector is the first counter there with all bits
 //! flipped, and the data encryption key is what the standard encrypts.
+mod untold;
+
 use super::*;
 use disk_kinds::ListWords;
 use hk_base::{ByteList, Dek, Edek, KeyName, Text, VersionName};
 use key_rows::{Description, KmsCall, KmsRefusal, KmsReply, NameList, RawEdek, RawEdekList};
 use std::alloc::Global;
 use std::process::Abort;
+use untold::Untold;
 
 /// Four words of the vector and eight of the two blocks.
 const WORDS: [u32; 12] = [
@@ -23,10 +26,11 @@ const MATERIAL: &[u8] = b"\x2b\x7e\x15\x16\x28\xae\xd2\xa6\xab\xf7\x15\x88\x09\x
 
 const SEALED: &[u8] = b"\x87\x4d\x61\x91\xb6\x20\xe3\x26\x1b\xef\x68\x64\x99\x0d\xb6\xce";
 
-/// A service with the words to come.
+/// A service on its disk, with the words to come.
 #[derive(Drop)]
 struct Desk {
     alloc: Global,
+    disk: Untold,
     kms: Kms,
     words: ListWords,
     user: Text,
@@ -34,17 +38,41 @@ struct Desk {
 
 impl Desk {
     fn new(rt: &impl Abort, alloc: Global) -> Desk {
+        Desk::failing(rt, alloc, &[])
+    }
+
+    /// One whose disk fails at these calls. The start makes 8 of them, each change 4, and settling 2.
+    fn failing(rt: &impl Abort, alloc: Global, calls: &[u64]) -> Desk {
         let words = Vec::from_slice(alloc, &WORDS).expect(rt, "memory");
+        let calls = calls.to_vec(alloc).expect(rt, "memory");
+        let mut disk = Untold::new(alloc, calls);
         Desk {
             alloc,
-            kms: Kms::new(alloc).expect(rt, "memory"),
+            kms: Kms::start(alloc, &mut disk).expect(rt, "a start"),
+            disk,
             words: ListWords::new(words),
             user: Text::of(String::new(alloc)),
         }
     }
 
+    /// Starts the service again on the same disk.
+    fn restart(&mut self, rt: &impl Abort) {
+        self.kms = Kms::start(self.alloc, &mut self.disk).expect(rt, "a start");
+    }
+
     fn ask(&mut self, call: KmsCall) -> KmsReply {
-        self.kms.act(&mut self.words, 7, &self.user, call)
+        self.kms
+            .act(&mut self.disk, &mut self.words, 7, &self.user, call)
+    }
+
+    fn current(&mut self, rt: &impl Abort, name: &[u8]) -> KmsReply {
+        let name = key_name(rt, name);
+        self.ask(KmsCall::Current { name })
+    }
+
+    fn delete(&mut self, rt: &impl Abort, name: &[u8]) -> KmsReply {
+        let name = key_name(rt, name);
+        self.ask(KmsCall::Delete { name })
     }
 
     fn list(&self, rt: &impl Abort, bytes: &[u8]) -> ByteList {
@@ -388,7 +416,7 @@ fn the_versions_of_a_key_are_told(rt: HostRuntime) {
     let name = key_name(&rt, b"k");
     assert_version(&rt, desk.create(&rt, b"k", 128, MATERIAL), 0, MATERIAL);
     assert_version(&rt, desk.roll(&rt, b"k", SEALED), 1, SEALED);
-    let current = desk.ask(KmsCall::Current { name });
+    let current = desk.current(&rt, b"k");
     assert_version(&rt, current, 1, SEALED);
     let first = version(&rt, b"k", 0);
     let first = desk.ask(KmsCall::Version { version: first });
@@ -416,20 +444,19 @@ fn a_deleted_key_is_gone(rt: HostRuntime) {
     assert_version(&rt, desk.create(&rt, b"k", 128, MATERIAL), 0, MATERIAL);
     assert_version(&rt, desk.create(&rt, b"j", 128, SEALED), 0, SEALED);
     assert_done(&rt, desk.ask(KmsCall::Invalidate { name }));
-    assert_done(&rt, desk.ask(KmsCall::Delete { name }));
-    let again = desk.ask(KmsCall::Delete { name });
+    assert_done(&rt, desk.delete(&rt, b"k"));
+    let again = desk.delete(&rt, b"k");
     assert_refused(&rt, again, KmsRefusal::NoSuchKey);
     let absent = desk.ask(KmsCall::Invalidate { name });
     assert_refused(&rt, absent, KmsRefusal::NoSuchKey);
-    let absent = desk.ask(KmsCall::Current { name });
+    let absent = desk.current(&rt, b"k");
     assert_refused(&rt, absent, KmsRefusal::NoSuchKey);
     let absent = desk.ask(KmsCall::Versions { name });
     assert_refused(&rt, absent, KmsRefusal::NoSuchKey);
     let absent = version(&rt, b"k", 0);
     let absent = desk.ask(KmsCall::Version { version: absent });
     assert_refused(&rt, absent, KmsRefusal::NoSuchKey);
-    let other = key_name(&rt, b"j");
-    let other = desk.ask(KmsCall::Current { name: other });
+    let other = desk.current(&rt, b"j");
     assert_version(&rt, other, 0, SEALED);
     assert_version(&rt, desk.create(&rt, b"k", 128, SEALED), 0, SEALED);
 }
@@ -458,4 +485,112 @@ fn keys_and_versions_are_bounded(rt: HostRuntime) {
     }
     let more = desk.roll(&rt, b"aaa", MATERIAL);
     assert_refused(&rt, more, KmsRefusal::TooManyVersions);
+}
+
+/// The first opening, key k of its first birth, created at 7, and that key's second version.
+const ROLLED: &[u8] = b"HKMSKEY1\
+    \x01\0\0\0\x05\x01\0\0\0\x01\
+    \x01\0\0\0\x27\x02\0\0\0\x01\0\0\0\x01\x01k\0\x80\0\0\0\0\0\0\0\0\0\x07\
+    \x2b\x7e\x15\x16\x28\xae\xd2\xa6\xab\xf7\x15\x88\x09\xcf\x4f\x3c\
+    \x01\0\0\0\x1b\x03\0\0\0\x01\0\0\0\x01\0\x01\
+    \x87\x4d\x61\x91\xb6\x20\xe3\x26\x1b\xef\x68\x64\x99\x0d\xb6\xce\0";
+
+/// The second opening behind those, from the gate that opens it, and key j of its first birth as far
+/// as its name.
+const AGAIN: &[u8] = b"\x01\0\0\0\x05\x01\0\0\0\x02\
+    \x01\0\0\0\x27\x02\0\0\0\x02\0\0\0\x01\x01j";
+
+/// A part of the key log.
+fn part<'a>(rt: &impl Abort, desk: &'a Desk, from: usize, to: usize) -> &'a [u8] {
+    desk.disk.log().get(from..to).expect(rt, "a longer log")
+}
+
+#[test]
+fn each_start_opens_the_log_of_its_disk(rt: HostRuntime) {
+    let mut desk = Desk::new(&rt, rt.alloc());
+    assert_eq!(rt; desk.disk.log().len(), 19);
+    assert_eq!(rt; part(&rt, &desk, 0, 18), &ROLLED[..18]);
+    assert_version(&rt, desk.create(&rt, b"k", 128, MATERIAL), 0, MATERIAL);
+    assert_version(&rt, desk.roll(&rt, b"k", SEALED), 1, SEALED);
+    assert_eq!(rt; desk.disk.log(), ROLLED);
+    desk.restart(&rt);
+    assert_eq!(rt; desk.kms.count(), 1);
+    assert_version(&rt, desk.current(&rt, b"k"), 1, SEALED);
+    let first = version(&rt, b"k", 0);
+    let first = desk.ask(KmsCall::Version { version: first });
+    assert_version(&rt, first, 0, MATERIAL);
+    assert_version(&rt, desk.create(&rt, b"j", 128, SEALED), 0, SEALED);
+    assert_eq!(rt; part(&rt, &desk, 94, 120), AGAIN);
+}
+
+#[test]
+fn a_version_whose_last_sync_failed_is_kept(rt: HostRuntime) {
+    let mut desk = Desk::failing(&rt, rt.alloc(), &[16]);
+    assert_version(&rt, desk.create(&rt, b"k", 128, MATERIAL), 0, MATERIAL);
+    let lost = desk.roll(&rt, b"k", SEALED);
+    assert_refused(&rt, lost, KmsRefusal::StoreFault);
+    assert_version(&rt, desk.current(&rt, b"k"), 0, MATERIAL);
+    assert_version(&rt, desk.roll(&rt, b"k", MATERIAL), 2, MATERIAL);
+    let second = version(&rt, b"k", 1);
+    let second = desk.ask(KmsCall::Version { version: second });
+    assert_version(&rt, second, 1, SEALED);
+}
+
+#[test]
+fn a_birth_is_used_once(rt: HostRuntime) {
+    let mut desk = Desk::failing(&rt, rt.alloc(), &[9, 19]);
+    let lost = desk.create(&rt, b"k", 128, MATERIAL);
+    assert_refused(&rt, lost, KmsRefusal::StoreFault);
+    assert_version(&rt, desk.create(&rt, b"j", 128, MATERIAL), 0, MATERIAL);
+    assert_eq!(rt; desk.kms.count(), 1);
+    assert_eq!(rt;
+        part(&rt, &desk, 23, 34),
+        b"\x02\0\0\0\x01\0\0\0\x02\x01j".as_slice()
+    );
+    // The same name: the record of the one before is kept.
+    let lost = desk.create(&rt, b"k", 128, MATERIAL);
+    assert_refused(&rt, lost, KmsRefusal::StoreFault);
+    let again = desk.create(&rt, b"k", 128, SEALED);
+    assert_refused(&rt, again, KmsRefusal::KeyExists);
+    assert_version(&rt, desk.current(&rt, b"k"), 0, MATERIAL);
+    assert_eq!(rt;
+        part(&rt, &desk, 67, 78),
+        b"\x02\0\0\0\x01\0\0\0\x03\x01k".as_slice()
+    );
+}
+
+#[test]
+fn a_pending_command_is_settled_before_a_refusal(rt: HostRuntime) {
+    let mut desk = Desk::failing(&rt, rt.alloc(), &[16, 17, 18, 19]);
+    assert_version(&rt, desk.create(&rt, b"k", 128, MATERIAL), 0, MATERIAL);
+    let lost = desk.roll(&rt, b"k", SEALED);
+    assert_refused(&rt, lost, KmsRefusal::StoreFault);
+    let lost = desk.create(&rt, b"k", 128, MATERIAL);
+    assert_refused(&rt, lost, KmsRefusal::StoreFault);
+    let lost = desk.roll(&rt, b"m", MATERIAL);
+    assert_refused(&rt, lost, KmsRefusal::StoreFault);
+    assert_refused(&rt, desk.delete(&rt, b"m"), KmsRefusal::StoreFault);
+    let again = desk.create(&rt, b"k", 128, MATERIAL);
+    assert_refused(&rt, again, KmsRefusal::KeyExists);
+    assert_refused(&rt, desk.roll(&rt, b"m", MATERIAL), KmsRefusal::NoSuchKey);
+    assert_refused(&rt, desk.delete(&rt, b"m"), KmsRefusal::NoSuchKey);
+    assert_version(&rt, desk.current(&rt, b"k"), 1, SEALED);
+}
+
+#[test]
+fn a_call_that_only_reads_settles_nothing(rt: HostRuntime) {
+    let mut desk = Desk::failing(&rt, rt.alloc(), &[12]);
+    let lost = desk.create(&rt, b"k", 128, MATERIAL);
+    assert_refused(&rt, lost, KmsRefusal::StoreFault);
+    let name = key_name(&rt, b"k");
+    let absent = desk.ask(KmsCall::Metadata { name });
+    assert_refused(&rt, absent, KmsRefusal::NoSuchKey);
+    let absent = desk.ask(KmsCall::Invalidate { name });
+    assert_refused(&rt, absent, KmsRefusal::NoSuchKey);
+    assert_refused(&rt, desk.generate(&rt, b"k", 1), KmsRefusal::NoSuchKey);
+    assert_refused(&rt, desk.current(&rt, b"k"), KmsRefusal::NoSuchKey);
+    assert_eq!(rt; desk.disk.calls(), 12);
+    assert_done(&rt, desk.delete(&rt, b"k"));
+    assert_eq!(rt; desk.disk.calls(), 18);
+    assert_eq!(rt; desk.kms.count(), 0);
 }

@@ -1,0 +1,385 @@
+-- Calls over a store and its disk, from their steps.
+use Rattle.std.proofs.Common.{◌≡◌, inl, inr, ℕ, ◌+◌, ◌-◌, ◌*◌, ◌<◌, ◌≤◌, ◌^◌, Bool, cond, true, false, List, [], ◌∷◌, ◌++◌, Option, None, Some, refl, ap, sym, ◌∙◌, subst, arith}
+use Rattle.std.specs.Prelude.{Result, Ok, Err, IsErr, MatchResult, IfSome, IsTrue, is_some}
+use Rattle.std.proofs.lemmas.List.{append-nil, append_assoc}
+use Rattle.hk_base.specs.Disk.{DiskState, LeavesOnly, RunOn, Tells}
+use Rattle.hk_base.specs.Faults.{Rose}
+use Rattle.hk_base.proofs.Runs.{begin, compose, weaker}
+use Rattle.key_rows.specs.declared.rows.KeyCommand.{KeyCommand}
+use Rattle.key_rows.specs.declared.calls.KmsCall.{KmsCall}
+use Rattle.key_rows.specs.declared.calls.KmsReply.{KmsReply}
+use Rattle.key_rows.specs.declared.calls.KmsReply.TheVariants.{Refused}
+use Rattle.key_rows.specs.declared.calls.KmsRefusal.{KmsRefusal}
+use Rattle.key_rows.specs.declared.calls.KmsRefusal.TheVariants.{NoMemory, StoreFault}
+use Rattle.key_rows.specs.Table.{Table, after, applies, no_keys}
+use Rattle.std.proofs.lemmas.Bool.Decides.{Decides-eqb}
+use Rattle.key_rows.specs.Records.{HasSpelling}
+use Rattle.kms_store.specs.Replay.{key_replay}
+use Rattle.kms_store.proofs.Replays.{replay_more}
+use Rattle.kms_store.specs.Store.{Applies, IsKeyLog, IsLeftOf, next_opening, IsLogOf, IsWithOrWithout, IsWritten, Settles, StandsFor, StoreState, settled_commands, settled_table}
+use Rattle.kms_core.specs.State.{KmsState, Running, ServiceState, keys_of, service_of, settled}
+use Rattle.kms_core.specs.Calls.{CallActs, Deed, KmsActs, NoRoom, Plain, birth_of, bits_of, causes, deed, deleted, done_with, first_cause, is_misfit, rolled, row_of, shown, takes_memory, unless_refused, versions_of}
+use Rattle.kms_core.specs.Service.{Acts, Changes, IsGrowing, Logs, ServesBy, Starts, acknowledged, is_change, listed}
+use Rattle.kms_core.specs.Steps.{ActsSettled, Commits, EndsSo, IsUnsettled, Settling, StandsSo}
+use Rattle.kms_core.specs.declared.service.Standing.{Standing}
+use Rattle.kms_core.specs.Draws.{material_for, words_for}
+use Rattle.kms_core.proofs.StepLemmas.{may_be_rolled}
+use Rattle.key_rows.specs.declared.calls.KmsCall.TheVariants as call
+use Rattle.key_rows.specs.declared.rows.KeyCommand.TheVariants as command
+use Rattle.key_rows.specs.declared.calls.KmsRefusal.TheVariants as refusal
+
+-- nothing was done to the disk
+pub unchanged : (d : DiskState) (store : StoreState) (P : List KeyCommand → List ℕ → Type 0) → Logs d d store store P []
+unchanged d store P = record {
+  stands = λ told commands s. subst (StandsFor d store) (sym (append-nil commands)) s;
+  moments = λ told commands s. (begin 0 d (P commands)).moments;
+  run = (begin 0 d (P [])).run;
+}
+
+-- a count that rose since a later moment rose since an earlier one
+pub rose_since : (a b c : ℕ) → a ≤ b → Rose b c → Rose a c
+rose_since a b c le rose = grind (arith, le, rose)
+
+pub rose_before : (a b c : ℕ) → b ≤ c → Rose a b → Rose a c
+rose_before a b c le rose = grind (arith, le, rose)
+
+tells_on : (old mid : DiskState) → RunOn 0 old mid → Tells old → Tells mid
+tells_on old mid run told = subst (λ b. IsTrue b) (sym run.tells) told
+
+-- one run after another
+pub joined : (old mid new : DiskState) → RunOn 0 old mid → RunOn 0 mid new → RunOn 0 old new
+joined old mid new a b = record {
+  tells = b.tells ∙ a.tells;
+  faults = omega (arith, a.faults, b.faults);
+  later = omega (arith, a.later, b.later);
+  other_reads = λ told. b.other_reads (tells_on old mid a told) ∙ a.other_reads told;
+  other_leaves = λ c. (λ h. (a.other_leaves c).0 ((b.other_leaves c).0 h), λ h. (b.other_leaves c).1 ((a.other_leaves c).1 h));
+}
+
+-- what is left while a command waits, and behind its settling while another may be added
+pub left_growing : (table : Table) (pending : Option KeyCommand) (kept : Bool) (commands : List KeyCommand) (bytes : List ℕ)
+    → IsGrowing (settled_table kept pending table) (commands ++ settled_commands kept pending) bytes → IsLeftOf table pending commands bytes
+left_growing table pending kept commands bytes g = record { kept = kept; more = g.more; fits = g.fits; spelled = g.spelled; log = g.log }
+
+-- settling, and then a change while nothing is pending
+pub behind_settling : (old mid new : DiskState) (r s t : Running) (kept : Bool) (logged : List KeyCommand)
+    → service_of s ≡ record { keys = settled kept (service_of r); pending = None }
+    → Logs old mid r.store s.store (IsLeftOf r.store.table.keys r.store.pending) (settled_commands kept r.store.pending)
+    → Logs mid new s.store t.store (IsGrowing s.store.table.keys) logged
+    → Logs old new r.store t.store (IsLeftOf r.store.table.keys r.store.pending) (settled_commands kept r.store.pending ++ logged)
+behind_settling old mid new r s t kept logged is a b = record {
+  stands = λ told commands stands.
+      subst (StandsFor new t.store) (append_assoc commands (settled_commands kept r.store.pending) logged)
+      (b.stands (tells_on old mid a.run told) (commands ++ settled_commands kept r.store.pending) (a.stands told commands stands));
+  moments = λ told commands stands. (compose {file = 0} {P = IsLeftOf r.store.table.keys r.store.pending commands}
+      (record { run = a.run; moments = a.moments told commands stands })
+      (record { run = b.run; moments = b.moments (tells_on old mid a.run told) (commands ++ settled_commands kept r.store.pending) (a.stands told commands stands) })
+      (λ c g. left_growing r.store.table.keys r.store.pending kept commands c
+      (subst (λ (x : Table). IsGrowing x (commands ++ settled_commands kept r.store.pending) c) (ap (λ (x : ServiceState). x.keys.table) is) g))).moments;
+  run = joined old mid new a.run b.run;
+}
+
+-- a change whose pending command was settled first
+pub acts_settled : (old mid new : DiskState) (r s t : Running) (words : ℕ → ℕ) (now : ℕ) (c : KmsCall) (told : KmsReply) (words' : ℕ → ℕ) → is_change c ≡ true
+    → Settling old mid r s → ActsSettled mid new s words now c told t words' → Acts old new r words now c told t words'
+acts_settled old mid new r s t words now c told words' change a b = record {
+  drawn = b.drawn;
+  logged = settled_commands a.kept r.store.pending ++ b.logged;
+  serves = subst (λ (x : Bool). ServesBy x (service_of r) words now c (Rose old.faults new.faults) told b.drawn (settled_commands a.kept r.store.pending ++ b.logged) (service_of t)) (sym change)
+      (inr (a.kept, behind b.changes));
+  rest = b.rest;
+  disk = behind_settling old mid new r s t a.kept b.logged a.service a.disk b.disk;
+}
+  where
+    before : List KeyCommand
+    before = settled_commands a.kept r.store.pending
+
+    keys_are : keys_of s ≡ settled a.kept (service_of r)
+    keys_are = ap (λ (x : ServiceState). x.keys) a.service
+
+    behind : Changes (keys_of s) [] words now c (Rose mid.faults new.faults) told b.drawn b.logged (service_of t)
+        → Changes (settled a.kept (service_of r)) before words now c (Rose old.faults new.faults) told b.drawn (before ++ b.logged) (service_of t)
+    behind (inl w) = inl (record {
+      changed = w.changed;
+      acts = subst (λ (k : KmsState). KmsActs k words now c told b.drawn w.changed) keys_are w.acts;
+      logged_is = ap (λ (l : List KeyCommand). before ++ l) (w.logged_is ∙ ap (λ (k : KmsState). acknowledged told (deed k words now c).logs) keys_are);
+      left = w.left;
+    })
+    behind (inr u) = inr (record {
+      failed = rose_since old.faults mid.faults new.faults a.disk.run.faults u.failed;
+      free = ap (λ (k : KmsState). first_cause (causes k c)) (sym keys_are) ∙ u.free;
+      told_is = u.told_is;
+      drawn_is = u.drawn_is ∙ ap (λ (k : KmsState). (deed k words now c).words) keys_are;
+      logged_is = ap (λ (l : List KeyCommand). before ++ l) u.logged_is ∙ append-nil before;
+      left = u.left ∙ ap (λ (k : KmsState). record { keys = (deed k words now c).state; pending = (deed k words now c).logs }) keys_are;
+    })
+
+-- a change whose pending command could not be settled
+pub acts_unsettled : (old new : DiskState) (r t : Running) (words : ℕ → ℕ) (now : ℕ) (c : KmsCall) → is_change c ≡ true
+    → IsUnsettled old new r t → Acts old new r words now c (Refused StoreFault) t words
+acts_unsettled old new r t words now c change u = record {
+  drawn = 0;
+  logged = [];
+  serves = subst (λ (x : Bool). ServesBy x (service_of r) words now c (Rose old.faults new.faults) (Refused StoreFault) 0 [] (service_of t)) (sym change)
+      (inl (record { waits = u.waits; failed = u.failed; told_is = refl; none_drawn = refl; none_logged = refl; same = ap service_of u.same }));
+  rest = λ k. ap words (omega arith);
+  disk = u.disk;
+}
+
+-- a call that changes nothing
+pub acts_reading : (d : DiskState) (r : Running) (words : ℕ → ℕ) (now : ℕ) (c : KmsCall) (told : KmsReply) (words' : ℕ → ℕ) → is_change c ≡ false
+    → CallActs (keys_of r) words now c told (keys_of r) words' → Acts d d r words now c told r words'
+acts_reading d r words now c told words' change a = record {
+  drawn = a.drawn;
+  logged = [];
+  serves = subst (λ (x : Bool). ServesBy x (service_of r) words now c (Rose d.faults d.faults) told a.drawn [] (service_of r)) (sym change)
+      (record { acts = a.acts; none_logged = refl; same = refl });
+  rest = a.rest;
+  disk = unchanged d r.store (IsLeftOf r.store.table.keys r.store.pending);
+}
+
+-- a change that is refused while nothing is pending
+pub settled_refused : (d : DiskState) (r : Running) (words : ℕ → ℕ) (now : ℕ) (c : KmsCall) (why : KmsRefusal) (words' : ℕ → ℕ) → r.store.pending ≡ None
+    → CallActs (keys_of r) words now c (Refused why) (keys_of r) words' → ActsSettled d d r words now c (Refused why) r words'
+settled_refused d r words now c why words' none a = record {
+  drawn = a.drawn;
+  logged = [];
+  changes = inl (record { changed = keys_of r; acts = a.acts; logged_is = refl; left = λ i. record { keys = keys_of r; pending = none i } });
+  rest = a.rest;
+  disk = unchanged d r.store (IsGrowing r.store.table.keys);
+}
+
+-- a change without a cause of refusal does its deed
+pub settled_enacted : (old new : DiskState) (r t : Running) (words : ℕ → ℕ) (now : ℕ) (c : KmsCall) (told : KmsReply) (words' : ℕ → ℕ)
+    → takes_memory c ≡ true → first_cause (causes (keys_of r) c) ≡ None
+    → acknowledged (deed (keys_of r) words now c).answer (deed (keys_of r) words now c).logs ≡ listed (deed (keys_of r) words now c).logs
+    → Commits old new r (deed (keys_of r) words now c) told t
+    → ((k : ℕ) → words' k ≡ words ((deed (keys_of r) words now c).words + k)) → ActsSettled old new r words now c told t words'
+settled_enacted old new r t words now c told words' takes free acks done rest = record {
+  drawn = d.words;
+  logged = done.logged;
+  changes = ends done.ends;
+  rest = rest;
+  disk = done.disk;
+}
+  where
+    s : KmsState
+    s = keys_of r
+
+    d : Deed
+    d = deed (keys_of r) words now c
+
+    ends : EndsSo s d (Rose old.faults new.faults) told done.logged (service_of t) → Changes s [] words now c (Rose old.faults new.faults) told d.words done.logged (service_of t)
+    ends (inl (is, logged, left)) = inl (record {
+      changed = done_with d.logs d.state;
+      acts = (Plain, tt, (λ i. record { told = is i; drawn = d.words; state = done_with d.logs d.state }) ∙ ap (λ cause. unless_refused cause s d) (sym free));
+      logged_is = logged ∙ sym acks ∙ ap (λ (x : KmsReply). acknowledged x d.logs) (sym is);
+      left = left;
+    })
+    ends (inr (inl (is, logged, left))) = inl (record {
+      changed = s;
+      acts = (NoRoom d.words, (takes, free, omega arith), λ i. record { told = is i; drawn = d.words; state = s });
+      logged_is = logged ∙ ap (λ (x : KmsReply). acknowledged x d.logs) (sym is);
+      left = left;
+    })
+    ends (inr (inr (failed, is, logged, left))) = inr (record { failed = failed; free = free; told_is = is; drawn_is = refl; logged_is = logged; left = left })
+
+-- a deed that says the same of answer, command and state ends alike
+pub same_commit : (old new : DiskState) (r t : Running) (d e : Deed) (told : KmsReply) → d.logs ≡ e.logs → d.answer ≡ e.answer → d.state ≡ e.state → Commits old new r d told t → Commits old new r e told t
+same_commit old new r t d e told logs answer state k = record { logged = k.logged; ends = same k.ends; disk = k.disk }
+  where
+    same : EndsSo (keys_of r) d (Rose old.faults new.faults) told k.logged (service_of t) → EndsSo (keys_of r) e (Rose old.faults new.faults) told k.logged (service_of t)
+    same (inl (is, logged, left)) = inl (is ∙ answer, logged ∙ ap listed logs, left ∙ (λ i. record { keys = done_with (logs i) (state i); pending = None }))
+    same (inr (inl h)) = inr (inl h)
+    same (inr (inr (failed, is, logged, left))) = inr (inr (failed, is, logged, left ∙ (λ i. record { keys = state i; pending = logs i })))
+
+-- what a commit comes to
+
+-- a log of these commands with one more, or without it
+growing : (table : Table) (command : KeyCommand) (commands : List KeyCommand) (bytes : List ℕ) → applies table command ≡ true → IsWritten commands command bytes → IsGrowing table commands bytes
+growing table command commands bytes may is = record { more = Some command; fits = may; spelled = is.0; log = is.1 }
+
+-- The clauses of a commit, together.
+pub record Committed (old new : DiskState) (store : StoreState) (command : KeyCommand) : Type 0 where
+  pub may : applies store.table.keys command ≡ true
+  pub moments : Tells old → (commands : List KeyCommand) → StandsFor old store commands → LeavesOnly 0 old new (IsWritten commands command)
+  pub run : RunOn 0 old new
+
+wrote : (old new : DiskState) (store store' : StoreState) (command : KeyCommand) → Committed old new store command
+    → (Tells old → (commands : List KeyCommand) → StandsFor old store commands → StandsFor new store' (commands ++ command ∷ []))
+    → Logs old new store store' (IsGrowing store.table.keys) (command ∷ [])
+wrote old new store store' command k stands = record {
+  stands = stands;
+  moments = λ told commands s. weaker (λ c is. growing store.table.keys command commands c k.may is) (k.moments told commands s);
+  run = k.run;
+}
+
+not_written : (old new : DiskState) (store store' : StoreState) (command : KeyCommand) → Committed old new store command
+    → (Tells old → (commands : List KeyCommand) → StandsFor old store commands → StandsFor new store' commands)
+    → Logs old new store store' (IsGrowing store.table.keys) []
+not_written old new store store' command k stands = record {
+  stands = λ told commands s. subst (StandsFor new store') (sym (append-nil commands)) (stands told commands s);
+  moments = λ told commands s. weaker (λ c is. growing store.table.keys command commands c k.may is) (k.moments told commands s);
+  run = k.run;
+}
+
+-- a deed and the command that it logs, beside the keys of a running service
+pub record IsDeedOf (r : Running) (d : Deed) (command : KeyCommand) : Type 0 where
+  pub logs : d.logs ≡ Some command
+  pub same_table : d.state.table ≡ r.store.table.keys
+
+pub commit_done : (old new : DiskState) (r t : Running) (d : Deed) (command : KeyCommand) (told : KmsReply) → IsDeedOf r d command → t.next ≡ d.state.next → told ≡ d.answer
+    → t.store.table.keys ≡ after r.store.table.keys command → t.store.pending ≡ None → Committed old new r.store command
+    → (Tells old → (commands : List KeyCommand) → StandsFor old r.store commands → StandsFor new t.store (commands ++ command ∷ [])) → Commits old new r d told t
+commit_done old new r t d command told of_deed next told_is then_is none k stands = record {
+  logged = command ∷ [];
+  ends = inl (told_is, ap listed (sym of_deed.logs), done);
+  disk = wrote old new r.store t.store command k stands;
+}
+  where
+    there : t.store.table.keys ≡ after d.state.table command
+    there = then_is ∙ ap (λ (x : Table). after x command) (sym of_deed.same_table)
+
+    done : service_of t ≡ record { keys = done_with d.logs d.state; pending = None }
+    done = subst (λ (o : Option KeyCommand). service_of t ≡ record { keys = done_with o d.state; pending = None }) (sym of_deed.logs)
+        (λ i. record { keys = record { table = there i; next = next i }; pending = none i })
+
+pub commit_wanting : (old new : DiskState) (r t : Running) (d : Deed) (command : KeyCommand) (told : KmsReply) → t.next ≡ r.next → told ≡ Refused NoMemory
+    → t.store.table.keys ≡ r.store.table.keys → t.store.pending ≡ None → Committed old new r.store command
+    → (Tells old → (commands : List KeyCommand) → StandsFor old r.store commands → StandsFor new t.store commands) → Commits old new r d told t
+commit_wanting old new r t d command told next told_is same none k stands = record {
+  logged = [];
+  ends = inr (inl (told_is, refl, λ i. record { keys = record { table = same i; next = next i }; pending = none i }));
+  disk = not_written old new r.store t.store command k stands;
+}
+
+pub commit_failed : (old new : DiskState) (r t : Running) (d : Deed) (command : KeyCommand) (told : KmsReply) → IsDeedOf r d command → t.next ≡ d.state.next → told ≡ Refused StoreFault
+    → t.store.table.keys ≡ r.store.table.keys → t.store.pending ≡ Some command → Rose old.faults new.faults → Committed old new r.store command
+    → (Tells old → (commands : List KeyCommand) → StandsFor old r.store commands → StandsFor new t.store commands) → Commits old new r d told t
+commit_failed old new r t d command told of_deed next told_is same waits failed k stands = record {
+  logged = [];
+  ends = inr (inr (failed, told_is, refl, λ i. record { keys = record { table = (same ∙ sym of_deed.same_table) i; next = next i }; pending = (waits ∙ sym of_deed.logs) i }));
+  disk = not_written old new r.store t.store command k stands;
+}
+
+pub err_only : {A B Q : Type 0} (P : Type 0) (result : Result A B) → IsErr result → Q → MatchResult result (λ _. P) (λ _. Q)
+err_only P (Ok x) is q = absurd cc
+err_only P (Err e) is q = q
+
+-- what settling comes to
+
+without : (commands : List KeyCommand) (pending : Option KeyCommand) → commands ≡ commands ++ settled_commands false pending
+without commands None = sym (append-nil commands)
+without commands (Some command) = sym (append-nil commands)
+
+unsettled_table : (pending : Option KeyCommand) (t : Table) → settled_table false pending t ≡ t
+unsettled_table None t = refl
+unsettled_table (Some command) t = refl
+
+pub left_waiting : (table : Table) (command : KeyCommand) (commands : List KeyCommand) (bytes : List ℕ) → applies table command ≡ true → HasSpelling command → IsWithOrWithout commands command bytes → IsLeftOf table (Some command) commands bytes
+left_waiting table command commands bytes may spelled is =
+    record { kept = false; more = Some command; fits = may; spelled = spelled; log = subst (λ (l : List KeyCommand). IsLogOf l (Some command) bytes) (sym (append-nil commands)) is }
+
+-- a crash while the pending command is settled leaves what a crash may leave while it waits
+pub settling_moments : (old new : DiskState) (store : StoreState) → Applies store.table.keys store.pending → (store.pending ≡ None → new ≡ old)
+    → (Tells old → (commands : List KeyCommand) (command : KeyCommand) → StandsFor old store commands → store.pending ≡ Some command → LeavesOnly 0 old new (IsWithOrWithout commands command))
+    → Tells old → (commands : List KeyCommand) → StandsFor old store commands → LeavesOnly 0 old new (IsLeftOf store.table.keys store.pending commands)
+settling_moments old new store applies nothing moments told commands s = go store.pending refl applies s.waits
+  where
+    go : (o : Option KeyCommand) → store.pending ≡ o → Applies store.table.keys o → IfSome o HasSpelling → LeavesOnly 0 old new (IsLeftOf store.table.keys o commands)
+    go None is may spelled = subst (λ (d : DiskState). LeavesOnly 0 old d (IsLeftOf store.table.keys None commands)) (sym (nothing is)) (begin 0 old (IsLeftOf store.table.keys None commands)).moments
+    go (Some command) is may spelled = weaker (λ c left. left_waiting store.table.keys command commands c may spelled left) (moments told commands command s is)
+
+pub settles : (old new : DiskState) (r t : Running) → t.next ≡ r.next → Applies r.store.table.keys r.store.pending → (r.store.pending ≡ None → new ≡ old)
+    → (Tells old → (commands : List KeyCommand) (command : KeyCommand) → StandsFor old r.store commands → r.store.pending ≡ Some command → LeavesOnly 0 old new (IsWithOrWithout commands command))
+    → RunOn 0 old new → Settles old new r.store t.store → Settling old new r t
+settles old new r t next applies nothing moments run s = record {
+  kept = s.kept;
+  service = λ i. record { keys = record { table = s.table i; next = next i }; pending = s.none i };
+  disk = record { stands = s.log; moments = settling_moments old new r.store applies nothing moments; run = run };
+}
+
+pub stays_pending : (old new : DiskState) (r t : Running) → t ≡ r → Applies r.store.table.keys r.store.pending → (r.store.pending ≡ None → new ≡ old)
+    → (Tells old → (commands : List KeyCommand) (command : KeyCommand) → StandsFor old r.store commands → r.store.pending ≡ Some command → LeavesOnly 0 old new (IsWithOrWithout commands command))
+    → (Tells old → (commands : List KeyCommand) → StandsFor old r.store commands → StandsFor new t.store commands)
+    → RunOn 0 old new → (r.store.pending ≡ None → ⊥) → Rose old.faults new.faults → IsUnsettled old new r t
+stays_pending old new r t same applies nothing moments stands run waits failed = record {
+  waits = go r.store.pending waits;
+  failed = failed;
+  same = same;
+  disk = record {
+    stands = λ told commands s. subst (StandsFor new t.store) (sym (append-nil commands)) (stands told commands s);
+    moments = settling_moments old new r.store applies nothing moments;
+    run = run;
+  };
+}
+  where
+    go : (o : Option KeyCommand) → (o ≡ None → ⊥) → is_some o ≡ true
+    go None waits = absurd (waits refl)
+    go (Some command) waits = refl
+
+-- a roll and a delete, with nothing pending
+
+pub rolls : (old new : DiskState) (r t : Running) (words : ℕ → ℕ) (now : ℕ) (name : List ℕ) (given : Option (List ℕ)) (key : Standing) (drawn : List ℕ) (told : KmsReply) (words' : ℕ → ℕ)
+    → StandsSo (keys_of r) name key → is_misfit key.bits given ≡ false → key.versions < 65535 → drawn ≡ material_for words key.bits given
+    → ((k : ℕ) → words' k ≡ words (words_for key.bits given + k)) → Commits old new r (rolled (keys_of r) name (row_of (keys_of r) name) drawn 0) told t
+    → ActsSettled old new r words now (call.Roll name given) told t words'
+rolls old new r t words now name given key drawn told words' so fits room drawn_is rest done =
+    let same : drawn ≡ material_for words (bits_of (row_of (keys_of r) name)) given = drawn_is ∙ ap (λ n. material_for words n given) so.bits in
+    settled_enacted old new r t words now (call.Roll name given) told words' refl (may_be_rolled (keys_of r) name given key so fits room) refl
+    (same_commit old new r t (rolled (keys_of r) name (row_of (keys_of r) name) drawn 0) (deed (keys_of r) words now (call.Roll name given)) told
+    (ap (λ (m : List ℕ). Some (command.Roll (birth_of (row_of (keys_of r) name)) (versions_of (row_of (keys_of r) name)) m)) same)
+    (ap (λ (m : List ℕ). shown name (versions_of (row_of (keys_of r) name)) m) same) refl done)
+    (λ k. rest k ∙ ap (λ n. words (words_for n given + k)) so.bits)
+
+pub deletes : (old new : DiskState) (r t : Running) (words : ℕ → ℕ) (now : ℕ) (name : List ℕ) (key : Standing) (told : KmsReply) → StandsSo (keys_of r) name key
+    → Commits old new r (deleted (keys_of r) key.birth) told t → ActsSettled old new r words now (call.Delete name) told t words
+deletes old new r t words now name key told so done =
+    settled_enacted old new r t words now (call.Delete name) told words refl (ap (λ b. cond b (Some refusal.NoSuchKey) None) so.stands) refl
+    (subst (λ (b : ℕ). Commits old new r (deleted (keys_of r) b) told t) so.birth done) (λ k. ap words (omega arith))
+
+-- a start
+
+-- the table before an opening
+before_opening : (t : Table) → 0 < t.opening → t ≡ after (record t { opening = t.opening - 1 }) (next_opening (record t { opening = t.opening - 1 }))
+before_opening t some = let is : t.opening ≡ t.opening - 1 + 1 = omega arith in λ i. record t { opening = is i }
+
+opened_behind : (d : DiskState) (store : StoreState) (commands : List KeyCommand) (table : Table) → StandsFor d store (commands ++ next_opening table ∷ []) → key_replay no_keys commands ≡ Some table
+    → store.table.keys ≡ after table (next_opening table)
+opened_behind d store commands table s makes =
+    let may : applies table (next_opening table) ≡ true = (Decides-eqb (table.opening + 1) (table.opening + 1)).1 refl in
+    let both : Some store.table.keys ≡ Some (after table (next_opening table)) = sym s.makes ∙ replay_more no_keys table commands (next_opening table) makes may in
+    cc both
+
+pub started_keys : (old new : DiskState) (store : StoreState) → store.pending ≡ None → store.table.keys.greatest < store.table.keys.opening * 2 ^ 32
+    → (Tells old → (commands : List KeyCommand) × (table : Table) × IsKeyLog (old.reads 0) commands table × StandsFor new store (commands ++ next_opening table ∷ []))
+    → Starts old new (record { store = store; next = 1 })
+started_keys old new store none births log = record {
+  table = before;
+  opens = λ i. record { keys = record { table = is i; next = 1 }; pending = none i };
+  log = λ told.
+      let found = log told in
+      let table_is : before ≡ found.1 = same_before found.1 (opened_behind new store found.0 found.1 found.3 found.2.makes) in (
+        found.0,
+        subst (λ (t : Table). IsKeyLog (old.reads 0) found.0 t) (sym table_is) found.2,
+        subst (λ (t : Table). StandsFor new store (found.0 ++ next_opening t ∷ [])) (sym table_is) found.3,
+      );
+}
+  where
+    keys : Table
+    keys = store.table.keys
+
+    before : Table
+    before = record keys { opening = keys.opening - 1 }
+
+    is : keys ≡ after before (next_opening before)
+    is = before_opening keys (some keys.opening keys.greatest births)
+      where
+        some : (o g : ℕ) → g < o * 2 ^ 32 → 0 < o
+        some o g h = grind (arith, h)
+
+    same_before : (t : Table) → keys ≡ after t (next_opening t) → before ≡ t
+    same_before t h = ap (λ (x : Table). record x { opening = x.opening - 1 }) h ∙ (λ i. record t { opening = back i })
+      where
+        back : t.opening + 1 - 1 ≡ t.opening
+        back = omega arith

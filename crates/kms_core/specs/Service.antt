@@ -1,0 +1,115 @@
+-- The calls of the key management service over a store and its disk.
+use Rattle.std.specs.Prelude.{◌≡◌, ◌⊎◌, ℕ, ◌+◌, Bool, true, false, List, [], ◌∷◌, ◌++◌, Option, None, Some, is_some, IfSome}
+use Rattle.hk_base.specs.Disk.{DiskState, Tells, RunOn, LeavesOnly}
+use Rattle.hk_base.specs.Faults.{Rose}
+use Rattle.key_rows.specs.declared.rows.KeyCommand.{KeyCommand}
+use Rattle.key_rows.specs.declared.calls.KmsCall.{KmsCall}
+use Rattle.key_rows.specs.declared.calls.KmsCall.TheVariants as call
+use Rattle.key_rows.specs.declared.calls.KmsReply.{KmsReply}
+use Rattle.key_rows.specs.declared.calls.KmsReply.TheVariants as reply
+use Rattle.key_rows.specs.declared.calls.KmsRefusal.TheVariants as refusal
+use Rattle.key_rows.specs.Records.{HasSpelling}
+use Rattle.key_rows.specs.Table.{Table}
+use Rattle.kms_store.specs.Store.{Applies, IsKeyLog, IsLeftOf, IsLogOf, StandsFor, StoreState, next_opening, settled_commands}
+use Rattle.kms_core.specs.State.{KmsState, Running, ServiceState, opened, service_of, settled}
+use Rattle.kms_core.specs.Calls.{KmsActs, causes, deed, first_cause}
+
+-- The calls that change keys. Each settles the pending command first; the others answer from the table without it.
+abbrev pub is_change : KmsCall → Bool
+is_change (call.Create name bits material description) = true
+is_change (call.Roll name material) = true
+is_change (call.Delete name) = true
+is_change (call.Invalidate name) = false
+is_change (call.Metadata name) = false
+is_change (call.Metadatas names) = false
+is_change call.Names = false
+is_change (call.Current name) = false
+is_change (call.Versions name) = false
+is_change (call.Version version) = false
+is_change (call.Generate name count) = false
+is_change (call.Decrypt name sent) = false
+is_change (call.Reencrypt name sent) = false
+is_change (call.Batch name sent) = false
+
+abbrev pub listed : Option KeyCommand → List KeyCommand
+listed None = []
+listed (Some command) = command ∷ []
+
+-- a command is acknowledged by an answer that is no refusal
+abbrev pub acknowledged : KmsReply → Option KeyCommand → List KeyCommand
+acknowledged (reply.Refused why) logs = []
+acknowledged _ logs = listed logs
+
+-- a call that changes nothing
+pub record OnlyReads (s : ServiceState) (words : ℕ → ℕ) (now : ℕ) (c : KmsCall) (told : KmsReply) (drawn : ℕ) (logged : List KeyCommand) (s' : ServiceState) : Type 0 where
+  pub acts : KmsActs s.keys words now c told drawn s.keys
+  pub none_logged : logged ≡ []
+  pub same : s' ≡ s
+
+-- The pending command could not be settled: it is still pending, and nothing was done.
+pub record Unsettled (s : ServiceState) (fault : Type 0) (told : KmsReply) (drawn : ℕ) (logged : List KeyCommand) (s' : ServiceState) : Type 0 where
+  pub waits : is_some s.pending ≡ true
+  pub failed : fault
+  pub told_is : told ≡ reply.Refused refusal.StoreFault
+  pub none_drawn : drawn ≡ 0
+  pub none_logged : logged ≡ []
+  pub same : s' ≡ s
+
+-- A change of keys beside which nothing is pending, behind the commands that were settled. What it did was written to the log,
+-- if it did anything.
+pub record Written (keys : KmsState) (before : List KeyCommand) (words : ℕ → ℕ) (now : ℕ) (c : KmsCall) (told : KmsReply) (drawn : ℕ) (logged : List KeyCommand) (s' : ServiceState) : Type 0 where
+  pub changed : KmsState
+  pub acts : KmsActs keys words now c told drawn changed
+  pub logged_is : logged ≡ before ++ acknowledged told (deed keys words now c).logs
+  pub left : s' ≡ record { keys = changed; pending = None }
+
+-- The disk failed when the record of the change was written: its command is pending, its birth is used, and nothing else changed.
+pub record Unwritten (keys : KmsState) (before : List KeyCommand) (words : ℕ → ℕ) (now : ℕ) (c : KmsCall) (fault : Type 0) (told : KmsReply) (drawn : ℕ) (logged : List KeyCommand) (s' : ServiceState) : Type 0 where
+  pub failed : fault
+  pub free : first_cause (causes keys c) ≡ None
+  pub told_is : told ≡ reply.Refused refusal.StoreFault
+  pub drawn_is : drawn ≡ (deed keys words now c).words
+  pub logged_is : logged ≡ before
+  pub left : s' ≡ record { keys = (deed keys words now c).state; pending = (deed keys words now c).logs }
+
+abbrev pub Changes : KmsState → List KeyCommand → (ℕ → ℕ) → ℕ → KmsCall → Type 0 → KmsReply → ℕ → List KeyCommand → ServiceState → Type 0
+Changes keys before words now c fault told drawn logged s' =
+    Written keys before words now c told drawn logged s' ⊎ Unwritten keys before words now c fault told drawn logged s'
+
+-- From s, with these words to come, a call may be answered so, draw so many words, have these commands acknowledged, and leave
+-- s'. A store fault comes only where `fault` holds. A command that was pending is acknowledged where it was found to be kept.
+abbrev pub ServesBy : Bool → ServiceState → (ℕ → ℕ) → ℕ → KmsCall → Type 0 → KmsReply → ℕ → List KeyCommand → ServiceState → Type 0
+ServesBy false s words now c fault told drawn logged s' = OnlyReads s words now c told drawn logged s'
+ServesBy true s words now c fault told drawn logged s' =
+    Unsettled s fault told drawn logged s' ⊎ ((kept : Bool) × Changes (settled kept s) (settled_commands kept s.pending) words now c fault told drawn logged s')
+
+abbrev pub Serves : ServiceState → (ℕ → ℕ) → ℕ → KmsCall → Type 0 → KmsReply → ℕ → List KeyCommand → ServiceState → Type 0
+Serves s words now c fault told drawn logged s' = ServesBy (is_change c) s words now c fault told drawn logged s'
+
+-- what a crash leaves of a log of these commands while a command may be added that applies to the table
+pub record IsGrowing (table : Table) (commands : List KeyCommand) (bytes : List ℕ) : Type 0 where
+  pub more : Option KeyCommand
+  pub fits : Applies table more
+  pub spelled : IfSome more HasSpelling
+  pub log : IsLogOf commands more bytes
+
+-- What a call of the service does to its disk: the commands acknowledged are in the log behind those before, and a crash at any
+-- moment of the call leaves what P says of those before.
+pub record Logs (old new : DiskState) (store store' : StoreState) (P : List KeyCommand → List ℕ → Type 0) (logged : List KeyCommand) : Type 0 where
+  pub stands : Tells old → (commands : List KeyCommand) → StandsFor old store commands → StandsFor new store' (commands ++ logged)
+  pub moments : Tells old → (commands : List KeyCommand) → StandsFor old store commands → LeavesOnly 0 old new (P commands)
+  pub run : RunOn 0 old new
+
+-- A call of a running service over its disk.
+pub record Acts (old new : DiskState) (r : Running) (words : ℕ → ℕ) (now : ℕ) (c : KmsCall) (told : KmsReply) (r' : Running) (words' : ℕ → ℕ) : Type 0 where
+  pub drawn : ℕ
+  pub logged : List KeyCommand
+  pub serves : Serves (service_of r) words now c (Rose old.faults new.faults) told drawn logged (service_of r')
+  pub rest : (k : ℕ) → words' k ≡ words (drawn + k)
+  pub disk : Logs old new r.store r'.store (IsLeftOf r.store.table.keys r.store.pending) logged
+
+-- A start found a table in the log, and recorded the next opening behind its commands.
+pub record Starts (old new : DiskState) (r : Running) : Type 0 where
+  pub table : Table
+  pub opens : service_of r ≡ opened table
+  pub log : Tells old → (commands : List KeyCommand) × IsKeyLog (old.reads 0) commands table × StandsFor new r.store (commands ++ next_opening table ∷ [])
