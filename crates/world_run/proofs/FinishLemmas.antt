@@ -145,9 +145,9 @@ entered-ledger ledger keys replies replied asks a kept o next member same low at
     replied-as : {d : Draw} → o ≡ Some d → Replied replies replied kept (Some d)
     replied-as {d = d} is = subst (λ (x : Option Draw). Replied replies replied kept x) is at
 
-entered-draws : (ledger : Ledger) (replies : List KeptReply) (replied : List (Option Draw)) (kept : KeptReply) (o : Option Draw) (place birth : ℕ) → Replied replies replied kept o
-    → DrawsFit ledger replied place birth → DrawsFit (ledger ++ entry_of (Some kept) (Some o)) replied place birth
-entered-draws ledger replies replied kept o place birth at f =
+entered-draws : (ledger : Ledger) (replies : List KeptReply) (replied : List (Option Draw)) (kept : KeptReply) (o : Option Draw) (place greatest : ℕ) → Replied replies replied kept o
+    → DrawsFit ledger replied place greatest → DrawsFit (ledger ++ entry_of (Some kept) (Some o)) replied place greatest
+entered-draws ledger replies replied kept o place greatest at f =
     record { taken = λ d i. f.taken d (was d i); born = λ d i. f.born d (was d i); apart = λ d g i j. f.apart d g (was d i) (was g j) }
   where
     was : (d : Draw) → IsDrawn (ledger ++ entry_of (Some kept) (Some o)) replied d → IsDrawn ledger replied d
@@ -306,7 +306,7 @@ linked-done w h a kept o edek fit l d =
       files = by_files a.ask refl;
       replies = l.replies;
       draws = entered-draws h.ledger w.kept.replies h.replied kept o h.place _ d.at l.draws;
-      ledger = entered-ledger h.ledger w.keys.table.rows w.kept.replies h.replied w.names.asks a kept o (next_id w.names) member same low d.at l.replies
+      ledger = entered-ledger h.ledger w.keys.keys.table.rows w.kept.replies h.replied w.names.asks a kept o (next_id w.names) member same low d.at l.replies
           (without-apart w.names.asks kept.id fit.ids.rising) l.ledger;
       wants = fewer-wants (finished_rows w.names.table.rows kept.id edek a.ask) w.names.asks w.kept.notes w.kept.replies kept.id (next_id w.names) (by_wants a.ask refl);
     })
@@ -326,24 +326,24 @@ linked-done w h a kept o edek fit l d =
     answers : Answers a.want (Given edek)
     answers = subst (λ (x : KeyAnswer). Answers a.want x) d.said (l.wants.answered a kept member (numbered-in w.kept.replies d.at.0 kept d.at.1) (sym same))
 
-    linked : KeyLinked w.keys.table.rows edek o
-    linked = subst (λ (x : KeyAnswer). KeyLinked w.keys.table.rows (given x) o) d.said (l.replies.keys_open kept o d.at)
+    linked : KeyLinked w.keys.keys.table.rows edek o
+    linked = subst (λ (x : KeyAnswer). KeyLinked w.keys.keys.table.rows (given x) o) d.said (l.replies.keys_open kept o d.at)
 
-    before : FilesLinked (h.ledger ++ entry_of (Some kept) (Some o)) w.keys.table.rows rows
-    before = entered-files h.ledger (entry_of (Some kept) (Some o)) w.keys.table.rows rows l.files
+    before : FilesLinked (h.ledger ++ entry_of (Some kept) (Some o)) w.keys.keys.table.rows rows
+    before = entered-files h.ledger (entry_of (Some kept) (Some o)) w.keys.keys.table.rows rows l.files
 
     causes : (x : Ask) → a.ask ≡ x → first_cause (finish_causes rows a x) ≡ None
     causes x is = ap (λ (y : Ask). first_cause (finish_causes rows a y)) (sym is) ∙ d.free
 
-    by_files : (x : Ask) → a.ask ≡ x → FilesLinked (h.ledger ++ entry_of (Some kept) (Some o)) w.keys.table.rows (finished_rows rows kept.id edek x)
+    by_files : (x : Ask) → a.ask ≡ x → FilesLinked (h.ledger ++ entry_of (Some kept) (Some o)) w.keys.keys.table.rows (finished_rows rows kept.id edek x)
     by_files (ask.Create p) is =
-        files-row (h.ledger ++ entry_of (Some kept) (Some o)) w.keys.table.rows rows (new_file kept.id p edek) refl
-        (λ e has. new-draw h.ledger w.keys.table.rows kept o edek e has linked)
+        files-row (h.ledger ++ entry_of (Some kept) (Some o)) w.keys.keys.table.rows rows (new_file kept.id p edek) refl
+        (λ e has. new-draw h.ledger w.keys.keys.table.rows kept o edek e has linked)
         (fits-zone rows w.names.asks w.kept.notes w.kept.replies (next_id w.names) a p edek fit.rows l.wants member is
         (ap (λ (x : Ask). same_id (zone_id rows (path_asked x)) a.zone) (sym is) ∙ not-false _ (file-free rows a p (causes (ask.Create p) is))) answers)
         before
     by_files (ask.Zone p key) is =
-        files-mark (h.ledger ++ entry_of (Some kept) (Some o)) w.keys.table.rows rows p key fit.rows (zone-markable rows a p key (causes (ask.Zone p key) is)) before
+        files-mark (h.ledger ++ entry_of (Some kept) (Some o)) w.keys.keys.table.rows rows p key fit.rows (zone-markable rows a p key (causes (ask.Zone p key) is)) before
 
     by_wants : (x : Ask) → a.ask ≡ x → WantsFit (finished_rows rows kept.id edek x) w.names.asks w.kept.notes w.kept.replies (next_id w.names)
     by_wants (ask.Create p) is = wants-row rows (new_file kept.id p edek) w.names.asks w.kept.notes w.kept.replies (next_id w.names) (next_id w.names) (omega arith) l.wants

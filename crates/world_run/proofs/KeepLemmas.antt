@@ -1,5 +1,5 @@
 -- Each event keeps the world linked, and a linked world keeps the promise on zone files.
-use Rattle.std.proofs.Common.{◌≡◌, inl, inr, ℕ, ◌+◌, ◌<◌, ◌≤◌, Bool, true, false, cond, not, List, [], ◌∷◌, ◌++◌, length, Option, Some, None, is_none, is_some, refl, sym, ap, subst, ◌∙◌, arith}
+use Rattle.std.proofs.Common.{◌≡◌, inl, inr, ℕ, ◌+◌, ◌≤◌, Bool, true, false, cond, not, List, [], ◌∷◌, ◌++◌, length, Option, Some, None, is_none, is_some, refl, sym, ap, subst, ◌∙◌, arith}
 use Rattle.std.specs.Prelude.{◌&&◌, nat_lt}
 use Rattle.std.specs.Option.{option_map, option_and_then}
 use Rattle.std.specs.declared.result.Result.{Result}
@@ -14,7 +14,9 @@ use Rattle.inode_tree.specs.Paths.{is_prefix, read_path}
 use Rattle.inode_tree.specs.Rows.{Entry, has_children, is_dir_at, is_marked, longer, mark_of, row_at, zone_id, zone_of}
 use Rattle.kms_core.specs.Calls.{KmsActs}
 use Rattle.kms_core.specs.Draws.{words_of_draw}
-use Rattle.kms_core.specs.State.{KmsState, next_birth}
+use Rattle.key_rows.specs.declared.rows.KeyCommand.{KeyCommand}
+use Rattle.key_rows.specs.Sound.{NamesOnce}
+use Rattle.kms_core.specs.State.{ServiceState}
 use Rattle.name_core.specs.declared.asks.OpenAsk.{OpenAsk}
 use Rattle.name_core.specs.declared.calls.Ask.{Ask}
 use Rattle.name_core.specs.declared.calls.Ask.TheVariants as ask
@@ -38,15 +40,16 @@ use Rattle.world_run.specs.declared.event.Line.{Line}
 use Rattle.world_run.specs.declared.kept.KeptReply.{KeptReply}
 use Rattle.world_run.specs.World.{WorldState, numbered, with_reply}
 use Rattle.world_run.specs.Step.{AskAt, DrawActs, FinishReply, PathActs, Step, WantActs, after_ask, finish_line, kept_reply, zone_with}
+use Rattle.world_run.specs.Keeps.{KnowsKeys}
 use Rattle.world_run.specs.Ledger.{Draw, Hidden, behind_words, draw_noted, draw_of, draw_told, entry_of, hidden_after}
 use Rattle.world_run.specs.Promise.{In, ZoneFilesOpen}
-use Rattle.world_run.specs.Linked.{Answers, KeyLinked, LinkedWorld, OpensTo, NamesFit, ServicesFit, ZoneStands, given}
+use Rattle.world_run.specs.Linked.{Answers, KeyLinked, LinkedWorld, NamesFit, ServicesFit, ZoneStands, given}
 use Rattle.world_run.proofs.DrawLemmas.{OneDrawn, fresh-key, generate-one, meta-answers, opens-among, words-of-draw}
 use Rattle.world_run.proofs.FinishLemmas.{linked-closed, linked-done}
-use Rattle.world_run.proofs.Laters.{keys-later, same-later}
+use Rattle.world_run.proofs.Laters.{same-later, serves-later}
 use Rattle.world_run.proofs.Members.{numbered-beside, numbered-in}
 use Rattle.world_run.proofs.RowLemmas.{zone-in}
-use Rattle.world_run.proofs.WorldLemmas.{NewAsk, NewReply, linked-ask, linked-directory, linked-keys, linked-reply, linked-words}
+use Rattle.world_run.proofs.WorldLemmas.{NewAsk, NewReply, linked-ask, linked-directory, linked-keys, linked-reply, linked-restart, linked-words}
 
 -- calls of the namesystem
 
@@ -162,11 +165,11 @@ answers-noted : (w : WorldState) (h : Hidden) (note : AskNote) (answer : KeyAnsw
     → (a : OpenAsk) → In a w.names.asks → note.id ≡ a.id → Answers a.want answer
 answers-noted w h note answer l i answers a j same = subst (λ (x : Want). Answers x answer) (l.wants.noted a note j i same) answers
 
-nothing-new : (w : WorldState) (h : Hidden) (keys : KmsState) (drawn : ℕ) (r : KeptReply) (note : AskNote) → LinkedWorld w h → In note w.kept.notes → r.id ≡ note.id → given r.answer ≡ None
-    → Answers note.want r.answer → NewReply w h keys drawn r None
-nothing-new w h keys drawn r note l i id none answers =
+nothing-new : (w : WorldState) (h : Hidden) (drawn : ℕ) (r : KeptReply) (note : AskNote) → LinkedWorld w h → In note w.kept.notes → r.id ≡ note.id → given r.answer ≡ None
+    → Answers note.want r.answer → NewReply w h w.keys drawn r None
+nothing-new w h drawn r note l i id none answers =
     record {
-      opens = subst (λ (x : Option Edek). KeyLinked keys.table.rows x None) (sym none) tt;
+      opens = subst (λ (x : Option Edek). KeyLinked w.keys.keys.table.rows x None) (sym none) tt;
       begins = λ d is. absurd cc;
       ends = λ d is. absurd cc;
       born = λ d is. absurd cc;
@@ -174,71 +177,73 @@ nothing-new w h keys drawn r note l i id none answers =
       answers = λ a j same. answers-noted w h note r.answer l i answers a j (sym id ∙ same);
     }
 
-generated-new : (w : WorldState) (h : Hidden) (words : ℕ → ℕ) (now : ℕ) (note : AskNote) (name : KeyName) (e : Edek) (drawn : ℕ) (keys : KmsState) → ServicesFit w → LinkedWorld w h
-    → In note w.kept.notes → note.want ≡ want.Generate name → KmsActs w.keys words now (key_call.Generate name 1) (key_reply.Ready (e ∷ [])) drawn keys → OneDrawn w.keys words name e drawn keys
-    → NewReply w h keys drawn (kept_reply note (Some (key_reply.Ready (e ∷ [])))) (Some (draw_of w.keys words h.place name))
-generated-new w h words now note name e drawn keys fit l i wants acts one =
-    let fresh = fresh-key w.keys words h.place now name e drawn keys fit.keys.table acts one in
-    let below : (draw_of w.keys words h.place name).birth < next_birth w.keys = let b = fresh.born in let g = fit.keys.births in omega (arith, b, g) in
+generated-new : (w : WorldState) (h : Hidden) (words : ℕ → ℕ) (now : ℕ) (note : AskNote) (name : KeyName) (e : Edek) (drawn : ℕ) → ServicesFit w → LinkedWorld w h
+    → In note w.kept.notes → note.want ≡ want.Generate name → KmsActs w.keys.keys words now (key_call.Generate name 1) (key_reply.Ready (e ∷ [])) drawn w.keys.keys
+    → OneDrawn w.keys.keys words name e drawn w.keys.keys → NewReply w h w.keys drawn (kept_reply note (Some (key_reply.Ready (e ∷ [])))) (Some (draw_of w.keys.keys words h.place name))
+generated-new w h words now note name e drawn fit l i wants acts one =
+    let fresh = fresh-key w.keys.keys words h.place now name e drawn w.keys.keys fit.keys.table acts one in
     record {
-      opens = (fresh.of_draw, subst (λ (s : KmsState). OpensTo s.table.rows (draw_of w.keys words h.place name) e) (sym one.same) fresh.opens);
-      begins = λ d is. let same : draw_of w.keys words h.place name ≡ d = cc in omega (arith, ap (λ (x : Draw). x.place) same);
+      opens = (fresh.of_draw, fresh.opens);
+      begins = λ d is. let same : draw_of w.keys.keys words h.place name ≡ d = cc in omega (arith, ap (λ (x : Draw). x.place) same);
       ends = λ d is.
-          let same : draw_of w.keys words h.place name ≡ d = cc in
+          let same : draw_of w.keys.keys words h.place name ≡ d = cc in
           subst (λ (x : Draw). x.place + words_of_draw (length x.dek) ≤ h.place + drawn) same
-          (omega (arith, words-of-draw w.keys words h.place name, one.took));
+          (omega (arith, words-of-draw w.keys.keys words h.place name, one.took));
       born = λ d is.
-          let same : draw_of w.keys words h.place name ≡ d = cc in
-          subst (λ (x : Draw). x.birth < next_birth keys) same (subst (λ (s : KmsState). (draw_of w.keys words h.place name).birth < next_birth s) (sym one.same) below);
+          let same : draw_of w.keys.keys words h.place name ≡ d = cc in
+          subst (λ (x : Draw). x.birth ≤ w.keys.keys.table.greatest) same fresh.born;
       old = l.wants.old_notes note i;
       answers = λ a j same. answers-noted w h note (Given (Some e)) l i (subst (λ (x : Want). Answers x (Given (Some e))) (sym wants) fresh.of_name) a j same;
     }
 
-abbrev AfterDraw : WorldState → (ℕ → ℕ) → Hidden → AskNote → ℕ → KmsState → Want → Option KmsReply → Type 0
+abbrev AfterDraw : WorldState → (ℕ → ℕ) → Hidden → AskNote → ℕ → ServiceState → Want → Option KmsReply → Type 0
 AfterDraw w words h note drawn keys wanted reply =
-    LinkedWorld (with_reply (kept_reply note reply) (record w { keys = keys })) (record (behind_words drawn h) { replied = h.replied ++ draw_told w.keys words h.place wanted reply ∷ [] })
+    LinkedWorld (with_reply (kept_reply note reply) (record w { keys = keys })) (record (behind_words drawn h) { replied = h.replied ++ draw_told w.keys.keys words h.place wanted reply ∷ [] })
 
-call-keeps : (w : WorldState) (h : Hidden) (words : ℕ → ℕ) (now : ℕ) (note : AskNote) (name : KeyName) (reply : KmsReply) (drawn : ℕ) (keys : KmsState) → ServicesFit w → LinkedWorld w h
-    → In note w.kept.notes → note.want ≡ want.Generate name → KmsActs w.keys words now (key_call.Generate name 1) reply drawn keys → AfterDraw w words h note drawn keys (want.Generate name) (Some reply)
-call-keeps w h words now note name reply drawn keys fit l i wants acts = elim (generate-one w.keys words now name reply drawn keys acts) [
+call-keeps : (w : WorldState) (h : Hidden) (words : ℕ → ℕ) (now : ℕ) (note : AskNote) (name : KeyName) (reply : KmsReply) (drawn : ℕ) → ServicesFit w → LinkedWorld w h
+    → In note w.kept.notes → note.want ≡ want.Generate name → KmsActs w.keys.keys words now (key_call.Generate name 1) reply drawn w.keys.keys
+    → AfterDraw w words h note drawn w.keys (want.Generate name) (Some reply)
+call-keeps w h words now note name reply drawn fit l i wants acts = elim (generate-one w.keys.keys words now name reply drawn w.keys.keys acts) [
   | inl refused ↦
-      subst (λ (r : KmsReply). AfterDraw w words h note drawn keys (want.Generate name) (Some r)) (sym refused.1)
-      (linked-reply w h keys drawn (kept_reply note (Some (key_reply.Refused refused.0))) None (keys-later w.keys words now (key_call.Generate name 1) reply drawn keys acts)
-      (nothing-new w h keys drawn (kept_reply note (Some (key_reply.Refused refused.0))) note l i refl refl (subst (λ (x : Want). Answers x (Refused refused.0)) (sym wants) tt)) l)
+      subst (λ (r : KmsReply). AfterDraw w words h note drawn w.keys (want.Generate name) (Some r)) (sym refused.1)
+      (linked-reply w h w.keys drawn (kept_reply note (Some (key_reply.Refused refused.0))) None (same-later w.keys.keys.table)
+      (nothing-new w h drawn (kept_reply note (Some (key_reply.Refused refused.0))) note l i refl refl (subst (λ (x : Want). Answers x (Refused refused.0)) (sym wants) tt)) l)
   | inr ready ↦
-      subst (λ (r : KmsReply). AfterDraw w words h note drawn keys (want.Generate name) (Some r)) (sym ready.1)
-      (linked-reply w h keys drawn (kept_reply note (Some (key_reply.Ready (ready.0 ∷ [])))) (Some (draw_of w.keys words h.place name))
-      (keys-later w.keys words now (key_call.Generate name 1) reply drawn keys acts)
-      (generated-new w h words now note name ready.0 drawn keys fit l i wants
-      (subst (λ (r : KmsReply). KmsActs w.keys words now (key_call.Generate name 1) r drawn keys) ready.1 acts) ready.2) l)
+      subst (λ (r : KmsReply). AfterDraw w words h note drawn w.keys (want.Generate name) (Some r)) (sym ready.1)
+      (linked-reply w h w.keys drawn (kept_reply note (Some (key_reply.Ready (ready.0 ∷ [])))) (Some (draw_of w.keys.keys words h.place name)) (same-later w.keys.keys.table)
+      (generated-new w h words now note name ready.0 drawn fit l i wants
+      (subst (λ (r : KmsReply). KmsActs w.keys.keys words now (key_call.Generate name 1) r drawn w.keys.keys) ready.1 acts) ready.2) l)
 ]
 
-want-keeps : (w : WorldState) (h : Hidden) (words : ℕ → ℕ) (now : ℕ) (note : AskNote) (reply : Option KmsReply) (drawn : ℕ) (keys : KmsState) (wanted : Want) → ServicesFit w → LinkedWorld w h
-    → In note w.kept.notes → note.want ≡ wanted → WantActs w.keys words now wanted reply drawn keys → AfterDraw w words h note drawn keys wanted reply
-want-keeps w h words now note reply drawn keys want.Nothing fit l i wants a =
-    subst (λ (s : KmsState). AfterDraw w words h note drawn s want.Nothing reply) (sym a.same)
+want-keeps : (w : WorldState) (h : Hidden) (words : ℕ → ℕ) (now : ℕ) (note : AskNote) (fault : Type 0) (reply : Option KmsReply) (drawn : ℕ) (logged : List KeyCommand) (keys : ServiceState) (wanted : Want)
+    → ServicesFit w → LinkedWorld w h → In note w.kept.notes → note.want ≡ wanted → WantActs w.keys words now wanted fault reply drawn logged keys → AfterDraw w words h note drawn keys wanted reply
+want-keeps w h words now note fault reply drawn logged keys want.Nothing fit l i wants a =
+    subst (λ (s : ServiceState). AfterDraw w words h note drawn s want.Nothing reply) (sym a.same)
     (subst (λ (r : Option KmsReply). AfterDraw w words h note drawn w.keys want.Nothing r) (sym a.told_is)
-    (linked-reply w h w.keys drawn (kept_reply note None) None (same-later w.keys)
-    (nothing-new w h w.keys drawn (kept_reply note None) note l i refl refl (subst (λ (x : Want). Answers x (Given None)) (sym wants) refl)) l))
-want-keeps w h words now note reply drawn keys (want.Generate name) fit l i wants a =
-    subst (λ (r : Option KmsReply). AfterDraw w words h note drawn keys (want.Generate name) r) (sym a.told_is) (call-keeps w h words now note name a.reply drawn keys fit l i wants a.acts)
-want-keeps w h words now note reply drawn keys (want.Metadata name) fit l i wants a =
-    let told = meta-answers w.keys words now name a.reply drawn keys a.acts in
-    subst (λ (r : Option KmsReply). AfterDraw w words h note drawn keys (want.Metadata name) r) (sym a.told_is)
-    (linked-reply w h keys drawn (kept_reply note (Some a.reply)) None (keys-later w.keys words now (key_call.Metadata name) a.reply drawn keys a.acts)
-    (nothing-new w h keys drawn (kept_reply note (Some a.reply)) note l i refl told.none (subst (λ (x : Want). Answers x (answer_of (Some a.reply))) (sym wants) told.answers)) l)
+    (linked-reply w h w.keys drawn (kept_reply note None) None (same-later w.keys.keys.table)
+    (nothing-new w h drawn (kept_reply note None) note l i refl refl (subst (λ (x : Want). Answers x (Given None)) (sym wants) refl)) l))
+want-keeps w h words now note fault reply drawn logged keys (want.Generate name) fit l i wants a =
+    subst (λ (s : ServiceState). AfterDraw w words h note drawn s (want.Generate name) reply) (sym a.serves.same)
+    (subst (λ (r : Option KmsReply). AfterDraw w words h note drawn w.keys (want.Generate name) r) (sym a.told_is)
+    (call-keeps w h words now note name a.reply drawn fit l i wants a.serves.acts))
+want-keeps w h words now note fault reply drawn logged keys (want.Metadata name) fit l i wants a =
+    let told = meta-answers w.keys.keys words now name a.reply drawn w.keys.keys a.serves.acts in
+    subst (λ (s : ServiceState). AfterDraw w words h note drawn s (want.Metadata name) reply) (sym a.serves.same)
+    (subst (λ (r : Option KmsReply). AfterDraw w words h note drawn w.keys (want.Metadata name) r) (sym a.told_is)
+    (linked-reply w h w.keys drawn (kept_reply note (Some a.reply)) None (same-later w.keys.keys.table)
+    (nothing-new w h drawn (kept_reply note (Some a.reply)) note l i refl told.none (subst (λ (x : Want). Answers x (answer_of (Some a.reply))) (sym wants) told.answers)) l))
 
-draw-keeps : (w : WorldState) (h : Hidden) (words : ℕ → ℕ) (now number : ℕ) (told : Line) (drawn : ℕ) (w' : WorldState) (o : Option AskNote) → ServicesFit w → LinkedWorld w h
-    → numbered w.kept.notes number ≡ o → DrawActs w words now o told drawn w' → LinkedWorld w' (hidden_after w words (event.Draw number) told drawn h)
-draw-keeps w h words now number told drawn w' None fit l is u =
+draw-keeps : (w : WorldState) (h : Hidden) (words : ℕ → ℕ) (now number : ℕ) (fault : Type 0) (told : Line) (drawn : ℕ) (logged : List KeyCommand) (w' : WorldState) (o : Option AskNote) → ServicesFit w → LinkedWorld w h
+    → numbered w.kept.notes number ≡ o → DrawActs w words now o fault told drawn logged w' → LinkedWorld w' (hidden_after w words (event.Draw number) told drawn h)
+draw-keeps w h words now number fault told drawn logged w' None fit l is u =
     subst (λ (t : Line). LinkedWorld w' (hidden_after w words (event.Draw number) t drawn h)) (sym u.told_is) (subst (λ (v : WorldState). LinkedWorld v (behind_words drawn h)) (sym u.same) (linked-words w h drawn l))
-draw-keeps w h words now number told drawn w' (Some note) fit l is (inr u) =
+draw-keeps w h words now number fault told drawn logged w' (Some note) fit l is (inr u) =
     subst (λ (t : Line). LinkedWorld w' (hidden_after w words (event.Draw number) t drawn h)) (sym u.told_is) (subst (λ (v : WorldState). LinkedWorld v (behind_words drawn h)) (sym u.same) (linked-words w h drawn l))
-draw-keeps w h words now number told drawn w' (Some note) fit l is (inl a) =
+draw-keeps w h words now number fault told drawn logged w' (Some note) fit l is (inl a) =
     subst (λ (t : Line). LinkedWorld w' (hidden_after w words (event.Draw number) t drawn h)) (sym a.told_is)
-    (subst (λ (q : Option AskNote). LinkedWorld w' (record (behind_words drawn h) { replied = h.replied ++ draw_noted w.keys words h.place q a.reply ∷ [] })) (sym is)
-    (subst (λ (v : WorldState). LinkedWorld v (record (behind_words drawn h) { replied = h.replied ++ draw_told w.keys words h.place note.want a.reply ∷ [] })) (sym a.left)
-    (want-keeps w h words now note a.reply drawn a.keys note.want fit l (numbered-in w.kept.notes number note is) refl a.acts)))
+    (subst (λ (q : Option AskNote). LinkedWorld w' (record (behind_words drawn h) { replied = h.replied ++ draw_noted w.keys.keys words h.place q a.reply ∷ [] })) (sym is)
+    (subst (λ (v : WorldState). LinkedWorld v (record (behind_words drawn h) { replied = h.replied ++ draw_told w.keys.keys words h.place note.want a.reply ∷ [] })) (sym a.left)
+    (want-keeps w h words now note fault a.reply drawn logged a.keys note.want fit l (numbered-in w.kept.notes number note is) refl a.acts)))
 
 -- finishes
 
@@ -271,34 +276,36 @@ finish-keeps w words h number drawn kept result names fit l at (Plain, may, is) 
     go None found = linked-words w h drawn l
     go (Some a) found = open-keeps w words h number drawn kept a kept.answer fit l at found refl
 
-finish-reply-keeps : (w : WorldState) (words : ℕ → ℕ) (h : Hidden) (number : ℕ) (told : Line) (drawn : ℕ) (w' : WorldState) (o : Option KeptReply) → NamesFit w.names → LinkedWorld w h
-    → numbered w.kept.replies number ≡ o → FinishReply w o told drawn w' → LinkedWorld w' (hidden_after w words (event.Finish number) told drawn h)
-finish-reply-keeps w words h number told drawn w' None fit l at u =
+finish-reply-keeps : (w : WorldState) (words : ℕ → ℕ) (h : Hidden) (number : ℕ) (told : Line) (drawn : ℕ) (logged : List KeyCommand) (w' : WorldState) (o : Option KeptReply) → NamesFit w.names → LinkedWorld w h
+    → numbered w.kept.replies number ≡ o → FinishReply w o told drawn logged w' → LinkedWorld w' (hidden_after w words (event.Finish number) told drawn h)
+finish-reply-keeps w words h number told drawn logged w' None fit l at u =
     subst (λ (t : Line). LinkedWorld w' (hidden_after w words (event.Finish number) t drawn h)) (sym u.told_is) (subst (λ (v : WorldState). LinkedWorld v (behind_words drawn h)) (sym u.same) (linked-words w h drawn l))
-finish-reply-keeps w words h number told drawn w' (Some kept) fit l at f =
+finish-reply-keeps w words h number told drawn logged w' (Some kept) fit l at f =
     subst (λ (t : Line). LinkedWorld w' (hidden_after w words (event.Finish number) t drawn h)) (sym f.told_is)
     (subst (λ (v : WorldState). LinkedWorld v (hidden_after w words (event.Finish number) (finish_line f.result) drawn h)) (sym f.left)
     (finish-keeps w words h number drawn kept f.result f.names fit l at f.finishes))
 
 -- each event
 
-pub keeps-linked : (w : WorldState) (words : ℕ → ℕ) (now : ℕ) (e : Event) (told : Line) (drawn : ℕ) (w' : WorldState) (h : Hidden) → ServicesFit w → Step w words now e told drawn w' → LinkedWorld w h
-    → LinkedWorld w' (hidden_after w words e told drawn h)
-keeps-linked w words now (event.Kms user c) told drawn w' h fit s l =
-    subst (λ (v : WorldState). LinkedWorld v (behind_words drawn h)) (sym s.left) (linked-keys w h s.keys drawn (keys-later w.keys words now c s.reply drawn s.keys s.acts) l)
-keeps-linked w words now (event.Mkdir user p) told drawn w' h fit s l =
+pub keeps-linked : (w : WorldState) (words : ℕ → ℕ) (now : ℕ) (e : Event) (fault tells : Type 0) (told : Line) (drawn : ℕ) (logged : List KeyCommand) (w' : WorldState) (h : Hidden) → KnowsKeys e tells → ServicesFit w
+    → Step w words now e fault tells told drawn logged w' → LinkedWorld w h → LinkedWorld w' (hidden_after w words e told drawn h)
+keeps-linked w words now (event.Kms user c) fault tells told drawn logged w' h knows fit s l =
+    subst (λ (v : WorldState). LinkedWorld v (behind_words drawn h)) (sym s.left) (linked-words _ h drawn (linked-keys w h s.keys (serves-later w.keys words now c fault s.reply drawn logged s.keys fit.keys s.serves) l))
+keeps-linked w words now event.RestartKms fault tells told drawn logged w' h knows fit s l =
+    subst (λ (v : WorldState). LinkedWorld v (behind_words drawn h)) (sym s.left) (linked-words _ h drawn (linked-restart w h (s.found knows).kept s.table (s.found knows).table_is fit.keys l))
+keeps-linked w words now (event.Mkdir user p) fault tells told drawn logged w' h knows fit s l =
     linked-words w' h drawn (path-keeps w h call.Mkdir (read_path p) told w' (λ q reply names acts. mkdir-keeps w h q reply names l acts) l s.1)
-keeps-linked w words now (event.Info user p) told drawn w' h fit s l =
+keeps-linked w words now (event.Info user p) fault tells told drawn logged w' h knows fit s l =
     linked-words w' h drawn (path-keeps w h call.Info (read_path p) told w' (λ q reply names acts. info-keeps w h q reply names l acts) l s.1)
-keeps-linked w words now (event.AskCreate user p) told drawn w' h fit s l = linked-words w' h drawn (ask-at-keeps w h user ask.Create (read_path p) told w' fit.names l s.1)
-keeps-linked w words now (event.AskZone user p key) told drawn w' h fit s l = linked-words w' h drawn (ask-at-keeps w h user (zone_with key) (read_path p) told w' fit.names l s.1)
-keeps-linked w words now (event.Draw number) told drawn w' h fit s l = draw-keeps w h words now number told drawn w' (numbered w.kept.notes number) fit l refl s
-keeps-linked w words now (event.Finish number) told drawn w' h fit s l = finish-reply-keeps w words h number told drawn w' (numbered w.kept.replies number) fit.names l refl s
+keeps-linked w words now (event.AskCreate user p) fault tells told drawn logged w' h knows fit s l = linked-words w' h drawn (ask-at-keeps w h user ask.Create (read_path p) told w' fit.names l s.1)
+keeps-linked w words now (event.AskZone user p key) fault tells told drawn logged w' h knows fit s l = linked-words w' h drawn (ask-at-keeps w h user (zone_with key) (read_path p) told w' fit.names l s.1)
+keeps-linked w words now (event.Draw number) fault tells told drawn logged w' h knows fit s l = draw-keeps w h words now number fault told drawn logged w' (numbered w.kept.notes number) fit l refl s
+keeps-linked w words now (event.Finish number) fault tells told drawn logged w' h knows fit s l = finish-reply-keeps w words h number told drawn logged w' (numbered w.kept.replies number) fit.names l refl s
 
 -- the promise
 
-pub linked-promise : (w : WorldState) (h : Hidden) → ServicesFit w → LinkedWorld w h → ZoneFilesOpen w h
-linked-promise w h fit l =
+pub linked-promise : (w : WorldState) (h : Hidden) → NamesOnce w.keys.keys.table.rows → LinkedWorld w h → ZoneFilesOpen w h
+linked-promise w h once l =
     record {
       open_up = λ x e i is.
           let d = l.files.files x e i is in
@@ -306,7 +313,7 @@ linked-promise w h fit l =
             draw = d.draw;
             entered = d.entered;
             of_key = d.of_key;
-            opens = λ row j birth. opens-among w.keys.table.rows row e d.draw.dek fit.keys.table.names j (d.opens row j birth);
+            opens = λ row j birth. opens-among w.keys.keys.table.rows row e d.draw.dek once j (d.opens row j birth);
           };
       one_draw = l.ledger.one_draw;
       apart = λ i j d f p q unlike. elim (l.draws.apart d f (inl (i, p)) (inl (j, q))) [

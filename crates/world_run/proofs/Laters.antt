@@ -1,9 +1,10 @@
 -- What opens under a table of keys opens under a later one.
-use Rattle.std.proofs.Common.{◌≡◌, inl, inr, ℕ, zero, suc, ◌<◌, ◌≤◌, Bool, true, false, cond, List, [], ◌∷◌, ◌++◌, Option, Some, None, slice_get, refl, sym, ap, subst, ◌∙◌, arith}
-use Rattle.std.specs.Prelude.{⊤, not}
+use Rattle.std.proofs.Common.{◌≡◌, inl, inr, ℕ, zero, suc, ◌<◌, ◌≤◌, ◌/◌, ◌==◌, Bool, true, false, cond, List, [], ◌∷◌, ◌++◌, length, Option, Some, None, is_none, slice_get, refl, sym, ap, subst, ◌∙◌, arith}
+use Rattle.std.specs.Prelude.{⊤, not, ◌&&◌, nat_lt, IfSome}
 use Rattle.std.specs.List.{filter}
 use Rattle.std.specs.Option.{option_map, option_and_then}
 use Rattle.std.specs.Str.{bytes_eq}
+use Rattle.std.proofs.lemmas.Bool.Decides.{nat_tests}
 use Rattle.hk_base.specs.declared.names.Dek.{Dek}
 use Rattle.hk_base.specs.declared.names.Edek.{Edek}
 use Rattle.key_rows.specs.declared.rows.KeyRow.{KeyRow}
@@ -13,11 +14,17 @@ use Rattle.key_rows.specs.declared.calls.KmsCall.{KmsCall}
 use Rattle.key_rows.specs.declared.calls.KmsCall.TheVariants as call
 use Rattle.key_rows.specs.declared.calls.KmsRefusal.{KmsRefusal}
 use Rattle.key_rows.specs.declared.calls.KmsReply.{KmsReply}
-use Rattle.key_rows.specs.Table.{Table, after, is_born, material_of, rolled, with_material}
+use Rattle.key_rows.specs.Sound.{IsTable, NamesOnce}
+use Rattle.key_rows.specs.Table.{Table, after, applies, find_name, is_born, is_length, material_of, opening_of, rolled, with_material}
+use Rattle.key_rows.proofs.Births.{both}
+use Rattle.key_rows.proofs.TableLemmas.{sound_create, sound_delete, sound_roll}
+use Rattle.kms_store.specs.Store.{Applies, next_opening, settled_table}
 use Rattle.kms_core.specs.Draws.{material_for}
 use Rattle.kms_core.specs.Calls.{KmsActs, NoRoom, Plain, birth_of, bits_of, causes, deed, done_with, first_cause, row_of, unless_refused, versions_of}
 use Rattle.kms_core.specs.Opening.{unseals}
-use Rattle.kms_core.specs.State.{KmsState, next_birth}
+use Rattle.kms_core.specs.Service.{Serves, ServesBy, is_change}
+use Rattle.kms_core.specs.State.{IsPending, IsService, KmsState, ServiceState, next_birth, opened, settled}
+use Rattle.kms_core.proofs.BirthLemmas.{below_settled, deed_keeps}
 use Rattle.world_run.specs.Ledger.{Draw}
 use Rattle.world_run.specs.Linked.{KeyLinked, OpensTo}
 use Rattle.world_run.specs.Promise.{In}
@@ -39,12 +46,12 @@ got-front [] m n x h = absurd cc
 got-front (y ∷ ms) m zero x h = h
 got-front (y ∷ ms) m (suc n) x h = got-front ms m n x h
 
-opened : (open_by : Dek → Dek) (o q : Option Dek) (dek : Dek) → ((x : Dek) → o ≡ Some x → q ≡ Some x) → option_map open_by o ≡ Some dek → option_map open_by q ≡ Some dek
-opened open_by None q dek f h = absurd cc
-opened open_by (Some x) q dek f h = ap (option_map open_by) (f x refl) ∙ h
+opens-more : (open_by : Dek → Dek) (o q : Option Dek) (dek : Dek) → ((x : Dek) → o ≡ Some x → q ≡ Some x) → option_map open_by o ≡ Some dek → option_map open_by q ≡ Some dek
+opens-more open_by None q dek f h = absurd cc
+opens-more open_by (Some x) q dek f h = ap (option_map open_by) (f x refl) ∙ h
 
 longer : (m : Dek) (row : KeyRow) → Grew row (with_material m row)
-longer m row e dek h = opened _ (material_of (row ∷ []) e.version) (material_of (with_material m row ∷ []) e.version) dek (more (bytes_eq row.name e.version.key)) h
+longer m row e dek h = opens-more _ (material_of (row ∷ []) e.version) (material_of (with_material m row ∷ []) e.version) dek (more (bytes_eq row.name e.version.key)) h
   where
     more : (t : Bool) (x : Dek)
         → option_and_then (λ (r : KeyRow). slice_get r.materials e.version.number) (cond t (Some row) None) ≡ Some x
@@ -89,45 +96,146 @@ later-after t (Delete birth) b n row p h = (row, in-filter (λ r. not (is_born b
 pub opens-later : (olds rows : List KeyRow) (d : Draw) (e : Edek) → LaterAt olds rows d.birth → OpensTo olds d e → OpensTo rows d e
 opens-later olds rows d e later h row p is = let q = later row p is in q.3 e d.dek (h q.0 q.1 q.2)
 
+-- tables that grew
+
+later-still : (olds mids rows : List KeyRow) (b : ℕ) → LaterAt olds mids b → LaterAt mids rows b → LaterAt olds rows b
+later-still olds mids rows b first next row p h =
+    let q = next row p h in
+    let r = first q.0 q.1 q.2 in
+    (r.0, r.1, r.2, λ e dek o. q.3 e dek (r.3 e dek o))
+
+-- what opens under keys of births that were used opens alike under a later table
+pub record KeysLater (t u : Table) : Type 0 where
+  pub rows : (b : ℕ) → b ≤ t.greatest → LaterAt t.rows u.rows b
+  pub births : t.greatest ≤ u.greatest
+
+pub same-later : (t : Table) → KeysLater t t
+same-later t = record { rows = λ b h. later-same t.rows b; births = omega arith }
+
+pub then-later : (t u v : Table) → KeysLater t u → KeysLater u v → KeysLater t v
+then-later t u v a z = record {
+  rows = λ b h. later-still t.rows u.rows v.rows b (a.rows b h) (let g = a.births in z.rows b (omega (arith, h, g)));
+  births = let g = a.births in let k = z.births in omega (arith, g, k);
+}
+
+-- a command that makes no key, or one of a new birth
+abbrev MakesNew : Table → KeyCommand → Type 0
+MakesNew t (Create birth name bits description created material) = t.greatest < birth
+MakesNew t _ = ⊤
+
+unlike : (a b greatest : ℕ) → greatest < a → b ≤ greatest → a ≡ b → ⊥
+unlike a b greatest new used e = absurd (omega (arith, new, used, e))
+
+later-by : (t : Table) (c : KeyCommand) → MakesNew t c → KeysLater t (after t c)
+later-by t (Opened opening) new = record { rows = λ b h. later-after t (Opened opening) b tt; births = omega arith }
+later-by t (Create birth name bits description created material) new = record {
+  rows = λ b h. later-after t (Create birth name bits description created material) b (unlike birth b t.greatest new h);
+  births = omega (arith, new);
+}
+later-by t (Roll birth number material) new = record { rows = λ b h. later-after t (Roll birth number material) b tt; births = omega arith }
+later-by t (Delete birth) new = record { rows = λ b h. later-after t (Delete birth) b tt; births = omega arith }
+
+makes-new : (t : Table) (c : KeyCommand) → applies t c ≡ true → MakesNew t c
+makes-new t (Opened opening) may = tt
+makes-new t (Create birth name bits description created material) may =
+    let sized = both (nat_lt 0 t.opening && is_none (find_name t.rows name) && opening_of birth == t.opening && nat_lt t.greatest birth && nat_lt (length t.rows) 10000 && is_length bits) (length material == bits / 8) may in
+    let long = both (nat_lt 0 t.opening && is_none (find_name t.rows name) && opening_of birth == t.opening && nat_lt t.greatest birth && nat_lt (length t.rows) 10000) (is_length bits) sized.0 in
+    let few = both (nat_lt 0 t.opening && is_none (find_name t.rows name) && opening_of birth == t.opening && nat_lt t.greatest birth) (nat_lt (length t.rows) 10000) long.0 in
+    let born = both (nat_lt 0 t.opening && is_none (find_name t.rows name) && opening_of birth == t.opening) (nat_lt t.greatest birth) few.0 in
+    let above = born.1 in grind (arith, nat_tests, above)
+makes-new t (Roll birth number material) may = tt
+makes-new t (Delete birth) may = tt
+
+-- a command that applies leaves a later table, whoever wrote it
+pub later-behind : (t : Table) (c : KeyCommand) → applies t c ≡ true → KeysLater t (after t c)
+later-behind t c may = later-by t c (makes-new t c may)
+
+pub later-with : (found : Bool) (more : Option KeyCommand) (t : Table) → Applies t more → KeysLater t (settled_table found more t)
+later-with found None t may = same-later t
+later-with true (Some c) t may = later-behind t c may
+later-with false (Some c) t may = same-later t
+
+pub may-wait : (pending : Option KeyCommand) (s : KmsState) → IfSome pending (IsPending s) → Applies s.table pending
+may-wait None s waits = tt
+may-wait (Some c) s waits = waits.fits
+
+-- the keys once the pending command was settled
+pub later-settled : (kept : Bool) (s : ServiceState) → IsService s → KeysLater s.keys.table (settled kept s).table
+later-settled kept s is = later-with kept s.pending s.keys.table (may-wait s.pending s.keys is.waits)
+
+-- those that a start finds
+pub later-opened : (t : Table) → KeysLater t (opened t).keys.table
+later-opened t = later-by t (next_opening t) tt
+
 -- what a call of the key management service leaves
 
-pub record KeysLater (s s' : KmsState) : Type 0 where
-  pub rows : (b : ℕ) → b < next_birth s → LaterAt s.table.rows s'.table.rows b
-  pub births : next_birth s ≤ next_birth s'
+deed-later : (s : KmsState) (words : ℕ → ℕ) (now : ℕ) (c : KmsCall) → s.table.greatest < next_birth s → KeysLater s.table (done_with (deed s words now c).logs (deed s words now c).state).table
+deed-later s words now (call.Create name bits material description) below = later-by s.table (Create (next_birth s) name bits description now _) below
+deed-later s words now (call.Roll name material) below = later-by s.table (Roll (birth_of (row_of s name)) (versions_of (row_of s name)) (material_for words (bits_of (row_of s name)) material)) tt
+deed-later s words now (call.Delete name) below = later-by s.table (Delete (birth_of (row_of s name))) tt
+deed-later s words now (call.Invalidate name) below = same-later s.table
+deed-later s words now (call.Metadata name) below = same-later s.table
+deed-later s words now (call.Metadatas names) below = same-later s.table
+deed-later s words now call.Names below = same-later s.table
+deed-later s words now (call.Current name) below = same-later s.table
+deed-later s words now (call.Versions name) below = same-later s.table
+deed-later s words now (call.Version version) below = same-later s.table
+deed-later s words now (call.Generate name count) below = same-later s.table
+deed-later s words now (call.Decrypt name sent) below = same-later s.table
+deed-later s words now (call.Reencrypt name sent) below = same-later s.table
+deed-later s words now (call.Batch name sent) below = same-later s.table
 
-pub same-later : (s : KmsState) → KeysLater s s
-same-later s = record { rows = λ b h. later-same s.table.rows b; births = omega arith }
-
-unlike : (a b : ℕ) → b < a → a ≡ b → ⊥
-unlike a b h e = absurd (omega (arith, h, e))
-
-deed-later : (s : KmsState) (words : ℕ → ℕ) (now : ℕ) (c : KmsCall) → KeysLater s (done_with (deed s words now c).logs (deed s words now c).state)
-deed-later s words now (call.Create name bits material description) =
-    record {
-      rows = λ b h. later-after s.table (Create (next_birth s) name bits description now _) b (unlike (next_birth s) b h);
-      births = omega arith;
-    }
-deed-later s words now (call.Roll name material) = record { rows = λ b h. later-after s.table (Roll (birth_of (row_of s name)) (versions_of (row_of s name)) (material_for words (bits_of (row_of s name)) material)) b tt; births = omega arith }
-deed-later s words now (call.Delete name) = record { rows = λ b h. later-after s.table (Delete (birth_of (row_of s name))) b tt; births = omega arith }
-deed-later s words now (call.Invalidate name) = same-later s
-deed-later s words now (call.Metadata name) = same-later s
-deed-later s words now (call.Metadatas names) = same-later s
-deed-later s words now call.Names = same-later s
-deed-later s words now (call.Current name) = same-later s
-deed-later s words now (call.Versions name) = same-later s
-deed-later s words now (call.Version version) = same-later s
-deed-later s words now (call.Generate name count) = same-later s
-deed-later s words now (call.Decrypt name sent) = same-later s
-deed-later s words now (call.Reencrypt name sent) = same-later s
-deed-later s words now (call.Batch name sent) = same-later s
-
-pub keys-later : (s : KmsState) (words : ℕ → ℕ) (now : ℕ) (c : KmsCall) (told : KmsReply) (drawn : ℕ) (s' : KmsState) → KmsActs s words now c told drawn s' → KeysLater s s'
-keys-later s words now c told drawn s' (NoRoom some, may, is) = subst (KeysLater s) (sym (ap (λ o. o.state) is)) (same-later s)
-keys-later s words now c told drawn s' (Plain, may, is) = subst (KeysLater s) (sym (ap (λ o. o.state) is)) (go (first_cause (causes s c)))
+acts-later : (s : KmsState) (words : ℕ → ℕ) (now : ℕ) (c : KmsCall) (told : KmsReply) (drawn : ℕ) (s' : KmsState) → s.table.greatest < next_birth s → KmsActs s words now c told drawn s' → KeysLater s.table s'.table
+acts-later s words now c told drawn s' below (NoRoom some, may, is) = subst (λ (t : KmsState). KeysLater s.table t.table) (sym (ap (λ o. o.state) is)) (same-later s.table)
+acts-later s words now c told drawn s' below (Plain, may, is) = subst (λ (t : KmsState). KeysLater s.table t.table) (sym (ap (λ o. o.state) is)) (go (first_cause (causes s c)))
   where
-    go : (o : Option KmsRefusal) → KeysLater s (unless_refused o s (deed s words now c)).state
-    go (Some why) = same-later s
-    go None = deed-later s words now c
+    go : (o : Option KmsRefusal) → KeysLater s.table (unless_refused o s (deed s words now c)).state.table
+    go (Some why) = same-later s.table
+    go None = deed-later s words now c below
+
+pub serves-later : (s : ServiceState) (words : ℕ → ℕ) (now : ℕ) (c : KmsCall) (fault : Type 0) (told : KmsReply) (drawn : ℕ) (logged : List KeyCommand) (s' : ServiceState) → IsService s
+    → Serves s words now c fault told drawn logged s' → KeysLater s.keys.table s'.keys.table
+serves-later s words now c fault told drawn logged s' is serves = go (is_change c) serves
+  where
+    go : (b : Bool) → ServesBy b s words now c fault told drawn logged s' → KeysLater s.keys.table s'.keys.table
+    go false r = subst (λ (t : ServiceState). KeysLater s.keys.table t.keys.table) (sym r.same) (same-later s.keys.table)
+    go true (inl u) = subst (λ (t : ServiceState). KeysLater s.keys.table t.keys.table) (sym u.same) (same-later s.keys.table)
+    go true (inr (kept, inl w)) =
+        subst (λ (t : ServiceState). KeysLater s.keys.table t.keys.table) (sym w.left)
+        (then-later s.keys.table (settled kept s).table w.changed.table (later-settled kept s is)
+        (acts-later (settled kept s) words now c told drawn w.changed (below_settled kept s is) w.acts))
+    go true (inr (kept, inr u)) =
+        subst (λ (t : ServiceState). KeysLater s.keys.table t.keys.table) (sym u.left)
+        (subst (λ (t : Table). KeysLater s.keys.table t) (sym (deed_keeps (settled kept s) words now c)) (later-settled kept s is))
+
+-- tables in which no two keys have one name
+
+names-behind : (t : Table) (c : KeyCommand) → IsTable t → applies t c ≡ true → NamesOnce (after t c).rows
+names-behind t (Opened opening) is may = is.names
+names-behind t (Create birth name bits description created material) is may = (sound_create t birth name bits description created material is may).names
+names-behind t (Roll birth number material) is may = (sound_roll t birth number material is may).names
+names-behind t (Delete birth) is may = (sound_delete t birth is).names
+
+pub names-with : (found : Bool) (more : Option KeyCommand) (t : Table) → IsTable t → Applies t more → NamesOnce (settled_table found more t).rows
+names-with found None t is may = is.names
+names-with true (Some c) t is may = names-behind t c is may
+names-with false (Some c) t is may = is.names
+
+-- a command that waits leaves a table in this opening
+table-behind : (s : KmsState) (c : KeyCommand) → IsTable s.table → IsPending s c → IsTable (after s.table c)
+table-behind s (Opened opening) is waits =
+    record { opening = let same = waits.same_opening in let low = is.opening in omega (arith, same, low); few = is.few; births = is.births; names = is.names; rows = is.rows }
+table-behind s (Create birth name bits description created material) is waits = sound_create s.table birth name bits description created material is waits.fits
+table-behind s (Roll birth number material) is waits = sound_roll s.table birth number material is waits.fits
+table-behind s (Delete birth) is waits = sound_delete s.table birth is
+
+pub table-settled : (kept : Bool) (s : ServiceState) → IsService s → IsTable (settled kept s).table
+table-settled kept s is = go kept s.pending is.waits
+  where
+    go : (b : Bool) (o : Option KeyCommand) → IfSome o (IsPending s.keys) → IsTable (settled_table b o s.keys.table)
+    go b None waits = is.table
+    go true (Some c) waits = table-behind s.keys c is.table waits
+    go false (Some c) waits = is.table
 
 pub draw-later : (olds rows : List KeyRow) (o : Option Edek) (d : Option Draw) → ((x : Draw) → d ≡ Some x → LaterAt olds rows x.birth) → KeyLinked olds o d → KeyLinked rows o d
 draw-later olds rows None None later h = tt

@@ -1,3 +1,4 @@
+pub mod CrashLemmas
 pub mod DrawLemmas
 pub mod FinishLemmas
 pub mod KeepLemmas

@@ -1,6 +1,7 @@
 -- Nothing drawn and nothing kept.
 use Rattle.std.proofs.Common.{◌≡◌, inl, inr, ℕ, zero, suc, ◌∙◌, [], Option, Some, None, refl, sym, ap, subst}
 use Rattle.inode_tree.specs.Rows.{Entry, root_only}
+use Rattle.key_rows.specs.Table.{Table}
 use Rattle.name_core.specs.Asks.{key_of_zone}
 use Rattle.world_run.specs.World.{first_world, numbered}
 use Rattle.world_run.specs.Ledger.{Draw, nothing_drawn}
@@ -19,8 +20,8 @@ none-replied r o (n, at, other) = go n at
     go zero h = absurd cc
     go (suc k) h = absurd cc
 
-pub first-linked : LinkedWorld first_world nothing_drawn
-first-linked =
+pub first-linked : (table : Table) → LinkedWorld (first_world table) nothing_drawn
+first-linked table =
     record {
       files = record {
         files = λ x e i h. elim i [ inl is ↦ let none : None ≡ Some e = ap (λ (y : Entry). edek_of y.row.kind) (sym is) ∙ h in absurd cc | inr none ↦ absurd none ];
@@ -39,8 +40,8 @@ first-linked =
       };
     }
 
-pub first-open : ZoneFilesOpen first_world nothing_drawn
-first-open =
+pub first-open : (table : Table) → ZoneFilesOpen (first_world table) nothing_drawn
+first-open table =
     record {
       open_up = λ x e i h. elim i [ inl is ↦ let none : None ≡ Some e = ap (λ (y : Entry). edek_of y.row.kind) (sym is) ∙ h in absurd cc | inr none ↦ absurd none ];
       one_draw = λ id d f i j. absurd i;

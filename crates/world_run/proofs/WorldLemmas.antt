@@ -1,5 +1,5 @@
 -- Moves of a world that keep it linked: keys that change, a directory, an ask, a reply, and a finish.
-use Rattle.std.proofs.Common.{◌≡◌, ◌⊎◌, inl, inr, ℕ, ◌+◌, ◌<◌, ◌≤◌, false, List, [], ◌∷◌, ◌++◌, length, Option, Some, None, refl, sym, ap, subst, ◌∙◌, arith, length-append}
+use Rattle.std.proofs.Common.{◌≡◌, ◌⊎◌, inl, inr, ℕ, ◌+◌, ◌<◌, ◌≤◌, Bool, false, List, [], ◌∷◌, ◌++◌, length, Option, Some, None, refl, sym, ap, subst, ◌∙◌, arith, length-append}
 use Rattle.std.specs.List.{AllByRecursion}
 use Rattle.hk_base.specs.declared.names.Edek.{Edek}
 use Rattle.hk_base.specs.declared.names.KeyName.{KeyName}
@@ -8,7 +8,10 @@ use Rattle.inode_tree.specs.declared.paths.NPath.{NPath}
 use Rattle.inode_tree.specs.declared.rows.Kind.TheVariants.{Dir}
 use Rattle.inode_tree.specs.Rows.{Entry, is_marked, put}
 use Rattle.kms_core.specs.Draws.{words_of_draw}
-use Rattle.kms_core.specs.State.{KmsState, next_birth}
+use Rattle.key_rows.specs.declared.rows.KeyCommand.{KeyCommand}
+use Rattle.key_rows.specs.Table.{Table}
+use Rattle.kms_store.specs.Store.{Applies, settled_table}
+use Rattle.kms_core.specs.State.{IsService, ServiceState, opened, settled}
 use Rattle.name_core.specs.declared.asks.OpenAsk.{OpenAsk}
 use Rattle.name_core.specs.declared.calls.Ask.TheVariants as ask
 use Rattle.name_core.specs.declared.calls.AskNote.{AskNote}
@@ -16,19 +19,19 @@ use Rattle.name_core.specs.declared.calls.Want.TheVariants.{Nothing}
 use Rattle.name_core.specs.Asks.{key_of_zone}
 use Rattle.name_core.specs.State.{NameState, next_id}
 use Rattle.world_run.specs.declared.kept.KeptReply.{KeptReply}
-use Rattle.world_run.specs.World.{WorldState, with_note, with_reply}
+use Rattle.world_run.specs.World.{WorldState, found_in, with_note, with_reply}
 use Rattle.world_run.specs.Ledger.{Draw, Hidden, Ledger, behind_words}
 use Rattle.world_run.specs.Promise.{FitsZone, In, edek_of}
 use Rattle.world_run.specs.Linked.{Answers, DrawsFit, FilesLinked, HasDraw, IsDrawn, KeyLinked, LedgerFits, LinkedWorld, RepliesLinked, Replied, WantsFit, ZoneStands, given}
-use Rattle.world_run.proofs.Laters.{KeysLater, LaterAt, draw-later, opens-later}
+use Rattle.world_run.proofs.Laters.{KeysLater, LaterAt, draw-later, later-opened, later-settled, later-with, opens-later, then-later}
 use Rattle.world_run.proofs.Members.{in-more, numbered-in, numbered-more, numbered-within}
 use Rattle.world_run.proofs.RowLemmas.{in-put, key-put, put-in}
 
 -- keys that change, and words that are drawn
 
-files-later : (ledger : Ledger) (replied : List (Option Draw)) (place birth : ℕ) (olds keys : List KeyRow) (rows : List Entry) → DrawsFit ledger replied place birth
-    → ((b : ℕ) → b < birth → LaterAt olds keys b) → FilesLinked ledger olds rows → FilesLinked ledger keys rows
-files-later ledger replied place birth olds keys rows draws later f =
+files-later : (ledger : Ledger) (replied : List (Option Draw)) (place greatest : ℕ) (olds keys : List KeyRow) (rows : List Entry) → DrawsFit ledger replied place greatest
+    → ((b : ℕ) → b ≤ greatest → LaterAt olds keys b) → FilesLinked ledger olds rows → FilesLinked ledger keys rows
+files-later ledger replied place greatest olds keys rows draws later f =
     record {
       files = λ x e i h.
           let d = f.files x e i h in
@@ -41,9 +44,9 @@ files-later ledger replied place birth olds keys rows draws later f =
       zones = f.zones;
     }
 
-replies-later : (ledger : Ledger) (replied : List (Option Draw)) (place birth : ℕ) (olds keys : List KeyRow) (replies : List KeptReply) → DrawsFit ledger replied place birth
-    → ((b : ℕ) → b < birth → LaterAt olds keys b) → RepliesLinked olds replies replied → RepliesLinked keys replies replied
-replies-later ledger replied place birth olds keys replies draws later l =
+replies-later : (ledger : Ledger) (replied : List (Option Draw)) (place greatest : ℕ) (olds keys : List KeyRow) (replies : List KeptReply) → DrawsFit ledger replied place greatest
+    → ((b : ℕ) → b ≤ greatest → LaterAt olds keys b) → RepliesLinked olds replies replied → RepliesLinked keys replies replied
+replies-later ledger replied place greatest olds keys replies draws later l =
     record {
       as_many = l.as_many;
       keys_open = λ r o at. draw-later olds keys (given r.answer) o
@@ -51,34 +54,41 @@ replies-later ledger replied place birth olds keys replies draws later l =
       one_ask = l.one_ask;
     }
 
-draws-later : (ledger : Ledger) (replied : List (Option Draw)) (place more birth born : ℕ) → birth ≤ born → DrawsFit ledger replied place birth → DrawsFit ledger replied (place + more) born
-draws-later ledger replied place more birth born over d =
-    record {
-      taken = λ x i. let h = d.taken x i in omega (arith, h);
-      born = λ x i. let h = d.born x i in omega (arith, h, over);
-      apart = d.apart;
-    }
+draws-later : (ledger : Ledger) (replied : List (Option Draw)) (place greatest born : ℕ) → greatest ≤ born → DrawsFit ledger replied place greatest → DrawsFit ledger replied place born
+draws-later ledger replied place greatest born over d = record { taken = d.taken; born = λ x i. let h = d.born x i in omega (arith, h, over); apart = d.apart }
 
-pub linked-keys : (w : WorldState) (h : Hidden) (keys : KmsState) (drawn : ℕ) → KeysLater w.keys keys → LinkedWorld w h → LinkedWorld (record w { keys = keys }) (behind_words drawn h)
-linked-keys w h keys drawn later l =
+pub linked-keys : (w : WorldState) (h : Hidden) (keys : ServiceState) → KeysLater w.keys.keys.table keys.keys.table → LinkedWorld w h → LinkedWorld (record w { keys = keys }) h
+linked-keys w h keys later l =
     record {
-      files = files-later h.ledger h.replied h.place (next_birth w.keys) w.keys.table.rows keys.table.rows w.names.table.rows l.draws later.rows l.files;
-      replies = replies-later h.ledger h.replied h.place (next_birth w.keys) w.keys.table.rows keys.table.rows w.kept.replies l.draws later.rows l.replies;
-      draws = draws-later h.ledger h.replied h.place drawn (next_birth w.keys) (next_birth keys) later.births l.draws;
+      files = files-later h.ledger h.replied h.place w.keys.keys.table.greatest w.keys.keys.table.rows keys.keys.table.rows w.names.table.rows l.draws later.rows l.files;
+      replies = replies-later h.ledger h.replied h.place w.keys.keys.table.greatest w.keys.keys.table.rows keys.keys.table.rows w.kept.replies l.draws later.rows l.replies;
+      draws = draws-later h.ledger h.replied h.place w.keys.keys.table.greatest keys.keys.table.greatest later.births l.draws;
       ledger = l.ledger;
       wants = l.wants;
     }
 
--- words alone
+-- words that are drawn
 pub linked-words : (w : WorldState) (h : Hidden) (drawn : ℕ) → LinkedWorld w h → LinkedWorld w (behind_words drawn h)
 linked-words w h drawn l =
     record {
       files = l.files;
       replies = l.replies;
-      draws = draws-later h.ledger h.replied h.place drawn (next_birth w.keys) (next_birth w.keys) (omega arith) l.draws;
+      draws = record { taken = λ x i. let t = l.draws.taken x i in omega (arith, t); born = l.draws.born; apart = l.draws.apart };
       ledger = l.ledger;
       wants = l.wants;
     }
+
+-- the keys that a start finds where the pending command was kept, or not
+pub linked-restart : (w : WorldState) (h : Hidden) (kept : Bool) (table : Table) → table ≡ (settled kept w.keys).table → IsService w.keys → LinkedWorld w h → LinkedWorld (record w { keys = opened table }) h
+linked-restart w h kept table is fit l =
+    linked-keys w h (opened table) (then-later w.keys.keys.table table (opened table).keys.table (subst (KeysLater w.keys.keys.table) (sym is) (later-settled kept w.keys fit)) (later-opened table)) l
+
+-- those that are in the log with one more command, or without it
+pub linked-found : (w : WorldState) (h : Hidden) (kept found : Bool) (more : Option KeyCommand) → IsService w.keys → Applies (settled kept w.keys).table more → LinkedWorld w h
+    → LinkedWorld (found_in (settled_table found more (settled kept w.keys).table) w) h
+linked-found w h kept found more fit may l =
+    let table : Table = settled_table found more (settled kept w.keys).table in
+    linked-keys w h (found_in table w).keys (then-later w.keys.keys.table (settled kept w.keys).table table (later-settled kept w.keys fit) (later-with found more (settled kept w.keys).table may)) l
 
 -- a row that has no encrypted key and no mark, or a file: what stays of the others
 
@@ -126,8 +136,8 @@ pub linked-directory : (w : WorldState) (h : Hidden) (p : NPath) (id : ℕ) (nam
     → LinkedWorld w h → LinkedWorld (record w { names = names }) h
 linked-directory w h p id names rows asks over l =
     record {
-      files = subst (λ (es : List Entry). FilesLinked h.ledger w.keys.table.rows es) (sym rows)
-          (files-row h.ledger w.keys.table.rows w.names.table.rows (record { path = p; row = record { id = id; kind = Dir None } }) refl (λ edek is. absurd cc) tt l.files);
+      files = subst (λ (es : List Entry). FilesLinked h.ledger w.keys.keys.table.rows es) (sym rows)
+          (files-row h.ledger w.keys.keys.table.rows w.names.table.rows (record { path = p; row = record { id = id; kind = Dir None } }) refl (λ edek is. absurd cc) tt l.files);
       replies = l.replies;
       draws = l.draws;
       ledger = subst (λ (open_asks : List OpenAsk). LedgerFits h.ledger w.kept.replies h.replied open_asks (next_id names)) (sym asks)
@@ -201,7 +211,7 @@ pub linked-ask : (w : WorldState) (h : Hidden) (q : OpenAsk) (names : NameState)
     → LinkedWorld w h → LinkedWorld (with_note (record { id = q.id; want = q.want }) (record w { names = names })) h
 linked-ask w h q names rows asks next new n low l =
     record {
-      files = subst (λ (es : List Entry). FilesLinked h.ledger w.keys.table.rows es) (sym rows) l.files;
+      files = subst (λ (es : List Entry). FilesLinked h.ledger w.keys.keys.table.rows es) (sym rows) l.files;
       replies = l.replies;
       draws = l.draws;
       ledger = subst (λ (open_asks : List OpenAsk). LedgerFits h.ledger w.kept.replies h.replied open_asks (next_id names)) (sym asks)
@@ -214,11 +224,11 @@ linked-ask w h q names rows asks next new n low l =
 
 -- a reply that is kept, with its draw
 
-pub record NewReply (w : WorldState) (h : Hidden) (keys : KmsState) (drawn : ℕ) (r : KeptReply) (o : Option Draw) : Type 0 where
-  pub opens : KeyLinked keys.table.rows (given r.answer) o
+pub record NewReply (w : WorldState) (h : Hidden) (keys : ServiceState) (drawn : ℕ) (r : KeptReply) (o : Option Draw) : Type 0 where
+  pub opens : KeyLinked keys.keys.table.rows (given r.answer) o
   pub begins : (d : Draw) → o ≡ Some d → h.place ≤ d.place
   pub ends : (d : Draw) → o ≡ Some d → d.place + words_of_draw (length d.dek) ≤ h.place + drawn
-  pub born : (d : Draw) → o ≡ Some d → d.birth < next_birth keys
+  pub born : (d : Draw) → o ≡ Some d → d.birth ≤ keys.keys.table.greatest
   pub old : r.id < next_id w.names
   pub answers : (a : OpenAsk) → In a w.names.asks → r.id ≡ a.id → Answers a.want r.answer
 
@@ -230,11 +240,11 @@ some-is : {X : Type 0} (x y : X) → Some x ≡ Some y → x ≡ y
 some-is x y h = cc
 
 -- a new draw is none of those before
-draw-new : (ledger : Ledger) (replied : List (Option Draw)) (place birth : ℕ) (d : Draw) → DrawsFit ledger replied place birth → IsDrawn ledger replied d → place ≤ d.place → ⊥
-draw-new ledger replied place birth d f i over = let h = f.taken d i in absurd (omega (arith, h, over))
+draw-new : (ledger : Ledger) (replied : List (Option Draw)) (place greatest : ℕ) (d : Draw) → DrawsFit ledger replied place greatest → IsDrawn ledger replied d → place ≤ d.place → ⊥
+draw-new ledger replied place greatest d f i over = let h = f.taken d i in absurd (omega (arith, h, over))
 
-draws-reply : (w : WorldState) (h : Hidden) (keys : KmsState) (drawn : ℕ) (r : KeptReply) (o : Option Draw) → next_birth w.keys ≤ next_birth keys → NewReply w h keys drawn r o
-    → DrawsFit h.ledger h.replied h.place (next_birth w.keys) → DrawsFit h.ledger (h.replied ++ o ∷ []) (h.place + drawn) (next_birth keys)
+draws-reply : (w : WorldState) (h : Hidden) (keys : ServiceState) (drawn : ℕ) (r : KeptReply) (o : Option Draw) → w.keys.keys.table.greatest ≤ keys.keys.table.greatest → NewReply w h keys drawn r o
+    → DrawsFit h.ledger h.replied h.place w.keys.keys.table.greatest → DrawsFit h.ledger (h.replied ++ o ∷ []) (h.place + drawn) keys.keys.table.greatest
 draws-reply w h keys drawn r o births n f =
     record {
       taken = λ d i. elim (drawn-before h.ledger h.replied o d i) [ inl old ↦ let t = f.taken d old in omega (arith, t) | inr is ↦ n.ends d (sym is) ];
@@ -269,29 +279,29 @@ replied-before replies replied r o q p many at =
 replied-drawn : (ledger : Ledger) (replies : List KeptReply) (replied : List (Option Draw)) (q : KeptReply) (d : Draw) → Replied replies replied q (Some d) → IsDrawn ledger replied d
 replied-drawn ledger replies replied q d at = inr (numbered-in replied at.0 (Some d) at.2)
 
-replies-reply : (w : WorldState) (h : Hidden) (keys : KmsState) (drawn : ℕ) (r : KeptReply) (o : Option Draw) → NewReply w h keys drawn r o → DrawsFit h.ledger h.replied h.place (next_birth w.keys)
-    → RepliesLinked keys.table.rows w.kept.replies h.replied → RepliesLinked keys.table.rows (w.kept.replies ++ r ∷ []) (h.replied ++ o ∷ [])
+replies-reply : (w : WorldState) (h : Hidden) (keys : ServiceState) (drawn : ℕ) (r : KeptReply) (o : Option Draw) → NewReply w h keys drawn r o → DrawsFit h.ledger h.replied h.place w.keys.keys.table.greatest
+    → RepliesLinked keys.keys.table.rows w.kept.replies h.replied → RepliesLinked keys.keys.table.rows (w.kept.replies ++ r ∷ []) (h.replied ++ o ∷ [])
 replies-reply w h keys drawn r o n f l =
     record {
       as_many = omega (arith, length-append h.replied (o ∷ []), length-append w.kept.replies (r ∷ []), l.as_many);
       keys_open = λ q p at. elim (replied-before w.kept.replies h.replied r o q p l.as_many at) [
         | inl old ↦ l.keys_open q p old
-        | inr is ↦ subst (λ (x : KeptReply). KeyLinked keys.table.rows (given x.answer) p) (sym is.0) (subst (λ (x : Option Draw). KeyLinked keys.table.rows (given r.answer) x) (sym is.1) n.opens)
+        | inr is ↦ subst (λ (x : KeptReply). KeyLinked keys.keys.table.rows (given x.answer) p) (sym is.0) (subst (λ (x : Option Draw). KeyLinked keys.keys.table.rows (given r.answer) x) (sym is.1) n.opens)
       ];
       one_ask = λ q s d at other_at. elim (replied-before w.kept.replies h.replied r o q (Some d) l.as_many at) [
         | inl old ↦ elim (replied-before w.kept.replies h.replied r o s (Some d) l.as_many other_at) [
           | inl other ↦ l.one_ask q s d old other
-          | inr is ↦ absurd (draw-new h.ledger h.replied h.place (next_birth w.keys) d f (replied-drawn h.ledger w.kept.replies h.replied q d old) (n.begins d (sym is.1)))
+          | inr is ↦ absurd (draw-new h.ledger h.replied h.place w.keys.keys.table.greatest d f (replied-drawn h.ledger w.kept.replies h.replied q d old) (n.begins d (sym is.1)))
         ]
         | inr mine ↦ elim (replied-before w.kept.replies h.replied r o s (Some d) l.as_many other_at) [
-          | inl other ↦ absurd (draw-new h.ledger h.replied h.place (next_birth w.keys) d f (replied-drawn h.ledger w.kept.replies h.replied s d other) (n.begins d (sym mine.1)))
+          | inl other ↦ absurd (draw-new h.ledger h.replied h.place w.keys.keys.table.greatest d f (replied-drawn h.ledger w.kept.replies h.replied s d other) (n.begins d (sym mine.1)))
           | inr is ↦ ap (λ (x : KeptReply). x.id) (mine.0 ∙ sym is.0)
         ]
       ];
     }
 
-ledger-reply : (w : WorldState) (h : Hidden) (keys : KmsState) (drawn : ℕ) (r : KeptReply) (o : Option Draw) → NewReply w h keys drawn r o → DrawsFit h.ledger h.replied h.place (next_birth w.keys)
-    → RepliesLinked w.keys.table.rows w.kept.replies h.replied → LedgerFits h.ledger w.kept.replies h.replied w.names.asks (next_id w.names)
+ledger-reply : (w : WorldState) (h : Hidden) (keys : ServiceState) (drawn : ℕ) (r : KeptReply) (o : Option Draw) → NewReply w h keys drawn r o → DrawsFit h.ledger h.replied h.place w.keys.keys.table.greatest
+    → RepliesLinked w.keys.keys.table.rows w.kept.replies h.replied → LedgerFits h.ledger w.kept.replies h.replied w.names.asks (next_id w.names)
     → LedgerFits h.ledger (w.kept.replies ++ r ∷ []) (h.replied ++ o ∷ []) w.names.asks (next_id w.names)
 ledger-reply w h keys drawn r o n f l g =
     record {
@@ -301,11 +311,11 @@ ledger-reply w h keys drawn r o n f l g =
       not_open = g.not_open;
       its_ask = λ id q d i at. elim (replied-before w.kept.replies h.replied r o q (Some d) l.as_many at) [
         | inl old ↦ g.its_ask id q d i old
-        | inr is ↦ absurd (draw-new h.ledger h.replied h.place (next_birth w.keys) d f (inl (id, i)) (n.begins d (sym is.1)))
+        | inr is ↦ absurd (draw-new h.ledger h.replied h.place w.keys.keys.table.greatest d f (inl (id, i)) (n.begins d (sym is.1)))
       ];
     }
 
-wants-reply : (w : WorldState) (h : Hidden) (keys : KmsState) (drawn : ℕ) (r : KeptReply) (o : Option Draw) → NewReply w h keys drawn r o
+wants-reply : (w : WorldState) (h : Hidden) (keys : ServiceState) (drawn : ℕ) (r : KeptReply) (o : Option Draw) → NewReply w h keys drawn r o
     → WantsFit w.names.table.rows w.names.asks w.kept.notes w.kept.replies (next_id w.names) → WantsFit w.names.table.rows w.names.asks w.kept.notes (w.kept.replies ++ r ∷ []) (next_id w.names)
 wants-reply w h keys drawn r o n v =
     record {
@@ -320,12 +330,12 @@ wants-reply w h keys drawn r o n v =
       old_replies = λ q k. elim (in-more q r w.kept.replies k) [ inl old ↦ v.old_replies q old | inr is ↦ subst (λ (x : KeptReply). x.id < next_id w.names) (sym is) n.old ];
     }
 
-pub linked-reply : (w : WorldState) (h : Hidden) (keys : KmsState) (drawn : ℕ) (r : KeptReply) (o : Option Draw) → KeysLater w.keys keys → NewReply w h keys drawn r o → LinkedWorld w h
+pub linked-reply : (w : WorldState) (h : Hidden) (keys : ServiceState) (drawn : ℕ) (r : KeptReply) (o : Option Draw) → KeysLater w.keys.keys.table keys.keys.table → NewReply w h keys drawn r o → LinkedWorld w h
     → LinkedWorld (with_reply r (record w { keys = keys })) (record (behind_words drawn h) { replied = h.replied ++ o ∷ [] })
 linked-reply w h keys drawn r o later n l =
     record {
-      files = files-later h.ledger h.replied h.place (next_birth w.keys) w.keys.table.rows keys.table.rows w.names.table.rows l.draws later.rows l.files;
-      replies = replies-reply w h keys drawn r o n l.draws (replies-later h.ledger h.replied h.place (next_birth w.keys) w.keys.table.rows keys.table.rows w.kept.replies l.draws later.rows l.replies);
+      files = files-later h.ledger h.replied h.place w.keys.keys.table.greatest w.keys.keys.table.rows keys.keys.table.rows w.names.table.rows l.draws later.rows l.files;
+      replies = replies-reply w h keys drawn r o n l.draws (replies-later h.ledger h.replied h.place w.keys.keys.table.greatest w.keys.keys.table.rows keys.keys.table.rows w.kept.replies l.draws later.rows l.replies);
       draws = draws-reply w h keys drawn r o later.births n l.draws;
       ledger = ledger-reply w h keys drawn r o n l.draws l.replies l.ledger;
       wants = wants-reply w h keys drawn r o n l.wants;

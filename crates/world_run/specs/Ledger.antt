@@ -76,7 +76,7 @@ behind_words drawn h = record h { place = h.place + drawn }
 -- done enters the draw of the reply that it used
 abbrev pub hidden_after : WorldState → (ℕ → ℕ) → Event → Line → ℕ → Hidden → Hidden
 hidden_after w words (event.Draw number) (line.Replied n told) drawn h =
-    record (behind_words drawn h) { replied = h.replied ++ draw_noted w.keys words h.place (numbered w.kept.notes number) told ∷ [] }
+    record (behind_words drawn h) { replied = h.replied ++ draw_noted w.keys.keys words h.place (numbered w.kept.notes number) told ∷ [] }
 hidden_after w words (event.Finish number) (line.Name Done) drawn h =
     record (behind_words drawn h) { ledger = h.ledger ++ entry_of (numbered w.kept.replies number) (numbered h.replied number) }
 hidden_after w words _ _ drawn h = behind_words drawn h

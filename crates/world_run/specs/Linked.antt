@@ -5,10 +5,9 @@ use Rattle.hk_base.specs.declared.names.KeyName.{KeyName}
 use Rattle.inode_tree.specs.declared.paths.NPath.{NPath}
 use Rattle.inode_tree.specs.Rows.{Entry, IsRows, mark_of}
 use Rattle.key_rows.specs.declared.rows.KeyRow.{KeyRow}
-use Rattle.key_rows.specs.Sound.{IsTable}
 use Rattle.kms_core.specs.Draws.{words_of_draw}
 use Rattle.kms_core.specs.Opening.{unseals}
-use Rattle.kms_core.specs.State.{KmsState, next_birth}
+use Rattle.kms_core.specs.State.{IsService}
 use Rattle.name_core.specs.declared.asks.OpenAsk.{OpenAsk}
 use Rattle.name_core.specs.declared.calls.Ask.TheVariants as ask
 use Rattle.name_core.specs.declared.calls.AskNote.{AskNote}
@@ -26,18 +25,13 @@ use Rattle.world_run.specs.Promise.{Apart, FitsZone, In, edek_of}
 
 -- what both services keep by themselves
 
--- keys: births lie below the next one
-pub record KeysFit (s : KmsState) : Type 0 where
-  pub table : IsTable s.table
-  pub births : s.table.greatest < next_birth s
-
 -- the rows of the namesystem, and the ids in use
 pub record NamesFit (s : NameState) : Type 0 where
   pub rows : IsRows s.table.rows
   pub ids : IdsFit s.table.rows s.asks (next_id s)
 
 pub record ServicesFit (w : WorldState) : Type 0 where
-  pub keys : KeysFit w.keys
+  pub keys : IsService w.keys
   pub names : NamesFit w.names
 
 -- the row of the draw's birth, while that stands, opens the encrypted key to the data key drawn
@@ -80,10 +74,10 @@ pub record RepliesLinked (keys : List KeyRow) (replies : List KeptReply) (replie
 abbrev pub IsDrawn : Ledger → List (Option Draw) → Draw → Type 0
 IsDrawn ledger replied d = ((id : ℕ) × In (id, d) ledger) ⊎ In (Some d) replied
 
--- draws: each of words that were drawn, of a birth that was taken, and no two with a word in common
-pub record DrawsFit (ledger : Ledger) (replied : List (Option Draw)) (place birth : ℕ) : Type 0 where
+-- draws: each of words that were drawn, under a key whose birth is none above the greatest, and no two with a word in common
+pub record DrawsFit (ledger : Ledger) (replied : List (Option Draw)) (place greatest : ℕ) : Type 0 where
   pub taken : (d : Draw) → IsDrawn ledger replied d → d.place + words_of_draw (length d.dek) ≤ place
-  pub born : (d : Draw) → IsDrawn ledger replied d → d.birth < birth
+  pub born : (d : Draw) → IsDrawn ledger replied d → d.birth ≤ greatest
   pub apart : (d f : Draw) → IsDrawn ledger replied d → IsDrawn ledger replied f → (d ≡ f) ⊎ Apart d f
 
 pub record LedgerFits (ledger : Ledger) (replies : List KeptReply) (replied : List (Option Draw)) (asks : List OpenAsk) (next : ℕ) : Type 0 where
@@ -126,8 +120,8 @@ pub record WantsFit (rows : List Entry) (asks : List OpenAsk) (notes : List AskN
 
 -- From event to event.
 pub record LinkedWorld (w : WorldState) (h : Hidden) : Type 0 where
-  pub files : FilesLinked h.ledger w.keys.table.rows w.names.table.rows
-  pub replies : RepliesLinked w.keys.table.rows w.kept.replies h.replied
-  pub draws : DrawsFit h.ledger h.replied h.place (next_birth w.keys)
+  pub files : FilesLinked h.ledger w.keys.keys.table.rows w.names.table.rows
+  pub replies : RepliesLinked w.keys.keys.table.rows w.kept.replies h.replied
+  pub draws : DrawsFit h.ledger h.replied h.place w.keys.keys.table.greatest
   pub ledger : LedgerFits h.ledger w.kept.replies h.replied w.names.asks (next_id w.names)
   pub wants : WantsFit w.names.table.rows w.names.asks w.kept.notes w.kept.replies (next_id w.names)

@@ -1,7 +1,7 @@
 -- Both services, and what is kept.
 use Rattle.std.specs.Prelude.{ℕ, zero, suc, ◌+◌, List, [], ◌∷◌, ◌++◌, length, Option, None, slice_get}
-use Rattle.kms_core.specs.State.{KmsState}
-use Rattle.kms_core.specs.State as keys
+use Rattle.key_rows.specs.Table.{Table}
+use Rattle.kms_core.specs.State.{Running, ServiceState, opened, service_of}
 use Rattle.name_core.specs.State.{NameState}
 use Rattle.name_core.specs.State as names
 use Rattle.name_core.specs.declared.calls.AskNote.{AskNote}
@@ -14,13 +14,27 @@ pub record Kept : Type 0 where
 
 -- the key management service, the namesystem, and what is kept
 pub record WorldState : Type 0 where
-  pub keys : KmsState
+  pub keys : ServiceState
   pub names : NameState
   pub kept : Kept
 
--- no key, the root alone, and nothing kept
-abbrev pub first_world : WorldState
-first_world = record { keys = keys.first_state; names = names.first_state; kept = record { notes = []; replies = [] } }
+-- behind a start that found this table of keys: the root alone, and nothing kept
+abbrev pub first_world : Table → WorldState
+first_world table = record { keys = opened table; names = names.first_state; kept = record { notes = []; replies = [] } }
+
+-- the same world with the keys of another table, and none of its commands pending
+abbrev pub found_in : Table → WorldState → WorldState
+found_in table w = record w { keys = record { keys = record w.keys.keys { table = table }; pending = None } }
+
+-- A world that runs: its key management service has a store.
+pub record RunningWorld : Type 0 where
+  pub keys : Running
+  pub names : NameState
+  pub kept : Kept
+
+-- what a running world is, whatever its disk
+abbrev pub world_of : RunningWorld → WorldState
+world_of r = record { keys = service_of r.keys; names = r.names; kept = r.kept }
 
 -- what is kept under a number, from 1
 abbrev pub numbered : {X : Type 0} → List X → ℕ → Option X

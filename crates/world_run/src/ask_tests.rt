@@ -1,5 +1,6 @@
 //! Files and zones that are made in three parts.
 use super::*;
+use crate::quiet_disk::QuietDisk;
 use disk_kinds::ListWords;
 use hk_base::{ByteList, Edek, KeyName, Text};
 use key_rows::{Description, KmsCall, KmsRefusal, KmsReply};
@@ -26,6 +27,7 @@ const SEALED: &[u8] = b"\x87\x4d\x61\x91\xb6\x20\xe3\x26\x1b\xef\x68\x64\x99\x0d
 struct Desk {
     alloc: Global,
     world: World,
+    disk: QuietDisk,
     words: ListWords,
     now: u64,
 }
@@ -34,9 +36,11 @@ impl Desk {
     /// A world with a key `k`, and a directory `/d`.
     fn new(rt: &impl Abort, alloc: Global) -> Desk {
         let words = WORDS.as_slice().to_vec(alloc).expect(rt, "memory");
+        let mut disk = QuietDisk::new(rt, alloc, b"", &[]);
         let mut desk = Desk {
             alloc,
-            world: World::start(alloc).expect(rt, "memory"),
+            world: World::start(alloc, &mut disk).expect(rt, "a start"),
+            disk,
             words: ListWords::new(words),
             now: 0,
         };
@@ -45,9 +49,15 @@ impl Desk {
         desk
     }
 
-    fn line(&mut self, event: Event) -> Line {
+    fn line(&mut self, rt: &impl Abort, event: Event) -> Line {
         self.now = self.now.saturating_add(1);
-        self.world.step(&mut self.words, self.now, event)
+        match self
+            .world
+            .step(&mut self.disk, &mut self.words, self.now, event)
+        {
+            Ok(line) => line,
+            Err(_) => panic!(rt; "no answer"),
+        }
     }
 
     fn user(&self, rt: &impl Abort, name: &str) -> Text {
@@ -66,7 +76,7 @@ impl Desk {
             description: Description::empty(self.alloc),
         };
         let user = self.user(rt, "a");
-        match self.line(Event::Kms { user, call }) {
+        match self.line(rt, Event::Kms { user, call }) {
             Line::Kms(KmsReply::Version { .. }) => {}
             _ => panic!(rt; "no version"),
         }
@@ -75,27 +85,27 @@ impl Desk {
     fn mkdir(&mut self, rt: &impl Abort, path: &[u8]) {
         let user = self.user(rt, "a");
         let path = self.list(rt, path);
-        assert_done(rt, self.line(Event::Mkdir { user, path }));
+        assert_done(rt, self.line(rt, Event::Mkdir { user, path }));
     }
 
     fn ask_create(&mut self, rt: &impl Abort, path: &[u8]) -> Line {
         let user = self.user(rt, "a");
         let path = self.list(rt, path);
-        self.line(Event::AskCreate { user, path })
+        self.line(rt, Event::AskCreate { user, path })
     }
 
     fn ask_zone(&mut self, rt: &impl Abort, user: &str, path: &[u8], key: KeyName) -> Line {
         let user = self.user(rt, user);
         let path = self.list(rt, path);
-        self.line(Event::AskZone { user, path, key })
+        self.line(rt, Event::AskZone { user, path, key })
     }
 
     /// Makes `/d` a zone, by the next ask and the next reply.
     fn make_zone(&mut self, rt: &impl Abort, ask: u32, reply: u32) {
         let told = self.ask_zone(rt, "hdfs", b"/d", key(rt));
         assert_asked(rt, told, ask as u64);
-        assert_known(rt, self.line(Event::Draw { ask }), reply as u64);
-        assert_done(rt, self.line(Event::Finish { reply }));
+        assert_known(rt, self.line(rt, Event::Draw { ask }), reply as u64);
+        assert_done(rt, self.line(rt, Event::Finish { reply }));
     }
 }
 
@@ -194,12 +204,12 @@ fn a_file_in_a_zone_gets_a_key_of_its_own(rt: HostRuntime) {
     desk.make_zone(&rt, 1, 1);
     let told = desk.ask_create(&rt, b"/d/f");
     assert_generate(&rt, &note(&rt, told, 2), FIRST_ID + 2);
-    let edek = drawn(&rt, desk.line(Event::Draw { ask: 2 }));
+    let edek = drawn(&rt, desk.line(&rt, Event::Draw { ask: 2 }));
     assert_eq!(rt; edek.sealed.as_bytes(), SEALED);
-    assert_done(&rt, desk.line(Event::Finish { reply: 2 }));
+    assert_done(&rt, desk.line(&rt, Event::Finish { reply: 2 }));
     let user = desk.user(&rt, "a");
     let path = desk.list(&rt, b"/d/f");
-    match desk.line(Event::Info { user, path }) {
+    match desk.line(&rt, Event::Info { user, path }) {
         Line::Name(NameReply::File { id, zone, edek: of }) => {
             assert_eq!(rt; id, FIRST_ID + 2);
             assert!(rt; zone.is_some());
@@ -211,7 +221,7 @@ fn a_file_in_a_zone_gets_a_key_of_its_own(rt: HostRuntime) {
         opening: 1,
         next: 4,
     };
-    assert_refused(&rt, desk.line(Event::Finish { reply: 2 }), gone);
+    assert_refused(&rt, desk.line(&rt, Event::Finish { reply: 2 }), gone);
 }
 
 #[test]
@@ -219,14 +229,14 @@ fn a_file_is_refused_where_its_directory_became_a_zone(rt: HostRuntime) {
     let mut desk = Desk::new(&rt, rt.alloc());
     assert_asked(&rt, desk.ask_create(&rt, b"/d/f"), 1);
     desk.make_zone(&rt, 2, 1);
-    assert_nothing(&rt, desk.line(Event::Draw { ask: 1 }), 2);
-    let told = desk.line(Event::Finish { reply: 2 });
+    assert_nothing(&rt, desk.line(&rt, Event::Draw { ask: 1 }), 2);
+    let told = desk.line(&rt, Event::Finish { reply: 2 });
     assert_refused(&rt, told, NameRefusal::ZoneChanged);
     let gone = NameRefusal::AskGone {
         opening: 1,
         next: 4,
     };
-    assert_refused(&rt, desk.line(Event::Finish { reply: 2 }), gone);
+    assert_refused(&rt, desk.line(&rt, Event::Finish { reply: 2 }), gone);
 }
 
 #[test]
@@ -238,7 +248,7 @@ fn a_zone_needs_a_key_that_stands_and_the_superuser(rt: HostRuntime) {
     assert_refused(&rt, told, NameRefusal::NotEmpty);
     let other = KeyName::read(b"j").expect(&rt, "a name");
     assert_asked(&rt, desk.ask_zone(&rt, "hdfs", b"/d", other), 1);
-    match desk.line(Event::Draw { ask: 1 }) {
+    match desk.line(&rt, Event::Draw { ask: 1 }) {
         Line::Replied { reply, .. } => match reply {
             Some(KmsReply::Refused(why)) => assert!(rt; why == KmsRefusal::NoSuchKey),
             _ => panic!(&rt; "no refusal"),
@@ -246,27 +256,27 @@ fn a_zone_needs_a_key_that_stands_and_the_superuser(rt: HostRuntime) {
         _ => panic!(&rt; "no reply"),
     }
     let refused = NameRefusal::KeyRefused(KmsRefusal::NoSuchKey);
-    assert_refused(&rt, desk.line(Event::Finish { reply: 1 }), refused);
+    assert_refused(&rt, desk.line(&rt, Event::Finish { reply: 1 }), refused);
 }
 
 #[test]
 fn replies_are_used_in_any_order(rt: HostRuntime) {
     let mut desk = Desk::new(&rt, rt.alloc());
-    assert_unknown(&rt, desk.line(Event::Draw { ask: 1 }));
-    assert_unknown(&rt, desk.line(Event::Finish { reply: 0 }));
+    assert_unknown(&rt, desk.line(&rt, Event::Draw { ask: 1 }));
+    assert_unknown(&rt, desk.line(&rt, Event::Finish { reply: 0 }));
     assert_asked(&rt, desk.ask_create(&rt, b"/d/a"), 1);
     assert_asked(&rt, desk.ask_create(&rt, b"/d/b"), 2);
-    assert_nothing(&rt, desk.line(Event::Draw { ask: 2 }), 1);
-    assert_nothing(&rt, desk.line(Event::Draw { ask: 1 }), 2);
-    assert_nothing(&rt, desk.line(Event::Draw { ask: 1 }), 3);
+    assert_nothing(&rt, desk.line(&rt, Event::Draw { ask: 2 }), 1);
+    assert_nothing(&rt, desk.line(&rt, Event::Draw { ask: 1 }), 2);
+    assert_nothing(&rt, desk.line(&rt, Event::Draw { ask: 1 }), 3);
     desk.mkdir(&rt, b"/d/a");
-    assert_done(&rt, desk.line(Event::Finish { reply: 1 }));
-    let told = desk.line(Event::Finish { reply: 3 });
+    assert_done(&rt, desk.line(&rt, Event::Finish { reply: 1 }));
+    let told = desk.line(&rt, Event::Finish { reply: 3 });
     assert_refused(&rt, told, NameRefusal::Exists);
     let gone = NameRefusal::AskGone {
         opening: 1,
         next: 5,
     };
-    assert_refused(&rt, desk.line(Event::Finish { reply: 2 }), gone);
-    assert_unknown(&rt, desk.line(Event::Finish { reply: 4 }));
+    assert_refused(&rt, desk.line(&rt, Event::Finish { reply: 2 }), gone);
+    assert_unknown(&rt, desk.line(&rt, Event::Finish { reply: 4 }));
 }

@@ -1,4 +1,5 @@
 //! What may happen to the services, and how it is answered.
+use frame_log::StartFault;
 use hk_base::{ByteList, KeyName, Text};
 use key_rows::{KmsCall, KmsReply};
 use name_core::{AskNote, NameRefusal, NameReply};
@@ -13,6 +14,8 @@ pub enum Event {
         user: Text,
         call: KmsCall,
     },
+    /// Drops the key management service, and opens it again from its log.
+    RestartKms,
     /// Makes a directory of the namesystem.
     Mkdir {
         user: Text,
@@ -51,6 +54,10 @@ pub enum Event {
 pub enum Line {
     /// The reply of the key management service.
     Kms(KmsReply),
+    /// The key management service was opened again, and this is the number of the opening.
+    Opened {
+        opening: u32,
+    },
     /// The reply of the namesystem. A finish that was done is answered so too.
     Name(NameReply),
     /// An ask was accepted, and its note is kept under this number.
@@ -67,4 +74,11 @@ pub enum Line {
     Refused(NameRefusal),
     /// Nothing is kept under the number that was given.
     Unknown,
+}
+
+/// Why a service could not be opened: the file that has its log, and the fault.
+#[derive(Clone, Copy, Debug, PartialEq, Eq)]
+pub struct WorldFault {
+    pub file: u8,
+    pub fault: StartFault,
 }

@@ -1,16 +1,12 @@
 //! Calls on both services in one world, and paths as they are given.
-use super::*;
-use disk_kinds::ListWords;
-use hk_base::{ByteList, KeyName, Text};
-use key_rows::{Description, KmsCall, KmsReply};
+use crate::desk::{Desk, assert_directory, assert_done, assert_known, assert_version};
+use hk_base::ByteList;
 use name_core::{NameRefusal, NameReply};
 use std::alloc::Global;
 use std::process::Abort;
 
 /// The id that the first directory gets.
 const FIRST_ID: u64 = 4294967297;
-
-const MATERIAL: &[u8] = b"\x2b\x7e\x15\x16\x28\xae\xd2\xa6\xab\xf7\x15\x88\x09\xcf\x4f\x3c";
 
 /// Paths that the rule does not allow, whatever their length.
 const OUTSIDE: [&[u8]; 17] = [
@@ -33,128 +29,10 @@ const OUTSIDE: [&[u8]; 17] = [
     b"/x\xff",
 ];
 
-/// A world that is called by one user.
-#[derive(Drop)]
-struct Desk {
-    alloc: Global,
-    world: World,
-    words: ListWords,
-}
-
-impl Desk {
-    fn new(rt: &impl Abort, alloc: Global) -> Desk {
-        Desk {
-            alloc,
-            world: World::start(alloc).expect(rt, "memory"),
-            words: ListWords::new(Vec::new(alloc)),
-        }
-    }
-
-    fn user(&self) -> Text {
-        Text::of(String::new(self.alloc))
-    }
-
-    fn list(&self, rt: &impl Abort, bytes: &[u8]) -> ByteList {
-        ByteList::of(bytes.to_vec(self.alloc).expect(rt, "memory"))
-    }
-
-    fn kms(&mut self, rt: &impl Abort, now: u64, call: KmsCall) -> KmsReply {
-        let user = self.user();
-        let event = Event::Kms { user, call };
-        match self.world.step(&mut self.words, now, event) {
-            Line::Kms(reply) => reply,
-            _ => panic!(rt; "no reply of the key service"),
-        }
-    }
-
-    fn create(&mut self, rt: &impl Abort, now: u64, name: &[u8]) -> KmsReply {
-        let call = KmsCall::Create {
-            name: key_name(rt, name),
-            bits: 128,
-            material: Some(self.list(rt, MATERIAL)),
-            description: Description::empty(self.alloc),
-        };
-        self.kms(rt, now, call)
-    }
-
-    fn roll(&mut self, rt: &impl Abort, now: u64, name: &[u8]) -> KmsReply {
-        let call = KmsCall::Roll {
-            name: key_name(rt, name),
-            material: Some(self.list(rt, MATERIAL)),
-        };
-        self.kms(rt, now, call)
-    }
-
-    fn metadata(&mut self, rt: &impl Abort, now: u64, name: &[u8]) -> KmsReply {
-        let name = key_name(rt, name);
-        self.kms(rt, now, KmsCall::Metadata { name })
-    }
-
-    fn name(&mut self, rt: &impl Abort, event: Event) -> NameReply {
-        match self.world.step(&mut self.words, 5, event) {
-            Line::Name(reply) => reply,
-            _ => panic!(rt; "no reply of the namesystem"),
-        }
-    }
-
-    fn mkdir(&mut self, rt: &impl Abort, path: &[u8]) -> NameReply {
-        let user = self.user();
-        let path = self.list(rt, path);
-        self.name(rt, Event::Mkdir { user, path })
-    }
-
-    fn info(&mut self, rt: &impl Abort, path: &[u8]) -> NameReply {
-        let user = self.user();
-        let path = self.list(rt, path);
-        self.name(rt, Event::Info { user, path })
-    }
-}
-
-fn key_name(rt: &impl Abort, bytes: &[u8]) -> KeyName {
-    KeyName::read(bytes).expect(rt, "a name")
-}
-
-fn assert_version(rt: &impl Abort, reply: KmsReply, number: u16) {
-    match reply {
-        KmsReply::Version { version, .. } => assert_eq!(rt; version.number, number),
-        _ => panic!(rt; "no version"),
-    }
-}
-
-fn assert_known(rt: &impl Abort, reply: KmsReply, name: &[u8], created: u64, versions: u32) {
-    match reply {
-        KmsReply::Metadata(known) => {
-            assert!(rt; known.name.is(&key_name(rt, name)));
-            assert_eq!(rt; known.created, created);
-            assert_eq!(rt; known.versions, versions);
-        }
-        _ => panic!(rt; "no metadata"),
-    }
-}
-
-fn assert_done(rt: &impl Abort, reply: NameReply) {
-    match reply {
-        NameReply::Done => {}
-        _ => panic!(rt; "not done"),
-    }
-}
-
 fn assert_refused(rt: &impl Abort, reply: NameReply, why: NameRefusal) {
     match reply {
         NameReply::Refused(refusal) => assert_eq!(rt; refusal, why),
         _ => panic!(rt; "no refusal"),
-    }
-}
-
-/// A directory of the id that lies in no zone.
-fn assert_directory(rt: &impl Abort, reply: NameReply, wanted: u64) {
-    match reply {
-        NameReply::Dir { id, zone, key } => {
-            assert_eq!(rt; id, wanted);
-            assert!(rt; zone.is_none());
-            assert!(rt; key.is_none());
-        }
-        _ => panic!(rt; "no directory"),
     }
 }
 

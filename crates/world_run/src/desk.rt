@@ -1,0 +1,178 @@
+//! A world for tests, called by one user.
+use super::*;
+use crate::quiet_disk::QuietDisk;
+use disk_kinds::ListWords;
+use hk_base::{ByteList, KeyName, Text};
+use key_rows::{Description, KmsCall, KmsRefusal, KmsReply};
+use name_core::NameReply;
+use std::alloc::Global;
+use std::process::Abort;
+
+const MATERIAL: &[u8] = b"\x2b\x7e\x15\x16\x28\xae\xd2\xa6\xab\xf7\x15\x88\x09\xcf\x4f\x3c";
+
+/// A world over its disk.
+#[derive(Drop)]
+pub struct Desk {
+    alloc: Global,
+    world: World,
+    pub disk: QuietDisk,
+    words: ListWords,
+}
+
+impl Desk {
+    /// A world over an empty disk.
+    pub fn new(rt: &impl Abort, alloc: Global) -> Desk {
+        Desk::failing(rt, alloc, &[])
+    }
+
+    /// A world over an empty disk, of which the calls with these numbers fail. A start makes 8.
+    pub fn failing(rt: &impl Abort, alloc: Global, calls: &[u64]) -> Desk {
+        Desk::open(rt, alloc, QuietDisk::new(rt, alloc, b"", calls))
+    }
+
+    pub fn open(rt: &impl Abort, alloc: Global, disk: QuietDisk) -> Desk {
+        let mut disk = disk;
+        match World::start(alloc, &mut disk) {
+            Err(_) => panic!(rt; "no start"),
+            Ok(world) => Desk {
+                alloc,
+                world,
+                disk,
+                words: ListWords::new(Vec::new(alloc)),
+            },
+        }
+    }
+
+    fn user(&self) -> Text {
+        Text::of(String::new(self.alloc))
+    }
+
+    fn list(&self, rt: &impl Abort, bytes: &[u8]) -> ByteList {
+        ByteList::of(bytes.to_vec(self.alloc).expect(rt, "memory"))
+    }
+
+    pub fn line(&mut self, rt: &impl Abort, now: u64, event: Event) -> Line {
+        match self.world.step(&mut self.disk, &mut self.words, now, event) {
+            Ok(line) => line,
+            Err(_) => panic!(rt; "no answer"),
+        }
+    }
+
+    fn kms(&mut self, rt: &impl Abort, now: u64, call: KmsCall) -> KmsReply {
+        let user = self.user();
+        match self.line(rt, now, Event::Kms { user, call }) {
+            Line::Kms(reply) => reply,
+            _ => panic!(rt; "no reply of the key service"),
+        }
+    }
+
+    pub fn create(&mut self, rt: &impl Abort, now: u64, name: &[u8]) -> KmsReply {
+        let call = KmsCall::Create {
+            name: key_name(rt, name),
+            bits: 128,
+            material: Some(self.list(rt, MATERIAL)),
+            description: Description::empty(self.alloc),
+        };
+        self.kms(rt, now, call)
+    }
+
+    pub fn roll(&mut self, rt: &impl Abort, now: u64, name: &[u8]) -> KmsReply {
+        let call = KmsCall::Roll {
+            name: key_name(rt, name),
+            material: Some(self.list(rt, MATERIAL)),
+        };
+        self.kms(rt, now, call)
+    }
+
+    pub fn delete(&mut self, rt: &impl Abort, now: u64, name: &[u8]) -> KmsReply {
+        let name = key_name(rt, name);
+        self.kms(rt, now, KmsCall::Delete { name })
+    }
+
+    pub fn metadata(&mut self, rt: &impl Abort, now: u64, name: &[u8]) -> KmsReply {
+        let name = key_name(rt, name);
+        self.kms(rt, now, KmsCall::Metadata { name })
+    }
+
+    /// Opens the key management service again, which is to be the opening of this number.
+    pub fn restart(&mut self, rt: &impl Abort, wanted: u32) {
+        match self.line(rt, 5, Event::RestartKms) {
+            Line::Opened { opening } => assert_eq!(rt; opening, wanted),
+            _ => panic!(rt; "not opened"),
+        }
+    }
+
+    fn name(&mut self, rt: &impl Abort, event: Event) -> NameReply {
+        match self.line(rt, 5, event) {
+            Line::Name(reply) => reply,
+            _ => panic!(rt; "no reply of the namesystem"),
+        }
+    }
+
+    pub fn mkdir(&mut self, rt: &impl Abort, path: &[u8]) -> NameReply {
+        let user = self.user();
+        let path = self.list(rt, path);
+        self.name(rt, Event::Mkdir { user, path })
+    }
+
+    pub fn info(&mut self, rt: &impl Abort, path: &[u8]) -> NameReply {
+        let user = self.user();
+        let path = self.list(rt, path);
+        self.name(rt, Event::Info { user, path })
+    }
+
+    pub fn ask_create(&mut self, rt: &impl Abort, path: &[u8]) -> Line {
+        let user = self.user();
+        let path = self.list(rt, path);
+        self.line(rt, 5, Event::AskCreate { user, path })
+    }
+}
+
+pub fn key_name(rt: &impl Abort, bytes: &[u8]) -> KeyName {
+    KeyName::read(bytes).expect(rt, "a name")
+}
+
+pub fn assert_version(rt: &impl Abort, reply: KmsReply, number: u16) {
+    match reply {
+        KmsReply::Version { version, .. } => assert_eq!(rt; version.number, number),
+        _ => panic!(rt; "no version"),
+    }
+}
+
+pub fn assert_known(rt: &impl Abort, reply: KmsReply, name: &[u8], created: u64, versions: u32) {
+    match reply {
+        KmsReply::Metadata(known) => {
+            assert!(rt; known.name.is(&key_name(rt, name)));
+            assert_eq!(rt; known.created, created);
+            assert_eq!(rt; known.versions, versions);
+        }
+        _ => panic!(rt; "no metadata"),
+    }
+}
+
+pub fn assert_done(rt: &impl Abort, reply: NameReply) {
+    match reply {
+        NameReply::Done => {}
+        _ => panic!(rt; "not done"),
+    }
+}
+
+/// A directory of the id that lies in no zone.
+pub fn assert_directory(rt: &impl Abort, reply: NameReply, wanted: u64) {
+    match reply {
+        NameReply::Dir { id, zone, key } => {
+            assert_eq!(rt; id, wanted);
+            assert!(rt; zone.is_none());
+            assert!(rt; key.is_none());
+        }
+        _ => panic!(rt; "no directory"),
+    }
+}
+
+/// The key management service refused a call, since its disk failed.
+pub fn assert_fault(rt: &impl Abort, reply: KmsReply) {
+    match reply {
+        KmsReply::Refused(why) => assert!(rt; why == KmsRefusal::StoreFault),
+        _ => panic!(rt; "no fault"),
+    }
+}
