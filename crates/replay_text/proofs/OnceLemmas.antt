@@ -9,7 +9,7 @@ use Rattle.key_rows.specs.declared.calls.RawEdek.{RawEdek}
 use Rattle.key_rows.specs.declared.calls.KmsCall.{KmsCall}
 use Rattle.key_rows.specs.declared.calls.KmsCall.TheVariants as call
 use Rattle.world_run.specs.declared.event.Event.{Event}
-use Rattle.world_run.specs.declared.event.Event.TheVariants.{Kms, Mkdir, Info, AskCreate, AskZone, Draw, Finish}
+use Rattle.world_run.specs.declared.event.Event.TheVariants.{Kms, RestartKms, Mkdir, Info, AskCreate, AskZone, Draw, Finish}
 use Rattle.replay_text.specs.Events.{AreTriples, IsMaterial, IsPath, IsQuiet, IsTriple, IsUser, Spells, SpellsAskCreate, SpellsAskZone, SpellsBatch, SpellsCall, SpellsCreate, SpellsEdek, SpellsEvent, SpellsGenerate, SpellsKept, SpellsKms, SpellsMaterial, SpellsMetadatas, SpellsNamed, SpellsPath, SpellsRoll, SpellsSent, SpellsVersion, fields_of, is_comma}
 use Rattle.replay_text.proofs.CallLemmas.{apart, two_verbs}
 
@@ -411,13 +411,23 @@ other_ask fields user other path also key x y =
 
 event_once : (fields : List (List ℕ)) (a b : Event) → SpellsEvent fields a → SpellsEvent fields b → a ≡ b
 event_once fields (Kms user c) (Kms other d) x y = kms_once fields user other c d x y
+event_once fields (Kms user c) RestartKms x y = two_verbs fields _ _ (codes "kms") (codes "restart") (apart _ _ refl) x.fields_are y
 event_once fields (Kms user c) (Mkdir other also) x y = two_verbs fields _ _ (codes "kms") (codes "nn") (apart _ _ refl) x.fields_are y.fields_are
 event_once fields (Kms user c) (Info other also) x y = two_verbs fields _ _ (codes "kms") (codes "nn") (apart _ _ refl) x.fields_are y.fields_are
 event_once fields (Kms user c) (AskCreate other also) x y = two_verbs fields _ _ (codes "kms") (codes "ask") (apart _ _ refl) x.fields_are y.fields_are
 event_once fields (Kms user c) (AskZone other also second) x y = two_verbs fields _ _ (codes "kms") (codes "ask") (apart _ _ refl) x.fields_are y.fields_are
 event_once fields (Kms user c) (Draw n) x y = two_verbs fields _ _ (codes "kms") (codes "draw") (apart _ _ refl) x.fields_are y.fields_are
 event_once fields (Kms user c) (Finish n) x y = two_verbs fields _ _ (codes "kms") (codes "finish") (apart _ _ refl) x.fields_are y.fields_are
+event_once fields RestartKms (Kms other d) x y = two_verbs fields _ _ (codes "restart") (codes "kms") (apart _ _ refl) x y.fields_are
+event_once fields RestartKms RestartKms x y = refl
+event_once fields RestartKms (Mkdir other also) x y = two_verbs fields _ _ (codes "restart") (codes "nn") (apart _ _ refl) x y.fields_are
+event_once fields RestartKms (Info other also) x y = two_verbs fields _ _ (codes "restart") (codes "nn") (apart _ _ refl) x y.fields_are
+event_once fields RestartKms (AskCreate other also) x y = two_verbs fields _ _ (codes "restart") (codes "ask") (apart _ _ refl) x y.fields_are
+event_once fields RestartKms (AskZone other also second) x y = two_verbs fields _ _ (codes "restart") (codes "ask") (apart _ _ refl) x y.fields_are
+event_once fields RestartKms (Draw n) x y = two_verbs fields _ _ (codes "restart") (codes "draw") (apart _ _ refl) x y.fields_are
+event_once fields RestartKms (Finish n) x y = two_verbs fields _ _ (codes "restart") (codes "finish") (apart _ _ refl) x y.fields_are
 event_once fields (Mkdir user path) (Kms other d) x y = two_verbs fields _ _ (codes "nn") (codes "kms") (apart _ _ refl) x.fields_are y.fields_are
+event_once fields (Mkdir user path) RestartKms x y = two_verbs fields _ _ (codes "nn") (codes "restart") (apart _ _ refl) x.fields_are y
 event_once fields (Mkdir user path) (Mkdir other also) x y = let same = same_path (codes "mkdir") fields user other path also x y in λ i. Mkdir (same.0 i) (same.1 i)
 event_once fields (Mkdir user path) (Info other also) x y = other_path_verb (codes "mkdir") (codes "info") fields user other path also (apart _ _ refl) x y
 event_once fields (Mkdir user path) (AskCreate other also) x y = two_verbs fields _ _ (codes "nn") (codes "ask") (apart _ _ refl) x.fields_are y.fields_are
@@ -425,6 +435,7 @@ event_once fields (Mkdir user path) (AskZone other also second) x y = two_verbs 
 event_once fields (Mkdir user path) (Draw n) x y = two_verbs fields _ _ (codes "nn") (codes "draw") (apart _ _ refl) x.fields_are y.fields_are
 event_once fields (Mkdir user path) (Finish n) x y = two_verbs fields _ _ (codes "nn") (codes "finish") (apart _ _ refl) x.fields_are y.fields_are
 event_once fields (Info user path) (Kms other d) x y = two_verbs fields _ _ (codes "nn") (codes "kms") (apart _ _ refl) x.fields_are y.fields_are
+event_once fields (Info user path) RestartKms x y = two_verbs fields _ _ (codes "nn") (codes "restart") (apart _ _ refl) x.fields_are y
 event_once fields (Info user path) (Mkdir other also) x y = other_path_verb (codes "info") (codes "mkdir") fields user other path also (apart _ _ refl) x y
 event_once fields (Info user path) (Info other also) x y = let same = same_path (codes "info") fields user other path also x y in λ i. Info (same.0 i) (same.1 i)
 event_once fields (Info user path) (AskCreate other also) x y = two_verbs fields _ _ (codes "nn") (codes "ask") (apart _ _ refl) x.fields_are y.fields_are
@@ -432,6 +443,7 @@ event_once fields (Info user path) (AskZone other also second) x y = two_verbs f
 event_once fields (Info user path) (Draw n) x y = two_verbs fields _ _ (codes "nn") (codes "draw") (apart _ _ refl) x.fields_are y.fields_are
 event_once fields (Info user path) (Finish n) x y = two_verbs fields _ _ (codes "nn") (codes "finish") (apart _ _ refl) x.fields_are y.fields_are
 event_once fields (AskCreate user path) (Kms other d) x y = two_verbs fields _ _ (codes "ask") (codes "kms") (apart _ _ refl) x.fields_are y.fields_are
+event_once fields (AskCreate user path) RestartKms x y = two_verbs fields _ _ (codes "ask") (codes "restart") (apart _ _ refl) x.fields_are y
 event_once fields (AskCreate user path) (Mkdir other also) x y = two_verbs fields _ _ (codes "ask") (codes "nn") (apart _ _ refl) x.fields_are y.fields_are
 event_once fields (AskCreate user path) (Info other also) x y = two_verbs fields _ _ (codes "ask") (codes "nn") (apart _ _ refl) x.fields_are y.fields_are
 event_once fields (AskCreate user path) (AskCreate other also) x y = ask_create_once fields user other path also x y
@@ -439,6 +451,7 @@ event_once fields (AskCreate user path) (AskZone other also second) x y = other_
 event_once fields (AskCreate user path) (Draw n) x y = two_verbs fields _ _ (codes "ask") (codes "draw") (apart _ _ refl) x.fields_are y.fields_are
 event_once fields (AskCreate user path) (Finish n) x y = two_verbs fields _ _ (codes "ask") (codes "finish") (apart _ _ refl) x.fields_are y.fields_are
 event_once fields (AskZone user path key) (Kms other d) x y = two_verbs fields _ _ (codes "ask") (codes "kms") (apart _ _ refl) x.fields_are y.fields_are
+event_once fields (AskZone user path key) RestartKms x y = two_verbs fields _ _ (codes "ask") (codes "restart") (apart _ _ refl) x.fields_are y
 event_once fields (AskZone user path key) (Mkdir other also) x y = two_verbs fields _ _ (codes "ask") (codes "nn") (apart _ _ refl) x.fields_are y.fields_are
 event_once fields (AskZone user path key) (Info other also) x y = two_verbs fields _ _ (codes "ask") (codes "nn") (apart _ _ refl) x.fields_are y.fields_are
 event_once fields (AskZone user path key) (AskCreate other also) x y = other_ask fields other user also path key y x
@@ -446,6 +459,7 @@ event_once fields (AskZone user path key) (AskZone other also second) x y = ask_
 event_once fields (AskZone user path key) (Draw n) x y = two_verbs fields _ _ (codes "ask") (codes "draw") (apart _ _ refl) x.fields_are y.fields_are
 event_once fields (AskZone user path key) (Finish n) x y = two_verbs fields _ _ (codes "ask") (codes "finish") (apart _ _ refl) x.fields_are y.fields_are
 event_once fields (Draw m) (Kms other d) x y = two_verbs fields _ _ (codes "draw") (codes "kms") (apart _ _ refl) x.fields_are y.fields_are
+event_once fields (Draw m) RestartKms x y = two_verbs fields _ _ (codes "draw") (codes "restart") (apart _ _ refl) x.fields_are y
 event_once fields (Draw m) (Mkdir other also) x y = two_verbs fields _ _ (codes "draw") (codes "nn") (apart _ _ refl) x.fields_are y.fields_are
 event_once fields (Draw m) (Info other also) x y = two_verbs fields _ _ (codes "draw") (codes "nn") (apart _ _ refl) x.fields_are y.fields_are
 event_once fields (Draw m) (AskCreate other also) x y = two_verbs fields _ _ (codes "draw") (codes "ask") (apart _ _ refl) x.fields_are y.fields_are
@@ -453,6 +467,7 @@ event_once fields (Draw m) (AskZone other also second) x y = two_verbs fields _ 
 event_once fields (Draw m) (Draw n) x y = ap Draw (kept_once (codes "draw") fields m n x y)
 event_once fields (Draw m) (Finish n) x y = two_verbs fields _ _ (codes "draw") (codes "finish") (apart _ _ refl) x.fields_are y.fields_are
 event_once fields (Finish m) (Kms other d) x y = two_verbs fields _ _ (codes "finish") (codes "kms") (apart _ _ refl) x.fields_are y.fields_are
+event_once fields (Finish m) RestartKms x y = two_verbs fields _ _ (codes "finish") (codes "restart") (apart _ _ refl) x.fields_are y
 event_once fields (Finish m) (Mkdir other also) x y = two_verbs fields _ _ (codes "finish") (codes "nn") (apart _ _ refl) x.fields_are y.fields_are
 event_once fields (Finish m) (Info other also) x y = two_verbs fields _ _ (codes "finish") (codes "nn") (apart _ _ refl) x.fields_are y.fields_are
 event_once fields (Finish m) (AskCreate other also) x y = two_verbs fields _ _ (codes "finish") (codes "ask") (apart _ _ refl) x.fields_are y.fields_are
@@ -473,6 +488,7 @@ pub record Begins (fields : List (List ℕ)) : Type 0 where
 
 begins : (fields : List (List ℕ)) (event : Event) → SpellsEvent fields event → Begins fields
 begins fields (Kms user call) x = record { first = 107; front = codes "ms"; more = x.user_field ∷ x.call_fields; begin = x.fields_are; no_comment = λ e. omega (arith, e) }
+begins fields RestartKms x = record { first = 114; front = codes "estart"; more = codes "kms" ∷ []; begin = x; no_comment = λ e. omega (arith, e) }
 begins fields (Mkdir user path) x = record { first = 110; front = codes "n"; more = x.user_field ∷ codes "mkdir" ∷ x.path_field ∷ []; begin = x.fields_are; no_comment = λ e. omega (arith, e) }
 begins fields (Info user path) x = record { first = 110; front = codes "n"; more = x.user_field ∷ codes "info" ∷ x.path_field ∷ []; begin = x.fields_are; no_comment = λ e. omega (arith, e) }
 begins fields (AskCreate user path) x = record { first = 97; front = codes "sk"; more = x.user_field ∷ codes "create" ∷ x.path_field ∷ []; begin = x.fields_are; no_comment = λ e. omega (arith, e) }

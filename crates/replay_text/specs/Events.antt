@@ -215,9 +215,14 @@ pub record SpellsKept (verb : List ℕ) (fields : List (List ℕ)) (number : ℕ
   pub fields_are : fields ≡ verb ∷ decimal number ∷ []
   pub small : number < 2 ^ 32
 
+-- `restart kms`
+abbrev pub SpellsRestartKms : List (List ℕ) → Type 0
+SpellsRestartKms fields = fields ≡ codes "restart" ∷ codes "kms" ∷ []
+
 -- the fields of a line spell the event
 abbrev pub SpellsEvent : List (List ℕ) → Event → Type 0
 SpellsEvent fields (event.Kms user call) = SpellsKms fields user call
+SpellsEvent fields event.RestartKms = SpellsRestartKms fields
 SpellsEvent fields (event.Mkdir user path) = SpellsPath (codes "mkdir") fields user path
 SpellsEvent fields (event.Info user path) = SpellsPath (codes "info") fields user path
 SpellsEvent fields (event.AskCreate user path) = SpellsAskCreate fields user path

@@ -115,6 +115,7 @@ kept_text (Some reply) = answer_text reply
 
 abbrev pub told_text : Line → List ℕ
 told_text (line.Kms reply) = answer_text reply
+told_text (line.Opened opening) = codes "opened " ++ decimal opening
 told_text (line.Name reply) = name_text reply
 told_text (line.Asked number note) = codes "ask " ++ decimal number ++ codes " " ++ decimal note.id ++ codes " " ++ want_text note.want
 told_text (line.Replied number reply) = codes "reply " ++ decimal number ++ codes " " ++ kept_text reply

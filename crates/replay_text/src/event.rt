@@ -1,7 +1,7 @@
 //! Event lines.
 ghost use Rattle.std.specs.Prelude.{◌≡◌, ◌≢◌, ◌≤◌, ◌⊎◌, ◌∷◌, [], ℕ, List, length, codes, IfOk, MatchOption, MatchResult};
 ghost use Rattle.key_rows.specs.declared.calls.KmsCall.{KmsCall};
-ghost use Rattle.replay_text.specs.Events.{IsBad, IsPathEvent, IsPathVerb, IsQuiet, Spells, SpellsEvent, SpellsKms, SpellsPath, fields_of};
+ghost use Rattle.replay_text.specs.Events.{IsBad, IsPathEvent, IsPathVerb, IsQuiet, Spells, SpellsEvent, SpellsKms, SpellsPath, SpellsRestartKms, fields_of};
 ghost use Rattle.world_run.specs.declared.event.Event.{Event};
 ghost use Rattle.world_run.specs.declared.event.Event.TheVariants as event;
 
@@ -50,6 +50,9 @@ fn read_spelled(alloc: Global, line: &[u8]) -> Result<Option<Event>, NoMemory>
     if first == b"kms".as_slice() {
         return read_kms_event(alloc, rest);
     }
+    if first == b"restart".as_slice() {
+        return Ok(read_restart(rest));
+    }
     if first == b"nn".as_slice() {
         return read_path_event(alloc, rest);
     }
@@ -80,6 +83,19 @@ fn read_kms_event(alloc: Global, fields: &[u8]) -> Result<Option<Event>, NoMemor
         return Ok(None);
     };
     Ok(Some(Event::Kms { user, call }))
+}
+
+/// `restart kms`, of which `restart` is read.
+fn read_restart(fields: &[u8]) -> Option<Event>
+    ensures { MatchOption result (¬ SpellsRestartKms (codes "restart" ∷ fields_of fields.now)) (SpellsEvent (codes "restart" ∷ fields_of fields.now)) }
+{
+    let Some(service) = only_field(fields) else {
+        return None;
+    };
+    if service == b"kms".as_slice() {
+        return Some(Event::RestartKms);
+    }
+    None
 }
 
 /// The fields of `nn U VERB P`.

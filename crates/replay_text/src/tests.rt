@@ -31,6 +31,7 @@ fn say_event(alloc: Global, event: &Event, out: &mut ByteList) -> Result<(), NoM
             out.append(user.as_str().as_bytes())?;
             say_call(alloc, call, out)
         }
+        Event::RestartKms => out.append(b"restart|kms"),
         Event::Mkdir { user, path } => say_path(b"mkdir|", user, path, out),
         Event::Info { user, path } => say_path(b"info|", user, path, out),
         Event::AskCreate { user, path } => say_path(b"ask create|", user, path, out),
@@ -312,6 +313,29 @@ fn lines_of_asks_are_read_in_their_spellings(rt: HostRuntime) -> Result<(), Fail
 }
 
 #[test]
+fn a_restart_has_one_spelling(rt: HostRuntime) -> Result<(), Fail> {
+    let cases = [
+        ("restart kms", "restart|kms"),
+        ("restart", "bad"),
+        ("restart ", "bad"),
+        ("restart kms ", "bad"),
+        ("restart  kms", "bad"),
+        ("restart kms k", "bad"),
+        ("restart km%73", "bad"),
+        ("restart nn", "bad"),
+        ("restartkms", "bad"),
+        ("Restart kms", "bad"),
+        (" restart kms", "bad"),
+        ("kms restart", "bad"),
+    ];
+    for (line, wanted) in cases {
+        let found = read(rt.alloc(), line.as_bytes()).ok().ok_or("no memory")?;
+        assert_eq!(rt; found.as_slice(), wanted.as_bytes(), "{line}");
+    }
+    Ok(())
+}
+
+#[test]
 fn numbers_of_kept_values_have_one_spelling(rt: HostRuntime) -> Result<(), Fail> {
     let cases = [
         ("draw 1", "draw|1"),
@@ -344,6 +368,18 @@ fn written(alloc: Global, line: &Line) -> Result<ByteList, NoMemory> {
     let mut out = ByteList::new(alloc);
     write_line(alloc, 7, line, &mut out)?;
     Ok(out)
+}
+
+#[test]
+fn the_answer_to_a_restart_is_written(rt: HostRuntime) -> Result<(), Fail> {
+    let cases = [(2, "7 opened 2\n"), (4294967295, "7 opened 4294967295\n")];
+    for (opening, wanted) in cases {
+        let found = written(rt.alloc(), &Line::Opened { opening })
+            .ok()
+            .ok_or("no memory")?;
+        assert_eq!(rt; found.as_slice(), wanted.as_bytes());
+    }
+    Ok(())
 }
 
 #[test]

@@ -48,12 +48,21 @@ fn write_told(alloc: Global, told: &Line, out: &mut ByteList) -> Result<(), NoMe
 {
     match told {
         Line::Kms(reply) => write_answer(alloc, reply, out),
+        Line::Opened { opening } => write_opened(*opening, out),
         Line::Name(reply) => write_name_reply(alloc, reply, out),
         Line::Asked { number, note } => write_asked(*number, note, out),
         Line::Replied { number, reply } => write_replied(alloc, *number, reply, out),
         Line::Refused(why) => write_refused(why, out),
         Line::Unknown => out.append(b"unknown"),
     }
+}
+
+/// A service that was opened again.
+fn write_opened(opening: u32, out: &mut ByteList) -> Result<(), NoMemory>
+    ensures { OnOk result (out.new ≡ out.old ++ codes "opened " ++ decimal opening) }
+{
+    out.append(b"opened ")?;
+    write_number(opening as u64, out)
 }
 
 /// An ask that was accepted.
