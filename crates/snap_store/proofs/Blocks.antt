@@ -58,13 +58,13 @@ block (e ∷ es) p r = go (is_before e.path p) refl (is_prefix p e.path) refl (b
     go false h false k ih = none-behind p e.path es r.0 h k ∙ sym (ap (λ (b : Bool). cond b (e ∷ front p es) []) k)
 
 -- the copies so far, and what is still to be copied from a place on
-abbrev pub copied : List Entry → List Entry → List (List ℕ) → ℕ → List Entry
-copied done es p at = done ++ map (seen_from (length p)) (front p (drop at es))
+abbrev pub copied : ℕ → List Entry → List Entry → List (List ℕ) → ℕ → List Entry
+copied n done es p at = done ++ map (seen_from n) (front p (drop at es))
 
-pub copied-first : (es : List Entry) (p : List (List ℕ)) → IsRising es → rows_below es p ≡ copied [] es p (rank es p)
-copied-first es p r = ap (map (seen_from (length p))) (block es p r)
+pub copied-first : (n : ℕ) (es : List Entry) (p : List (List ℕ)) → IsRising es → map (seen_from n) (under p es) ≡ copied n [] es p (rank es p)
+copied-first n es p r = ap (map (seen_from n)) (block es p r)
 
-front-step : (es : List Entry) (p : List (List ℕ)) (at : ℕ) (t : Bool) → option_map (λ (e : Entry). is_prefix p e.path) (slice_get es at) ≡ Some t → (e : Entry) × (slice_get es at ≡ Some e) × (front p (drop at es) ≡ cond t (e ∷ front p (drop (at + 1) es)) [])
+pub front-step : (es : List Entry) (p : List (List ℕ)) (at : ℕ) (t : Bool) → option_map (λ (e : Entry). is_prefix p e.path) (slice_get es at) ≡ Some t → (e : Entry) × (slice_get es at ≡ Some e) × (front p (drop at es) ≡ cond t (e ∷ front p (drop (at + 1) es)) [])
 front-step [] p zero t h = cc
 front-step [] p (suc at) t h = cc
 front-step (e ∷ es) p zero t h = let f : is_prefix p e.path ≡ t = cc in (e, refl, ap (λ (b : Bool). cond b (e ∷ front p es) []) f)
@@ -74,27 +74,27 @@ front-step (e ∷ es) p (suc at) t h = let w = front-step es p at t h in (w.0, w
     more k = omega arith
 
 -- one more copy
-pub copied-step : (done es : List Entry) (p : List (List ℕ)) (at : ℕ) (x : Entry) → option_map (λ (e : Entry). is_prefix p e.path) (slice_get es at) ≡ Some true → option_map (seen_from (length p)) (slice_get es at) ≡ Some x → copied done es p at ≡ copied (done ++ x ∷ []) es p (at + 1)
-copied-step done es p at x h g =
+pub copied-step : (n : ℕ) (done es : List Entry) (p : List (List ℕ)) (at : ℕ) (x : Entry) → option_map (λ (e : Entry). is_prefix p e.path) (slice_get es at) ≡ Some true → option_map (seen_from n) (slice_get es at) ≡ Some x → copied n done es p at ≡ copied n (done ++ x ∷ []) es p (at + 1)
+copied-step n done es p at x h g =
     let w = front-step es p at true h in
-    let e : Some (seen_from (length p) w.0) ≡ Some x = sym (ap (option_map (seen_from (length p))) w.1) ∙ g in
-    let f : seen_from (length p) w.0 ≡ x = cc in
-    ap (λ (xs : List Entry). done ++ map (seen_from (length p)) xs) w.2
-    ∙ ap (λ (y : Entry). done ++ y ∷ map (seen_from (length p)) (front p (drop (at + 1) es))) f
-    ∙ sym (append_assoc done (x ∷ []) (map (seen_from (length p)) (front p (drop (at + 1) es))))
+    let e : Some (seen_from n w.0) ≡ Some x = sym (ap (option_map (seen_from n)) w.1) ∙ g in
+    let f : seen_from n w.0 ≡ x = cc in
+    ap (λ (xs : List Entry). done ++ map (seen_from n) xs) w.2
+    ∙ ap (λ (y : Entry). done ++ y ∷ map (seen_from n) (front p (drop (at + 1) es))) f
+    ∙ sym (append_assoc done (x ∷ []) (map (seen_from n) (front p (drop (at + 1) es))))
 
 -- no more
-pub copied-stop : (done es : List Entry) (p : List (List ℕ)) (at : ℕ) → option_map (λ (e : Entry). is_prefix p e.path) (slice_get es at) ≡ Some false → copied done es p at ≡ done
-copied-stop done es p at h = let w = front-step es p at false h in ap (λ (xs : List Entry). done ++ map (seen_from (length p)) xs) w.2 ∙ append-nil done
+pub copied-stop : (n : ℕ) (done es : List Entry) (p : List (List ℕ)) (at : ℕ) → option_map (λ (e : Entry). is_prefix p e.path) (slice_get es at) ≡ Some false → copied n done es p at ≡ done
+copied-stop n done es p at h = let w = front-step es p at false h in ap (λ (xs : List Entry). done ++ map (seen_from n) xs) w.2 ∙ append-nil done
 
-drop-past : (es : List Entry) (at : ℕ) → length es ≤ at → drop at es ≡ []
+pub drop-past : (es : List Entry) (at : ℕ) → length es ≤ at → drop at es ≡ []
 drop-past [] zero h = refl
 drop-past [] (suc at) h = refl
 drop-past (e ∷ es) zero h = absurd (omega arith)
 drop-past (e ∷ es) (suc at) h = drop-past es at (omega arith)
 
-pub copied-end : (done es : List Entry) (p : List (List ℕ)) (at : ℕ) → length es ≤ at → copied done es p at ≡ done
-copied-end done es p at h = ap (λ (xs : List Entry). done ++ map (seen_from (length p)) (front p xs)) (drop-past es at h) ∙ append-nil done
+pub copied-end : (n : ℕ) (done es : List Entry) (p : List (List ℕ)) (at : ℕ) → length es ≤ at → copied n done es p at ≡ done
+copied-end n done es p at h = ap (λ (xs : List Entry). done ++ map (seen_from n) (front p xs)) (drop-past es at h) ∙ append-nil done
 
 -- paths below one path compare as they do when they are seen from it
 seen-cmp : (p a b : List (List ℕ)) → is_prefix p a ≡ true → is_prefix p b ≡ true → path_cmp (drop (length p) a) (drop (length p) b) ≡ path_cmp a b

@@ -5,5 +5,6 @@ pub mod Kept
 pub mod Kids
 pub mod OrderLemmas
 pub mod Positions
+pub mod Standing
 pub mod Taken
 pub mod Zones

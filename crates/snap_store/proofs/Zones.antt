@@ -74,7 +74,7 @@ not-lt a b h = grind (arith, nat_tests)
 is-lt : (a b : ℕ) → (b ≤ a → ⊥) → nat_lt a b ≡ true
 is-lt a b h = grind (arith, nat_tests)
 
-prefix-length : (a p : List (List ℕ)) → is_prefix a p ≡ true → length a ≤ length p
+pub prefix-length : (a p : List (List ℕ)) → is_prefix a p ≡ true → length a ≤ length p
 prefix-length [] p h = omega arith
 prefix-length (x ∷ a) [] h = cc
 prefix-length (x ∷ a) (y ∷ p) h = let i : length a ≤ length p = prefix-length a p (and-parts (bytes_eq x y) (is_prefix a p) h).1 in omega arith

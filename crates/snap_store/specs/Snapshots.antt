@@ -8,6 +8,7 @@ use Rattle.std.specs.Cmp.Lexicographic.{slice_cmp}
 use Rattle.inode_tree.specs.declared.listing.Child.{Child}
 use Rattle.inode_tree.specs.Below.{at_or_above, at_or_below, rows_below}
 use Rattle.inode_tree.specs.Listing.{children}
+use Rattle.inode_tree.specs.Paths.{is_prefix}
 use Rattle.inode_tree.specs.Rows.{Entry, entry_of, is_dir_at, row_at, zone_of}
 use Rattle.snap_store.specs.Ordered.{IsRisingBy, put_by}
 
@@ -17,15 +18,35 @@ pub record Snapshot : Type 0 where
   pub name : List ℕ
   pub rows : List Entry
 
--- the ids of the directories that may have snapshots, the snapshots, and for how many more ids there is memory
+-- rows that were copied for a snapshot to be taken: the path of its directory, and the rows at and below it by their whole paths
+pub record Copied : Type 0 where
+  pub path : List (List ℕ)
+  pub rows : List Entry
+
+-- The ids of the directories that may have snapshots, and the snapshots. Beside them what is put by: for
+-- how many more ids and for how many more snapshots there is a place, and the rows that were copied for one.
 pub record Snapshots : Type 0 where
   pub allowed : List ℕ
   pub taken : List Snapshot
   pub spare : ℕ
+  pub spare_take : ℕ
+  pub ready : Option Copied
 
 -- what has to be spare for one more directory
 abbrev pub need_allow : ℕ → ℕ
 need_allow dir = 1
+
+-- what has to be spare for one more snapshot
+abbrev pub need_take : List Entry → ℕ → List ℕ → ℕ
+need_take rows dir name = 1
+
+-- and the rows that have to be copied for it: those at and below its directory as they are
+abbrev pub copied_for : List Entry → ℕ → Option Copied
+copied_for rows dir = option_map (λ e. record { path = e.path; rows = filter (λ f. is_prefix e.path f.path) rows }) (entry_of rows dir)
+
+-- all memory for a snapshot of the directory is put by
+abbrev pub IsReady : Snapshots → List Entry → ℕ → List ℕ → Type 0
+IsReady s rows dir name = (need_take rows dir name ≤ s.spare_take) × (s.ready ≡ copied_for rows dir)
 
 -- by directory, and by name there, byte by byte
 abbrev pub snapshot_cmp : Snapshot → Snapshot → Ordering

@@ -1,7 +1,9 @@
 //! Snapshots of directories: the rows at and below a directory as they were.
 #![tactic(auto)]
 
+mod prepared;
 mod rows;
+mod same;
 mod snaps;
 
 pub use snaps::{MOST_SNAPSHOTS, Snaps};

@@ -1,15 +1,17 @@
 //! Rows as they were.
-ghost use Rattle.std.specs.Prelude.{◌≡◌, ◌≤◌, ◌<◌, Some, length, take, slice_get, true, false, IsSome, IfOk};
+ghost use Rattle.std.specs.Prelude.{◌≡◌, ◌≤◌, ◌<◌, ◌↔◌, Some, length, map, take, slice_get, true, false, IsSome, IsTrue, IfOk};
+ghost use Rattle.std.specs.List.{filter};
 ghost use Rattle.std.specs.List.Sorted.{IsPartitionPoint};
 ghost use Rattle.std.specs.Option.{option_map, option_map_or};
 ghost use Rattle.std.specs.Ordering.{is_lt, nat_cmp};
 ghost use Rattle.std.specs.Cmp.Lexicographic.{slice_cmp};
-ghost use Rattle.inode_tree.specs.Below.{rows_below, seen_from};
+ghost use Rattle.inode_tree.specs.Below.{seen_from};
 ghost use Rattle.inode_tree.specs.Listing.{child_of, children};
-ghost use Rattle.inode_tree.specs.Paths.{is_child, path_cmp};
+ghost use Rattle.inode_tree.specs.Paths.{is_child, is_prefix, path_cmp};
 ghost use Rattle.inode_tree.specs.Rows.{IsRising, entry_of, is_marked, row_at};
 ghost use Rattle.snap_store.specs.Snapshots.{frozen, list_in, zone_depth};
 
+use crate::same::same_row;
 use hk_base::{NoMemory, Text};
 use inode_tree::{Child, ChildList, Kind, NPath, Row, Tree};
 use std::alloc::Global;
@@ -106,6 +108,23 @@ impl FrozenRow {
     {
         self.row
     }
+
+    /// Whether it is the row at a place of the tree. It takes no memory.
+    pub fn stands_at(&self, tree: &Tree, at: u32) -> bool
+        ensures { IsTrue result ↔ (slice_get tree.now at ≡ Some self.now) }
+    {
+        if at >= tree.rows() {
+            return false;
+        }
+        let stands = tree.row_at_place(at);
+        if !tree.at_or_above(stands.id, &self.path) {
+            return false;
+        }
+        if !tree.place_is_below(at, &self.path) {
+            return false;
+        }
+        same_row(&self.row, &stands)
+    }
 }
 
 fn copy_of(alloc: Global, name: &Text) -> Result<Text, NoMemory>
@@ -125,17 +144,22 @@ fn copy_row(tree: &Tree, at: u32, from: usize) -> Result<FrozenRow, NoMemory>
     Ok(FrozenRow { path, row })
 }
 
-/// Copies of the rows at and below a path.
-fn copy_rows(alloc: Global, tree: &Tree, path: &NPath) -> Result<Vec<FrozenRow>, NoMemory>
-    ensures { IfOk result (λ rows. rows.items ≡ rows_below tree.now path.now) }
+/// Copies of the rows at and below a path, as they are seen from the directory that their first
+/// `from` names lead to.
+pub fn copy_rows(
+    alloc: Global,
+    tree: &Tree,
+    path: &NPath,
+    from: usize,
+) -> Result<Vec<FrozenRow>, NoMemory>
+    ensures { IfOk result (λ rows. rows.items ≡ map (seen_from from) (filter (λ e. is_prefix path.now e.path) tree.now)) }
 {
     let mut rows = Vec::new(alloc);
-    let depth = path.len();
     for at in tree.place(path)..tree.rows() {
         if !tree.place_is_below(at, path) {
             return Ok(rows);
         }
-        rows.push(copy_row(tree, at, depth)?)?;
+        rows.push(copy_row(tree, at, from)?)?;
     }
     Ok(rows)
 }
@@ -239,7 +263,7 @@ impl FrozenRows {
     {
         let _count = tree.rows();
         let path = tree.path_of(dir)?;
-        let rows = copy_rows(alloc, tree, &path)?;
+        let rows = copy_rows(alloc, tree, &path, path.len())?;
         Ok(FrozenRows { alloc, rows })
     }
 

@@ -7,8 +7,9 @@ ghost use Rattle.std.specs.Ordering.{is_lt, nat_cmp};
 ghost use Rattle.inode_tree.specs.Below.{at_or_above, at_or_below};
 ghost use Rattle.inode_tree.specs.Rows.{entry_of, row_at};
 ghost use Rattle.snap_store.specs.Ordered.{IsRisingBy};
-ghost use Rattle.snap_store.specs.Snapshots.{IsSnapshots, allowed_above, allowed_below, count_in, count_of, frozen, holds_snapshot, is_among, is_named, key_of, list_in, names_of, need_allow, put_snapshot, rows_in, snapshot_cmp, snapshot_named, with_id, without_id, without_snapshot, zone_depth};
+ghost use Rattle.snap_store.specs.Snapshots.{IsReady, IsSnapshots, allowed_above, allowed_below, count_in, count_of, frozen, holds_snapshot, is_among, is_named, key_of, list_in, names_of, need_allow, put_snapshot, rows_in, snapshot_cmp, snapshot_named, with_id, without_id, without_snapshot, zone_depth};
 
+use crate::prepared::{Prepared, prepare, rows_for};
 use crate::rows::{FrozenRows, compare_names};
 use hk_base::{NoMemory, Text};
 use inode_tree::{ChildList, NPath, Row, Tree};
@@ -186,6 +187,7 @@ fn put(taken: &mut Vec<Taken>, snapshot: Taken) -> Result<(), NoMemory>
     requires free { snapshot_named taken.old.items snapshot.dir snapshot.name ≡ None }
     ensures ok { OnOk result (taken.new.items ≡ put_snapshot snapshot taken.old.items) }
     ensures err { OnErr result (taken.new.items ≡ taken.old.items) }
+    ensures room { vec_len taken.old < vec_capacity taken.old → IsOk result }
 {
     let at = place(taken, snapshot.dir(), snapshot.name());
     taken.insert(at, snapshot)?;
@@ -224,6 +226,7 @@ pub struct Snaps {
     alloc: Global,
     allowed: Vec<u64>,
     taken: Vec<Taken>,
+    ready: Option<Prepared>,
 }
 
 impl Model for Snaps {
@@ -233,7 +236,7 @@ impl Model for Snaps {
 
     ghost Value = { Snapshots };
 
-    ghost view = { λ snaps. record { allowed = snaps.allowed.items; taken = snaps.taken.items; spare = vec_capacity snaps.allowed - vec_len snaps.allowed } };
+    ghost view = { λ snaps. record { allowed = snaps.allowed.items; taken = snaps.taken.items; spare = vec_capacity snaps.allowed - vec_len snaps.allowed; spare_take = vec_capacity snaps.taken - vec_len snaps.taken; ready = snaps.ready } };
 
     ghost invariant = { λ snaps. IsSnapshots snaps.allowed.items snaps.taken.items };
 }
@@ -248,6 +251,7 @@ impl Snaps {
             alloc,
             allowed: Vec::new(alloc),
             taken: Vec::new(alloc),
+            ready: None,
         }
     }
 
@@ -285,7 +289,8 @@ impl Snaps {
     /// Takes a snapshot of a directory: the rows at and below it stay in it as they are. The
     /// directory has to stand and to be one that may have snapshots, the name to be free there, and
     /// there to be fewer than 65,536 snapshots of it. The other snapshots stay as they are. Where memory
-    /// is wanting all stays as it was.
+    /// is wanting all stays as it was. It takes none where `reserve_take` was `Ok` for the directory and
+    /// neither the snapshots nor the rows at and below it have changed since.
     pub fn take(&mut self, tree: &Tree, dir: u64, name: Text) -> Result<(), NoMemory>
         requires stands { IsSome (entry_of tree.now dir) }
         requires allowed { IsTrue (is_among dir self.old.allowed) }
@@ -295,9 +300,23 @@ impl Snaps {
         ensures err { OnErr result (self.new.taken ≡ self.old.taken) }
         ensures others { (d : ℕ) (n : List ℕ) → is_named dir name (key_of d n) ≡ false → snapshot_named self.new.taken d n ≡ snapshot_named self.old.taken d n }
         ensures allowed { self.new.allowed ≡ self.old.allowed }
+        ensures spare { IsReady self.old tree.now dir name → IsOk result }
     {
-        let rows = FrozenRows::of(self.alloc, tree, dir)?;
+        let rows = rows_for(self.alloc, self.ready.take(), tree, dir)?;
         put(&mut self.taken, Taken { dir, name, rows })
+    }
+
+    /// Takes the memory for a snapshot of a directory, by copying its rows. Nothing else changes; once
+    /// it was `Ok`, `take` is too.
+    pub fn reserve_take(&mut self, tree: &Tree, dir: u64, name: &Text) -> Result<(), NoMemory>
+        ensures ok { OnOk result (IsReady self.new tree.now dir name.now) }
+        ensures allowed { self.new.allowed ≡ self.old.allowed }
+        ensures taken { self.new.taken ≡ self.old.taken }
+    {
+        self.taken.reserve(1)?;
+        self.ready = None;
+        self.ready = prepare(self.alloc, tree, dir)?;
+        Ok(())
     }
 
     /// Removes a snapshot; where there is none, nothing changes. The other snapshots stay as they

@@ -300,6 +300,25 @@ fn knows_where_snapshots_are_and_may_be(rt: HostRuntime) -> Result<(), Fail> {
 }
 
 #[test]
+fn what_was_reserved_is_taken_as_the_tree_then_is(rt: HostRuntime) -> Result<(), Fail> {
+    let alloc = rt.alloc();
+    let mut tree = small_tree(alloc)?;
+    let mut snaps = Snaps::new(alloc);
+    snaps.allow(1)?;
+    snaps.reserve_take(&tree, 1, &text(alloc, "s")?)?;
+    assert!(rt; snaps.count(1) == Some(0));
+    assert!(rt; looks(alloc, &snaps, "s", "/", None)?);
+    assert!(rt; taken(alloc, &mut snaps, &tree, 1, "s")?);
+    assert!(rt; lists(alloc, &snaps, "/", "d/f ")?);
+    snaps.reserve_take(&tree, 1, &text(alloc, "t")?)?;
+    assert!(rt; make(&mut tree, &path(alloc, "/a/g")?, 6, false)?);
+    assert!(rt; taken(alloc, &mut snaps, &tree, 1, "t")?);
+    assert!(rt; looks(alloc, &snaps, "t", "/g", Some(file(6)))?);
+    assert!(rt; looks(alloc, &snaps, "s", "/g", None)?);
+    Ok(())
+}
+
+#[test]
 fn a_name_may_have_255_bytes(rt: HostRuntime) -> Result<(), Fail> {
     let alloc = rt.alloc();
     let tree = small_tree(alloc)?;

@@ -1,11 +1,10 @@
-use Rattle.std.proofs.Common.{◌≡◌, length}
-use Rattle.inode_tree.specs.Below.{rows_below}
-use Rattle.snap_store.proofs.Blocks.{copied}
+use Rattle.std.proofs.Common.{◌≡◌, length, map}
+use Rattle.inode_tree.specs.Below.{seen_from}
+use Rattle.snap_store.proofs.Blocks.{copied, under}
 use Rattle.snap_store.proofs.rows.copy_rows.Given as goal
 
 abbrev pub invariant-loop-at : goal.invariant-loop-at
 invariant-loop-at l = record {
-  done : rows_below l.tree l.path ≡ copied l.rows.items l.tree l.path l.at;
-  depth : l.depth ≡ length l.path;
+  done : map (seen_from l.from) (under l.path l.tree) ≡ copied l.from l.rows.items l.tree l.path l.at;
   end : l.at-end ≡ length l.tree;
 }

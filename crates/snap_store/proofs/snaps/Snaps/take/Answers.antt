@@ -4,13 +4,13 @@ use Rattle.snap_store.proofs.Blocks.{frozen-own}
 use Rattle.snap_store.proofs.Kept.{kept-take, others-take}
 use Rattle.snap_store.proofs.snaps.Snaps.take.Goals as goal
 
-pub invariant_of-self : goal.invariant_of-self
-invariant_of-self c =
+pub invariant_of-self-2 : goal.invariant_of-self-2
+invariant_of-self-2 c =
     kept-take c.self.inside.allowed.items c.self.inside.taken.items c.self.invariant c.put.result (record { dir = c.args.dir; name = c.args.name; rows = c.in_ok-rows.rows }) c.put.new.taken.items
     (ap (λ (s : Snapshots). is_among c.args.dir s.allowed) c.self.view_is ∙ c.requires.allowed)
     (ap (λ (s : Snapshots). snapshot_named s.taken c.args.dir c.args.name) c.self.view_is ∙ c.requires.free)
     (subst (λ (s : Snapshots). count_of s.taken c.args.dir < 65536) (sym c.self.view_is) c.requires.room)
-    (frozen-own c.args.tree.now c.args.dir c.in_ok-rows.rows c.requires.stands c.in_ok-rows.ensures)
+    (frozen-own c.args.tree.now c.args.dir c.in_ok-rows.rows c.requires.stands c.in_ok-rows.ensures.rows)
     c.put.ensures.ok c.put.ensures.err
 
 pub returns-clause-others : goal.returns-clause-others
