@@ -1,6 +1,6 @@
+pub mod EndLemmas
+pub mod HistoryLemmas
+mod LastLemmas
 pub mod SplitLemmas
-pub mod RunLemmas
-pub mod LineLemmas
-pub mod LoopLemmas
-pub mod FinishLemmas
+pub mod StageLemmas
 pub mod WordLemmas

@@ -1,4 +1,4 @@
 pub mod Lines
 pub mod Run
-pub mod Steps
 pub mod Replay
+pub mod Steps

@@ -1,15 +1,21 @@
 -- How a replay ends.
-use Rattle.std.specs.Prelude.{◌≡◌, ◌⊎◌, ℕ, ◌+◌, ◌<◌, ◌^◌, List, [], ◌∷◌, ◌++◌, length, count_by, take, codes, Option, Some}
+use Rattle.std.specs.Prelude.{◌≡◌, ◌⊎◌, ℕ, ◌+◌, ◌<◌, ◌^◌, Bool, List, [], ◌∷◌, ◌++◌, length, count_by, take, codes, Option, Some}
 use Rattle.std.specs.Fmt.{decimal}
 use Rattle.std.specs.Io.KnownBytes.{Appends}
-use Rattle.world_run.specs.declared.event.Line.{Line}
-use Rattle.world_run.specs.World.{WorldState}
-use Rattle.hk_base.specs.Writing.{WroteFront}
+use Rattle.hk_base.specs.Disk.{DiskState, Tells, LeavesOnly}
+use Rattle.frame_log.specs.declared.fault.StartFault.{StartFault}
+use Rattle.frame_log.specs.declared.fault.StartFault.TheVariants as start
+use Rattle.key_rows.specs.declared.rows.KeyCommand.{KeyCommand}
+use Rattle.key_rows.specs.Table.{Table}
+use Rattle.kms_core.specs.State.{settled}
+use Rattle.kms_store.specs.Store.{IsDamagedAt, IsKeyLog, IsLeftByStart, StandsFor, next_opening}
+use Rattle.replay_text.specs.Events.{Spells}
+use Rattle.world_run.specs.declared.event.Event.TheVariants.{RestartKms}
+use Rattle.world_run.specs.World.{RunningWorld, WorldState, first_world, world_of}
 use Rattle.hkms_tool.specs.declared.replay.Ended.{Ended}
-use Rattle.hkms_tool.specs.declared.replay.Ended.TheVariants.{Done, BadLine, NoMemory, ReadFault, WriteFault}
+use Rattle.hkms_tool.specs.declared.replay.Ended.TheVariants.{Done, BadLine, Damaged, StoreFault, NoMemory, ReadFault, WriteFault, Spent}
 use Rattle.hkms_tool.specs.Lines.{lines_of, is_lf}
-use Rattle.replay_text.specs.Transcript.{transcript}
-use Rattle.hkms_tool.specs.Run.{IsRefused, Played}
+use Rattle.hkms_tool.specs.Run.{FilesOpen, History, IsRefused, Runs, SurvivesIn, events_in, lines_in, logged_in, transcript, world_after}
 
 -- an input has at most 2^40 bytes
 abbrev pub longest_input : ℕ
@@ -29,80 +35,124 @@ abbrev pub BadNext : List ℕ → List (List ℕ) → ℕ → Type 0
 BadNext all lines events =
     ((bad : List ℕ) × (more : List (List ℕ)) × (lines_of all ≡ lines ++ bad ∷ more) × IsRefused events bad) ⊎ (Starts all lines × IsPast all (length lines))
 
--- the last lines
-abbrev pub refused_line : ℕ → List ℕ
-refused_line line = codes "line " ++ decimal line ++ codes " refused\n"
-
-abbrev pub no_memory_line : List ℕ
-no_memory_line = codes "no memory\n"
-
-abbrev pub read_fault_line : List ℕ
-read_fault_line = codes "read fault\n"
+-- after these lines comes a restart
+abbrev pub RestartNext : List ℕ → List (List ℕ) → Type 0
+RestartNext all lines = (line : List ℕ) × (more : List (List ℕ)) × (lines_of all ≡ lines ++ line ∷ more) × Spells line RestartKms
 
 abbrev pub status_of : Ended → ℕ
 status_of Done = 0
 status_of BadLine = 3
+status_of (Damaged at) = 4
+status_of StoreFault = 5
 status_of NoMemory = 6
 status_of ReadFault = 7
 status_of WriteFault = 8
+status_of Spent = 10
+
+-- the last line, after so many lines
+abbrev pub last_line : Ended → ℕ → List ℕ
+last_line Done lines = []
+last_line BadLine lines = codes "line " ++ decimal (lines + 1) ++ codes " refused\n"
+last_line (Damaged at) lines = codes "damaged keys " ++ decimal at ++ codes "\n"
+last_line StoreFault lines = codes "store fault\n"
+last_line NoMemory lines = codes "no memory\n"
+last_line ReadFault lines = codes "read fault\n"
+last_line WriteFault lines = []
+last_line Spent lines = codes "openings spent\n"
+
+-- where the input stands at an end, after these lines and so many events
+abbrev pub Stops : Ended → List ℕ → List (List ℕ) → ℕ → Type 0
+Stops Done all lines events = lines_of all ≡ lines
+Stops BadLine all lines events = BadNext all lines events
+Stops (Damaged at) all lines events = RestartNext all lines
+Stops StoreFault all lines events = RestartNext all lines
+Stops Spent all lines events = RestartNext all lines
+Stops _ all lines events = Starts all lines
 
 -- the text is a front of the other
 abbrev pub IsFront : List ℕ → List ℕ → Type 0
 IsFront text whole = (more : List ℕ) × (text ++ more ≡ whole)
 
--- what another status would have written of a transcript by now
-abbrev pub IsWhole : ℕ → List ℕ → List ℕ → Type 0
-IsWhole lines told whole =
-    (whole ≡ told) ⊎ (whole ≡ told ++ refused_line (lines + 1)) ⊎ (whole ≡ told ++ read_fault_line) ⊎ ((front : List ℕ) × IsFront front told × (whole ≡ front ++ no_memory_line))
+-- What is written of a transcript at an end: all of it, but where memory was wanting for an answer or the output failed.
+abbrev pub IsTold : Ended → List ℕ → List ℕ → Type 0
+IsTold NoMemory text told = IsFront text told
+IsTold WriteFault text told = IsFront text told
+IsTold _ text told = text ≡ told
 
--- Of the text `all` these lines were played, with these replies. All that was written is `text`.
-abbrev pub Says : List ℕ → List (List ℕ) → List Line → List ℕ → Ended → Type 0
-Says all lines replies text Done = (lines_of all ≡ lines) × (text ≡ transcript 1 replies)
-Says all lines replies text BadLine = BadNext all lines (length replies) × (text ≡ transcript 1 replies ++ refused_line (length lines + 1))
-Says all lines replies text NoMemory = Starts all lines × (front : List ℕ) × IsFront front (transcript 1 replies) × (text ≡ front ++ no_memory_line)
-Says all lines replies text ReadFault = Starts all lines × (text ≡ transcript 1 replies ++ read_fault_line)
-Says all lines replies text WriteFault = Starts all lines × (whole : List ℕ) × IsFront text whole × IsWhole (length lines) (transcript 1 replies) whole
+-- The replay stopped for the one cause, after so many lines, and ended so. Behind what was told stands the last line of that
+-- cause, or the one of want of memory, where there was none for it; or a front of this, and the output failed.
+pub record Says (stop how : Ended) (lines : ℕ) (told text : List ℕ) : Type 0 where
+  pub body : List ℕ
+  pub is_told : IsTold stop body told
+  pub last : Ended
+  pub last_is : (last ≡ stop) ⊎ (last ≡ NoMemory)
+  pub closes : ((how ≡ last) × (text ≡ body ++ last_line last lines)) ⊎ ((how ≡ WriteFault) × IsFront text (body ++ last_line last lines))
+
+-- how a replay ends where the log could not be opened
+abbrev pub ended_by : StartFault → Ended
+ended_by (start.Damaged at) = Damaged at
+ended_by start.StoreFault = StoreFault
+ended_by start.NoMemory = NoMemory
+ended_by start.Spent = Spent
+
+-- what a start leaves of the log
+abbrev pub LeavesStarted : DiskState → List ℕ → Type 0
+LeavesStarted old bytes = old.leaves 0 bytes ⊎ IsLeftByStart (old.reads 0) bytes
+
+-- The key log could not be opened, and nothing was played.
+pub record Unopened (old new : DiskState) (written now : Option (List ℕ)) (how : Ended) : Type 0 where
+  pub fault : StartFault
+  pub damaged : (at : ℕ) → fault ≡ start.Damaged at → Tells old → IsDamagedAt (old.reads 0) at
+  pub spent : fault ≡ start.Spent → Tells old → (commands : List KeyCommand) × (table : Table) × IsKeyLog (old.reads 0) commands table × (table.opening ≡ 4294967295)
+  pub moments : Tells old → LeavesOnly 0 old new (LeavesStarted old)
+  pub text : List ℕ
+  pub wrote : Appends written now text
+  pub says : Says (ended_by fault) how 0 [] text
+
+-- The key log was found to be one of these commands. A crash at any moment since left of it what it may have left before; or what
+-- the opening leaves of the log found; or a log of the commands acknowledged in a world on the way.
+pub record OnDisk (old new : DiskState) (words : ℕ → ℕ) (table : Table) (history : History) : Type 0 where
+  pub commands : List KeyCommand
+  pub found : IsKeyLog (old.reads 0) commands table
+  pub moments : LeavesOnly 0 old new (λ bytes. LeavesStarted old bytes ⊎ SurvivesIn (commands ++ next_opening table ∷ []) (first_world table) words history bytes)
+
+-- the disk holds the log of the commands acknowledged by now, beside the one that is pending in this world
+abbrev pub ReadsAs : DiskState → List KeyCommand → WorldState → Type 0
+ReadsAs new commands w = (r : RunningWorld) × (world_of r ≡ w) × StandsFor new r.keys.store commands
+
+-- the same but where a restart may have been cut short
+abbrev pub ReadsAt : Ended → DiskState → List KeyCommand → WorldState → Type 0
+ReadsAt (Damaged at) new commands w = Unit {0}
+ReadsAt StoreFault new commands w = Unit {0}
+ReadsAt NoMemory new commands w = Unit {0}
+ReadsAt Spent new commands w = Unit {0}
+ReadsAt _ new commands w = ReadsAs new commands w
+
+-- why a restart could not open its log, where the disk tells what it holds: it is never damaged, and spent only with the last opening
+abbrev pub RestartStops : Ended → WorldState → Type 0
+RestartStops (Damaged at) w = ⊥
+RestartStops Spent w = (kept : Bool) × ((settled kept w.keys).table.opening ≡ 4294967295)
+RestartStops _ w = Unit {0}
+
+-- Lines of the input were played from the world on that the key log was found to stand for.
+pub record Played (old new : DiskState) (words : ℕ → ℕ) (left : Option (List ℕ)) (stop : Ended) (history : History) : Type 0 where
+  pub table : Table
+  pub before : ℕ
+  pub runs : Runs (Tells old) (first_world table) words before history
+  pub files_open : Tells old → FilesOpen (first_world table) words history
+  pub on_disk : Tells old → OnDisk old new words table history
+  pub reads : (told : Tells old) → ReadsAt stop new ((on_disk told).commands ++ next_opening table ∷ logged_in history) (world_after (first_world table) history)
+  pub restart : Tells old → RestartStops stop (world_after (first_world table) history)
+  pub stops : (all : List ℕ) → left ≡ Some all → Stops stop all (lines_in history) (events_in history)
+
+pub record PlaysOn (old new : DiskState) (words : ℕ → ℕ) (left written now : Option (List ℕ)) (how : Ended) : Type 0 where
+  pub history : History
+  pub stop : Ended
+  pub played : Played old new words left stop history
+  pub text : List ℕ
+  pub wrote : Appends written now text
+  pub says : Says stop how (length (lines_in history)) (transcript history) text
 
 -- A replay of what was left of an input, with these words to come, wrote behind the old output and ended so.
-pub record Replay (words : ℕ → ℕ) (left old new : Option (List ℕ)) (how : Ended) : Type 0 where
-  pub lines : List (List ℕ)
-  pub replies : List Line
-  pub state : WorldState
-  pub drawn : ℕ
-  pub text : List ℕ
-  pub played : Played words lines replies state drawn
-  pub wrote : Appends old new text
-  pub says : (all : List ℕ) → left ≡ Some all → Says all lines replies text how
-
--- the same before the last line is written
-abbrev pub SaysSoFar : List ℕ → List (List ℕ) → List Line → List ℕ → Ended → Type 0
-SaysSoFar all lines replies text Done = (lines_of all ≡ lines) × (text ≡ transcript 1 replies)
-SaysSoFar all lines replies text BadLine = BadNext all lines (length replies) × (text ≡ transcript 1 replies)
-SaysSoFar all lines replies text NoMemory = Starts all lines × IsFront text (transcript 1 replies)
-SaysSoFar all lines replies text ReadFault = Starts all lines × (text ≡ transcript 1 replies)
-SaysSoFar all lines replies text WriteFault = Starts all lines × IsFront text (transcript 1 replies)
-
-pub record Replayed (words : ℕ → ℕ) (left old new : Option (List ℕ)) (ended : Ended) (count : ℕ) : Type 0 where
-  pub lines : List (List ℕ)
-  pub replies : List Line
-  pub state : WorldState
-  pub drawn : ℕ
-  pub text : List ℕ
-  pub played : Played words lines replies state drawn
-  pub counted : length lines ≡ count
-  pub wrote : Appends old new text
-  pub says : (all : List ℕ) → left ≡ Some all → SaysSoFar all lines replies text ended
-
--- what the end adds
-abbrev pub Finishes : Ended → ℕ → Option (List ℕ) → Option (List ℕ) → Ended → Type 0
-Finishes ended count old new Done = (ended ≡ Done) × Appends old new []
-Finishes ended count old new BadLine = (ended ≡ BadLine) × Appends old new (refused_line (count + 1))
-Finishes ended count old new NoMemory = ((ended ≡ NoMemory) ⊎ (ended ≡ BadLine)) × Appends old new no_memory_line
-Finishes ended count old new ReadFault = (ended ≡ ReadFault) × Appends old new read_fault_line
-Finishes ended count old new WriteFault =
-    ((ended ≡ WriteFault) × Appends old new []) ⊎ ((ended ≡ BadLine) × WroteFront old new (refused_line (count + 1)))
-    ⊎ ((ended ≡ ReadFault) × WroteFront old new read_fault_line) ⊎ (((ended ≡ NoMemory) ⊎ (ended ≡ BadLine)) × WroteFront old new no_memory_line)
-
--- a last line was written, or a front of it and the output failed
-abbrev pub WritesLast : Option (List ℕ) → Option (List ℕ) → List ℕ → Ended → Ended → Type 0
-WritesLast old new last ended how = ((how ≡ ended) × Appends old new last) ⊎ ((how ≡ WriteFault) × WroteFront old new last)
+abbrev pub Replay : DiskState → DiskState → (ℕ → ℕ) → Option (List ℕ) → Option (List ℕ) → Option (List ℕ) → Ended → Type 0
+Replay old new words left written now how = Unopened old new written now how ⊎ PlaysOn old new words left written now how

@@ -1,12 +1,15 @@
--- A run of events.
-use Rattle.std.specs.Prelude.{◌≡◌, ◌⊎◌, ◌≤◌, ℕ, ◌+◌, List, [], ◌∷◌, length}
+-- A run of lines: what their events did, and what holds in each world on the way.
+use Rattle.std.specs.Prelude.{◌⊎◌, ◌≤◌, ◌<◌, ℕ, ◌+◌, List, [], ◌∷◌, ◌++◌, Option, None, Some}
+use Rattle.hk_base.specs.Faults.{Rose}
+use Rattle.key_rows.specs.declared.rows.KeyCommand.{KeyCommand}
+use Rattle.replay_text.specs.Events.{IsBad, IsQuiet, Spells}
+use Rattle.replay_text.specs.Transcript.{line_text}
+use Rattle.world_run.specs.declared.event.Event.{Event}
 use Rattle.world_run.specs.declared.event.Line.{Line}
-use Rattle.world_run.specs.World.{WorldState, first_world}
+use Rattle.world_run.specs.World.{WorldState}
 use Rattle.world_run.specs.Keeps.{LinkedStep}
 use Rattle.world_run.specs.Ledger.{Hidden, hidden_after, nothing_drawn}
-use Rattle.world_run.specs.Promise.{ZoneFilesOpen}
-use Rattle.world_run.specs.declared.event.Event.{Event}
-use Rattle.replay_text.specs.Events.{IsBad, IsQuiet, Spells}
+use Rattle.world_run.specs.Promise.{Survives, ZoneFilesOpen}
 
 -- an input has at most so many events
 abbrev pub most_events : ℕ
@@ -20,37 +23,124 @@ IsRefused events line = IsBad line ⊎ ((most_events ≤ events) × (event : Eve
 abbrev pub behind : ℕ → (ℕ → ℕ) → ℕ → ℕ
 behind n words k = words (n + k)
 
--- The events of lines, one after another. Quiet lines have none.
-abbrev pub Events : List (List ℕ) → List Event → Type 0
-Events [] events = events ≡ []
-Events (line ∷ lines) events = (IsQuiet line × Events lines events) ⊎ ((event : Event) × (rest : List Event) × Spells line event × Events lines rest × (events ≡ event ∷ rest))
+-- An event that happened: its answer, how many words it drew, the commands that it had acknowledged, the world after it, and the
+-- disk's count of faults then.
+pub record Happened : Type 0 where
+  pub event : Event
+  pub reply : Line
+  pub drawn : ℕ
+  pub logged : List KeyCommand
+  pub world : WorldState
+  pub faults : ℕ
 
--- From a state on, with these words to come, events from this number on may be answered so, draw so many words, and
--- leave this state. The moment of an event is its number.
-abbrev pub Run : WorldState → (ℕ → ℕ) → ℕ → List Event → List Line → WorldState → ℕ → Type 0
-Run old words number [] [] new drawn = (new ≡ old) × (drawn ≡ 0)
-Run old words number (event ∷ events) (reply ∷ replies) new drawn =
-    (mid : WorldState) × (first more : ℕ) × LinkedStep old words number event reply first mid
-    × Run mid (behind first words) (number + 1) events replies new more × (drawn ≡ first + more)
-Run old words number [] (reply ∷ replies) new drawn = ⊥
-Run old words number (event ∷ events) [] new drawn = ⊥
+-- a line that was played, with its event; a quiet line has none
+pub record PlayedLine : Type 0 where
+  pub line : List ℕ
+  pub event : Option Happened
 
--- In each world of a run, beside what was hidden at its start and what its events drew and entered since, the zone files
--- open.
-abbrev pub FilesOpen : Hidden → (old : WorldState) (words : ℕ → ℕ) (number : ℕ) (events : List Event) (replies : List Line) (new : WorldState) (drawn : ℕ)
-    → Run old words number events replies new drawn → Type 0
-FilesOpen h old words number [] [] new drawn run = ZoneFilesOpen old h
-FilesOpen h old words number (event ∷ events) (reply ∷ replies) new drawn run =
-    ZoneFilesOpen old h
-    × FilesOpen (hidden_after old words event reply run.1 h) run.0 (behind run.1 words) (number + 1) events replies new run.2 run.4
-FilesOpen h old words number [] (reply ∷ replies) new drawn run = ⊥
-FilesOpen h old words number (event ∷ events) [] new drawn run = ⊥
+-- lines that were played, the newest one first
+abbrev pub History : Type 0
+History = List PlayedLine
 
--- the events of the lines were run from the first state on, with these replies, and in each world on the way the zone
--- files open
-pub record Played (words : ℕ → ℕ) (lines : List (List ℕ)) (replies : List Line) (state : WorldState) (drawn : ℕ) : Type 0 where
-  pub events : List Event
-  pub spelled : Events lines events
-  pub few : length events ≤ most_events
-  pub run : Run first_world words 1 events replies state drawn
-  pub files_open : FilesOpen nothing_drawn first_world words 1 events replies state drawn run
+-- what a line adds
+
+abbrev pub events_of : Option Happened → ℕ
+events_of None = 0
+events_of (Some h) = 1
+
+abbrev pub drawn_of : Option Happened → ℕ
+drawn_of None = 0
+drawn_of (Some h) = h.drawn
+
+abbrev pub logged_of : Option Happened → List KeyCommand
+logged_of None = []
+logged_of (Some h) = h.logged
+
+abbrev pub world_of_line : WorldState → Option Happened → WorldState
+world_of_line w None = w
+world_of_line w (Some h) = h.world
+
+abbrev pub faults_of : ℕ → Option Happened → ℕ
+faults_of before None = before
+faults_of before (Some h) = h.faults
+
+-- the answer behind so many events
+abbrev pub told_of : ℕ → Option Happened → List ℕ
+told_of events None = []
+told_of events (Some h) = line_text (events + 1) h.reply
+
+abbrev pub hidden_of : WorldState → (ℕ → ℕ) → Option Happened → Hidden → Hidden
+hidden_of w words None hidden = hidden
+hidden_of w words (Some h) hidden = hidden_after w words h.event h.reply h.drawn hidden
+
+-- what a history comes to
+
+-- its lines, in the order in which they were played
+abbrev pub lines_in : History → List (List ℕ)
+lines_in [] = []
+lines_in (x ∷ earlier) = lines_in earlier ++ x.line ∷ []
+
+abbrev pub events_in : History → ℕ
+events_in [] = 0
+events_in (x ∷ earlier) = events_in earlier + events_of x.event
+
+abbrev pub drawn_in : History → ℕ
+drawn_in [] = 0
+drawn_in (x ∷ earlier) = drawn_in earlier + drawn_of x.event
+
+-- the commands acknowledged in it
+abbrev pub logged_in : History → List KeyCommand
+logged_in [] = []
+logged_in (x ∷ earlier) = logged_in earlier ++ logged_of x.event
+
+-- the world behind it, from this one on
+abbrev pub world_after : WorldState → History → WorldState
+world_after first [] = first
+world_after first (x ∷ earlier) = world_of_line (world_after first earlier) x.event
+
+abbrev pub faults_after : ℕ → History → ℕ
+faults_after before [] = before
+faults_after before (x ∷ earlier) = faults_of (faults_after before earlier) x.event
+
+-- the transcript: the answers, each with the number of its event
+abbrev pub transcript : History → List ℕ
+transcript [] = []
+transcript (x ∷ earlier) = transcript earlier ++ told_of (events_in earlier) x.event
+
+-- what is hidden behind it
+abbrev pub hidden_in : WorldState → (ℕ → ℕ) → History → Hidden
+hidden_in first words [] = nothing_drawn
+hidden_in first words (x ∷ earlier) = hidden_of (world_after first earlier) (behind (drawn_in earlier) words) x.event (hidden_in first words earlier)
+
+-- The event of a line happens in this world, after so many events, with these words to come: the moment of an event is its
+-- number. A store fault comes only where the disk's count of faults rose in the event.
+pub record EventRuns (tells : Type 0) (w : WorldState) (words : ℕ → ℕ) (events faults : ℕ) (line : List ℕ) (h : Happened) : Type 0 where
+  pub spells : Spells line h.event
+  pub few : events < most_events
+  pub later : faults ≤ h.faults
+  pub step : LinkedStep w words (events + 1) h.event (Rose faults h.faults) tells h.reply h.drawn h.logged h.world
+
+-- A line that is played has an event, or it is quiet.
+abbrev pub LineRuns : Type 0 → WorldState → (ℕ → ℕ) → ℕ → ℕ → List ℕ → Option Happened → Type 0
+LineRuns tells w words events faults line None = IsQuiet line
+LineRuns tells w words events faults line (Some h) = EventRuns tells w words events faults line h
+
+-- The lines of a history run one after another, from this world on, with these words to come and this count of faults. `tells` is
+-- whether the disk tells what it holds.
+abbrev pub Runs : Type 0 → WorldState → (ℕ → ℕ) → ℕ → History → Type 0
+Runs tells first words before [] = Unit {0}
+Runs tells first words before (x ∷ earlier) =
+    LineRuns tells (world_after first earlier) (behind (drawn_in earlier) words) (events_in earlier) (faults_after before earlier) x.line x.event
+    × Runs tells first words before earlier
+
+-- In each world on the way the zone files open.
+abbrev pub FilesOpen : WorldState → (ℕ → ℕ) → History → Type 0
+FilesOpen first words [] = ZoneFilesOpen first nothing_drawn
+FilesOpen first words (x ∷ earlier) = ZoneFilesOpen (world_after first (x ∷ earlier)) (hidden_in first words (x ∷ earlier)) × FilesOpen first words earlier
+
+-- The file is one that a crash may have left in a world on the way: a log of the commands acknowledged by then, those before the
+-- run first, with which the zone files open.
+abbrev pub SurvivesIn : List KeyCommand → WorldState → (ℕ → ℕ) → History → List ℕ → Type 0
+SurvivesIn before first words [] bytes = Survives first nothing_drawn before bytes
+SurvivesIn before first words (x ∷ earlier) bytes =
+    Survives (world_after first (x ∷ earlier)) (hidden_in first words (x ∷ earlier)) (before ++ logged_in (x ∷ earlier)) bytes ⊎ SurvivesIn before first words earlier bytes

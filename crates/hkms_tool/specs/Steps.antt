@@ -1,56 +1,178 @@
 -- One line of a replay.
-use Rattle.std.specs.Prelude.{◌≡◌, ◌<◌, ℕ, ◌+◌, List, [], ◌∷◌, length, Option}
-use Rattle.std.specs.Io.KnownBytes.{Appends}
-use Rattle.world_run.specs.declared.event.Line.{Line}
+use Rattle.std.specs.Prelude.{◌≡◌, ◌⊎◌, ◌≤◌, ◌≢◌, ℕ, ◌+◌, ◌^◌, Bool, true, false, List, [], ◌++◌, length, Option, None, Some, IsTrue}
+use Rattle.std.specs.Io.KnownBytes.{Appends, Consumes, IsAtEnd}
+use Rattle.hk_base.specs.Disk.{DiskState, Tells, RunOn, LeavesOnly}
+use Rattle.hk_base.specs.Faults.{Rose}
+use Rattle.hk_base.specs.Reading.{IsMore}
 use Rattle.hk_base.specs.Writing.{WroteFront}
-use Rattle.world_run.specs.World.{WorldState}
-use Rattle.world_run.specs.Keeps.{LinkedStep}
-use Rattle.world_run.specs.declared.event.Event.{Event}
+use Rattle.frame_log.specs.declared.fault.StartFault.{StartFault}
+use Rattle.key_rows.specs.declared.rows.KeyCommand.{KeyCommand}
+use Rattle.kms_store.specs.Store.{StandsFor}
+use Rattle.replay_text.specs.Events.{Spells}
+use Rattle.replay_text.specs.Transcript.{line_text}
+use Rattle.world_run.specs.declared.event.Line.{Line}
+use Rattle.world_run.specs.declared.event.Event.TheVariants.{RestartKms}
+use Rattle.world_run.specs.World.{RunningWorld, WorldState, world_of}
+use Rattle.world_run.specs.Keeps.{Fails, SurvivesThrough}
+use Rattle.hkms_tool.specs.declared.lines.Got.{Got}
+use Rattle.hkms_tool.specs.declared.lines.Got.TheVariants as got
+use Rattle.hkms_tool.specs.declared.replay.Ended.{Ended}
+use Rattle.hkms_tool.specs.declared.replay.Ended.TheVariants as ended
 use Rattle.hkms_tool.specs.declared.stage.Play.{Play}
-use Rattle.hkms_tool.specs.declared.stage.Play.TheVariants.{Played, BadLine, Unread, Untold, Unwritten}
-use Rattle.replay_text.specs.Events.{IsQuiet, Spells}
-use Rattle.hkms_tool.specs.Run.{IsRefused, most_events}
-use Rattle.replay_text.specs.Transcript.{transcript, line_text}
+use Rattle.hkms_tool.specs.declared.stage.Play.TheVariants.{Played, BadLine, Unread, Untold, Unwritten, Unopened}
+use Rattle.hkms_tool.specs.Lines.{is_line, line_used}
+use Rattle.hkms_tool.specs.Replay.{IsTold, ReadsAt, RestartStops, Stops, ended_by, last_line}
+use Rattle.hkms_tool.specs.Run.{FilesOpen, Happened, History, IsRefused, LineRuns, Runs, SurvivesIn, drawn_of, events_in, events_of, faults_of, lines_in, logged_in, logged_of, told_of, transcript, world_after, world_of_line}
 
 -- where a replay stands between two lines
 pub record View : Type 0 where
-  pub state : WorldState
+  pub world : RunningWorld
   pub words : ℕ → ℕ
   pub events : ℕ
   pub written : Option (List ℕ)
 
--- a line is quiet and has no reply, or is an event and has one
-abbrev pub LineActs : View → List ℕ → List Line → WorldState → ℕ → Type 0
-LineActs old line [] new drawn = IsQuiet line × (new ≡ old.state) × (drawn ≡ 0)
-LineActs old line (reply ∷ []) new drawn = (event : Event) × Spells line event × (old.events < most_events) × LinkedStep old.state old.words (old.events + 1) event reply drawn new
-LineActs old line (reply ∷ other ∷ replies) new drawn = ⊥
+-- what the layer above needs of the log: the commands acknowledged are behind those before, and what a crash may leave
+pub record GoesOn (old new : DiskState) (r r' : RunningWorld) (logged : List KeyCommand) : Type 0 where
+  pub stands : Tells old → (commands : List KeyCommand) → StandsFor old r.keys.store commands → StandsFor new r'.keys.store (commands ++ logged)
+  pub survives : SurvivesThrough old new r
+  pub run : RunOn 0 old new
 
-pub record PlaysLine (old : View) (line : List ℕ) (new : View) : Type 0 where
-  pub replies : List Line
-  pub drawn : ℕ
-  pub acts : LineActs old line replies new.state drawn
-  pub rest : (k : ℕ) → new.words k ≡ old.words (drawn + k)
-  pub counted : new.events ≡ old.events + length replies
+-- a line was played, with its event if it has one
+pub record PlaysLine (old new : DiskState) (v : View) (line : List ℕ) (event : Option Happened) (v' : View) : Type 0 where
+  pub runs : LineRuns (Tells old) (world_of v.world) v.words v.events old.faults line event
+  pub world_is : world_of v'.world ≡ world_of_line (world_of v.world) event
+  pub faults_are : new.faults ≡ faults_of old.faults event
+  pub rest : (k : ℕ) → v'.words k ≡ v.words (drawn_of event + k)
+  pub counted : v'.events ≡ v.events + events_of event
+  pub goes_on : GoesOn old new v.world v'.world (logged_of event)
+
+-- a restart could not open its log
+pub record StopsAtRestart (old new : DiskState) (v : View) (line : List ℕ) (fault : StartFault) (v' : View) : Type 0 where
+  pub spells : Spells line RestartKms
+  pub fails : Fails old new v.world v.words RestartKms fault v'.world v'.words
+
+-- nothing was done
+pub record Untouched (old new : DiskState) (v v' : View) : Type 0 where
+  pub wrote : Appends v.written v'.written []
+  pub world_is : v'.world ≡ v.world
+  pub goes_on : GoesOn old new v.world v'.world []
+  pub faults_are : new.faults ≡ old.faults
 
 -- how a line came out
-abbrev pub PlaysSo : View → List ℕ → Play → View → Type 0
-PlaysSo old line Played new = (plays : PlaysLine old line new) × Appends old.written new.written (transcript (old.events + 1) plays.replies)
-PlaysSo old line BadLine new = IsRefused old.events line × Appends old.written new.written []
-PlaysSo old line Unread new = Appends old.written new.written []
-PlaysSo old line Untold new = PlaysLine old line new × Appends old.written new.written []
-PlaysSo old line Unwritten new = (plays : PlaysLine old line new) × WroteFront old.written new.written (transcript (old.events + 1) plays.replies)
+abbrev pub PlaysSo : DiskState → DiskState → View → List ℕ → Play → View → Type 0
+PlaysSo old new v line Played v' = (event : Option Happened) × PlaysLine old new v line event v' × Appends v.written v'.written (told_of v.events event)
+PlaysSo old new v line BadLine v' = IsRefused v.events line × Untouched old new v v'
+PlaysSo old new v line Unread v' = Untouched old new v v'
+PlaysSo old new v line Untold v' = (event : Option Happened) × PlaysLine old new v line event v' × Appends v.written v'.written []
+PlaysSo old new v line Unwritten v' = (event : Option Happened) × PlaysLine old new v line event v' × WroteFront v.written v'.written (told_of v.events event)
+PlaysSo old new v line (Unopened fault) v' = StopsAtRestart old new v line fault v' × Appends v.written v'.written []
 
-pub record PlaysEvent (old : View) (event : Event) (new : View) : Type 0 where
-  pub reply : Line
-  pub drawn : ℕ
-  pub acts : LinkedStep old.state old.words (old.events + 1) event reply drawn new.state
-  pub rest : (k : ℕ) → new.words k ≡ old.words (drawn + k)
-  pub counted : new.events ≡ old.events + 1
+-- the end that goes with how a line came out, the last one or another
+abbrev pub end_of_play : Bool → Play → Option Ended
+end_of_play true Played = Some ended.Done
+end_of_play false Played = None
+end_of_play last BadLine = Some ended.BadLine
+end_of_play last Unread = Some ended.NoMemory
+end_of_play last Untold = Some ended.NoMemory
+end_of_play last Unwritten = Some ended.WriteFault
+end_of_play last (Unopened fault) = Some (ended_by fault)
 
--- how the event of a line came out
-abbrev pub EventPlaysSo : View → Event → Play → View → Type 0
-EventPlaysSo old event Played new = (plays : PlaysEvent old event new) × Appends old.written new.written (line_text (old.events + 1) plays.reply)
-EventPlaysSo old event BadLine new = ⊥
-EventPlaysSo old event Unread new = ⊥
-EventPlaysSo old event Untold new = PlaysEvent old event new × Appends old.written new.written []
-EventPlaysSo old event Unwritten new = (plays : PlaysEvent old event new) × WroteFront old.written new.written (line_text (old.events + 1) plays.reply)
+-- whether the line is counted as played
+abbrev pub counts : Play → ℕ
+counts Played = 1
+counts BadLine = 0
+counts Unread = 0
+counts Untold = 1
+counts Unwritten = 1
+counts (Unopened fault) = 0
+
+-- where a replay stands, with what is ahead, how many bytes were used, and how many lines were played
+pub record Stand : Type 0 where
+  pub view : View
+  pub ahead : Option (List ℕ)
+  pub used : ℕ
+  pub count : ℕ
+
+-- a line was read and played
+pub record LinePlayed (old new : DiskState) (v : View) (line : List ℕ) (last : Bool) (result : Option Ended) (v' : View) (count count' : ℕ) : Type 0 where
+  pub play : Play
+  pub plays : PlaysSo old new v line play v'
+  pub result_is : result ≡ end_of_play last play
+  pub counted : count' ≡ count + counts play
+
+-- what was read
+pub record Read (before : Stand) (how : Got) (line : List ℕ) (after : Stand) : Type 0 where
+  pub is_line : IsTrue (is_line line)
+  pub consumed : how ≢ got.NoMemory → Consumes before.ahead after.ahead (line_used how line)
+  pub used : how ≢ got.NoMemory → after.used ≡ before.used + length (line_used how line)
+  pub end : how ≡ got.End → IsAtEnd after.ahead
+  pub long : how ≡ got.TooLong → length line ≡ 1048577
+  pub past : how ≡ got.Past → (after.used ≡ 2 ^ 40) × IsMore after.ahead
+
+-- the replay stops before a line is played
+pub record StopsReading (old new : DiskState) (v v' : View) (count count' : ℕ) (how : Ended) (result : Option Ended) : Type 0 where
+  pub untouched : Untouched old new v v'
+  pub counted : count' ≡ count
+  pub result_is : result ≡ Some how
+
+-- the next line was read, and played where there was one
+abbrev pub NextSo : DiskState → DiskState → Stand → Got → List ℕ → Option Ended → Stand → Type 0
+NextSo old new s got.Line line result s' = LinePlayed old new s.view line false result s'.view s.count s'.count
+NextSo old new s got.End line result s' = LinePlayed old new s.view line true result s'.view s.count s'.count
+NextSo old new s got.TooLong line result s' = StopsReading old new s.view s'.view s.count s'.count ended.BadLine result
+NextSo old new s got.Past line result s' = StopsReading old new s.view s'.view s.count s'.count ended.BadLine result
+NextSo old new s got.Fault line result s' = StopsReading old new s.view s'.view s.count s'.count ended.ReadFault result
+NextSo old new s got.NoMemory line result s' = StopsReading old new s.view s'.view s.count s'.count ended.NoMemory result
+
+pub record Next (old new : DiskState) (s : Stand) (result : Option Ended) (s' : Stand) : Type 0 where
+  pub how : Got
+  pub line : List ℕ
+  pub read : Read s how line s'
+  pub next : NextSo old new s how line result s'
+
+-- the answer of an event was written, or there was no memory for it, or a front of it was written and the output failed
+abbrev pub TellsSo : ℕ → Line → Option (List ℕ) → Option (List ℕ) → Play → Type 0
+TellsSo number told written now Played = Appends written now (line_text number told)
+TellsSo number told written now Untold = Appends written now []
+TellsSo number told written now Unwritten = WroteFront written now (line_text number told)
+TellsSo number told written now BadLine = ⊥
+TellsSo number told written now Unread = ⊥
+TellsSo number told written now (Unopened fault) = ⊥
+
+-- Faults come only where the count of the object rose in the call: that of the input, of the output, of the disk.
+pub record Caused (input input' out out' disk disk' : ℕ) (how : Option Ended) : Type 0 where
+  pub read_later : input ≤ input'
+  pub write_later : out ≤ out'
+  pub disk_later : disk ≤ disk'
+  pub read : how ≡ Some ended.ReadFault → Rose input input'
+  pub write : how ≡ Some ended.WriteFault → Rose out out'
+  pub store : how ≡ Some ended.StoreFault → Rose disk disk'
+
+-- the last line of a cause, or a front of it and the output failed; where there was no memory for it, the line that says so
+pub record Closes (stop : Ended) (lines : ℕ) (written now : Option (List ℕ)) (how : Ended) : Type 0 where
+  pub last : Ended
+  pub last_is : (last ≡ stop) ⊎ (last ≡ ended.NoMemory)
+  pub writes : ((how ≡ last) × Appends written now (last_line last lines)) ⊎ ((how ≡ ended.WriteFault) × WroteFront written now (last_line last lines))
+
+-- a last line was written, or a front of it and the output failed
+abbrev pub WritesLast : Option (List ℕ) → Option (List ℕ) → List ℕ → Ended → Ended → Type 0
+WritesLast written now last end how = ((how ≡ end) × Appends written now last) ⊎ ((how ≡ ended.WriteFault) × WroteFront written now last)
+
+-- what is known of the log of commands that were acknowledged before the lines, once they were played
+pub record Kept (old new : DiskState) (first : WorldState) (words : ℕ → ℕ) (history : History) (stop : Ended) (commands : List KeyCommand) : Type 0 where
+  pub moments : LeavesOnly 0 old new (SurvivesIn commands first words history)
+  pub reads : ReadsAt stop new (commands ++ logged_in history) (world_after first history)
+
+-- Lines were played, until one of them ended the replay; nothing was written of a last line yet.
+pub record Ran (old new : DiskState) (r : RunningWorld) (words : ℕ → ℕ) (left written now : Option (List ℕ)) (stop : Ended) (count : ℕ) : Type 0 where
+  pub history : History
+  pub runs : Runs (Tells old) (world_of r) words old.faults history
+  pub files_open : Tells old → FilesOpen (world_of r) words history
+  pub kept : Tells old → (commands : List KeyCommand) → StandsFor old r.keys.store commands → Kept old new (world_of r) words history stop commands
+  pub run : RunOn 0 old new
+  pub restart : Tells old → RestartStops stop (world_after (world_of r) history)
+  pub stops : (all : List ℕ) → left ≡ Some all → Stops stop all (lines_in history) (events_in history)
+  pub text : List ℕ
+  pub wrote : Appends written now text
+  pub told : IsTold stop text (transcript history)
+  pub counted : count ≡ length (lines_in history)

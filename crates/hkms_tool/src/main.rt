@@ -8,7 +8,7 @@ mod stage;
 #[cfg(test)]
 mod tests;
 
-use disk_kinds::{ChaWords, Reading, Writing};
+use disk_kinds::{ChaWords, FileDisk, PlainDisk, Reading, Writing};
 use hk_base::{Text, write_all};
 use std::alloc::Global;
 use std::env;
@@ -34,22 +34,50 @@ fn random_seed<R: Files>(rt: &R) -> io::Result<[u8; 32]> {
     Ok(seed)
 }
 
-fn main(rt: HostRuntime) -> ExitCode {
+/// Does what the words of the command line say, over the logs of the current folder.
+fn run(rt: &HostRuntime, words: &[Text], seed: [u8; 32]) -> u8 {
     let mut input = Reading::new(rt.stdin());
     let mut out = Writing::new(rt.stdout());
+    let mut rand = ChaWords::from_seed(seed);
+    if !command::is_replay(words) {
+        // Words that are refused make no files.
+        let mut none = PlainDisk::new(rt.alloc());
+        return command::hkms(
+            rt.alloc(),
+            words,
+            &mut input,
+            &mut out,
+            &mut none,
+            &mut rand,
+        );
+    }
+    match FileDisk::open(rt, rt.alloc(), ".") {
+        Ok(mut disk) => command::hkms(
+            rt.alloc(),
+            words,
+            &mut input,
+            &mut out,
+            &mut disk,
+            &mut rand,
+        ),
+        Err(error) => {
+            let _ = eprintln!(rt; "hkms: keys.log and names.log cannot be opened here: {error}");
+            match write_all(&mut out, b"store fault\n") {
+                Ok(()) => 5,
+                Err(_) => 8,
+            }
+        }
+    }
+}
+
+fn main(rt: HostRuntime) -> ExitCode {
     let Ok(seed) = random_seed(&rt) else {
+        let mut out = Writing::new(rt.stdout());
         let _ = write_all(&mut out, b"no random source\n");
         return ExitCode::from(7);
     };
-    let mut rand = ChaWords::from_seed(seed);
     // Words that cannot be read are refused as words that are not known.
     let words = words_given(&rt).unwrap_or(Vec::new(rt.alloc()));
-    let status = command::hkms(
-        rt.alloc(),
-        words.as_slice(),
-        &mut input,
-        &mut out,
-        &mut rand,
-    );
+    let status = run(&rt, words.as_slice(), seed);
     ExitCode::from(status)
 }

@@ -1,14 +1,25 @@
 //! Replays the event lines of an input.
-ghost use Rattle.std.specs.Prelude.{◌≡◌, ◌⊎◌, ◌+◌, ◌≤◌, ◌<◌, ◌^◌, [], length};
+ghost use Rattle.std.specs.Prelude.{◌≡◌, ◌⊎◌, ◌+◌, ◌≤◌, ◌<◌, ◌^◌, List, ℕ, [], Some, length, IfOk, IsErrOf};
 ghost use Rattle.std.specs.Io.KnownBytes.{IsAtEnd};
+ghost use Rattle.hk_base.specs.Disk.{LeavesOnly, RunOn, Tells};
 ghost use Rattle.hk_base.specs.Faults.{Rose};
-ghost use Rattle.hkms_tool.specs.Replay.{Finishes, Replay, Replayed, WritesLast, status_of};
+ghost use Rattle.hk_base.specs.Reading.{ahead};
+ghost use Rattle.frame_log.specs.declared.fault.StartFault.TheVariants as start;
+ghost use Rattle.key_rows.specs.declared.rows.KeyCommand.{KeyCommand};
+ghost use Rattle.key_rows.specs.Table.{Table};
+ghost use Rattle.kms_store.specs.Store.{IsDamagedAt, IsKeyLog, StandsFor};
+ghost use Rattle.world_run.specs.World.{first_world, world_of};
+ghost use Rattle.world_run.specs.Keeps.{Begins};
+ghost use Rattle.hkms_tool.specs.Replay.{LeavesStarted, Replay, ended_by, last_line, status_of};
+ghost use Rattle.hkms_tool.specs.Steps.{Caused, Closes, LinePlayed, Next, Ran, WritesLast};
 ghost use Rattle.hkms_tool.specs.declared.replay.Ended.{Ended};
 
 use crate::lines::{Got, read_line};
 use crate::stage::{Play, Stage};
-use hk_base::{ByteList, Reader, Sink, Source, Words, write_all};
+use frame_log::StartFault;
+use hk_base::{ByteList, Disk, Reader, Sink, Source, Words, write_all};
 use std::alloc::Global;
+use world_run::World;
 
 /// How a replay ended.
 #[derive(Clone, Copy, Debug, PartialEq, Eq)]
@@ -17,74 +28,171 @@ pub enum Ended {
     Done,
     /// A line was refused.
     BadLine,
+    /// The key log is damaged at this offset.
+    Damaged { at: u64 },
+    /// The disk failed when the key log was opened.
+    StoreFault,
     /// Memory was wanting.
     NoMemory,
     /// The input failed.
     ReadFault,
     /// The output failed.
     WriteFault,
+    /// The last opening of the key log is used.
+    Spent,
 }
 
-/// Plays the lines of the input, and tells how many were played.
-fn replay_lines<S: Source, K: Sink, W: Words>(
-    alloc: Global,
-    input: &mut S,
-    out: &mut K,
-    words: &mut W,
-) -> (Ended, u64)
-    ensures replayed { Replayed (W.to_come words.old) (S.left input.old) (K.written out.old) (K.written out.new) result.0 result.1 }
-    ensures read { result.0 ≡ Ended.ReadFault → Rose (S.faults input.old) (S.faults input.new) }
-    ensures write { result.0 ≡ Ended.WriteFault → Rose (K.faults out.old) (K.faults out.new) }
-    ensures end { result.0 ≡ Ended.Done → IsAtEnd (S.left input.new) }
-    ensures read_later { S.faults input.old ≤ S.faults input.new }
-    ensures write_later { K.faults out.old ≤ K.faults out.new }
-    ensures count { result.1 < 2 ^ 41 }
+/// How a replay ends where the key log could not be opened.
+fn ended_by(fault: StartFault) -> Ended
+    ensures { result ≡ ended_by fault }
 {
-    let mut stage = match Stage::new(alloc) {
-        Err(_) => return (Ended::NoMemory, 0),
-        Ok(stage) => stage,
-    };
-    let mut reader = Reader::new();
-    let mut line = ByteList::new(alloc);
-    let mut count = 0u64;
-    'lines: loop {
-        match read_line(&mut reader, input, &mut line) {
-            Got::Line => match stage.play_line(line.as_slice(), out, words) {
-                Play::Played => count += 1,
-                Play::BadLine => return (Ended::BadLine, count),
-                Play::Unread => return (Ended::NoMemory, count),
-                Play::Untold => return (Ended::NoMemory, count + 1),
-                Play::Unwritten => return (Ended::WriteFault, count + 1),
-            },
-            Got::End => match stage.play_line(line.as_slice(), out, words) {
-                Play::Played => return (Ended::Done, count + 1),
-                Play::BadLine => return (Ended::BadLine, count),
-                Play::Unread => return (Ended::NoMemory, count),
-                Play::Untold => return (Ended::NoMemory, count + 1),
-                Play::Unwritten => return (Ended::WriteFault, count + 1),
-            },
-            Got::TooLong => return (Ended::BadLine, count),
-            Got::Past => return (Ended::BadLine, count),
-            Got::Fault => return (Ended::ReadFault, count),
-            Got::NoMemory => return (Ended::NoMemory, count),
+    match fault {
+        StartFault::Damaged { at } => Ended::Damaged { at },
+        StartFault::StoreFault => Ended::StoreFault,
+        StartFault::NoMemory => Ended::NoMemory,
+        StartFault::Spent => Ended::Spent,
+    }
+}
+
+/// A replay between two lines: what was read ahead, and how many lines were played.
+#[derive(Drop)]
+struct Replaying {
+    reader: Reader,
+    line: ByteList,
+    stage: Stage,
+    count: u64,
+}
+
+impl Replaying {
+    /// Opens the key log.
+    fn start<D: Disk>(alloc: Global, disk: &mut D) -> Result<Replaying, StartFault>
+        ensures began { IfOk result (λ r. Begins (D.state disk.old) (D.state disk.new) r.stage.world) }
+        ensures fresh { IfOk result (λ r. (r.stage.events ≡ 0) × (r.count ≡ 0) × (r.reader.used ≡ 0) × (r.reader.bytes ≡ [])) }
+        ensures damaged { (at : ℕ) → IsErrOf result (start.Damaged at) → Tells (D.state disk.old) → IsDamagedAt ((D.state disk.old).reads 0) at }
+        ensures spent { IsErrOf result start.Spent → Tells (D.state disk.old) → ((commands : List KeyCommand) × (table : Table)
+            × IsKeyLog ((D.state disk.old).reads 0) commands table × (table.opening ≡ 4294967295)) }
+        ensures moments { Tells (D.state disk.old) → LeavesOnly 0 (D.state disk.old) (D.state disk.new) (LeavesStarted (D.state disk.old)) }
+        ensures run { RunOn 0 (D.state disk.old) (D.state disk.new) }
+        ensures cause { IsErrOf result start.StoreFault → Rose (D.state disk.old).faults (D.state disk.new).faults }
+    {
+        match World::start(alloc, disk) {
+            Err(why) => Err(why.fault),
+            Ok(world) => Ok(Replaying {
+                reader: Reader::new(),
+                line: ByteList::new(alloc),
+                stage: Stage {
+                    alloc,
+                    world,
+                    events: 0,
+                    answer: ByteList::new(alloc),
+                },
+                count: 0,
+            }),
+        }
+    }
+
+    /// Plays the lines of the input, until one of them ends the replay.
+    fn run<S: Source, D: Disk, K: Sink, W: Words>(
+        &mut self,
+        input: &mut S,
+        disk: &mut D,
+        out: &mut K,
+        words: &mut W,
+    ) -> Ended
+        requires fresh { (self.old.stage.events ≡ 0) × (self.old.count ≡ 0) × (self.old.reader.used ≡ 0) × (self.old.reader.bytes ≡ []) }
+        requires first { (table : Table) × (world_of self.old.stage.world ≡ first_world table) }
+        requires stands { Tells (D.state disk.old) → ((commands : List KeyCommand) × StandsFor (D.state disk.old) self.old.stage.world.keys.store commands) }
+        ensures ran { Ran (D.state disk.old) (D.state disk.new) self.old.stage.world (W.to_come words.old) (S.left input.old) (K.written out.old) (K.written out.new) result self.new.count }
+        ensures end { result ≡ Ended.Done → IsAtEnd (S.left input.new) }
+        ensures count { self.new.count < 2 ^ 41 }
+        ensures caused { Caused (S.faults input.old) (S.faults input.new) (K.faults out.old) (K.faults out.new) (D.state disk.old).faults (D.state disk.new).faults (Some result) }
+    {
+        'lines: loop {
+            match self.next(input, disk, out, words) {
+                None => {}
+                Some(ended) => return ended,
+            }
+        }
+    }
+
+    /// Reads the next line and plays it. `None` where the replay goes on.
+    fn next<S: Source, D: Disk, K: Sink, W: Words>(
+        &mut self,
+        input: &mut S,
+        disk: &mut D,
+        out: &mut K,
+        words: &mut W,
+    ) -> Option<Ended>
+        requires few { self.old.stage.events ≤ 10000 }
+        requires count { self.old.count ≤ 2 ^ 40 }
+        requires stands { Tells (D.state disk.old) → ((commands : List KeyCommand) × StandsFor (D.state disk.old) self.old.stage.world.keys.store commands) }
+        ensures next { Next (D.state disk.old) (D.state disk.new) (record { view = record { world = self.old.stage.world; words = W.to_come words.old; events = self.old.stage.events; written = K.written out.old }; ahead = ahead self.old.reader (S.left input.old); used = self.old.reader.used; count = self.old.count }) result (record { view = record { world = self.new.stage.world; words = W.to_come words.new; events = self.new.stage.events; written = K.written out.new }; ahead = ahead self.new.reader (S.left input.new); used = self.new.reader.used; count = self.new.count }) }
+        ensures few { self.new.stage.events ≤ 10000 }
+        ensures small { self.new.reader.used ≤ 2 ^ 40 }
+        ensures caused { Caused (S.faults input.old) (S.faults input.new) (K.faults out.old) (K.faults out.new) (D.state disk.old).faults (D.state disk.new).faults result }
+    {
+        match read_line(&mut self.reader, input, &mut self.line) {
+            Got::Line => self.play(false, disk, out, words),
+            Got::End => self.play(true, disk, out, words),
+            Got::TooLong => Some(Ended::BadLine),
+            Got::Past => Some(Ended::BadLine),
+            Got::Fault => Some(Ended::ReadFault),
+            Got::NoMemory => Some(Ended::NoMemory),
+        }
+    }
+
+    /// Plays the line that was read, which may be the last one.
+    fn play<D: Disk, K: Sink, W: Words>(
+        &mut self,
+        last: bool,
+        disk: &mut D,
+        out: &mut K,
+        words: &mut W,
+    ) -> Option<Ended>
+        requires short { length self.old.line ≤ 1048576 }
+        requires few { self.old.stage.events ≤ 10000 }
+        requires count { self.old.count ≤ 2 ^ 40 }
+        requires stands { Tells (D.state disk.old) → ((commands : List KeyCommand) × StandsFor (D.state disk.old) self.old.stage.world.keys.store commands) }
+        ensures played { LinePlayed (D.state disk.old) (D.state disk.new) (record { world = self.old.stage.world; words = W.to_come words.old; events = self.old.stage.events; written = K.written out.old }) self.old.line last result (record { world = self.new.stage.world; words = W.to_come words.new; events = self.new.stage.events; written = K.written out.new }) self.old.count self.new.count }
+        ensures same { (self.new.reader ≡ self.old.reader) × (self.new.line ≡ self.old.line) }
+        ensures few { self.new.stage.events ≤ 10000 }
+        ensures later { K.faults out.old ≤ K.faults out.new }
+        ensures fault { result ≡ Some Ended.WriteFault → Rose (K.faults out.old) (K.faults out.new) }
+    {
+        match self.stage.play_line(self.line.as_slice(), disk, out, words) {
+            Play::Played => {
+                self.count += 1;
+                if last { Some(Ended::Done) } else { None }
+            }
+            Play::BadLine => Some(Ended::BadLine),
+            Play::Unread => Some(Ended::NoMemory),
+            Play::Untold => {
+                self.count += 1;
+                Some(Ended::NoMemory)
+            }
+            Play::Unwritten => {
+                self.count += 1;
+                Some(Ended::WriteFault)
+            }
+            Play::Unopened(fault) => Some(ended_by(fault)),
         }
     }
 }
 
 /// Writes the last line, where there is one, and tells how the replay ends then.
-fn finish<K: Sink>(alloc: Global, out: &mut K, ended: Ended, count: u64) -> Ended
+fn finish<K: Sink>(alloc: Global, out: &mut K, stop: Ended, count: u64) -> Ended
     requires { count < 2 ^ 41 }
-    ensures finishes { Finishes ended count (K.written out.old) (K.written out.new) result }
-    ensures read { result ≡ Ended.ReadFault → ended ≡ Ended.ReadFault }
-    ensures write { result ≡ Ended.WriteFault → (ended ≡ Ended.WriteFault) ⊎ Rose (K.faults out.old) (K.faults out.new) }
-    ensures end { result ≡ Ended.Done → ended ≡ Ended.Done }
+    ensures closes { Closes stop count (K.written out.old) (K.written out.new) result }
+    ensures write { result ≡ Ended.WriteFault → (stop ≡ Ended.WriteFault) ⊎ Rose (K.faults out.old) (K.faults out.new) }
     ensures later { K.faults out.old ≤ K.faults out.new }
 {
-    match ended {
+    match stop {
         Ended::Done => Ended::Done,
         Ended::WriteFault => Ended::WriteFault,
         Ended::NoMemory => written_or_fault(out, b"no memory\n", Ended::NoMemory),
         Ended::ReadFault => written_or_fault(out, b"read fault\n", Ended::ReadFault),
+        Ended::StoreFault => written_or_fault(out, b"store fault\n", Ended::StoreFault),
+        Ended::Spent => written_or_fault(out, b"openings spent\n", Ended::Spent),
         Ended::BadLine => {
             let line = count + 1;
             match format!(in alloc; "line {line} refused\n") {
@@ -92,6 +200,10 @@ fn finish<K: Sink>(alloc: Global, out: &mut K, ended: Ended, count: u64) -> Ende
                 Ok(text) => written_or_fault(out, text.as_bytes(), Ended::BadLine),
             }
         }
+        Ended::Damaged { at } => match format!(in alloc; "damaged keys {at}\n") {
+            Err(_) => written_or_fault(out, b"no memory\n", Ended::NoMemory),
+            Ok(text) => written_or_fault(out, text.as_bytes(), Ended::Damaged { at }),
+        },
     }
 }
 
@@ -113,28 +225,39 @@ fn status_of(ended: Ended) -> u8
     match ended {
         Ended::Done => 0,
         Ended::BadLine => 3,
+        Ended::Damaged { at: _ } => 4,
+        Ended::StoreFault => 5,
         Ended::NoMemory => 6,
         Ended::ReadFault => 7,
         Ended::WriteFault => 8,
+        Ended::Spent => 10,
     }
 }
 
-/// Replays the event lines of the input: it runs each event, writes the transcript of the answers
-/// and behind it the last line that the status has. It answers the status: 0 where the input was
-/// read to its end, 3 at a line that is refused, 6 where memory is wanting, 7 where the input and 8
-/// where the output failed.
-pub fn run_replay<S: Source, K: Sink, W: Words>(
+/// Replays the event lines of the input over the key log on file 0 of a disk: it opens the log, runs
+/// each event, writes the transcript of the answers and behind it the last line that the status has.
+///
+/// It answers the status: 0 where the input was read to its end, 3 at a line that is refused, 4 where
+/// the log is damaged, 5 where the disk failed when the log was opened, at the start or at a restart,
+/// 6 where memory is wanting, 7 where the input and 8 where the output failed, 10 where the last
+/// opening is used.
+pub fn run_replay<S: Source, D: Disk, K: Sink, W: Words>(
     alloc: Global,
     input: &mut S,
     out: &mut K,
+    disk: &mut D,
     rand: &mut W,
 ) -> u8
-    ensures replay { (how : Ended) × (result ≡ status_of how) × Replay (W.to_come rand.old) (S.left input.old) (K.written out.old) (K.written out.new) how }
+    ensures replay { (how : Ended) × (result ≡ status_of how) × Replay (D.state disk.old) (D.state disk.new) (W.to_come rand.old) (S.left input.old) (K.written out.old) (K.written out.new) how }
     ensures end { result ≡ 0 → IsAtEnd (S.left input.new) }
     ensures read { result ≡ 7 → Rose (S.faults input.old) (S.faults input.new) }
     ensures write { result ≡ 8 → Rose (K.faults out.old) (K.faults out.new) }
+    ensures store { result ≡ 5 → Rose (D.state disk.old).faults (D.state disk.new).faults }
 {
-    let (ended, count) = replay_lines(alloc, input, out, rand);
-    let how = finish(alloc, out, ended, count);
-    status_of(how)
+    let mut replaying = match Replaying::start(alloc, disk) {
+        Err(fault) => return status_of(finish(alloc, out, ended_by(fault), 0)),
+        Ok(replaying) => replaying,
+    };
+    let stop = replaying.run(input, disk, out, rand);
+    status_of(finish(alloc, out, stop, replaying.count))
 }

@@ -1,13 +1,17 @@
 //! A replay between two lines, and how it plays one.
-ghost use Rattle.std.specs.Prelude.{◌≡◌, ◌≤◌, ◌<◌, ◌^◌, length, IfOk};
+ghost use Rattle.std.specs.Prelude.{◌≡◌, ◌+◌, ◌≤◌, ◌<◌, List, ℕ, length};
+ghost use Rattle.hk_base.specs.Disk.{Tells};
 ghost use Rattle.hk_base.specs.Faults.{Rose};
-ghost use Rattle.world_run.specs.World.{first_world};
-ghost use Rattle.hkms_tool.specs.Steps.{EventPlaysSo, PlaysSo};
+ghost use Rattle.key_rows.specs.declared.rows.KeyCommand.{KeyCommand};
+ghost use Rattle.kms_store.specs.Store.{StandsFor};
+ghost use Rattle.replay_text.specs.Events.{Spells};
+ghost use Rattle.hkms_tool.specs.Steps.{PlaysSo, TellsSo};
 
-use hk_base::{ByteList, NoMemory, Sink, Words, write_all};
+use frame_log::StartFault;
+use hk_base::{ByteList, Disk, Sink, Words, write_all};
 use replay_text::{LineFault, read_event, write_line};
 use std::alloc::Global;
-use world_run::{Event, World};
+use world_run::{Event, Line, World};
 
 /// How many events an input has at most.
 const MOST_EVENTS: u64 = 10000;
@@ -25,6 +29,8 @@ pub enum Play {
     Untold,
     /// Its event is done, and the answer could not be written.
     Unwritten,
+    /// It is a restart that could not open its log.
+    Unopened(StartFault),
 }
 
 /// Both services, and how many events they have answered.
@@ -37,24 +43,18 @@ pub struct Stage {
 }
 
 impl Stage {
-    /// The services in their first state, before the first event.
-    pub fn new(alloc: Global) -> Result<Stage, NoMemory>
-        ensures state { IfOk result (λ stage. stage.world ≡ first_world) }
-        ensures events { IfOk result (λ stage. stage.events ≡ 0) }
-    {
-        Ok(Stage {
-            alloc,
-            world: World::start(alloc)?,
-            events: 0,
-            answer: ByteList::new(alloc),
-        })
-    }
-
     /// Plays a line, and writes the answer where it is an event.
-    pub fn play_line<K: Sink, W: Words>(&mut self, line: &[u8], out: &mut K, words: &mut W) -> Play
+    pub fn play_line<D: Disk, K: Sink, W: Words>(
+        &mut self,
+        line: &[u8],
+        disk: &mut D,
+        out: &mut K,
+        words: &mut W,
+    ) -> Play
         requires short { length line.now ≤ 1048576 }
         requires few { self.old.events ≤ 10000 }
-        ensures plays { PlaysSo (record { state = self.old.world; words = W.to_come words.old; events = self.old.events; written = K.written out.old }) line.now result (record { state = self.new.world; words = W.to_come words.new; events = self.new.events; written = K.written out.new }) }
+        requires stands { Tells (D.state disk.old) → ((commands : List KeyCommand) × StandsFor (D.state disk.old) self.old.world.keys.store commands) }
+        ensures plays { PlaysSo (D.state disk.old) (D.state disk.new) (record { world = self.old.world; words = W.to_come words.old; events = self.old.events; written = K.written out.old }) line.now result (record { world = self.new.world; words = W.to_come words.new; events = self.new.events; written = K.written out.new }) }
         ensures few { self.new.events ≤ 10000 }
         ensures later { K.faults out.old ≤ K.faults out.new }
         ensures fault { result ≡ Play.Unwritten → Rose (K.faults out.old) (K.faults out.new) }
@@ -68,20 +68,41 @@ impl Stage {
         if self.events >= MOST_EVENTS {
             return Play::BadLine;
         }
-        self.play_event(event, out, words)
+        self.play_event(event, disk, out, words)
     }
 
-    fn play_event<K: Sink, W: Words>(&mut self, event: Event, out: &mut K, words: &mut W) -> Play
+    fn play_event<D: Disk, K: Sink, W: Words>(
+        &mut self,
+        event: Event,
+        disk: &mut D,
+        out: &mut K,
+        words: &mut W,
+    ) -> Play
         requires few { self.old.events < 10000 }
-        ensures plays { EventPlaysSo (record { state = self.old.world; words = W.to_come words.old; events = self.old.events; written = K.written out.old }) event result (record { state = self.new.world; words = W.to_come words.new; events = self.new.events; written = K.written out.new }) }
+        requires stands { Tells (D.state disk.old) → ((commands : List KeyCommand) × StandsFor (D.state disk.old) self.old.world.keys.store commands) }
+        ensures plays { (line : List ℕ) → Spells line event → PlaysSo (D.state disk.old) (D.state disk.new) (record { world = self.old.world; words = W.to_come words.old; events = self.old.events; written = K.written out.old }) line result (record { world = self.new.world; words = W.to_come words.new; events = self.new.events; written = K.written out.new }) }
         ensures few { self.new.events ≤ 10000 }
         ensures later { K.faults out.old ≤ K.faults out.new }
         ensures fault { result ≡ Play.Unwritten → Rose (K.faults out.old) (K.faults out.new) }
     {
+        match self.world.step(disk, words, self.events + 1, event) {
+            Err(why) => Play::Unopened(why.fault),
+            Ok(told) => self.tell(&told, out),
+        }
+    }
+
+    /// Counts an event that was done, and writes its answer.
+    fn tell<K: Sink>(&mut self, told: &Line, out: &mut K) -> Play
+        requires few { self.old.events < 10000 }
+        ensures tells { TellsSo (self.old.events + 1) told.now (K.written out.old) (K.written out.new) result }
+        ensures world { self.new.world ≡ self.old.world }
+        ensures counted { self.new.events ≡ self.old.events + 1 }
+        ensures later { K.faults out.old ≤ K.faults out.new }
+        ensures fault { result ≡ Play.Unwritten → Rose (K.faults out.old) (K.faults out.new) }
+    {
         self.events += 1;
-        let told = self.world.step(words, self.events, event);
         self.answer.clear();
-        match write_line(self.alloc, self.events, &told, &mut self.answer) {
+        match write_line(self.alloc, self.events, told, &mut self.answer) {
             Err(_) => Play::Untold,
             Ok(()) => match write_all(out, self.answer.as_slice()) {
                 Ok(()) => Play::Played,

@@ -1,7 +1,7 @@
-//! Whole replays over sources, sinks and words in memory.
+//! Whole replays over sources, sinks, disks and words in memory.
 use crate::command::hkms;
-use disk_kinds::{ListWords, MemSink, MemSource};
-use hk_base::Text;
+use disk_kinds::{ListWords, MemDisk, MemSink, MemSource, PlainDisk};
+use hk_base::{Disk, Text};
 use std::alloc::{AllocError, Global};
 use std::test::Fail;
 
@@ -29,8 +29,20 @@ struct Played {
     text: Vec<u8>,
 }
 
+/// A replay over empty files.
 fn replay(
     alloc: Global,
+    input: &[u8],
+    words: &[u32],
+    outside: Outside,
+) -> Result<Played, AllocError> {
+    let mut disk = PlainDisk::new(alloc);
+    replay_over(alloc, &mut disk, input, words, outside)
+}
+
+fn replay_over<D: Disk>(
+    alloc: Global,
+    disk: &mut D,
     input: &[u8],
     words: &[u32],
     outside: Outside,
@@ -48,7 +60,14 @@ fn replay(
         outside.failing_writes.to_vec(alloc)?,
     );
     let mut rand = ListWords::new(words.to_vec(alloc)?);
-    let status = hkms(alloc, command.as_slice(), &mut source, &mut sink, &mut rand);
+    let status = hkms(
+        alloc,
+        command.as_slice(),
+        &mut source,
+        &mut sink,
+        disk,
+        &mut rand,
+    );
     Ok(Played {
         status,
         text: sink.into_vec(),
@@ -446,17 +465,238 @@ fn other_words_are_refused(rt: HostRuntime) -> Result<(), Fail> {
         }
         let mut source = MemSource::new(SCRIPT.to_vec(rt.alloc())?, 4096, Vec::new(rt.alloc()));
         let mut sink = MemSink::new(rt.alloc(), 4096, Vec::new(rt.alloc()));
+        let mut disk = disk_of(rt.alloc(), b"", &[])?;
         let mut rand = ListWords::new(Vec::new(rt.alloc()));
         let status = hkms(
             rt.alloc(),
             command.as_slice(),
             &mut source,
             &mut sink,
+            &mut disk,
             &mut rand,
         );
         assert_eq!(rt; status, 2);
+        assert_eq!(rt; disk.calls(), 0);
         assert_eq!(rt; sink.as_slice(), b"usage refused\n".as_slice());
         assert_eq!(rt; source.as_slice(), SCRIPT);
+    }
+    Ok(())
+}
+
+/// A disk whose first file has these bytes, and whose calls with these numbers fail.
+fn disk_of(alloc: Global, bytes: &[u8], failing: &[u64]) -> Result<MemDisk, AllocError> {
+    let first = bytes[..bytes.len().min(1000)].to_vec(alloc)?;
+    MemDisk::new(alloc, first, Vec::new(alloc), failing.to_vec(alloc)?)
+}
+
+/// A replay over a disk, where neither the input nor the output fails and no word is drawn.
+fn played_over<D: Disk>(alloc: Global, disk: &mut D, input: &[u8]) -> Result<Played, AllocError> {
+    replay_over(alloc, disk, input, &[], HONEST)
+}
+
+/// The log of the first opening, of key k that is created by the first event, and of its second
+/// version.
+const ROLLED: [u8; 95] = *b"HKMSKEY1\
+    \x01\0\0\0\x05\x01\0\0\0\x01\
+    \x01\0\0\0\x27\x02\0\0\0\x01\0\0\0\x01\x01k\0\x80\0\0\0\0\0\0\0\0\0\x01\
+    \x2b\x7e\x15\x16\x28\xae\xd2\xa6\xab\xf7\x15\x88\x09\xcf\x4f\x3c\
+    \x01\0\0\0\x1b\x03\0\0\0\x01\0\0\0\x01\0\x01\
+    \0\x01\x02\x03\x04\x05\x06\x07\x08\x09\x0a\x0b\x0c\x0d\x0e\x0f\0";
+
+#[test]
+fn keys_outlive_the_run(rt: HostRuntime) -> Result<(), Fail> {
+    let mut disk = PlainDisk::new(rt.alloc());
+    let script = b"kms a create k 128 2b7e151628aed2a6abf7158809cf4f3c\n\
+        kms a roll k 000102030405060708090a0b0c0d0e0f\n";
+    let text = b"1 version k@0 2b7e151628aed2a6abf7158809cf4f3c\n\
+        2 version k@1 000102030405060708090a0b0c0d0e0f\n";
+    let played = played_over(rt.alloc(), &mut disk, script)?;
+    assert_eq!(rt; played.status, 0);
+    assert_eq!(rt; played.text.as_slice(), text.as_slice());
+    assert_eq!(rt; disk.bytes(0), ROLLED.as_slice());
+    let text = b"1 versions k@0:2b7e151628aed2a6abf7158809cf4f3c \
+        k@1:000102030405060708090a0b0c0d0e0f\n\
+        2 names k\n";
+    let played = played_over(rt.alloc(), &mut disk, b"kms a versions k\nkms a names\n")?;
+    assert_eq!(rt; played.status, 0);
+    assert_eq!(rt; played.text.as_slice(), text.as_slice());
+    Ok(())
+}
+
+#[test]
+fn a_restart_keeps_keys_and_the_namesystem(rt: HostRuntime) -> Result<(), Fail> {
+    let script = b"kms a create k 128 2b7e151628aed2a6abf7158809cf4f3c\n\
+        restart kms\n\
+        kms a versions k\n\
+        nn a mkdir /d\n\
+        ask a create /d/f\n\
+        restart kms\n\
+        draw 1\n\
+        finish 1\n\
+        nn a info /d/f\n";
+    let text = b"1 version k@0 2b7e151628aed2a6abf7158809cf4f3c\n\
+        2 opened 2\n\
+        3 versions k@0:2b7e151628aed2a6abf7158809cf4f3c\n\
+        4 done\n\
+        5 ask 1 4294967298 none\n\
+        6 opened 3\n\
+        7 reply 1 nothing\n\
+        8 done\n\
+        9 file 4294967298 - -\n";
+    let played = replay(rt.alloc(), script, &[], HONEST)?;
+    assert_eq!(rt; played.status, 0);
+    assert_eq!(rt; played.text.as_slice(), text.as_slice());
+    Ok(())
+}
+
+#[test]
+fn a_damaged_log_is_left_alone(rt: HostRuntime) -> Result<(), Fail> {
+    let cases = [
+        (b"HKMSKEY2\0\0".as_slice(), b"damaged keys 0\n".as_slice()),
+        (&ROLLED[..80], b"damaged keys 62\n".as_slice()),
+    ];
+    for (bytes, text) in cases {
+        let mut disk = disk_of(rt.alloc(), bytes, &[])?;
+        let played = played_over(rt.alloc(), &mut disk, SCRIPT)?;
+        assert_eq!(rt; played.status, 4);
+        assert_eq!(rt; played.text.as_slice(), text);
+        assert_eq!(rt; disk.bytes(0), bytes);
+    }
+    Ok(())
+}
+
+#[test]
+fn a_disk_that_fails_at_an_opening(rt: HostRuntime) -> Result<(), Fail> {
+    // A start makes 8 calls, and a creation 4.
+    let script = b"kms a create k 128 2b7e151628aed2a6abf7158809cf4f3c\nrestart kms\nkms a names\n";
+    let cases = [
+        (1, b"store fault\n".as_slice()),
+        (8, b"store fault\n".as_slice()),
+        (
+            13,
+            b"1 version k@0 2b7e151628aed2a6abf7158809cf4f3c\nstore fault\n".as_slice(),
+        ),
+    ];
+    for (call, text) in cases {
+        let mut disk = disk_of(rt.alloc(), b"", &[call])?;
+        let played = played_over(rt.alloc(), &mut disk, script)?;
+        assert_eq!(rt; played.status, 5, "call {call}");
+        assert_eq!(rt; played.text.as_slice(), text, "call {call}");
+    }
+    Ok(())
+}
+
+#[test]
+fn a_sync_of_a_rollover_fails(rt: HostRuntime) -> Result<(), Fail> {
+    let script = b"kms a create k 128 2b7e151628aed2a6abf7158809cf4f3c\n\
+        kms a roll k 000102030405060708090a0b0c0d0e0f\n\
+        kms a current k\n\
+        kms a roll k ffffffffffffffffffffffffffffffff\n";
+    let answers = b"1 version k@0 2b7e151628aed2a6abf7158809cf4f3c\n\
+        2 refused K14 StoreFault\n\
+        3 version k@0 2b7e151628aed2a6abf7158809cf4f3c\n";
+    // The rollover's calls are 13 to 16, and only after the last but one of them its record is kept.
+    let cases = [
+        (
+            14,
+            b"4 version k@1 ffffffffffffffffffffffffffffffff\n".as_slice(),
+        ),
+        (
+            16,
+            b"4 version k@2 ffffffffffffffffffffffffffffffff\n".as_slice(),
+        ),
+    ];
+    for (call, last) in cases {
+        let mut disk = disk_of(rt.alloc(), b"", &[call])?;
+        let played = played_over(rt.alloc(), &mut disk, script)?;
+        assert_eq!(rt; played.status, 0);
+        assert!(rt; played.text.as_slice().starts_with(answers), "call {call}");
+        assert!(rt; played.text.as_slice().ends_with(last), "call {call}");
+    }
+    Ok(())
+}
+
+/// Three changes, each of a key of its own.
+const CHANGES: &[u8] = b"kms a create i 128 2b7e151628aed2a6abf7158809cf4f3c\n\
+    kms a roll k 000102030405060708090a0b0c0d0e0f\n\
+    kms a delete j\n\
+    restart kms\n\
+    kms a names\n";
+
+const CHANGED: &[u8] = b"1 version i@0 2b7e151628aed2a6abf7158809cf4f3c\n\
+    2 version k@1 000102030405060708090a0b0c0d0e0f\n\
+    3 done\n\
+    4 opened 3\n\
+    5 names i k\n";
+
+/// Other lines that may come where the disk fails once.
+const FAULTED: &[u8] = b"1 refused K14 StoreFault\n\
+    2 refused K14 StoreFault\n\
+    3 refused K14 StoreFault\n\
+    store fault\n\
+    5 names k\n\
+    5 names i j k\n";
+
+const LOOKS: &[u8] = b"kms a versions i\nkms a versions k\nkms a versions j\n";
+
+/// Each change's answer, and what a look at its key answers from then on.
+const LOOKED: [(&str, &str); 3] = [
+    (
+        "1 version i@0 2b7e151628aed2a6abf7158809cf4f3c",
+        "1 versions i@0:2b7e151628aed2a6abf7158809cf4f3c",
+    ),
+    (
+        "2 version k@1 000102030405060708090a0b0c0d0e0f",
+        "2 versions k@0:2b7e151628aed2a6abf7158809cf4f3c k@1:000102030405060708090a0b0c0d0e0f",
+    ),
+    ("3 done", "3 refused K4 NoSuchKey"),
+];
+
+/// Whether a line stands in a text.
+fn has(text: &[u8], wanted: &[u8]) -> bool {
+    text.split(|byte| *byte == b'\n').any(|line| line == wanted)
+}
+
+/// How many changes were acknowledged in the one text and not found by the looks of the other.
+fn lost(changed: &[u8], looked: &[u8]) -> usize {
+    let mut count: usize = 0;
+    for (answer, look) in LOOKED {
+        if has(changed, answer.as_bytes()) && !has(looked, look.as_bytes()) {
+            count = count.saturating_add(1);
+        }
+    }
+    count
+}
+
+/// The log of an opening in which the keys k and j were created.
+fn two_keys(alloc: Global) -> Result<Vec<u8>, AllocError> {
+    let script = b"kms a create k 128 2b7e151628aed2a6abf7158809cf4f3c\n\
+        kms a create j 128 2b7e151628aed2a6abf7158809cf4f3c\n";
+    let mut disk = PlainDisk::new(alloc);
+    played_over(alloc, &mut disk, script)?;
+    disk.bytes(0).to_vec(alloc)
+}
+
+#[test]
+fn each_call_of_the_disk_fails_in_turn(rt: HostRuntime) -> Result<(), Fail> {
+    let before = two_keys(rt.alloc())?;
+    let mut honest = disk_of(rt.alloc(), &before, &[])?;
+    let played = played_over(rt.alloc(), &mut honest, CHANGES)?;
+    assert_eq!(rt; played.text.as_slice(), CHANGED);
+    assert_eq!(rt; lost(CHANGED, b""), 3);
+    for call in 1..=honest.calls() {
+        let mut disk = disk_of(rt.alloc(), &before, &[call])?;
+        let played = played_over(rt.alloc(), &mut disk, CHANGES)?;
+        assert!(rt; played.status == 0 || played.status == 5, "call {call}");
+        for line in played.text.split(|byte| *byte == b'\n') {
+            assert!(rt; has(CHANGED, line) || has(FAULTED, line), "call {call}");
+        }
+        for left in [disk.bytes(0), disk.synced(0)] {
+            let mut disk = disk_of(rt.alloc(), left, &[])?;
+            let looked = played_over(rt.alloc(), &mut disk, LOOKS)?;
+            assert_eq!(rt; looked.status, 0, "call {call}");
+            assert_eq!(rt; lost(&played.text, &looked.text), 0, "call {call}");
+        }
     }
     Ok(())
 }

@@ -1,14 +1,8 @@
-use Rattle.std.proofs.Common.{refl}
+use Rattle.hkms_tool.proofs.StageLemmas.{event_plays}
 use Rattle.hkms_tool.proofs.stage.Stage.play_event.Goals as goal
 
-pub returns-in-Ok-write_all-clause-plays : goal.returns-in-Ok-write_all-clause-plays
-returns-in-Ok-write_all-clause-plays g c = (
-  record { reply = c.step-told.result; drawn = c.step-told.ensures.drawn; acts = c.step-told.ensures.step; rest = c.step-told.ensures.rest; counted = refl },
-  rw (c.as_slice.ensures, c.in-Ok.ensures, c.clear.ensures) at c.in-Ok-write_all.ensures.wrote,
-)
-
-pub returns-clause-plays : goal.returns-clause-plays
-returns-clause-plays g c = (
-  record { reply = c.step-told.result; drawn = c.step-told.ensures.drawn; acts = c.step-told.ensures.step; rest = c.step-told.ensures.rest; counted = refl },
-  rw (c.as_slice.ensures, c.in-Ok.ensures, c.clear.ensures) at c.in-Err-write_all.ensures.wrote,
-)
+pub returns-in-Ok-clause-plays : goal.returns-in-Ok-clause-plays
+returns-in-Ok-clause-plays g c =
+    event_plays (g.D.Disk.state c.args.disk.now) (g.D.Disk.state c.step.new.disk) c.args.self.now.world c.step.new.self c.tell.new.self.world (g.W.Words.to_come c.args.words.now) (g.W.Words.to_come c.step.new.words)
+    c.args.self.now.events c.tell.new.self.events (g.K.Sink.written c.args.out.now) (g.K.Sink.written c.tell.new.out) c.args.event c.in-Ok.told c.tell.result
+    c.requires.few c.in-Ok.ensures c.tell.ensures.tells c.tell.ensures.world c.tell.ensures.counted

@@ -1,0 +1,364 @@
+-- How a replay stops.
+use Rattle.std.proofs.Common.{◌≡◌, inl, inr, ℕ, ◌+◌, ◌<◌, ◌^◌, Bool, true, false, List, [], ◌∷◌, ◌++◌, length, take, refl, ap, sym, ◌∙◌, subst, IsTrue, Option, None, Some, arith, append_assoc, append-nil, length-append}
+use Rattle.std.specs.List.{list_all, count_by}
+use Rattle.std.specs.Io.KnownBytes.{Appends, Consumes, IsAtEnd, prepend_known}
+use Rattle.std.proofs.KnownBytes.{Appends-trans, Consumes-trans}
+use Rattle.std.proofs.Math.Seq.{take-append_seam}
+use Rattle.hk_base.specs.Disk.{DiskState, Tells}
+use Rattle.hk_base.specs.Reading.{IsMore}
+use Rattle.frame_log.specs.declared.fault.StartFault.{StartFault}
+use Rattle.frame_log.specs.declared.fault.StartFault.TheVariants as start
+use Rattle.key_rows.specs.declared.rows.KeyCommand.{KeyCommand}
+use Rattle.kms_core.proofs.ServiceLemmas.{joined}
+use Rattle.replay_text.specs.Events.{IsBad, longest_line}
+use Rattle.world_run.specs.World.{WorldState, world_of}
+use Rattle.hkms_tool.specs.declared.lines.Got.{Got}
+use Rattle.hkms_tool.specs.declared.lines.Got.TheVariants as got
+use Rattle.hkms_tool.specs.declared.replay.Ended.{Ended}
+use Rattle.hkms_tool.specs.declared.replay.Ended.TheVariants as ended
+use Rattle.hkms_tool.specs.declared.stage.Play.{Play}
+use Rattle.hkms_tool.specs.declared.stage.Play.TheVariants.{Played, BadLine, Unread, Untold, Unwritten, Unopened}
+use Rattle.hkms_tool.specs.Lines.{is_line, is_lf, lines_of, text_of}
+use Rattle.hkms_tool.specs.Run.{Happened, History, IsRefused, events_in, events_of, lines_in, logged_in, told_of, transcript, world_after}
+use Rattle.hkms_tool.specs.Replay.{BadNext, IsTold, ReadsAs, ReadsAt, RestartStops, Starts, Stops, ended_by, longest_input}
+use Rattle.hkms_tool.specs.Steps.{LinePlayed, Next, NextSo, PlaysLine, PlaysSo, Ran, Read, Stand, StopsAtRestart, StopsReading, Untouched, View, counts, end_of_play}
+use Rattle.hkms_tool.proofs.HistoryLemmas.{Begin, Course, SoFar, course_line, course_line_is, course_untouched, course_untouched_is, moments_on, so_far_line, tells_now}
+use Rattle.hkms_tool.proofs.SplitLemmas.{split_text, split_last, split_on, split_ended, parts, count_lf}
+
+-- the lines of the input
+
+-- what is left behind what was used
+after_text : (left ahead : Option (List ℕ)) (bytes : List ℕ) → Consumes left ahead bytes → (all : List ℕ) → left ≡ Some all → (rest : List ℕ) × (ahead ≡ Some rest) × (all ≡ bytes ++ rest)
+after_text None ahead bytes consumed all is = absurd cc
+after_text (Some xs) None bytes consumed all is = absurd consumed
+after_text (Some xs) (Some ys) bytes consumed all is = let same : all ≡ xs = cc in (ys, refl, same ∙ consumed)
+
+-- the lines that were read, and what is ahead
+record IsAhead (left ahead : Option (List ℕ)) (lines : List (List ℕ)) : Type 0 where
+  whole : IsTrue (list_all is_line lines)
+  consumed : Consumes left ahead (text_of lines)
+
+starts : (left ahead : Option (List ℕ)) (lines : List (List ℕ)) → IsAhead left ahead lines → (all : List ℕ) → left ≡ Some all → Starts all lines
+starts left ahead lines so all is =
+    let rest = after_text left ahead (text_of lines) so.consumed all is in
+    (lines_of rest.0, ap lines_of rest.2 ∙ split_text lines rest.0 so.whole)
+
+-- the next line is this one, and is ended
+next_is : (left before ahead : Option (List ℕ)) (lines : List (List ℕ)) (line : List ℕ) → IsAhead left before lines → is_line line ≡ true → Consumes before ahead (line ++ 10 ∷ [])
+    → (all : List ℕ) → left ≡ Some all → (more : List (List ℕ)) × (lines_of all ≡ lines ++ line ∷ more)
+next_is left before ahead lines line so is consumed all told =
+    let rest = after_text left ahead _ (Consumes-trans left before ahead _ _ so.consumed consumed) all told in (
+      lines_of rest.0,
+      ap lines_of (rest.2 ∙ append_assoc (text_of lines) (line ++ 10 ∷ []) rest.0) ∙ split_text lines ((line ++ 10 ∷ []) ++ rest.0) so.whole
+          ∙ ap (λ l. lines ++ l) (ap lines_of (append_assoc line (10 ∷ []) rest.0) ∙ split_ended line rest.0 is),
+    )
+
+-- the same of the last line
+last_is : (left before ahead : Option (List ℕ)) (lines : List (List ℕ)) (line : List ℕ) → IsAhead left before lines → is_line line ≡ true → Consumes before ahead line → IsAtEnd ahead
+    → (all : List ℕ) → left ≡ Some all → lines_of all ≡ lines ++ line ∷ []
+last_is left before ahead lines line so is consumed end all told =
+    let rest = after_text left ahead _ (Consumes-trans left before ahead _ _ so.consumed consumed) all told in
+    let none : rest.0 ≡ [] = subst IsAtEnd rest.1 end in
+    ap lines_of (rest.2 ∙ ap (λ r. (text_of lines ++ line) ++ r) none ∙ append-nil (text_of lines ++ line)) ∙ split_text lines line so.whole ∙ ap (λ l. lines ++ l) (split_last line is)
+
+-- the next line, ended or the last one
+record IsNext (left : Option (List ℕ)) (lines : List (List ℕ)) (line : List ℕ) : Type 0 where
+  next : (all : List ℕ) → left ≡ Some all → (more : List (List ℕ)) × (lines_of all ≡ lines ++ line ∷ more)
+
+begins : (left : Option (List ℕ)) (lines : List (List ℕ)) (line : List ℕ) → IsNext left lines line → (all : List ℕ) → left ≡ Some all → Starts all (lines ++ line ∷ [])
+begins left lines line n all told = let next = n.next all told in (next.0, next.1 ∙ sym (append_assoc lines (line ∷ []) next.0))
+
+too_long_is_bad : (line : List ℕ) → longest_line < length line → IsBad line
+too_long_is_bad [] long = absurd (omega arith)
+too_long_is_bad (b ∷ bs) long = record {
+  not_quiet = λ quiet. absurd (omega (arith, quiet.1));
+  no_event = λ event spells. absurd (omega (arith, spells.short));
+}
+
+too_long : (left before ahead : Option (List ℕ)) (lines : List (List ℕ)) (line : List ℕ) (events : ℕ) → IsAhead left before lines → is_line line ≡ true → Consumes before ahead line → length line ≡ 1048577
+    → (all : List ℕ) → left ≡ Some all → BadNext all lines events
+too_long left before ahead lines line events so is consumed long all told =
+    let rest = after_text left ahead _ (Consumes-trans left before ahead _ _ so.consumed consumed) all told in
+    let more = parts rest.0 in
+    let split : lines_of all ≡ lines ++ (line ++ more.0) ∷ more.1 =
+    ap lines_of (rest.2 ∙ append_assoc (text_of lines) line rest.0) ∙ split_text lines (line ++ rest.0) so.whole ∙ ap (λ l. lines ++ l) (split_on line rest.0 more.0 more.1 is more.2) in
+    inl (line ++ more.0, more.1, split, inl (too_long_is_bad (line ++ more.0) (omega (arith, length-append line more.0))))
+
+past : (left before ahead : Option (List ℕ)) (lines : List (List ℕ)) (line : List ℕ) (events used0 used : ℕ) → IsAhead left before lines → is_line line ≡ true → Consumes before ahead line → used0 ≡ length (text_of lines)
+    → used ≡ used0 + length line → used ≡ 2 ^ 40 → IsMore ahead → (all : List ℕ) → left ≡ Some all → BadNext all lines events
+past left before ahead lines line events used0 used so is consumed used0_is used_is long more all told =
+    let rest = after_text left ahead _ (Consumes-trans left before ahead _ _ so.consumed consumed) all told in
+    let front = text_of lines ++ line in
+    let some : 0 < length rest.0 = subst IsMore rest.1 more in
+    let whole : length front ≡ longest_input = omega (arith, length-append (text_of lines) line, used0_is, used_is, long) in
+    inr (
+      starts left before lines so all told,
+      record {
+        long = omega (arith, ap length rest.2, length-append front rest.0, some, whole);
+        place = ap (count_by is_lf) (ap (take longest_input) rest.2 ∙ ap (λ n. take n (front ++ rest.0)) (sym whole) ∙ take-append_seam front rest.0) ∙ count_lf lines line so.whole is;
+      },
+    )
+
+-- where the replay stops
+
+reads_at : (stop : Ended) (d : DiskState) (commands : List KeyCommand) (w : WorldState) → ReadsAs d commands w → ReadsAt stop d commands w
+reads_at ended.Done d commands w r = r
+reads_at ended.BadLine d commands w r = r
+reads_at (ended.Damaged at) d commands w r = tt
+reads_at ended.StoreFault d commands w r = tt
+reads_at ended.NoMemory d commands w r = tt
+reads_at ended.ReadFault d commands w r = r
+reads_at ended.WriteFault d commands w r = r
+reads_at ended.Spent d commands w r = tt
+
+-- a front of the transcript that is all of it
+all_told : (stop : Ended) (text told : List ℕ) → text ≡ told → IsTold stop text told
+all_told ended.Done text told is = is
+all_told ended.BadLine text told is = is
+all_told (ended.Damaged at) text told is = is
+all_told ended.StoreFault text told is = is
+all_told ended.NoMemory text told is = ([], append-nil text ∙ is)
+all_told ended.ReadFault text told is = is
+all_told ended.WriteFault text told is = ([], append-nil text ∙ is)
+all_told ended.Spent text told is = is
+
+-- an end that no restart brings about
+IsPlain : Ended → Type 0
+IsPlain stop = (w : WorldState) → RestartStops stop w
+
+ran : (old new : DiskState) (b : Begin) (v : View) (count : ℕ) (stop : Ended) (so : Course old new b v count) (h : History) → so.history ≡ h → (text : List ℕ) (now : Option (List ℕ)) → IsPlain stop
+    → Appends b.written now text → IsTold stop text (transcript h) → ((all : List ℕ) → b.left ≡ Some all → Stops stop all (lines_in h) (events_in h))
+    → Ran old new b.world b.words b.left b.written now stop count
+unfolding IsPlain
+ran old new b v count stop so h is text now plain wrote told here = record {
+  history = so.history;
+  runs = so.runs;
+  files_open = so.files_open;
+  kept = λ tells commands stands. record {
+    moments = so.moments tells commands stands;
+    reads = reads_at stop new (commands ++ logged_in so.history) (world_after (world_of b.world) so.history) (v.world, so.world_is, so.stands tells commands stands);
+  };
+  run = so.run;
+  restart = λ tells. plain (world_after (world_of b.world) so.history);
+  stops = λ all left. subst (λ (x : History). Stops stop all (lines_in x) (events_in x)) (sym is) (here all left);
+  text = text;
+  wrote = wrote;
+  told = subst (λ (x : History). IsTold stop text (transcript x)) (sym is) told;
+  counted = so.counted;
+}
+
+-- before a line is played
+stops_before : (old mid new : DiskState) (b : Begin) (s : Stand) (stop : Ended) (v : View) (so : SoFar old mid b s) → Untouched mid new s.view v → IsPlain stop
+    → ((all : List ℕ) → b.left ≡ Some all → Stops stop all (lines_in so.course.history) (events_in so.course.history)) → Ran old new b.world b.words b.left b.written v.written stop s.count
+stops_before old mid new b s stop v so u plain here =
+    let told : List ℕ = transcript so.course.history in
+    ran old new b (record s.view { world = v.world }) s.count stop (course_untouched old mid new b s.view v s.count so.course u) so.course.history
+    (course_untouched_is old mid new b s.view v s.count so.course u) told v.written plain
+    (subst (Appends b.written v.written) (append-nil told) (Appends-trans b.written s.view.written v.written _ _ so.wrote u.wrote)) (all_told stop told told refl) here
+
+-- behind a line that was played, of whose answer this much was written
+stops_behind : (old mid new : DiskState) (b : Begin) (s : Stand) (stop : Ended) (line : List ℕ) (event : Option Happened) (v : View) (text : List ℕ) (so : SoFar old mid b s) → PlaysLine mid new s.view line event v
+    → is_line line ≡ true → IsPlain stop → Appends s.view.written v.written text → IsTold stop (transcript so.course.history ++ text) (transcript so.course.history ++ told_of (events_in so.course.history) event)
+    → ((all : List ℕ) → b.left ≡ Some all → Stops stop all (lines_in so.course.history ++ line ∷ []) (events_in so.course.history + events_of event))
+    → Ran old new b.world b.words b.left b.written v.written stop (s.count + 1)
+stops_behind old mid new b s stop line event v text so plays is plain wrote told here =
+    ran old new b v (s.count + 1) stop (course_line old mid new b s.view v s.count line event so.course plays is) (record { line = line; event = event } ∷ so.course.history)
+    (course_line_is old mid new b s.view v s.count line event so.course plays is) (transcript so.course.history ++ text) v.written plain
+    (Appends-trans b.written s.view.written v.written _ _ so.wrote wrote) told here
+
+-- at a restart that could not open the log
+stops_at_restart : (old mid new : DiskState) (b : Begin) (s : Stand) (line : List ℕ) (fault : StartFault) (v : View) (so : SoFar old mid b s) → StopsAtRestart mid new s.view line fault v
+    → Appends s.view.written v.written [] → IsNext b.left (lines_in so.course.history) line → Ran old new b.world b.words b.left b.written v.written (ended_by fault) s.count
+stops_at_restart old mid new b s line fault v so at wrote next = record {
+  history = h;
+  runs = so.course.runs;
+  files_open = so.course.files_open;
+  kept = λ tells commands stands. record {
+    moments = moments_on old mid new b s.view s.count so.course at.fails.fails.why.run at.fails.survives tells commands stands;
+    reads = unread fault new (commands ++ logged_in h) (world_after (world_of b.world) h);
+  };
+  run = joined old mid new so.course.run at.fails.fails.why.run;
+  restart = λ tells. why fault refl tells;
+  stops = λ all told. here fault all told;
+  text = transcript h;
+  wrote = subst (Appends b.written v.written) (append-nil (transcript h)) (Appends-trans b.written s.view.written v.written _ _ so.wrote wrote);
+  told = all_told (ended_by fault) (transcript h) (transcript h) refl;
+  counted = so.course.counted;
+}
+  where
+    h : History
+    h = so.course.history
+
+    unread : (f : StartFault) (d : DiskState) (commands : List KeyCommand) (w : WorldState) → ReadsAt (ended_by f) d commands w
+    unread (start.Damaged at) d commands w = tt
+    unread start.StoreFault d commands w = tt
+    unread start.NoMemory d commands w = tt
+    unread start.Spent d commands w = tt
+
+    why : (f : StartFault) → fault ≡ f → Tells old → RestartStops (ended_by f) (world_after (world_of b.world) h)
+    why (start.Damaged place) is tells = at.fails.fails.why.never_damaged (tells_now old mid so.course.run tells) place is
+    why start.StoreFault is tells = tt
+    why start.NoMemory is tells = tt
+    why start.Spent is tells =
+        subst (λ (w : WorldState). RestartStops ended.Spent w) so.course.world_is (at.fails.fails.why.spent is (tells_now old mid so.course.run tells))
+
+    here : (f : StartFault) (all : List ℕ) → b.left ≡ Some all → Stops (ended_by f) all (lines_in h) (events_in h)
+    here (start.Damaged place) all told = let n = next.next all told in (line, n.0, n.1, at.spells)
+    here start.StoreFault all told = let n = next.next all told in (line, n.0, n.1, at.spells)
+    here start.NoMemory all told = let n = next.next all told in (line ∷ n.0, n.1)
+    here start.Spent all told = let n = next.next all told in (line, n.0, n.1, at.spells)
+
+-- how the loop goes on and stops
+
+-- the end that is answered
+the_end : (a b : Ended) → Some a ≡ Some b → a ≡ b
+the_end a b is = cc
+
+refused_here : (events : ℕ) (history : History) (line : List ℕ) → events ≡ events_in history → IsRefused events line → IsRefused (events_in history) line
+refused_here events history line numbered bad = subst (λ (n : ℕ). IsRefused n line) numbered bad
+
+-- a line that was played, or not, ends the replay
+line_stops : (old mid new : DiskState) (b : Begin) (s : Stand) (line : List ℕ) (last : Bool) (v : View) (count : ℕ) (stop : Ended) (so : SoFar old mid b s) → LinePlayed mid new s.view line last (Some stop) v s.count count
+    → is_line line ≡ true → IsNext b.left (lines_in so.course.history) line → (last ≡ true → (all : List ℕ) → b.left ≡ Some all → lines_of all ≡ lines_in so.course.history ++ line ∷ [])
+    → Ran old new b.world b.words b.left b.written v.written stop count
+unfolding IsPlain
+line_stops old mid new b s line last v count stop so p is next whole = go p.play last p.plays p.result_is p.counted whole
+  where
+    h : History
+    h = so.course.history
+
+    told_here : (event : Option Happened) → told_of s.view.events event ≡ told_of (events_in h) event
+    told_here event = ap (λ (n : ℕ). told_of n event) so.course.numbered
+
+    Goal : ℕ → Ended → Type 0
+    Goal n e = Ran old new b.world b.words b.left b.written v.written e n
+
+    go : (play : Play) (last : Bool) → PlaysSo mid new s.view line play v → Some stop ≡ end_of_play last play → count ≡ s.count + counts play
+        → (last ≡ true → (all : List ℕ) → b.left ≡ Some all → lines_of all ≡ lines_in h ++ line ∷ []) → Ran old new b.world b.words b.left b.written v.written stop count
+    go Played false (event, plays, wrote) is_end n whole = absurd cc
+    go Played true (event, plays, wrote) is_end n whole =
+        subst (λ (e : Ended). Goal count e) (sym (the_end stop ended.Done is_end)) (subst (λ (k : ℕ). Goal k ended.Done) (sym n)
+        (stops_behind old mid new b s ended.Done line event v (told_of s.view.events event) so plays is (λ w. tt) wrote (ap (λ (t : List ℕ). transcript h ++ t) (told_here event)) (whole refl)))
+    go BadLine last (bad, u) is_end n whole =
+        subst (λ (e : Ended). Goal count e) (sym (the_end stop ended.BadLine (is_end ∙ bad_end last))) (subst (λ (k : ℕ). Goal k ended.BadLine) (sym (n ∙ omega arith))
+        (stops_before old mid new b s ended.BadLine v so u (λ w. tt) (λ all told. let at = next.next all told in inl (line, at.0, at.1, refused_here s.view.events h line so.course.numbered bad))))
+      where
+        bad_end : (l : Bool) → end_of_play l BadLine ≡ Some ended.BadLine
+        bad_end true = refl
+        bad_end false = refl
+    go Unread last u is_end n whole =
+        subst (λ (e : Ended). Goal count e) (sym (the_end stop ended.NoMemory (is_end ∙ no_end last))) (subst (λ (k : ℕ). Goal k ended.NoMemory) (sym (n ∙ omega arith))
+        (stops_before old mid new b s ended.NoMemory v so u (λ w. tt) (λ all told. let at = next.next all told in (line ∷ at.0, at.1))))
+      where
+        no_end : (l : Bool) → end_of_play l Unread ≡ Some ended.NoMemory
+        no_end true = refl
+        no_end false = refl
+    go Untold last (event, plays, wrote) is_end n whole =
+        subst (λ (e : Ended). Goal count e) (sym (the_end stop ended.NoMemory (is_end ∙ no_end last))) (subst (λ (k : ℕ). Goal k ended.NoMemory) (sym n)
+        (stops_behind old mid new b s ended.NoMemory line event v [] so plays is (λ w. tt) wrote (told_of (events_in h) event, ap (λ (t : List ℕ). t ++ told_of (events_in h) event) (append-nil (transcript h)))
+        (λ all told. begins b.left (lines_in h) line next all told)))
+      where
+        no_end : (l : Bool) → end_of_play l Untold ≡ Some ended.NoMemory
+        no_end true = refl
+        no_end false = refl
+    go Unwritten last (event, plays, wrote) is_end n whole =
+        subst (λ (e : Ended). Goal count e) (sym (the_end stop ended.WriteFault (is_end ∙ no_end last))) (subst (λ (k : ℕ). Goal k ended.WriteFault) (sym n)
+        (stops_behind old mid new b s ended.WriteFault line event v wrote.front so plays is (λ w. tt) wrote.wrote
+        (wrote.more, append_assoc (transcript h) wrote.front wrote.more ∙ ap (λ (t : List ℕ). transcript h ++ t) (wrote.whole ∙ told_here event))
+        (λ all told. begins b.left (lines_in h) line next all told)))
+      where
+        no_end : (l : Bool) → end_of_play l Unwritten ≡ Some ended.WriteFault
+        no_end true = refl
+        no_end false = refl
+    go (Unopened fault) last (at, wrote) is_end n whole =
+        subst (λ (e : Ended). Goal count e) (sym (the_end stop (ended_by fault) (is_end ∙ no_end last))) (subst (λ (k : ℕ). Goal k (ended_by fault)) (sym (n ∙ omega arith))
+        (stops_at_restart old mid new b s line fault v so at wrote next))
+      where
+        no_end : (l : Bool) → end_of_play l (Unopened fault) ≡ Some (ended_by fault)
+        no_end true = refl
+        no_end false = refl
+
+ahead_of : (old mid : DiskState) (b : Begin) (s : Stand) (so : SoFar old mid b s) → IsAhead b.left s.ahead (lines_in so.course.history)
+ahead_of old mid b s so = record { whole = so.course.whole; consumed = so.consumed }
+
+-- the next line ends the replay
+pub next_stops : (old mid new : DiskState) (b : Begin) (s s' : Stand) (stop : Ended) → SoFar old mid b s → Next mid new s (Some stop) s' → Ran old new b.world b.words b.left b.written s'.view.written stop s'.count
+unfolding IsPlain
+next_stops old mid new b s s' stop so n = go n.how n.read n.next
+  where
+    lines : List (List ℕ)
+    lines = lines_in so.course.history
+
+    ahead : IsAhead b.left s.ahead lines
+    ahead = ahead_of old mid b s so
+
+    ends : (e : Ended) → ((w : WorldState) → RestartStops e w) → StopsReading mid new s.view s'.view s.count s'.count e (Some stop)
+        → ((all : List ℕ) → b.left ≡ Some all → Stops e all lines (events_in so.course.history)) → Ran old new b.world b.words b.left b.written s'.view.written stop s'.count
+    ends e plain r here =
+        subst (λ (x : Ended). Ran old new b.world b.words b.left b.written s'.view.written x s'.count) (sym (the_end stop e r.result_is))
+        (subst (λ (k : ℕ). Ran old new b.world b.words b.left b.written s'.view.written e k) (sym r.counted) (before e plain r here))
+      where
+        before : (e : Ended) → ((w : WorldState) → RestartStops e w) → StopsReading mid new s.view s'.view s.count s'.count e (Some stop)
+            → ((all : List ℕ) → b.left ≡ Some all → Stops e all lines (events_in so.course.history)) → Ran old new b.world b.words b.left b.written s'.view.written e s.count
+        before e plain r here = stops_before old mid new b s e s'.view so r.untouched plain here
+
+    go : (how : Got) → Read s how n.line s' → NextSo mid new s how n.line (Some stop) s' → Ran old new b.world b.words b.left b.written s'.view.written stop s'.count
+    go got.Line read played =
+        line_stops old mid new b s n.line false s'.view s'.count stop so played read.is_line
+        (record { next = λ all told. next_is b.left s.ahead s'.ahead lines n.line ahead read.is_line (read.consumed (λ e. cc)) all told }) (λ e. absurd cc)
+    go got.End read played =
+        let whole = λ (all : List ℕ) (told : b.left ≡ Some all). last_is b.left s.ahead s'.ahead lines n.line ahead read.is_line (read.consumed (λ e. cc)) (read.end refl) all told in
+        line_stops old mid new b s n.line true s'.view s'.count stop so played read.is_line (record { next = λ all told. ([], whole all told) }) (λ e. whole)
+    go got.TooLong read r = ends ended.BadLine (λ w. tt) r (λ all told. too_long b.left s.ahead s'.ahead lines n.line _ ahead read.is_line (read.consumed (λ e. cc)) (read.long refl) all told)
+    go got.Past read r =
+        ends ended.BadLine (λ w. tt) r (λ all told. past b.left s.ahead s'.ahead lines n.line _ s.used s'.used ahead read.is_line (read.consumed (λ e. cc)) so.used_is (read.used (λ e. cc)) (read.past refl).0 (read.past refl).1 all told)
+    go got.Fault read r = ends ended.ReadFault (λ w. tt) r (λ all told. starts b.left s.ahead lines ahead all told)
+    go got.NoMemory read r = ends ended.NoMemory (λ w. tt) r (λ all told. starts b.left s.ahead lines ahead all told)
+
+-- the next line was played, and the replay goes on
+pub record GoesFurther (old new : DiskState) (b : Begin) (s s' : Stand) : Type 0 where
+  pub so_far : SoFar old new b s'
+  pub further : s.used < s'.used
+  pub counted : s'.count ≡ s.count + 1
+
+pub next_goes_on : (old mid new : DiskState) (b : Begin) (s s' : Stand) → SoFar old mid b s → Next mid new s None s' → GoesFurther old new b s s'
+next_goes_on old mid new b s s' so n = go n.how n.read n.next
+  where
+    played : (play : Play) → PlaysSo mid new s.view n.line play s'.view → None ≡ end_of_play false play → s'.count ≡ s.count + counts play → Read s got.Line n.line s' → GoesFurther old new b s s'
+    played Played (event, plays, wrote) is_end count read =
+        let used = read.used (λ e. cc) in
+        record {
+          so_far = subst (λ (k : ℕ). SoFar old new b (record { view = s'.view; ahead = s'.ahead; used = s'.used; count = k })) (sym count)
+              (so_far_line old mid new b s n.line event s'.view s'.ahead s'.used so plays wrote read.is_line (read.consumed (λ e. cc)) used);
+          further = omega (arith, used, length-append n.line (10 ∷ []));
+          counted = count;
+        }
+    played BadLine p is_end count read = absurd cc
+    played Unread p is_end count read = absurd cc
+    played Untold p is_end count read = absurd cc
+    played Unwritten p is_end count read = absurd cc
+    played (Unopened fault) p is_end count read = absurd cc
+
+    not_last : (play : Play) → None ≡ end_of_play true play → ⊥
+    not_last Played e = absurd cc
+    not_last BadLine e = absurd cc
+    not_last Unread e = absurd cc
+    not_last Untold e = absurd cc
+    not_last Unwritten e = absurd cc
+    not_last (Unopened fault) e = absurd cc
+
+    go : (how : Got) → Read s how n.line s' → NextSo mid new s how n.line None s' → GoesFurther old new b s s'
+    go got.Line read p = played p.play p.plays p.result_is p.counted read
+    go got.End read p = absurd (not_last p.play p.result_is)
+    go got.TooLong read r = let no = r.result_is in absurd cc
+    go got.Past read r = let no = r.result_is in absurd cc
+    go got.Fault read r = let no = r.result_is in absurd cc
+    go got.NoMemory read r = let no = r.result_is in absurd cc
+
+-- nothing was read yet
+pub first_ahead : (bytes : List ℕ) (left : Option (List ℕ)) → bytes ≡ [] → Consumes left (prepend_known bytes left) []
+first_ahead bytes left none = subst (λ (l : List ℕ). Consumes left (prepend_known l left) []) (sym none) (at_start left)
+  where
+    at_start : (o : Option (List ℕ)) → Consumes o (prepend_known [] o) []
+    at_start None = tt
+    at_start (Some xs) = refl

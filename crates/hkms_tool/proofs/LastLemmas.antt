@@ -1,0 +1,167 @@
+-- The last line, and a replay as a whole.
+use Rattle.std.proofs.Common.{◌≡◌, ◌⊎◌, inl, inr, ℕ, Bool, List, [], ◌∷◌, ◌++◌, length, refl, ap, sym, ◌∙◌, subst, IsTrue, Option, append_assoc}
+use Rattle.std.specs.Io.KnownBytes.{Appends}
+use Rattle.std.proofs.KnownBytes.{Appends-trans, Appends-nil}
+use Rattle.hk_base.specs.Disk.{DiskState, LeavesOnly, RunOn, Tells}
+use Rattle.hk_base.specs.Writing.{WroteFront}
+use Rattle.hk_base.proofs.Runs.{compose, weaker}
+use Rattle.frame_log.specs.declared.fault.StartFault.{StartFault}
+use Rattle.frame_log.specs.declared.fault.StartFault.TheVariants as start
+use Rattle.key_rows.specs.declared.rows.KeyCommand.{KeyCommand}
+use Rattle.key_rows.specs.Table.{Table}
+use Rattle.kms_store.specs.Store.{IsDamagedAt, IsKeyLog, next_opening}
+use Rattle.world_run.specs.World.{RunningWorld, WorldState, first_world}
+use Rattle.world_run.specs.Keeps.{Begins}
+use Rattle.world_run.proofs.StartLemmas.{first-linked, first-open}
+use Rattle.hkms_tool.specs.declared.replay.Ended.{Ended}
+use Rattle.hkms_tool.specs.declared.replay.Ended.TheVariants as ended
+use Rattle.hkms_tool.specs.Run.{FilesOpen, History, Runs, SurvivesIn, lines_in, logged_in, transcript, world_after}
+use Rattle.hkms_tool.specs.Replay.{IsTold, LeavesStarted, OnDisk, Played, ReadsAt, Replay, RestartStops, Says, ended_by, last_line, status_of}
+use Rattle.hkms_tool.specs.Steps.{Closes, Ran}
+use Rattle.hkms_tool.proofs.HistoryLemmas.{IsFirst, tells_now}
+
+-- what is written behind a body
+
+-- all that is written in a replay
+record Wrote (stop how : Ended) (lines : ℕ) (told : List ℕ) (written now : Option (List ℕ)) : Type 0 where
+  text : List ℕ
+  wrote : Appends written now text
+  says : Says stop how lines told text
+
+closed : (stop how : Ended) (lines : ℕ) (told body : List ℕ) (written mid now : Option (List ℕ)) → IsTold stop body told → Appends written mid body → Closes stop lines mid now how → Wrote stop how lines told written now
+closed stop how lines told body written mid now is wrote c = go c.writes
+  where
+    go : ((how ≡ c.last) × Appends mid now (last_line c.last lines)) ⊎ ((how ≡ ended.WriteFault) × WroteFront mid now (last_line c.last lines)) → Wrote stop how lines told written now
+    go (inl (end, more)) = record {
+      text = body ++ last_line c.last lines;
+      wrote = Appends-trans written mid now _ _ wrote more;
+      says = record { body = body; is_told = is; last = c.last; last_is = c.last_is; closes = inl (end, refl) };
+    }
+    go (inr (end, front)) = record {
+      text = body ++ front.front;
+      wrote = Appends-trans written mid now _ _ wrote front.wrote;
+      says = record {
+        body = body;
+        is_told = is;
+        last = c.last;
+        last_is = c.last_is;
+        closes = inr (end, (front.more, append_assoc body front.front front.more ∙ ap (λ (l : List ℕ). body ++ l) front.whole));
+      };
+    }
+
+-- the log could not be opened
+
+pub unopened : (old new : DiskState) (words : ℕ → ℕ) (left written now : Option (List ℕ)) (fault : StartFault) (how : Ended)
+    → ((at : ℕ) → fault ≡ start.Damaged at → Tells old → IsDamagedAt (old.reads 0) at)
+    → (fault ≡ start.Spent → Tells old → (commands : List KeyCommand) × (table : Table) × IsKeyLog (old.reads 0) commands table × (table.opening ≡ 4294967295))
+    → (Tells old → LeavesOnly 0 old new (LeavesStarted old)) → Closes (ended_by fault) 0 written now how → Replay old new words left written now how
+unopened old new words left written now fault how damaged spent moments c =
+    let w = closed (ended_by fault) how 0 [] [] written written now (nothing_told fault) (Appends-nil written) c in
+    inl (record { fault = fault; damaged = damaged; spent = spent; moments = moments; text = w.text; wrote = w.wrote; says = w.says })
+  where
+    nothing_told : (f : StartFault) → IsTold (ended_by f) [] []
+    nothing_told (start.Damaged at) = refl
+    nothing_told start.StoreFault = refl
+    nothing_told start.NoMemory = ([], refl)
+    nothing_told start.Spent = refl
+
+-- lines were played
+
+pub is_first : (w : WorldState) (table : Table) → w ≡ first_world table → IsFirst w
+is_first w table is = subst IsFirst (sym is) (record { linked = first-linked table; files_open = first-open table })
+
+pub played : (old mid new : DiskState) (r : RunningWorld) (words : ℕ → ℕ) (left written told now : Option (List ℕ)) (stop how : Ended) (count : ℕ) → Begins old mid r
+    → (Tells old → LeavesOnly 0 old mid (LeavesStarted old)) → RunOn 0 old mid → Ran mid new r words left written told stop count → Closes stop count told now how → Replay old new words left written now how
+played old mid new r words left written told now stop how count b moments run ran c =
+    inr (record { history = h; stop = stop; played = whole; text = w.text; wrote = w.wrote; says = w.says })
+  where
+    h : History
+    h = ran.history
+
+    first : WorldState
+    first = first_world b.table
+
+    w : Wrote stop how (length (lines_in h)) (transcript h) written now
+    w = subst (λ (n : ℕ). Wrote stop how n (transcript h) written now) ran.counted (closed stop how count (transcript h) ran.text written told now ran.told ran.wrote c)
+
+    same_tells : Tells mid ≡ Tells old
+    same_tells = ap (λ (t : Bool). IsTrue t) run.tells
+
+    disk : Tells old → OnDisk old new words b.table h
+    disk tells =
+        let log = b.log tells in
+        let kept = ran.kept (tells_now old mid run tells) (log.0 ++ next_opening b.table ∷ []) log.2 in
+        record {
+          commands = log.0;
+          found = log.1;
+          moments = (compose {file = 0} {P = λ bytes. LeavesStarted old bytes ⊎ SurvivesIn (log.0 ++ next_opening b.table ∷ []) first words h bytes}
+              (record { run = run; moments = weaker (λ bytes left. inl left) (moments tells) }) (record { run = ran.run; moments = kept.moments })
+              (λ bytes left. inr (subst (λ (v : WorldState). SurvivesIn (log.0 ++ next_opening b.table ∷ []) v words h bytes) b.first left))).moments;
+        }
+
+    whole : Played old new words left stop h
+    whole = record {
+      table = b.table;
+      before = mid.faults;
+      runs = subst (λ (T : Type 0). Runs T first words mid.faults h) same_tells (subst (λ (v : WorldState). Runs (Tells mid) v words mid.faults h) b.first ran.runs);
+      files_open = λ tells. subst (λ (v : WorldState). FilesOpen v words h) b.first (ran.files_open (tells_now old mid run tells));
+      on_disk = disk;
+      reads = λ tells.
+          let log = b.log tells in
+          subst (λ (l : List KeyCommand). ReadsAt stop new l (world_after first h)) (append_assoc log.0 (next_opening b.table ∷ []) (logged_in h))
+          (subst (λ (v : WorldState). ReadsAt stop new ((log.0 ++ next_opening b.table ∷ []) ++ logged_in h) (world_after v h)) b.first
+          (ran.kept (tells_now old mid run tells) (log.0 ++ next_opening b.table ∷ []) log.2).reads);
+      restart = λ tells. subst (λ (v : WorldState). RestartStops stop (world_after v h)) b.first (ran.restart (tells_now old mid run tells));
+      stops = ran.stops;
+    }
+
+-- statuses and their causes
+
+pub is_done : (how : Ended) → status_of how ≡ 0 → how ≡ ended.Done
+is_done ended.Done h = refl
+is_done ended.BadLine h = absurd cc
+is_done (ended.Damaged at) h = absurd cc
+is_done ended.StoreFault h = absurd cc
+is_done ended.NoMemory h = absurd cc
+is_done ended.ReadFault h = absurd cc
+is_done ended.WriteFault h = absurd cc
+is_done ended.Spent h = absurd cc
+
+pub is_store : (how : Ended) → status_of how ≡ 5 → how ≡ ended.StoreFault
+is_store ended.Done h = absurd cc
+is_store ended.BadLine h = absurd cc
+is_store (ended.Damaged at) h = absurd cc
+is_store ended.StoreFault h = refl
+is_store ended.NoMemory h = absurd cc
+is_store ended.ReadFault h = absurd cc
+is_store ended.WriteFault h = absurd cc
+is_store ended.Spent h = absurd cc
+
+pub is_read : (how : Ended) → status_of how ≡ 7 → how ≡ ended.ReadFault
+is_read ended.Done h = absurd cc
+is_read ended.BadLine h = absurd cc
+is_read (ended.Damaged at) h = absurd cc
+is_read ended.StoreFault h = absurd cc
+is_read ended.NoMemory h = absurd cc
+is_read ended.ReadFault h = refl
+is_read ended.WriteFault h = absurd cc
+is_read ended.Spent h = absurd cc
+
+pub is_write : (how : Ended) → status_of how ≡ 8 → how ≡ ended.WriteFault
+is_write ended.Done h = absurd cc
+is_write ended.BadLine h = absurd cc
+is_write (ended.Damaged at) h = absurd cc
+is_write ended.StoreFault h = absurd cc
+is_write ended.NoMemory h = absurd cc
+is_write ended.ReadFault h = absurd cc
+is_write ended.WriteFault h = refl
+is_write ended.Spent h = absurd cc
+
+-- an end that is neither want of memory nor a fault of the output is the one for which the replay stopped
+pub stopped : (stop how : Ended) (lines : ℕ) (written now : Option (List ℕ)) → Closes stop lines written now how → (how ≡ ended.NoMemory → ⊥) → (how ≡ ended.WriteFault → ⊥) → stop ≡ how
+stopped stop how lines written now c no_memory no_write = go c.last_is c.writes
+  where
+    go : (c.last ≡ stop) ⊎ (c.last ≡ ended.NoMemory) → ((how ≡ c.last) × Appends written now (last_line c.last lines)) ⊎ ((how ≡ ended.WriteFault) × WroteFront written now (last_line c.last lines)) → stop ≡ how
+    go o (inr (end, front)) = absurd (no_write end)
+    go (inl is) (inl (end, more)) = sym is ∙ sym end
+    go (inr is) (inl (end, more)) = absurd (no_memory (end ∙ is))

@@ -1,0 +1,58 @@
+-- An event of a line, and the end of a replay.
+use Rattle.std.proofs.Common.{◌≡◌, inl, inr, ℕ, ◌+◌, ◌<◌, List, [], refl, sym, subst, Option, Some}
+use Rattle.std.specs.Io.KnownBytes.{Appends}
+use Rattle.std.proofs.KnownBytes.{Appends-nil}
+use Rattle.hk_base.specs.Disk.{DiskState}
+use Rattle.hk_base.specs.Writing.{WroteFront}
+use Rattle.replay_text.specs.Events.{Spells}
+use Rattle.world_run.specs.declared.event.Event.{Event}
+use Rattle.world_run.specs.declared.event.Line.{Line}
+use Rattle.world_run.specs.World.{RunningWorld, world_of}
+use Rattle.world_run.specs.Keeps.{Steps}
+use Rattle.hkms_tool.specs.declared.replay.Ended.{Ended}
+use Rattle.hkms_tool.specs.declared.stage.Play.{Play}
+use Rattle.hkms_tool.specs.declared.stage.Play.TheVariants.{Played, BadLine, Unread, Untold, Unwritten, Unopened}
+use Rattle.hkms_tool.specs.Replay.{last_line}
+use Rattle.hkms_tool.specs.Run.{most_events}
+use Rattle.hkms_tool.specs.Steps.{Closes, PlaysLine, PlaysSo, TellsSo, WritesLast}
+
+event_played : (old new : DiskState) (r r' : RunningWorld) (words words' : ℕ → ℕ) (events : ℕ) (written now : Option (List ℕ)) (event : Event) (told : Line) (line : List ℕ) → events < most_events
+    → (s : Steps old new r words (events + 1) event told r' words') → Spells line event
+    → PlaysLine old new (record { world = r; words = words; events = events; written = written }) line
+    (Some (record { event = event; reply = told; drawn = s.drawn; logged = s.logged; world = world_of r'; faults = new.faults }))
+    (record { world = r'; words = words'; events = events + 1; written = now })
+event_played old new r r' words words' events written now event told line few s spells = record {
+  runs = record { spells = spells; few = few; later = s.run.faults; step = s.step };
+  world_is = refl;
+  faults_are = refl;
+  rest = s.rest;
+  counted = refl;
+  goes_on = record { stands = s.stands; survives = s.survives; run = s.run };
+}
+
+told_so : (old new : DiskState) (r r' : RunningWorld) (words words' : ℕ → ℕ) (events : ℕ) (written now : Option (List ℕ)) (event : Event) (told : Line) (play : Play) → events < most_events
+    → Steps old new r words (events + 1) event told r' words' → TellsSo (events + 1) told written now play → (line : List ℕ) → Spells line event
+    → PlaysSo old new (record { world = r; words = words; events = events; written = written }) line play (record { world = r'; words = words'; events = events + 1; written = now })
+told_so old new r r' words words' events written now event told Played few s wrote line spells = (_, event_played old new r r' words words' events written now event told line few s spells, wrote)
+told_so old new r r' words words' events written now event told BadLine few s wrote line spells = absurd wrote
+told_so old new r r' words words' events written now event told Unread few s wrote line spells = absurd wrote
+told_so old new r r' words words' events written now event told Untold few s wrote line spells = (_, event_played old new r r' words words' events written now event told line few s spells, wrote)
+told_so old new r r' words words' events written now event told Unwritten few s wrote line spells = (_, event_played old new r r' words words' events written now event told line few s spells, wrote)
+told_so old new r r' words words' events written now event told (Unopened fault) few s wrote line spells = absurd wrote
+
+pub event_plays : (old new : DiskState) (r r' r'' : RunningWorld) (words words' : ℕ → ℕ) (events count : ℕ) (written now : Option (List ℕ)) (event : Event) (told : Line) (play : Play) → events < most_events
+    → Steps old new r words (events + 1) event told r' words' → TellsSo (events + 1) told written now play → r'' ≡ r' → count ≡ events + 1 → (line : List ℕ) → Spells line event
+    → PlaysSo old new (record { world = r; words = words; events = events; written = written }) line play (record { world = r''; words = words'; events = count; written = now })
+event_plays old new r r' r'' words words' events count written now event told play few s wrote same counted line spells =
+    subst (λ (w : RunningWorld). PlaysSo old new (record { world = r; words = words; events = events; written = written }) line play (record { world = w; words = words'; events = count; written = now })) (sym same)
+    (subst (λ (n : ℕ). PlaysSo old new (record { world = r; words = words; events = events; written = written }) line play (record { world = r'; words = words'; events = n; written = now })) (sym counted)
+    (told_so old new r r' words words' events written now event told play few s wrote line spells))
+
+-- the end of a replay
+
+pub closes_with_nothing : (stop last : Ended) (lines : ℕ) (written : Option (List ℕ)) → stop ≡ last → last_line last lines ≡ [] → Closes stop lines written written last
+closes_with_nothing stop last lines written is none = record { last = last; last_is = inl (sym is); writes = inl (refl, subst (Appends written written) (sym none) (Appends-nil written)) }
+
+pub closes_with : (stop last how : Ended) (lines : ℕ) (written now : Option (List ℕ)) (text : List ℕ) → stop ≡ last → text ≡ last_line last lines → WritesLast written now text last how → Closes stop lines written now how
+closes_with stop last how lines written now text is says (inl h) = record { last = last; last_is = inl (sym is); writes = inl (h.0, subst (Appends written now) says h.1) }
+closes_with stop last how lines written now text is says (inr h) = record { last = last; last_is = inl (sym is); writes = inr (h.0, subst (WroteFront written now) says h.1) }
