@@ -69,7 +69,8 @@ for bits in 128 192 256; do
         cut -d ' ' -f 4 "$folder/cases" | paste -d ' ' - "$folder/streams" | xored >>"$folder/wanted"
     done
 done
-"$hkms" replay <"$folder/events" >"$folder/answers" || exit 1
+mkdir "$folder/run" || exit 1
+(cd "$folder/run" && "$hkms" replay) <"$folder/events" >"$folder/answers" || exit 1
 grep -o 'key [0-9a-f]*$' "$folder/answers" | cut -d ' ' -f 2 >"$folder/opened"
 [ "$(wc -l <"$folder/wanted")" -eq 3000 ] || { echo 'tests/cipher.sh: openssl opened too few'; exit 1; }
 if ! cmp -s "$folder/wanted" "$folder/opened"; then

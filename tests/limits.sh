@@ -4,13 +4,16 @@ set -u
 # The last command of a pipe runs here, so that it counts the failures.
 shopt -s lastpipe
 cd "$(dirname "${BASH_SOURCE[0]}")/.." || exit 1
-hkms=./hkms
+hkms=$PWD/hkms
+folder=$(mktemp -d) || exit 1
+trap 'rm -rf "$folder"' EXIT
 failures=0
 
-# expect NAME STATUS LAST: runs the program on standard input, compares its status and last line.
+# expect NAME STATUS LAST: runs the program on standard input, in an empty folder, compares its status and last line.
 expect() {
-    local last status
-    last=$("$hkms" replay | tail -n 1; exit "${PIPESTATUS[0]}")
+    local room last status
+    room=$(mktemp -d -p "$folder") || exit 1
+    last=$(cd "$room" && "$hkms" replay | tail -n 1; exit "${PIPESTATUS[0]}")
     status=$?
     if [ "$status" != "$2" ] || [ "$last" != "$3" ]; then
         printf 'tests/limits.sh: %s: status %s (wanted %s), last line %s (wanted %s)\n' "$1" "$status" "$2" "$last" "$3"

@@ -4,13 +4,20 @@
 set -u
 cd "$(dirname "${BASH_SOURCE[0]}")/.." || exit 1
 command -v openssl >/dev/null || { echo 'tests/openssl.sh: openssl is wanted'; exit 1; }
-hkms=./hkms
+hkms=$PWD/hkms
 material=2b7e151628aed2a6abf7158809cf4f3c
 folder=$(mktemp -d) || exit 1
 trap 'rm -rf "$folder"' EXIT
 
 flipped() {
     tr '0123456789abcdef' 'fedcba9876543210' <<<"$1"
+}
+
+# Runs the program in an empty folder.
+replayed() {
+    local room
+    room=$(mktemp -d -p "$folder") || return
+    (cd "$room" && "$hkms" replay)
 }
 
 opened_by_openssl() {
@@ -21,13 +28,13 @@ opened_by_openssl() {
     printf "$bytes" | openssl enc -aes-128-ctr -nosalt -K "$1" -iv "$(flipped "$2")" | od -An -v -tx1 | tr -d ' \n'
 }
 
-# A thousand generated keys, and their decryption by the same material in another run.
-printf 'kms a create k 128 %s\nkms a generate k 1000\n' "$material" | "$hkms" replay >"$folder/generated" || exit 1
+# A thousand generated keys, and their decryption by the same material in a run that knows nothing of the first.
+printf 'kms a create k 128 %s\nkms a generate k 1000\n' "$material" | replayed >"$folder/generated" || exit 1
 tail -n 1 "$folder/generated" | tr ' ' '\n' | grep '^k@0:' | tr ':' ' ' >"$folder/keys"
 [ "$(wc -l <"$folder/keys")" -eq 1000 ] || { echo 'tests/openssl.sh: a thousand keys are wanted'; exit 1; }
 [ "$(cut -d ' ' -f 2 "$folder/keys" | sort -u | wc -l)" -eq 1000 ] || { echo 'tests/openssl.sh: an initialization vector came twice'; exit 1; }
 
-{ printf 'kms a create k 128 %s\n' "$material"; sed 's/^/kms a decrypt /' "$folder/keys"; } | "$hkms" replay >"$folder/decrypted" || exit 1
+{ printf 'kms a create k 128 %s\n' "$material"; sed 's/^/kms a decrypt /' "$folder/keys"; } | replayed >"$folder/decrypted" || exit 1
 grep -o 'key [0-9a-f]*$' "$folder/decrypted" | cut -d ' ' -f 2 >"$folder/opened"
 [ "$(sort -u "$folder/opened" | wc -l)" -eq 1000 ] || { echo 'tests/openssl.sh: a data encryption key came twice'; exit 1; }
 

@@ -1,8 +1,10 @@
 #!/usr/bin/env bash
-# The program from outside: its examples, its statuses, and faults of its input and output.
+# The program from outside: its examples, its statuses, its logs, and faults of its input, its output and its files.
 set -u
 cd "$(dirname "${BASH_SOURCE[0]}")/.." || exit 1
-hkms=./hkms
+hkms=$PWD/hkms
+folder=$(mktemp -d) || exit 1
+trap 'rm -rf "$folder"' EXIT
 failures=0
 
 # expect NAME STATUS OUTPUT: compares what the last run came to.
@@ -13,9 +15,21 @@ expect() {
     fi
 }
 
-run() {
-    output=$("$hkms" "$@")
+# Makes an empty folder.
+fresh() {
+    room=$(mktemp -d -p "$folder") || exit 1
+}
+
+# Runs the program in this folder, whose keys it goes on with.
+run_here() {
+    output=$(cd "$room" && "$hkms" "$@")
     status=$?
+}
+
+# Runs the program in an empty folder.
+run() {
+    fresh
+    run_here "$@"
 }
 
 run replay <examples/first-key.events
@@ -31,6 +45,14 @@ expect 'the decryption' 0 '1 version k@0 2b7e151628aed2a6abf7158809cf4f3c
 3 version k@1 000102030405060708090a0b0c0d0e0f
 4 key 6bc1bee22e409f96e93d7e117393172a
 5 key e1eaa6798272d26e8cbeb663aa1b1b63'
+
+run replay <examples/restart.events
+expect 'a restart' 0 '1 version k@0 2b7e151628aed2a6abf7158809cf4f3c
+2 version k@1 000102030405060708090a0b0c0d0e0f
+3 opened 2
+4 names k
+5 versions k@0:2b7e151628aed2a6abf7158809cf4f3c k@1:000102030405060708090a0b0c0d0e0f
+6 key 6bc1bee22e409f96e93d7e117393172a'
 
 run replay <examples/namesystem.events
 expect 'the namesystem' 0 '1 dir 0 - -
@@ -98,9 +120,13 @@ expect 'a key encrypted again' 0 '1 version k@0 2b7e151628aed2a6abf7158809cf4f3c
 7 key 6bc1bee22e409f96e93d7e117393172a'
 
 # Material that is drawn differs from run to run: all but its digits is compared.
+mask() {
+    output=$(sed -E 's/[0-9a-f]{32}/H/g' <<<"$output")
+}
+
 run_masked() {
-    output=$("$hkms" replay <"$1" | sed -E 's/[0-9a-f]{32}/H/g'; exit "${PIPESTATUS[0]}")
-    status=$?
+    run replay <"$1"
+    mask
 }
 
 run_masked examples/zone.events
@@ -147,25 +173,253 @@ run_masked examples/bad-line.events
 expect 'a bad line' 3 '1 version k@0 H
 line 4 refused'
 
-run replay </dev/null
-expect 'an empty input' 0 ''
-
 for words in '' 'Replay' 'replay replay' 'pipe' $'replay\xff'; do
     # shellcheck disable=SC2086
     run $words </dev/null
     expect "the words '$words'" 2 'usage refused'
+    output=$(ls "$room") status=0
+    expect "what the words '$words' leave" 0 ''
 done
+
+# ---- keys in the folder
+
+# What the files of the folder hold: their names and sizes, and the digits of the log of the keys.
+files() {
+    output=$(cd "$room" && stat -c '%n %s' -- * && od -An -v -tx1 keys.log | tr -d ' \n')
+    status=$?
+}
+
+run replay </dev/null
+expect 'an empty input' 0 ''
+files
+expect 'the logs of an empty input' 0 'keys.log 19
+names.log 0
+484b4d534b4559310100000005010000000100'
+
+# A run finds the keys of the one before. The namesystem begins anew.
+run replay <<'EOT'
+kms a create k 128 2b7e151628aed2a6abf7158809cf4f3c
+kms a create j 256 -
+kms a create gone 192 -
+kms a roll k 000102030405060708090a0b0c0d0e0f
+kms a delete gone
+nn a mkdir /d
+EOT
+drawn=$(sed -n 's/^2 version j@0 //p' <<<"$output")
+run_here replay <<'EOT'
+kms a names
+kms a versions k
+kms a current j
+kms a metadata k
+kms a decrypt k@0 0f0e0d0c0b0a09080706050403020100 874d6191b620e3261bef6864990db6ce
+kms a current gone
+kms a create k 128 -
+nn a info /d
+restart kms
+EOT
+expect 'the keys of the run before' 0 "1 names j k
+2 versions k@0:2b7e151628aed2a6abf7158809cf4f3c k@1:000102030405060708090a0b0c0d0e0f
+3 version j@0 $drawn
+4 meta k 128 2 1
+5 key 6bc1bee22e409f96e93d7e117393172a
+6 refused K4 NoSuchKey
+7 refused K6 KeyExists
+8 refused N2 NoSuchPath
+9 opened 3"
+
+# A restart leaves the namesystem, and what is asked of it, as they were.
+run replay <<'EOT'
+kms a create k 128 -
+nn a mkdir /z
+ask hdfs zone /z k
+restart kms
+nn a info /z
+draw 1
+restart kms
+finish 1
+ask a create /z/f
+draw 2
+restart kms
+finish 2
+nn a info /z/f
+EOT
+mask
+expect 'asks behind a restart' 0 '1 version k@0 H
+2 done
+3 ask 1 4294967298 metadata k
+4 opened 2
+5 dir 4294967297 - -
+6 reply 1 meta k 128 1 1
+7 opened 3
+8 done
+9 ask 2 4294967299 generate k
+10 reply 2 ready k@0:H:H
+11 opened 4
+12 done
+13 file 4294967299 /z k@0:H:H'
+
+# ---- the bytes of the log
+
+run replay <<'EOT'
+kms a create k 128 2b7e151628aed2a6abf7158809cf4f3c
+kms a roll k 000102030405060708090a0b0c0d0e0f
+EOT
+files
+expect 'the log of two versions' 0 'keys.log 95
+names.log 0
+484b4d534b455931010000000501000000010100000027020000000100000001016b0080000000000000000000012b7e151628aed2a6abf7158809cf4f3c010000001b0300000001000000010001000102030405060708090a0b0c0d0e0f00'
+cp "$room/keys.log" "$folder/two"
+
+# Makes a folder with that log, cut to $1 bytes, with the byte at offset $2 changed to $3 (hexadecimal digits).
+changed_log() {
+    fresh
+    head -c "$1" "$folder/two" >"$room/keys.log"
+    # shellcheck disable=SC2059
+    printf "\\x$3" | dd of="$room/keys.log" bs=1 seek="$2" conv=notrunc status=none
+}
+
+# A file of at most 9 bytes is a log without keys, whatever it holds.
+fresh
+printf 'HKMSKEY1\x01' >"$room/keys.log"
+run_here replay <<<'kms a names'
+expect 'nine bytes' 0 '1 names'
+
+# The gate of the second version is the byte at offset 62.
+one='1 versions k@0:2b7e151628aed2a6abf7158809cf4f3c'
+both="$one k@1:000102030405060708090a0b0c0d0e0f"
+for gate in 95:01 95:00 95:02 80:00 80:ff 63:00; do
+    changed_log "${gate%:*}" 62 "${gate#*:}"
+    wanted=$one
+    [ "$gate" != 95:01 ] || wanted=$both
+    run_here replay <<<'kms a versions k'
+    expect "the length and gate $gate" 0 "$wanted"
+    run_here replay <<<'kms a versions k'
+    expect "the length and gate $gate, opened again" 0 "$wanted"
+done
+
+# A log that is damaged stays as it is.
+while read -r length at byte place; do
+    changed_log "$length" "$at" "$byte"
+    cp "$room/keys.log" "$folder/damaged"
+    run_here replay <<<'kms a names'
+    expect "$length bytes with $byte at $at" 4 "damaged keys $place"
+    cmp -s "$folder/damaged" "$room/keys.log"
+    status=$? output=''
+    expect "what is left of $length bytes with $byte at $at" 0 ''
+done <<'EOT'
+80 62 01 62
+95 22 28 18
+95 23 04 18
+95 17 02 8
+95 12 00 8
+95 7 32 0
+95 0 68 0
+EOT
+
+# ---- faults of the files
+
+# A log that another process holds. The first one is held up by its input, and goes on unharmed.
+fresh
+mkfifo "$folder/events"
+(cd "$room" && exec "$hkms" replay) <"$folder/events" >"$folder/first" &
+first=$!
+exec 3<>"$folder/events"
+echo 'kms a create k 128 2b7e151628aed2a6abf7158809cf4f3c' >&3
+for ((tries = 0; tries < 200; tries++)); do
+    [ ! -s "$folder/first" ] || break
+    sleep 0.05
+done
+run_here replay <<<'kms a delete k' 2>"$folder/errors" 3>&-
+expect 'a log that is held' 5 'store fault'
+grep -q '^hkms: keys.log and names.log cannot be opened here: ' "$folder/errors"
+status=$? output=''
+expect 'the message of a log that is held' 0 ''
+echo 'kms a current k' >&3
+exec 3>&-
+wait "$first"
+status=$? output=$(cat "$folder/first")
+expect 'the process that holds the log' 0 '1 version k@0 2b7e151628aed2a6abf7158809cf4f3c
+2 version k@0 2b7e151628aed2a6abf7158809cf4f3c'
+
+fresh
+mkdir "$room/keys.log"
+run_here replay <examples/first-key.events 2>"$folder/errors"
+expect 'a folder in the place of the log' 5 'store fault'
+
+# Root may write everywhere but into what is mounted so that nobody may.
+fresh
+chmod a-w "$room"
+if [ ! -w "$room" ]; then
+    run_here replay <examples/first-key.events 2>"$folder/errors"
+    expect 'a folder that is only read' 5 'store fault'
+elif unshare -m true 2>/dev/null; then
+    # shellcheck disable=SC2016
+    output=$(unshare -m bash -c 'mount --bind "$1" "$1" && mount -o remount,bind,ro "$1" && cd "$1" && exec "$2" replay' \
+        - "$room" "$hkms" <examples/first-key.events 2>"$folder/errors")
+    status=$?
+    expect 'a folder that is only read' 5 'store fault'
+else
+    echo 'tests/replay.sh: left out, since no mount can be made: a folder that is only read'
+fi
+
+# Runs the program where no file may grow beyond $1 KiB, as on a full disk.
+run_small() {
+    output=$(cd "$room" && trap '' XFSZ && ulimit -f "$1" && "$hkms" replay)
+    status=$?
+}
+
+fresh
+run_small 0 <examples/first-key.events
+expect 'no room for a log' 5 'store fault'
+
+# An opening takes 10 bytes of the log, and the restart that finds no room for its own is the last event.
+fresh
+yes 'restart kms' | head -n 200 >"$folder/restarts"
+run_small 1 <"$folder/restarts"
+output=$(tail -n 2 <<<"$output")
+expect 'restarts until the log is full' 5 '100 opened 101
+store fault'
+run_here replay <<<'restart kms'
+expect 'a restart behind them' 0 '1 opened 103'
+
+# What does not fit is refused, and all that was answered is there, now and in the next run.
+fresh
+for ((i = 10; i < 50; i++)); do
+    echo "kms a create k$i 128 -"
+done >"$folder/creates"
+echo 'kms a names' >>"$folder/creates"
+run_small 1 <"$folder/creates"
+made=$(sed -n 's/^[0-9]* version \(k[0-9]*\)@0 .*/\1/p' <<<"$output" | tr '\n' ' ')
+output=$(tail -n 2 <<<"$output")
+expect 'a log that is full' 0 "40 refused K14 StoreFault
+41 names ${made% }"
+[[ $made == k10\ * ]]
+status=$? output=''
+expect 'keys before the log is full' 0 ''
+run_here replay <<'EOT'
+kms a names
+kms a create after 128 2b7e151628aed2a6abf7158809cf4f3c
+EOT
+expect 'a log that was full' 0 "1 names ${made% }
+2 version after@0 2b7e151628aed2a6abf7158809cf4f3c"
+
+# ---- faults of the input and the output
 
 run replay </
 expect 'an input that cannot be read' 7 'read fault'
 
-"$hkms" replay <examples/first-key.events >/dev/full
+fresh
+(cd "$room" && "$hkms" replay) <examples/first-key.events >/dev/full
 status=$? output=''
 expect 'a full output' 8 ''
+run_here replay <<<'kms a names'
+expect 'keys whose answers could not be written' 0 '1 names k'
 
 # Without a random source the program does not start. This needs a mount of its own, as root has.
 if unshare -m true 2>/dev/null; then
-    output=$(unshare -m bash -c "mount --bind /dev/null /dev/urandom && exec $hkms replay" <examples/first-key.events)
+    fresh
+    # shellcheck disable=SC2016
+    output=$(unshare -m bash -c 'mount --bind /dev/null /dev/urandom && cd "$1" && exec "$2" replay' - "$room" "$hkms" <examples/first-key.events)
     status=$?
     expect 'no random source' 7 'no random source'
 else
