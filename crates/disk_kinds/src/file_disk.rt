@@ -9,7 +9,7 @@ use hk_base::{Disk, Failed, LONGEST_FILE};
 use std::alloc::Global;
 use std::fs::{File, OpenOptions, TryLockError};
 use std::io::{self, ErrorKind};
-use std::os::unix::fs::FileExt;
+use std::os::unix::fs::{FileExt, OpenOptionsExt};
 use std::rt::Files;
 
 /// How often a call that a signal interrupted is tried.
@@ -37,7 +37,8 @@ pub struct FileDisk {
     pub faults: u64,
 }
 
-/// Opens a file to be read and written, makes it where it is missing, and locks it without waiting.
+/// Opens a file to be read and written, and locks it without waiting. Where it is missing it is made,
+/// for its owner alone to read and write: the logs hold keys in the clear.
 fn open_log<R: Files<File = File>>(
     files: &R,
     alloc: Global,
@@ -49,6 +50,7 @@ fn open_log<R: Files<File = File>>(
         .read(true)
         .write(true)
         .create(true)
+        .mode(0o600)
         .open(files, path.as_str())?;
     match file.try_lock() {
         Ok(()) => Ok(file),
