@@ -18,9 +18,9 @@ use Rattle.key_rows.proofs.Births.{both, other_number}
 use Rattle.key_rows.proofs.TableLemmas.{sound_create, sound_roll, sound_delete}
 use Rattle.kms_store.specs.Store.{settled_table}
 use Rattle.kms_core.specs.State.{IsPending, IsService, KmsState, ServiceState, next_birth, settled}
-use Rattle.kms_core.specs.Service.{ServesBy, is_change}
+use Rattle.kms_core.specs.Service.{Serves, ServesBy, is_change}
 use Rattle.kms_core.specs.Calls.{KmsActs, Plain, NoRoom, Ending, birth_of, causes, deed, deleted, done_with, first_cause, outcome, row_of, unless_refused, versions_of}
-use Rattle.kms_core.specs.Laws.{DeletedIsGone, Gone, GoneStays, GoneStaysAtStart}
+use Rattle.kms_core.specs.Laws.{Gone, GoneStaysAtStart}
 
 -- what is not found stays so
 
@@ -162,7 +162,8 @@ deed_keeps s words now (call.Decrypt name sent) = refl
 deed_keeps s words now (call.Reencrypt name sent) = refl
 deed_keeps s words now (call.Batch name sent) = refl
 
-pub gone_stays : GoneStays
+pub gone_stays : (s : ServiceState) (words : ℕ → ℕ) (now : ℕ) (c : KmsCall) (before later : ℕ) (told : KmsReply) (drawn : ℕ) (logged : List KeyCommand) (s' : ServiceState)
+    → IsService s → Serves s words now c (Rose before later) told drawn logged s' → (birth : ℕ) → Gone s.keys.table birth → Gone s'.keys.table birth
 gone_stays s words now c before later told drawn logged s' is serves birth gone = go (is_change c) serves
   where
     base_gone : (kept : Bool) → Gone (settled kept s).table birth
@@ -240,7 +241,9 @@ deleted_in s words now name drawn s' rising acts =
     let used : birth ≤ s.table.greatest = birth_below (row_of s name) s.table.greatest done.stands (born 0 (is_named name) s.table.rows s.table.greatest rising) in
     subst (λ (t : KmsState). Gone t.table birth) (sym done.state) (record { used = used; absent = none_left birth s.table.rows })
 
-pub deleted_is_gone : DeletedIsGone
+pub deleted_is_gone : (s : ServiceState) (words : ℕ → ℕ) (now : ℕ) (name : List ℕ) (before later : ℕ) (drawn : ℕ) (logged : List KeyCommand) (s' : ServiceState)
+    → IsService s → Serves s words now (call.Delete name) (Rose before later) reply.Done drawn logged s'
+    → (kept : Bool) × Gone s'.keys.table (birth_of (row_of (settled kept s) name))
 deleted_is_gone s words now name before later drawn logged s' is serves = go serves
   where
     go : ServesBy true s words now (call.Delete name) (Rose before later) reply.Done drawn logged s' → (kept : Bool) × Gone s'.keys.table (birth_of (row_of (settled kept s) name))

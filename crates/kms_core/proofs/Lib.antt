@@ -8,3 +8,4 @@ pub mod ResealLemmas
 pub mod SentLemmas
 pub mod ServiceLemmas
 pub mod StepLemmas
+pub mod UserLemmas

@@ -5,6 +5,8 @@ use Rattle.hk_base.specs.declared.names.Dek.{Dek}
 use Rattle.hk_base.specs.declared.names.Edek.{Edek}
 use Rattle.hk_base.specs.declared.names.KeyName.{KeyName}
 use Rattle.hk_base.specs.declared.names.VersionName.{VersionName}
+use Rattle.hk_base.specs.declared.texts.Text.{Text}
+use Rattle.prop_text.specs.declared.lines.PropLine.{PropLine}
 use Rattle.key_rows.specs.declared.calls.KmsCall.{KmsCall}
 use Rattle.key_rows.specs.declared.calls.KmsCall.TheVariants as call
 use Rattle.key_rows.specs.declared.calls.KmsReply.{KmsReply}
@@ -16,7 +18,7 @@ use Rattle.kms_core.specs.Draws.{drawn_dek, drawn_edek, place_of_draw, words_of_
 use Rattle.kms_core.specs.Opening.{unseals}
 use Rattle.key_rows.specs.declared.rows.KeyCommand.{KeyCommand}
 use Rattle.kms_core.specs.State.{IsService, KmsState, ServiceState, opened, settled}
-use Rattle.kms_core.specs.Service.{Serves}
+use Rattle.kms_core.specs.Users.{ServesUser}
 use Rattle.kms_core.specs.Calls.{CallActs, birth_of, current_version, first_cause, sent_causes, row_of, edek_of, current_material}
 
 -- what is sent without a cause of a refusal is always opened, and nothing else is answered
@@ -80,11 +82,12 @@ pub record Gone (t : Table) (birth : ℕ) : Type 0 where
   pub used : birth ≤ t.greatest
   pub absent : is_none (find_birth t.rows birth) ≡ true
 
--- no call gives such a birth to a key
+-- no call of a user gives such a birth to a key
 abbrev pub GoneStays : Type 0
 GoneStays =
-    (s : ServiceState) (words : ℕ → ℕ) (now : ℕ) (c : KmsCall) (before later : ℕ) (told : KmsReply) (drawn : ℕ) (logged : List KeyCommand) (s' : ServiceState)
-    → IsService s → Serves s words now c (Rose before later) told drawn logged s' → (birth : ℕ) → Gone s.keys.table birth → Gone s'.keys.table birth
+    (lines : List PropLine) (user : Text) (s : ServiceState) (words : ℕ → ℕ) (now : ℕ) (c : KmsCall) (before later : ℕ) (told : KmsReply) (drawn : ℕ) (logged : List KeyCommand)
+    (s' : ServiceState)
+    → IsService s → ServesUser lines user s words now c (Rose before later) told drawn logged s' → (birth : ℕ) → Gone s.keys.table birth → Gone s'.keys.table birth
 
 -- nor does a start, whether it finds the pending command or not
 abbrev pub GoneStaysAtStart : Type 0
@@ -94,8 +97,8 @@ GoneStaysAtStart =
 -- the birth of a deleted key is such a one
 abbrev pub DeletedIsGone : Type 0
 DeletedIsGone =
-    (s : ServiceState) (words : ℕ → ℕ) (now : ℕ) (name : KeyName) (before later : ℕ) (drawn : ℕ) (logged : List KeyCommand) (s' : ServiceState)
-    → IsService s → Serves s words now (call.Delete name) (Rose before later) reply.Done drawn logged s'
+    (lines : List PropLine) (user : Text) (s : ServiceState) (words : ℕ → ℕ) (now : ℕ) (name : KeyName) (before later : ℕ) (drawn : ℕ) (logged : List KeyCommand) (s' : ServiceState)
+    → IsService s → ServesUser lines user s words now (call.Delete name) (Rose before later) reply.Done drawn logged s'
     → (kept : Bool) × Gone s'.keys.table (birth_of (row_of (settled kept s) name))
 
 -- these many words from the place on are the same in both streams

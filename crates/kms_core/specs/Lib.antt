@@ -4,5 +4,6 @@ pub mod Opening
 pub mod Order
 pub mod Calls
 pub mod Service
+pub mod Users
 pub mod Laws
 pub mod Steps

@@ -1,4 +1,4 @@
-//! The service and its calls.
+//! The calls of the service, once they are permitted.
 ghost use Rattle.std.specs.Prelude.{◌≡◌, ◌*◌, ◌/◌, ◌≤◌, ◌<◌, ◌^◌, ◌+◌, ◌⊎◌, ℕ, List, true, false, IfOk, IfSome, IsErrOf, IsTrue, MatchBool, MatchOption, MatchResult, None, Some, find, is_none, is_some, length, map};
 ghost use Rattle.std.specs.List.{list_any};
 ghost use Rattle.std.specs.Option.{option_copied};
@@ -19,7 +19,7 @@ use crate::drawing::{CurrentVersion, draw_edeks, material_for};
 use crate::sent::{MOST_ASKED, newest, open, reseal, reseal_all};
 use crate::told::{meta, versions};
 use frame_log::{StartFault, StoreRefusal};
-use hk_base::{ByteList, Dek, Disk, KeyName, NoMemory, Text, VersionName, Words};
+use hk_base::{ByteList, Dek, Disk, KeyName, NoMemory, VersionName, Words};
 use key_rows::{
     Description, KeyCommand, KeyMeta, KeyRow, KmsCall, KmsRefusal, KmsReply, MetaList, NameList,
     RawEdek, RawEdekList,
@@ -45,19 +45,15 @@ struct Standing {
     versions: u16,
 }
 
-/// The key management service in an opening, over the key log on file 0 of a disk. Contracts see its
-/// store and the counter of the next birth; what a call means is said of its keys and its pending
-/// command.
-///
-/// Each call that takes a disk is to be given the disk that the service was started on.
+/// The service in an opening, without its access control lists: each call is taken as permitted.
 #[derive(Drop)]
-pub struct Kms {
+pub struct Service {
     alloc: Global,
     store: Store,
     next: u64,
 }
 
-impl Model for Kms {
+impl Model for Service {
     ghost use Rattle.std.specs.Prelude.{◌≡◌, ◌+◌, ◌*◌, ◌^◌, ◌<◌, ◌≤◌, IfSome};
     ghost use Rattle.key_rows.specs.Table.{after};
     ghost use Rattle.kms_core.specs.State.{Running};
@@ -84,29 +80,20 @@ fn is_misfit(bits: u64, material: &Option<ByteList>) -> bool
     }
 }
 
-impl Kms {
-    /// Opens the key log on file 0 of a disk, makes the table of its commands, and records a new
-    /// opening behind them. It may be stopped at any moment, and started again.
-    ///
-    /// `Damaged` comes exactly where the file is no log, or a record is no command or doesn't apply,
-    /// with the offset of its gate. `Spent` comes exactly where opening 4,294,967,295 is recorded.
-    pub fn start<D: Disk>(alloc: Global, disk: &mut D) -> Result<Kms, StartFault>
+impl Service {
+    pub fn start<D: Disk>(alloc: Global, disk: &mut D) -> Result<Service, StartFault>
         ensures started { IfOk result (Starts (D.state disk.old) (D.state disk.new)) }
         ensures damaged { (at : ℕ) → IsErrOf result (start.Damaged at) → Tells (D.state disk.old) → IsDamagedAt ((D.state disk.old).reads 0) at }
         ensures spent { IsErrOf result start.Spent → Tells (D.state disk.old) → ((commands : List KeyCommand) × (table : Table)
             × IsKeyLog ((D.state disk.old).reads 0) commands table × (table.opening ≡ 4294967295)) }
-
-        // A crash at any moment leaves what it might have left before, or the log found, now or with its end
-        // gate read as 1, or its commands with the new opening or without it.
         ensures any_moment { Tells (D.state disk.old) → LeavesOnly 0 (D.state disk.old) (D.state disk.new)
             (λ c. (D.state disk.old).leaves 0 c ⊎ IsLeftByStart ((D.state disk.old).reads 0) c) }
-
         ensures run { RunOn 0 (D.state disk.old) (D.state disk.new) }
         ensures cause { IsErrOf result start.StoreFault → Rose (D.state disk.old).faults (D.state disk.new).faults }
     {
         let store = Store::start(alloc, disk)?;
         let _ = store.opening();
-        Ok(Kms {
+        Ok(Service {
             alloc,
             store,
             next: 1,
@@ -133,19 +120,12 @@ impl Kms {
         self.store.opening()
     }
 
-    /// Answers a call of a user. `now` is the moment, which a created key keeps. A refusal leaves
-    /// the keys as they were, and draws no word unless memory is wanting or the disk fails.
-    ///
-    /// Create, Roll and Delete are written to the log before they take effect. They settle the
-    /// pending command first. Where the disk fails, StoreFault is answered: the command of the call is
-    /// then pending, or still the one before. Invalidate, Current, Version, Decrypt and Reencrypt take
-    /// no memory.
+    /// Answers a call.
     pub fn act<D: Disk, W: Words>(
         &mut self,
         disk: &mut D,
         words: &mut W,
         now: u64,
-        _user: &Text,
         call: KmsCall,
     ) -> KmsReply
         requires stands { Tells (D.state disk.old) → ((commands : List KeyCommand) × StandsFor (D.state disk.old) self.old.store commands) }

@@ -2,11 +2,14 @@
 //! 800-38A, appendix F.5: the initialization vector is the first counter there with all bits
 //! flipped, and the data encryption key is what the standard encrypts.
 mod untold;
+mod verdicts;
 
 use super::*;
 use disk_kinds::ListWords;
 use hk_base::{ByteList, Dek, Edek, KeyName, Text, VersionName};
 use key_rows::{Description, KmsCall, KmsRefusal, KmsReply, NameList, RawEdek, RawEdekList};
+use kms_acls::Acls;
+use prop_text::read_props;
 use std::alloc::Global;
 use std::process::Abort;
 use untold::Untold;
@@ -26,6 +29,13 @@ const MATERIAL: &[u8] = b"\x2b\x7e\x15\x16\x28\xae\xd2\xa6\xab\xf7\x15\x88\x09\x
 
 const SEALED: &[u8] = b"\x87\x4d\x61\x91\xb6\x20\xe3\x26\x1b\xef\x68\x64\x99\x0d\xb6\xce";
 
+/// Each operation on each key is for everybody.
+const FOR_EVERYBODY: &str = "default.key.acl.MANAGEMENT=*
+default.key.acl.GENERATE_EEK=*
+default.key.acl.DECRYPT_EEK=*
+default.key.acl.READ=*
+";
+
 /// A service on its disk, with the words to come.
 #[derive(Drop)]
 struct Desk {
@@ -43,12 +53,20 @@ impl Desk {
 
     /// One whose disk fails at these calls. The start makes 8 of them, each change 4, and settling 2.
     fn failing(rt: &impl Abort, alloc: Global, calls: &[u64]) -> Desk {
+        Desk::under(rt, alloc, "", calls)
+    }
+
+    /// The same with these lines besides those that allow everybody each operation on a key.
+    fn under(rt: &impl Abort, alloc: Global, lines: &str, calls: &[u64]) -> Desk {
+        let text = format!(in alloc; "{FOR_EVERYBODY}{lines}").expect(rt, "memory");
+        let props = read_props(alloc, text.as_bytes()).expect(rt, "properties");
+        let acls = Acls::from_props(alloc, &props).expect(rt, "memory");
         let words = Vec::from_slice(alloc, &WORDS).expect(rt, "memory");
         let calls = calls.to_vec(alloc).expect(rt, "memory");
         let mut disk = Untold::new(alloc, calls);
         Desk {
             alloc,
-            kms: Kms::start(alloc, &mut disk).expect(rt, "a start"),
+            kms: Kms::start(alloc, &mut disk, acls).expect(rt, "a start"),
             disk,
             words: ListWords::new(words),
             user: Text::of(String::new(alloc)),
@@ -57,7 +75,13 @@ impl Desk {
 
     /// Starts the service again on the same disk.
     fn restart(&mut self, rt: &impl Abort) {
-        self.kms = Kms::start(self.alloc, &mut self.disk).expect(rt, "a start");
+        let restarted = self.kms.restart(self.alloc, &mut self.disk);
+        restarted.expect(rt, "a start");
+    }
+
+    /// Goes on as another user.
+    fn enter(&mut self, rt: &impl Abort, user: &str) {
+        self.user = Text::of(String::from_str(self.alloc, user).expect(rt, "memory"));
     }
 
     fn ask(&mut self, call: KmsCall) -> KmsReply {

@@ -1,11 +1,12 @@
-use Rattle.kms_core.proofs.BirthLemmas.{gone_stays, gone_stays_at_start, deleted_is_gone}
+use Rattle.kms_core.proofs.BirthLemmas.{gone_stays_at_start}
+use Rattle.kms_core.proofs.UserLemmas.{deleted_for_user, gone_for_user}
 use Rattle.kms_core.proofs.laws.births_never_come_again.Goals as goal
 
 pub returns-clause-stays : goal.returns-clause-stays
-returns-clause-stays c = gone_stays
+returns-clause-stays c = gone_for_user
 
 pub returns-clause-at_start : goal.returns-clause-at_start
 returns-clause-at_start c = gone_stays_at_start
 
 pub returns-clause-deleted : goal.returns-clause-deleted
-returns-clause-deleted c = deleted_is_gone
+returns-clause-deleted c = deleted_for_user

@@ -1,0 +1,76 @@
+-- The calls of users: denied, or permitted and served.
+use Rattle.std.proofs.Common.{◌≡◌, ℕ, List, [], Bool, true, false, cond, refl, ap, sym, subst, arith}
+use Rattle.std.specs.Prelude.{Result, Ok, Err}
+use Rattle.hk_base.specs.Disk.{DiskState}
+use Rattle.hk_base.specs.Faults.{Rose}
+use Rattle.key_rows.specs.declared.calls.KmsCall.{KmsCall}
+use Rattle.key_rows.specs.declared.calls.KmsCall.TheVariants as call
+use Rattle.key_rows.specs.declared.calls.KmsReply.{KmsReply}
+use Rattle.key_rows.specs.declared.calls.KmsReply.TheVariants as reply
+use Rattle.key_rows.specs.declared.calls.KmsRefusal.TheVariants as refusal
+use Rattle.prop_text.specs.declared.lines.PropLine.{PropLine}
+use Rattle.kms_acls.specs.declared.answers.Shown.{Shown}
+use Rattle.kms_acls.specs.declared.answers.Denied.{Denied}
+use Rattle.kms_acls.specs.Verdict.{verdict}
+use Rattle.kms_store.specs.Store.{IsLeftOf}
+use Rattle.kms_core.specs.State.{ServiceState, service_of, settled}
+use Rattle.kms_core.specs.Service.{Acts, Serves}
+use Rattle.kms_core.specs.Users.{ActsFor, RunningKms, ServesUnder, hides, running, told_to, without_material}
+use Rattle.kms_core.specs.Calls.{birth_of, row_of}
+use Rattle.kms_core.specs.Laws.{DeletedIsGone, Gone, GoneStays}
+use Rattle.kms_core.proofs.ServiceLemmas.{unchanged}
+use Rattle.kms_core.proofs.BirthLemmas.{deleted_is_gone, gone_stays}
+
+-- a call that is denied
+pub is_denied : (d : DiskState) (k : RunningKms) (lines : List PropLine) (user : List ℕ) (words : ℕ → ℕ) (now : ℕ) (c : KmsCall) (denied : Denied) (told : KmsReply)
+    → verdict lines user c ≡ Err denied → told ≡ reply.Refused (refusal.Denied denied.table denied.op) → ActsFor lines user d d k words now c told k words
+is_denied d k lines user words now c denied told is told_is = record {
+  drawn = 0;
+  logged = [];
+  serves = subst (λ (v : Result Shown Denied). ServesUnder v (service_of (running k)) words now c (Rose d.faults d.faults) told 0 [] (service_of (running k))) (sym is)
+      (record { told_is = told_is; none_drawn = refl; none_logged = refl; same = refl });
+  rest = λ n. ap words (omega arith);
+  disk = unchanged d k.store (IsLeftOf k.store.table.keys k.store.pending);
+  lists = refl;
+}
+
+-- what is hidden is left out of an answer, and nothing else is
+
+pub told_hidden : (shown : Shown) (c : KmsCall) (told : KmsReply) → hides shown c ≡ true → without_material told ≡ told_to shown c told
+told_hidden shown c told h = ap (λ b. cond b (without_material told) told) (sym h)
+
+pub told_shown : (shown : Shown) (c : KmsCall) (told : KmsReply) → hides shown c ≡ false → told ≡ told_to shown c told
+told_shown shown c told h = ap (λ b. cond b (without_material told) told) (sym h)
+
+-- a call that is permitted
+pub is_permitted : (old new : DiskState) (k k' : RunningKms) (lines : List PropLine) (user : List ℕ) (words : ℕ → ℕ) (now : ℕ) (c : KmsCall) (shown : Shown) (served told : KmsReply) (words' : ℕ → ℕ)
+    → verdict lines user c ≡ Ok shown → told ≡ told_to shown c served → k'.acls ≡ k.acls → Acts old new (running k) words now c served (running k') words'
+    → ActsFor lines user old new k words now c told k' words'
+is_permitted old new k k' lines user words now c shown served told words' is told_is lists a = record {
+  drawn = a.drawn;
+  logged = a.logged;
+  serves = subst (λ (v : Result Shown Denied). ServesUnder v (service_of (running k)) words now c (Rose old.faults new.faults) told a.drawn a.logged (service_of (running k'))) (sym is)
+      (record { reply = served; serves = a.serves; told_is = told_is });
+  rest = a.rest;
+  disk = a.disk;
+  lists = lists;
+}
+
+-- births that are gone
+
+pub gone_for_user : GoneStays
+gone_for_user lines user s words now c before later told drawn logged s' is serves birth gone = by_verdict (verdict lines user c) serves
+  where
+    by_verdict : (v : Result Shown Denied) → ServesUnder v s words now c (Rose before later) told drawn logged s' → Gone s'.keys.table birth
+    by_verdict (Ok shown) p = gone_stays s words now c before later p.reply drawn logged s' is p.serves birth gone
+    by_verdict (Err denied) p = subst (λ (t : ServiceState). Gone t.keys.table birth) (sym p.same) gone
+
+pub deleted_for_user : DeletedIsGone
+deleted_for_user lines user s words now name before later drawn logged s' is serves = by_verdict (verdict lines user (call.Delete name)) serves
+  where
+    by_verdict : (v : Result Shown Denied) → ServesUnder v s words now (call.Delete name) (Rose before later) reply.Done drawn logged s'
+        → (kept : Bool) × Gone s'.keys.table (birth_of (row_of (settled kept s) name))
+    by_verdict (Ok shown) p =
+        deleted_is_gone s words now name before later drawn logged s' is
+        (subst (λ (r : KmsReply). Serves s words now (call.Delete name) (Rose before later) r drawn logged s') (sym p.told_is) p.serves)
+    by_verdict (Err denied) p = let no : reply.Done ≡ reply.Refused (refusal.Denied denied.table denied.op) = p.told_is in absurd cc

@@ -1,0 +1,29 @@
+use Rattle.std.proofs.Common.{rules, ◌≡◌, true, Err, refl, ap, ◌∙◌, subst}
+use Rattle.key_rows.specs.declared.rows.KeyCommand.{KeyCommand}
+use Rattle.key_rows.specs.declared.rows.KeyCommand.TheVariants.{Delete}
+use Rattle.key_rows.specs.Table.{applies}
+use Rattle.kms_core.specs.State.{Running, keys_of}
+use Rattle.kms_core.specs.Calls.{deleted}
+use Rattle.kms_core.specs.Steps.{Commits}
+use Rattle.kms_core.proofs.ServiceLemmas.{Committed, IsDeedOf, commit_done, commit_failed, commit_wanting}
+use Rattle.kms_core.proofs.service.Service.remove.Goals.{in-Err-NoMemory, in-Err-StoreFault, in-Ok}
+use Rattle.kms_core.proofs.service.Service.remove.Goals as goal
+
+pub returns : goal.returns
+returns g c =
+    let D0 = g.D.Disk.state c.args.disk.now in
+    let D1 = g.D.Disk.state c.commit.new.disk in
+    let r : Running = record { store = c.self.inside.store; next = c.self.inside.next } in
+    let t : Running = record { store = c.commit.new.self; next = c.self.inside.next } in
+    let command : KeyCommand = Delete c.args.birth in
+    let of_deed : IsDeedOf r (deleted (keys_of r) c.args.birth) command = record { logs = refl; same_table = refl } in
+    let may : applies c.self.inside.store.table.keys command ≡ true = search rules in
+    let k : Committed D0 D1 c.self.inside.store command = record { may = may; moments = c.commit.ensures.any_moment; run = c.commit.ensures.run } in
+    subst (λ (x : Running). Commits D0 D1 x (deleted (keys_of x) c.args.birth) c.match-commit.result t) c.self.view_is
+    (elim c.match-commit.branch [
+      | in-Err-NoMemory w ↦ commit_wanting D0 D1 r t _ command _ refl w.result-is (c.commit.ensures.memory (w.in-Err-NoMemory.is ∙ ap Err w.in-Err-NoMemory.field-0-is)).0 (c.commit.ensures.memory (w.in-Err-NoMemory.is ∙ ap Err w.in-Err-NoMemory.field-0-is)).2 k w.in-Err-NoMemory.ensures.refused
+      | in-Err-StoreFault w ↦
+          commit_failed D0 D1 r t _ command _ of_deed refl w.result-is (c.commit.ensures.pending (w.in-Err-StoreFault.is ∙ ap Err w.in-Err-StoreFault.field-0-is)).0 (c.commit.ensures.pending (w.in-Err-StoreFault.is ∙ ap Err w.in-Err-StoreFault.field-0-is)).1
+          (c.commit.ensures.cause (w.in-Err-StoreFault.is ∙ ap Err w.in-Err-StoreFault.field-0-is)) k w.in-Err-StoreFault.ensures.refused
+      | in-Ok w ↦ commit_done D0 D1 r t _ command _ of_deed refl w.result-is w.in-Ok.ensures.table.0 w.in-Ok.ensures.table.1 k w.in-Ok.ensures.committed
+    ])

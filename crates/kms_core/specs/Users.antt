@@ -1,0 +1,74 @@
+-- The calls of users: the verdict of the access control lists comes first.
+use Rattle.std.specs.Prelude.{◌≡◌, ℕ, ◌+◌, Bool, false, not, List, [], None, Result, Ok, Err, if◌then◌else◌}
+use Rattle.hk_base.specs.Disk.{DiskState}
+use Rattle.hk_base.specs.Faults.{Rose}
+use Rattle.hk_base.specs.declared.texts.Text.{Text}
+use Rattle.key_rows.specs.declared.rows.KeyCommand.{KeyCommand}
+use Rattle.key_rows.specs.declared.calls.KmsCall.{KmsCall}
+use Rattle.key_rows.specs.declared.calls.KmsCall.TheVariants as call
+use Rattle.key_rows.specs.declared.calls.KmsReply.{KmsReply}
+use Rattle.key_rows.specs.declared.calls.KmsReply.TheVariants as reply
+use Rattle.key_rows.specs.declared.calls.KmsRefusal.TheVariants as refusal
+use Rattle.prop_text.specs.declared.lines.PropLine.{PropLine}
+use Rattle.kms_acls.specs.declared.answers.Shown.{Shown}
+use Rattle.kms_acls.specs.declared.answers.Denied.{Denied}
+use Rattle.kms_acls.specs.Lists.{Lists}
+use Rattle.kms_acls.specs.Verdict.{verdict}
+use Rattle.kms_store.specs.Store.{IsLeftOf, StoreState}
+use Rattle.kms_core.specs.State.{Running, ServiceState, service_of}
+use Rattle.kms_core.specs.Service.{Logs, Serves}
+
+-- A service that runs for its users: the access control lists, the store, and the counter of the next birth.
+pub record RunningKms : Type 0 where
+  pub acls : Lists
+  pub store : StoreState
+  pub next : ℕ
+
+-- the service beside its lists
+abbrev pub running : RunningKms → Running
+running k = record { store = k.store; next = k.next }
+
+-- Create and Roll answer the material of the new version only where it is shown to the user. Every other call shows what it
+-- answers.
+abbrev pub hides : Shown → KmsCall → Bool
+hides shown (call.Create name bits material description) = not shown.material
+hides shown (call.Roll name material) = not shown.material
+hides shown _ = false
+
+abbrev pub without_material : KmsReply → KmsReply
+without_material (reply.Version version material) = reply.Version version None
+without_material told = told
+
+-- what the user is told of a reply
+abbrev pub told_to : Shown → KmsCall → KmsReply → KmsReply
+told_to shown c told = if hides shown c then without_material told else told
+
+-- A call that is denied does nothing.
+pub record Denies (denied : Denied) (s : ServiceState) (told : KmsReply) (drawn : ℕ) (logged : List KeyCommand) (s' : ServiceState) : Type 0 where
+  pub told_is : told ≡ reply.Refused (refusal.Denied denied.table denied.op)
+  pub none_drawn : drawn ≡ 0
+  pub none_logged : logged ≡ []
+  pub same : s' ≡ s
+
+-- A call that is permitted is served.
+pub record Permits (shown : Shown) (s : ServiceState) (words : ℕ → ℕ) (now : ℕ) (c : KmsCall) (fault : Type 0) (told : KmsReply) (drawn : ℕ) (logged : List KeyCommand) (s' : ServiceState) : Type 0 where
+  pub reply : KmsReply
+  pub serves : Serves s words now c fault reply drawn logged s'
+  pub told_is : told ≡ told_to shown c reply
+
+abbrev pub ServesUnder : Result Shown Denied → ServiceState → (ℕ → ℕ) → ℕ → KmsCall → Type 0 → KmsReply → ℕ → List KeyCommand → ServiceState → Type 0
+ServesUnder (Ok shown) s words now c fault told drawn logged s' = Permits shown s words now c fault told drawn logged s'
+ServesUnder (Err denied) s words now c fault told drawn logged s' = Denies denied s told drawn logged s'
+
+-- A call of a user comes out so under the properties of these lines: the verdict is asked first, before anything is settled.
+abbrev pub ServesUser : List PropLine → Text → ServiceState → (ℕ → ℕ) → ℕ → KmsCall → Type 0 → KmsReply → ℕ → List KeyCommand → ServiceState → Type 0
+ServesUser lines user s words now c fault told drawn logged s' = ServesUnder (verdict lines user c) s words now c fault told drawn logged s'
+
+-- A call of a user on a running service over its disk. The lists stay as they are.
+pub record ActsFor (lines : List PropLine) (user : Text) (old new : DiskState) (k : RunningKms) (words : ℕ → ℕ) (now : ℕ) (c : KmsCall) (told : KmsReply) (k' : RunningKms) (words' : ℕ → ℕ) : Type 0 where
+  pub drawn : ℕ
+  pub logged : List KeyCommand
+  pub serves : ServesUser lines user (service_of (running k)) words now c (Rose old.faults new.faults) told drawn logged (service_of (running k'))
+  pub rest : (n : ℕ) → words' n ≡ words (drawn + n)
+  pub disk : Logs old new k.store k'.store (IsLeftOf k.store.table.keys k.store.pending) logged
+  pub lists : k'.acls ≡ k.acls
