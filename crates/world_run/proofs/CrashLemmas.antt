@@ -7,10 +7,12 @@ use Rattle.frame_log.specs.declared.fault.StartFault.{StartFault}
 use Rattle.frame_log.specs.declared.fault.StartFault.TheVariants as start
 use Rattle.key_rows.specs.declared.rows.KeyCommand.{KeyCommand}
 use Rattle.key_rows.specs.Table.{Table}
+use Rattle.prop_text.specs.declared.lines.PropLine.{PropLine}
 use Rattle.kms_store.specs.Store.{Applies, IsDamagedAt, IsKeyLog, IsLeftByStart, IsLeftOf, IsSoundLog, StandsFor, next_opening, settled_commands}
 use Rattle.kms_store.proofs.Layers.{finds, left_by_start, left_by_store, not_damaged, sound_left, sound_store, stands_once}
 use Rattle.kms_core.specs.Service.{Starts}
 use Rattle.kms_core.specs.State.{IsService, Running, service_of, settled}
+use Rattle.kms_core.specs.Users.{running}
 use Rattle.name_core.specs.State as names
 use Rattle.world_run.specs.declared.event.Event.{Event}
 use Rattle.world_run.specs.declared.event.Event.TheVariants as event
@@ -52,9 +54,9 @@ survives-now d w h of_file fit l commands s bytes left =
 
 -- an event
 
-pub steps : (old new : DiskState) (w : RunningWorld) (words : ℕ → ℕ) (now : ℕ) (e : Event) (told : Line) (w' : RunningWorld) (words' : ℕ → ℕ) → ServicesFit (world_of w) → ServicesFit (world_of w')
-    → w'.keys.store.log.file ≡ 0 → Happens old new w words now e told w' words' → Steps old new w words now e told w' words'
-steps old new w words now e told w' words' fit fit' of_file h = record {
+pub steps : (lines : List PropLine) (old new : DiskState) (w : RunningWorld) (words : ℕ → ℕ) (now : ℕ) (e : Event) (told : Line) (w' : RunningWorld) (words' : ℕ → ℕ) → ServicesFit (world_of w) → ServicesFit (world_of w')
+    → w'.keys.store.log.file ≡ 0 → Happens lines old new w words now e told w' words' → Steps lines old new w words now e told w' words'
+steps lines old new w words now e told w' words' fit fit' of_file h = record {
   drawn = h.drawn;
   logged = h.logged;
   step = record {
@@ -67,10 +69,11 @@ steps old new w words now e told w' words' fit fit' of_file h = record {
   survives = survives-crash old new w fit.keys h.disk.moments;
   survives_then = λ knows hidden l. survives-now new w' (hidden_after (world_of w) words e told h.drawn hidden) of_file fit'.keys (linked knows hidden l);
   run = h.disk.run;
+  lists = h.lists;
 }
   where
     linked : KnowsKeys e (Tells old) → (hidden : Hidden) → LinkedWorld (world_of w) hidden → LinkedWorld (world_of w') (hidden_after (world_of w) words e told h.drawn hidden)
-    linked knows hidden l = keeps-linked (world_of w) words now e (Rose old.faults new.faults) (Tells old) told h.drawn h.logged (world_of w') hidden knows fit h.acts l
+    linked knows hidden l = keeps-linked lines (world_of w) words now e (Rose old.faults new.faults) (Tells old) told h.drawn h.logged (world_of w') hidden knows fit h.acts l
 
 pub fails : (old new : DiskState) (w : RunningWorld) (words : ℕ → ℕ) (e : Event) (fault : StartFault) (w' : RunningWorld) (words' : ℕ → ℕ) → ServicesFit (world_of w)
     → FailsToOpen old new w words e fault w' words' → Fails old new w words e fault w' words'
@@ -79,7 +82,7 @@ fails old new w words e fault w' words' fit f = record { fails = f; survives = s
 -- a start
 
 pub begins : (old new : DiskState) (w : RunningWorld) → w.keys.store.log.file ≡ 0 → IsService (world_of w).keys → w.names ≡ names.first_state → w.kept ≡ record { notes = []; replies = [] }
-    → Starts old new w.keys → Begins old new w
+    → Starts old new (running w.keys) → Begins old new w
 begins old new w of_file fit root nothing s =
     let first : world_of w ≡ first_world s.table = λ i. record { keys = s.opens i; names = root i; kept = nothing i } in
     record {
@@ -138,13 +141,13 @@ reopened old new r r' of_file fit stands s = go old.tells refl
               subst (StandsFor new r'.store) (all ∙ ap (λ (l : List KeyCommand). l ++ logged) (sym one)) log.2;
         }
 
--- a restart, with its new keys put in place of the old ones
-pub restarted : (old new : DiskState) (w w' : RunningWorld) (opening : ℕ) → w.keys.store.log.file ≡ 0 → IsService (world_of w).keys → (Tells old → (commands : List KeyCommand) × StandsFor old w.keys.store commands)
-    → Starts old new w'.keys → (Tells old → LeavesOnly 0 old new (λ c. old.leaves 0 c ⊎ IsLeftByStart (old.reads 0) c)) → RunOn 0 old new
+-- a restart, with its new keys put in place of the old ones, and the same lists
+pub restarted : (old new : DiskState) (w w' : RunningWorld) (opening : ℕ) → w'.keys.acls ≡ w.keys.acls → w.keys.store.log.file ≡ 0 → IsService (world_of w).keys → (Tells old → (commands : List KeyCommand) × StandsFor old w.keys.store commands)
+    → Starts old new (running w'.keys) → (Tells old → LeavesOnly 0 old new (λ c. old.leaves 0 c ⊎ IsLeftByStart (old.reads 0) c)) → RunOn 0 old new
     → opening ≡ w'.keys.store.table.keys.opening → w' ≡ record w { keys = w'.keys }
-    → (words : ℕ → ℕ) (now : ℕ) → Happens old new w words now event.RestartKms (line.Opened opening) w' words
-restarted old new w w' opening of_file fit stands s moments run number rest words now =
-    let found = reopened old new w.keys w'.keys of_file fit stands s in
+    → (lines : List PropLine) (words : ℕ → ℕ) (now : ℕ) → Happens lines old new w words now event.RestartKms (line.Opened opening) w' words
+restarted old new w w' opening lists of_file fit stands s moments run number rest lines words now =
+    let found = reopened old new (running w.keys) (running w'.keys) of_file fit stands s in
     record {
       drawn = 0;
       logged = found.logged;
@@ -156,7 +159,8 @@ restarted old new w w' opening of_file fit stands s moments run number rest word
         left = ap world_of rest ∙ ap (λ t. record (world_of w) { keys = t }) s.opens;
       };
       rest = λ k. ap words (omega arith);
-      disk = record { stands = found.stands; moments = left-by-restart old new w.keys of_file fit moments; run = run };
+      disk = record { stands = found.stands; moments = left-by-restart old new (running w.keys) of_file fit moments; run = run };
+      lists = lists;
     }
 
 -- a restart whose opening failed

@@ -1,5 +1,5 @@
 -- Each event keeps the world linked, and a linked world keeps the promise on zone files.
-use Rattle.std.proofs.Common.{◌≡◌, inl, inr, ℕ, ◌+◌, ◌≤◌, Bool, true, false, cond, not, List, [], ◌∷◌, ◌++◌, length, Option, Some, None, is_none, is_some, refl, sym, ap, subst, ◌∙◌, arith}
+use Rattle.std.proofs.Common.{◌≡◌, inl, inr, ℕ, ◌+◌, ◌≤◌, Bool, true, false, cond, not, List, [], ◌∷◌, ◌++◌, length, Option, Some, None, Ok, Err, is_none, is_some, refl, sym, ap, subst, ◌∙◌, arith}
 use Rattle.std.specs.Prelude.{◌&&◌, nat_lt}
 use Rattle.std.specs.Option.{option_map, option_and_then}
 use Rattle.std.specs.declared.result.Result.{Result}
@@ -16,6 +16,13 @@ use Rattle.kms_core.specs.Calls.{KmsActs}
 use Rattle.kms_core.specs.Draws.{words_of_draw}
 use Rattle.key_rows.specs.declared.rows.KeyCommand.{KeyCommand}
 use Rattle.key_rows.specs.Sound.{NamesOnce}
+use Rattle.key_rows.specs.declared.calls.KmsRefusal.{KmsRefusal}
+use Rattle.key_rows.specs.declared.calls.KmsRefusal.TheVariants as key_refusal
+use Rattle.kms_acls.specs.declared.answers.Denied.{Denied}
+use Rattle.kms_acls.specs.declared.answers.Shown.{Shown}
+use Rattle.kms_acls.specs.Verdict.{verdict}
+use Rattle.kms_core.specs.Users.{ServesUnder}
+use Rattle.prop_text.specs.declared.lines.PropLine.{PropLine}
 use Rattle.kms_core.specs.State.{ServiceState}
 use Rattle.name_core.specs.declared.asks.OpenAsk.{OpenAsk}
 use Rattle.name_core.specs.declared.calls.Ask.{Ask}
@@ -30,7 +37,7 @@ use Rattle.name_core.specs.declared.calls.NameRefusal.TheVariants as refusal
 use Rattle.name_core.specs.declared.calls.NameReply.{NameReply}
 use Rattle.name_core.specs.declared.calls.Want.{Want}
 use Rattle.name_core.specs.declared.calls.Want.TheVariants as want
-use Rattle.name_core.specs.Asks.{AskOutcome, Asks, FinishOutcome, Finishes, answer_of, ask_causes, asked, closed, finish_causes, finish_found, finish_open, finished, is_superuser, key_of_zone, opened, open_ask, unless_not_asked, unless_stopped, wanted_under}
+use Rattle.name_core.specs.Asks.{AskOutcome, Asks, FinishOutcome, Finishes, answer_of, ask_causes, asked, closed, finish_causes, finish_found, finish_open, finished, is_superuser, key_of_zone, opened, open_ask, superuser, unless_not_asked, unless_stopped, wanted_under}
 use Rattle.name_core.specs.Calls.{NameActs, NoRoom, Plain, causes, deed, first_cause, made, mkdir_causes, unless_refused}
 use Rattle.name_core.specs.State.{NameState, is_spent, next_id}
 use Rattle.name_core.proofs.AskLemmas.{no-key}
@@ -46,7 +53,7 @@ use Rattle.world_run.specs.Promise.{In, ZoneFilesOpen}
 use Rattle.world_run.specs.Linked.{Answers, KeyLinked, LinkedWorld, NamesFit, ServicesFit, ZoneStands, given}
 use Rattle.world_run.proofs.DrawLemmas.{OneDrawn, fresh-key, generate-one, meta-answers, opens-among, words-of-draw}
 use Rattle.world_run.proofs.FinishLemmas.{linked-closed, linked-done}
-use Rattle.world_run.proofs.Laters.{same-later, serves-later}
+use Rattle.world_run.proofs.Laters.{same-later, user-later}
 use Rattle.world_run.proofs.Members.{numbered-beside, numbered-in}
 use Rattle.world_run.proofs.RowLemmas.{zone-in}
 use Rattle.world_run.proofs.WorldLemmas.{NewAsk, NewReply, linked-ask, linked-directory, linked-keys, linked-reply, linked-restart, linked-words}
@@ -200,14 +207,21 @@ abbrev AfterDraw : WorldState → (ℕ → ℕ) → Hidden → AskNote → ℕ �
 AfterDraw w words h note drawn keys wanted reply =
     LinkedWorld (with_reply (kept_reply note reply) (record w { keys = keys })) (record (behind_words drawn h) { replied = h.replied ++ draw_told w.keys.keys words h.place wanted reply ∷ [] })
 
+-- the call was refused
+refused-keeps : (w : WorldState) (h : Hidden) (words : ℕ → ℕ) (note : AskNote) (wanted : Want) (why : KmsRefusal) (drawn : ℕ) → LinkedWorld w h → In note w.kept.notes → note.want ≡ wanted
+    → Answers wanted (Refused why) → draw_told w.keys.keys words h.place wanted (Some (key_reply.Refused why)) ≡ None → AfterDraw w words h note drawn w.keys wanted (Some (key_reply.Refused why))
+refused-keeps w h words note wanted why drawn l i wants answers none =
+    subst (λ (d : Option Draw). LinkedWorld (with_reply (kept_reply note (Some (key_reply.Refused why))) w) (record (behind_words drawn h) { replied = h.replied ++ d ∷ [] })) (sym none)
+    (linked-reply w h w.keys drawn (kept_reply note (Some (key_reply.Refused why))) None (same-later w.keys.keys.table)
+    (nothing-new w h drawn (kept_reply note (Some (key_reply.Refused why))) note l i refl refl (subst (λ (x : Want). Answers x (Refused why)) (sym wants) answers)) l)
+
 call-keeps : (w : WorldState) (h : Hidden) (words : ℕ → ℕ) (now : ℕ) (note : AskNote) (name : KeyName) (reply : KmsReply) (drawn : ℕ) → ServicesFit w → LinkedWorld w h
     → In note w.kept.notes → note.want ≡ want.Generate name → KmsActs w.keys.keys words now (key_call.Generate name 1) reply drawn w.keys.keys
     → AfterDraw w words h note drawn w.keys (want.Generate name) (Some reply)
 call-keeps w h words now note name reply drawn fit l i wants acts = elim (generate-one w.keys.keys words now name reply drawn w.keys.keys acts) [
   | inl refused ↦
       subst (λ (r : KmsReply). AfterDraw w words h note drawn w.keys (want.Generate name) (Some r)) (sym refused.1)
-      (linked-reply w h w.keys drawn (kept_reply note (Some (key_reply.Refused refused.0))) None (same-later w.keys.keys.table)
-      (nothing-new w h drawn (kept_reply note (Some (key_reply.Refused refused.0))) note l i refl refl (subst (λ (x : Want). Answers x (Refused refused.0)) (sym wants) tt)) l)
+      (refused-keeps w h words note (want.Generate name) refused.0 drawn l i wants tt refl)
   | inr ready ↦
       subst (λ (r : KmsReply). AfterDraw w words h note drawn w.keys (want.Generate name) (Some r)) (sym ready.1)
       (linked-reply w h w.keys drawn (kept_reply note (Some (key_reply.Ready (ready.0 ∷ [])))) (Some (draw_of w.keys.keys words h.place name)) (same-later w.keys.keys.table)
@@ -215,35 +229,59 @@ call-keeps w h words now note name reply drawn fit l i wants acts = elim (genera
       (subst (λ (r : KmsReply). KmsActs w.keys.keys words now (key_call.Generate name 1) r drawn w.keys.keys) ready.1 acts) ready.2) l)
 ]
 
-want-keeps : (w : WorldState) (h : Hidden) (words : ℕ → ℕ) (now : ℕ) (note : AskNote) (fault : Type 0) (reply : Option KmsReply) (drawn : ℕ) (logged : List KeyCommand) (keys : ServiceState) (wanted : Want)
-    → ServicesFit w → LinkedWorld w h → In note w.kept.notes → note.want ≡ wanted → WantActs w.keys words now wanted fault reply drawn logged keys → AfterDraw w words h note drawn keys wanted reply
-want-keeps w h words now note fault reply drawn logged keys want.Nothing fit l i wants a =
+-- the reply to the call that was wanted, by the verdict on the superuser
+
+generate-keeps : (w : WorldState) (h : Hidden) (words : ℕ → ℕ) (now : ℕ) (note : AskNote) (name : KeyName) (fault : Type 0) (reply : KmsReply) (drawn : ℕ) (logged : List KeyCommand) (keys : ServiceState) (v : Result Shown Denied)
+    → ServicesFit w → LinkedWorld w h → In note w.kept.notes → note.want ≡ want.Generate name → ServesUnder v w.keys words now (key_call.Generate name 1) fault reply drawn logged keys
+    → AfterDraw w words h note drawn keys (want.Generate name) (Some reply)
+generate-keeps w h words now note name fault reply drawn logged keys (Ok shown) fit l i wants p =
+    subst (λ (s : ServiceState). AfterDraw w words h note drawn s (want.Generate name) (Some reply)) (sym p.serves.same)
+    (subst (λ (r : KmsReply). AfterDraw w words h note drawn w.keys (want.Generate name) (Some r)) (sym p.told_is)
+    (call-keeps w h words now note name p.reply drawn fit l i wants p.serves.acts))
+generate-keeps w h words now note name fault reply drawn logged keys (Err denied) fit l i wants d =
+    subst (λ (s : ServiceState). AfterDraw w words h note drawn s (want.Generate name) (Some reply)) (sym d.same)
+    (subst (λ (r : KmsReply). AfterDraw w words h note drawn w.keys (want.Generate name) (Some r)) (sym d.told_is)
+    (refused-keeps w h words note (want.Generate name) (key_refusal.Denied denied.table denied.op) drawn l i wants tt refl))
+
+metadata-keeps : (w : WorldState) (h : Hidden) (words : ℕ → ℕ) (now : ℕ) (note : AskNote) (name : KeyName) (fault : Type 0) (reply : KmsReply) (drawn : ℕ) (logged : List KeyCommand) (keys : ServiceState) (v : Result Shown Denied)
+    → LinkedWorld w h → In note w.kept.notes → note.want ≡ want.Metadata name → ServesUnder v w.keys words now (key_call.Metadata name) fault reply drawn logged keys
+    → AfterDraw w words h note drawn keys (want.Metadata name) (Some reply)
+metadata-keeps w h words now note name fault reply drawn logged keys (Ok shown) l i wants p =
+    let told = meta-answers w.keys.keys words now name p.reply drawn w.keys.keys p.serves.acts in
+    subst (λ (s : ServiceState). AfterDraw w words h note drawn s (want.Metadata name) (Some reply)) (sym p.serves.same)
+    (subst (λ (r : KmsReply). AfterDraw w words h note drawn w.keys (want.Metadata name) (Some r)) (sym p.told_is)
+    (linked-reply w h w.keys drawn (kept_reply note (Some p.reply)) None (same-later w.keys.keys.table)
+    (nothing-new w h drawn (kept_reply note (Some p.reply)) note l i refl told.none (subst (λ (x : Want). Answers x (answer_of (Some p.reply))) (sym wants) told.answers)) l))
+metadata-keeps w h words now note name fault reply drawn logged keys (Err denied) l i wants d =
+    subst (λ (s : ServiceState). AfterDraw w words h note drawn s (want.Metadata name) (Some reply)) (sym d.same)
+    (subst (λ (r : KmsReply). AfterDraw w words h note drawn w.keys (want.Metadata name) (Some r)) (sym d.told_is)
+    (refused-keeps w h words note (want.Metadata name) (key_refusal.Denied denied.table denied.op) drawn l i wants tt refl))
+
+want-keeps : (lines : List PropLine) (w : WorldState) (h : Hidden) (words : ℕ → ℕ) (now : ℕ) (note : AskNote) (fault : Type 0) (reply : Option KmsReply) (drawn : ℕ) (logged : List KeyCommand) (keys : ServiceState) (wanted : Want)
+    → ServicesFit w → LinkedWorld w h → In note w.kept.notes → note.want ≡ wanted → WantActs lines w.keys words now wanted fault reply drawn logged keys → AfterDraw w words h note drawn keys wanted reply
+want-keeps lines w h words now note fault reply drawn logged keys want.Nothing fit l i wants a =
     subst (λ (s : ServiceState). AfterDraw w words h note drawn s want.Nothing reply) (sym a.same)
     (subst (λ (r : Option KmsReply). AfterDraw w words h note drawn w.keys want.Nothing r) (sym a.told_is)
     (linked-reply w h w.keys drawn (kept_reply note None) None (same-later w.keys.keys.table)
     (nothing-new w h drawn (kept_reply note None) note l i refl refl (subst (λ (x : Want). Answers x (Given None)) (sym wants) refl)) l))
-want-keeps w h words now note fault reply drawn logged keys (want.Generate name) fit l i wants a =
-    subst (λ (s : ServiceState). AfterDraw w words h note drawn s (want.Generate name) reply) (sym a.serves.same)
-    (subst (λ (r : Option KmsReply). AfterDraw w words h note drawn w.keys (want.Generate name) r) (sym a.told_is)
-    (call-keeps w h words now note name a.reply drawn fit l i wants a.serves.acts))
-want-keeps w h words now note fault reply drawn logged keys (want.Metadata name) fit l i wants a =
-    let told = meta-answers w.keys.keys words now name a.reply drawn w.keys.keys a.serves.acts in
-    subst (λ (s : ServiceState). AfterDraw w words h note drawn s (want.Metadata name) reply) (sym a.serves.same)
-    (subst (λ (r : Option KmsReply). AfterDraw w words h note drawn w.keys (want.Metadata name) r) (sym a.told_is)
-    (linked-reply w h w.keys drawn (kept_reply note (Some a.reply)) None (same-later w.keys.keys.table)
-    (nothing-new w h drawn (kept_reply note (Some a.reply)) note l i refl told.none (subst (λ (x : Want). Answers x (answer_of (Some a.reply))) (sym wants) told.answers)) l))
+want-keeps lines w h words now note fault reply drawn logged keys (want.Generate name) fit l i wants a =
+    subst (λ (r : Option KmsReply). AfterDraw w words h note drawn keys (want.Generate name) r) (sym a.told_is)
+    (generate-keeps w h words now note name fault a.reply drawn logged keys (verdict lines superuser (key_call.Generate name 1)) fit l i wants a.serves)
+want-keeps lines w h words now note fault reply drawn logged keys (want.Metadata name) fit l i wants a =
+    subst (λ (r : Option KmsReply). AfterDraw w words h note drawn keys (want.Metadata name) r) (sym a.told_is)
+    (metadata-keeps w h words now note name fault a.reply drawn logged keys (verdict lines superuser (key_call.Metadata name)) l i wants a.serves)
 
-draw-keeps : (w : WorldState) (h : Hidden) (words : ℕ → ℕ) (now number : ℕ) (fault : Type 0) (told : Line) (drawn : ℕ) (logged : List KeyCommand) (w' : WorldState) (o : Option AskNote) → ServicesFit w → LinkedWorld w h
-    → numbered w.kept.notes number ≡ o → DrawActs w words now o fault told drawn logged w' → LinkedWorld w' (hidden_after w words (event.Draw number) told drawn h)
-draw-keeps w h words now number fault told drawn logged w' None fit l is u =
+draw-keeps : (lines : List PropLine) (w : WorldState) (h : Hidden) (words : ℕ → ℕ) (now number : ℕ) (fault : Type 0) (told : Line) (drawn : ℕ) (logged : List KeyCommand) (w' : WorldState) (o : Option AskNote) → ServicesFit w → LinkedWorld w h
+    → numbered w.kept.notes number ≡ o → DrawActs lines w words now o fault told drawn logged w' → LinkedWorld w' (hidden_after w words (event.Draw number) told drawn h)
+draw-keeps lines w h words now number fault told drawn logged w' None fit l is u =
     subst (λ (t : Line). LinkedWorld w' (hidden_after w words (event.Draw number) t drawn h)) (sym u.told_is) (subst (λ (v : WorldState). LinkedWorld v (behind_words drawn h)) (sym u.same) (linked-words w h drawn l))
-draw-keeps w h words now number fault told drawn logged w' (Some note) fit l is (inr u) =
+draw-keeps lines w h words now number fault told drawn logged w' (Some note) fit l is (inr u) =
     subst (λ (t : Line). LinkedWorld w' (hidden_after w words (event.Draw number) t drawn h)) (sym u.told_is) (subst (λ (v : WorldState). LinkedWorld v (behind_words drawn h)) (sym u.same) (linked-words w h drawn l))
-draw-keeps w h words now number fault told drawn logged w' (Some note) fit l is (inl a) =
+draw-keeps lines w h words now number fault told drawn logged w' (Some note) fit l is (inl a) =
     subst (λ (t : Line). LinkedWorld w' (hidden_after w words (event.Draw number) t drawn h)) (sym a.told_is)
     (subst (λ (q : Option AskNote). LinkedWorld w' (record (behind_words drawn h) { replied = h.replied ++ draw_noted w.keys.keys words h.place q a.reply ∷ [] })) (sym is)
     (subst (λ (v : WorldState). LinkedWorld v (record (behind_words drawn h) { replied = h.replied ++ draw_told w.keys.keys words h.place note.want a.reply ∷ [] })) (sym a.left)
-    (want-keeps w h words now note fault a.reply drawn logged a.keys note.want fit l (numbered-in w.kept.notes number note is) refl a.acts)))
+    (want-keeps lines w h words now note fault a.reply drawn logged a.keys note.want fit l (numbered-in w.kept.notes number note is) refl a.acts)))
 
 -- finishes
 
@@ -287,20 +325,20 @@ finish-reply-keeps w words h number told drawn logged w' (Some kept) fit l at f 
 
 -- each event
 
-pub keeps-linked : (w : WorldState) (words : ℕ → ℕ) (now : ℕ) (e : Event) (fault tells : Type 0) (told : Line) (drawn : ℕ) (logged : List KeyCommand) (w' : WorldState) (h : Hidden) → KnowsKeys e tells → ServicesFit w
-    → Step w words now e fault tells told drawn logged w' → LinkedWorld w h → LinkedWorld w' (hidden_after w words e told drawn h)
-keeps-linked w words now (event.Kms user c) fault tells told drawn logged w' h knows fit s l =
-    subst (λ (v : WorldState). LinkedWorld v (behind_words drawn h)) (sym s.left) (linked-words _ h drawn (linked-keys w h s.keys (serves-later w.keys words now c fault s.reply drawn logged s.keys fit.keys s.serves) l))
-keeps-linked w words now event.RestartKms fault tells told drawn logged w' h knows fit s l =
+pub keeps-linked : (lines : List PropLine) (w : WorldState) (words : ℕ → ℕ) (now : ℕ) (e : Event) (fault tells : Type 0) (told : Line) (drawn : ℕ) (logged : List KeyCommand) (w' : WorldState) (h : Hidden) → KnowsKeys e tells → ServicesFit w
+    → Step lines w words now e fault tells told drawn logged w' → LinkedWorld w h → LinkedWorld w' (hidden_after w words e told drawn h)
+keeps-linked lines w words now (event.Kms user c) fault tells told drawn logged w' h knows fit s l =
+    subst (λ (v : WorldState). LinkedWorld v (behind_words drawn h)) (sym s.left) (linked-words _ h drawn (linked-keys w h s.keys (user-later lines user w.keys words now c fault s.reply drawn logged s.keys fit.keys s.serves) l))
+keeps-linked lines w words now event.RestartKms fault tells told drawn logged w' h knows fit s l =
     subst (λ (v : WorldState). LinkedWorld v (behind_words drawn h)) (sym s.left) (linked-words _ h drawn (linked-restart w h (s.found knows).kept s.table (s.found knows).table_is fit.keys l))
-keeps-linked w words now (event.Mkdir user p) fault tells told drawn logged w' h knows fit s l =
+keeps-linked lines w words now (event.Mkdir user p) fault tells told drawn logged w' h knows fit s l =
     linked-words w' h drawn (path-keeps w h call.Mkdir (read_path p) told w' (λ q reply names acts. mkdir-keeps w h q reply names l acts) l s.1)
-keeps-linked w words now (event.Info user p) fault tells told drawn logged w' h knows fit s l =
+keeps-linked lines w words now (event.Info user p) fault tells told drawn logged w' h knows fit s l =
     linked-words w' h drawn (path-keeps w h call.Info (read_path p) told w' (λ q reply names acts. info-keeps w h q reply names l acts) l s.1)
-keeps-linked w words now (event.AskCreate user p) fault tells told drawn logged w' h knows fit s l = linked-words w' h drawn (ask-at-keeps w h user ask.Create (read_path p) told w' fit.names l s.1)
-keeps-linked w words now (event.AskZone user p key) fault tells told drawn logged w' h knows fit s l = linked-words w' h drawn (ask-at-keeps w h user (zone_with key) (read_path p) told w' fit.names l s.1)
-keeps-linked w words now (event.Draw number) fault tells told drawn logged w' h knows fit s l = draw-keeps w h words now number fault told drawn logged w' (numbered w.kept.notes number) fit l refl s
-keeps-linked w words now (event.Finish number) fault tells told drawn logged w' h knows fit s l = finish-reply-keeps w words h number told drawn logged w' (numbered w.kept.replies number) fit.names l refl s
+keeps-linked lines w words now (event.AskCreate user p) fault tells told drawn logged w' h knows fit s l = linked-words w' h drawn (ask-at-keeps w h user ask.Create (read_path p) told w' fit.names l s.1)
+keeps-linked lines w words now (event.AskZone user p key) fault tells told drawn logged w' h knows fit s l = linked-words w' h drawn (ask-at-keeps w h user (zone_with key) (read_path p) told w' fit.names l s.1)
+keeps-linked lines w words now (event.Draw number) fault tells told drawn logged w' h knows fit s l = draw-keeps lines w h words now number fault told drawn logged w' (numbered w.kept.notes number) fit l refl s
+keeps-linked lines w words now (event.Finish number) fault tells told drawn logged w' h knows fit s l = finish-reply-keeps w words h number told drawn logged w' (numbered w.kept.replies number) fit.names l refl s
 
 -- the promise
 

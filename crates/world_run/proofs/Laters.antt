@@ -1,12 +1,13 @@
 -- What opens under a table of keys opens under a later one.
 use Rattle.std.proofs.Common.{◌≡◌, inl, inr, ℕ, zero, suc, ◌<◌, ◌≤◌, ◌/◌, ◌==◌, Bool, true, false, cond, List, [], ◌∷◌, ◌++◌, length, Option, Some, None, is_none, slice_get, refl, sym, ap, subst, ◌∙◌, arith}
-use Rattle.std.specs.Prelude.{⊤, not, ◌&&◌, nat_lt, IfSome}
+use Rattle.std.specs.Prelude.{⊤, not, ◌&&◌, nat_lt, IfSome, Result, Ok, Err}
 use Rattle.std.specs.List.{filter}
 use Rattle.std.specs.Option.{option_map, option_and_then}
 use Rattle.std.specs.Str.{bytes_eq}
 use Rattle.std.proofs.lemmas.Bool.Decides.{nat_tests}
 use Rattle.hk_base.specs.declared.names.Dek.{Dek}
 use Rattle.hk_base.specs.declared.names.Edek.{Edek}
+use Rattle.hk_base.specs.declared.texts.Text.{Text}
 use Rattle.key_rows.specs.declared.rows.KeyRow.{KeyRow}
 use Rattle.key_rows.specs.declared.rows.KeyCommand.{KeyCommand}
 use Rattle.key_rows.specs.declared.rows.KeyCommand.TheVariants.{Opened, Create, Roll, Delete}
@@ -18,10 +19,15 @@ use Rattle.key_rows.specs.Sound.{IsTable, NamesOnce}
 use Rattle.key_rows.specs.Table.{Table, after, applies, find_name, is_born, is_length, material_of, opening_of, rolled, with_material}
 use Rattle.key_rows.proofs.Births.{both}
 use Rattle.key_rows.proofs.TableLemmas.{sound_create, sound_delete, sound_roll}
+use Rattle.prop_text.specs.declared.lines.PropLine.{PropLine}
+use Rattle.kms_acls.specs.declared.answers.Denied.{Denied}
+use Rattle.kms_acls.specs.declared.answers.Shown.{Shown}
+use Rattle.kms_acls.specs.Verdict.{verdict}
 use Rattle.kms_store.specs.Store.{Applies, next_opening, settled_table}
 use Rattle.kms_core.specs.Draws.{material_for}
 use Rattle.kms_core.specs.Calls.{KmsActs, NoRoom, Plain, birth_of, bits_of, causes, deed, done_with, first_cause, row_of, unless_refused, versions_of}
 use Rattle.kms_core.specs.Opening.{unseals}
+use Rattle.kms_core.specs.Users.{ServesUnder, ServesUser}
 use Rattle.kms_core.specs.Service.{Serves, ServesBy, is_change}
 use Rattle.kms_core.specs.State.{IsPending, IsService, KmsState, ServiceState, next_birth, opened, settled}
 use Rattle.kms_core.proofs.BirthLemmas.{below_settled, deed_keeps}
@@ -193,7 +199,7 @@ acts-later s words now c told drawn s' below (Plain, may, is) = subst (λ (t : K
     go (Some why) = same-later s.table
     go None = deed-later s words now c below
 
-pub serves-later : (s : ServiceState) (words : ℕ → ℕ) (now : ℕ) (c : KmsCall) (fault : Type 0) (told : KmsReply) (drawn : ℕ) (logged : List KeyCommand) (s' : ServiceState) → IsService s
+serves-later : (s : ServiceState) (words : ℕ → ℕ) (now : ℕ) (c : KmsCall) (fault : Type 0) (told : KmsReply) (drawn : ℕ) (logged : List KeyCommand) (s' : ServiceState) → IsService s
     → Serves s words now c fault told drawn logged s' → KeysLater s.keys.table s'.keys.table
 serves-later s words now c fault told drawn logged s' is serves = go (is_change c) serves
   where
@@ -207,6 +213,15 @@ serves-later s words now c fault told drawn logged s' is serves = go (is_change 
     go true (inr (kept, inr u)) =
         subst (λ (t : ServiceState). KeysLater s.keys.table t.keys.table) (sym u.left)
         (subst (λ (t : Table). KeysLater s.keys.table t) (sym (deed_keeps (settled kept s) words now c)) (later-settled kept s is))
+
+-- what a call of a user leaves: all as it was, where it is denied
+pub user-later : (lines : List PropLine) (user : Text) (s : ServiceState) (words : ℕ → ℕ) (now : ℕ) (c : KmsCall) (fault : Type 0) (told : KmsReply) (drawn : ℕ) (logged : List KeyCommand) (s' : ServiceState) → IsService s
+    → ServesUser lines user s words now c fault told drawn logged s' → KeysLater s.keys.table s'.keys.table
+user-later lines user s words now c fault told drawn logged s' is serves = by-verdict (verdict lines user c) serves
+  where
+    by-verdict : (v : Result Shown Denied) → ServesUnder v s words now c fault told drawn logged s' → KeysLater s.keys.table s'.keys.table
+    by-verdict (Ok shown) p = serves-later s words now c fault p.reply drawn logged s' is p.serves
+    by-verdict (Err denied) d = subst (λ (t : ServiceState). KeysLater s.keys.table t.keys.table) (sym d.same) (same-later s.keys.table)
 
 -- tables in which no two keys have one name
 

@@ -5,6 +5,7 @@ use Rattle.hk_base.specs.Faults.{Rose}
 use Rattle.frame_log.specs.declared.fault.StartFault.{StartFault}
 use Rattle.key_rows.specs.declared.rows.KeyCommand.{KeyCommand}
 use Rattle.key_rows.specs.Table.{Table}
+use Rattle.prop_text.specs.declared.lines.PropLine.{PropLine}
 use Rattle.kms_store.specs.Store.{IsKeyLog, StandsFor, next_opening}
 use Rattle.world_run.specs.declared.event.Event.{Event}
 use Rattle.world_run.specs.declared.event.Event.TheVariants as event
@@ -20,10 +21,10 @@ abbrev pub KnowsKeys : Event → Type 0 → Type 0
 KnowsKeys event.RestartKms tells = tells
 KnowsKeys _ tells = Unit {0}
 
--- An event that happens so. Whatever is hidden beside a world that is linked, the world after it is linked again, and its
--- zone files open.
-pub record LinkedStep (w : WorldState) (words : ℕ → ℕ) (now : ℕ) (e : Event) (fault tells : Type 0) (told : Line) (drawn : ℕ) (logged : List KeyCommand) (w' : WorldState) : Type 0 where
-  pub step : Step w words now e fault tells told drawn logged w'
+-- An event that happens so under the properties of these lines. Whatever is hidden beside a world that is linked, the world
+-- after it is linked again, and its zone files open.
+pub record LinkedStep (lines : List PropLine) (w : WorldState) (words : ℕ → ℕ) (now : ℕ) (e : Event) (fault tells : Type 0) (told : Line) (drawn : ℕ) (logged : List KeyCommand) (w' : WorldState) : Type 0 where
+  pub step : Step lines w words now e fault tells told drawn logged w'
   pub linked : KnowsKeys e tells → (h : Hidden) → LinkedWorld w h → LinkedWorld w' (hidden_after w words e told drawn h)
   pub files_open : KnowsKeys e tells → (h : Hidden) → LinkedWorld w h → ZoneFilesOpen w' (hidden_after w words e told drawn h)
 
@@ -36,17 +37,18 @@ SurvivesThrough old new r =
 abbrev pub SurvivesNow : DiskState → RunningWorld → Hidden → Type 0
 SurvivesNow disk r h = (commands : List KeyCommand) → StandsFor disk r.keys.store commands → (bytes : List ℕ) → disk.leaves 0 bytes → Survives (world_of r) h commands bytes
 
--- An event of a world over its disk. The commands acknowledged are in the log behind those before, and the next event begins
--- with the words that are left.
-pub record Steps (old new : DiskState) (r : RunningWorld) (words : ℕ → ℕ) (now : ℕ) (e : Event) (told : Line) (r' : RunningWorld) (words' : ℕ → ℕ) : Type 0 where
+-- An event of a world over its disk, under the properties of these lines. The commands acknowledged are in the log behind those
+-- before, the next event begins with the words that are left, and the access control lists stay as they are.
+pub record Steps (lines : List PropLine) (old new : DiskState) (r : RunningWorld) (words : ℕ → ℕ) (now : ℕ) (e : Event) (told : Line) (r' : RunningWorld) (words' : ℕ → ℕ) : Type 0 where
   pub drawn : ℕ
   pub logged : List KeyCommand
-  pub step : LinkedStep (world_of r) words now e (Rose old.faults new.faults) (Tells old) told drawn logged (world_of r')
+  pub step : LinkedStep lines (world_of r) words now e (Rose old.faults new.faults) (Tells old) told drawn logged (world_of r')
   pub rest : (k : ℕ) → words' k ≡ words (drawn + k)
   pub stands : Tells old → (commands : List KeyCommand) → StandsFor old r.keys.store commands → StandsFor new r'.keys.store (commands ++ logged)
   pub survives : SurvivesThrough old new r
   pub survives_then : KnowsKeys e (Tells old) → (h : Hidden) → LinkedWorld (world_of r) h → SurvivesNow new r' (hidden_after (world_of r) words e told drawn h)
   pub run : RunOn 0 old new
+  pub lists : r'.keys.acls ≡ r.keys.acls
 
 -- a restart whose opening failed
 pub record Fails (old new : DiskState) (r : RunningWorld) (words : ℕ → ℕ) (e : Event) (fault : StartFault) (r' : RunningWorld) (words' : ℕ → ℕ) : Type 0 where

@@ -17,9 +17,11 @@ use Rattle.key_rows.specs.declared.calls.KmsReply.TheVariants as key_reply
 use Rattle.key_rows.specs.declared.calls.KmsRefusal.TheVariants as key_refusal
 use Rattle.key_rows.specs.declared.rows.KeyCommand.{KeyCommand}
 use Rattle.key_rows.specs.Table.{Table}
+use Rattle.prop_text.specs.declared.lines.PropLine.{PropLine}
 use Rattle.kms_store.specs.Store.{IsLeftOf, StandsFor, next_opening, settled_commands}
 use Rattle.kms_core.specs.State.{Running, ServiceState, opened, service_of, settled}
-use Rattle.kms_core.specs.Service.{Logs, Serves}
+use Rattle.kms_core.specs.Service.{Logs}
+use Rattle.kms_core.specs.Users.{RunningKms, ServesUser, running}
 use Rattle.name_core.specs.declared.calls.NameCall.{NameCall}
 use Rattle.name_core.specs.declared.calls.NameCall.TheVariants as call
 use Rattle.name_core.specs.declared.calls.NameReply.{NameReply}
@@ -31,7 +33,7 @@ use Rattle.name_core.specs.declared.calls.Ask.TheVariants as ask
 use Rattle.name_core.specs.declared.calls.AskNote.{AskNote}
 use Rattle.name_core.specs.declared.calls.Want.{Want}
 use Rattle.name_core.specs.declared.calls.Want.TheVariants as want
-use Rattle.name_core.specs.Asks.{Asks, Finishes, answer_of}
+use Rattle.name_core.specs.Asks.{Asks, Finishes, answer_of, superuser}
 use Rattle.name_core.specs.State.{NameState}
 use Rattle.name_core.specs.Calls.{NameActs}
 use Rattle.world_run.specs.declared.event.Event.{Event}
@@ -45,11 +47,11 @@ use Rattle.world_run.specs.World.{RunningWorld, WorldState, next_note, next_repl
 abbrev pub IsQuiet : ℕ → List KeyCommand → Type 0
 IsQuiet drawn logged = (drawn ≡ 0) × (logged ≡ [])
 
--- a call of the key management service leaves the namesystem as it was
-pub record KeysAct (w : WorldState) (words : ℕ → ℕ) (now : ℕ) (c : KmsCall) (fault : Type 0) (told : Line) (drawn : ℕ) (logged : List KeyCommand) (w' : WorldState) : Type 0 where
+-- A call of the key management service under the properties of these lines leaves the namesystem as it was.
+pub record KeysAct (lines : List PropLine) (w : WorldState) (words : ℕ → ℕ) (now : ℕ) (user : Text) (c : KmsCall) (fault : Type 0) (told : Line) (drawn : ℕ) (logged : List KeyCommand) (w' : WorldState) : Type 0 where
   pub reply : KmsReply
   pub keys : ServiceState
-  pub serves : Serves w.keys words now c fault reply drawn logged keys
+  pub serves : ServesUser lines user w.keys words now c fault reply drawn logged keys
   pub told_is : told ≡ line.Kms reply
   pub left : w' ≡ record w { keys = keys }
 
@@ -139,10 +141,10 @@ pub record NoRoomForReply (w : WorldState) (told : Line) (drawn : ℕ) (logged :
 abbrev pub kept_reply : AskNote → Option KmsReply → KeptReply
 kept_reply note reply = record { id = note.id; answer = answer_of reply }
 
--- the call of the key management service that an ask wants, where it wants one
-pub record CallActs (s : ServiceState) (words : ℕ → ℕ) (now : ℕ) (c : KmsCall) (fault : Type 0) (told : Option KmsReply) (drawn : ℕ) (logged : List KeyCommand) (s' : ServiceState) : Type 0 where
+-- The call of the key management service that an ask wants, where it wants one. It is made as the superuser, whoever asked.
+pub record CallActs (lines : List PropLine) (s : ServiceState) (words : ℕ → ℕ) (now : ℕ) (c : KmsCall) (fault : Type 0) (told : Option KmsReply) (drawn : ℕ) (logged : List KeyCommand) (s' : ServiceState) : Type 0 where
   pub reply : KmsReply
-  pub serves : Serves s words now c fault reply drawn logged s'
+  pub serves : ServesUser lines superuser s words now c fault reply drawn logged s'
   pub told_is : told ≡ Some reply
 
 pub record NothingWanted (s : ServiceState) (told : Option KmsReply) (drawn : ℕ) (logged : List KeyCommand) (s' : ServiceState) : Type 0 where
@@ -150,21 +152,21 @@ pub record NothingWanted (s : ServiceState) (told : Option KmsReply) (drawn : �
   pub quiet : IsQuiet drawn logged
   pub same : s' ≡ s
 
-abbrev pub WantActs : ServiceState → (ℕ → ℕ) → ℕ → Want → Type 0 → Option KmsReply → ℕ → List KeyCommand → ServiceState → Type 0
-WantActs s words now want.Nothing fault told drawn logged s' = NothingWanted s told drawn logged s'
-WantActs s words now (want.Generate name) fault told drawn logged s' = CallActs s words now (key_call.Generate name 1) fault told drawn logged s'
-WantActs s words now (want.Metadata name) fault told drawn logged s' = CallActs s words now (key_call.Metadata name) fault told drawn logged s'
+abbrev pub WantActs : List PropLine → ServiceState → (ℕ → ℕ) → ℕ → Want → Type 0 → Option KmsReply → ℕ → List KeyCommand → ServiceState → Type 0
+WantActs lines s words now want.Nothing fault told drawn logged s' = NothingWanted s told drawn logged s'
+WantActs lines s words now (want.Generate name) fault told drawn logged s' = CallActs lines s words now (key_call.Generate name 1) fault told drawn logged s'
+WantActs lines s words now (want.Metadata name) fault told drawn logged s' = CallActs lines s words now (key_call.Metadata name) fault told drawn logged s'
 
-pub record DrawNote (w : WorldState) (words : ℕ → ℕ) (now : ℕ) (note : AskNote) (fault : Type 0) (told : Line) (drawn : ℕ) (logged : List KeyCommand) (w' : WorldState) : Type 0 where
+pub record DrawNote (lines : List PropLine) (w : WorldState) (words : ℕ → ℕ) (now : ℕ) (note : AskNote) (fault : Type 0) (told : Line) (drawn : ℕ) (logged : List KeyCommand) (w' : WorldState) : Type 0 where
   pub reply : Option KmsReply
   pub keys : ServiceState
-  pub acts : WantActs w.keys words now note.want fault reply drawn logged keys
+  pub acts : WantActs lines w.keys words now note.want fault reply drawn logged keys
   pub told_is : told ≡ line.Replied (next_reply w) reply
   pub left : w' ≡ with_reply (kept_reply note reply) (record w { keys = keys })
 
-abbrev pub DrawActs : WorldState → (ℕ → ℕ) → ℕ → Option AskNote → Type 0 → Line → ℕ → List KeyCommand → WorldState → Type 0
-DrawActs w words now None fault told drawn logged w' = IsUnknown w told drawn logged w'
-DrawActs w words now (Some note) fault told drawn logged w' = DrawNote w words now note fault told drawn logged w' ⊎ NoRoomForReply w told drawn logged w'
+abbrev pub DrawActs : List PropLine → WorldState → (ℕ → ℕ) → ℕ → Option AskNote → Type 0 → Line → ℕ → List KeyCommand → WorldState → Type 0
+DrawActs lines w words now None fault told drawn logged w' = IsUnknown w told drawn logged w'
+DrawActs lines w words now (Some note) fault told drawn logged w' = DrawNote lines w words now note fault told drawn logged w' ⊎ NoRoomForReply w told drawn logged w'
 
 -- the ask that a kept reply answers is finished
 
@@ -188,39 +190,42 @@ abbrev pub zone_with : KeyName → NPath → Ask
 zone_with key path = ask.Zone path key
 
 -- From w, with these words to come, an event may be answered so, draw so many words, have these commands acknowledged, and leave
--- w'. A store fault comes only where `fault` holds, and `tells` is whether the disk tells what it holds.
-abbrev pub Step : WorldState → (ℕ → ℕ) → ℕ → Event → Type 0 → Type 0 → Line → ℕ → List KeyCommand → WorldState → Type 0
-Step w words now (event.Kms user c) fault tells told drawn logged w' = KeysAct w words now c fault told drawn logged w'
-Step w words now event.RestartKms fault tells told drawn logged w' = Restarts w tells told drawn logged w'
-Step w words now (event.Mkdir user path) fault tells told drawn logged w' = IsQuiet drawn logged × PathActs w call.Mkdir (read_path path) told w'
-Step w words now (event.Info user path) fault tells told drawn logged w' = IsQuiet drawn logged × PathActs w call.Info (read_path path) told w'
-Step w words now (event.AskCreate user path) fault tells told drawn logged w' = IsQuiet drawn logged × AskAt w user ask.Create (read_path path) told w'
-Step w words now (event.AskZone user path key) fault tells told drawn logged w' = IsQuiet drawn logged × AskAt w user (zone_with key) (read_path path) told w'
-Step w words now (event.Draw number) fault tells told drawn logged w' = DrawActs w words now (numbered w.kept.notes number) fault told drawn logged w'
-Step w words now (event.Finish number) fault tells told drawn logged w' = FinishReply w (numbered w.kept.replies number) told drawn logged w'
+-- w'. Calls of the key management service are judged by the properties of these lines. A store fault comes only where `fault`
+-- holds, and `tells` is whether the disk tells what it holds.
+abbrev pub Step : List PropLine → WorldState → (ℕ → ℕ) → ℕ → Event → Type 0 → Type 0 → Line → ℕ → List KeyCommand → WorldState → Type 0
+Step lines w words now (event.Kms user c) fault tells told drawn logged w' = KeysAct lines w words now user c fault told drawn logged w'
+Step lines w words now event.RestartKms fault tells told drawn logged w' = Restarts w tells told drawn logged w'
+Step lines w words now (event.Mkdir user path) fault tells told drawn logged w' = IsQuiet drawn logged × PathActs w call.Mkdir (read_path path) told w'
+Step lines w words now (event.Info user path) fault tells told drawn logged w' = IsQuiet drawn logged × PathActs w call.Info (read_path path) told w'
+Step lines w words now (event.AskCreate user path) fault tells told drawn logged w' = IsQuiet drawn logged × AskAt w user ask.Create (read_path path) told w'
+Step lines w words now (event.AskZone user path key) fault tells told drawn logged w' = IsQuiet drawn logged × AskAt w user (zone_with key) (read_path path) told w'
+Step lines w words now (event.Draw number) fault tells told drawn logged w' = DrawActs lines w words now (numbered w.kept.notes number) fault told drawn logged w'
+Step lines w words now (event.Finish number) fault tells told drawn logged w' = FinishReply w (numbered w.kept.replies number) told drawn logged w'
 
--- what a step, or a part of one, does beside what has P of the words drawn and of the commands acknowledged
-pub record Does (old new : DiskState) (r r' : Running) (words words' : ℕ → ℕ) (P : ℕ → List KeyCommand → Type 0) : Type 0 where
+-- What a step, or a part of one, does beside what has P of the words drawn and of the commands acknowledged. The access control
+-- lists stay as they are.
+pub record Does (old new : DiskState) (r r' : RunningKms) (words words' : ℕ → ℕ) (P : ℕ → List KeyCommand → Type 0) : Type 0 where
   pub drawn : ℕ
   pub logged : List KeyCommand
   pub acts : P drawn logged
   pub rest : (k : ℕ) → words' k ≡ words (drawn + k)
   pub disk : Logs old new r.store r'.store (IsLeftOf r.store.table.keys r.store.pending) logged
+  pub lists : r'.acls ≡ r.acls
 
 -- an event that happens so
-abbrev pub Happens : DiskState → DiskState → RunningWorld → (ℕ → ℕ) → ℕ → Event → Line → RunningWorld → (ℕ → ℕ) → Type 0
-Happens old new r words now e told r' words' =
-    Does old new r.keys r'.keys words words' (λ drawn logged. Step (world_of r) words now e (Rose old.faults new.faults) (Tells old) told drawn logged (world_of r'))
+abbrev pub Happens : List PropLine → DiskState → DiskState → RunningWorld → (ℕ → ℕ) → ℕ → Event → Line → RunningWorld → (ℕ → ℕ) → Type 0
+Happens lines old new r words now e told r' words' =
+    Does old new r.keys r'.keys words words' (λ drawn logged. Step lines (world_of r) words now e (Rose old.faults new.faults) (Tells old) told drawn logged (world_of r'))
 
 -- the parts of a draw
 
-abbrev pub Draws : DiskState → DiskState → RunningWorld → (ℕ → ℕ) → ℕ → Option AskNote → Line → RunningWorld → (ℕ → ℕ) → Type 0
-Draws old new r words now note told r' words' =
-    Does old new r.keys r'.keys words words' (λ drawn logged. DrawActs (world_of r) words now note (Rose old.faults new.faults) told drawn logged (world_of r'))
+abbrev pub Draws : List PropLine → DiskState → DiskState → RunningWorld → (ℕ → ℕ) → ℕ → Option AskNote → Line → RunningWorld → (ℕ → ℕ) → Type 0
+Draws lines old new r words now note told r' words' =
+    Does old new r.keys r'.keys words words' (λ drawn logged. DrawActs lines (world_of r) words now note (Rose old.faults new.faults) told drawn logged (world_of r'))
 
-abbrev pub Wants : DiskState → DiskState → Running → (ℕ → ℕ) → ℕ → Want → Option KmsReply → Running → (ℕ → ℕ) → Type 0
-Wants old new r words now wanted told r' words' =
-    Does old new r r' words words' (λ drawn logged. WantActs (service_of r) words now wanted (Rose old.faults new.faults) told drawn logged (service_of r'))
+abbrev pub Wants : List PropLine → DiskState → DiskState → RunningKms → (ℕ → ℕ) → ℕ → Want → Option KmsReply → RunningKms → (ℕ → ℕ) → Type 0
+Wants lines old new r words now wanted told r' words' =
+    Does old new r r' words words' (λ drawn logged. WantActs lines (service_of (running r)) words now wanted (Rose old.faults new.faults) told drawn logged (service_of (running r')))
 
 -- The log could not be opened again. It was opened before, so it is not damaged.
 pub record NotOpened (old new : DiskState) (r : Running) (fault : StartFault) : Type 0 where
@@ -235,4 +240,4 @@ pub record FailsToOpen (old new : DiskState) (r : RunningWorld) (words : ℕ →
   pub is_restart : e ≡ event.RestartKms
   pub same : r' ≡ r
   pub same_words : words' ≡ words
-  pub why : NotOpened old new r.keys fault
+  pub why : NotOpened old new (running r.keys) fault

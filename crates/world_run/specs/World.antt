@@ -1,7 +1,8 @@
 -- Both services, and what is kept.
 use Rattle.std.specs.Prelude.{ℕ, zero, suc, ◌+◌, List, [], ◌∷◌, ◌++◌, length, Option, None, slice_get}
 use Rattle.key_rows.specs.Table.{Table}
-use Rattle.kms_core.specs.State.{Running, ServiceState, opened, service_of}
+use Rattle.kms_core.specs.State.{ServiceState, opened, service_of}
+use Rattle.kms_core.specs.Users.{RunningKms, running}
 use Rattle.name_core.specs.State.{NameState}
 use Rattle.name_core.specs.State as names
 use Rattle.name_core.specs.declared.calls.AskNote.{AskNote}
@@ -26,15 +27,15 @@ first_world table = record { keys = opened table; names = names.first_state; kep
 abbrev pub found_in : Table → WorldState → WorldState
 found_in table w = record w { keys = record { keys = record w.keys.keys { table = table }; pending = None } }
 
--- A world that runs: its key management service has a store.
+-- A world that runs: its key management service has access control lists and a store.
 pub record RunningWorld : Type 0 where
-  pub keys : Running
+  pub keys : RunningKms
   pub names : NameState
   pub kept : Kept
 
--- what a running world is, whatever its disk
+-- what a running world is, whatever its disk and its lists
 abbrev pub world_of : RunningWorld → WorldState
-world_of r = record { keys = service_of r.keys; names = r.names; kept = r.kept }
+world_of r = record { keys = service_of (running r.keys); names = r.names; kept = r.kept }
 
 -- what is kept under a number, from 1
 abbrev pub numbered : {X : Type 0} → List X → ℕ → Option X

@@ -1,5 +1,6 @@
 //! Files and zones that are made in three parts.
 use super::*;
+use crate::desk::props;
 use crate::quiet_disk::QuietDisk;
 use disk_kinds::ListWords;
 use hk_base::{ByteList, Edek, KeyName, Text};
@@ -37,9 +38,10 @@ impl Desk {
     fn new(rt: &impl Abort, alloc: Global) -> Desk {
         let words = WORDS.as_slice().to_vec(alloc).expect(rt, "memory");
         let mut disk = QuietDisk::new(rt, alloc, b"", &[]);
+        let props = props(rt, alloc, "");
         let mut desk = Desk {
             alloc,
-            world: World::start(alloc, &mut disk).expect(rt, "a start"),
+            world: World::start(alloc, &mut disk, &props).expect(rt, "a start"),
             disk,
             words: ListWords::new(words),
             now: 0,

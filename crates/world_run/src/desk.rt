@@ -1,22 +1,37 @@
-//! A world for tests, called by one user.
+//! A world for tests, called by one user at a time.
 use super::*;
 use crate::quiet_disk::QuietDisk;
 use disk_kinds::ListWords;
 use hk_base::{ByteList, KeyName, Text};
 use key_rows::{Description, KmsCall, KmsRefusal, KmsReply};
 use name_core::NameReply;
+use prop_text::{Props, read_props};
 use std::alloc::Global;
 use std::process::Abort;
 
 const MATERIAL: &[u8] = b"\x2b\x7e\x15\x16\x28\xae\xd2\xa6\xab\xf7\x15\x88\x09\xcf\x4f\x3c";
 
-/// A world over its disk.
+/// Each operation on each key is for everybody.
+const FOR_EVERYBODY: &str = "default.key.acl.MANAGEMENT=*
+default.key.acl.GENERATE_EEK=*
+default.key.acl.DECRYPT_EEK=*
+default.key.acl.READ=*
+";
+
+/// The properties of these lines besides those that allow everybody each operation on a key.
+pub fn props(rt: &impl Abort, alloc: Global, lines: &str) -> Props {
+    let text = format!(in alloc; "{FOR_EVERYBODY}{lines}").expect(rt, "memory");
+    read_props(alloc, text.as_bytes()).expect(rt, "properties")
+}
+
+/// A world over its disk, and who calls.
 #[derive(Drop)]
 pub struct Desk {
     alloc: Global,
     world: World,
     pub disk: QuietDisk,
     words: ListWords,
+    user: String,
 }
 
 impl Desk {
@@ -27,27 +42,39 @@ impl Desk {
 
     /// A world over an empty disk, of which the calls with these numbers fail. A start makes 8.
     pub fn failing(rt: &impl Abort, alloc: Global, calls: &[u64]) -> Desk {
-        Desk::open(rt, alloc, QuietDisk::new(rt, alloc, b"", calls))
+        Desk::under(rt, alloc, "", calls)
     }
 
-    pub fn open(rt: &impl Abort, alloc: Global, disk: QuietDisk) -> Desk {
+    /// The same under these lines of properties besides those for everybody.
+    pub fn under(rt: &impl Abort, alloc: Global, lines: &str, calls: &[u64]) -> Desk {
+        let props = props(rt, alloc, lines);
+        Desk::open(rt, alloc, QuietDisk::new(rt, alloc, b"", calls), &props)
+    }
+
+    pub fn open(rt: &impl Abort, alloc: Global, disk: QuietDisk, props: &Props) -> Desk {
         let mut disk = disk;
-        match World::start(alloc, &mut disk) {
+        match World::start(alloc, &mut disk, props) {
             Err(_) => panic!(rt; "no start"),
             Ok(world) => Desk {
                 alloc,
                 world,
                 disk,
                 words: ListWords::new(Vec::new(alloc)),
+                user: String::new(alloc),
             },
         }
     }
 
-    fn user(&self) -> Text {
-        Text::of(String::new(self.alloc))
+    /// Goes on as another user.
+    pub fn enter(&mut self, rt: &impl Abort, user: &str) {
+        self.user = String::from_str(self.alloc, user).expect(rt, "memory");
     }
 
-    fn list(&self, rt: &impl Abort, bytes: &[u8]) -> ByteList {
+    pub fn user(&self, rt: &impl Abort) -> Text {
+        Text::of(String::from_str(self.alloc, self.user.as_str()).expect(rt, "memory"))
+    }
+
+    pub fn list(&self, rt: &impl Abort, bytes: &[u8]) -> ByteList {
         ByteList::of(bytes.to_vec(self.alloc).expect(rt, "memory"))
     }
 
@@ -59,7 +86,7 @@ impl Desk {
     }
 
     fn kms(&mut self, rt: &impl Abort, now: u64, call: KmsCall) -> KmsReply {
-        let user = self.user();
+        let user = self.user(rt);
         match self.line(rt, now, Event::Kms { user, call }) {
             Line::Kms(reply) => reply,
             _ => panic!(rt; "no reply of the key service"),
@@ -94,6 +121,11 @@ impl Desk {
         self.kms(rt, now, KmsCall::Metadata { name })
     }
 
+    pub fn current(&mut self, rt: &impl Abort, name: &[u8]) -> KmsReply {
+        let name = key_name(rt, name);
+        self.kms(rt, 5, KmsCall::Current { name })
+    }
+
     /// Opens the key management service again, which is to be the opening of this number.
     pub fn restart(&mut self, rt: &impl Abort, wanted: u32) {
         match self.line(rt, 5, Event::RestartKms) {
@@ -110,21 +142,28 @@ impl Desk {
     }
 
     pub fn mkdir(&mut self, rt: &impl Abort, path: &[u8]) -> NameReply {
-        let user = self.user();
+        let user = self.user(rt);
         let path = self.list(rt, path);
         self.name(rt, Event::Mkdir { user, path })
     }
 
     pub fn info(&mut self, rt: &impl Abort, path: &[u8]) -> NameReply {
-        let user = self.user();
+        let user = self.user(rt);
         let path = self.list(rt, path);
         self.name(rt, Event::Info { user, path })
     }
 
     pub fn ask_create(&mut self, rt: &impl Abort, path: &[u8]) -> Line {
-        let user = self.user();
+        let user = self.user(rt);
         let path = self.list(rt, path);
         self.line(rt, 5, Event::AskCreate { user, path })
+    }
+
+    pub fn ask_zone(&mut self, rt: &impl Abort, path: &[u8], key: &[u8]) -> Line {
+        let user = self.user(rt);
+        let path = self.list(rt, path);
+        let key = key_name(rt, key);
+        self.line(rt, 5, Event::AskZone { user, path, key })
     }
 }
 

@@ -22,3 +22,5 @@ mod log_tests;
 mod quiet_disk;
 #[cfg(test)]
 mod tests;
+#[cfg(test)]
+mod verdict_tests;

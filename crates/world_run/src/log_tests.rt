@@ -1,7 +1,7 @@
 //! The key log behind the world: restarts, faults of the disk, and what a crash leaves.
 use super::*;
 use crate::desk::{
-    Desk, assert_directory, assert_done, assert_fault, assert_known, assert_version,
+    Desk, assert_directory, assert_done, assert_fault, assert_known, assert_version, props,
 };
 use crate::quiet_disk::QuietDisk;
 use frame_log::StartFault;
@@ -123,7 +123,8 @@ fn change(rt: &impl Abort, desk: &mut Desk) -> u32 {
 
 /// How many versions the key has after a start from this log.
 fn versions_in(rt: &impl Abort, alloc: Global, log: &[u8]) -> u32 {
-    let mut desk = Desk::open(rt, alloc, QuietDisk::new(rt, alloc, log, &[]));
+    let props = props(rt, alloc, "");
+    let mut desk = Desk::open(rt, alloc, QuietDisk::new(rt, alloc, log, &[]), &props);
     match desk.metadata(rt, 9, b"k") {
         KmsReply::Metadata(known) => known.versions,
         KmsReply::Refused(why) => {
@@ -159,9 +160,10 @@ fn a_log_stopped_at_each_call_of_a_change_opens_again(rt: HostRuntime) {
 #[test]
 fn a_log_stopped_at_each_call_of_a_start_opens_again(rt: HostRuntime) {
     let alloc = rt.alloc();
+    let props = props(&rt, alloc, "");
     for call in 1..=START {
         let mut disk = QuietDisk::new(&rt, alloc, b"", &[call]);
-        match World::start(alloc, &mut disk) {
+        match World::start(alloc, &mut disk, &props) {
             Ok(_) => panic!(&rt; "a start"),
             Err(why) => {
                 assert_eq!(rt; why.file, 0);

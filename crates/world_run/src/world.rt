@@ -6,9 +6,13 @@ ghost use Rattle.frame_log.specs.declared.fault.StartFault.TheVariants as start;
 ghost use Rattle.inode_tree.specs.Paths.{read_path};
 ghost use Rattle.key_rows.specs.declared.rows.KeyCommand.{KeyCommand};
 ghost use Rattle.key_rows.specs.Table.{Table};
+ghost use Rattle.kms_acls.specs.StandsFor.{StandsFor as ListsFor};
+ghost use Rattle.kms_core.specs.Users.{running};
 ghost use Rattle.kms_store.specs.Store.{IsDamagedAt, IsKeyLog, IsLeftByStart, StandsFor};
 ghost use Rattle.name_core.specs.declared.calls.Ask.TheVariants as ask;
 ghost use Rattle.name_core.specs.declared.calls.NameCall.TheVariants as call;
+ghost use Rattle.name_core.specs.Asks.{superuser};
+ghost use Rattle.prop_text.specs.declared.lines.PropLine.{PropLine};
 ghost use Rattle.world_run.specs.declared.event.Event.TheVariants as event;
 ghost use Rattle.world_run.specs.World.{numbered, world_of};
 ghost use Rattle.world_run.specs.Keeps.{Begins, Fails, Steps};
@@ -21,8 +25,10 @@ use frame_log::StartFault;
 use hk_base::{ByteList, Disk, KeyName, NoMemory, Text, Words};
 use inode_tree::{NPath, PathFault};
 use key_rows::{KmsCall, KmsRefusal, KmsReply};
+use kms_acls::Acls;
 use kms_core::Kms;
 use name_core::{Answered, Ask, AskNote, Name, NameCall, NameRefusal, NameReply, Want};
+use prop_text::Props;
 use std::alloc::Global;
 use std::marker::Model;
 
@@ -30,8 +36,8 @@ use std::marker::Model;
 const KEYS: u8 = 0;
 
 /// Both services, and what is kept between the parts of a call in three parts. Contracts see the
-/// store of the key management service, the state of the namesystem, and the notes and replies that
-/// are kept as lists.
+/// access control lists and the store of the key management service, the state of the namesystem, and
+/// the notes and replies that are kept as lists.
 ///
 /// Each call that takes a disk is to be given the disk that the world was started on.
 #[derive(Drop)]
@@ -45,11 +51,15 @@ pub struct World {
 }
 
 impl Model for World {
+    ghost use Rattle.std.specs.Prelude.{◌≡◌};
+    ghost use Rattle.name_core.specs.Asks as asks;
     ghost use Rattle.world_run.specs.World.{RunningWorld};
 
     ghost Value = { RunningWorld };
 
     ghost view = { λ a. record { keys = a.keys; names = a.names; kept = record { notes = a.notes.items; replies = a.replies.items } } };
+
+    ghost invariant = { λ a. a.superuser ≡ asks.superuser };
 }
 
 /// The answer where a path could not be read.
@@ -83,17 +93,22 @@ fn finish_line(finished: Result<(), NameRefusal>) -> Line
 }
 
 /// The user as whom the calls that asks want are made.
-fn superuser(alloc: Global) -> Result<Text, NoMemory> {
+fn superuser(alloc: Global) -> Result<Text, NoMemory>
+    ensures { IfOk result (λ user. user ≡ superuser) }
+{
     Ok(Text::of(String::from_str(alloc, "hdfs")?))
 }
 
 impl World {
     /// Opens the key log on file 0 of a disk. The namesystem is in its first state: the root alone.
+    /// Calls of the key management service are judged by the access control lists of the properties,
+    /// from now on and also behind a restart.
     ///
     /// `Damaged` comes exactly where the file is no log, or a record is no command or doesn't apply,
     /// with the offset of its gate. `Spent` comes exactly where opening 4,294,967,295 is recorded.
-    pub fn start<D: Disk>(alloc: Global, disk: &mut D) -> Result<World, WorldFault>
+    pub fn start<D: Disk>(alloc: Global, disk: &mut D, props: &Props) -> Result<World, WorldFault>
         ensures began { IfOk result (Begins (D.state disk.old) (D.state disk.new)) }
+        ensures lists { IfOk result (λ world. ListsFor world.keys.acls props.now.lines) }
         ensures file { (file : ℕ) (fault : StartFault) → IsErrOf result (record { file = file; fault = fault }) → file ≡ 0 }
         ensures damaged { (at : ℕ) → IsErrOf result (record { file = 0; fault = start.Damaged at }) → Tells (D.state disk.old) → IsDamagedAt ((D.state disk.old).reads 0) at }
         ensures spent { IsErrOf result (record { file = 0; fault = start.Spent }) → Tells (D.state disk.old) → ((commands : List KeyCommand) × (table : Table)
@@ -107,15 +122,16 @@ impl World {
         ensures run { RunOn 0 (D.state disk.old) (D.state disk.new) }
         ensures cause { IsErrOf result (record { file = 0; fault = start.StoreFault }) → Rose (D.state disk.old).faults (D.state disk.new).faults }
     {
-        match World::open(alloc, disk) {
+        match World::open(alloc, disk, props) {
             Ok(world) => Ok(world),
             Err(fault) => Err(WorldFault { file: KEYS, fault }),
         }
     }
 
     /// The same, but for the file of the fault. The log is opened last.
-    fn open<D: Disk>(alloc: Global, disk: &mut D) -> Result<World, StartFault>
+    fn open<D: Disk>(alloc: Global, disk: &mut D, props: &Props) -> Result<World, StartFault>
         ensures began { IfOk result (Begins (D.state disk.old) (D.state disk.new)) }
+        ensures lists { IfOk result (λ world. ListsFor world.keys.acls props.now.lines) }
         ensures damaged { (at : ℕ) → IsErrOf result (start.Damaged at) → Tells (D.state disk.old) → IsDamagedAt ((D.state disk.old).reads 0) at }
         ensures spent { IsErrOf result start.Spent → Tells (D.state disk.old) → ((commands : List KeyCommand) × (table : Table)
             × IsKeyLog ((D.state disk.old).reads 0) commands table × (table.opening ≡ 4294967295)) }
@@ -124,9 +140,10 @@ impl World {
         ensures run { RunOn 0 (D.state disk.old) (D.state disk.new) }
         ensures cause { IsErrOf result start.StoreFault → Rose (D.state disk.old).faults (D.state disk.new).faults }
     {
+        let acls = Acls::from_props(alloc, props)?;
         let user = superuser(alloc)?;
         let names = Name::new(alloc)?;
-        let keys = Kms::start(alloc, disk)?;
+        let keys = Kms::start(alloc, disk, acls)?;
         let _ = keys.count();
         Ok(World {
             alloc,
@@ -143,6 +160,10 @@ impl World {
     /// opens to the data encryption key drawn for it, also with the keys that a crash at any moment of
     /// the event leaves.
     ///
+    /// A call of the key management service is judged first, by the access control lists of the start:
+    /// those of a user as that user, and those that asks want as the user `hdfs`. A call that is denied
+    /// does nothing. The lists stay as they are.
+    ///
     /// The only event that may fail is a restart whose opening fails. The world is not to go on with
     /// this disk then.
     pub fn step<D: Disk, W: Words>(
@@ -154,7 +175,7 @@ impl World {
     ) -> Result<Line, WorldFault>
         requires stands { Tells (D.state disk.old) → ((commands : List KeyCommand) × StandsFor (D.state disk.old) self.old.keys.store commands) }
         ensures { MatchResult result
-            (λ line. Steps (D.state disk.old) (D.state disk.new) self.old (W.to_come words.old) now event line self.new (W.to_come words.new))
+            (λ line. (lines : List PropLine) → ListsFor self.old.keys.acls lines → Steps lines (D.state disk.old) (D.state disk.new) self.old (W.to_come words.old) now event line self.new (W.to_come words.new))
             (λ fault. (fault.file ≡ 0) × Fails (D.state disk.old) (D.state disk.new) self.old (W.to_come words.old) event fault.fault self.new (W.to_come words.new)) }
     {
         self.fits();
@@ -185,7 +206,7 @@ impl World {
     ) -> Result<Line, StartFault>
         requires stands { Tells (D.state disk.old) → ((commands : List KeyCommand) × StandsFor (D.state disk.old) self.old.keys.store commands) }
         ensures { MatchResult result
-            (λ line. Happens (D.state disk.old) (D.state disk.new) self.old (W.to_come words.old) now event line self.new (W.to_come words.new))
+            (λ line. (lines : List PropLine) → ListsFor self.old.keys.acls lines → Happens lines (D.state disk.old) (D.state disk.new) self.old (W.to_come words.old) now event line self.new (W.to_come words.new))
             (λ fault. FailsToOpen (D.state disk.old) (D.state disk.new) self.old (W.to_come words.old) event fault self.new (W.to_come words.new)) }
     {
         match event {
@@ -203,23 +224,21 @@ impl World {
         }
     }
 
-    /// Opens the key log again, and goes on with the keys that it finds. Where it fails, nothing changes
-    /// but the disk.
+    /// Opens the key log again, and goes on with the keys that it finds and with the same lists. Where
+    /// it fails, nothing changes but the disk.
     fn restart<D: Disk>(&mut self, disk: &mut D) -> Result<Line, StartFault>
         requires stands { Tells (D.state disk.old) → ((commands : List KeyCommand) × StandsFor (D.state disk.old) self.old.keys.store commands) }
         ensures { MatchResult result
-            (λ line. (words : ℕ → ℕ) (now : ℕ) → Happens (D.state disk.old) (D.state disk.new) self.old words now event.RestartKms line self.new words)
-            (λ fault. (self.new ≡ self.old) × NotOpened (D.state disk.old) (D.state disk.new) self.old.keys fault) }
+            (λ line. (lines : List PropLine) (words : ℕ → ℕ) (now : ℕ) → Happens lines (D.state disk.old) (D.state disk.new) self.old words now event.RestartKms line self.new words)
+            (λ fault. (self.new ≡ self.old) × NotOpened (D.state disk.old) (D.state disk.new) (running self.old.keys) fault) }
     {
         self.fits();
-        match Kms::start(self.alloc, disk) {
-            Err(fault) => Err(fault),
-            Ok(keys) => {
-                let opening = keys.opening();
-                self.keys = keys;
-                Ok(Line::Opened { opening })
-            }
+        match self.keys.restart(self.alloc, disk) {
+            Err(fault) => return Err(fault),
+            Ok(()) => {}
         }
+        let opening = self.keys.opening();
+        Ok(Line::Opened { opening })
     }
 
     fn mkdir(&mut self, user: &Text, path: &ByteList) -> Line
@@ -291,7 +310,7 @@ impl World {
         number: u32,
     ) -> Line
         requires stands { Tells (D.state disk.old) → ((commands : List KeyCommand) × StandsFor (D.state disk.old) self.old.keys.store commands) }
-        ensures { Draws (D.state disk.old) (D.state disk.new) self.old (W.to_come words.old) now (numbered self.old.kept.notes number) result self.new (W.to_come words.new) }
+        ensures { (lines : List PropLine) → ListsFor self.old.keys.acls lines → Draws lines (D.state disk.old) (D.state disk.new) self.old (W.to_come words.old) now (numbered self.old.kept.notes number) result self.new (W.to_come words.new) }
     {
         let note = match note_numbered(&self.notes, number) {
             None => return Line::Unknown,
@@ -326,27 +345,28 @@ impl World {
     }
 }
 
-/// Makes the call that an ask wants, where it wants one.
+/// Makes the call that an ask wants, where it wants one. It is made as the superuser.
 fn call_wanted<D: Disk, W: Words>(
     keys: &mut Kms,
     disk: &mut D,
-    superuser: &Text,
+    user: &Text,
     words: &mut W,
     now: u64,
     note: &AskNote,
 ) -> Option<KmsReply>
     requires stands { Tells (D.state disk.old) → ((commands : List KeyCommand) × StandsFor (D.state disk.old) keys.old.store commands) }
-    ensures { Wants (D.state disk.old) (D.state disk.new) keys.old (W.to_come words.old) now note.now.want result keys.new (W.to_come words.new) }
+    requires user { user.now ≡ superuser }
+    ensures { (lines : List PropLine) → ListsFor keys.old.acls lines → Wants lines (D.state disk.old) (D.state disk.new) keys.old (W.to_come words.old) now note.now.want result keys.new (W.to_come words.new) }
 {
     match note.want {
         Want::Nothing => None,
         Want::Generate(name) => {
             let call = KmsCall::Generate { name, count: 1 };
-            Some(keys.act(disk, words, now, superuser, call))
+            Some(keys.act(disk, words, now, user, call))
         }
         Want::Metadata(name) => {
             let call = KmsCall::Metadata { name };
-            Some(keys.act(disk, words, now, superuser, call))
+            Some(keys.act(disk, words, now, user, call))
         }
     }
 }

@@ -4,9 +4,9 @@ use Rattle.world_run.proofs.StepLemmas.{draw-happens, kms-happens, quiet-happens
 use Rattle.world_run.proofs.world.World.happen.Goals as goal
 
 pub returns-in-Kms : goal.returns-in-Kms
-returns-in-Kms g c =
-    kms-happens (g.D.Disk.state c.args.disk.now) (g.D.Disk.state c.act-reply.new.disk) c.args.self.now c.self.inside.keys c.act-reply.new.self c.self.inside.names c.self.inside.notes.items c.self.inside.replies.items
-    (g.W.Words.to_come c.args.words.now) (g.W.Words.to_come c.act-reply.new.words) c.args.now c.args.event c.in-Kms.user c.in-Kms.call c.act-reply.result c.self.view_is c.in-Kms.is c.act-reply.ensures
+returns-in-Kms g c lines lists =
+    kms-happens lines (g.D.Disk.state c.args.disk.now) (g.D.Disk.state c.act-reply.new.disk) c.args.self.now c.self.inside.keys c.act-reply.new.self c.self.inside.names c.self.inside.notes.items c.self.inside.replies.items
+    (g.W.Words.to_come c.args.words.now) (g.W.Words.to_come c.act-reply.new.words) c.args.now c.args.event c.in-Kms.user c.in-Kms.call c.act-reply.result c.self.view_is c.in-Kms.is (c.act-reply.ensures lines) lists
 
 pub returns-in-RestartKms : goal.returns-in-RestartKms
 returns-in-RestartKms g c =
@@ -14,31 +14,31 @@ returns-in-RestartKms g c =
     c.restart.result c.in-RestartKms.is c.restart.ensures
 
 pub returns-in-Mkdir : goal.returns-in-Mkdir
-returns-in-Mkdir g c =
-    quiet-happens (g.D.Disk.state c.args.disk.now) c.args.self.now c.mkdir.new.self (g.W.Words.to_come c.args.words.now) c.args.now c.args.event (event.Mkdir c.in-Mkdir.user c.in-Mkdir.path) c.mkdir.result c.in-Mkdir.is
+returns-in-Mkdir g c lines lists =
+    quiet-happens lines (g.D.Disk.state c.args.disk.now) c.args.self.now c.mkdir.new.self (g.W.Words.to_come c.args.words.now) c.args.now c.args.event (event.Mkdir c.in-Mkdir.user c.in-Mkdir.path) c.mkdir.result c.in-Mkdir.is
     c.mkdir.ensures.keys ((refl, refl), c.mkdir.ensures.acts)
 
 pub returns-in-Info : goal.returns-in-Info
-returns-in-Info g c =
-    quiet-happens (g.D.Disk.state c.args.disk.now) c.args.self.now c.info.new.self (g.W.Words.to_come c.args.words.now) c.args.now c.args.event (event.Info c.in-Info.user c.in-Info.path) c.info.result c.in-Info.is
+returns-in-Info g c lines lists =
+    quiet-happens lines (g.D.Disk.state c.args.disk.now) c.args.self.now c.info.new.self (g.W.Words.to_come c.args.words.now) c.args.now c.args.event (event.Info c.in-Info.user c.in-Info.path) c.info.result c.in-Info.is
     c.info.ensures.keys ((refl, refl), c.info.ensures.acts)
 
 pub returns-in-AskCreate : goal.returns-in-AskCreate
-returns-in-AskCreate g c =
-    quiet-happens (g.D.Disk.state c.args.disk.now) c.args.self.now c.ask_create.new.self (g.W.Words.to_come c.args.words.now) c.args.now c.args.event (event.AskCreate c.in-AskCreate.user c.in-AskCreate.path) c.ask_create.result c.in-AskCreate.is
+returns-in-AskCreate g c lines lists =
+    quiet-happens lines (g.D.Disk.state c.args.disk.now) c.args.self.now c.ask_create.new.self (g.W.Words.to_come c.args.words.now) c.args.now c.args.event (event.AskCreate c.in-AskCreate.user c.in-AskCreate.path) c.ask_create.result c.in-AskCreate.is
     c.ask_create.ensures.keys ((refl, refl), c.ask_create.ensures.acts)
 
 pub returns-in-AskZone : goal.returns-in-AskZone
-returns-in-AskZone g c =
-    quiet-happens (g.D.Disk.state c.args.disk.now) c.args.self.now c.ask_zone.new.self (g.W.Words.to_come c.args.words.now) c.args.now c.args.event (event.AskZone c.in-AskZone.user c.in-AskZone.path c.in-AskZone.key) c.ask_zone.result c.in-AskZone.is
+returns-in-AskZone g c lines lists =
+    quiet-happens lines (g.D.Disk.state c.args.disk.now) c.args.self.now c.ask_zone.new.self (g.W.Words.to_come c.args.words.now) c.args.now c.args.event (event.AskZone c.in-AskZone.user c.in-AskZone.path c.in-AskZone.key) c.ask_zone.result c.in-AskZone.is
     c.ask_zone.ensures.keys ((refl, refl), c.ask_zone.ensures.acts)
 
 pub returns-in-Draw : goal.returns-in-Draw
-returns-in-Draw g c =
-    draw-happens (g.D.Disk.state c.args.disk.now) (g.D.Disk.state c.draw.new.disk) c.args.self.now c.draw.new.self (g.W.Words.to_come c.args.words.now) (g.W.Words.to_come c.draw.new.words) c.args.now c.args.event
-    c.in-Draw.ask c.draw.result c.in-Draw.is c.draw.ensures
+returns-in-Draw g c lines lists =
+    draw-happens lines (g.D.Disk.state c.args.disk.now) (g.D.Disk.state c.draw.new.disk) c.args.self.now c.draw.new.self (g.W.Words.to_come c.args.words.now) (g.W.Words.to_come c.draw.new.words) c.args.now c.args.event
+    c.in-Draw.ask c.draw.result c.in-Draw.is (c.draw.ensures lines lists)
 
 pub returns-in-Finish : goal.returns-in-Finish
-returns-in-Finish g c =
-    quiet-happens (g.D.Disk.state c.args.disk.now) c.args.self.now c.finish.new.self (g.W.Words.to_come c.args.words.now) c.args.now c.args.event (event.Finish c.in-Finish.reply) c.finish.result c.in-Finish.is
+returns-in-Finish g c lines lists =
+    quiet-happens lines (g.D.Disk.state c.args.disk.now) c.args.self.now c.finish.new.self (g.W.Words.to_come c.args.words.now) c.args.now c.args.event (event.Finish c.in-Finish.reply) c.finish.result c.in-Finish.is
     c.finish.ensures.keys c.finish.ensures.acts
