@@ -1,0 +1,4 @@
+pub mod SoundLemmas
+pub mod CompleteLemmas
+pub mod SegmentLemmas
+pub mod QueryLemmas

@@ -1,0 +1,4 @@
+pub mod Shapes
+pub mod Routes
+pub mod Queries
+pub mod Users
