@@ -1,0 +1,42 @@
+//! The router, kept over the requests of a connection.
+ghost use Rattle.std.specs.Prelude.{◌≡◌, IfOk};
+ghost use Rattle.std.specs.Option.{ForSome};
+ghost use Rattle.kms_rest.specs.Rows.{table};
+
+use crate::place::Place;
+use crate::routes::routes;
+use hk_base::NoMemory;
+use matchit::Router;
+use std::alloc::Global;
+
+/// The routes of the service, which are built when they are first wanted and kept from then on. A
+/// connection has one, so that its requests don't each build them.
+#[derive(Drop)]
+pub struct KeptRouter {
+    alloc: Global,
+    router: Option<Router<Place>>,
+    ghost whole: { ForSome router (λ r. r ≡ table) },
+}
+
+impl KeptRouter {
+    /// Nothing is built yet. It takes no memory.
+    pub fn new(alloc: Global) -> KeptRouter {
+        KeptRouter {
+            alloc,
+            router: None,
+        }
+    }
+
+    /// The router, built now if it isn't yet.
+    pub(crate) fn get(&mut self) -> Result<&Router<Place>, NoMemory>
+        ensures { IfOk result (λ r. r.now ≡ table) }
+    {
+        if self.router.is_none() {
+            self.router = Some(routes(self.alloc)?);
+        }
+        match &self.router {
+            Some(router) => Ok(router),
+            None => Err(NoMemory),
+        }
+    }
+}

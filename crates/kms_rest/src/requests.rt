@@ -1,0 +1,82 @@
+//! The call that a request asks.
+ghost use Rattle.std.specs.Prelude.{◌≡◌};
+ghost use Rattle.kms_rest.specs.Requests as spec;
+ghost use Rattle.kms_rest.specs.Operations.{Routes};
+ghost use Rattle.path_routes.specs.Queries.{parameters, path_of, query_of};
+
+use crate::calls::read_call;
+use crate::faults::RestFault;
+use crate::kept::KeptRouter;
+use crate::operation::Operation;
+use crate::query::is_single;
+use crate::routes::route;
+use hk_base::Text;
+use http_wire::Request;
+use key_rows::KmsCall;
+use path_routes::{Query, UserFault, decoded, path_of, query_of, read_user};
+use std::alloc::Global;
+
+/// The user and the call of a request to the key management service, by the REST API of the Hadoop
+/// KMS, or why it is none. It builds the routes for this request alone: where more requests come, as
+/// on a connection, `to_call_with` keeps them.
+pub fn to_call(alloc: Global, request: &Request) -> Result<(Text, KmsCall), RestFault>
+    ensures { spec.Says request.now result }
+{
+    let mut router = KeptRouter::new(alloc);
+    to_call_with(alloc, &mut router, request)
+}
+
+/// The user and the call of a request, as `to_call` gives them, by a router that is kept.
+pub fn to_call_with(
+    alloc: Global,
+    router: &mut KeptRouter,
+    request: &Request,
+) -> Result<(Text, KmsCall), RestFault>
+    ensures { spec.Says request.now result }
+{
+    let Ok(router) = router.get() else {
+        return Err(RestFault::NoMemory);
+    };
+    let path = path_of(request.target_text());
+    match route(router, request.method.as_slice(), path) {
+        Ok((operation, part)) => read_routed(alloc, request, operation, part),
+        Err(fault) => Err(fault),
+    }
+}
+
+/// The user and the call of a request that names this operation, with this open part of its path.
+fn read_routed(
+    alloc: Global,
+    request: &Request,
+    operation: Operation,
+    part: &[u8],
+) -> Result<(Text, KmsCall), RestFault>
+    requires { Routes request.now.method (path_of request.now.target) operation part.now }
+    ensures { spec.Says request.now result }
+{
+    let Ok(query) = Query::read(alloc, query_of(request.target_text())) else {
+        return Err(RestFault::NoMemory);
+    };
+    let Ok(name) = decoded(alloc, part) else {
+        return Err(RestFault::NoMemory);
+    };
+    let user = match read_user(alloc, &query) {
+        Ok(user) => user,
+        Err(UserFault::NoUser) => return Err(RestFault::NoUser),
+        Err(UserFault::BadRequest) => return Err(RestFault::BadRequest),
+        Err(UserFault::NoMemory) => return Err(RestFault::NoMemory),
+    };
+    if !is_single(&query) {
+        return Err(RestFault::BadRequest);
+    }
+    match read_call(
+        alloc,
+        operation,
+        name.as_slice(),
+        &query,
+        request.body.as_slice(),
+    ) {
+        Ok(call) => Ok((user, call)),
+        Err(fault) => Err(fault),
+    }
+}
