@@ -1,5 +1,5 @@
 -- A head and a body make a request.
-use Rattle.std.proofs.Common.{◌≡◌, ℕ, List, ◌++◌, length, Option, Ok, Err, refl, sym, ap, ◌∙◌, inr}
+use Rattle.std.proofs.Common.{◌≡◌, ℕ, List, ◌++◌, ◌+◌, length, length-append, Option, Ok, Err, refl, sym, ap, ◌∙◌, inr}
 use Rattle.std.proofs.KnownBytes.{Consumes-trans}
 use Rattle.httparse.specs.Grammar.{RequestHead}
 use Rattle.http_wire.specs.declared.faults.WireFault.{WireFault}
@@ -52,6 +52,7 @@ takes old mid new head body h parts message taken has more made = let same : mes
     sized = has.sized ∙ ap (λ n. Ok n) (sym more.whole ∙ ap length (sym same));
     method = ap (λ (m : Message). m.method) made ∙ has.method;
     target = ap (λ (m : Message). m.target) made ∙ has.target;
+    size = ap (λ (m : Message). m.size) made ∙ sym (length-append head body);
     keep = ap (λ (m : Message). m.keep) made ∙ has.keep;
   };
 }

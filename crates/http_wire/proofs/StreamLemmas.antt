@@ -1,5 +1,5 @@
 -- What a connection begins with is determined by its bytes.
-use Rattle.std.proofs.Common.{◌≡◌, ℕ, ◌<◌, ◌≤◌, true, false, cond, ltb, List, [], ◌∷◌, ◌++◌, length, length-append, take, Result, Ok, Err, refl, sym, ap, ◌∙◌, subst, inl, inr, ⊎_elim, arith, append-nil, append_assoc}
+use Rattle.std.proofs.Common.{◌≡◌, ℕ, ◌+◌, ◌<◌, ◌≤◌, true, false, cond, ltb, List, [], ◌∷◌, ◌++◌, length, length-append, take, Result, Ok, Err, refl, sym, ap, ◌∙◌, subst, inl, inr, ⊎_elim, arith, append-nil, append_assoc}
 use Rattle.std.specs.Prelude.{◌⊎◌, Option, None, Some, IfOk, IfErr, MatchBool}
 use Rattle.std.specs.Io.KnownBytes.{Consumes}
 use Rattle.std.proofs.lemmas.Bool.{cases_order, cond-true, cond-false, lt-ltb, le-ltb}
@@ -53,13 +53,13 @@ abbrev without_head : List ℕ → Outcome × List ℕ
 without_head [] = (Err End, [])
 without_head (b ∷ bytes) = cond (ltb (length (b ∷ bytes)) 16384) (Err EndedEarly, b ∷ bytes) (Err HeadTooLong, take 16384 (b ∷ bytes))
 
-abbrev message_of : RequestHead → List ℕ → Message
-message_of h body = record { method = h.method; target = h.target; body = body; keep = keeps h.minor (fields_of h) }
+abbrev message_of : List ℕ → RequestHead → List ℕ → Message
+message_of head h body = record { method = h.method; target = h.target; body = body; size = length head + length body; keep = keeps h.minor (fields_of h) }
 
 -- what is answered and used where a good head came
 abbrev after : List ℕ → RequestHead → List ℕ → Result ℕ WireFault → Outcome × List ℕ
 after head h more (Err fault) = (Err fault, head)
-after head h more (Ok size) = cond (ltb (length more) size) (Err EndedEarly, head ++ more) (Ok (message_of h (take size more)), head ++ take size more)
+after head h more (Ok size) = cond (ltb (length more) size) (Err EndedEarly, head ++ more) (Ok (message_of head h (take size more)), head ++ take size more)
 
 record Bad (head : List ℕ) (given : Outcome × List ℕ) : Type 0 where
   none : (h : RequestHead) → ¬ IsHead head h
@@ -111,8 +111,8 @@ unique_stage all a b one other =
 
 -- ---- from what is said of the bytes that were used
 
-message_is : (m : Message) (h : RequestHead) → m.method ≡ h.method → m.target ≡ h.target → m.keep ≡ keeps h.minor (fields_of h) → message_of h m.body ≡ m
-message_is m h method target keep = sym (λ i. record { method = method i; target = target i; body = m.body; keep = keep i })
+message_is : (head : List ℕ) (m : Message) (h : RequestHead) → m.size ≡ length head + length m.body → m.method ≡ h.method → m.target ≡ h.target → m.keep ≡ keeps h.minor (fields_of h) → message_of head h m.body ≡ m
+message_is head m h size method target keep = sym (λ i. record { method = method i; target = target i; body = m.body; size = size i; keep = keep i })
 
 whole_is : (used rest : List ℕ) (m : Message) (s : SpellsRequest used m) → after s.head s.h (m.body ++ rest) (body_length (fields_of s.h)) ≡ (Ok m, used)
 whole_is used rest m s =
@@ -120,8 +120,8 @@ whole_is used rest m s =
     let le : length m.body ≤ length more = omega (arith, length-append m.body rest) in
     ap (after s.head s.h more) s.sized
     ∙ cond-false _ _ _ (le-ltb (length more) (length m.body) le)
-    ∙ ap (λ (body : List ℕ). (let o : Outcome = Ok (message_of s.h body) in (o, s.head ++ body))) (front_is m.body rest)
-    ∙ ap (λ (n : Message). (let o : Outcome = Ok n in (o, s.head ++ m.body))) (message_is m s.h s.method s.target s.keep)
+    ∙ ap (λ (body : List ℕ). (let o : Outcome = Ok (message_of s.head s.h body) in (o, s.head ++ body))) (front_is m.body rest)
+    ∙ ap (λ (n : Message). (let o : Outcome = Ok n in (o, s.head ++ m.body))) (message_is s.head m s.h (s.size ∙ ap length s.whole ∙ length-append s.head m.body) s.method s.target s.keep)
     ∙ ap (λ (bytes : List ℕ). (let o : Outcome = Ok m in (o, bytes))) (sym s.whole)
 
 short_is : (used : List ℕ) → 0 < length used → length used < 16384 → without_head used ≡ (Err EndedEarly, used)

@@ -6,5 +6,7 @@ pub record Message : Type 0 where
   -- the request target, UTF-8
   pub target : List ℕ
   pub body : List ℕ
+  -- how many bytes it has, head and body
+  pub size : ℕ
   -- whether the connection is kept for another request
   pub keep : Bool

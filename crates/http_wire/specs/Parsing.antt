@@ -1,5 +1,5 @@
 -- Where the parts of a request stand in its head.
-use Rattle.std.specs.Prelude.{◌≡◌, ℕ, List, [], length, Ok}
+use Rattle.std.specs.Prelude.{◌≡◌, ℕ, ◌+◌, List, [], length, Ok}
 use Rattle.httparse.specs.Grammar.{RequestHead, ReadsRequest}
 use Rattle.httparse.specs.Spans.{IsWithin, IsRequestWithin, IsRequestAt, span_bytes}
 use Rattle.httparse.specs.declared.spans.HeaderSpan.{HeaderSpan}
@@ -27,7 +27,7 @@ pub record HasParts (bytes : List ℕ) (h : RequestHead) (parts : Parts) : Type 
 
 -- the request of a head with these parts and of a body
 abbrev pub message_from : List ℕ → Parts → List ℕ → Message
-message_from head parts body = record { method = span_bytes head parts.method; target = span_bytes head parts.target; body = body; keep = parts.keep }
+message_from head parts body = record { method = span_bytes head parts.method; target = span_bytes head parts.target; body = body; size = length head + length body; keep = parts.keep }
 
 -- The parts that the fields give.
 pub record GivesParts (fields : List (List ℕ × List ℕ)) (spans : RequestSpans) (parts : Parts) : Type 0 where

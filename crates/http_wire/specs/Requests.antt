@@ -22,6 +22,7 @@ pub record SpellsRequest (bytes : List ℕ) (message : Message) : Type 0 where
   pub sized : body_length (fields_of h) ≡ Ok (length message.body)
   pub method : message.method ≡ h.method
   pub target : message.target ≡ h.target
+  pub size : message.size ≡ length bytes
   pub keep : message.keep ≡ keeps h.minor (fields_of h)
 
 -- The bytes are a head, and its fields have this fault.

@@ -11,6 +11,8 @@ pub struct Request {
     pub method: ByteList,
     pub target: ByteList,
     pub body: ByteList,
+    /// How many bytes the request has, head and body.
+    pub size: u64,
     /// Whether the connection is kept for another request.
     pub keep: bool,
 }
@@ -21,7 +23,7 @@ impl Model for Request {
 
     ghost Value = { Message };
 
-    ghost view = { λ r. record { method = r.method; target = r.target; body = r.body; keep = r.keep } };
+    ghost view = { λ r. record { method = r.method; target = r.target; body = r.body; size = r.size; keep = r.keep } };
 
     ghost invariant = { λ r. IsUtf8 r.target };
 }

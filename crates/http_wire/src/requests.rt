@@ -35,6 +35,7 @@ fn assemble(alloc: Global, head: &[u8], parts: Parts, body: ByteList) -> Result<
     Ok(Request {
         method: copy(alloc, parts.method.of(head))?,
         target: copy(alloc, parts.target.of(head))?,
+        size: head.len() as u64 + body.len() as u64,
         body,
         keep: parts.keep,
     })

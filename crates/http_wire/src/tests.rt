@@ -160,6 +160,17 @@ fn pieces_of_any_size_give_the_same_requests(rt: HostRuntime) {
 }
 
 #[test]
+fn a_request_counts_its_own_bytes(rt: HostRuntime) {
+    let bytes = b"POST /1 HTTP/1.1\r\nContent-Length: 3\r\n\r\nabcGET /2 HTTP/1.1\r\n\r\n";
+    let mut source = in_pieces(&rt, rt.alloc(), bytes, 4096);
+    let mut scratch = Scratch::new();
+    let first = read_request(rt.alloc(), &mut source, &mut scratch).expect(&rt, "a request");
+    assert_eq!(rt; first.size, 42);
+    let second = read_request(rt.alloc(), &mut source, &mut scratch).expect(&rt, "a request");
+    assert_eq!(rt; second.size, 19);
+}
+
+#[test]
 fn two_requests_of_one_read_are_two(rt: HostRuntime) {
     let bytes = b"GET /1 HTTP/1.1\r\n\r\nGET /2 HTTP/1.1\r\n\r\n";
     let mut source = in_pieces(&rt, rt.alloc(), bytes, 4096);
