@@ -1,0 +1,6 @@
+pub mod ConnectionLemmas
+pub mod LawLemmas
+pub mod RequestLemmas
+pub mod ResponseLemmas
+pub mod ViewLemmas
+pub mod WorldLemmas

@@ -1,0 +1,91 @@
+-- How a connection ends.
+use Rattle.std.specs.Prelude.{◌≡◌, ◌⊎◌, ℕ, ◌+◌, ◌≤◌, ◌^◌, true, false, List, [], codes, Option, ⊤}
+use Rattle.std.specs.Io.KnownBytes.{Appends}
+use Rattle.hk_base.specs.Writing.{WroteFront}
+use Rattle.key_rows.specs.declared.calls.KmsCall.{KmsCall}
+use Rattle.key_rows.specs.declared.calls.KmsReply.{KmsReply}
+use Rattle.http_wire.specs.declared.faults.WireFault.{WireFault}
+use Rattle.http_wire.specs.declared.faults.WireFault.TheVariants as wire
+use Rattle.http_wire.specs.Requests.{Stops, Takes}
+use Rattle.http_wire.specs.Responses.{response_text}
+use Rattle.hk_serve.specs.declared.ended.Ended.{Ended}
+use Rattle.hk_serve.specs.declared.ended.Ended.TheVariants as ended
+use Rattle.hk_serve.specs.Exchanges.{ComesOf, Exchange, Leaves, Stand, response_of}
+
+-- the status of the response to bytes that are no request, and 0 where there is none
+abbrev pub wire_status : WireFault → ℕ
+wire_status wire.BadHead = 400
+wire_status wire.HeadTooLong = 431
+wire_status wire.BadLength = 400
+wire_status wire.BodyTooLong = 413
+wire_status wire.Chunked = 501
+wire_status wire.End = 0
+wire_status wire.EndedEarly = 0
+wire_status wire.ReadFault = 0
+wire_status wire.NoMemory = 0
+
+-- the body of that response
+abbrev pub wire_text : WireFault → List ℕ
+wire_text wire.BadHead = codes "{\"RemoteException\":{\"exception\":\"BadHead\",\"message\":\"BadHead\"}}"
+wire_text wire.HeadTooLong = codes "{\"RemoteException\":{\"exception\":\"HeadTooLong\",\"message\":\"HeadTooLong\"}}"
+wire_text wire.BadLength = codes "{\"RemoteException\":{\"exception\":\"BadLength\",\"message\":\"BadLength\"}}"
+wire_text wire.BodyTooLong = codes "{\"RemoteException\":{\"exception\":\"BodyTooLong\",\"message\":\"BodyTooLong\"}}"
+wire_text wire.Chunked = codes "{\"RemoteException\":{\"exception\":\"Chunked\",\"message\":\"Chunked\"}}"
+wire_text wire.End = []
+wire_text wire.EndedEarly = []
+wire_text wire.ReadFault = []
+wire_text wire.NoMemory = []
+
+-- the fault is one of the bytes that is answered by a response
+abbrev pub IsAnswered : WireFault → Type 0
+IsAnswered wire.BadHead = ⊤
+IsAnswered wire.HeadTooLong = ⊤
+IsAnswered wire.BadLength = ⊤
+IsAnswered wire.BodyTooLong = ⊤
+IsAnswered wire.Chunked = ⊤
+IsAnswered wire.End = ⊥
+IsAnswered wire.EndedEarly = ⊥
+IsAnswered wire.ReadFault = ⊥
+IsAnswered wire.NoMemory = ⊥
+
+abbrev pub wire_response : WireFault → List ℕ
+wire_response fault = response_text (wire_status fault) (wire_text fault)
+
+-- how the connection ends where no request came: what is written, and the end that goes with it
+abbrev pub EndsFor : WireFault → Option (List ℕ) → Option (List ℕ) → Ended → Type 0
+EndsFor fault written now ended.End = (fault ≡ wire.End) × (now ≡ written)
+EndsFor fault written now ended.Wire = ((fault ≡ wire.EndedEarly) × (now ≡ written)) ⊎ (IsAnswered fault × Appends written now (wire_response fault))
+EndsFor fault written now ended.ReadFault = (fault ≡ wire.ReadFault) × (now ≡ written)
+EndsFor fault written now ended.WriteFault = IsAnswered fault × WroteFront written now (wire_response fault)
+EndsFor fault written now ended.NoMemory = ((fault ≡ wire.NoMemory) ⊎ IsAnswered fault) × (now ≡ written)
+EndsFor fault written now ended.Closed = ⊥
+EndsFor fault written now ended.TooLong = ⊥
+
+-- how the connection ends behind a request, where the requests up to it had so many bytes: what is written of its
+-- response, and the end that goes with it
+abbrev pub EndsAfter : ℕ → Exchange → Option (List ℕ) → Option (List ℕ) → Ended → Type 0
+EndsAfter bytes exchange written now ended.Closed = (exchange.request.keep ≡ false) × Appends written now (response_of exchange.outcome)
+EndsAfter bytes exchange written now ended.TooLong = (exchange.request.keep ≡ true) × ((2 ^ 40 ≤ bytes) × Appends written now (response_of exchange.outcome))
+EndsAfter bytes exchange written now ended.WriteFault = WroteFront written now (response_of exchange.outcome)
+EndsAfter bytes exchange written now ended.NoMemory = now ≡ written
+EndsAfter bytes exchange written now ended.End = ⊥
+EndsAfter bytes exchange written now ended.Wire = ⊥
+EndsAfter bytes exchange written now ended.ReadFault = ⊥
+
+-- The connection ended behind a last request. `bytes` counts those of the requests before it.
+pub record EndsBehind {D : Type 0} (answers : D → List ℕ → KmsCall → KmsReply → D → Type 0) (bytes : ℕ) (old new : Stand D) (how : Ended) : Type 0 where
+  pub last : Exchange
+  pub takes : Takes old.ahead new.ahead last.request
+  pub comes : ComesOf last.request last.outcome
+  pub leaves : Leaves answers old.desk last.outcome new.desk
+  pub ends : EndsAfter (bytes + last.request.size) last old.written new.written how
+
+-- The connection ended where no request came.
+pub record EndsThere {D : Type 0} (old new : Stand D) (how : Ended) : Type 0 where
+  pub fault : WireFault
+  pub stops : Stops old.ahead new.ahead fault
+  pub unasked : new.desk ≡ old.desk
+  pub ends : EndsFor fault old.written new.written how
+
+abbrev pub Ends : {D : Type 0} → (D → List ℕ → KmsCall → KmsReply → D → Type 0) → ℕ → Stand D → Stand D → Ended → Type 0
+Ends answers bytes old new how = EndsBehind answers bytes old new how ⊎ EndsThere old new how

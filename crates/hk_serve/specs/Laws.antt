@@ -1,0 +1,20 @@
+-- What the definitions keep.
+use Rattle.std.specs.Prelude.{◌≡◌, ℕ, List, ⊤}
+use Rattle.http_wire.specs.Message.{Message}
+use Rattle.hk_serve.specs.declared.ended.Ended.{Ended}
+use Rattle.hk_serve.specs.declared.ended.Ended.TheVariants as ended
+use Rattle.hk_serve.specs.Served.{AreRequestsOf}
+
+-- the bytes end the connection, and not the outside or their count
+abbrev pub IsOfBytes : Ended → Type 0
+IsOfBytes ended.End = ⊤
+IsOfBytes ended.Wire = ⊤
+IsOfBytes ended.Closed = ⊤
+IsOfBytes ended.TooLong = ⊥
+IsOfBytes ended.ReadFault = ⊥
+IsOfBytes ended.WriteFault = ⊥
+IsOfBytes ended.NoMemory = ⊥
+
+-- where the bytes end a connection, they have one list of requests and one end
+abbrev pub OneConnection : Type 0
+OneConnection = (all : List ℕ) (requests others : List Message) (how other : Ended) → IsOfBytes how → IsOfBytes other → AreRequestsOf all requests how → AreRequestsOf all others other → (requests ≡ others) × (how ≡ other)

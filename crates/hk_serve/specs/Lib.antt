@@ -1,0 +1,6 @@
+pub mod Ends
+pub mod Exchanges
+pub mod Laws
+pub mod Served
+pub mod Turns
+pub mod Worlds

@@ -1,0 +1,47 @@
+-- A whole connection.
+use Rattle.std.specs.Prelude.{◌≡◌, ◌⊎◌, ℕ, List, [], ◌∷◌, ◌++◌, map, None, Some, Ok}
+use Rattle.std.proofs.Common.{inl, inr}
+use Rattle.key_rows.specs.declared.calls.KmsCall.{KmsCall}
+use Rattle.key_rows.specs.declared.calls.KmsReply.{KmsReply}
+use Rattle.http_wire.specs.declared.faults.WireFault.{WireFault}
+use Rattle.http_wire.specs.declared.faults.WireFault.TheVariants as wire
+use Rattle.http_wire.specs.Message.{Message}
+use Rattle.http_wire.specs.Requests.{Begins, HasRequests}
+use Rattle.hk_serve.specs.declared.ended.Ended.{Ended}
+use Rattle.hk_serve.specs.declared.ended.Ended.TheVariants as ended
+use Rattle.hk_serve.specs.Ends.{Ends, IsAnswered}
+use Rattle.hk_serve.specs.Exchanges.{Exchange, Stand, WentOn, bytes_in}
+
+-- bytes begin with these requests
+abbrev pub BeginsWith : List ℕ → List Message → Type 0
+BeginsWith all [] = Unit {0}
+BeginsWith all (message ∷ more) = (rest : List ℕ) × (Begins all (Ok message) rest × BeginsWith rest more)
+
+-- the fault is one of the bytes, and not their end
+abbrev pub IsOfWire : WireFault → Type 0
+IsOfWire fault = (fault ≡ wire.EndedEarly) ⊎ IsAnswered fault
+
+-- what the requests of a connection are to its bytes: all of them, up to the end that is named; or a front of them,
+-- where the outside or their count of bytes ended it
+abbrev pub AreRequestsOf : List ℕ → List Message → Ended → Type 0
+AreRequestsOf all requests ended.End = HasRequests all requests (Some wire.End)
+AreRequestsOf all requests ended.Wire = (fault : WireFault) × (IsOfWire fault × HasRequests all requests (Some fault))
+AreRequestsOf all requests ended.Closed = HasRequests all requests None
+AreRequestsOf all requests ended.TooLong = BeginsWith all requests
+AreRequestsOf all requests ended.ReadFault = BeginsWith all requests
+AreRequestsOf all requests ended.WriteFault = BeginsWith all requests
+AreRequestsOf all requests ended.NoMemory = BeginsWith all requests
+
+-- the request that ended the connection, if one did
+abbrev pub last_request : {D : Type 0} {answers : D → List ℕ → KmsCall → KmsReply → D → Type 0} {bytes : ℕ} {old new : Stand D} {how : Ended} → Ends answers bytes old new how → List Message
+last_request (inl behind) = behind.last.request ∷ []
+last_request (inr there) = []
+
+-- A connection was served: requests were answered, and then it ended.
+pub record Served {D : Type 0} (answers : D → List ℕ → KmsCall → KmsReply → D → Type 0) (old new : Stand D) (how : Ended) : Type 0 where
+  pub exchanges : List Exchange
+  pub here : Stand D
+  pub went_on : WentOn answers old exchanges here
+  pub ends : Ends answers (bytes_in exchanges) here new how
+  -- where the source tells its bytes, the requests are theirs
+  pub requests : (all : List ℕ) → old.ahead ≡ Some all → AreRequestsOf all (map (λ (exchange : Exchange). exchange.request) exchanges ++ last_request ends) how

@@ -1,0 +1,73 @@
+-- One request of a connection.
+use Rattle.std.specs.Prelude.{◌≡◌, ℕ, ◌+◌, ◌≤◌, ◌<◌, ◌^◌, true, false, List, Option, None, Some}
+use Rattle.std.specs.Io.KnownBytes.{Appends}
+use Rattle.hk_base.specs.Writing.{WroteFront}
+use Rattle.key_rows.specs.declared.calls.KmsCall.{KmsCall}
+use Rattle.key_rows.specs.declared.calls.KmsReply.{KmsReply}
+use Rattle.http_wire.specs.declared.faults.SendFault.{SendFault}
+use Rattle.http_wire.specs.declared.faults.SendFault.TheVariants as send
+use Rattle.http_wire.specs.Message.{Message}
+use Rattle.http_wire.specs.Requests.{Takes}
+use Rattle.http_wire.specs.Responses.{IsStatus, response_text}
+use Rattle.kms_rest.specs.declared.responses.Response.{Response}
+use Rattle.hk_serve.specs.declared.ended.Ended.{Ended}
+use Rattle.hk_serve.specs.declared.ended.Ended.TheVariants as ended
+use Rattle.hk_serve.specs.Ends.{Ends, EndsAfter}
+use Rattle.hk_serve.specs.Exchanges.{ComesOf, Exchange, Leaves, Outcome, Stand, response_of}
+
+-- The response is that of an outcome.
+pub record Responds (outcome : Outcome) (response : Response) : Type 0 where
+  pub known : IsStatus response.status
+  pub text : response_text response.status response.body ≡ response_of outcome
+
+-- whether the connection goes on behind a response that was written, and how many bytes its requests had then
+abbrev pub GoesOnAfter : Message → ℕ → ℕ → Option Ended → Type 0
+GoesOnAfter request bytes bytes' None = (request.keep ≡ true) × ((bytes' ≡ bytes + request.size) × (bytes' < 2 ^ 40))
+GoesOnAfter request bytes bytes' (Some ended.Closed) = request.keep ≡ false
+GoesOnAfter request bytes bytes' (Some ended.TooLong) = (request.keep ≡ true) × (2 ^ 40 ≤ bytes + request.size)
+GoesOnAfter request bytes bytes' (Some ended.End) = ⊥
+GoesOnAfter request bytes bytes' (Some ended.Wire) = ⊥
+GoesOnAfter request bytes bytes' (Some ended.ReadFault) = ⊥
+GoesOnAfter request bytes bytes' (Some ended.WriteFault) = ⊥
+GoesOnAfter request bytes bytes' (Some ended.NoMemory) = ⊥
+
+-- what is written of the response to a request, and whether the connection goes on
+abbrev pub AnswersSo : Exchange → ℕ → ℕ → Option (List ℕ) → Option (List ℕ) → Option Ended → Type 0
+AnswersSo exchange bytes bytes' written now None = GoesOnAfter exchange.request bytes bytes' None × Appends written now (response_of exchange.outcome)
+AnswersSo exchange bytes bytes' written now (Some how) = EndsAfter (bytes + exchange.request.size) exchange written now how
+
+-- A request was answered.
+pub record Answered {D : Type 0} (answers : D → List ℕ → KmsCall → KmsReply → D → Type 0) (request : Message) (bytes bytes' : ℕ) (desk desk' : D) (written now : Option (List ℕ)) (result : Option Ended) : Type 0 where
+  pub outcome : Outcome
+  pub comes : ComesOf request outcome
+  pub leaves : Leaves answers desk outcome desk'
+  pub told : AnswersSo (record { request = request; outcome = outcome }) bytes bytes' written now result
+
+-- A request was read and answered, and the connection goes on.
+pub record GoesOn {D : Type 0} (answers : D → List ℕ → KmsCall → KmsReply → D → Type 0) (bytes bytes' : ℕ) (old new : Stand D) : Type 0 where
+  pub exchange : Exchange
+  pub takes : Takes old.ahead new.ahead exchange.request
+  pub comes : ComesOf exchange.request exchange.outcome
+  pub leaves : Leaves answers old.desk exchange.outcome new.desk
+  pub goes_on : GoesOnAfter exchange.request bytes bytes' None
+  pub wrote : Appends old.written new.written (response_of exchange.outcome)
+
+-- what became of a connection by one request, or for want of one
+abbrev pub Turns : {D : Type 0} → (D → List ℕ → KmsCall → KmsReply → D → Type 0) → ℕ → ℕ → Stand D → Option Ended → Stand D → Type 0
+Turns answers bytes bytes' old None new = GoesOn answers bytes bytes' old new
+Turns answers bytes bytes' old (Some how) new = Ends answers bytes old new how
+
+-- how a connection ends whose response was not written whole
+abbrev pub send_ended : SendFault → Ended
+send_ended send.WriteFault = ended.WriteFault
+send_ended send.NoMemory = ended.NoMemory
+
+-- the response to bytes that are no request was written, or a front of it, or nothing
+abbrev pub SentLast : List ℕ → Option (List ℕ) → Option (List ℕ) → Ended → Type 0
+SentLast text written now ended.Wire = Appends written now text
+SentLast text written now ended.WriteFault = WroteFront written now text
+SentLast text written now ended.NoMemory = now ≡ written
+SentLast text written now ended.End = ⊥
+SentLast text written now ended.Closed = ⊥
+SentLast text written now ended.TooLong = ⊥
+SentLast text written now ended.ReadFault = ⊥

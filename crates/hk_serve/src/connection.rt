@@ -1,0 +1,208 @@
+//! Serving a connection.
+ghost use Rattle.std.specs.Prelude.{◌≡◌, ◌≤◌, ◌<◌, ◌^◌, ◌∷◌, [], ℕ, List, None, Some, IfOk};
+ghost use Rattle.hk_base.specs.Faults.{Rose};
+ghost use Rattle.key_rows.specs.declared.calls.KmsReply.{KmsReply};
+ghost use Rattle.http_wire.specs.Reading.{ahead};
+ghost use Rattle.http_wire.specs.Responses.{IsStatus, response_text};
+ghost use Rattle.hk_serve.specs.Ends.{Ends};
+ghost use Rattle.hk_serve.specs.Exchanges.{ComesOf, Leaves, Outcome, Stand, Replied, NoCall, creates};
+ghost use Rattle.hk_serve.specs.Served.{Served};
+ghost use Rattle.hk_serve.specs.Turns.{Answered, Responds, GoesOnAfter, Turns};
+
+use crate::desk::Desk;
+use crate::ended::Ended;
+use crate::refusals::{ended_by, stop};
+use hk_base::{NoMemory, Sink, Source, Text};
+use http_wire::{Request, Scratch, read_request, write_response};
+use key_rows::KmsCall;
+use kms_rest::{KeptRouter, Response, respond, respond_fault, to_call_with};
+use std::alloc::Global;
+
+/// How many bytes the requests of a connection have together when it ends: 2^40.
+const LONGEST_CONNECTION: u64 = 1 << 40;
+
+/// A connection between two requests.
+#[derive(Drop)]
+struct Connection {
+    alloc: Global,
+    scratch: Scratch,
+    router: KeptRouter,
+    /// How many bytes its requests had.
+    bytes: u64,
+}
+
+fn creates(call: &KmsCall) -> bool
+    ensures { result ≡ creates call.now }
+{
+    matches!(call, KmsCall::Create { .. })
+}
+
+/// Asks the desk a call, and answers the response that its reply is.
+fn ask<E: Desk>(
+    alloc: Global,
+    desk: &mut E,
+    user: Text,
+    call: KmsCall,
+) -> Result<Response, NoMemory>
+    requires { E.ready desk.old }
+    ensures asked { (reply : KmsReply) × (E.answers desk.old user call reply desk.new × IfOk result (Responds (Replied user call reply))) }
+    ensures ready { E.ready desk.new }
+{
+    let created = creates(&call);
+    let reply = desk.kms(user, call);
+    respond(alloc, &reply, created)
+}
+
+impl Connection {
+    fn new(alloc: Global) -> Connection
+        ensures scratch { result.scratch ≡ [] }
+        ensures bytes { result.bytes ≡ 0 }
+    {
+        Connection {
+            alloc,
+            scratch: Scratch::new(),
+            router: KeptRouter::new(alloc),
+            bytes: 0,
+        }
+    }
+
+    /// The response to a request, for which the desk is asked its call if it is one.
+    fn response_to<E: Desk>(
+        &mut self,
+        request: &Request,
+        desk: &mut E,
+    ) -> Result<Response, NoMemory>
+        requires { E.ready desk.old }
+        ensures comes { (outcome : Outcome) × (ComesOf request.now outcome × (Leaves E.answers desk.old outcome desk.new × IfOk result (Responds outcome))) }
+        ensures ready { E.ready desk.new }
+        ensures same { (self.new.scratch ≡ self.old.scratch) × (self.new.bytes ≡ self.old.bytes) }
+    {
+        match to_call_with(self.alloc, &mut self.router, request) {
+            Ok((user, call)) => ask(self.alloc, desk, user, call),
+            Err(fault) => respond_fault(self.alloc, fault),
+        }
+    }
+
+    /// Counts the bytes of a request that was answered. `None` where the connection goes on.
+    fn after(&mut self, request: &Request) -> Option<Ended>
+        requires { self.old.bytes < 2 ^ 40 }
+        ensures goes_on { GoesOnAfter request.now self.old.bytes self.new.bytes result }
+        ensures same { self.new.scratch ≡ self.old.scratch }
+    {
+        self.bytes = self.bytes.saturating_add(request.size);
+        if !request.keep {
+            return Some(Ended::Closed);
+        }
+        if self.bytes >= LONGEST_CONNECTION {
+            return Some(Ended::TooLong);
+        }
+        None
+    }
+
+    /// Answers a request. `None` where the connection goes on.
+    fn answer<K: Sink, E: Desk>(
+        &mut self,
+        request: &Request,
+        sink: &mut K,
+        desk: &mut E,
+    ) -> Option<Ended>
+        requires ready { E.ready desk.old }
+        requires few { self.old.bytes < 2 ^ 40 }
+        ensures answered { Answered E.answers request.now self.old.bytes self.new.bytes desk.old desk.new (K.written sink.old) (K.written sink.new) result }
+        ensures ready { E.ready desk.new }
+        ensures same { self.new.scratch ≡ self.old.scratch }
+        ensures later { K.faults sink.old ≤ K.faults sink.new }
+        ensures write_fault { result ≡ Some Ended.WriteFault → Rose (K.faults sink.old) (K.faults sink.new) }
+        ensures no_read_fault { result ≡ Some Ended.ReadFault → ⊥ }
+    {
+        let Ok(response) = self.response_to(request, desk) else {
+            return Some(Ended::NoMemory);
+        };
+        match write_response(self.alloc, sink, response.status, response.body.as_slice()) {
+            Ok(()) => self.after(request),
+            Err(fault) => Some(ended_by(fault)),
+        }
+    }
+
+    /// Reads a request and answers it. `None` where the connection goes on.
+    fn turn<S: Source, K: Sink, E: Desk>(
+        &mut self,
+        source: &mut S,
+        sink: &mut K,
+        desk: &mut E,
+    ) -> Option<Ended>
+        requires ready { E.ready desk.old }
+        requires few { self.old.bytes < 2 ^ 40 }
+        ensures turns { Turns E.answers self.old.bytes self.new.bytes
+            (record { ahead = ahead self.old.scratch (S.left source.old); desk = desk.old; written = K.written sink.old }) result
+            (record { ahead = ahead self.new.scratch (S.left source.new); desk = desk.new; written = K.written sink.new }) }
+        ensures ready { E.ready desk.new }
+        ensures read_later { S.faults source.old ≤ S.faults source.new }
+        ensures read_fault { result ≡ Some Ended.ReadFault → Rose (S.faults source.old) (S.faults source.new) }
+        ensures write_later { K.faults sink.old ≤ K.faults sink.new }
+        ensures write_fault { result ≡ Some Ended.WriteFault → Rose (K.faults sink.old) (K.faults sink.new) }
+    {
+        match read_request(self.alloc, source, &mut self.scratch) {
+            Ok(request) => self.answer(&request, sink, desk),
+            Err(fault) => Some(stop(self.alloc, sink, fault)),
+        }
+    }
+
+    /// Serves the connection to its end.
+    fn run<S: Source, K: Sink, E: Desk>(
+        &mut self,
+        source: &mut S,
+        sink: &mut K,
+        desk: &mut E,
+    ) -> Ended
+        requires ready { E.ready desk.old }
+        requires fresh { self.old.bytes ≡ 0 }
+        ensures served { Served E.answers
+            (record { ahead = ahead self.old.scratch (S.left source.old); desk = desk.old; written = K.written sink.old })
+            (record { ahead = ahead self.new.scratch (S.left source.new); desk = desk.new; written = K.written sink.new }) result }
+        ensures ready { E.ready desk.new }
+        ensures read_later { S.faults source.old ≤ S.faults source.new }
+        ensures read_fault { result ≡ Ended.ReadFault → Rose (S.faults source.old) (S.faults source.new) }
+        ensures write_later { K.faults sink.old ≤ K.faults sink.new }
+        ensures write_fault { result ≡ Ended.WriteFault → Rose (K.faults sink.old) (K.faults sink.new) }
+    {
+        'requests: loop {
+            match self.turn(source, sink, desk) {
+                None => {}
+                Some(ended) => return ended,
+            }
+        }
+    }
+}
+
+/// Serves the requests of a connection in order, by RFC 9112. Each is read from the source, the desk is
+/// asked its call, and the response is written to the sink before the next request is read. The desk is
+/// asked nothing else. A request that is no call is answered by itself, one for which memory is wanting
+/// by K13 and the status 503.
+///
+/// The connection ends where the input does; behind the response to a request that does not keep it, or
+/// with which its requests had 2^40 bytes or more; where bytes are no request, which are answered as
+/// `docs/rest.md` says unless the input ended among them; where source or sink fails, then with a front
+/// of the response; and where memory is wanting for a request that is read or for a response, then with
+/// nothing more written. What the desk was asked stands also where its response was not written.
+pub fn serve_conn<S: Source, K: Sink, E: Desk>(
+    alloc: Global,
+    source: &mut S,
+    sink: &mut K,
+    desk: &mut E,
+) -> Ended
+    requires { E.ready desk.old }
+    // Bytes that were read behind the last request are unused.
+    ensures served { (unused : List ℕ) × Served E.answers
+        (record { ahead = S.left source.old; desk = desk.old; written = K.written sink.old })
+        (record { ahead = ahead unused (S.left source.new); desk = desk.new; written = K.written sink.new }) result }
+    ensures ready { E.ready desk.new }
+
+    ensures read_later { S.faults source.old ≤ S.faults source.new }
+    ensures read_fault { result ≡ Ended.ReadFault → Rose (S.faults source.old) (S.faults source.new) }
+    ensures write_later { K.faults sink.old ≤ K.faults sink.new }
+    ensures write_fault { result ≡ Ended.WriteFault → Rose (K.faults sink.old) (K.faults sink.new) }
+{
+    let mut connection = Connection::new(alloc);
+    connection.run(source, sink, desk)
+}

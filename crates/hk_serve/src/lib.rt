@@ -1,0 +1,19 @@
+//! The key management service over a connection: requests of HTTP/1.1 are read, a desk is asked their
+//! calls, and the responses are written.
+#![tactic(auto)]
+
+mod connection;
+mod desk;
+mod ended;
+mod laws;
+mod refusals;
+mod world_desk;
+
+pub use connection::serve_conn;
+pub use desk::Desk;
+pub use ended::Ended;
+pub use laws::connections_are_those_of_the_bytes;
+pub use world_desk::{WorldDesk, serve_world};
+
+#[cfg(test)]
+mod tests;

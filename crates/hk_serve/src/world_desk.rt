@@ -1,0 +1,125 @@
+//! Both services behind a connection.
+ghost use Rattle.std.specs.Prelude.{◌≡◌, ◌≤◌, ℕ, List, Ok};
+ghost use Rattle.hk_base.specs.Faults.{Rose};
+ghost use Rattle.key_rows.specs.declared.calls.KmsReply.{KmsReply};
+ghost use Rattle.http_wire.specs.Reading.{ahead};
+ghost use Rattle.hk_serve.specs.Served.{Served};
+ghost use Rattle.hk_serve.specs.Worlds.{Happens, IsReady, WorldView};
+
+use crate::connection::serve_conn;
+use crate::desk::Desk;
+use crate::ended::Ended;
+use hk_base::{Clock, Disk, Sink, Source, Text, Words};
+use key_rows::{KmsCall, KmsReply};
+use std::alloc::Global;
+use world_run::{Event, Line, World, WorldFault};
+
+/// Both services as a desk: with the disk that they were started on, random words, and the clock whose
+/// time is the moment of each call.
+#[derive(Drop)]
+pub struct WorldDesk<'a, D, W, C> {
+    world: &'a mut World,
+    disk: &'a mut D,
+    words: &'a mut W,
+    clock: &'a mut C,
+}
+
+/// The reply in the answer to a call.
+fn reply_in(told: Result<Line, WorldFault>) -> KmsReply
+    requires { (reply : KmsReply) × (told ≡ Ok (Line.Kms reply)) }
+    ensures { told ≡ Ok (Line.Kms result) }
+{
+    match told {
+        Ok(Line::Kms(reply)) => reply,
+        _ => unreachable!(),
+    }
+}
+
+impl<'a, D, W, C> WorldDesk<'a, D, W, C> {
+    /// A desk over these.
+    pub fn new(
+        world: &'a mut World,
+        disk: &'a mut D,
+        words: &'a mut W,
+        clock: &'a mut C,
+    ) -> WorldDesk<'a, D, W, C>
+        ensures world { (result.world.ghost_name ≡ world.entry.ghost_name) × (result.world.now ≡ world.old) }
+        ensures disk { (result.disk.ghost_name ≡ disk.entry.ghost_name) × (result.disk.now ≡ disk.old) }
+        ensures words { (result.words.ghost_name ≡ words.entry.ghost_name) × (result.words.now ≡ words.old) }
+        ensures clock { (result.clock.ghost_name ≡ clock.entry.ghost_name) × (result.clock.now ≡ clock.old) }
+    {
+        WorldDesk {
+            world,
+            disk,
+            words,
+            clock,
+        }
+    }
+}
+
+impl<'a, D: Disk, W: Words, C: Clock> Desk for WorldDesk<'a, D, W, C> {
+    ghost ready = { λ d. IsReady D.state (record { disk = d.disk.now; world = d.world.now; words = d.words.now }) };
+
+    ghost answers = { λ old user asked reply new. ((new.world.ghost_name ≡ old.world.ghost_name) × ((new.disk.ghost_name ≡ old.disk.ghost_name) × ((new.words.ghost_name ≡ old.words.ghost_name) × (new.clock.ghost_name ≡ old.clock.ghost_name))))
+        × Happens D.state W.to_come (record { disk = old.disk.now; world = old.world.now; words = old.words.now }) user asked reply (record { disk = new.disk.now; world = new.world.now; words = new.words.now }) };
+
+    fn kms(&mut self, user: Text, call: KmsCall) -> KmsReply {
+        let now = self.clock.now_ms();
+        let told = self
+            .world
+            .step(self.disk, self.words, now, Event::Kms { user, call });
+        reply_in(told)
+    }
+}
+
+/// Serves a connection over both services, which the desk still holds then.
+fn serve_desk<'a, S: Source, K: Sink, D: Disk, W: Words, C: Clock>(
+    alloc: Global,
+    source: &mut S,
+    sink: &mut K,
+    desk: &mut WorldDesk<'a, D, W, C>,
+) -> Ended
+    requires { IsReady D.state (record { disk = desk.old.disk.now; world = desk.old.world.now; words = desk.old.words.now }) }
+    ensures served { (unused : List ℕ) × Served (Happens D.state W.to_come)
+        (record { ahead = S.left source.old; desk = record { disk = desk.old.disk.now; world = desk.old.world.now; words = desk.old.words.now }; written = K.written sink.old })
+        (record { ahead = ahead unused (S.left source.new); desk = record { disk = desk.new.disk.now; world = desk.new.world.now; words = desk.new.words.now }; written = K.written sink.new }) result }
+    ensures ready { IsReady D.state (record { disk = desk.new.disk.now; world = desk.new.world.now; words = desk.new.words.now }) }
+    ensures world { desk.new.world.ghost_name ≡ desk.old.world.ghost_name }
+    ensures disk { desk.new.disk.ghost_name ≡ desk.old.disk.ghost_name }
+    ensures words { desk.new.words.ghost_name ≡ desk.old.words.ghost_name }
+    ensures clock { desk.new.clock.ghost_name ≡ desk.old.clock.ghost_name }
+    ensures read_later { S.faults source.old ≤ S.faults source.new }
+    ensures read_fault { result ≡ Ended.ReadFault → Rose (S.faults source.old) (S.faults source.new) }
+    ensures write_later { K.faults sink.old ≤ K.faults sink.new }
+    ensures write_fault { result ≡ Ended.WriteFault → Rose (K.faults sink.old) (K.faults sink.new) }
+{
+    serve_conn(alloc, source, sink, desk)
+}
+
+/// Serves the requests of a connection by both services, as `serve_conn` does: each call happens to
+/// them as an event at the moment that the clock has. The services are those that were started on this
+/// disk.
+pub fn serve_world<S: Source, K: Sink, D: Disk, W: Words, C: Clock>(
+    alloc: Global,
+    source: &mut S,
+    sink: &mut K,
+    world: &mut World,
+    disk: &mut D,
+    words: &mut W,
+    clock: &mut C,
+) -> Ended
+    requires { IsReady D.state (record { disk = disk.old; world = world.old; words = words.old }) }
+    // Bytes that were read behind the last request are unused.
+    ensures served { (unused : List ℕ) × Served (Happens D.state W.to_come)
+        (record { ahead = S.left source.old; desk = record { disk = disk.old; world = world.old; words = words.old }; written = K.written sink.old })
+        (record { ahead = ahead unused (S.left source.new); desk = record { disk = disk.new; world = world.new; words = words.new }; written = K.written sink.new }) result }
+    ensures ready { IsReady D.state (record { disk = disk.new; world = world.new; words = words.new }) }
+
+    ensures read_later { S.faults source.old ≤ S.faults source.new }
+    ensures read_fault { result ≡ Ended.ReadFault → Rose (S.faults source.old) (S.faults source.new) }
+    ensures write_later { K.faults sink.old ≤ K.faults sink.new }
+    ensures write_fault { result ≡ Ended.WriteFault → Rose (K.faults sink.old) (K.faults sink.new) }
+{
+    let mut desk = WorldDesk::new(world, disk, words, clock);
+    serve_desk(alloc, source, sink, &mut desk)
+}
