@@ -1,0 +1,3 @@
+mod EnteredLemmas
+mod KindLemmas
+mod OrderLemmas

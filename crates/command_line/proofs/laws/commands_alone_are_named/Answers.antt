@@ -1,0 +1,8 @@
+use Rattle.command_line.proofs.OrderLemmas.{pipe_is_named, replay_is_named}
+use Rattle.command_line.proofs.laws.commands_alone_are_named.Goals as goal
+
+pub returns-clause-replay : goal.returns-clause-replay
+returns-clause-replay c = replay_is_named
+
+pub returns-clause-pipe : goal.returns-clause-pipe
+returns-clause-pipe c = pipe_is_named

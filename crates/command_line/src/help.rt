@@ -1,0 +1,97 @@
+//! The texts that the program shows of itself. `clap` adds the usage, the commands and the options.
+
+/// The version that `--version` shows.
+pub(crate) const VERSION: &str = "0.1.0";
+
+/// What the program is.
+pub(crate) const PROGRAM: &str = "Hadoop key management server for HDFS encryption zones";
+
+/// What both commands have in common: their files and their statuses.
+pub(crate) const PROGRAM_NOTES: &str = "Both commands use these files of the current folder:
+  keys.log             the keys; a change is written here before it is answered
+  names.log            the log of the namesystem
+  kms-acls.properties  access control lists: who may do what with which key
+A log that is missing is made, for its owner alone to read. Where there is no
+kms-acls.properties, everybody may do everything. One process at a time can use
+the logs of a folder.
+
+Exit status:
+   0  the input was read to its end, or a request closed the connection
+   2  the command line has a mistake; nothing was read, and no log was made
+   3  the input or kms-acls.properties has a mistake
+   4  keys.log or names.log is damaged
+   5  a log cannot be opened: the disk failed, or another process has it
+   6  there was no memory
+   7  the input, kms-acls.properties or /dev/urandom cannot be read
+   8  the output cannot be written
+  10  a log was opened 4,294,967,295 times, and cannot be opened again
+
+'hkms replay --help' and 'hkms pipe --help' say what a command reads and writes.";
+
+/// What `replay` does, in a line.
+pub(crate) const REPLAY: &str = "Runs the calls of an event text and writes their answers";
+
+/// What `replay` reads and writes, and what ends it.
+pub(crate) const REPLAY_NOTES: &str =
+    "Standard input has a call on each line, with the user who makes it, such as
+
+    kms alice create k 128 2b7e151628aed2a6abf7158809cf4f3c
+    kms alice metadata j
+    nn alice mkdir /data
+
+Empty lines, and lines that begin with #, are passed over. Standard output gets
+the number of each call and its answer, here
+
+    1 version k@0 2b7e151628aed2a6abf7158809cf4f3c
+    2 refused K4 NoSuchKey
+    3 done
+
+A call that is refused ends nothing. What ends a run:
+
+  Status  Last line            Cause
+     0    none                 the input was read to its end
+     3    line N refused       line N is no call, or the input is too long
+          acl line N refused   line N of kms-acls.properties has a mistake
+          acl line N repeated  it has a name that an earlier line has
+          acl line N unknown   it has a name that does not exist
+          acl too long         kms-acls.properties is over 1,048,576 bytes
+     4    damaged keys AT      keys.log is damaged at byte AT
+          damaged names AT     names.log is damaged at byte AT
+     5    store fault          a log cannot be opened, or another process has it
+     6    no memory            there was no memory
+     7    read fault           the input or kms-acls.properties cannot be read
+          no random source     /dev/urandom cannot be read
+     8    none                 the output cannot be written
+    10    openings spent       a log was opened 4,294,967,295 times
+
+The calls before that were made, and their answers stand. docs/event-text.md has
+all calls. The files are those of the current folder: see 'hkms --help'.";
+
+/// What `pipe` does, in a line.
+pub(crate) const PIPE: &str = "Answers the HTTP requests of one connection";
+
+/// What `pipe` reads and writes, and what ends it.
+pub(crate) const PIPE_NOTES: &str =
+    "Standard input has what a client sends on a connection of HTTP/1.1: requests of
+the Hadoop KMS REST API, version 1, such as
+
+    GET /kms/v1/keys/names?user.name=alice HTTP/1.1
+
+Standard output gets the response to each request, in their order, and nothing
+else. The user is the one that the request names; no password is asked for. A
+call that is refused is answered by a status of HTTP and ends nothing.
+
+Exit status:
+   0  the input ended, or the response to a request closed the connection
+   3  the input is no HTTP, or kms-acls.properties has a mistake, or one of them
+      is too long
+   4  keys.log or names.log is damaged
+   5  a log cannot be opened: the disk failed, or another process has it
+   6  there was no memory
+   7  the input, kms-acls.properties or /dev/urandom cannot be read
+   8  the output cannot be written
+  10  a log was opened 4,294,967,295 times, and cannot be opened again
+
+A head has at most 16,384 bytes and 64 fields, and a body 4,194,304 bytes.
+docs/rest.md has the bodies and the messages. The files are those of the current
+folder: see 'hkms --help'.";

@@ -1,0 +1,15 @@
+//! The command line: what its words ask for, read by `clap`.
+#![tactic(auto)]
+
+mod commands;
+mod help;
+mod laws;
+mod order;
+mod reading;
+
+pub use laws::commands_alone_are_named;
+pub use order::{Order, OrderFault};
+pub use reading::read_order;
+
+#[cfg(test)]
+mod tests;
