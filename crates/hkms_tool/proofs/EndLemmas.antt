@@ -1,15 +1,18 @@
 -- How a replay stops.
-use Rattle.std.proofs.Common.{◌≡◌, inl, inr, ℕ, ◌+◌, ◌<◌, ◌^◌, Bool, true, false, List, [], ◌∷◌, ◌++◌, length, take, refl, ap, sym, ◌∙◌, subst, IsTrue, Option, None, Some, arith, append_assoc, append-nil, length-append}
+use Rattle.std.proofs.Common.{◌≡◌, inl, inr, ℕ, ◌+◌, ◌<◌, ◌≤◌, ◌^◌, Bool, true, false, List, [], ◌∷◌, ◌++◌, length, take, refl, ap, sym, ◌∙◌, subst, IsTrue, Option, None, Some, arith, append_assoc, append-nil, length-append}
 use Rattle.std.specs.List.{list_all, count_by}
 use Rattle.std.specs.Io.KnownBytes.{Appends, Consumes, IsAtEnd, prepend_known}
 use Rattle.std.proofs.KnownBytes.{Appends-trans, Consumes-trans}
 use Rattle.std.proofs.Math.Seq.{take-append_seam}
 use Rattle.hk_base.specs.Disk.{DiskState, Tells}
+use Rattle.hk_base.specs.Faults.{Rose}
 use Rattle.hk_base.specs.Reading.{IsMore}
 use Rattle.frame_log.specs.declared.fault.StartFault.{StartFault}
 use Rattle.frame_log.specs.declared.fault.StartFault.TheVariants as start
 use Rattle.key_rows.specs.declared.rows.KeyCommand.{KeyCommand}
 use Rattle.kms_core.proofs.ServiceLemmas.{joined}
+use Rattle.kms_store.specs.Store.{StandsFor}
+use Rattle.prop_text.specs.declared.lines.PropLine.{PropLine}
 use Rattle.replay_text.specs.Events.{IsBad, longest_line}
 use Rattle.world_run.specs.World.{WorldState, world_of}
 use Rattle.hkms_tool.specs.declared.lines.Got.{Got}
@@ -20,9 +23,9 @@ use Rattle.hkms_tool.specs.declared.stage.Play.{Play}
 use Rattle.hkms_tool.specs.declared.stage.Play.TheVariants.{Played, BadLine, Unread, Untold, Unwritten, Unopened}
 use Rattle.hkms_tool.specs.Lines.{is_line, is_lf, lines_of, text_of}
 use Rattle.hkms_tool.specs.Run.{Happened, History, IsRefused, events_in, events_of, lines_in, logged_in, told_of, transcript, world_after}
-use Rattle.hkms_tool.specs.Replay.{BadNext, IsTold, ReadsAs, ReadsAt, RestartStops, Starts, Stops, ended_by, longest_input}
-use Rattle.hkms_tool.specs.Steps.{LinePlayed, Next, NextSo, PlaysLine, PlaysSo, Ran, Read, Stand, StopsAtRestart, StopsReading, Untouched, View, counts, end_of_play}
-use Rattle.hkms_tool.proofs.HistoryLemmas.{Begin, Course, SoFar, course_line, course_line_is, course_untouched, course_untouched_is, moments_on, so_far_line, tells_now}
+use Rattle.hkms_tool.specs.Replay.{BadNext, HasProperties, IsTold, ReadsAs, ReadsAt, RestartStops, Starts, Stops, ended_by, longest_input}
+use Rattle.hkms_tool.specs.Steps.{Caused, HasLists, LinePlayed, Next, NextSo, PlaysLine, PlaysSo, Ran, Read, Stand, StopsAtRestart, StopsReading, Untouched, View, counts, end_of_play}
+use Rattle.hkms_tool.proofs.HistoryLemmas.{Begin, Course, SoFar, course_line, course_line_is, course_untouched, course_untouched_is, has_lists, moments_on, so_far_line, tells_now}
 use Rattle.hkms_tool.proofs.SplitLemmas.{split_text, split_last, split_on, split_ended, parts, count_lf}
 
 -- the lines of the input
@@ -103,6 +106,10 @@ past left before ahead lines line events used0 used so is consumed used0_is used
 
 reads_at : (stop : Ended) (d : DiskState) (commands : List KeyCommand) (w : WorldState) → ReadsAs d commands w → ReadsAt stop d commands w
 reads_at ended.Done d commands w r = r
+reads_at (ended.AclRefused number) d commands w r = r
+reads_at (ended.AclRepeated number) d commands w r = r
+reads_at (ended.AclUnknown number) d commands w r = r
+reads_at ended.AclTooLong d commands w r = r
 reads_at ended.BadLine d commands w r = r
 reads_at (ended.Damaged at) d commands w r = tt
 reads_at ended.StoreFault d commands w r = tt
@@ -114,6 +121,10 @@ reads_at ended.Spent d commands w r = tt
 -- a front of the transcript that is all of it
 all_told : (stop : Ended) (text told : List ℕ) → text ≡ told → IsTold stop text told
 all_told ended.Done text told is = is
+all_told (ended.AclRefused number) text told is = is
+all_told (ended.AclRepeated number) text told is = is
+all_told (ended.AclUnknown number) text told is = is
+all_told ended.AclTooLong text told is = is
 all_told ended.BadLine text told is = is
 all_told (ended.Damaged at) text told is = is
 all_told ended.StoreFault text told is = is
@@ -122,15 +133,15 @@ all_told ended.ReadFault text told is = is
 all_told ended.WriteFault text told is = ([], append-nil text ∙ is)
 all_told ended.Spent text told is = is
 
--- an end that no restart brings about
+-- an end that neither a restart nor the properties bring about
 IsPlain : Ended → Type 0
-IsPlain stop = (w : WorldState) → RestartStops stop w
+IsPlain stop = ((w : WorldState) → RestartStops stop w) × HasProperties stop
 
-ran : (old new : DiskState) (b : Begin) (v : View) (count : ℕ) (stop : Ended) (so : Course old new b v count) (h : History) → so.history ≡ h → (text : List ℕ) (now : Option (List ℕ)) → IsPlain stop
+ran : (props : List PropLine) (old new : DiskState) (b : Begin) (v : View) (count : ℕ) (stop : Ended) (so : Course props old new b v count) (h : History) → so.history ≡ h → (text : List ℕ) (now : Option (List ℕ)) → IsPlain stop
     → Appends b.written now text → IsTold stop text (transcript h) → ((all : List ℕ) → b.left ≡ Some all → Stops stop all (lines_in h) (events_in h))
-    → Ran old new b.world b.words b.left b.written now stop count
+    → Ran props old new b.world b.words b.left b.written now stop count
 unfolding IsPlain
-ran old new b v count stop so h is text now plain wrote told here = record {
+ran props old new b v count stop so h is text now plain wrote told here = record {
   history = so.history;
   runs = so.runs;
   files_open = so.files_open;
@@ -139,7 +150,8 @@ ran old new b v count stop so h is text now plain wrote told here = record {
     reads = reads_at stop new (commands ++ logged_in so.history) (world_after (world_of b.world) so.history) (v.world, so.world_is, so.stands tells commands stands);
   };
   run = so.run;
-  restart = λ tells. plain (world_after (world_of b.world) so.history);
+  restart = λ tells. plain.0 (world_after (world_of b.world) so.history);
+  has_properties = plain.1;
   stops = λ all left. subst (λ (x : History). Stops stop all (lines_in x) (events_in x)) (sym is) (here all left);
   text = text;
   wrote = wrote;
@@ -148,37 +160,38 @@ ran old new b v count stop so h is text now plain wrote told here = record {
 }
 
 -- before a line is played
-stops_before : (old mid new : DiskState) (b : Begin) (s : Stand) (stop : Ended) (v : View) (so : SoFar old mid b s) → Untouched mid new s.view v → IsPlain stop
-    → ((all : List ℕ) → b.left ≡ Some all → Stops stop all (lines_in so.course.history) (events_in so.course.history)) → Ran old new b.world b.words b.left b.written v.written stop s.count
-stops_before old mid new b s stop v so u plain here =
+stops_before : (props : List PropLine) (old mid new : DiskState) (b : Begin) (s : Stand) (stop : Ended) (v : View) (so : SoFar props old mid b s) → Untouched mid new s.view v → IsPlain stop
+    → ((all : List ℕ) → b.left ≡ Some all → Stops stop all (lines_in so.course.history) (events_in so.course.history)) → Ran props old new b.world b.words b.left b.written v.written stop s.count
+stops_before props old mid new b s stop v so u plain here =
     let told : List ℕ = transcript so.course.history in
-    ran old new b (record s.view { world = v.world }) s.count stop (course_untouched old mid new b s.view v s.count so.course u) so.course.history
-    (course_untouched_is old mid new b s.view v s.count so.course u) told v.written plain
+    ran props old new b (record s.view { world = v.world }) s.count stop (course_untouched props old mid new b s.view v s.count so.course u) so.course.history
+    (course_untouched_is props old mid new b s.view v s.count so.course u) told v.written plain
     (subst (Appends b.written v.written) (append-nil told) (Appends-trans b.written s.view.written v.written _ _ so.wrote u.wrote)) (all_told stop told told refl) here
 
 -- behind a line that was played, of whose answer this much was written
-stops_behind : (old mid new : DiskState) (b : Begin) (s : Stand) (stop : Ended) (line : List ℕ) (event : Option Happened) (v : View) (text : List ℕ) (so : SoFar old mid b s) → PlaysLine mid new s.view line event v
+stops_behind : (props : List PropLine) (old mid new : DiskState) (b : Begin) (s : Stand) (stop : Ended) (line : List ℕ) (event : Option Happened) (v : View) (text : List ℕ) (so : SoFar props old mid b s) → PlaysLine props mid new s.view line event v
     → is_line line ≡ true → IsPlain stop → Appends s.view.written v.written text → IsTold stop (transcript so.course.history ++ text) (transcript so.course.history ++ told_of (events_in so.course.history) event)
     → ((all : List ℕ) → b.left ≡ Some all → Stops stop all (lines_in so.course.history ++ line ∷ []) (events_in so.course.history + events_of event))
-    → Ran old new b.world b.words b.left b.written v.written stop (s.count + 1)
-stops_behind old mid new b s stop line event v text so plays is plain wrote told here =
-    ran old new b v (s.count + 1) stop (course_line old mid new b s.view v s.count line event so.course plays is) (record { line = line; event = event } ∷ so.course.history)
-    (course_line_is old mid new b s.view v s.count line event so.course plays is) (transcript so.course.history ++ text) v.written plain
+    → Ran props old new b.world b.words b.left b.written v.written stop (s.count + 1)
+stops_behind props old mid new b s stop line event v text so plays is plain wrote told here =
+    ran props old new b v (s.count + 1) stop (course_line props old mid new b s.view v s.count line event so.course plays is) (record { line = line; event = event } ∷ so.course.history)
+    (course_line_is props old mid new b s.view v s.count line event so.course plays is) (transcript so.course.history ++ text) v.written plain
     (Appends-trans b.written s.view.written v.written _ _ so.wrote wrote) told here
 
 -- at a restart that could not open the log
-stops_at_restart : (old mid new : DiskState) (b : Begin) (s : Stand) (line : List ℕ) (fault : StartFault) (v : View) (so : SoFar old mid b s) → StopsAtRestart mid new s.view line fault v
-    → Appends s.view.written v.written [] → IsNext b.left (lines_in so.course.history) line → Ran old new b.world b.words b.left b.written v.written (ended_by fault) s.count
-stops_at_restart old mid new b s line fault v so at wrote next = record {
+stops_at_restart : (props : List PropLine) (old mid new : DiskState) (b : Begin) (s : Stand) (line : List ℕ) (fault : StartFault) (v : View) (so : SoFar props old mid b s) → StopsAtRestart mid new s.view line fault v
+    → Appends s.view.written v.written [] → IsNext b.left (lines_in so.course.history) line → Ran props old new b.world b.words b.left b.written v.written (ended_by fault) s.count
+stops_at_restart props old mid new b s line fault v so at wrote next = record {
   history = h;
   runs = so.course.runs;
   files_open = so.course.files_open;
   kept = λ tells commands stands. record {
-    moments = moments_on old mid new b s.view s.count so.course at.fails.fails.why.run at.fails.survives tells commands stands;
+    moments = moments_on props old mid new b s.view s.count so.course at.fails.fails.why.run at.fails.survives tells commands stands;
     reads = unread fault new (commands ++ logged_in h) (world_after (world_of b.world) h);
   };
   run = joined old mid new so.course.run at.fails.fails.why.run;
   restart = λ tells. why fault refl tells;
+  has_properties = has fault;
   stops = λ all told. here fault all told;
   text = transcript h;
   wrote = subst (Appends b.written v.written) (append-nil (transcript h)) (Appends-trans b.written s.view.written v.written _ _ so.wrote wrote);
@@ -194,6 +207,12 @@ stops_at_restart old mid new b s line fault v so at wrote next = record {
     unread start.StoreFault d commands w = tt
     unread start.NoMemory d commands w = tt
     unread start.Spent d commands w = tt
+
+    has : (f : StartFault) → HasProperties (ended_by f)
+    has (start.Damaged at) = tt
+    has start.StoreFault = tt
+    has start.NoMemory = tt
+    has start.Spent = tt
 
     why : (f : StartFault) → fault ≡ f → Tells old → RestartStops (ended_by f) (world_after (world_of b.world) h)
     why (start.Damaged place) is tells = at.fails.fails.why.never_damaged (tells_now old mid so.course.run tells) place is
@@ -218,11 +237,11 @@ refused_here : (events : ℕ) (history : History) (line : List ℕ) → events �
 refused_here events history line numbered bad = subst (λ (n : ℕ). IsRefused n line) numbered bad
 
 -- a line that was played, or not, ends the replay
-line_stops : (old mid new : DiskState) (b : Begin) (s : Stand) (line : List ℕ) (last : Bool) (v : View) (count : ℕ) (stop : Ended) (so : SoFar old mid b s) → LinePlayed mid new s.view line last (Some stop) v s.count count
+line_stops : (props : List PropLine) (old mid new : DiskState) (b : Begin) (s : Stand) (line : List ℕ) (last : Bool) (v : View) (count : ℕ) (stop : Ended) (so : SoFar props old mid b s) → LinePlayed props mid new s.view line last (Some stop) v s.count count
     → is_line line ≡ true → IsNext b.left (lines_in so.course.history) line → (last ≡ true → (all : List ℕ) → b.left ≡ Some all → lines_of all ≡ lines_in so.course.history ++ line ∷ [])
-    → Ran old new b.world b.words b.left b.written v.written stop count
+    → Ran props old new b.world b.words b.left b.written v.written stop count
 unfolding IsPlain
-line_stops old mid new b s line last v count stop so p is next whole = go p.play last p.plays p.result_is p.counted whole
+line_stops props old mid new b s line last v count stop so p is next whole = go p.play last p.plays p.result_is p.counted whole
   where
     h : History
     h = so.course.history
@@ -231,31 +250,31 @@ line_stops old mid new b s line last v count stop so p is next whole = go p.play
     told_here event = ap (λ (n : ℕ). told_of n event) so.course.numbered
 
     Goal : ℕ → Ended → Type 0
-    Goal n e = Ran old new b.world b.words b.left b.written v.written e n
+    Goal n e = Ran props old new b.world b.words b.left b.written v.written e n
 
-    go : (play : Play) (last : Bool) → PlaysSo mid new s.view line play v → Some stop ≡ end_of_play last play → count ≡ s.count + counts play
-        → (last ≡ true → (all : List ℕ) → b.left ≡ Some all → lines_of all ≡ lines_in h ++ line ∷ []) → Ran old new b.world b.words b.left b.written v.written stop count
+    go : (play : Play) (last : Bool) → PlaysSo props mid new s.view line play v → Some stop ≡ end_of_play last play → count ≡ s.count + counts play
+        → (last ≡ true → (all : List ℕ) → b.left ≡ Some all → lines_of all ≡ lines_in h ++ line ∷ []) → Ran props old new b.world b.words b.left b.written v.written stop count
     go Played false (event, plays, wrote) is_end n whole = absurd cc
     go Played true (event, plays, wrote) is_end n whole =
         subst (λ (e : Ended). Goal count e) (sym (the_end stop ended.Done is_end)) (subst (λ (k : ℕ). Goal k ended.Done) (sym n)
-        (stops_behind old mid new b s ended.Done line event v (told_of s.view.events event) so plays is (λ w. tt) wrote (ap (λ (t : List ℕ). transcript h ++ t) (told_here event)) (whole refl)))
+        (stops_behind props old mid new b s ended.Done line event v (told_of s.view.events event) so plays is ((λ w. tt), tt) wrote (ap (λ (t : List ℕ). transcript h ++ t) (told_here event)) (whole refl)))
     go BadLine last (bad, u) is_end n whole =
         subst (λ (e : Ended). Goal count e) (sym (the_end stop ended.BadLine (is_end ∙ bad_end last))) (subst (λ (k : ℕ). Goal k ended.BadLine) (sym (n ∙ omega arith))
-        (stops_before old mid new b s ended.BadLine v so u (λ w. tt) (λ all told. let at = next.next all told in inl (line, at.0, at.1, refused_here s.view.events h line so.course.numbered bad))))
+        (stops_before props old mid new b s ended.BadLine v so u ((λ w. tt), tt) (λ all told. let at = next.next all told in inl (line, at.0, at.1, refused_here s.view.events h line so.course.numbered bad))))
       where
         bad_end : (l : Bool) → end_of_play l BadLine ≡ Some ended.BadLine
         bad_end true = refl
         bad_end false = refl
     go Unread last u is_end n whole =
         subst (λ (e : Ended). Goal count e) (sym (the_end stop ended.NoMemory (is_end ∙ no_end last))) (subst (λ (k : ℕ). Goal k ended.NoMemory) (sym (n ∙ omega arith))
-        (stops_before old mid new b s ended.NoMemory v so u (λ w. tt) (λ all told. let at = next.next all told in (line ∷ at.0, at.1))))
+        (stops_before props old mid new b s ended.NoMemory v so u ((λ w. tt), tt) (λ all told. let at = next.next all told in (line ∷ at.0, at.1))))
       where
         no_end : (l : Bool) → end_of_play l Unread ≡ Some ended.NoMemory
         no_end true = refl
         no_end false = refl
     go Untold last (event, plays, wrote) is_end n whole =
         subst (λ (e : Ended). Goal count e) (sym (the_end stop ended.NoMemory (is_end ∙ no_end last))) (subst (λ (k : ℕ). Goal k ended.NoMemory) (sym n)
-        (stops_behind old mid new b s ended.NoMemory line event v [] so plays is (λ w. tt) wrote (told_of (events_in h) event, ap (λ (t : List ℕ). t ++ told_of (events_in h) event) (append-nil (transcript h)))
+        (stops_behind props old mid new b s ended.NoMemory line event v [] so plays is ((λ w. tt), tt) wrote (told_of (events_in h) event, ap (λ (t : List ℕ). t ++ told_of (events_in h) event) (append-nil (transcript h)))
         (λ all told. begins b.left (lines_in h) line next all told)))
       where
         no_end : (l : Bool) → end_of_play l Untold ≡ Some ended.NoMemory
@@ -263,7 +282,7 @@ line_stops old mid new b s line last v count stop so p is next whole = go p.play
         no_end false = refl
     go Unwritten last (event, plays, wrote) is_end n whole =
         subst (λ (e : Ended). Goal count e) (sym (the_end stop ended.WriteFault (is_end ∙ no_end last))) (subst (λ (k : ℕ). Goal k ended.WriteFault) (sym n)
-        (stops_behind old mid new b s ended.WriteFault line event v wrote.front so plays is (λ w. tt) wrote.wrote
+        (stops_behind props old mid new b s ended.WriteFault line event v wrote.front so plays is ((λ w. tt), tt) wrote.wrote
         (wrote.more, append_assoc (transcript h) wrote.front wrote.more ∙ ap (λ (t : List ℕ). transcript h ++ t) (wrote.whole ∙ told_here event))
         (λ all told. begins b.left (lines_in h) line next all told)))
       where
@@ -272,64 +291,64 @@ line_stops old mid new b s line last v count stop so p is next whole = go p.play
         no_end false = refl
     go (Unopened fault) last (at, wrote) is_end n whole =
         subst (λ (e : Ended). Goal count e) (sym (the_end stop (ended_by fault) (is_end ∙ no_end last))) (subst (λ (k : ℕ). Goal k (ended_by fault)) (sym (n ∙ omega arith))
-        (stops_at_restart old mid new b s line fault v so at wrote next))
+        (stops_at_restart props old mid new b s line fault v so at wrote next))
       where
         no_end : (l : Bool) → end_of_play l (Unopened fault) ≡ Some (ended_by fault)
         no_end true = refl
         no_end false = refl
 
-ahead_of : (old mid : DiskState) (b : Begin) (s : Stand) (so : SoFar old mid b s) → IsAhead b.left s.ahead (lines_in so.course.history)
-ahead_of old mid b s so = record { whole = so.course.whole; consumed = so.consumed }
+ahead_of : (props : List PropLine) (old mid : DiskState) (b : Begin) (s : Stand) (so : SoFar props old mid b s) → IsAhead b.left s.ahead (lines_in so.course.history)
+ahead_of props old mid b s so = record { whole = so.course.whole; consumed = so.consumed }
 
 -- the next line ends the replay
-pub next_stops : (old mid new : DiskState) (b : Begin) (s s' : Stand) (stop : Ended) → SoFar old mid b s → Next mid new s (Some stop) s' → Ran old new b.world b.words b.left b.written s'.view.written stop s'.count
+pub next_stops : (props : List PropLine) (old mid new : DiskState) (b : Begin) (s s' : Stand) (stop : Ended) → SoFar props old mid b s → Next props mid new s (Some stop) s' → Ran props old new b.world b.words b.left b.written s'.view.written stop s'.count
 unfolding IsPlain
-next_stops old mid new b s s' stop so n = go n.how n.read n.next
+next_stops props old mid new b s s' stop so n = go n.how n.read n.next
   where
     lines : List (List ℕ)
     lines = lines_in so.course.history
 
     ahead : IsAhead b.left s.ahead lines
-    ahead = ahead_of old mid b s so
+    ahead = ahead_of props old mid b s so
 
-    ends : (e : Ended) → ((w : WorldState) → RestartStops e w) → StopsReading mid new s.view s'.view s.count s'.count e (Some stop)
-        → ((all : List ℕ) → b.left ≡ Some all → Stops e all lines (events_in so.course.history)) → Ran old new b.world b.words b.left b.written s'.view.written stop s'.count
+    ends : (e : Ended) → IsPlain e → StopsReading mid new s.view s'.view s.count s'.count e (Some stop)
+        → ((all : List ℕ) → b.left ≡ Some all → Stops e all lines (events_in so.course.history)) → Ran props old new b.world b.words b.left b.written s'.view.written stop s'.count
     ends e plain r here =
-        subst (λ (x : Ended). Ran old new b.world b.words b.left b.written s'.view.written x s'.count) (sym (the_end stop e r.result_is))
-        (subst (λ (k : ℕ). Ran old new b.world b.words b.left b.written s'.view.written e k) (sym r.counted) (before e plain r here))
+        subst (λ (x : Ended). Ran props old new b.world b.words b.left b.written s'.view.written x s'.count) (sym (the_end stop e r.result_is))
+        (subst (λ (k : ℕ). Ran props old new b.world b.words b.left b.written s'.view.written e k) (sym r.counted) (before e plain r here))
       where
-        before : (e : Ended) → ((w : WorldState) → RestartStops e w) → StopsReading mid new s.view s'.view s.count s'.count e (Some stop)
-            → ((all : List ℕ) → b.left ≡ Some all → Stops e all lines (events_in so.course.history)) → Ran old new b.world b.words b.left b.written s'.view.written e s.count
-        before e plain r here = stops_before old mid new b s e s'.view so r.untouched plain here
+        before : (e : Ended) → IsPlain e → StopsReading mid new s.view s'.view s.count s'.count e (Some stop)
+            → ((all : List ℕ) → b.left ≡ Some all → Stops e all lines (events_in so.course.history)) → Ran props old new b.world b.words b.left b.written s'.view.written e s.count
+        before e plain r here = stops_before props old mid new b s e s'.view so r.untouched plain here
 
-    go : (how : Got) → Read s how n.line s' → NextSo mid new s how n.line (Some stop) s' → Ran old new b.world b.words b.left b.written s'.view.written stop s'.count
+    go : (how : Got) → Read s how n.line s' → NextSo props mid new s how n.line (Some stop) s' → Ran props old new b.world b.words b.left b.written s'.view.written stop s'.count
     go got.Line read played =
-        line_stops old mid new b s n.line false s'.view s'.count stop so played read.is_line
+        line_stops props old mid new b s n.line false s'.view s'.count stop so played read.is_line
         (record { next = λ all told. next_is b.left s.ahead s'.ahead lines n.line ahead read.is_line (read.consumed (λ e. cc)) all told }) (λ e. absurd cc)
     go got.End read played =
         let whole = λ (all : List ℕ) (told : b.left ≡ Some all). last_is b.left s.ahead s'.ahead lines n.line ahead read.is_line (read.consumed (λ e. cc)) (read.end refl) all told in
-        line_stops old mid new b s n.line true s'.view s'.count stop so played read.is_line (record { next = λ all told. ([], whole all told) }) (λ e. whole)
-    go got.TooLong read r = ends ended.BadLine (λ w. tt) r (λ all told. too_long b.left s.ahead s'.ahead lines n.line _ ahead read.is_line (read.consumed (λ e. cc)) (read.long refl) all told)
+        line_stops props old mid new b s n.line true s'.view s'.count stop so played read.is_line (record { next = λ all told. ([], whole all told) }) (λ e. whole)
+    go got.TooLong read r = ends ended.BadLine ((λ w. tt), tt) r (λ all told. too_long b.left s.ahead s'.ahead lines n.line _ ahead read.is_line (read.consumed (λ e. cc)) (read.long refl) all told)
     go got.Past read r =
-        ends ended.BadLine (λ w. tt) r (λ all told. past b.left s.ahead s'.ahead lines n.line _ s.used s'.used ahead read.is_line (read.consumed (λ e. cc)) so.used_is (read.used (λ e. cc)) (read.past refl).0 (read.past refl).1 all told)
-    go got.Fault read r = ends ended.ReadFault (λ w. tt) r (λ all told. starts b.left s.ahead lines ahead all told)
-    go got.NoMemory read r = ends ended.NoMemory (λ w. tt) r (λ all told. starts b.left s.ahead lines ahead all told)
+        ends ended.BadLine ((λ w. tt), tt) r (λ all told. past b.left s.ahead s'.ahead lines n.line _ s.used s'.used ahead read.is_line (read.consumed (λ e. cc)) so.used_is (read.used (λ e. cc)) (read.past refl).0 (read.past refl).1 all told)
+    go got.Fault read r = ends ended.ReadFault ((λ w. tt), tt) r (λ all told. starts b.left s.ahead lines ahead all told)
+    go got.NoMemory read r = ends ended.NoMemory ((λ w. tt), tt) r (λ all told. starts b.left s.ahead lines ahead all told)
 
 -- the next line was played, and the replay goes on
-pub record GoesFurther (old new : DiskState) (b : Begin) (s s' : Stand) : Type 0 where
-  pub so_far : SoFar old new b s'
+pub record GoesFurther (props : List PropLine) (old new : DiskState) (b : Begin) (s s' : Stand) : Type 0 where
+  pub so_far : SoFar props old new b s'
   pub further : s.used < s'.used
   pub counted : s'.count ≡ s.count + 1
 
-pub next_goes_on : (old mid new : DiskState) (b : Begin) (s s' : Stand) → SoFar old mid b s → Next mid new s None s' → GoesFurther old new b s s'
-next_goes_on old mid new b s s' so n = go n.how n.read n.next
+pub next_goes_on : (props : List PropLine) (old mid new : DiskState) (b : Begin) (s s' : Stand) → SoFar props old mid b s → Next props mid new s None s' → GoesFurther props old new b s s'
+next_goes_on props old mid new b s s' so n = go n.how n.read n.next
   where
-    played : (play : Play) → PlaysSo mid new s.view n.line play s'.view → None ≡ end_of_play false play → s'.count ≡ s.count + counts play → Read s got.Line n.line s' → GoesFurther old new b s s'
+    played : (play : Play) → PlaysSo props mid new s.view n.line play s'.view → None ≡ end_of_play false play → s'.count ≡ s.count + counts play → Read s got.Line n.line s' → GoesFurther props old new b s s'
     played Played (event, plays, wrote) is_end count read =
         let used = read.used (λ e. cc) in
         record {
-          so_far = subst (λ (k : ℕ). SoFar old new b (record { view = s'.view; ahead = s'.ahead; used = s'.used; count = k })) (sym count)
-              (so_far_line old mid new b s n.line event s'.view s'.ahead s'.used so plays wrote read.is_line (read.consumed (λ e. cc)) used);
+          so_far = subst (λ (k : ℕ). SoFar props old new b (record { view = s'.view; ahead = s'.ahead; used = s'.used; count = k })) (sym count)
+              (so_far_line props old mid new b s n.line event s'.view s'.ahead s'.used so plays wrote read.is_line (read.consumed (λ e. cc)) used);
           further = omega (arith, used, length-append n.line (10 ∷ []));
           counted = count;
         }
@@ -347,13 +366,120 @@ next_goes_on old mid new b s s' so n = go n.how n.read n.next
     not_last Unwritten e = absurd cc
     not_last (Unopened fault) e = absurd cc
 
-    go : (how : Got) → Read s how n.line s' → NextSo mid new s how n.line None s' → GoesFurther old new b s s'
+    go : (how : Got) → Read s how n.line s' → NextSo props mid new s how n.line None s' → GoesFurther props old new b s s'
     go got.Line read p = played p.play p.plays p.result_is p.counted read
     go got.End read p = absurd (not_last p.play p.result_is)
     go got.TooLong read r = let no = r.result_is in absurd cc
     go got.Past read r = let no = r.result_is in absurd cc
     go got.Fault read r = let no = r.result_is in absurd cc
     go got.NoMemory read r = let no = r.result_is in absurd cc
+
+-- under properties that the lists stand for
+
+-- the same for all of them
+abbrev pub SoFarUnder : DiskState → DiskState → Begin → Stand → Type 0
+SoFarUnder old new b s = (props : List PropLine) → HasLists b.world props → SoFar props old new b s
+
+pub stands_under : (old mid : DiskState) (b : Begin) (s : Stand) → SoFarUnder old mid b s → (props : List PropLine) × HasLists b.world props
+    → (Tells old → (commands : List KeyCommand) × StandsFor old b.world.keys.store commands) → Tells mid → (commands : List KeyCommand) × StandsFor mid s.view.world.keys.store commands
+stands_under old mid b s so some stands tells =
+    let course = (so some.0 some.1).course in
+    let told : Tells old = subst (λ (t : Bool). IsTrue t) course.run.tells tells in
+    let before = stands told in
+    (before.0 ++ logged_in course.history, course.stands told before.0 before.1)
+
+pub lists_under : (old mid : DiskState) (b : Begin) (s : Stand) → SoFarUnder old mid b s → (props : List PropLine) × HasLists b.world props → (props : List PropLine) × HasLists s.view.world props
+lists_under old mid b s so some = (some.0, has_lists b.world s.view.world some.0 (so some.0 some.1).course.lists some.1)
+
+pub goes_on_under : (old mid new : DiskState) (b : Begin) (s s' : Stand) → SoFarUnder old mid b s → ((props : List PropLine) → HasLists s.view.world props → Next props mid new s None s')
+    → (props : List PropLine) → HasLists b.world props → GoesFurther props old new b s s'
+goes_on_under old mid new b s s' so next props has =
+    let here = so props has in
+    next_goes_on props old mid new b s s' here (next props (has_lists b.world s.view.world props here.course.lists has))
+
+pub stops_under : (old mid new : DiskState) (b : Begin) (s s' : Stand) (stop : Ended) → SoFarUnder old mid b s → ((props : List PropLine) → HasLists s.view.world props → Next props mid new s (Some stop) s')
+    → (props : List PropLine) → HasLists b.world props → Ran props old new b.world b.words b.left b.written s'.view.written stop s'.count
+stops_under old mid new b s s' stop so next props has =
+    let here = so props has in
+    next_stops props old mid new b s s' stop here (next props (has_lists b.world s.view.world props here.course.lists has))
+
+-- the causes of faults
+
+no_end : (e : Ended) → None ≡ Some e → ⊥
+no_end e is = absurd cc
+
+pub goes_on_untroubled : (input input' out out' disk disk' : ℕ) → input ≤ input' → out ≤ out' → disk ≤ disk' → Caused input input' out out' disk disk' None
+goes_on_untroubled input input' out out' disk disk' read write store = record {
+  read_later = read;
+  write_later = write;
+  disk_later = store;
+  read = λ e. absurd (no_end ended.ReadFault e);
+  write = λ e. absurd (no_end ended.WriteFault e);
+  store = λ e. absurd (no_end ended.StoreFault e);
+}
+
+-- the count of the disk's faults never falls
+disk_later : (props : List PropLine) (old new : DiskState) (v v' : View) (line : List ℕ) (play : Play) → PlaysSo props old new v line play v' → old.faults ≤ new.faults
+disk_later props old new v v' line Played (event, plays, wrote) = plays.goes_on.run.faults
+disk_later props old new v v' line BadLine (bad, u) = u.goes_on.run.faults
+disk_later props old new v v' line Unread u = u.goes_on.run.faults
+disk_later props old new v v' line Untold (event, plays, wrote) = plays.goes_on.run.faults
+disk_later props old new v v' line Unwritten (event, plays, wrote) = plays.goes_on.run.faults
+disk_later props old new v v' line (Unopened fault) (at, wrote) = at.fails.fails.why.run.faults
+
+never_opened : (fault : StartFault) → Some (ended_by fault) ≡ Some ended.ReadFault → ⊥
+never_opened (start.Damaged at) e = absurd cc
+never_opened start.StoreFault e = absurd cc
+never_opened start.NoMemory e = absurd cc
+never_opened start.Spent e = absurd cc
+
+is_store_fault : (fault : StartFault) → Some (ended_by fault) ≡ Some ended.StoreFault → fault ≡ start.StoreFault
+is_store_fault (start.Damaged at) e = absurd cc
+is_store_fault start.StoreFault e = refl
+is_store_fault start.NoMemory e = absurd cc
+is_store_fault start.Spent e = absurd cc
+
+-- no line that was read is a fault of the input
+never_read : (last : Bool) (play : Play) → end_of_play last play ≡ Some ended.ReadFault → ⊥
+never_read true Played e = absurd cc
+never_read false Played e = absurd cc
+never_read true BadLine e = absurd cc
+never_read false BadLine e = absurd cc
+never_read true Unread e = absurd cc
+never_read false Unread e = absurd cc
+never_read true Untold e = absurd cc
+never_read false Untold e = absurd cc
+never_read true Unwritten e = absurd cc
+never_read false Unwritten e = absurd cc
+never_read true (Unopened fault) e = never_opened fault e
+never_read false (Unopened fault) e = never_opened fault e
+
+-- a store fault comes where a restart failed
+store_rose : (props : List PropLine) (old new : DiskState) (v v' : View) (line : List ℕ) (last : Bool) (play : Play) → PlaysSo props old new v line play v' → end_of_play last play ≡ Some ended.StoreFault
+    → Rose old.faults new.faults
+store_rose props old new v v' line true Played p e = absurd cc
+store_rose props old new v v' line false Played p e = absurd cc
+store_rose props old new v v' line true BadLine p e = absurd cc
+store_rose props old new v v' line false BadLine p e = absurd cc
+store_rose props old new v v' line true Unread p e = absurd cc
+store_rose props old new v v' line false Unread p e = absurd cc
+store_rose props old new v v' line true Untold p e = absurd cc
+store_rose props old new v v' line false Untold p e = absurd cc
+store_rose props old new v v' line true Unwritten p e = absurd cc
+store_rose props old new v v' line false Unwritten p e = absurd cc
+store_rose props old new v v' line true (Unopened fault) (at, wrote) e = at.fails.fails.why.cause (is_store_fault fault e)
+store_rose props old new v v' line false (Unopened fault) (at, wrote) e = at.fails.fails.why.cause (is_store_fault fault e)
+
+pub line_caused : (props : List PropLine) (old new : DiskState) (v v' : View) (line : List ℕ) (last : Bool) (result : Option Ended) (count count' input input' out out' : ℕ)
+    → LinePlayed props old new v line last result v' count count' → input ≤ input' → out ≤ out' → (result ≡ Some ended.WriteFault → Rose out out') → Caused input input' out out' old.faults new.faults result
+line_caused props old new v v' line last result count count' input input' out out' p read write wrote = record {
+  read_later = read;
+  write_later = write;
+  disk_later = disk_later props old new v v' line p.play p.plays;
+  read = λ e. absurd (never_read last p.play (sym p.result_is ∙ e));
+  write = wrote;
+  store = λ e. store_rose props old new v v' line last p.play p.plays (sym p.result_is ∙ e);
+}
 
 -- nothing was read yet
 pub first_ahead : (bytes : List ℕ) (left : Option (List ℕ)) → bytes ≡ [] → Consumes left (prepend_known bytes left) []

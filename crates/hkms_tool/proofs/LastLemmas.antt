@@ -9,14 +9,20 @@ use Rattle.frame_log.specs.declared.fault.StartFault.{StartFault}
 use Rattle.frame_log.specs.declared.fault.StartFault.TheVariants as start
 use Rattle.key_rows.specs.declared.rows.KeyCommand.{KeyCommand}
 use Rattle.key_rows.specs.Table.{Table}
+use Rattle.prop_text.specs.declared.lines.PropLine.{PropLine}
+use Rattle.prop_text.specs.declared.faults.PropFault.{PropFault}
+use Rattle.prop_text.specs.declared.faults.PropFault.TheVariants as prop_fault
 use Rattle.kms_store.specs.Store.{IsDamagedAt, IsKeyLog, next_opening}
 use Rattle.world_run.specs.World.{RunningWorld, WorldState, first_world}
 use Rattle.world_run.specs.Keeps.{Begins}
 use Rattle.world_run.proofs.StartLemmas.{first-linked, first-open}
 use Rattle.hkms_tool.specs.declared.replay.Ended.{Ended}
 use Rattle.hkms_tool.specs.declared.replay.Ended.TheVariants as ended
+use Rattle.hkms_tool.specs.declared.props.PropsFault.{PropsFault}
+use Rattle.hkms_tool.specs.declared.props.PropsFault.TheVariants as props_fault
+use Rattle.hkms_tool.specs.Properties.{HasPropsFault, ReadsProperties}
 use Rattle.hkms_tool.specs.Run.{FilesOpen, History, Runs, SurvivesIn, lines_in, logged_in, transcript, world_after}
-use Rattle.hkms_tool.specs.Replay.{IsTold, LeavesStarted, OnDisk, Played, ReadsAt, Replay, RestartStops, Says, ended_by, last_line, status_of}
+use Rattle.hkms_tool.specs.Replay.{IsTold, LeavesStarted, OnDisk, Played, ReadsAt, Replay, ReplayUnder, RestartStops, Says, ended_by, ended_by_props, ended_by_text, last_line, status_of}
 use Rattle.hkms_tool.specs.Steps.{Closes, Ran}
 use Rattle.hkms_tool.proofs.HistoryLemmas.{IsFirst, tells_now}
 
@@ -51,11 +57,11 @@ closed stop how lines told body written mid now is wrote c = go c.writes
 
 -- the log could not be opened
 
-pub unopened : (old new : DiskState) (words : ℕ → ℕ) (left written now : Option (List ℕ)) (fault : StartFault) (how : Ended)
+pub unopened : (lines : List PropLine) (old new : DiskState) (words : ℕ → ℕ) (left written now : Option (List ℕ)) (fault : StartFault) (how : Ended)
     → ((at : ℕ) → fault ≡ start.Damaged at → Tells old → IsDamagedAt (old.reads 0) at)
     → (fault ≡ start.Spent → Tells old → (commands : List KeyCommand) × (table : Table) × IsKeyLog (old.reads 0) commands table × (table.opening ≡ 4294967295))
-    → (Tells old → LeavesOnly 0 old new (LeavesStarted old)) → Closes (ended_by fault) 0 written now how → Replay old new words left written now how
-unopened old new words left written now fault how damaged spent moments c =
+    → (Tells old → LeavesOnly 0 old new (LeavesStarted old)) → Closes (ended_by fault) 0 written now how → ReplayUnder lines old new words left written now how
+unopened lines old new words left written now fault how damaged spent moments c =
     let w = closed (ended_by fault) how 0 [] [] written written now (nothing_told fault) (Appends-nil written) c in
     inl (record { fault = fault; damaged = damaged; spent = spent; moments = moments; text = w.text; wrote = w.wrote; says = w.says })
   where
@@ -65,14 +71,37 @@ unopened old new words left written now fault how damaged spent moments c =
     nothing_told start.NoMemory = ([], refl)
     nothing_told start.Spent = refl
 
+-- the properties could not be read
+
+nothing_told_of_text : (f : PropFault) → IsTold (ended_by_text f) [] []
+nothing_told_of_text (prop_fault.BadLine number) = refl
+nothing_told_of_text (prop_fault.Repeated number) = refl
+nothing_told_of_text (prop_fault.UnknownName number) = refl
+nothing_told_of_text prop_fault.TooLong = refl
+nothing_told_of_text prop_fault.NoMemory = ([], refl)
+
+nothing_told_of_props : (f : PropsFault) → IsTold (ended_by_props f) [] []
+nothing_told_of_props props_fault.ReadFault = refl
+nothing_told_of_props (props_fault.TextFault f) = nothing_told_of_text f
+
+pub bad_properties : (same : Type 0) (old new : DiskState) (acls acls' : Option (List ℕ)) (words : ℕ → ℕ) (left written now : Option (List ℕ)) (fault : PropsFault) (how : Ended)
+    → HasPropsFault acls fault → same → Closes (ended_by_props fault) 0 written now how → Replay same old new acls acls' words left written now how
+bad_properties same old new acls acls' words left written now fault how has untouched c =
+    let w = closed (ended_by_props fault) how 0 [] [] written written now (nothing_told_of_props fault) (Appends-nil written) c in
+    inl (record { fault = fault; has_fault = has; untouched = untouched; text = w.text; wrote = w.wrote; says = w.says })
+
+pub has_read : (same : Type 0) (old new : DiskState) (acls acls' : Option (List ℕ)) (words : ℕ → ℕ) (left written now : Option (List ℕ)) (how : Ended) (lines : List PropLine)
+    → ReadsProperties acls acls' lines → ReplayUnder lines old new words left written now how → Replay same old new acls acls' words left written now how
+has_read same old new acls acls' words left written now how lines read replay = inr (record { lines = lines; read = read; replay = replay })
+
 -- lines were played
 
 pub is_first : (w : WorldState) (table : Table) → w ≡ first_world table → IsFirst w
 is_first w table is = subst IsFirst (sym is) (record { linked = first-linked table; files_open = first-open table })
 
-pub played : (old mid new : DiskState) (r : RunningWorld) (words : ℕ → ℕ) (left written told now : Option (List ℕ)) (stop how : Ended) (count : ℕ) → Begins old mid r
-    → (Tells old → LeavesOnly 0 old mid (LeavesStarted old)) → RunOn 0 old mid → Ran mid new r words left written told stop count → Closes stop count told now how → Replay old new words left written now how
-played old mid new r words left written told now stop how count b moments run ran c =
+pub played : (lines : List PropLine) (old mid new : DiskState) (r : RunningWorld) (words : ℕ → ℕ) (left written told now : Option (List ℕ)) (stop how : Ended) (count : ℕ) → Begins old mid r
+    → (Tells old → LeavesOnly 0 old mid (LeavesStarted old)) → RunOn 0 old mid → Ran lines mid new r words left written told stop count → Closes stop count told now how → ReplayUnder lines old new words left written now how
+played lines old mid new r words left written told now stop how count b moments run ran c =
     inr (record { history = h; stop = stop; played = whole; text = w.text; wrote = w.wrote; says = w.says })
   where
     h : History
@@ -99,11 +128,11 @@ played old mid new r words left written told now stop how count b moments run ra
               (λ bytes left. inr (subst (λ (v : WorldState). SurvivesIn (log.0 ++ next_opening b.table ∷ []) v words h bytes) b.first left))).moments;
         }
 
-    whole : Played old new words left stop h
+    whole : Played lines old new words left stop h
     whole = record {
       table = b.table;
       before = mid.faults;
-      runs = subst (λ (T : Type 0). Runs T first words mid.faults h) same_tells (subst (λ (v : WorldState). Runs (Tells mid) v words mid.faults h) b.first ran.runs);
+      runs = subst (λ (T : Type 0). Runs lines T first words mid.faults h) same_tells (subst (λ (v : WorldState). Runs lines (Tells mid) v words mid.faults h) b.first ran.runs);
       files_open = λ tells. subst (λ (v : WorldState). FilesOpen v words h) b.first (ran.files_open (tells_now old mid run tells));
       on_disk = disk;
       reads = λ tells.
@@ -113,12 +142,17 @@ played old mid new r words left written told now stop how count b moments run ra
           (ran.kept (tells_now old mid run tells) (log.0 ++ next_opening b.table ∷ []) log.2).reads);
       restart = λ tells. subst (λ (v : WorldState). RestartStops stop (world_after v h)) b.first (ran.restart (tells_now old mid run tells));
       stops = ran.stops;
+      has_properties = ran.has_properties;
     }
 
 -- statuses and their causes
 
 pub is_done : (how : Ended) → status_of how ≡ 0 → how ≡ ended.Done
 is_done ended.Done h = refl
+is_done (ended.AclRefused number) h = absurd cc
+is_done (ended.AclRepeated number) h = absurd cc
+is_done (ended.AclUnknown number) h = absurd cc
+is_done ended.AclTooLong h = absurd cc
 is_done ended.BadLine h = absurd cc
 is_done (ended.Damaged at) h = absurd cc
 is_done ended.StoreFault h = absurd cc
@@ -129,6 +163,10 @@ is_done ended.Spent h = absurd cc
 
 pub is_store : (how : Ended) → status_of how ≡ 5 → how ≡ ended.StoreFault
 is_store ended.Done h = absurd cc
+is_store (ended.AclRefused number) h = absurd cc
+is_store (ended.AclRepeated number) h = absurd cc
+is_store (ended.AclUnknown number) h = absurd cc
+is_store ended.AclTooLong h = absurd cc
 is_store ended.BadLine h = absurd cc
 is_store (ended.Damaged at) h = absurd cc
 is_store ended.StoreFault h = refl
@@ -139,6 +177,10 @@ is_store ended.Spent h = absurd cc
 
 pub is_read : (how : Ended) → status_of how ≡ 7 → how ≡ ended.ReadFault
 is_read ended.Done h = absurd cc
+is_read (ended.AclRefused number) h = absurd cc
+is_read (ended.AclRepeated number) h = absurd cc
+is_read (ended.AclUnknown number) h = absurd cc
+is_read ended.AclTooLong h = absurd cc
 is_read ended.BadLine h = absurd cc
 is_read (ended.Damaged at) h = absurd cc
 is_read ended.StoreFault h = absurd cc
@@ -149,6 +191,10 @@ is_read ended.Spent h = absurd cc
 
 pub is_write : (how : Ended) → status_of how ≡ 8 → how ≡ ended.WriteFault
 is_write ended.Done h = absurd cc
+is_write (ended.AclRefused number) h = absurd cc
+is_write (ended.AclRepeated number) h = absurd cc
+is_write (ended.AclUnknown number) h = absurd cc
+is_write ended.AclTooLong h = absurd cc
 is_write ended.BadLine h = absurd cc
 is_write (ended.Damaged at) h = absurd cc
 is_write ended.StoreFault h = absurd cc

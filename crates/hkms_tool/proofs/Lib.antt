@@ -1,6 +1,9 @@
 pub mod EndLemmas
+mod FollowLemmas
 pub mod HistoryLemmas
 mod LastLemmas
+mod OrderLemmas
+mod PipeLemmas
+mod PropsLemmas
 pub mod SplitLemmas
 pub mod StageLemmas
-pub mod WordLemmas

@@ -2,6 +2,7 @@
 use Rattle.std.specs.Prelude.{◌⊎◌, ◌≤◌, ◌<◌, ℕ, ◌+◌, List, [], ◌∷◌, ◌++◌, Option, None, Some}
 use Rattle.hk_base.specs.Faults.{Rose}
 use Rattle.key_rows.specs.declared.rows.KeyCommand.{KeyCommand}
+use Rattle.prop_text.specs.declared.lines.PropLine.{PropLine}
 use Rattle.replay_text.specs.Events.{IsBad, IsQuiet, Spells}
 use Rattle.replay_text.specs.Transcript.{line_text}
 use Rattle.world_run.specs.declared.event.Event.{Event}
@@ -112,26 +113,26 @@ abbrev pub hidden_in : WorldState → (ℕ → ℕ) → History → Hidden
 hidden_in first words [] = nothing_drawn
 hidden_in first words (x ∷ earlier) = hidden_of (world_after first earlier) (behind (drawn_in earlier) words) x.event (hidden_in first words earlier)
 
--- The event of a line happens in this world, after so many events, with these words to come: the moment of an event is its
--- number. A store fault comes only where the disk's count of faults rose in the event.
-pub record EventRuns (tells : Type 0) (w : WorldState) (words : ℕ → ℕ) (events faults : ℕ) (line : List ℕ) (h : Happened) : Type 0 where
+-- Under properties of these lines, the event of a line happens in this world, after so many events, with these words to come: the
+-- moment of an event is its number. A store fault comes only where the disk's count of faults rose in the event.
+pub record EventRuns (lines : List PropLine) (tells : Type 0) (w : WorldState) (words : ℕ → ℕ) (events faults : ℕ) (line : List ℕ) (h : Happened) : Type 0 where
   pub spells : Spells line h.event
   pub few : events < most_events
   pub later : faults ≤ h.faults
-  pub step : LinkedStep w words (events + 1) h.event (Rose faults h.faults) tells h.reply h.drawn h.logged h.world
+  pub step : LinkedStep lines w words (events + 1) h.event (Rose faults h.faults) tells h.reply h.drawn h.logged h.world
 
 -- A line that is played has an event, or it is quiet.
-abbrev pub LineRuns : Type 0 → WorldState → (ℕ → ℕ) → ℕ → ℕ → List ℕ → Option Happened → Type 0
-LineRuns tells w words events faults line None = IsQuiet line
-LineRuns tells w words events faults line (Some h) = EventRuns tells w words events faults line h
+abbrev pub LineRuns : List PropLine → Type 0 → WorldState → (ℕ → ℕ) → ℕ → ℕ → List ℕ → Option Happened → Type 0
+LineRuns lines tells w words events faults line None = IsQuiet line
+LineRuns lines tells w words events faults line (Some h) = EventRuns lines tells w words events faults line h
 
--- The lines of a history run one after another, from this world on, with these words to come and this count of faults. `tells` is
--- whether the disk tells what it holds.
-abbrev pub Runs : Type 0 → WorldState → (ℕ → ℕ) → ℕ → History → Type 0
-Runs tells first words before [] = Unit {0}
-Runs tells first words before (x ∷ earlier) =
-    LineRuns tells (world_after first earlier) (behind (drawn_in earlier) words) (events_in earlier) (faults_after before earlier) x.line x.event
-    × Runs tells first words before earlier
+-- Under properties of these lines, the lines of a history run one after another, from this world on, with these words to come and
+-- this count of faults. `tells` is whether the disk tells what it holds.
+abbrev pub Runs : List PropLine → Type 0 → WorldState → (ℕ → ℕ) → ℕ → History → Type 0
+Runs lines tells first words before [] = Unit {0}
+Runs lines tells first words before (x ∷ earlier) =
+    LineRuns lines tells (world_after first earlier) (behind (drawn_in earlier) words) (events_in earlier) (faults_after before earlier) x.line x.event
+    × Runs lines tells first words before earlier
 
 -- In each world on the way the zone files open.
 abbrev pub FilesOpen : WorldState → (ℕ → ℕ) → History → Type 0

@@ -7,7 +7,9 @@ use Rattle.hk_base.specs.Reading.{IsMore}
 use Rattle.hk_base.specs.Writing.{WroteFront}
 use Rattle.frame_log.specs.declared.fault.StartFault.{StartFault}
 use Rattle.key_rows.specs.declared.rows.KeyCommand.{KeyCommand}
+use Rattle.kms_acls.specs.StandsFor.{StandsFor as ListsFor}
 use Rattle.kms_store.specs.Store.{StandsFor}
+use Rattle.prop_text.specs.declared.lines.PropLine.{PropLine}
 use Rattle.replay_text.specs.Events.{Spells}
 use Rattle.replay_text.specs.Transcript.{line_text}
 use Rattle.world_run.specs.declared.event.Line.{Line}
@@ -21,8 +23,16 @@ use Rattle.hkms_tool.specs.declared.replay.Ended.TheVariants as ended
 use Rattle.hkms_tool.specs.declared.stage.Play.{Play}
 use Rattle.hkms_tool.specs.declared.stage.Play.TheVariants.{Played, BadLine, Unread, Untold, Unwritten, Unopened}
 use Rattle.hkms_tool.specs.Lines.{is_line, line_used}
-use Rattle.hkms_tool.specs.Replay.{IsTold, ReadsAt, RestartStops, Stops, ended_by, last_line}
+use Rattle.hkms_tool.specs.Replay.{HasProperties, IsTold, ReadsAt, RestartStops, Stops, ended_by, last_line}
 use Rattle.hkms_tool.specs.Run.{FilesOpen, Happened, History, IsRefused, LineRuns, Runs, SurvivesIn, drawn_of, events_in, events_of, faults_of, lines_in, logged_in, logged_of, told_of, transcript, world_after, world_of_line}
+
+-- the access control lists of the world stand for these lines
+abbrev pub HasLists : RunningWorld → List PropLine → Type 0
+HasLists r lines = ListsFor r.keys.acls lines
+
+-- the access control lists stay as they are
+abbrev pub SameLists : RunningWorld → RunningWorld → Type 0
+SameLists r r' = r'.keys.acls ≡ r.keys.acls
 
 -- where a replay stands between two lines
 pub record View : Type 0 where
@@ -37,10 +47,11 @@ pub record GoesOn (old new : DiskState) (r r' : RunningWorld) (logged : List Key
   pub survives : SurvivesThrough old new r
   pub run : RunOn 0 old new
 
--- a line was played, with its event if it has one
-pub record PlaysLine (old new : DiskState) (v : View) (line : List ℕ) (event : Option Happened) (v' : View) : Type 0 where
-  pub runs : LineRuns (Tells old) (world_of v.world) v.words v.events old.faults line event
+-- under properties of these lines a line was played, with its event if it has one
+pub record PlaysLine (lines : List PropLine) (old new : DiskState) (v : View) (line : List ℕ) (event : Option Happened) (v' : View) : Type 0 where
+  pub runs : LineRuns lines (Tells old) (world_of v.world) v.words v.events old.faults line event
   pub world_is : world_of v'.world ≡ world_of_line (world_of v.world) event
+  pub lists : SameLists v.world v'.world
   pub faults_are : new.faults ≡ faults_of old.faults event
   pub rest : (k : ℕ) → v'.words k ≡ v.words (drawn_of event + k)
   pub counted : v'.events ≡ v.events + events_of event
@@ -59,13 +70,13 @@ pub record Untouched (old new : DiskState) (v v' : View) : Type 0 where
   pub faults_are : new.faults ≡ old.faults
 
 -- how a line came out
-abbrev pub PlaysSo : DiskState → DiskState → View → List ℕ → Play → View → Type 0
-PlaysSo old new v line Played v' = (event : Option Happened) × PlaysLine old new v line event v' × Appends v.written v'.written (told_of v.events event)
-PlaysSo old new v line BadLine v' = IsRefused v.events line × Untouched old new v v'
-PlaysSo old new v line Unread v' = Untouched old new v v'
-PlaysSo old new v line Untold v' = (event : Option Happened) × PlaysLine old new v line event v' × Appends v.written v'.written []
-PlaysSo old new v line Unwritten v' = (event : Option Happened) × PlaysLine old new v line event v' × WroteFront v.written v'.written (told_of v.events event)
-PlaysSo old new v line (Unopened fault) v' = StopsAtRestart old new v line fault v' × Appends v.written v'.written []
+abbrev pub PlaysSo : List PropLine → DiskState → DiskState → View → List ℕ → Play → View → Type 0
+PlaysSo lines old new v line Played v' = (event : Option Happened) × PlaysLine lines old new v line event v' × Appends v.written v'.written (told_of v.events event)
+PlaysSo lines old new v line BadLine v' = IsRefused v.events line × Untouched old new v v'
+PlaysSo lines old new v line Unread v' = Untouched old new v v'
+PlaysSo lines old new v line Untold v' = (event : Option Happened) × PlaysLine lines old new v line event v' × Appends v.written v'.written []
+PlaysSo lines old new v line Unwritten v' = (event : Option Happened) × PlaysLine lines old new v line event v' × WroteFront v.written v'.written (told_of v.events event)
+PlaysSo lines old new v line (Unopened fault) v' = StopsAtRestart old new v line fault v' × Appends v.written v'.written []
 
 -- the end that goes with how a line came out, the last one or another
 abbrev pub end_of_play : Bool → Play → Option Ended
@@ -94,9 +105,9 @@ pub record Stand : Type 0 where
   pub count : ℕ
 
 -- a line was read and played
-pub record LinePlayed (old new : DiskState) (v : View) (line : List ℕ) (last : Bool) (result : Option Ended) (v' : View) (count count' : ℕ) : Type 0 where
+pub record LinePlayed (lines : List PropLine) (old new : DiskState) (v : View) (line : List ℕ) (last : Bool) (result : Option Ended) (v' : View) (count count' : ℕ) : Type 0 where
   pub play : Play
-  pub plays : PlaysSo old new v line play v'
+  pub plays : PlaysSo lines old new v line play v'
   pub result_is : result ≡ end_of_play last play
   pub counted : count' ≡ count + counts play
 
@@ -116,19 +127,19 @@ pub record StopsReading (old new : DiskState) (v v' : View) (count count' : ℕ)
   pub result_is : result ≡ Some how
 
 -- the next line was read, and played where there was one
-abbrev pub NextSo : DiskState → DiskState → Stand → Got → List ℕ → Option Ended → Stand → Type 0
-NextSo old new s got.Line line result s' = LinePlayed old new s.view line false result s'.view s.count s'.count
-NextSo old new s got.End line result s' = LinePlayed old new s.view line true result s'.view s.count s'.count
-NextSo old new s got.TooLong line result s' = StopsReading old new s.view s'.view s.count s'.count ended.BadLine result
-NextSo old new s got.Past line result s' = StopsReading old new s.view s'.view s.count s'.count ended.BadLine result
-NextSo old new s got.Fault line result s' = StopsReading old new s.view s'.view s.count s'.count ended.ReadFault result
-NextSo old new s got.NoMemory line result s' = StopsReading old new s.view s'.view s.count s'.count ended.NoMemory result
+abbrev pub NextSo : List PropLine → DiskState → DiskState → Stand → Got → List ℕ → Option Ended → Stand → Type 0
+NextSo lines old new s got.Line line result s' = LinePlayed lines old new s.view line false result s'.view s.count s'.count
+NextSo lines old new s got.End line result s' = LinePlayed lines old new s.view line true result s'.view s.count s'.count
+NextSo lines old new s got.TooLong line result s' = StopsReading old new s.view s'.view s.count s'.count ended.BadLine result
+NextSo lines old new s got.Past line result s' = StopsReading old new s.view s'.view s.count s'.count ended.BadLine result
+NextSo lines old new s got.Fault line result s' = StopsReading old new s.view s'.view s.count s'.count ended.ReadFault result
+NextSo lines old new s got.NoMemory line result s' = StopsReading old new s.view s'.view s.count s'.count ended.NoMemory result
 
-pub record Next (old new : DiskState) (s : Stand) (result : Option Ended) (s' : Stand) : Type 0 where
+pub record Next (lines : List PropLine) (old new : DiskState) (s : Stand) (result : Option Ended) (s' : Stand) : Type 0 where
   pub how : Got
   pub line : List ℕ
   pub read : Read s how line s'
-  pub next : NextSo old new s how line result s'
+  pub next : NextSo lines old new s how line result s'
 
 -- the answer of an event was written, or there was no memory for it, or a front of it was written and the output failed
 abbrev pub TellsSo : ℕ → Line → Option (List ℕ) → Option (List ℕ) → Play → Type 0
@@ -164,13 +175,14 @@ pub record Kept (old new : DiskState) (first : WorldState) (words : ℕ → ℕ)
   pub reads : ReadsAt stop new (commands ++ logged_in history) (world_after first history)
 
 -- Lines were played, until one of them ended the replay; nothing was written of a last line yet.
-pub record Ran (old new : DiskState) (r : RunningWorld) (words : ℕ → ℕ) (left written now : Option (List ℕ)) (stop : Ended) (count : ℕ) : Type 0 where
+pub record Ran (lines : List PropLine) (old new : DiskState) (r : RunningWorld) (words : ℕ → ℕ) (left written now : Option (List ℕ)) (stop : Ended) (count : ℕ) : Type 0 where
   pub history : History
-  pub runs : Runs (Tells old) (world_of r) words old.faults history
+  pub runs : Runs lines (Tells old) (world_of r) words old.faults history
   pub files_open : Tells old → FilesOpen (world_of r) words history
   pub kept : Tells old → (commands : List KeyCommand) → StandsFor old r.keys.store commands → Kept old new (world_of r) words history stop commands
   pub run : RunOn 0 old new
   pub restart : Tells old → RestartStops stop (world_after (world_of r) history)
+  pub has_properties : HasProperties stop
   pub stops : (all : List ℕ) → left ≡ Some all → Stops stop all (lines_in history) (events_in history)
   pub text : List ℕ
   pub wrote : Appends written now text

@@ -1,19 +1,26 @@
 //! hkms: the Hadoop key management server.
 #![tactic(auto)]
 
+#[cfg(test)]
+mod acl_tests;
 mod command;
 mod lines;
+mod pipe;
+#[cfg(test)]
+mod pipe_tests;
+mod props;
 mod replay;
 mod stage;
 #[cfg(test)]
 mod tests;
 
-use disk_kinds::{ChaWords, FileDisk, PlainDisk, Reading, Writing};
-use hk_base::{Text, write_all};
+use command_line::{Order, OrderFault, read_order};
+use disk_kinds::{ChaWords, FileDisk, PlainDisk, Reading, WallClock, Writing, open_source};
+use hk_base::{Disk, Source, Text, write_all};
 use std::alloc::Global;
 use std::env;
 use std::fs::File;
-use std::io::{self, Read};
+use std::io::{self, ErrorKind, Read};
 use std::process::ExitCode;
 use std::rt::{Env, Files};
 
@@ -34,39 +41,97 @@ fn random_seed<R: Files>(rt: &R) -> io::Result<[u8; 32]> {
     Ok(seed)
 }
 
-/// Does what the words of the command line say, over the logs of the current folder.
-fn run(rt: &HostRuntime, words: &[Text], seed: [u8; 32]) -> u8 {
+/// The file of the properties of the key management service, in the current folder.
+const PROPERTIES: &str = "kms-acls.properties";
+
+/// The properties where there is no such file: every user may do everything.
+const PERMITTING: &[u8] = b"default.key.acl.MANAGEMENT=*\n\
+    default.key.acl.GENERATE_EEK=*\n\
+    default.key.acl.DECRYPT_EEK=*\n\
+    default.key.acl.READ=*\n";
+
+/// Tells of a fault that comes before the input is read, and answers the status: by a last line, but
+/// for a connection, whose output has responses alone.
+fn fault_told(rt: &HostRuntime, order: &Order, line: &[u8], status: u8) -> u8 {
+    if matches!(order, Order::Pipe) {
+        return status;
+    }
+    let mut out = Writing::new(rt.stdout());
+    match write_all(&mut out, line) {
+        Ok(()) => status,
+        Err(_) => 8,
+    }
+}
+
+/// Does what the words of the command line say, over a disk.
+fn run_over<A: Source, D: Disk>(
+    rt: &HostRuntime,
+    words: &[Text],
+    seed: [u8; 32],
+    acls: &mut A,
+    disk: &mut D,
+) -> u8 {
     let mut input = Reading::new(rt.stdin());
     let mut out = Writing::new(rt.stdout());
     let mut rand = ChaWords::from_seed(seed);
-    if !command::is_replay(words) {
-        // Words that are refused make no files.
-        let mut none = PlainDisk::new(rt.alloc());
-        return command::hkms(
-            rt.alloc(),
-            words,
-            &mut input,
-            &mut out,
-            &mut none,
-            &mut rand,
-        );
-    }
+    let mut clock = WallClock::new(rt);
+    command::hkms(
+        rt.alloc(),
+        words,
+        acls,
+        &mut input,
+        &mut out,
+        disk,
+        &mut rand,
+        &mut clock,
+    )
+}
+
+/// Does what the words of the command line say, over the logs of the current folder.
+fn run_here<A: Source>(
+    rt: &HostRuntime,
+    words: &[Text],
+    order: &Order,
+    seed: [u8; 32],
+    acls: &mut A,
+) -> u8 {
     match FileDisk::open(rt, rt.alloc(), ".") {
-        Ok(mut disk) => command::hkms(
-            rt.alloc(),
-            words,
-            &mut input,
-            &mut out,
-            &mut disk,
-            &mut rand,
-        ),
+        Ok(mut disk) => run_over(rt, words, seed, acls, &mut disk),
         Err(error) => {
             let _ = eprintln!(rt; "hkms: keys.log and names.log cannot be opened here: {error}");
-            match write_all(&mut out, b"store fault\n") {
-                Ok(()) => 5,
-                Err(_) => 8,
-            }
+            fault_told(rt, order, b"store fault\n", 5)
         }
+    }
+}
+
+/// Does what the words of the command line say, with the files of the current folder.
+fn run_with_files(rt: &HostRuntime, words: &[Text], order: &Order, seed: [u8; 32]) -> u8 {
+    match open_source(rt, PROPERTIES) {
+        Ok(mut acls) => run_here(rt, words, order, seed, &mut acls),
+        Err(error) => {
+            if error.kind() == ErrorKind::NotFound {
+                return run_here(rt, words, order, seed, &mut Reading::new(PERMITTING));
+            }
+            let _ = eprintln!(rt; "hkms: {PROPERTIES} cannot be opened here: {error}");
+            fault_told(rt, order, b"read fault\n", 7)
+        }
+    }
+}
+
+/// Does what the words of the command line say where they name no command: no file is opened.
+fn run_without_files(rt: &HostRuntime, words: &[Text], seed: [u8; 32]) -> u8 {
+    let mut acls = Reading::new(io::empty());
+    let mut disk = PlainDisk::new(rt.alloc());
+    run_over(rt, words, seed, &mut acls, &mut disk)
+}
+
+/// Does what the words of the command line say.
+fn run(rt: &HostRuntime, words: &[Text], seed: [u8; 32]) -> u8 {
+    match read_order(rt.alloc(), words) {
+        Ok(Order::Replay) => run_with_files(rt, words, &Order::Replay, seed),
+        Ok(Order::Pipe) => run_with_files(rt, words, &Order::Pipe, seed),
+        Err(OrderFault::NoMemory) => fault_told(rt, &Order::Replay, b"no memory\n", 6),
+        _ => run_without_files(rt, words, seed),
     }
 }
 

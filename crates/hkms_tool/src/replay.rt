@@ -1,5 +1,5 @@
 //! Replays the event lines of an input.
-ghost use Rattle.std.specs.Prelude.{◌≡◌, ◌⊎◌, ◌+◌, ◌≤◌, ◌<◌, ◌^◌, List, ℕ, [], Some, length, IfOk, IsErrOf};
+ghost use Rattle.std.specs.Prelude.{◌≡◌, ◌⊎◌, ◌+◌, ◌≤◌, ◌<◌, ◌^◌, List, ℕ, [], Some, length, codes, string_bytes, IfOk, IsErrOf, MatchResult};
 ghost use Rattle.std.specs.Io.KnownBytes.{IsAtEnd};
 ghost use Rattle.hk_base.specs.Disk.{LeavesOnly, RunOn, Tells};
 ghost use Rattle.hk_base.specs.Faults.{Rose};
@@ -8,17 +8,20 @@ ghost use Rattle.frame_log.specs.declared.fault.StartFault.TheVariants as start;
 ghost use Rattle.key_rows.specs.declared.rows.KeyCommand.{KeyCommand};
 ghost use Rattle.key_rows.specs.Table.{Table};
 ghost use Rattle.kms_store.specs.Store.{IsDamagedAt, IsKeyLog, StandsFor};
+ghost use Rattle.prop_text.specs.declared.lines.PropLine.{PropLine};
 ghost use Rattle.world_run.specs.World.{first_world, world_of};
 ghost use Rattle.world_run.specs.Keeps.{Begins};
-ghost use Rattle.hkms_tool.specs.Replay.{LeavesStarted, Replay, ended_by, last_line, status_of};
-ghost use Rattle.hkms_tool.specs.Steps.{Caused, Closes, LinePlayed, Next, Ran, WritesLast};
+ghost use Rattle.hkms_tool.specs.Replay.{LeavesStarted, Replay, ReplayUnder, ended_by, ended_by_props, ended_by_text, last_line, status_of};
+ghost use Rattle.hkms_tool.specs.Steps.{Caused, Closes, HasLists, LinePlayed, Next, Ran, WritesLast};
 ghost use Rattle.hkms_tool.specs.declared.replay.Ended.{Ended};
 
 use crate::lines::{Got, read_line};
+use crate::props::{PropsFault, read_properties};
 use crate::stage::{Play, Stage};
 use frame_log::StartFault;
 use hk_base::{ByteList, Disk, Reader, Sink, Source, Words, write_all};
-use std::alloc::Global;
+use prop_text::{PropFault, Props};
+use std::alloc::{AllocError, Global};
 use world_run::World;
 
 /// How a replay ended.
@@ -26,6 +29,14 @@ use world_run::World;
 pub enum Ended {
     /// The input was read to its end.
     Done,
+    /// This line of the properties is refused.
+    AclRefused { number: u64 },
+    /// This line of the properties sets a name that an earlier line set.
+    AclRepeated { number: u64 },
+    /// This line of the properties sets a name that is not known.
+    AclUnknown { number: u64 },
+    /// The properties have more than 1,048,576 bytes.
+    AclTooLong,
     /// A line was refused.
     BadLine,
     /// The key log is damaged at this offset.
@@ -34,7 +45,7 @@ pub enum Ended {
     StoreFault,
     /// Memory was wanting.
     NoMemory,
-    /// The input failed.
+    /// The input or the source of the properties failed.
     ReadFault,
     /// The output failed.
     WriteFault,
@@ -42,8 +53,31 @@ pub enum Ended {
     Spent,
 }
 
+/// How a replay ends where the text of the properties has a fault.
+fn ended_by_text(fault: PropFault) -> Ended
+    ensures { result ≡ ended_by_text fault }
+{
+    match fault {
+        PropFault::BadLine { number } => Ended::AclRefused { number },
+        PropFault::Repeated { number } => Ended::AclRepeated { number },
+        PropFault::UnknownName { number } => Ended::AclUnknown { number },
+        PropFault::TooLong => Ended::AclTooLong,
+        PropFault::NoMemory => Ended::NoMemory,
+    }
+}
+
+/// How a replay ends where the properties could not be read.
+pub fn ended_by_props(fault: PropsFault) -> Ended
+    ensures { result ≡ ended_by_props fault }
+{
+    match fault {
+        PropsFault::ReadFault => Ended::ReadFault,
+        PropsFault::TextFault(fault) => ended_by_text(fault),
+    }
+}
+
 /// How a replay ends where the key log could not be opened.
-fn ended_by(fault: StartFault) -> Ended
+pub fn ended_by(fault: StartFault) -> Ended
     ensures { result ≡ ended_by fault }
 {
     match fault {
@@ -64,9 +98,10 @@ struct Replaying {
 }
 
 impl Replaying {
-    /// Opens the key log.
-    fn start<D: Disk>(alloc: Global, disk: &mut D) -> Result<Replaying, StartFault>
+    /// Opens the key log. Calls are judged by the properties.
+    fn start<D: Disk>(alloc: Global, disk: &mut D, props: &Props) -> Result<Replaying, StartFault>
         ensures began { IfOk result (λ r. Begins (D.state disk.old) (D.state disk.new) r.stage.world) }
+        ensures lists { IfOk result (λ r. HasLists r.stage.world props.now.lines) }
         ensures fresh { IfOk result (λ r. (r.stage.events ≡ 0) × (r.count ≡ 0) × (r.reader.used ≡ 0) × (r.reader.bytes ≡ [])) }
         ensures damaged { (at : ℕ) → IsErrOf result (start.Damaged at) → Tells (D.state disk.old) → IsDamagedAt ((D.state disk.old).reads 0) at }
         ensures spent { IsErrOf result start.Spent → Tells (D.state disk.old) → ((commands : List KeyCommand) × (table : Table)
@@ -75,7 +110,7 @@ impl Replaying {
         ensures run { RunOn 0 (D.state disk.old) (D.state disk.new) }
         ensures cause { IsErrOf result start.StoreFault → Rose (D.state disk.old).faults (D.state disk.new).faults }
     {
-        match World::start(alloc, disk) {
+        match World::start(alloc, disk, props) {
             Err(why) => Err(why.fault),
             Ok(world) => Ok(Replaying {
                 reader: Reader::new(),
@@ -100,9 +135,10 @@ impl Replaying {
         words: &mut W,
     ) -> Ended
         requires fresh { (self.old.stage.events ≡ 0) × (self.old.count ≡ 0) × (self.old.reader.used ≡ 0) × (self.old.reader.bytes ≡ []) }
+        requires lists { (lines : List PropLine) × HasLists self.old.stage.world lines }
         requires first { (table : Table) × (world_of self.old.stage.world ≡ first_world table) }
         requires stands { Tells (D.state disk.old) → ((commands : List KeyCommand) × StandsFor (D.state disk.old) self.old.stage.world.keys.store commands) }
-        ensures ran { Ran (D.state disk.old) (D.state disk.new) self.old.stage.world (W.to_come words.old) (S.left input.old) (K.written out.old) (K.written out.new) result self.new.count }
+        ensures ran { (lines : List PropLine) → HasLists self.old.stage.world lines → Ran lines (D.state disk.old) (D.state disk.new) self.old.stage.world (W.to_come words.old) (S.left input.old) (K.written out.old) (K.written out.new) result self.new.count }
         ensures end { result ≡ Ended.Done → IsAtEnd (S.left input.new) }
         ensures count { self.new.count < 2 ^ 41 }
         ensures caused { Caused (S.faults input.old) (S.faults input.new) (K.faults out.old) (K.faults out.new) (D.state disk.old).faults (D.state disk.new).faults (Some result) }
@@ -125,8 +161,9 @@ impl Replaying {
     ) -> Option<Ended>
         requires few { self.old.stage.events ≤ 10000 }
         requires count { self.old.count ≤ 2 ^ 40 }
+        requires lists { (lines : List PropLine) × HasLists self.old.stage.world lines }
         requires stands { Tells (D.state disk.old) → ((commands : List KeyCommand) × StandsFor (D.state disk.old) self.old.stage.world.keys.store commands) }
-        ensures next { Next (D.state disk.old) (D.state disk.new) (record { view = record { world = self.old.stage.world; words = W.to_come words.old; events = self.old.stage.events; written = K.written out.old }; ahead = ahead self.old.reader (S.left input.old); used = self.old.reader.used; count = self.old.count }) result (record { view = record { world = self.new.stage.world; words = W.to_come words.new; events = self.new.stage.events; written = K.written out.new }; ahead = ahead self.new.reader (S.left input.new); used = self.new.reader.used; count = self.new.count }) }
+        ensures next { (lines : List PropLine) → HasLists self.old.stage.world lines → Next lines (D.state disk.old) (D.state disk.new) (record { view = record { world = self.old.stage.world; words = W.to_come words.old; events = self.old.stage.events; written = K.written out.old }; ahead = ahead self.old.reader (S.left input.old); used = self.old.reader.used; count = self.old.count }) result (record { view = record { world = self.new.stage.world; words = W.to_come words.new; events = self.new.stage.events; written = K.written out.new }; ahead = ahead self.new.reader (S.left input.new); used = self.new.reader.used; count = self.new.count }) }
         ensures few { self.new.stage.events ≤ 10000 }
         ensures small { self.new.reader.used ≤ 2 ^ 40 }
         ensures caused { Caused (S.faults input.old) (S.faults input.new) (K.faults out.old) (K.faults out.new) (D.state disk.old).faults (D.state disk.new).faults result }
@@ -153,7 +190,7 @@ impl Replaying {
         requires few { self.old.stage.events ≤ 10000 }
         requires count { self.old.count ≤ 2 ^ 40 }
         requires stands { Tells (D.state disk.old) → ((commands : List KeyCommand) × StandsFor (D.state disk.old) self.old.stage.world.keys.store commands) }
-        ensures played { LinePlayed (D.state disk.old) (D.state disk.new) (record { world = self.old.stage.world; words = W.to_come words.old; events = self.old.stage.events; written = K.written out.old }) self.old.line last result (record { world = self.new.stage.world; words = W.to_come words.new; events = self.new.stage.events; written = K.written out.new }) self.old.count self.new.count }
+        ensures played { (lines : List PropLine) → HasLists self.old.stage.world lines → LinePlayed lines (D.state disk.old) (D.state disk.new) (record { world = self.old.stage.world; words = W.to_come words.old; events = self.old.stage.events; written = K.written out.old }) self.old.line last result (record { world = self.new.stage.world; words = W.to_come words.new; events = self.new.stage.events; written = K.written out.new }) self.old.count self.new.count }
         ensures same { (self.new.reader ≡ self.old.reader) × (self.new.line ≡ self.old.line) }
         ensures few { self.new.stage.events ≤ 10000 }
         ensures later { K.faults out.old ≤ K.faults out.new }
@@ -193,17 +230,43 @@ fn finish<K: Sink>(alloc: Global, out: &mut K, stop: Ended, count: u64) -> Ended
         Ended::ReadFault => written_or_fault(out, b"read fault\n", Ended::ReadFault),
         Ended::StoreFault => written_or_fault(out, b"store fault\n", Ended::StoreFault),
         Ended::Spent => written_or_fault(out, b"openings spent\n", Ended::Spent),
+        Ended::AclTooLong => written_or_fault(out, b"acl too long\n", Ended::AclTooLong),
         Ended::BadLine => {
             let line = count + 1;
-            match format!(in alloc; "line {line} refused\n") {
-                Err(_) => written_or_fault(out, b"no memory\n", Ended::NoMemory),
-                Ok(text) => written_or_fault(out, text.as_bytes(), Ended::BadLine),
-            }
+            numbered(
+                out,
+                format!(in alloc; "line {line} refused\n"),
+                Ended::BadLine,
+            )
         }
-        Ended::Damaged { at } => match format!(in alloc; "damaged keys {at}\n") {
-            Err(_) => written_or_fault(out, b"no memory\n", Ended::NoMemory),
-            Ok(text) => written_or_fault(out, text.as_bytes(), Ended::Damaged { at }),
-        },
+        Ended::Damaged { at } => {
+            let line = format!(in alloc; "damaged keys {at}\n");
+            numbered(out, line, Ended::Damaged { at })
+        }
+        Ended::AclRefused { number } => {
+            let line = format!(in alloc; "acl line {number} refused\n");
+            numbered(out, line, Ended::AclRefused { number })
+        }
+        Ended::AclRepeated { number } => {
+            let line = format!(in alloc; "acl line {number} repeated\n");
+            numbered(out, line, Ended::AclRepeated { number })
+        }
+        Ended::AclUnknown { number } => {
+            let line = format!(in alloc; "acl line {number} unknown\n");
+            numbered(out, line, Ended::AclUnknown { number })
+        }
+    }
+}
+
+/// Writes a last line with a number, or the one of want of memory where there was none for it.
+fn numbered<K: Sink>(out: &mut K, line: Result<String, AllocError>, ended: Ended) -> Ended
+    ensures wrote { MatchResult line (λ text. WritesLast (K.written out.old) (K.written out.new) (string_bytes text) ended result) (λ _. WritesLast (K.written out.old) (K.written out.new) (codes "no memory\n") Ended.NoMemory result) }
+    ensures write { result ≡ Ended.WriteFault → (ended ≡ Ended.WriteFault) ⊎ Rose (K.faults out.old) (K.faults out.new) }
+    ensures later { K.faults out.old ≤ K.faults out.new }
+{
+    match line {
+        Err(_) => written_or_fault(out, b"no memory\n", Ended::NoMemory),
+        Ok(text) => written_or_fault(out, text.as_bytes(), ended),
     }
 }
 
@@ -219,11 +282,15 @@ fn written_or_fault<K: Sink>(out: &mut K, last: &[u8], ended: Ended) -> Ended
     }
 }
 
-fn status_of(ended: Ended) -> u8
+pub fn status_of(ended: Ended) -> u8
     ensures { result ≡ status_of ended }
 {
     match ended {
         Ended::Done => 0,
+        Ended::AclRefused { number: _ } => 3,
+        Ended::AclRepeated { number: _ } => 3,
+        Ended::AclUnknown { number: _ } => 3,
+        Ended::AclTooLong => 3,
         Ended::BadLine => 3,
         Ended::Damaged { at: _ } => 4,
         Ended::StoreFault => 5,
@@ -234,30 +301,56 @@ fn status_of(ended: Ended) -> u8
     }
 }
 
-/// Replays the event lines of the input over the key log on file 0 of a disk: it opens the log, runs
-/// each event, writes the transcript of the answers and behind it the last line that the status has.
-///
-/// It answers the status: 0 where the input was read to its end, 3 at a line that is refused, 4 where
-/// the log is damaged, 5 where the disk failed when the log was opened, at the start or at a restart,
-/// 6 where memory is wanting, 7 where the input and 8 where the output failed, 10 where the last
-/// opening is used.
-pub fn run_replay<S: Source, D: Disk, K: Sink, W: Words>(
+/// Opens the key log, and replays the input under properties that were read.
+fn replay_under<S: Source, D: Disk, K: Sink, W: Words>(
     alloc: Global,
+    props: &Props,
+    input: &mut S,
+    out: &mut K,
+    disk: &mut D,
+    rand: &mut W,
+) -> Ended
+    ensures replay { ReplayUnder props.now.lines (D.state disk.old) (D.state disk.new) (W.to_come rand.old) (S.left input.old) (K.written out.old) (K.written out.new) result }
+    ensures end { result ≡ Ended.Done → IsAtEnd (S.left input.new) }
+    ensures read { result ≡ Ended.ReadFault → Rose (S.faults input.old) (S.faults input.new) }
+    ensures write { result ≡ Ended.WriteFault → Rose (K.faults out.old) (K.faults out.new) }
+    ensures store { result ≡ Ended.StoreFault → Rose (D.state disk.old).faults (D.state disk.new).faults }
+{
+    let mut replaying = match Replaying::start(alloc, disk, props) {
+        Err(fault) => return finish(alloc, out, ended_by(fault), 0),
+        Ok(replaying) => replaying,
+    };
+    let stop = replaying.run(input, disk, out, rand);
+    finish(alloc, out, stop, replaying.count)
+}
+
+/// Replays the event lines of the input over the key log on file 0 of a disk. It reads the properties
+/// of the key management service first, to their end or to the byte past 1,048,576; then it opens the
+/// log, runs each event, writes the transcript of the answers and behind it the last line that the
+/// status has. Each call of the key management service is judged by the lines of the properties.
+///
+/// It answers the status: 0 where the input was read to its end; 3 where the properties are refused,
+/// and at a line of the input that is refused; 4 where the log is damaged; 5 where the disk failed
+/// when the log was opened, at the start or at a restart; 6 where memory is wanting; 7 where the
+/// properties or the input could not be read; 8 where the output failed; 10 where the last opening is
+/// used.
+pub fn run_replay<A: Source, S: Source, D: Disk, K: Sink, W: Words>(
+    alloc: Global,
+    acls: &mut A,
     input: &mut S,
     out: &mut K,
     disk: &mut D,
     rand: &mut W,
 ) -> u8
-    ensures replay { (how : Ended) × (result ≡ status_of how) × Replay (D.state disk.old) (D.state disk.new) (W.to_come rand.old) (S.left input.old) (K.written out.old) (K.written out.new) how }
+    ensures replay { (how : Ended) × (result ≡ status_of how) × Replay ((disk.new ≡ disk.old) × (input.new ≡ input.old) × (rand.new ≡ rand.old)) (D.state disk.old) (D.state disk.new) (A.left acls.old) (A.left acls.new) (W.to_come rand.old) (S.left input.old) (K.written out.old) (K.written out.new) how }
     ensures end { result ≡ 0 → IsAtEnd (S.left input.new) }
-    ensures read { result ≡ 7 → Rose (S.faults input.old) (S.faults input.new) }
+    ensures read { result ≡ 7 → Rose (S.faults input.old) (S.faults input.new) ⊎ Rose (A.faults acls.old) (A.faults acls.new) }
     ensures write { result ≡ 8 → Rose (K.faults out.old) (K.faults out.new) }
     ensures store { result ≡ 5 → Rose (D.state disk.old).faults (D.state disk.new).faults }
 {
-    let mut replaying = match Replaying::start(alloc, disk) {
-        Err(fault) => return status_of(finish(alloc, out, ended_by(fault), 0)),
-        Ok(replaying) => replaying,
+    let props = match read_properties(alloc, acls) {
+        Err(fault) => return status_of(finish(alloc, out, ended_by_props(fault), 0)),
+        Ok(props) => props,
     };
-    let stop = replaying.run(input, disk, out, rand);
-    status_of(finish(alloc, out, stop, replaying.count))
+    status_of(replay_under(alloc, &props, input, out, disk, rand))
 }

@@ -4,8 +4,9 @@ ghost use Rattle.hk_base.specs.Disk.{Tells};
 ghost use Rattle.hk_base.specs.Faults.{Rose};
 ghost use Rattle.key_rows.specs.declared.rows.KeyCommand.{KeyCommand};
 ghost use Rattle.kms_store.specs.Store.{StandsFor};
+ghost use Rattle.prop_text.specs.declared.lines.PropLine.{PropLine};
 ghost use Rattle.replay_text.specs.Events.{Spells};
-ghost use Rattle.hkms_tool.specs.Steps.{PlaysSo, TellsSo};
+ghost use Rattle.hkms_tool.specs.Steps.{HasLists, PlaysSo, TellsSo};
 
 use frame_log::StartFault;
 use hk_base::{ByteList, Disk, Sink, Words, write_all};
@@ -54,7 +55,7 @@ impl Stage {
         requires short { length line.now ≤ 1048576 }
         requires few { self.old.events ≤ 10000 }
         requires stands { Tells (D.state disk.old) → ((commands : List KeyCommand) × StandsFor (D.state disk.old) self.old.world.keys.store commands) }
-        ensures plays { PlaysSo (D.state disk.old) (D.state disk.new) (record { world = self.old.world; words = W.to_come words.old; events = self.old.events; written = K.written out.old }) line.now result (record { world = self.new.world; words = W.to_come words.new; events = self.new.events; written = K.written out.new }) }
+        ensures plays { (lines : List PropLine) → HasLists self.old.world lines → PlaysSo lines (D.state disk.old) (D.state disk.new) (record { world = self.old.world; words = W.to_come words.old; events = self.old.events; written = K.written out.old }) line.now result (record { world = self.new.world; words = W.to_come words.new; events = self.new.events; written = K.written out.new }) }
         ensures few { self.new.events ≤ 10000 }
         ensures later { K.faults out.old ≤ K.faults out.new }
         ensures fault { result ≡ Play.Unwritten → Rose (K.faults out.old) (K.faults out.new) }
@@ -80,7 +81,7 @@ impl Stage {
     ) -> Play
         requires few { self.old.events < 10000 }
         requires stands { Tells (D.state disk.old) → ((commands : List KeyCommand) × StandsFor (D.state disk.old) self.old.world.keys.store commands) }
-        ensures plays { (line : List ℕ) → Spells line event → PlaysSo (D.state disk.old) (D.state disk.new) (record { world = self.old.world; words = W.to_come words.old; events = self.old.events; written = K.written out.old }) line result (record { world = self.new.world; words = W.to_come words.new; events = self.new.events; written = K.written out.new }) }
+        ensures plays { (lines : List PropLine) → HasLists self.old.world lines → (line : List ℕ) → Spells line event → PlaysSo lines (D.state disk.old) (D.state disk.new) (record { world = self.old.world; words = W.to_come words.old; events = self.old.events; written = K.written out.old }) line result (record { world = self.new.world; words = W.to_come words.new; events = self.new.events; written = K.written out.new }) }
         ensures few { self.new.events ≤ 10000 }
         ensures later { K.faults out.old ≤ K.faults out.new }
         ensures fault { result ≡ Play.Unwritten → Rose (K.faults out.old) (K.faults out.new) }

@@ -1,36 +1,56 @@
 //! Whole replays over sources, sinks, disks and words in memory.
 use crate::command::hkms;
 use disk_kinds::{ListWords, MemDisk, MemSink, MemSource, PlainDisk};
-use hk_base::{Disk, Text};
+use hk_base::{Clock, Disk, Text};
 use std::alloc::{AllocError, Global};
 use std::test::Fail;
 
-/// How the outside behaves in a replay: how many bytes a read or a write takes at most, and which
-/// reads and writes fail, counted from 1.
-#[derive(Clone, Copy)]
-struct Outside<'a> {
-    read: usize,
-    write: usize,
-    failing_reads: &'a [u64],
-    failing_writes: &'a [u64],
+/// A clock that stands still.
+#[derive(Drop)]
+pub struct Noon;
+
+impl Clock for Noon {
+    fn now_ms(&mut self) -> u64 {
+        12 * 3_600_000
+    }
 }
 
-const HONEST: Outside<'static> = Outside {
+/// Properties under which every user may do everything.
+pub const PERMITTING: &[u8] = b"default.key.acl.MANAGEMENT=*\n\
+    default.key.acl.GENERATE_EEK=*\n\
+    default.key.acl.DECRYPT_EEK=*\n\
+    default.key.acl.READ=*\n";
+
+/// How the outside behaves in a replay: the properties, how many bytes a read or a write takes at
+/// most, and which reads of the properties and of the input and which writes fail, counted from 1.
+#[derive(Clone, Copy)]
+pub struct Outside<'a> {
+    pub props: &'a [u8],
+    pub read: usize,
+    pub write: usize,
+    pub failing_props: &'a [u64],
+    pub failing_reads: &'a [u64],
+    pub failing_writes: &'a [u64],
+}
+
+pub const HONEST: Outside<'static> = Outside {
+    props: PERMITTING,
     read: 4096,
     write: 4096,
+    failing_props: &[],
     failing_reads: &[],
     failing_writes: &[],
 };
 
 /// What a replay came to.
 #[derive(Drop)]
-struct Played {
-    status: u8,
-    text: Vec<u8>,
+pub struct Played {
+    pub status: u8,
+    pub text: Vec<u8>,
 }
 
 /// A replay over empty files.
-fn replay(
+pub fn replay(
     alloc: Global,
     input: &[u8],
     words: &[u32],
@@ -40,7 +60,8 @@ fn replay(
     replay_over(alloc, &mut disk, input, words, outside)
 }
 
-fn replay_over<D: Disk>(
+/// A replay over a disk.
+pub fn replay_over<D: Disk>(
     alloc: Global,
     disk: &mut D,
     input: &[u8],
@@ -49,6 +70,11 @@ fn replay_over<D: Disk>(
 ) -> Result<Played, AllocError> {
     let mut command = Vec::new(alloc);
     command.push(Text::of(String::from_str(alloc, "replay")?))?;
+    let mut acls = MemSource::new(
+        outside.props.to_vec(alloc)?,
+        outside.read.max(1),
+        outside.failing_props.to_vec(alloc)?,
+    );
     let mut source = MemSource::new(
         input.to_vec(alloc)?,
         outside.read.max(1),
@@ -63,10 +89,12 @@ fn replay_over<D: Disk>(
     let status = hkms(
         alloc,
         command.as_slice(),
+        &mut acls,
         &mut source,
         &mut sink,
         disk,
         &mut rand,
+        &mut Noon,
     );
     Ok(Played {
         status,
@@ -159,7 +187,7 @@ fn words_are_drawn_in_order(rt: HostRuntime) -> Result<(), Fail> {
 }
 
 /// `front`, so many bytes `fill`, and `back`.
-fn filled(
+pub fn filled(
     alloc: Global,
     front: &[u8],
     fill: u8,
@@ -458,11 +486,12 @@ fn an_event_too_many_is_refused(rt: HostRuntime) -> Result<(), Fail> {
 
 #[test]
 fn other_words_are_refused(rt: HostRuntime) -> Result<(), Fail> {
-    for line in ["", "pipe", "replay replay", "Replay"] {
+    for line in ["", "pipes", "replay replay", "Replay"] {
         let mut command = Vec::new(rt.alloc());
         for word in line.split_whitespace() {
             command.push(Text::of(String::from_str(rt.alloc(), word)?))?;
         }
+        let mut acls = MemSource::new(PERMITTING.to_vec(rt.alloc())?, 4096, Vec::new(rt.alloc()));
         let mut source = MemSource::new(SCRIPT.to_vec(rt.alloc())?, 4096, Vec::new(rt.alloc()));
         let mut sink = MemSink::new(rt.alloc(), 4096, Vec::new(rt.alloc()));
         let mut disk = disk_of(rt.alloc(), b"", &[])?;
@@ -470,21 +499,24 @@ fn other_words_are_refused(rt: HostRuntime) -> Result<(), Fail> {
         let status = hkms(
             rt.alloc(),
             command.as_slice(),
+            &mut acls,
             &mut source,
             &mut sink,
             &mut disk,
             &mut rand,
+            &mut Noon,
         );
         assert_eq!(rt; status, 2);
         assert_eq!(rt; disk.calls(), 0);
         assert_eq!(rt; sink.as_slice(), b"usage refused\n".as_slice());
+        assert_eq!(rt; acls.as_slice(), PERMITTING);
         assert_eq!(rt; source.as_slice(), SCRIPT);
     }
     Ok(())
 }
 
 /// A disk whose first file has these bytes, and whose calls with these numbers fail.
-fn disk_of(alloc: Global, bytes: &[u8], failing: &[u64]) -> Result<MemDisk, AllocError> {
+pub fn disk_of(alloc: Global, bytes: &[u8], failing: &[u64]) -> Result<MemDisk, AllocError> {
     let first = bytes[..bytes.len().min(1000)].to_vec(alloc)?;
     MemDisk::new(alloc, first, Vec::new(alloc), failing.to_vec(alloc)?)
 }

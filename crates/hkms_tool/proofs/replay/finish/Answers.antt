@@ -1,6 +1,6 @@
-use Rattle.std.proofs.Common.{refl, ◌∙◌}
-use Rattle.hkms_tool.specs.declared.replay.Ended.TheVariants.{Done, BadLine, Damaged, WriteFault}
-use Rattle.hkms_tool.proofs.StageLemmas.{closes_with, closes_with_nothing}
+use Rattle.std.proofs.Common.{refl, string_bytes}
+use Rattle.hkms_tool.specs.declared.replay.Ended.TheVariants.{Done, AclRefused, AclRepeated, AclUnknown, BadLine, Damaged, WriteFault}
+use Rattle.hkms_tool.proofs.StageLemmas.{closes_numbered, closes_with_nothing}
 use Rattle.hkms_tool.proofs.replay.finish.Goals as goal
 
 pub returns-in-Done-clause-closes : goal.returns-in-Done-clause-closes
@@ -9,11 +9,17 @@ returns-in-Done-clause-closes g c = closes_with_nothing c.args.stop Done c.args.
 pub returns-in-WriteFault-clause-closes : goal.returns-in-WriteFault-clause-closes
 returns-in-WriteFault-clause-closes g c = closes_with_nothing c.args.stop WriteFault c.args.count _ c.in-WriteFault.is refl
 
-pub returns-in-Ok-clause-closes : goal.returns-in-Ok-clause-closes
-returns-in-Ok-clause-closes g c =
-    closes_with c.args.stop BadLine c.written_or_fault-in-Ok.result c.args.count _ _ _ c.in-BadLine.is (c.as_bytes.ensures.value ∙ c.in-Ok.ensures.ok) c.written_or_fault-in-Ok.ensures.wrote
+pub returns-in-BadLine-clause-closes : goal.returns-in-BadLine-clause-closes
+returns-in-BadLine-clause-closes g c = closes_numbered string_bytes c.format.result c.args.stop BadLine _ c.args.count _ _ c.in-BadLine.is c.format.ensures.ok c.numbered.ensures.wrote
 
-pub returns-in-Ok-format-clause-closes : goal.returns-in-Ok-format-clause-closes
-returns-in-Ok-format-clause-closes g c =
-    closes_with c.args.stop (Damaged c.in-Damaged.at) c.written_or_fault-in-Ok-format.result c.args.count _ _ _ c.in-Damaged.is (c.as_bytes-in-Ok-format.ensures.value ∙ c.in-Ok-format.ensures.ok)
-    c.written_or_fault-in-Ok-format.ensures.wrote
+pub returns-in-Damaged-clause-closes : goal.returns-in-Damaged-clause-closes
+returns-in-Damaged-clause-closes g c = closes_numbered string_bytes c.format-line.result c.args.stop (Damaged c.in-Damaged.at) _ c.args.count _ _ c.in-Damaged.is c.format-line.ensures.ok c.numbered-in-Damaged.ensures.wrote
+
+pub returns-in-AclRefused-clause-closes : goal.returns-in-AclRefused-clause-closes
+returns-in-AclRefused-clause-closes g c = closes_numbered string_bytes c.format-line-in-AclRefused.result c.args.stop (AclRefused c.in-AclRefused.number) _ c.args.count _ _ c.in-AclRefused.is c.format-line-in-AclRefused.ensures.ok c.numbered-in-AclRefused.ensures.wrote
+
+pub returns-in-AclRepeated-clause-closes : goal.returns-in-AclRepeated-clause-closes
+returns-in-AclRepeated-clause-closes g c = closes_numbered string_bytes c.format-line-in-AclRepeated.result c.args.stop (AclRepeated c.in-AclRepeated.number) _ c.args.count _ _ c.in-AclRepeated.is c.format-line-in-AclRepeated.ensures.ok c.numbered-in-AclRepeated.ensures.wrote
+
+pub returns-in-AclUnknown-clause-closes : goal.returns-in-AclUnknown-clause-closes
+returns-in-AclUnknown-clause-closes g c = closes_numbered string_bytes c.format-line-in-AclUnknown.result c.args.stop (AclUnknown c.in-AclUnknown.number) _ c.args.count _ _ c.in-AclUnknown.is c.format-line-in-AclUnknown.ensures.ok c.numbered-in-AclUnknown.ensures.wrote

@@ -1,12 +1,12 @@
 use Rattle.std.proofs.Common.{◌-◌, ◌≤◌, ◌^◌, None}
 use Rattle.hk_base.specs.Reading.{ahead}
 use Rattle.hkms_tool.specs.Steps.{Caused}
-use Rattle.hkms_tool.proofs.HistoryLemmas.{SoFar}
+use Rattle.hkms_tool.proofs.EndLemmas.{SoFarUnder}
 use Rattle.hkms_tool.proofs.replay.Replaying.run.Given as goal
 
 abbrev pub invariant-lines : goal.invariant-lines
 invariant-lines g l = record {
-  so_far : SoFar (g.D.Disk.state l.fn.disk) (g.D.Disk.state l.disk)
+  so_far : SoFarUnder (g.D.Disk.state l.fn.disk) (g.D.Disk.state l.disk)
       (record { world = l.fn.self.stage.world; words = g.W.Words.to_come l.fn.words; left = g.S.Source.left l.fn.input; written = g.K.Sink.written l.fn.out })
       (record {
         view = record { world = l.self.stage.world; words = g.W.Words.to_come l.words; events = l.self.stage.events; written = g.K.Sink.written l.out };

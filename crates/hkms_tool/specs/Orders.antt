@@ -1,0 +1,35 @@
+-- What the words of a command line bring about.
+use Rattle.std.specs.Prelude.{◌≡◌, ◌⊎◌, ℕ, List, codes, Option, Result, Ok, Err, string_bytes}
+use Rattle.std.specs.Io.KnownBytes.{Appends}
+use Rattle.hk_base.specs.Writing.{WroteFront}
+use Rattle.command_line.specs.declared.order.Order.{Order}
+use Rattle.command_line.specs.declared.order.Order.TheVariants.{Replay, Pipe, Help, Version}
+use Rattle.command_line.specs.declared.order.OrderFault.{OrderFault}
+use Rattle.command_line.specs.declared.order.OrderFault.TheVariants.{Usage, NoMemory}
+
+-- A text was written, and the status is this one; or a front of it, and the output failed.
+abbrev pub Shows : List ℕ → ℕ → Option (List ℕ) → Option (List ℕ) → ℕ → Type 0
+Shows text own written now status = ((status ≡ own) × Appends written now text) ⊎ ((status ≡ 8) × WroteFront written now text)
+
+-- there is no memory to read the words: nothing else is done, as `same` says
+abbrev pub WantsMemory : Type 0 → Option (List ℕ) → Option (List ℕ) → ℕ → Type 0
+WantsMemory same written now status = same × Shows (codes "no memory\n") 6 written now status
+
+-- the words have a mistake: nothing else is done, as `same` says
+abbrev pub Refuses : Type 0 → Option (List ℕ) → Option (List ℕ) → ℕ → Type 0
+Refuses same written now status = same × Shows (codes "usage refused\n") 2 written now status
+
+-- some text is shown, and nothing else is done, as `same` says
+pub record ShowsText (same : Type 0) (written now : Option (List ℕ)) (status : ℕ) : Type 0 where
+  pub text : List ℕ
+  pub untouched : same
+  pub shows : Shows text 0 written now status
+
+-- what is done at an order: a replay, a connection, or a text that is shown
+abbrev pub Obeys : Result Order OrderFault → Type 0 → Type 0 → Type 0 → Option (List ℕ) → Option (List ℕ) → ℕ → Type 0
+Obeys (Ok Replay) replays pipes same written now status = replays
+Obeys (Ok Pipe) replays pipes same written now status = pipes
+Obeys (Ok (Help text)) replays pipes same written now status = same × Shows (string_bytes text) 0 written now status
+Obeys (Ok (Version text)) replays pipes same written now status = same × Shows (string_bytes text) 0 written now status
+Obeys (Err Usage) replays pipes same written now status = Refuses same written now status
+Obeys (Err NoMemory) replays pipes same written now status = WantsMemory same written now status
