@@ -3,11 +3,7 @@
 set -u
 # The last command of a pipe runs here, so that it counts the failures.
 shopt -s lastpipe
-cd "$(dirname "${BASH_SOURCE[0]}")/.." || exit 1
-hkms=$PWD/hkms
-folder=$(mktemp -d) || exit 1
-trap 'rm -rf "$folder"' EXIT
-failures=0
+. "$(dirname "${BASH_SOURCE[0]}")/room.bash"
 
 # expect NAME STATUS LAST: runs the program on standard input, in an empty folder, compares its status and last line.
 expect() {

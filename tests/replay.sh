@@ -1,24 +1,7 @@
 #!/usr/bin/env bash
 # The program from outside: its examples, its statuses, its logs, and faults of its input, its output and its files.
 set -u
-cd "$(dirname "${BASH_SOURCE[0]}")/.." || exit 1
-hkms=$PWD/hkms
-folder=$(mktemp -d) || exit 1
-trap 'rm -rf "$folder"' EXIT
-failures=0
-
-# expect NAME STATUS OUTPUT: compares what the last run came to.
-expect() {
-    if [ "$status" != "$2" ] || [ "$output" != "$3" ]; then
-        printf 'tests/replay.sh: %s: status %s (wanted %s), output:\n%s\nwanted:\n%s\n' "$1" "$status" "$2" "$output" "$3"
-        failures=$((failures + 1))
-    fi
-}
-
-# Makes an empty folder.
-fresh() {
-    room=$(mktemp -d -p "$folder") || exit 1
-}
+. "$(dirname "${BASH_SOURCE[0]}")/room.bash"
 
 # Runs the program in this folder, whose keys it goes on with.
 run_here() {
@@ -173,7 +156,7 @@ run_masked examples/bad-line.events
 expect 'a bad line' 3 '1 version k@0 H
 line 4 refused'
 
-for words in '' 'Replay' 'replay replay' 'pipe' $'replay\xff'; do
+for words in '' 'Replay' 'replay replay' 'pipes' $'replay\xff'; do
     # shellcheck disable=SC2086
     run $words </dev/null
     expect "the words '$words'" 2 'usage refused'
@@ -195,6 +178,9 @@ files
 expect 'the logs of an empty input' 0 'keys.log 19
 names.log 0
 484b4d534b4559310100000005010000000100'
+output=$(cd "$room" && stat -c '%n %a' -- *)
+expect 'the logs are for their owner alone' 0 'keys.log 600
+names.log 600'
 
 # A run finds the keys of the one before. The namesystem begins anew.
 run replay <<'EOT'
