@@ -1,5 +1,5 @@
 -- The calls of users: denied, or permitted and served.
-use Rattle.std.proofs.Common.{◌≡◌, ℕ, List, [], Bool, true, false, cond, refl, ap, sym, subst, arith}
+use Rattle.std.proofs.Common.{◌≡◌, ℕ, ◌+◌, List, [], Bool, true, false, cond, Some, refl, ap, sym, ◌∙◌, subst, arith}
 use Rattle.std.specs.Prelude.{Result, Ok, Err}
 use Rattle.hk_base.specs.Disk.{DiskState}
 use Rattle.hk_base.specs.Faults.{Rose}
@@ -15,9 +15,12 @@ use Rattle.kms_acls.specs.Verdict.{verdict}
 use Rattle.kms_store.specs.Store.{IsLeftOf}
 use Rattle.kms_core.specs.State.{ServiceState, service_of, settled}
 use Rattle.kms_core.specs.Service.{Acts, Serves}
-use Rattle.kms_core.specs.Users.{ActsFor, RunningKms, ServesUnder, hides, running, told_to, without_material}
-use Rattle.kms_core.specs.Calls.{birth_of, row_of}
-use Rattle.kms_core.specs.Laws.{DeletedIsGone, Gone, GoneStays}
+use Rattle.kms_core.specs.Users.{ActsFor, Permits, RunningKms, ServesUnder, hides, running, told_to, without_material}
+use Rattle.kms_core.specs.Calls.{birth_of, edek_of, row_of}
+use Rattle.kms_core.specs.Opening.{unseals}
+use Rattle.hk_base.specs.declared.names.Dek.{Dek}
+use Rattle.kms_core.proofs.LawLemmas.{decrypt_opens}
+use Rattle.kms_core.specs.Laws.{DeletedIsGone, Gone, GoneStays, PermittedDecryptOpens}
 use Rattle.kms_core.proofs.ServiceLemmas.{unchanged}
 use Rattle.kms_core.proofs.BirthLemmas.{deleted_is_gone, gone_stays}
 
@@ -74,3 +77,15 @@ deleted_for_user lines user s words now name before later drawn logged s' is ser
         deleted_is_gone s words now name before later drawn logged s' is
         (subst (λ (r : KmsReply). Serves s words now (call.Delete name) (Rose before later) r drawn logged s') (sym p.told_is) p.serves)
     by_verdict (Err denied) p = let no : reply.Done ≡ reply.Refused (refusal.Denied denied.table denied.op) = p.told_is in absurd cc
+
+-- a decryption that is permitted
+
+pub permitted_decrypt_opens : PermittedDecryptOpens
+permitted_decrypt_opens lines user s words now name sent before later told drawn logged s' shown permitted none serves =
+    by_permit (subst (λ (v : Result Shown Denied). ServesUnder v s words now (call.Decrypt name sent) (Rose before later) told drawn logged s') permitted serves)
+  where
+    by_permit : Permits shown s words now (call.Decrypt name sent) (Rose before later) told drawn logged s'
+        → ((key : Dek) × (unseals s.keys.table.rows (edek_of sent) ≡ Some key) × (told ≡ reply.Key key)) × (s' ≡ s)
+    by_permit p =
+        let opens = decrypt_opens s.keys words now name sent p.reply s.keys (λ k. words (drawn + k)) none (record { drawn = drawn; acts = p.serves.acts; rest = λ k. refl }) in
+        ((opens.0, opens.1, p.told_is ∙ opens.2), p.serves.same)

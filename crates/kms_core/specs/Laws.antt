@@ -1,5 +1,5 @@
 -- What follows for data encryption keys that are generated, decrypted and encrypted again, and for births.
-use Rattle.std.specs.Prelude.{◌≡◌, ℕ, ◌+◌, ◌<◌, ◌≤◌, Bool, List, length, true, None, Some, is_none, slice_get}
+use Rattle.std.specs.Prelude.{◌≡◌, ℕ, ◌+◌, ◌<◌, ◌≤◌, Bool, List, length, true, None, Ok, Some, is_none, slice_get}
 use Rattle.hk_base.specs.Faults.{Rose}
 use Rattle.hk_base.specs.declared.names.Dek.{Dek}
 use Rattle.hk_base.specs.declared.names.Edek.{Edek}
@@ -7,6 +7,8 @@ use Rattle.hk_base.specs.declared.names.KeyName.{KeyName}
 use Rattle.hk_base.specs.declared.names.VersionName.{VersionName}
 use Rattle.hk_base.specs.declared.texts.Text.{Text}
 use Rattle.prop_text.specs.declared.lines.PropLine.{PropLine}
+use Rattle.kms_acls.specs.declared.answers.Shown.{Shown}
+use Rattle.kms_acls.specs.Verdict.{verdict}
 use Rattle.key_rows.specs.declared.calls.KmsCall.{KmsCall}
 use Rattle.key_rows.specs.declared.calls.KmsCall.TheVariants as call
 use Rattle.key_rows.specs.declared.calls.KmsReply.{KmsReply}
@@ -27,6 +29,15 @@ DecryptOpens =
     (s : KmsState) (words : ℕ → ℕ) (now : ℕ) (name : KeyName) (sent : RawEdek) (told : KmsReply) (s' : KmsState) (words' : ℕ → ℕ)
     → first_cause (sent_causes (row_of s name) name sent) ≡ None → CallActs s words now (call.Decrypt name sent) told s' words'
     → (key : Dek) × (unseals s.table.rows (edek_of sent) ≡ Some key) × (told ≡ reply.Key key)
+
+-- So what a permitted user sends to decrypt is opened, and nothing changes.
+abbrev pub PermittedDecryptOpens : Type 0
+PermittedDecryptOpens =
+    (lines : List PropLine) (user : Text) (s : ServiceState) (words : ℕ → ℕ) (now : ℕ) (name : KeyName) (sent : RawEdek) (before later : ℕ) (told : KmsReply) (drawn : ℕ)
+    (logged : List KeyCommand) (s' : ServiceState) (shown : Shown)
+    → verdict lines user (call.Decrypt name sent) ≡ Ok shown → first_cause (sent_causes (row_of s.keys name) name sent) ≡ None
+    → ServesUser lines user s words now (call.Decrypt name sent) (Rose before later) told drawn logged s'
+    → ((key : Dek) × (unseals s.keys.table.rows (edek_of sent) ≡ Some key) × (told ≡ reply.Key key)) × (s' ≡ s)
 
 -- the data key of the draw of this number in a generate
 abbrev pub dek_of_draw : KmsState → (ℕ → ℕ) → KeyName → ℕ → Dek

@@ -1,11 +1,12 @@
 //! What follows for data encryption keys that are generated, decrypted and encrypted again, and for
 //! births. The functions do nothing: their contracts are the laws.
-ghost use Rattle.kms_core.specs.Laws.{BatchOpens, DecryptOpens, DeletedIsGone, DrawsApart, DrawsReadTheirOwn, GeneratedDecrypts, GeneratedOpens, GoneStays, GoneStaysAtStart, ReencryptedOpens};
+ghost use Rattle.kms_core.specs.Laws.{BatchOpens, DecryptOpens, DeletedIsGone, DrawsApart, DrawsReadTheirOwn, GeneratedDecrypts, GeneratedOpens, GoneStays, GoneStaysAtStart, PermittedDecryptOpens, ReencryptedOpens};
 
 /// What is sent to decrypt without a cause of a refusal is opened under its version, and the answer
-/// is the key that it opens to.
+/// is the key that it opens to. So it is for a user who is permitted to decrypt.
 pub fn decrypt_opens()
-    ensures { DecryptOpens }
+    ensures opens { DecryptOpens }
+    ensures permitted { PermittedDecryptOpens }
 {}
 
 /// Each key that a generate answers opens to the data encryption key drawn for it, and decrypt
