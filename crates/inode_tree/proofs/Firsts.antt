@@ -5,7 +5,7 @@ use Rattle.std.proofs.lemmas.Bool.Decides.{nat_tests}
 use Rattle.inode_tree.specs.declared.rows.Kind.TheVariants.{Dir}
 use Rattle.inode_tree.specs.Paths.{is_relative}
 use Rattle.inode_tree.specs.Rows.{is_dir, root_only}
-use Rattle.inode_tree.specs.Arena.{IsTree, blank, rows_of, path_of}
+use Rattle.inode_tree.specs.Arena.{IsFree, IsTree, blank, rows_of, path_of}
 use Rattle.inode_tree.proofs.Ups.{path-root}
 
 zero-only : (k : ℕ) → k < 1 → k ≡ 0
@@ -23,13 +23,15 @@ first-tree ids e = record {
   ruled = λ k h. subst (λ (j : ℕ). is_relative (path_of (blank ∷ []) (get_or (0 ∷ []) j 0)) ≡ true) (sym (zero-only k h)) (ap is_relative (path-root (blank ∷ [])));
   root_is = refl;
   root_dir = refl;
+  root_in = refl;
   nested = λ k h. subst (λ (j : ℕ). is_dir (get_or (blank ∷ []) (get_or (blank ∷ []) (get_or (0 ∷ []) j 0) blank).parent blank).row.kind ≡ true) (sym (zero-only k h)) refl;
   rooted = (0, omega arith, refl);
-  full = refl;
+  full = omega arith;
   few = omega arith;
   named = λ k h. subst (λ (j : ℕ). ids (get_or (blank ∷ []) (get_or (0 ∷ []) j 0) blank).row.id ≡ Some (get_or (0 ∷ []) j 0)) (sym (zero-only k h)) (e 0);
   stands = λ id n f. go (nat_eq 0 id) id n refl (sym (e id) ∙ f);
   housed = λ k h. (0, omega arith, subst (λ (j : ℕ). 0 ≡ (get_or (blank ∷ []) (get_or (0 ∷ []) j 0) blank).parent) (sym (zero-only k h)) refl);
+  used = λ m h a. (0, omega arith, sym (zero-only m h));
 }
   where
     go : (t : Bool) (id n : ℕ) → nat_eq 0 id ≡ t → cond t (Some 0) None ≡ Some n → (k : ℕ) × (k < 1) × (get_or (0 ∷ []) k 0 ≡ n) × ((get_or (blank ∷ []) n blank).row.id ≡ id)
@@ -41,3 +43,12 @@ first-tree ids e = record {
 
 pub first-rows : rows_of (blank ∷ []) (0 ∷ []) ≡ root_only
 first-rows = λ i. record { path = path-root (blank ∷ []) i; row = record { id = 0; kind = Dir None } } ∷ []
+
+pub first-free : IsFree (blank ∷ []) (0 ∷ []) []
+first-free = record {
+  below = λ k h. absurd (omega arith);
+  unused = λ k j h. absurd (omega arith);
+  once = λ j k l h. absurd (omega arith);
+  count = refl;
+  most = omega arith;
+}

@@ -52,13 +52,15 @@ tree-shape ns ns' s dirs order ids t = record {
   ruled = λ k h. ap is_relative (path-shape ns ns' s (get_or order k 0)) ∙ t.ruled k h;
   root_is = s.id 0 ∙ t.root_is;
   root_dir = dirs 0 ∙ t.root_dir;
+  root_in = s.parent 0 ∙ t.root_in;
   nested = λ k h. ap (λ (m : ℕ). is_dir (node_at ns' m).row.kind) (s.parent (get_or order k 0)) ∙ dirs (node_at ns (get_or order k 0)).parent ∙ t.nested k h;
   rooted = t.rooted;
-  full = t.full ∙ sym s.length_is;
-  few = subst (λ (k : ℕ). k ≤ 1000000) (sym s.length_is) t.few;
+  full = subst (λ (k : ℕ). length order ≤ k) (sym s.length_is) t.full;
+  few = t.few;
   named = λ k h. ap ids (s.id (get_or order k 0)) ∙ t.named k h;
   stands = λ id n e. let w = t.stands id n e in (w.0, w.1, w.2, s.id n ∙ w.3);
   housed = λ k h. let w = t.housed k h in (w.0, w.1, w.2 ∙ sym (s.parent (get_or order k 0)));
+  used = λ m h a. t.used m (subst (λ (k : ℕ). m < k) s.length_is h) (λ e. a (s.parent m ∙ e));
 }
 
 -- what holds of the node with another kind, and of the others

@@ -1,5 +1,5 @@
 -- Nodes in one list, named by their places in it, and the paths that they stand for.
-use Rattle.std.specs.Prelude.{◌≡◌, ℕ, ◌<◌, ◌≤◌, zero, suc, true, ◌==◌, List, [], ◌∷◌, ◌++◌, length, map, slice_index_or, slice_set, Option, Some, None, if◌then◌else◌, ⊤}
+use Rattle.std.specs.Prelude.{◌≡◌, ℕ, ◌+◌, ◌<◌, ◌≤◌, ◌||◌, zero, suc, true, ◌==◌, List, [], ◌∷◌, ◌++◌, length, map, slice_index_or, slice_set, Option, Some, None, if◌then◌else◌, String, ⊤}
 use Rattle.std.specs.declared.cmp.Ordering.{Ordering}
 use Rattle.std.specs.declared.cmp.Ordering.TheVariants.{Equal}
 use Rattle.std.specs.Ordering.{nat_cmp, ordering_then}
@@ -7,13 +7,15 @@ use Rattle.std.specs.Cmp.Lexicographic.{slice_cmp}
 use Rattle.inode_tree.specs.declared.rows.Node.{Node}
 use Rattle.inode_tree.specs.declared.rows.Kind.{Kind}
 use Rattle.inode_tree.specs.declared.rows.Kind.TheVariants.{Dir}
-use Rattle.std.specs.Vec.{vec_len, vec_capacity}
-use Rattle.std.specs.Global.{Vec}
-use Rattle.std.specs.HashMap.{HashMap, spare}
+use Rattle.std.specs.Vec.{vec_capacity}
+use Rattle.std.specs.Global.{Global, Vec}
+use Rattle.std.specs.HashMap.{HashMap, get, spare}
+use Rattle.std.specs.Bool.{nat_eq}
+use Rattle.std.specs.String.{string_capacity}
 use Rattle.inode_tree.specs.Listed.{Listed}
 use Rattle.inode_tree.specs.Rows.{Entry, is_dir}
 pub use Rattle.inode_tree.specs.Rows.{AllAfter, IsRising}
-use Rattle.inode_tree.specs.Paths.{is_before, is_relative, same_path}
+use Rattle.inode_tree.specs.Paths.{is_before, is_prefix, is_relative, same_path}
 
 abbrev pub blank : Node
 blank = record { parent = 0; name = []; row = record { id = 0; kind = Dir None } }
@@ -53,6 +55,11 @@ abbrev pub rank : List Entry → List (List ℕ) → ℕ
 rank [] p = 0
 rank (e ∷ es) p = if is_before e.path p then suc (rank es p) else 0
 
+-- how many rows come before what stands behind a path and behind all below it
+abbrev pub rank_past : List Entry → List (List ℕ) → ℕ
+rank_past [] p = 0
+rank_past (e ∷ es) p = if is_before e.path p || is_prefix p e.path then suc (rank_past es p) else 0
+
 abbrev pub AllWithin : ℕ → List ℕ → Type 0
 AllWithin n [] = ⊤
 AllWithin n (k ∷ ks) = (k < n) × AllWithin n ks
@@ -71,6 +78,10 @@ abbrev pub number_of : List Node → List ℕ → List (List ℕ) → Option ℕ
 number_of ns [] p = None
 number_of ns (n ∷ order) p = if same_path (path_of ns n) p then Some n else number_of ns order p
 
+-- the node is a live one
+abbrev pub IsLive : List ℕ → ℕ → Type 0
+IsLive order n = (k : ℕ) × (k < length order) × (slice_index_or order k 0 ≡ n)
+
 -- the nodes, the live ones in path order, and for each id its node
 pub record IsTree (ns : List Node) (order : List ℕ) (ids : ℕ → Option ℕ) : Type 0 where
   pub linked : IsLinked ns
@@ -81,10 +92,11 @@ pub record IsTree (ns : List Node) (order : List ℕ) (ids : ℕ → Option ℕ)
   -- the root has id 0, and is a directory
   pub root_is : (node_at ns 0).row.id ≡ 0
   pub root_dir : is_dir (node_at ns 0).row.kind ≡ true
+  pub root_in : (node_at ns 0).parent ≡ 0
   -- the root is live
   pub rooted : (k : ℕ) × (k < length order) × (slice_index_or order k 0 ≡ 0)
-  pub full : length order ≡ length ns
-  pub few : length ns ≤ 1000000
+  pub full : length order ≤ length ns
+  pub few : length order ≤ 1000000
   -- each live node is found by its id
   pub named : (k : ℕ) → k < length order → ids (node_at ns (slice_index_or order k 0)).row.id ≡ Some (slice_index_or order k 0)
   -- and what is found is live and has that id
@@ -93,15 +105,39 @@ pub record IsTree (ns : List Node) (order : List ℕ) (ids : ℕ → Option ℕ)
   pub nested : (k : ℕ) → k < length order → is_dir (node_at ns (node_at ns (slice_index_or order k 0)).parent).row.kind ≡ true
   -- and it is live
   pub housed : (k : ℕ) → k < length order → (j : ℕ) × (j < length order) × (slice_index_or order j 0 ≡ (node_at ns (slice_index_or order k 0)).parent)
+  -- a node that lies in another than the root is live
+  pub used : (m : ℕ) → m < length ns → ((node_at ns m).parent ≡ 0 → ⊥) → IsLive order m
 
--- there is memory for one more row
-abbrev pub HasRoom : {S : Type 0} → Vec Node → Listed → HashMap ℕ ℕ S → Type 0
-HasRoom nodes order places = (vec_len nodes < vec_capacity nodes) × (0 < order.spare) × (0 < spare places)
+-- the nodes that are not live, each once
+pub record IsFree (ns : List Node) (order free : List ℕ) : Type 0 where
+  pub below : (k : ℕ) → k < length free → slice_index_or free k 0 < length ns
+  pub unused : (k j : ℕ) → k < length free → j < length order → slice_index_or free k 0 ≡ slice_index_or order j 0 → ⊥
+  pub once : (j k : ℕ) → j < k → k < length free → slice_index_or free j 0 ≡ slice_index_or free k 0 → ⊥
+  pub count : length order + length free ≡ length ns
+  pub most : length ns ≤ 1000001
+
+-- the row at a place is not the root's, and no row lies in it
+pub record IsLeaf (ns : List Node) (order : List ℕ) (at : ℕ) : Type 0 where
+  pub inside : at < length order
+  pub deep : slice_index_or order at 0 ≡ 0 → ⊥
+  pub none : (k : ℕ) → k < length order → (node_at ns (slice_index_or order k 0)).parent ≡ slice_index_or order at 0 → ⊥
+
+-- a later place, where each row between lies below that at the place
+pub record IsSkip (ns : List Node) (order : List ℕ) (at next : ℕ) : Type 0 where
+  pub after : at < next
+  pub most : next ≤ length order
+  pub below : (k : ℕ) → at < k → k < next → is_prefix (path_of ns (slice_index_or order at 0)) (path_of ns (slice_index_or order k 0)) ≡ true
+
+-- the parts of a tree; where a node becomes free there is memory to note it
+pub record IsKept {S : Type 0} (nodes : Vec Node) (order : Listed) (places : HashMap ℕ ℕ S) (slots : Vec ℕ) : Type 0 where
+  pub tree : IsTree nodes.items order.items (get nat_eq places)
+  pub free : IsFree nodes.items order.items slots.items
+  pub capacity : length nodes.items ≤ vec_capacity slots
+
+-- there are a free node and memory for one more row, whose name has so many bytes
+abbrev pub HasRoom : {S : Type 0} → Listed → HashMap ℕ ℕ S → Vec ℕ → String Global → ℕ → Type 0
+HasRoom order places free ready n = (0 < length free.items) × (0 < order.spare) × (0 < spare places) × (n ≤ string_capacity ready)
 
 -- the nodes with another kind at n
 abbrev pub rekind : List Node → ℕ → Kind → List Node
 rekind ns n kind = slice_set ns n (record { parent = (node_at ns n).parent; name = (node_at ns n).name; row = record { id = (node_at ns n).row.id; kind = kind } })
-
--- the node is a live one
-abbrev pub IsLive : List ℕ → ℕ → Type 0
-IsLive order n = (k : ℕ) × (k < length order) × (slice_index_or order k 0 ≡ n)

@@ -1,11 +1,11 @@
 -- The rows of the namesystem: a list in path order, the root first.
-use Rattle.std.specs.Prelude.{◌≡◌, ℕ, Bool, true, false, ◌&&◌, ◌==◌, nat_lt, List, [], ◌∷◌, length, map, Option, Some, None, is_some, option_map, if◌then◌else◌, ⊤}
-use Rattle.std.specs.List.{All, list_any}
+use Rattle.std.specs.Prelude.{◌≡◌, ℕ, ◌+◌, Bool, true, false, not, ◌&&◌, ◌==◌, nat_lt, List, [], ◌∷◌, length, map, Option, Some, None, is_some, option_map, if◌then◌else◌, ⊤}
+use Rattle.std.specs.List.{All, filter, list_any}
 use Rattle.hk_base.specs.declared.names.KeyName.{KeyName}
 use Rattle.inode_tree.specs.declared.rows.Row.{Row}
 use Rattle.inode_tree.specs.declared.rows.Kind.{Kind}
 use Rattle.inode_tree.specs.declared.rows.Kind.TheVariants.{Dir, File}
-use Rattle.inode_tree.specs.Paths.{is_before, is_relative, same_path, is_prefix, is_child, parent}
+use Rattle.inode_tree.specs.Paths.{is_before, is_relative, same_path, is_prefix, is_child, last_name, parent}
 
 -- a row at its path
 pub record Entry : Type 0 where
@@ -14,6 +14,15 @@ pub record Entry : Type 0 where
 
 abbrev pub root_only : List Entry
 root_only = record { path = []; row = record { id = 0; kind = Dir None } } ∷ []
+
+-- the rows of a tree, and the room that it keeps for one more: one that needs no more than `spare` takes no memory
+pub record TreeState : Type 0 where
+  pub rows : List Entry
+  pub spare : ℕ
+
+-- what has to be spare for a row at the path: a place, and room for its name
+abbrev pub need : List (List ℕ) → ℕ
+need p = length (last_name p) + 1
 
 -- the mark of a directory
 abbrev pub mark_of : Kind → Option KeyName
@@ -54,6 +63,10 @@ with_kind id kind e = if e.row.id == id then record e { row = record { id = id; 
 -- the rows with another kind at an id
 abbrev pub set_kind : List Entry → ℕ → Kind → List Entry
 set_kind rows id kind = map (with_kind id kind) rows
+
+-- the rows without those at the path and below it
+abbrev pub removed : List (List ℕ) → List Entry → List Entry
+removed p rows = filter (λ e. not (is_prefix p e.path)) rows
 
 -- the one with the longer path
 abbrev pub longer : Entry → Option Entry → Entry

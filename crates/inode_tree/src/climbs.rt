@@ -1,7 +1,7 @@
 //! Paths by climbing from a node to the root.
-ghost use Rattle.std.specs.Prelude.{◌≡◌, ◌<◌, ◌≤◌, length, take};
-ghost use Rattle.inode_tree.specs.Arena.{IsLinked, path_of, cmp_front, nearer_of, rows_of, IsRising, AllWithin, rank};
-ghost use Rattle.inode_tree.specs.Paths.{is_prefix, path_cmp};
+ghost use Rattle.std.specs.Prelude.{◌≡◌, ◌<◌, ◌≤◌, ◌||◌, length, take};
+ghost use Rattle.inode_tree.specs.Arena.{IsLinked, path_of, cmp_front, nearer_of, rows_of, IsRising, AllWithin, rank, rank_past};
+ghost use Rattle.inode_tree.specs.Paths.{is_before, is_prefix, path_cmp};
 ghost use Rattle.std.specs.Cmp.Lexicographic.{slice_cmp};
 ghost use Rattle.std.specs.Ordering.{nat_cmp};
 
@@ -98,6 +98,40 @@ pub fn place(nodes: &Vec<Node>, order: &Order, path: &NPath, upto: usize) -> usi
             Ordering::Less => low = middle + 1,
             Ordering::Equal => high = middle,
             Ordering::Greater => high = middle,
+        }
+    }
+    low
+}
+
+/// Whether the node's path comes before the path, is the path or lies below it.
+fn before_or_below(nodes: &Vec<Node>, n: u32, path: &NPath) -> bool
+    requires linked { IsLinked nodes.now.items }
+    requires live { n < length nodes.now.items }
+    ensures { result ≡ (is_before (path_of nodes.now.items n) path.now || is_prefix path.now (path_of nodes.now.items n)) }
+{
+    let d = depth(nodes, n);
+    match front(nodes, n, d, path, path.len()) {
+        Ordering::Less => true,
+        Ordering::Equal => true,
+        Ordering::Greater => false,
+    }
+}
+
+/// How many rows come before what stands behind the path and behind all below it.
+pub fn past(nodes: &Vec<Node>, order: &Order, path: &NPath) -> usize
+    requires linked { IsLinked nodes.now.items }
+    requires within { AllWithin (length nodes.now.items) order.now.items }
+    requires rising { IsRising (rows_of nodes.now.items order.now.items) }
+    ensures { result ≡ rank_past (rows_of nodes.now.items order.now.items) path.now }
+{
+    let mut low = 0usize;
+    let mut high = order.len();
+    'halve: while low < high {
+        let middle = low + (high - low) / 2;
+        if before_or_below(nodes, order.get(middle), path) {
+            low = middle + 1;
+        } else {
+            high = middle;
         }
     }
     low

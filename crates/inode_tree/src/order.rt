@@ -1,7 +1,7 @@
 //! Numbers in an order, in pieces of bounded length.
 ghost use Rattle.std.specs.Prelude.{◌≡◌, ◌<◌, ◌≤◌, ◌+◌, ◌++◌, ◌∷◌, [], length, take, drop, slice_index_or, OnOk, OnErr, IfOk, IsOk, IsSome, vec_capacity, vec_len};
-ghost use Rattle.std.specs.List.{insert};
-ghost use Rattle.inode_tree.specs.Listed.{starts_of, flat, halved, FitsAt, IsEmptyOr};
+ghost use Rattle.std.specs.List.{insert, remove};
+ghost use Rattle.inode_tree.specs.Listed.{starts_of, flat, halved, FitsAt, HoldsPlace, IsEmptyOr};
 
 use hk_base::NoMemory;
 use std::alloc::Global;
@@ -53,6 +53,13 @@ impl Piece {
         ensures { self.new ≡ insert self.old i n }
     {
         let _ = self.numbers.insert(i, n);
+    }
+
+    fn remove(&mut self, i: usize)
+        requires { i < length self.old }
+        ensures { self.new ≡ remove self.old i }
+    {
+        let _ = self.numbers.remove(i);
     }
 
     /// Moves the numbers from i on into an empty piece.
@@ -249,6 +256,15 @@ impl Order {
     {
         put(&mut self.pieces, &mut self.starts, &mut self.extra, i, n);
     }
+
+    /// Takes a number out. It takes no memory.
+    pub fn remove(&mut self, i: usize)
+        requires within { i < length self.old.items }
+        requires count { length self.old.items ≤ 1000000 }
+        ensures { self.new.items ≡ remove self.old.items i }
+    {
+        take_out(&mut self.pieces, &mut self.starts, i);
+    }
 }
 
 /// Makes an empty piece where there is none.
@@ -318,5 +334,93 @@ fn begin(pieces: &mut Vec<Piece>, starts: &mut Vec<u32>, extra: &mut Option<Piec
             starts.push_reserved(0);
         }
         None => (),
+    }
+}
+
+/// Takes a number out of its piece.
+fn take_from(pieces: &mut Vec<Piece>, starts: &mut Vec<u32>, c: usize, i: usize)
+    requires starts { starts.old.items ≡ starts_of 0 pieces.old.items }
+    requires holds { HoldsPlace starts.old.items pieces.old.items c i }
+    requires count { length (flat pieces.old.items) ≤ 1000000 }
+    ensures starts { starts.new.items ≡ starts_of 0 pieces.new.items }
+    ensures length { length pieces.new.items ≡ length pieces.old.items }
+    ensures flat { flat pieces.new.items ≡ remove (flat pieces.old.items) i }
+{
+    let k = i - starts[c] as usize;
+    pieces[c].remove(k);
+    renumber(pieces, starts, c);
+}
+
+/// Gives an empty piece back.
+fn drop_piece(pieces: &mut Vec<Piece>, starts: &mut Vec<u32>, c: usize)
+    requires starts { starts.old.items ≡ starts_of 0 pieces.old.items }
+    requires c { c < length pieces.old.items }
+    requires empty { slice_index_or pieces.old.items c [] ≡ [] }
+    ensures starts { starts.new.items ≡ starts_of 0 pieces.new.items }
+    ensures flat { flat pieces.new.items ≡ flat pieces.old.items }
+{
+    let _ = pieces.remove(c);
+    let _ = starts.remove(c);
+}
+
+/// Takes a number out, and its piece where that was its last.
+fn take_out(pieces: &mut Vec<Piece>, starts: &mut Vec<u32>, i: usize)
+    requires starts { starts.old.items ≡ starts_of 0 pieces.old.items }
+    requires within { i < length (flat pieces.old.items) }
+    requires count { length (flat pieces.old.items) ≤ 1000000 }
+    ensures starts { starts.new.items ≡ starts_of 0 pieces.new.items }
+    ensures flat { flat pieces.new.items ≡ remove (flat pieces.old.items) i }
+{
+    let c = locate(starts, i);
+    take_from(pieces, starts, c, i);
+    if pieces[c].len() == 0 {
+        drop_piece(pieces, starts, c);
+    }
+}
+
+#[cfg(test)]
+mod tests {
+    use super::*;
+    use std::test::Fail;
+
+    /// The numbers below 3,000.
+    fn filled(alloc: Global) -> Result<Order, NoMemory> {
+        let mut order = Order::new(alloc);
+        for n in 0..3000 {
+            if order.len() < 3000 {
+                order.reserve()?;
+                order.insert(order.len(), n);
+            }
+        }
+        Ok(order)
+    }
+
+    #[test]
+    fn numbers_that_are_taken_out_leave_the_rest(rt: HostRuntime) -> Result<(), Fail> {
+        let mut order = filled(rt.alloc())?;
+        for k in 0..1500 {
+            if k < order.len() && order.len() <= 3000 {
+                order.remove(k);
+            }
+        }
+        assert_eq!(rt; order.len(), 1500);
+        for k in 0..order.len() {
+            assert_eq!(rt; order.get(k) as usize, 2 * k + 1);
+        }
+        Ok(())
+    }
+
+    #[test]
+    fn a_piece_is_given_back_with_its_last_number(rt: HostRuntime) -> Result<(), Fail> {
+        let mut order = filled(rt.alloc())?;
+        assert!(rt; order.pieces.len() > 2);
+        for _ in 0..2999 {
+            if 0 < order.len() && order.len() <= 3000 {
+                order.remove(0);
+            }
+        }
+        assert_eq!(rt; order.pieces.len(), 1);
+        assert_eq!(rt; order.len(), 1);
+        Ok(())
     }
 }

@@ -1,15 +1,17 @@
 //! The tree of the inodes.
-ghost use Rattle.std.specs.Prelude.{ℕ, Option, ◌≡◌, ◌<◌, ◌≤◌, ◌+◌, ◌-◌, ◌++◌, ◌∷◌, [], Some, None, length, take, vec_capacity, vec_len, IsSome, IsTrue, OnOk, OnErr, IfOk, if◌then◌else◌};
+ghost use Rattle.std.specs.Prelude.{ℕ, Option, ◌≡◌, ◌<◌, ◌≤◌, ◌-◌, [], Some, None, length, slice_index_or, slice_set, take, string_bytes, string_capacity, vec_capacity, vec_len, IsSome, IsOk, IsTrue, OnOk, OnErr, IfOk, if◌then◌else◌};
 ghost use Rattle.std.specs.HashMap.{get, spare};
 ghost use Rattle.std.specs.Bool.{nat_eq};
 ghost use Rattle.std.specs.List.{insert};
 ghost use Rattle.std.specs.Option.{option_map};
-ghost use Rattle.inode_tree.specs.Paths.{is_relative, parent};
-ghost use Rattle.inode_tree.specs.Arena.{HasRoom, IsLinked, IsTree, number_of, path_of, rekind, rows_of};
+ghost use Rattle.inode_tree.specs.Paths.{is_relative, last_name, parent};
+ghost use Rattle.inode_tree.specs.Arena.{HasRoom, IsFree, IsKept, IsLinked, IsTree, blank, number_of, path_of, rekind, rows_of};
 ghost use Rattle.inode_tree.specs.declared.rows.Kind.TheVariants.{Dir, File};
-ghost use Rattle.inode_tree.specs.Rows.{IsRows, entry_of, has_children, is_dir, is_dir_at, put, root_only, row_at, set_kind, zone_id};
+ghost use Rattle.inode_tree.specs.Rows.{IsRows, entry_of, has_children, is_dir, is_dir_at, need, put, root_only, row_at, set_kind, zone_id};
 
 mod by_place;
+mod children;
+mod removal;
 
 use crate::climbs::{below, compare, place};
 use crate::order::Order;
@@ -21,50 +23,60 @@ use std::alloc::Global;
 use std::cmp::Ordering;
 use std::collections::HashMap;
 use std::marker::Model;
+use std::mem;
 
 /// The most rows of a tree.
 pub const MOST_ROWS: u32 = 1_000_000;
 
 /// The directories and files by path, the root among them. Contracts see the rows in one list, in
-/// path order: component by component, by bytes. Each row has an id of its own; the root has 0.
-/// Finding, making and changing a row take time by the logarithm of the number of rows.
+/// path order: component by component, by bytes, and the room that is kept for one more row. Each
+/// row has an id of its own; the root has 0. Finding, making and changing a row take time by the
+/// logarithm of the number of rows. The node of a row that was removed is used again.
 #[derive(Drop)]
 pub struct Tree {
     alloc: Global,
     nodes: Vec<Node>,
     order: Order,
     places: HashMap<u64, u32>,
+    free: Vec<u32>,
+    ready: String,
 }
 
 impl Model for Tree {
-    ghost use Rattle.std.specs.Prelude.{List};
-    ghost use Rattle.std.specs.HashMap.{get};
-    ghost use Rattle.std.specs.Bool.{nat_eq};
-    ghost use Rattle.inode_tree.specs.Arena.{IsTree, rows_of};
-    ghost use Rattle.inode_tree.specs.Rows.{Entry};
+    ghost use Rattle.std.specs.Prelude.{◌≡◌, ◌&&◌, [], nat_lt, length, suc, if◌then◌else◌};
+    ghost use Rattle.std.specs.HashMap.{spare};
+    ghost use Rattle.std.specs.String.{string_bytes, string_capacity};
+    ghost use Rattle.inode_tree.specs.Arena.{IsKept, rows_of};
+    ghost use Rattle.inode_tree.specs.Rows.{TreeState};
 
-    ghost Value = { List Entry };
+    ghost Value = { TreeState };
 
-    ghost view = { λ tree. rows_of tree.nodes.items tree.order.items };
+    ghost view = { λ tree. record { rows = rows_of tree.nodes.items tree.order.items; spare = if nat_lt 0 (length tree.free.items) && nat_lt 0 tree.order.spare && nat_lt 0 (spare tree.places) then suc (string_capacity tree.ready) else 0 } };
 
-    ghost invariant = { λ tree. IsTree tree.nodes.items tree.order.items (get nat_eq tree.places) };
+    ghost invariant = { λ tree. IsKept tree.nodes tree.order tree.places tree.free × (string_bytes tree.ready ≡ []) };
 }
 
 impl Tree {
     /// The root alone.
     pub fn new(alloc: Global) -> Result<Tree, NoMemory>
-        ensures { IfOk result (λ tree. tree ≡ root_only) }
+        ensures { IfOk result (λ tree. tree.rows ≡ root_only) }
     {
         let mut nodes = Vec::new(alloc);
         let mut order = Order::new(alloc);
         let mut places = HashMap::new(alloc);
-        make_room(&mut nodes, &mut order, &mut places)?;
+        let mut free = Vec::new(alloc);
+        nodes.reserve(1)?;
+        order.reserve()?;
+        places.reserve(1)?;
+        free.reserve(1)?;
         first(alloc, &mut nodes, &mut order, &mut places);
         Ok(Tree {
             alloc,
             nodes,
             order,
             places,
+            free,
+            ready: String::new(alloc),
         })
     }
 
@@ -72,15 +84,15 @@ impl Tree {
     /// order, each path and each id once, that the root is there with id 0, and that what a row lies
     /// in is a directory.
     pub fn rows(&self) -> u32
-        ensures count { result ≡ length self.now }
-        ensures rules { IsRows self.now }
+        ensures count { result ≡ length self.now.rows }
+        ensures rules { IsRows self.now.rows }
     {
         self.order.len() as u32
     }
 
     /// The row at a path, `None` where none stands there.
     pub fn find(&self, path: &NPath) -> Option<Row>
-        ensures { result ≡ row_at self.now path.now }
+        ensures { result ≡ row_at self.now.rows path.now }
     {
         row_upto(&self.nodes, &self.order, path, path.len())
     }
@@ -88,7 +100,7 @@ impl Tree {
     /// The row of the directory that a path lies in, which for the root is the root. `None` where
     /// none stands there.
     pub fn find_parent(&self, path: &NPath) -> Option<Row>
-        ensures { result ≡ row_at self.now (parent path.now) }
+        ensures { result ≡ row_at self.now.rows (parent path.now) }
     {
         let upto = path.len().saturating_sub(1);
         row_upto(&self.nodes, &self.order, path, upto)
@@ -96,7 +108,7 @@ impl Tree {
 
     /// The row that has an id, `None` where none has it.
     pub fn row(&self, id: u64) -> Option<Row>
-        ensures { result ≡ option_map (λ e. e.row) (entry_of self.now id) }
+        ensures { result ≡ option_map (λ e. e.row) (entry_of self.now.rows id) }
     {
         match self.places.get(&id) {
             Some(n) => Some(self.nodes[*n as usize].row),
@@ -106,8 +118,8 @@ impl Tree {
 
     /// The path of the row that has an id.
     pub fn path_of(&self, id: u64) -> Result<NPath, NoMemory>
-        requires { IsSome (entry_of self.now id) }
-        ensures { IfOk result (λ path. option_map (λ e. e.path) (entry_of self.now id) ≡ Some path) }
+        requires { IsSome (entry_of self.now.rows id) }
+        ensures { IfOk result (λ path. option_map (λ e. e.path) (entry_of self.now.rows id) ≡ Some path) }
     {
         match self.places.get(&id) {
             Some(n) => build(self.alloc, &self.nodes, *n),
@@ -117,7 +129,7 @@ impl Tree {
 
     /// Whether a row lies in the directory at the path.
     pub fn has_children(&self, path: &NPath) -> bool
-        ensures { result ≡ has_children self.now path.now }
+        ensures { result ≡ has_children self.now.rows path.now }
     {
         match seek(&self.nodes, &self.order, path, path.len()) {
             Some(_) => next_is_below(&self.nodes, &self.order, path),
@@ -128,20 +140,60 @@ impl Tree {
     /// The id of the zone that the path lies in: of the directories that carry a key and are the
     /// path or lie above it, the deepest. `None` where there is none. The path need not stand.
     pub fn zone_of(&self, path: &NPath) -> Option<u64>
-        ensures { result ≡ zone_id self.now path.now }
+        ensures { result ≡ zone_id self.now.rows path.now }
     {
         zone_at(&self.nodes, &self.order, path)
     }
 
+    /// Takes the memory that `mkdir` at this path needs, so that it can't fail. Where memory is
+    /// wanting the rows stay as they were.
+    pub fn reserve_mkdir(&mut self, path: &NPath, _id: u64) -> Result<(), NoMemory>
+        ensures same { self.new.rows ≡ self.old.rows }
+        ensures ok { OnOk result (need path.now ≤ self.new.spare) }
+    {
+        make_room(
+            self.alloc,
+            &mut self.nodes,
+            &mut self.order,
+            &mut self.places,
+            &mut self.free,
+            &mut self.ready,
+            last_len(path),
+        )
+    }
+
+    /// Takes the memory that `add_file` at this path needs, so that it can't fail. Where memory is
+    /// wanting the rows stay as they were.
+    pub fn reserve_add_file(
+        &mut self,
+        path: &NPath,
+        _id: u64,
+        _edek: Option<Edek>,
+    ) -> Result<(), NoMemory>
+        ensures same { self.new.rows ≡ self.old.rows }
+        ensures ok { OnOk result (need path.now ≤ self.new.spare) }
+    {
+        make_room(
+            self.alloc,
+            &mut self.nodes,
+            &mut self.order,
+            &mut self.places,
+            &mut self.free,
+            &mut self.ready,
+            last_len(path),
+        )
+    }
+
     /// Adds a directory without a key. Its own directory has to stand, the path and the id to be
-    /// free. Where memory is wanting the rows stay as they were.
+    /// free. Where memory is wanting the rows stay as they were; it is not where it was reserved.
     pub fn mkdir(&mut self, path: &NPath, id: u64) -> Result<(), NoMemory>
-        requires absent { row_at self.old path.now ≡ None }
-        requires parent { IsTrue (is_dir_at (row_at self.old (parent path.now))) }
-        requires fresh { entry_of self.old id ≡ None }
-        requires count { length self.old < 1000000 }
-        ensures ok { OnOk result (self.new ≡ put (record { path = path.now; row = record { id = id; kind = Dir None } }) self.old) }
-        ensures err { OnErr result (self.new ≡ self.old) }
+        requires absent { row_at self.old.rows path.now ≡ None }
+        requires parent { IsTrue (is_dir_at (row_at self.old.rows (parent path.now))) }
+        requires fresh { entry_of self.old.rows id ≡ None }
+        requires count { length self.old.rows < 1000000 }
+        ensures ok { OnOk result (self.new.rows ≡ put (record { path = path.now; row = record { id = id; kind = Dir None } }) self.old.rows) }
+        ensures err { OnErr result (self.new.rows ≡ self.old.rows) }
+        ensures room { need path.now ≤ self.old.spare → IsOk result }
     {
         let kind = Kind::Dir { key: None };
         add(
@@ -149,20 +201,24 @@ impl Tree {
             &mut self.nodes,
             &mut self.order,
             &mut self.places,
+            &mut self.free,
+            &mut self.ready,
             path,
             Row { id, kind },
         )
     }
 
     /// Adds a file, with its encrypted key where it has one. Its directory has to stand, the path
-    /// and the id to be free. Where memory is wanting the rows stay as they were.
+    /// and the id to be free. Where memory is wanting the rows stay as they were; it is not where
+    /// it was reserved.
     pub fn add_file(&mut self, path: &NPath, id: u64, edek: Option<Edek>) -> Result<(), NoMemory>
-        requires absent { row_at self.old path.now ≡ None }
-        requires parent { IsTrue (is_dir_at (row_at self.old (parent path.now))) }
-        requires fresh { entry_of self.old id ≡ None }
-        requires count { length self.old < 1000000 }
-        ensures ok { OnOk result (self.new ≡ put (record { path = path.now; row = record { id = id; kind = File edek } }) self.old) }
-        ensures err { OnErr result (self.new ≡ self.old) }
+        requires absent { row_at self.old.rows path.now ≡ None }
+        requires parent { IsTrue (is_dir_at (row_at self.old.rows (parent path.now))) }
+        requires fresh { entry_of self.old.rows id ≡ None }
+        requires count { length self.old.rows < 1000000 }
+        ensures ok { OnOk result (self.new.rows ≡ put (record { path = path.now; row = record { id = id; kind = File edek } }) self.old.rows) }
+        ensures err { OnErr result (self.new.rows ≡ self.old.rows) }
+        ensures room { need path.now ≤ self.old.spare → IsOk result }
     {
         let kind = Kind::File { edek };
         add(
@@ -170,6 +226,8 @@ impl Tree {
             &mut self.nodes,
             &mut self.order,
             &mut self.places,
+            &mut self.free,
+            &mut self.ready,
             path,
             Row { id, kind },
         )
@@ -177,8 +235,8 @@ impl Tree {
 
     /// Marks the directory that has the id with a key. It takes no memory.
     pub fn set_key(&mut self, id: u64, key: KeyName)
-        requires { IsTrue (is_dir_at (option_map (λ e. e.row) (entry_of self.old id))) }
-        ensures { self.new ≡ set_kind self.old id (Dir (Some key)) }
+        requires { IsTrue (is_dir_at (option_map (λ e. e.row) (entry_of self.old.rows id))) }
+        ensures { self.new.rows ≡ set_kind self.old.rows id (Dir (Some key)) }
     {
         let kind = Kind::Dir { key: Some(key) };
         set(&mut self.nodes, &self.order, &self.places, id, kind);
@@ -231,20 +289,83 @@ fn next_is_below(nodes: &Vec<Node>, order: &Order, path: &NPath) -> bool
     }
 }
 
-/// Takes memory for one more row.
+/// How many bytes the last name of a path has; none for the root.
+fn last_len(path: &NPath) -> usize
+    ensures { result ≡ length (last_name path.now) }
+{
+    let len = path.len();
+    if len == 0 {
+        return 0;
+    }
+    path.name(len - 1).as_str().len()
+}
+
+/// A node that no row has.
+fn blank_node(alloc: Global) -> Node
+    ensures { result ≡ blank }
+{
+    Node {
+        parent: 0,
+        name: Text::of(String::new(alloc)),
+        row: Row {
+            id: 0,
+            kind: Kind::Dir { key: None },
+        },
+    }
+}
+
+/// Sees to it that there is a free node.
+fn provide(
+    alloc: Global,
+    nodes: &mut Vec<Node>,
+    order: &Order,
+    free: &mut Vec<u32>,
+) -> Result<(), NoMemory>
+    requires tree { (ids : ℕ → Option ℕ) × IsTree nodes.old.items order.now.items ids }
+    requires free { IsFree nodes.old.items order.now.items free.old.items }
+    requires capacity { length nodes.old.items ≤ vec_capacity free.old }
+    ensures tree { (ids : ℕ → Option ℕ) → IsTree nodes.old.items order.now.items ids → IsTree nodes.new.items order.now.items ids }
+    ensures free { IsFree nodes.new.items order.now.items free.new.items }
+    ensures capacity { length nodes.new.items ≤ vec_capacity free.new }
+    ensures rows { rows_of nodes.new.items order.now.items ≡ rows_of nodes.old.items order.now.items }
+    ensures ok { OnOk result (0 < length free.new.items) }
+    ensures had { 0 < length free.old.items → IsOk result }
+{
+    let _ = order;
+    if free.len() > 0 {
+        return Ok(());
+    }
+    let n = nodes.len();
+    nodes.reserve(1)?;
+    free.reserve(n + 1)?;
+    nodes.push_reserved(blank_node(alloc));
+    free.push_reserved(n as u32);
+    Ok(())
+}
+
+/// Takes memory for one more row whose name has so many bytes.
 fn make_room(
+    alloc: Global,
     nodes: &mut Vec<Node>,
     order: &mut Order,
     places: &mut HashMap<u64, u32>,
+    free: &mut Vec<u32>,
+    ready: &mut String,
+    name: usize,
 ) -> Result<(), NoMemory>
-    ensures nodes { nodes.new.items ≡ nodes.old.items }
-    ensures order { order.new.items ≡ order.old.items }
+    requires kept { IsKept nodes.old order.old places.old free.old }
+    requires ready { string_bytes ready.old ≡ [] }
+    ensures kept { IsKept nodes.new order.new places.new free.new }
+    ensures ready { string_bytes ready.new ≡ [] }
+    ensures rows { rows_of nodes.new.items order.new.items ≡ rows_of nodes.old.items order.old.items }
     ensures places { (q : ℕ) → get nat_eq places.new q ≡ get nat_eq places.old q }
-    ensures ok { OnOk result (HasRoom nodes.new order.new places.new) }
+    ensures ok { OnOk result (HasRoom order.new places.new free.new ready.new name) }
+    ensures had { HasRoom order.old places.old free.old ready.old name → IsOk result }
 {
-    nodes.reserve(1)?;
+    provide(alloc, nodes, order, free)?;
     order.reserve()?;
     places.reserve(1)?;
+    ready.reserve(name)?;
     Ok(())
 }
 
@@ -262,40 +383,54 @@ fn first(alloc: Global, nodes: &mut Vec<Node>, order: &mut Order, places: &mut H
     requires order { (order.old.items ≡ []) × (0 < order.old.spare) }
     requires places { (0 < spare places.old) × ((q : ℕ) → get nat_eq places.old q ≡ None) }
     ensures tree { IsTree nodes.new.items order.new.items (get nat_eq places.new) }
+    ensures free { IsFree nodes.new.items order.new.items [] }
+    ensures one { length nodes.new.items ≡ 1 }
     ensures rows { rows_of nodes.new.items order.new.items ≡ root_only }
 {
     order.insert(0, 0);
     give(places, 0, 0);
-    nodes.push_reserved(Node {
-        parent: 0,
-        name: Text::of(String::new(alloc)),
-        row: Row {
-            id: 0,
-            kind: Kind::Dir { key: None },
-        },
-    });
+    nodes.push_reserved(blank_node(alloc));
 }
 
-/// Puts the row in, in memory that is ready.
+/// Makes a name in memory that is ready.
+fn name_in(alloc: Global, ready: &mut String, name: &Text) -> Text
+    requires ready { string_bytes ready.old ≡ [] }
+    requires room { length name.now ≤ string_capacity ready.old }
+    ensures name { result ≡ name.now }
+    ensures ready { string_bytes ready.new ≡ [] }
+{
+    let mut text = mem::replace(ready, String::new(alloc));
+    let _ = text.push_str(name.as_str());
+    Text::of(text)
+}
+
+/// Puts the row in, in memory that is ready. The node is the last of the free ones.
 fn commit(
     nodes: &mut Vec<Node>,
     order: &mut Order,
     places: &mut HashMap<u64, u32>,
+    free: &mut Vec<u32>,
     at: usize,
     node: Node,
 )
-    requires room { HasRoom nodes.old order.old places.old }
+    requires room { (0 < length free.old.items) × (0 < order.old.spare) × (0 < spare places.old) }
+    requires below { slice_index_or free.old.items (length free.old.items - 1) 0 < length nodes.old.items }
     requires at { at ≤ length order.old.items }
     requires rows { length order.old.items < 1000000 }
-    requires count { length nodes.old.items < 1000000 }
-    ensures nodes { nodes.new.items ≡ nodes.old.items ++ node ∷ [] }
-    ensures order { order.new.items ≡ insert order.old.items at (length nodes.old.items) }
-    ensures places { (q : ℕ) → get nat_eq places.new q ≡ (if nat_eq node.row.id q then Some (length nodes.old.items) else get nat_eq places.old q) }
+    ensures nodes { nodes.new.items ≡ slice_set nodes.old.items (slice_index_or free.old.items (length free.old.items - 1) 0) node }
+    ensures order { order.new.items ≡ insert order.old.items at (slice_index_or free.old.items (length free.old.items - 1) 0) }
+    ensures places { (q : ℕ) → get nat_eq places.new q ≡ (if nat_eq node.row.id q then Some (slice_index_or free.old.items (length free.old.items - 1) 0) else get nat_eq places.old q) }
+    ensures free { free.new.items ≡ take (length free.old.items - 1) free.old.items }
+    ensures capacity { vec_capacity free.new ≡ vec_capacity free.old }
 {
-    let n = nodes.len() as u32;
-    order.insert(at, n);
-    give(places, node.row.id, n);
-    nodes.push_reserved(node);
+    match free.pop() {
+        Some(n) => {
+            order.insert(at, n);
+            give(places, node.row.id, n);
+            nodes[n as usize] = node;
+        }
+        None => unreachable!(),
+    }
 }
 
 fn copy_of(alloc: Global, name: &Text) -> Result<Text, NoMemory>
@@ -310,18 +445,49 @@ fn add(
     nodes: &mut Vec<Node>,
     order: &mut Order,
     places: &mut HashMap<u64, u32>,
+    free: &mut Vec<u32>,
+    ready: &mut String,
     path: &NPath,
     row: Row,
 ) -> Result<(), NoMemory>
-    requires tree { IsTree nodes.old.items order.old.items (get nat_eq places.old) }
-    requires deep { 0 < length path.now }
-    requires absent { number_of nodes.old.items order.old.items path.now ≡ None }
-    requires housed { IsTrue (is_dir_at (row_at (rows_of nodes.old.items order.old.items) (take (length path.now - 1) path.now))) }
+    requires kept { IsKept nodes.old order.old places.old free.old }
+    requires ready { string_bytes ready.old ≡ [] }
+    requires absent { row_at (rows_of nodes.old.items order.old.items) path.now ≡ None }
+    requires housed { IsTrue (is_dir_at (row_at (rows_of nodes.old.items order.old.items) (parent path.now))) }
     requires fresh { get nat_eq places.old row.id ≡ None }
-    requires count { length nodes.old.items < 1000000 }
-    ensures tree { IsTree nodes.new.items order.new.items (get nat_eq places.new) }
+    requires count { length order.old.items < 1000000 }
+    ensures kept { IsKept nodes.new order.new places.new free.new }
+    ensures ready { string_bytes ready.new ≡ [] }
     ensures ok { OnOk result (rows_of nodes.new.items order.new.items ≡ put (record { path = path.now; row = row }) (rows_of nodes.old.items order.old.items)) }
     ensures err { OnErr result (rows_of nodes.new.items order.new.items ≡ rows_of nodes.old.items order.old.items) }
+    ensures had { HasRoom order.old places.old free.old ready.old (length (last_name path.now)) → IsOk result }
+{
+    make_room(alloc, nodes, order, places, free, ready, last_len(path))?;
+    put_in(alloc, nodes, order, places, free, ready, path, row);
+    Ok(())
+}
+
+/// Puts a row in, in memory that is ready.
+fn put_in(
+    alloc: Global,
+    nodes: &mut Vec<Node>,
+    order: &mut Order,
+    places: &mut HashMap<u64, u32>,
+    free: &mut Vec<u32>,
+    ready: &mut String,
+    path: &NPath,
+    row: Row,
+)
+    requires kept { IsKept nodes.old order.old places.old free.old }
+    requires ready { string_bytes ready.old ≡ [] }
+    requires room { HasRoom order.old places.old free.old ready.old (length (last_name path.now)) }
+    requires absent { row_at (rows_of nodes.old.items order.old.items) path.now ≡ None }
+    requires housed { IsTrue (is_dir_at (row_at (rows_of nodes.old.items order.old.items) (parent path.now))) }
+    requires fresh { get nat_eq places.old row.id ≡ None }
+    requires count { length order.old.items < 1000000 }
+    ensures kept { IsKept nodes.new order.new places.new free.new }
+    ensures ready { string_bytes ready.new ≡ [] }
+    ensures rows { rows_of nodes.new.items order.new.items ≡ put (record { path = path.now; row = row }) (rows_of nodes.old.items order.old.items) }
 {
     let upto = path.len() - 1;
     let parent = match seek(nodes, order, path, upto) {
@@ -329,10 +495,8 @@ fn add(
         None => unreachable!(),
     };
     let at = place(nodes, order, path, upto + 1);
-    let name = copy_of(alloc, path.name(upto))?;
-    make_room(nodes, order, places)?;
-    commit(nodes, order, places, at, Node { parent, name, row });
-    Ok(())
+    let name = name_in(alloc, ready, path.name(upto));
+    commit(nodes, order, places, free, at, Node { parent, name, row });
 }
 
 /// Gives the row of an id another kind: a directory stays one, and a file.
@@ -341,6 +505,7 @@ fn set(nodes: &mut Vec<Node>, order: &Order, places: &HashMap<u64, u32>, id: u64
     requires same { option_map (λ e. is_dir e.row.kind) (entry_of (rows_of nodes.old.items order.now.items) id) ≡ Some (is_dir kind) }
     ensures tree { IsTree nodes.new.items order.now.items (get nat_eq places.now) }
     ensures rows { rows_of nodes.new.items order.now.items ≡ set_kind (rows_of nodes.old.items order.now.items) id kind }
+    ensures length { length nodes.new.items ≡ length nodes.old.items }
 {
     let _ = order;
     match places.get(&id) {
@@ -374,219 +539,4 @@ fn build(alloc: Global, nodes: &Vec<Node>, n: u32) -> Result<NPath, NoMemory>
 }
 
 #[cfg(test)]
-mod tests {
-    use super::*;
-    use hk_base::{ByteList, Dek, Iv, VersionName};
-    use std::alloc::AllocError;
-    use std::test::Fail;
-
-    /// Adds a row where the rules allow it.
-    fn offer(tree: &mut Tree, path: &NPath, row: Row) -> Result<bool, NoMemory> {
-        match tree.find(path) {
-            Some(_) => return Ok(false),
-            None => {}
-        }
-        match tree.find_parent(path) {
-            Some(above) => {
-                if !above.kind.is_dir() {
-                    return Ok(false);
-                }
-            }
-            None => return Ok(false),
-        }
-        match tree.row(row.id) {
-            Some(_) => return Ok(false),
-            None => {}
-        }
-        if tree.rows() >= MOST_ROWS {
-            return Ok(false);
-        }
-        let Row { id, kind } = row;
-        match kind {
-            Kind::Dir { .. } => tree.mkdir(path, id)?,
-            Kind::File { edek } => tree.add_file(path, id, edek)?,
-        }
-        Ok(true)
-    }
-
-    fn path(alloc: Global, text: &str) -> Result<NPath, Fail> {
-        Ok(NPath::read(alloc, text.as_bytes())?)
-    }
-
-    fn directory(id: u64) -> Row {
-        let kind = Kind::Dir { key: None };
-        Row { id, kind }
-    }
-
-    fn file(id: u64, edek: Option<Edek>) -> Row {
-        Row {
-            id,
-            kind: Kind::File { edek },
-        }
-    }
-
-    /// A tree with these rows, made in this order.
-    fn made(alloc: Global, rows: &[(&str, Row)]) -> Result<Tree, Fail> {
-        let mut tree = Tree::new(alloc)?;
-        for (text, row) in rows {
-            let _ = offer(&mut tree, &path(alloc, text)?, *row)?;
-        }
-        Ok(tree)
-    }
-
-    /// Marks the directory that has the id, where one has it.
-    fn mark(tree: &mut Tree, id: u64, key: KeyName) -> bool {
-        match tree.row(id) {
-            Some(row) => {
-                if !row.kind.is_dir() {
-                    return false;
-                }
-            }
-            None => return false,
-        }
-        tree.set_key(id, key);
-        true
-    }
-
-    fn key_name() -> Option<KeyName> {
-        KeyName::read(b"key1")
-    }
-
-    fn encrypted() -> Option<Edek> {
-        let version = VersionName {
-            key: key_name()?,
-            number: 0,
-        };
-        let iv = Iv::read(&[7; 16])?;
-        let sealed = Dek::read(&[9; 16])?;
-        Some(Edek {
-            version,
-            iv,
-            sealed,
-        })
-    }
-
-    fn finds(alloc: Global, tree: &Tree, text: &str, row: Option<Row>) -> Result<bool, Fail> {
-        Ok(tree.find(&path(alloc, text)?) == row)
-    }
-
-    fn lies_in(alloc: Global, tree: &Tree, text: &str, row: Option<Row>) -> Result<bool, Fail> {
-        Ok(tree.find_parent(&path(alloc, text)?) == row)
-    }
-
-    fn has_children(alloc: Global, tree: &Tree, text: &str) -> Result<bool, Fail> {
-        Ok(tree.has_children(&path(alloc, text)?))
-    }
-
-    fn zone_of(alloc: Global, tree: &Tree, text: &str) -> Result<Option<u64>, Fail> {
-        Ok(tree.zone_of(&path(alloc, text)?))
-    }
-
-    fn spelled(alloc: Global, tree: &Tree, id: u64) -> Result<ByteList, Fail> {
-        let mut out = ByteList::new(alloc);
-        match tree.row(id) {
-            Some(_) => tree.path_of(id)?.write(&mut out)?,
-            None => {}
-        }
-        Ok(out)
-    }
-
-    #[test]
-    fn the_root_is_there_from_the_start(rt: HostRuntime) -> Result<(), Fail> {
-        let tree = Tree::new(rt.alloc())?;
-        let root = NPath::root(rt.alloc());
-        assert_eq!(rt; tree.rows(), 1);
-        assert!(rt; tree.find(&root) == Some(directory(0)));
-        assert!(rt; !tree.has_children(&root));
-        Ok(())
-    }
-
-    #[test]
-    fn finds_what_was_made(rt: HostRuntime) -> Result<(), Fail> {
-        let alloc = rt.alloc();
-        let secret = file(8, encrypted());
-        assert!(rt; encrypted().is_some());
-        let tree = made(alloc, &[("/zone", directory(7)), ("/zone/secret", secret)])?;
-        assert!(rt; finds(alloc, &tree, "/zone/secret", Some(secret))?);
-        assert!(rt; finds(alloc, &tree, "/zone/none", None)?);
-        assert!(rt; lies_in(alloc, &tree, "/zone/none", Some(directory(7)))?);
-        assert!(rt; tree.row(8) == Some(secret));
-        assert!(rt; tree.row(9) == None);
-        assert_eq!(rt; tree.rows(), 3);
-        Ok(())
-    }
-
-    #[test]
-    fn knows_children_and_spells_paths(rt: HostRuntime) -> Result<(), Fail> {
-        let alloc = rt.alloc();
-        let tree = made(alloc, &[("/a", directory(1)), ("/a/b", file(2, None))])?;
-        assert!(rt; has_children(alloc, &tree, "/a")?);
-        assert!(rt; !has_children(alloc, &tree, "/a/b")?);
-        assert_eq!(rt; spelled(alloc, &tree, 2)?.as_slice(), b"/a/b".as_slice());
-        Ok(())
-    }
-
-    #[test]
-    fn the_zone_of_a_path_is_the_deepest_mark_at_or_above_it(rt: HostRuntime) -> Result<(), Fail> {
-        let alloc = rt.alloc();
-        let key = key_name().ok_or("a name")?;
-        let rows = [
-            ("/a", directory(1)),
-            ("/a/b", directory(2)),
-            ("/a/b/c", directory(3)),
-        ];
-        let mut tree = made(alloc, &rows)?;
-        assert!(rt; mark(&mut tree, 1, key));
-        assert!(rt; mark(&mut tree, 3, key));
-        for (text, zone) in [
-            ("/", None),
-            ("/a", Some(1)),
-            ("/a/b/new/deep", Some(1)),
-            ("/a/b/c", Some(3)),
-            ("/a/b/c/new", Some(3)),
-            ("/b/c", None),
-        ] {
-            assert!(rt; zone_of(alloc, &tree, text)? == zone, "{text}");
-        }
-        Ok(())
-    }
-
-    /// The `i`-th of a thousand rows to be made: ten directories, in each 98 files, and beside each
-    /// a file whose name goes on where that of the directory ends. Ids are places in path order.
-    fn nth(alloc: Global, i: u64) -> Result<(String, Row), AllocError> {
-        if i < 10 {
-            let d = i * 7 % 10;
-            return Ok((format!(in alloc; "/d{d}")?, directory(1 + d * 100)));
-        }
-        if i < 990 {
-            let j = i * 549 % 980;
-            let d = j / 98;
-            let n = j % 98;
-            let text = format!(in alloc; "/d{d}/f{n:03}")?;
-            return Ok((text, file(2 + d * 100 + n, None)));
-        }
-        let d = i % 10 * 3 % 10;
-        Ok((format!(in alloc; "/d{d}!")?, file(100 + d * 100, None)))
-    }
-
-    fn thousand(alloc: Global) -> Result<Tree, Fail> {
-        let mut tree = Tree::new(alloc)?;
-        for i in 0..1000 {
-            let (text, row) = nth(alloc, i)?;
-            let _ = offer(&mut tree, &path(alloc, text.as_str())?, row)?;
-        }
-        Ok(tree)
-    }
-
-    #[test]
-    fn a_thousand_rows_made_in_any_order_stand_in_path_order(rt: HostRuntime) -> Result<(), Fail> {
-        let tree = thousand(rt.alloc())?;
-        assert_eq!(rt; tree.rows(), 1001);
-        for k in 0..tree.order.len() {
-            let n = tree.order.get(k);
-            let node = tree.nodes.get(n as usize).ok_or("a node")?;
-            assert_eq!(rt; node.row.id, k as u64);
-        }
-        Ok(())
-    }
-}
+mod tests;

@@ -16,23 +16,23 @@ impl Tree {
     /// How many rows come before a path in path order. That is the place of the row at the path,
     /// where one stands there.
     pub fn place(&self, path: &NPath) -> u32
-        ensures { result ≡ rank self.now path.now }
+        ensures { result ≡ rank self.now.rows path.now }
     {
         place(&self.nodes, &self.order, path, path.len()) as u32
     }
 
     /// The row at a place in path order, from 0.
     pub fn row_at_place(&self, at: u32) -> Row
-        requires { at < length self.now }
-        ensures { option_map (λ e. e.row) (slice_get self.now at) ≡ Some result }
+        requires { at < length self.now.rows }
+        ensures { option_map (λ e. e.row) (slice_get self.now.rows at) ≡ Some result }
     {
         self.nodes[self.order.get(at as usize) as usize].row
     }
 
     /// Whether the path of the row at a place is the path or lies below it.
     pub fn place_is_below(&self, at: u32, path: &NPath) -> bool
-        requires { at < length self.now }
-        ensures { option_map (λ e. is_prefix path.now e.path) (slice_get self.now at) ≡ Some result }
+        requires { at < length self.now.rows }
+        ensures { option_map (λ e. is_prefix path.now e.path) (slice_get self.now.rows at) ≡ Some result }
     {
         below(&self.nodes, self.order.get(at as usize), path)
     }
@@ -40,8 +40,8 @@ impl Tree {
     /// The path of the row at a place without its first `from` names: as it is seen from the
     /// directory that these lead to.
     pub fn path_from(&self, at: u32, from: usize) -> Result<NPath, NoMemory>
-        requires { at < length self.now }
-        ensures { IfOk result (λ path. option_map (λ e. drop from e.path) (slice_get self.now at) ≡ Some path) }
+        requires { at < length self.now.rows }
+        ensures { IfOk result (λ path. option_map (λ e. drop from e.path) (slice_get self.now.rows at) ≡ Some path) }
     {
         let n = self.order.get(at as usize);
         let count = depth(&self.nodes, n).saturating_sub(from);
@@ -50,7 +50,7 @@ impl Tree {
 
     /// Whether the row that has an id is at the path or below it; not so where none has it.
     pub fn at_or_below(&self, id: u64, path: &NPath) -> bool
-        ensures { result ≡ at_or_below self.now id path.now }
+        ensures { result ≡ at_or_below self.now.rows id path.now }
     {
         match self.places.get(&id) {
             Some(n) => below(&self.nodes, *n, path),
@@ -60,7 +60,7 @@ impl Tree {
 
     /// Whether the row that has an id is at the path or above it; not so where none has it.
     pub fn at_or_above(&self, id: u64, path: &NPath) -> bool
-        ensures { result ≡ at_or_above self.now id path.now }
+        ensures { result ≡ at_or_above self.now.rows id path.now }
     {
         match self.places.get(&id) {
             Some(n) => above(&self.nodes, *n, path),

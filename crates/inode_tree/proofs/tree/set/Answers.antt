@@ -1,4 +1,4 @@
-use Rattle.std.proofs.Common.{List, sym, ap, ◌∙◌, subst}
+use Rattle.std.proofs.Common.{List, length, length-set, sym, ap, ◌∙◌, subst}
 use Rattle.std.specs.HashMap.{get}
 use Rattle.std.specs.Bool.{nat_eq}
 use Rattle.inode_tree.specs.Arena.{IsTree, rows_of}
@@ -19,3 +19,6 @@ returns-clause-rows c = ap (λ (ns : List Node). rows_of ns c.args.order.now.ite
 
 pub unreachable-requires : goal.unreachable-requires
 unreachable-requires c = kind-found c.args.nodes.now.items c.args.order.now.items (get nat_eq c.args.places.now) c.args.id (is_dir c.args.kind) c.requires.tree c.requires.same (sym c.in-None.ensures.value)
+
+pub returns-clause-length : goal.returns-clause-length
+returns-clause-length c = ap (λ (ns : List Node). length ns) c.write.ensures ∙ length-set c.args.nodes.now.items c.in-Some.n.now _

@@ -8,6 +8,7 @@ use Rattle.inode_tree.specs.Paths.{is_relative}
 use Rattle.inode_tree.specs.Rows.{Entry, entry_of}
 use Rattle.inode_tree.specs.declared.rows.Node.{Node}
 use Rattle.inode_tree.proofs.Trees.{entry-number, id-below}
+use Rattle.inode_tree.specs.Rows.{TreeState}
 use Rattle.inode_tree.proofs.tree.Tree.path_of.Goals as goal
 
 named : (ns : List Node) (order : List ℕ) (ids : ℕ → Option ℕ) (id n : ℕ) (path : List (List ℕ)) → IsTree ns order ids → Some n ≡ ids id → path ≡ path_of ns n → option_map (λ (e : Entry). e.path) (entry_of (rows_of ns order) id) ≡ Some path
@@ -25,14 +26,14 @@ each-ok (Err e) f h = tt
 
 pub build-requires : goal.build-requires
 build-requires c = record {
-  linked = c.self.invariant.linked;
-  live = id-below c.self.inside.nodes.items c.self.inside.order.items (get nat_eq c.self.inside.places) c.args.id c.in-Some.n.now c.self.invariant (sym c.in-Some.ensures.value);
-  rule = ruled c.self.inside.nodes.items c.self.inside.order.items (get nat_eq c.self.inside.places) c.args.id c.in-Some.n.now c.self.invariant (sym c.in-Some.ensures.value);
+  linked = c.self.invariant.0.tree.linked;
+  live = id-below c.self.inside.nodes.items c.self.inside.order.items (get nat_eq c.self.inside.places) c.args.id c.in-Some.n.now c.self.invariant.0.tree (sym c.in-Some.ensures.value);
+  rule = ruled c.self.inside.nodes.items c.self.inside.order.items (get nat_eq c.self.inside.places) c.args.id c.in-Some.n.now c.self.invariant.0.tree (sym c.in-Some.ensures.value);
 }
 
 pub unreachable-requires : goal.unreachable-requires
-unreachable-requires c = absent c.self.inside.nodes.items c.self.inside.order.items (get nat_eq c.self.inside.places) c.args.id c.self.invariant c.in-None.ensures.value (subst (λ (rows : List Entry). IsSome (entry_of rows c.args.id)) (sym c.self.view_is) c.requires)
+unreachable-requires c = absent c.self.inside.nodes.items c.self.inside.order.items (get nat_eq c.self.inside.places) c.args.id c.self.invariant.0.tree c.in-None.ensures.value (subst (λ (rows : List Entry). IsSome (entry_of rows c.args.id)) (sym (ap (λ (s : TreeState). s.rows) c.self.view_is)) c.requires)
 
 pub returns : goal.returns
-returns c = each-ok c.build.result (λ path e. ap (λ (rows : List Entry). option_map (λ (e : Entry). e.path) (entry_of rows c.args.id)) (sym c.self.view_is)
-    ∙ named c.self.inside.nodes.items c.self.inside.order.items (get nat_eq c.self.inside.places) c.args.id c.in-Some.n.now path c.self.invariant c.in-Some.ensures.value e) c.build.ensures
+returns c = each-ok c.build.result (λ path e. ap (λ (rows : List Entry). option_map (λ (e : Entry). e.path) (entry_of rows c.args.id)) (sym (ap (λ (s : TreeState). s.rows) c.self.view_is))
+    ∙ named c.self.inside.nodes.items c.self.inside.order.items (get nat_eq c.self.inside.places) c.args.id c.in-Some.n.now path c.self.invariant.0.tree c.in-Some.ensures.value e) c.build.ensures

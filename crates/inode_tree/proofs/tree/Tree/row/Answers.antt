@@ -8,6 +8,7 @@ use Rattle.inode_tree.proofs.Trees.{entry-number, id-below}
 use Rattle.std.specs.Option.{option_map}
 use Rattle.inode_tree.specs.declared.rows.Node.{Node}
 use Rattle.inode_tree.specs.Rows.{Entry}
+use Rattle.inode_tree.specs.Rows.{TreeState}
 use Rattle.inode_tree.proofs.tree.Tree.row.Goals as goal
 
 held : (ns : List Node) (order : List ℕ) (ids : ℕ → Option ℕ) (id : ℕ) (o : Option ℕ) → IsTree ns order ids → o ≡ ids id → option_map (λ (n : ℕ). (node_at ns n).row) o ≡ option_map (λ (e : Entry). e.row) (entry_of (rows_of ns order) id)
@@ -18,16 +19,16 @@ held ns order ids id o t e = merge o ∙ sym (ap (option_map (λ (e : Entry). e.
     merge (Some n) = refl
 
 pub index-requires : goal.index-requires
-index-requires c = let h = id-below c.self.inside.nodes.items c.self.inside.order.items (get nat_eq c.self.inside.places) c.args.id c.in-Some.n.now c.self.invariant (sym c.in-Some.ensures.value) in omega arith
+index-requires c = let h = id-below c.self.inside.nodes.items c.self.inside.order.items (get nat_eq c.self.inside.places) c.args.id c.in-Some.n.now c.self.invariant.0.tree (sym c.in-Some.ensures.value) in omega arith
 
 pub returns-in-Some : goal.returns-in-Some
 returns-in-Some c =
-    let below = id-below c.self.inside.nodes.items c.self.inside.order.items (get nat_eq c.self.inside.places) c.args.id c.in-Some.n.now c.self.invariant (sym c.in-Some.ensures.value) in
+    let below = id-below c.self.inside.nodes.items c.self.inside.order.items (get nat_eq c.self.inside.places) c.args.id c.in-Some.n.now c.self.invariant.0.tree (sym c.in-Some.ensures.value) in
     ap (λ (x : Node). Some x.row) (node-default c.self.inside.nodes.items c.in-Some.n.now c.index.result.now below c.index.ensures)
-    ∙ held c.self.inside.nodes.items c.self.inside.order.items (get nat_eq c.self.inside.places) c.args.id (Some c.in-Some.n.now) c.self.invariant c.in-Some.ensures.value
-    ∙ ap (λ (k : List Entry). option_map (λ (e : Entry). e.row) (entry_of k c.args.id)) c.self.view_is
+    ∙ held c.self.inside.nodes.items c.self.inside.order.items (get nat_eq c.self.inside.places) c.args.id (Some c.in-Some.n.now) c.self.invariant.0.tree c.in-Some.ensures.value
+    ∙ ap (λ (k : List Entry). option_map (λ (e : Entry). e.row) (entry_of k c.args.id)) (ap (λ (s : TreeState). s.rows) c.self.view_is)
 
 pub returns-in-None : goal.returns-in-None
 returns-in-None c =
-    held c.self.inside.nodes.items c.self.inside.order.items (get nat_eq c.self.inside.places) c.args.id None c.self.invariant c.in-None.ensures.value
-    ∙ ap (λ (k : List Entry). option_map (λ (e : Entry). e.row) (entry_of k c.args.id)) c.self.view_is
+    held c.self.inside.nodes.items c.self.inside.order.items (get nat_eq c.self.inside.places) c.args.id None c.self.invariant.0.tree c.in-None.ensures.value
+    ∙ ap (λ (k : List Entry). option_map (λ (e : Entry). e.row) (entry_of k c.args.id)) (ap (λ (s : TreeState). s.rows) c.self.view_is)

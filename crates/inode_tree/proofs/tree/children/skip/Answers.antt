@@ -1,0 +1,10 @@
+use Rattle.std.proofs.Common.{◌∙◌, sym, ap, subst}
+use Rattle.inode_tree.specs.Arena.{IsSkip, path_of, rank_past, rows_of}
+use Rattle.inode_tree.proofs.Listings.{skip-past}
+use Rattle.inode_tree.proofs.tree.children.skip.Goals as goal
+
+pub returns : goal.returns
+returns c =
+    subst (IsSkip c.args.nodes.now.items c.args.order.now.items c.args.at)
+    (sym (c.past.ensures ∙ ap (rank_past (rows_of c.args.nodes.now.items c.args.order.now.items)) (c.in_ok-path.ensures ∙ ap (path_of c.args.nodes.now.items) c.get-n.ensures)))
+    (skip-past c.args.nodes.now.items c.args.order.now.items c.requires.tree.0 c.requires.tree.1 c.args.at c.requires.at)

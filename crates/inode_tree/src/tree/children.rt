@@ -1,0 +1,78 @@
+//! What lies in a directory, in the order of the rows.
+ghost use Rattle.std.specs.Prelude.{ℕ, Option, ◌≡◌, ◌<◌, ◌++◌, ◌∷◌, [], length, IfOk, OnOk};
+ghost use Rattle.inode_tree.specs.Arena.{IsSkip, IsTree, rows_of};
+ghost use Rattle.inode_tree.specs.Listing.{children};
+ghost use Rattle.inode_tree.specs.Rows.{is_dir};
+
+use super::{Tree, build, copy_of};
+use crate::climbs::{depth, past, place};
+use crate::listing::{Child, ChildList};
+use crate::order::Order;
+use crate::paths::NPath;
+use crate::rows::Node;
+use hk_base::NoMemory;
+use std::alloc::Global;
+
+impl Tree {
+    /// What lies in the directory at a path, in the order of the rows; nothing where no directory
+    /// stands there. Its time is by the number of children, however many rows lie below them.
+    pub fn list(&self, path: &NPath) -> Result<ChildList, NoMemory>
+        ensures { IfOk result (λ list. list ≡ children self.now.rows path.now) }
+    {
+        list(self.alloc, &self.nodes, &self.order, path)
+    }
+}
+
+/// The children of a directory. What lies below one of them is passed over.
+fn list(
+    alloc: Global,
+    nodes: &Vec<Node>,
+    order: &Order,
+    path: &NPath,
+) -> Result<ChildList, NoMemory>
+    requires tree { (ids : ℕ → Option ℕ) × IsTree nodes.now.items order.now.items ids }
+    ensures { IfOk result (λ list. list ≡ children (rows_of nodes.now.items order.now.items) path.now) }
+{
+    let mut list = ChildList::new(alloc);
+    let mut at = place(nodes, order, path, path.len());
+    let end = past(nodes, order, path);
+    'each: while at < end {
+        let n = order.get(at);
+        if depth(nodes, n) == path.len() + 1 {
+            push(alloc, &mut list, &nodes[n as usize])?;
+            at = skip(alloc, nodes, order, at)?;
+        } else {
+            at += 1;
+        }
+    }
+    Ok(list)
+}
+
+/// Adds a node to the children.
+fn push(alloc: Global, list: &mut ChildList, node: &Node) -> Result<(), NoMemory>
+    ensures { OnOk result (list.new ≡ list.old ++ record { name = node.now.name; directory = is_dir node.now.row.kind } ∷ []) }
+{
+    let name = copy_of(alloc, &node.name)?;
+    let directory = node.row.kind.is_dir();
+    list.push(Child { name, directory })?;
+    Ok(())
+}
+
+/// The place behind that of a row and behind all rows below it.
+fn skip(alloc: Global, nodes: &Vec<Node>, order: &Order, at: usize) -> Result<usize, NoMemory>
+    requires tree { (ids : ℕ → Option ℕ) × IsTree nodes.now.items order.now.items ids }
+    requires at { at < length order.now.items }
+    ensures { IfOk result (λ next. IsSkip nodes.now.items order.now.items at next) }
+{
+    let n = order.get(at);
+    let next = at + 1;
+    if next == order.len() {
+        return Ok(next);
+    }
+    // what follows a row in path order lies in it, or nothing does
+    if nodes[order.get(next) as usize].parent != n {
+        return Ok(next);
+    }
+    let path = build(alloc, nodes, n)?;
+    Ok(past(nodes, order, &path))
+}

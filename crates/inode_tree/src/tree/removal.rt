@@ -1,0 +1,84 @@
+//! Rows that are removed, and their nodes, which are used again.
+ghost use Rattle.std.specs.Prelude.{ℕ, ◌≡◌, ◌<◌, None, length, if◌then◌else◌};
+ghost use Rattle.std.specs.HashMap.{get};
+ghost use Rattle.std.specs.Bool.{nat_eq};
+ghost use Rattle.std.specs.List.{remove};
+ghost use Rattle.inode_tree.specs.Arena.{IsKept, IsLeaf, rows_of};
+ghost use Rattle.inode_tree.specs.Rows.{removed};
+
+use super::{Tree, blank_node};
+use crate::climbs::{past, place};
+use crate::order::Order;
+use crate::paths::NPath;
+use crate::rows::Node;
+use std::alloc::Global;
+use std::collections::HashMap;
+
+impl Tree {
+    /// Removes the row at a path, where one stands there, with all that lies below it. The root
+    /// can't be removed. It takes no memory, and for each removed row the time that adding one takes.
+    pub fn remove(&mut self, path: &NPath)
+        requires { 0 < length path.now }
+        ensures { self.new.rows ≡ removed path.now self.old.rows }
+    {
+        clear(
+            self.alloc,
+            &mut self.nodes,
+            &mut self.order,
+            &mut self.places,
+            &mut self.free,
+            path,
+        );
+    }
+}
+
+/// Forgets an id.
+fn forget(places: &mut HashMap<u64, u32>, id: u64)
+    ensures { (q : ℕ) → get nat_eq places.new q ≡ (if nat_eq id q then None else get nat_eq places.old q) }
+{
+    let _ = places.remove(&id);
+}
+
+/// Takes a row out that no other lies in.
+fn take_out(
+    alloc: Global,
+    nodes: &mut Vec<Node>,
+    order: &mut Order,
+    places: &mut HashMap<u64, u32>,
+    free: &mut Vec<u32>,
+    at: usize,
+)
+    requires kept { IsKept nodes.old order.old places.old free.old }
+    requires leaf { IsLeaf nodes.old.items order.old.items at }
+    ensures kept { IsKept nodes.new order.new places.new free.new }
+    ensures rows { rows_of nodes.new.items order.new.items ≡ remove (rows_of nodes.old.items order.old.items) at }
+{
+    let n = order.get(at);
+    let id = nodes[n as usize].row.id;
+    order.remove(at);
+    forget(places, id);
+    nodes[n as usize] = blank_node(alloc);
+    free.push_reserved(n);
+}
+
+/// Takes the row at a path and all below it out, the last in path order first.
+fn clear(
+    alloc: Global,
+    nodes: &mut Vec<Node>,
+    order: &mut Order,
+    places: &mut HashMap<u64, u32>,
+    free: &mut Vec<u32>,
+    path: &NPath,
+)
+    requires kept { IsKept nodes.old order.old places.old free.old }
+    requires deep { 0 < length path.now }
+    ensures kept { IsKept nodes.new order.new places.new free.new }
+    ensures rows { rows_of nodes.new.items order.new.items ≡ removed path.now (rows_of nodes.old.items order.old.items) }
+{
+    let from = place(nodes, order, path, path.len());
+    let mut end = past(nodes, order, path);
+    'each: while from < end {
+        end -= 1;
+        take_out(alloc, nodes, order, places, free, end);
+    }
+}
