@@ -1,1 +1,4 @@
+pub mod Listed
+pub mod Marks
 pub mod Places
+pub mod Sorts

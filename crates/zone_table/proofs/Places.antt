@@ -1,11 +1,13 @@
 -- Where a zone stands in the table.
-use Rattle.std.proofs.Common.{◌≡◌, ℕ, ◌<◌, ◌≤◌, zero, suc, Bool, true, false, cond, List, [], ◌∷◌, length, get_or, Some, None, refl, ap, ◌∙◌, arith}
+use Rattle.std.proofs.Common.{◌≡◌, ℕ, ◌+◌, ◌<◌, ◌≤◌, zero, suc, Bool, true, false, cond, List, [], ◌∷◌, length, get_or, Some, None, refl, sym, ap, ◌∙◌, arith, inl, inr}
 use Rattle.std.specs.Prelude.{◌==◌, nat_lt}
-use Rattle.std.specs.List.{insert}
+use Rattle.std.specs.List.{insert, remove}
 use Rattle.std.specs.List.Sorted.{IsNonDecreasingBy, IsPartitionPoint}
+use Rattle.std.proofs.lemmas.Bool.{cases_lt}
 use Rattle.std.proofs.lemmas.Bool.Decides.{nat_tests}
+use Rattle.std.proofs.lemmas.List.Edits.{get_or-remove_above, get_or-remove_below, length-remove}
 use Rattle.zone_table.specs.declared.zones.ZoneRow.{ZoneRow}
-use Rattle.zone_table.specs.Zones.{put_zone, zone_row}
+use Rattle.zone_table.specs.Zones.{put_zone, without_zone, zone_row}
 
 -- the rows before i have lower ids, and those from i on have not
 abbrev pub Parted : List ZoneRow → ℕ → ℕ → Type 0
@@ -65,3 +67,40 @@ row-place (x ∷ xs) dir zero d r b h = go (x.dir == dir) refl
 row-place (x ∷ xs) dir (suc i) d r b h =
     ap (λ (t : Bool). cond t (Some x) (zone_row xs dir)) (apart x.dir dir (h.0 0 x (omega arith) (omega arith)))
     ∙ row-place xs dir i d (rising-rest x xs r) (omega arith) (parted-rest x xs dir i h)
+
+-- a table without what isn't in it
+pub without-none : (xs : List ZoneRow) (dir : ℕ) → zone_row xs dir ≡ None → without_zone xs dir ≡ xs
+without-none [] dir h = refl
+without-none (x ∷ xs) dir h =
+    let parts = none-parts x xs dir h in
+    ap (λ (t : Bool). cond t xs (x ∷ without_zone xs dir)) parts.0 ∙ ap (λ (ys : List ZoneRow). x ∷ ys) (without-none xs dir parts.1)
+
+-- the row at the place, if it has the id, is the one that is taken out
+pub remove-without : (xs : List ZoneRow) (dir i : ℕ) (d : ZoneRow) → i < length xs → Parted xs dir i → ((get_or xs i d).dir == dir) ≡ true → remove xs i ≡ without_zone xs dir
+remove-without [] dir i d b h e = absurd (omega arith)
+remove-without (x ∷ xs) dir zero d b h e = sym (ap (λ (t : Bool). cond t xs (x ∷ without_zone xs dir)) e)
+remove-without (x ∷ xs) dir (suc i) d b h e =
+    ap (λ (ys : List ZoneRow). x ∷ ys) (remove-without xs dir i d (omega arith) (parted-rest x xs dir i h) e)
+    ∙ sym (ap (λ (t : Bool). cond t xs (x ∷ without_zone xs dir)) (apart x.dir dir (h.0 0 x (omega arith) (omega arith))))
+
+le-from : (p q u v : ℕ) → p ≡ u → q ≡ v → u ≤ v → p ≤ q
+le-from p q u v e f h = omega arith
+
+-- the rows stay in order where one is taken out
+pub sorted-remove : (xs : List ZoneRow) (i : ℕ) → i < length xs → IsNonDecreasingBy (λ row. row.dir) xs → IsNonDecreasingBy (λ row. row.dir) (remove xs i)
+sorted-remove xs i b r j k d low high = elim (cases_lt k i) [ inl h ↦ both h | inr h ↦ elim (cases_lt j i) [ inl g ↦ first g h | inr g ↦ none g h ] ]
+  where
+    dir-of : {x y : ZoneRow} → x ≡ y → x.dir ≡ y.dir
+    dir-of e = ap (λ (row : ZoneRow). row.dir) e
+
+    short : length (remove xs i) + 1 ≡ length xs
+    short = length-remove xs i b
+
+    both : k < i → (get_or (remove xs i) j d).dir ≤ (get_or (remove xs i) k d).dir
+    both h = le-from _ _ _ _ (dir-of (get_or-remove_below xs i d j (omega arith) b)) (dir-of (get_or-remove_below xs i d k h b)) (r j k d low (omega arith))
+
+    first : j < i → i ≤ k → (get_or (remove xs i) j d).dir ≤ (get_or (remove xs i) k d).dir
+    first g h = le-from _ _ _ _ (dir-of (get_or-remove_below xs i d j g b)) (dir-of (get_or-remove_above xs i d k h b)) (r j (k + 1) d (omega arith) (omega (arith, short)))
+
+    none : i ≤ j → i ≤ k → (get_or (remove xs i) j d).dir ≤ (get_or (remove xs i) k d).dir
+    none g h = le-from _ _ _ _ (dir-of (get_or-remove_above xs i d j g b)) (dir-of (get_or-remove_above xs i d k h b)) (r (j + 1) (k + 1) d (omega arith) (omega (arith, short)))

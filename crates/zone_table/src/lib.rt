@@ -1,6 +1,13 @@
 //! Encryption zones: the zone that a path lies in, and the table of the zones.
 #![tactic(auto)]
 
+mod laws;
+mod list;
 mod zones;
 
+pub use laws::zones_are_the_marks;
+pub use list::{ZoneList, ZonePath};
 pub use zones::{ZoneRow, Zones};
+
+#[cfg(test)]
+mod tests;

@@ -1,10 +1,14 @@
 //! The table of the zones.
-ghost use Rattle.std.specs.Prelude.{◌≡◌, ◌≤◌, [], None, length, nat_lt, true, false, OnOk, OnErr};
+ghost use Rattle.std.specs.Prelude.{ℕ, ◌≡◌, ◌≤◌, [], None, length, nat_lt, not, true, false, IfOk, IsOk, OnOk, OnErr};
+ghost use Rattle.std.specs.List.{filter};
 ghost use Rattle.std.specs.List.Sorted.{IsNonDecreasingBy, IsPartitionPoint};
 ghost use Rattle.std.specs.Option.{option_map};
-ghost use Rattle.inode_tree.specs.Rows.{zone_id};
-ghost use Rattle.zone_table.specs.Zones.{put_zone, zone_row};
+ghost use Rattle.hk_base.specs.declared.names.KeyName.{KeyName};
+ghost use Rattle.inode_tree.specs.Below.{at_or_below};
+ghost use Rattle.inode_tree.specs.Rows.{removed, zone_id};
+ghost use Rattle.zone_table.specs.Zones.{need_add, put_zone, without_zone, zone_paths, zone_row, zones_of};
 
+use crate::list::{ZoneList, list_places, places_of};
 use hk_base::{KeyName, NoMemory};
 use inode_tree::{NPath, Tree};
 use std::alloc::Global;
@@ -17,20 +21,22 @@ pub struct ZoneRow {
     pub key: KeyName,
 }
 
-/// The encryption zones. Contracts see their rows in one list, by the ids of their directories.
+/// The encryption zones. Contracts see their rows in one list, by the ids of their directories, and
+/// for how many more there is room.
 #[derive(Drop)]
 pub struct Zones {
+    alloc: Global,
     rows: Vec<ZoneRow>,
 }
 
 impl Model for Zones {
-    ghost use Rattle.std.specs.Prelude.{List};
+    ghost use Rattle.std.specs.Prelude.{◌-◌, vec_capacity, vec_len};
     ghost use Rattle.std.specs.List.Sorted.{IsNonDecreasingBy};
-    ghost use Rattle.zone_table.specs.declared.zones.ZoneRow.{ZoneRow};
+    ghost use Rattle.zone_table.specs.Zones.{ZoneState};
 
-    ghost Value = { List ZoneRow };
+    ghost Value = { ZoneState };
 
-    ghost view = { λ zones. zones.rows.items };
+    ghost view = { λ zones. record { rows = zones.rows.items; spare = vec_capacity zones.rows - vec_len zones.rows } };
 
     ghost invariant = { λ zones. IsNonDecreasingBy (λ row. row.dir) zones.rows.items };
 }
@@ -38,9 +44,10 @@ impl Model for Zones {
 impl Zones {
     /// No zones. It takes no memory.
     pub fn new(alloc: Global) -> Zones
-        ensures { result ≡ [] }
+        ensures { result.rows ≡ [] }
     {
         Zones {
+            alloc,
             rows: Vec::new(alloc),
         }
     }
@@ -48,14 +55,14 @@ impl Zones {
     /// The id of the directory whose zone a path lies in: of the directories that carry a key and
     /// are the path or lie above it, the deepest. `None` where there is none. It takes no memory.
     pub fn zone_of(&self, tree: &Tree, path: &NPath) -> Option<u64>
-        ensures { result ≡ zone_id tree.now path.now }
+        ensures { result ≡ zone_id tree.now.rows path.now }
     {
         tree.zone_of(path)
     }
 
     /// The key of the zone that has this directory, `None` where it is no zone.
     pub fn key(&self, dir: u64) -> Option<KeyName>
-        ensures { result ≡ option_map (λ row. row.key) (zone_row self.now dir) }
+        ensures { result ≡ option_map (λ row. row.key) (zone_row self.now.rows dir) }
     {
         let at = place(&self.rows, dir);
         if at == self.rows.len() {
@@ -68,16 +75,59 @@ impl Zones {
         None
     }
 
-    /// Adds a zone. The directory has to be none yet. Where memory is wanting the table stays as it
-    /// was.
+    /// Takes the memory that one more zone will need. The zones stay as they are, also where memory
+    /// is wanting. After `Ok` a zone is added with `Ok`, for as long as the table is left as it is.
+    pub fn reserve_add(&mut self, _dir: u64, _key: KeyName) -> Result<(), NoMemory>
+        ensures same { self.new.rows ≡ self.old.rows }
+        ensures ok { (dir : ℕ) (key : KeyName) → OnOk result (need_add dir key ≤ self.new.spare) }
+    {
+        self.rows.reserve(1)?;
+        Ok(())
+    }
+
+    /// Adds a zone. The directory has to be none yet. Where memory is wanting the zones stay as they
+    /// were. It is `Ok` where there is room for one more.
     pub fn add(&mut self, dir: u64, key: KeyName) -> Result<(), NoMemory>
-        requires { zone_row self.old dir ≡ None }
-        ensures ok { OnOk result (self.new ≡ put_zone (record { dir = dir; key = key }) self.old) }
-        ensures err { OnErr result (self.new ≡ self.old) }
+        requires { zone_row self.old.rows dir ≡ None }
+        ensures ok { OnOk result (self.new.rows ≡ put_zone (record { dir = dir; key = key }) self.old.rows) }
+        ensures err { OnErr result (self.new.rows ≡ self.old.rows) }
+        ensures room { need_add dir key ≤ self.old.spare → IsOk result }
     {
         let at = place(&self.rows, dir);
         self.rows.insert(at, ZoneRow { dir, key })?;
         Ok(())
+    }
+
+    /// Removes the zone that has this directory. Where it is no zone, the zones stay as they were.
+    /// It takes no memory.
+    pub fn remove(&mut self, dir: u64)
+        ensures { self.new.rows ≡ without_zone self.old.rows dir }
+    {
+        take_out(&mut self.rows, dir);
+    }
+
+    /// Removes the zones at and below a path that is to be removed from the tree, so that the table
+    /// is that of the tree without them. It takes no memory.
+    pub fn remove_below(&mut self, tree: &Tree, path: &NPath)
+        requires { self.old.rows ≡ zones_of tree.now.rows }
+        ensures { self.new.rows ≡ zones_of (removed path.now tree.now.rows) }
+    {
+        // Each id is that of one row.
+        let _ = tree.rows();
+        keep_outside(&mut self.rows, tree, path);
+    }
+
+    /// The zones of the tree with their paths and keys, in path order. It is an `Err` only where
+    /// memory is wanting. It takes time by the number of the zones, and not by that of the rows.
+    pub fn all(&self, tree: &Tree) -> Result<ZoneList, NoMemory>
+        requires { self.now.rows ≡ zones_of tree.now.rows }
+        ensures { IfOk result (λ list. list ≡ zone_paths tree.now.rows) }
+    {
+        // Each id is that of one row.
+        let _ = tree.rows();
+        let mut places = places_of(self.alloc, &self.rows, tree)?;
+        places.sort_unstable();
+        list_places(self.alloc, tree, &places)
     }
 }
 
@@ -90,44 +140,24 @@ fn place(rows: &Vec<ZoneRow>, dir: u64) -> usize
     rows.as_slice().partition_point(|row| row.dir < dir)
 }
 
-#[cfg(test)]
-mod tests {
-    use super::*;
-    use std::test::Fail;
-
-    /// Adds a zone where the directory is none.
-    fn offer(zones: &mut Zones, dir: u64, key: KeyName) -> Result<bool, NoMemory> {
-        match zones.key(dir) {
-            Some(_) => Ok(false),
-            None => {
-                zones.add(dir, key)?;
-                Ok(true)
-            }
-        }
+/// Takes the row of a directory out.
+fn take_out(rows: &mut Vec<ZoneRow>, dir: u64)
+    requires { IsNonDecreasingBy (λ row. row.dir) rows.old.items }
+    ensures rows { rows.new.items ≡ without_zone rows.old.items dir }
+    ensures order { IsNonDecreasingBy (λ row. row.dir) rows.new.items }
+{
+    let at = place(rows, dir);
+    if at == rows.len() {
+        return;
     }
-
-    #[test]
-    fn knows_the_keys_of_the_zones_that_were_added(rt: HostRuntime) -> Result<(), Fail> {
-        let mut zones = Zones::new(rt.alloc());
-        let key = KeyName::read(b"key1").ok_or("a name")?;
-        let other = KeyName::read(b"key2").ok_or("a name")?;
-        for dir in [5, 2, 9, 7] {
-            assert!(rt; offer(&mut zones, dir, key)?);
-        }
-        assert!(rt; offer(&mut zones, 4, other)?);
-        assert!(rt; !offer(&mut zones, 9, other)?);
-        assert!(rt; zones.key(4) == Some(other));
-        assert!(rt; zones.key(9) == Some(key));
-        assert!(rt; zones.key(3) == None);
-        assert!(rt; zones.key(10) == None);
-        Ok(())
+    if rows[at].dir == dir {
+        let _ = rows.remove(at);
     }
+}
 
-    #[test]
-    fn an_unmarked_tree_has_no_zones(rt: HostRuntime) -> Result<(), Fail> {
-        let zones = Zones::new(rt.alloc());
-        let tree = Tree::new(rt.alloc())?;
-        assert!(rt; zones.zone_of(&tree, &NPath::root(rt.alloc())) == None);
-        Ok(())
-    }
+/// Keeps the rows of the directories that are neither at the path nor below it.
+fn keep_outside(rows: &mut Vec<ZoneRow>, tree: &Tree, path: &NPath)
+    ensures { rows.new.items ≡ filter (λ row. not (at_or_below tree.now.rows row.dir path.now)) rows.old.items }
+{
+    rows.retain(|row| !tree.at_or_below(row.dir, path));
 }

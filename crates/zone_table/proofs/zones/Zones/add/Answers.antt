@@ -4,7 +4,7 @@ use Rattle.std.specs.List.Sorted.{IsNonDecreasingBy}
 use Rattle.std.proofs.lemmas.List.Sorted.{IsNonDecreasingBy-insert}
 use Rattle.std.proofs.lemmas.Bool.Decides.{nat_tests}
 use Rattle.zone_table.specs.declared.zones.ZoneRow.{ZoneRow}
-use Rattle.zone_table.specs.Zones.{put_zone, zone_row}
+use Rattle.zone_table.specs.Zones.{ZoneState, put_zone, zone_row}
 use Rattle.zone_table.proofs.Places.{put-insert}
 use Rattle.zone_table.proofs.zones.Zones.add.Goals as goal
 
@@ -24,5 +24,5 @@ invariant_of-self-2 c =
 pub returns-clause-ok : goal.returns-clause-ok
 returns-clause-ok c =
     c.in_ok-insert.ensures.items
-    ∙ sym (put-insert (record { dir = c.args.dir; key = c.args.key }) c.self.inside.rows.items c.place-at.result c.place-at.ensures.most c.place-at.ensures.parted (ap (λ (rows : List ZoneRow). zone_row rows c.args.dir) c.self.view_is ∙ c.requires))
-    ∙ ap (put_zone (record { dir = c.args.dir; key = c.args.key })) c.self.view_is
+    ∙ sym (put-insert (record { dir = c.args.dir; key = c.args.key }) c.self.inside.rows.items c.place-at.result c.place-at.ensures.most c.place-at.ensures.parted (ap (λ (zones : ZoneState). zone_row zones.rows c.args.dir) c.self.view_is ∙ c.requires))
+    ∙ ap (λ (zones : ZoneState). put_zone (record { dir = c.args.dir; key = c.args.key }) zones.rows) c.self.view_is

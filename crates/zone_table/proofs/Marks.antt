@@ -1,0 +1,285 @@
+-- The zones that the marks of a tree's rows make.
+use Rattle.std.proofs.Common.{◌≡◌, ℕ, Bool, true, false, cond, not, ◌&&◌, List, [], ◌∷◌, Option, Some, None, refl, sym, ap, ◌∙◌, subst, arith}
+use Rattle.std.specs.Prelude.{◌==◌, is_none, nat_lt, ⊤}
+use Rattle.std.specs.List.{All, filter}
+use Rattle.std.specs.Option.{option_map_or}
+use Rattle.std.proofs.lemmas.Bool.Decides.{nat_tests}
+use Rattle.std.proofs.lemmas.List.Elements.{All-head, All-tail}
+use Rattle.hk_base.specs.declared.names.KeyName.{KeyName}
+use Rattle.inode_tree.specs.declared.rows.Kind.{Kind}
+use Rattle.inode_tree.specs.declared.rows.Kind.TheVariants.{Dir}
+use Rattle.inode_tree.specs.Below.{at_or_below}
+use Rattle.inode_tree.specs.Paths.{is_before, is_prefix}
+use Rattle.inode_tree.specs.Rows.{AllAfter, Entry, IsRising, IsRows, entry_of, is_dir, mark_of, put, removed, set_kind}
+use Rattle.inode_tree.proofs.PathLemmas.{and-parts}
+use Rattle.inode_tree.proofs.Seeks.{not-before-itself}
+use Rattle.zone_table.specs.declared.zones.ZoneRow.{ZoneRow}
+use Rattle.zone_table.specs.Laws.{MarkedIsAZone, RootHasNoZones, UnmarkedChangesNothing}
+use Rattle.zone_table.specs.Zones.{put_zone, with_mark, zone_row, zones_of}
+
+pub root-has-no-zones : RootHasNoZones
+root-has-no-zones = refl
+
+pub unmarked-changes-nothing : UnmarkedChangesNothing
+unmarked-changes-nothing e [] h = ap (λ (m : Option KeyName). with_mark m e.row.id []) h
+unmarked-changes-nothing e (x ∷ xs) h = go (is_before e.path x.path) (unmarked-changes-nothing e xs h)
+  where
+    go : (t : Bool) → zones_of (put e xs) ≡ zones_of xs → zones_of (cond t (e ∷ x ∷ xs) (x ∷ put e xs)) ≡ zones_of (x ∷ xs)
+    go true ih = ap (λ (m : Option KeyName). with_mark m e.row.id (zones_of (x ∷ xs))) h
+    go false ih = ap (with_mark (mark_of x.row.kind) x.row.id) ih
+
+-- zones of two directories are put in in any order
+lt-not : (a b : ℕ) → nat_lt a b ≡ true → nat_lt b a ≡ false
+lt-not a b h = grind (arith, nat_tests)
+
+lt-other : (a b : ℕ) → (a == b) ≡ false → nat_lt a b ≡ false → nat_lt b a ≡ true
+lt-other a b d h = grind (arith, nat_tests)
+
+lt-trans : (a b c : ℕ) → nat_lt a b ≡ true → nat_lt b c ≡ true → nat_lt a c ≡ true
+lt-trans a b c h k = grind (arith, nat_tests)
+
+eq-flip : (a b : ℕ) → (a == b) ≡ false → (b == a) ≡ false
+eq-flip a b h = grind (arith, nat_tests)
+
+eq-yes : (a b : ℕ) → (a == b) ≡ true → a ≡ b
+eq-yes a b h = grind (arith, nat_tests)
+
+-- in front of a zone that comes after it
+put-front : (a x : ZoneRow) (xs : List ZoneRow) → nat_lt a.dir x.dir ≡ true → put_zone a (x ∷ xs) ≡ a ∷ x ∷ xs
+put-front a x xs h = ap (λ (t : Bool). cond t (a ∷ x ∷ xs) (x ∷ put_zone a xs)) h
+
+-- behind a zone that doesn't come after it
+put-behind : (a x : ZoneRow) (xs : List ZoneRow) → nat_lt a.dir x.dir ≡ false → put_zone a (x ∷ xs) ≡ x ∷ put_zone a xs
+put-behind a x xs h = ap (λ (t : Bool). cond t (a ∷ x ∷ xs) (x ∷ put_zone a xs)) h
+
+-- the first zone goes on in front of one that comes after both
+put-two : (a b : ZoneRow) (xs : List ZoneRow) → nat_lt a.dir b.dir ≡ true → put_zone a (put_zone b xs) ≡ put_zone b (put_zone a xs)
+put-two a b [] h = put-front a b [] h ∙ sym (put-behind b a [] (lt-not _ _ h))
+put-two a b (x ∷ xs) h = go (nat_lt a.dir x.dir) refl (nat_lt b.dir x.dir) refl (put-two a b xs h)
+  where
+    cons : {ys zs : List ZoneRow} → ys ≡ zs → x ∷ ys ≡ x ∷ zs
+    cons e = ap (λ (l : List ZoneRow). x ∷ l) e
+
+    go : (t : Bool) → nat_lt a.dir x.dir ≡ t → (u : Bool) → nat_lt b.dir x.dir ≡ u → put_zone a (put_zone b xs) ≡ put_zone b (put_zone a xs) → put_zone a (put_zone b (x ∷ xs)) ≡ put_zone b (put_zone a (x ∷ xs))
+    go true e true f ih =
+        ap (put_zone a) (put-front b x xs f) ∙ put-front a b (x ∷ xs) h
+        ∙ sym (ap (put_zone b) (put-front a x xs e) ∙ put-behind b a (x ∷ xs) (lt-not _ _ h) ∙ ap (λ (l : List ZoneRow). a ∷ l) (put-front b x xs f))
+    go true e false f ih =
+        ap (put_zone a) (put-behind b x xs f) ∙ put-front a x (put_zone b xs) e
+        ∙ sym (ap (put_zone b) (put-front a x xs e) ∙ put-behind b a (x ∷ xs) (lt-not _ _ h) ∙ ap (λ (l : List ZoneRow). a ∷ l) (put-behind b x xs f))
+    go false e true f ih = let g = lt-trans a.dir b.dir x.dir h f in cc
+    go false e false f ih =
+        ap (put_zone a) (put-behind b x xs f) ∙ put-behind a x (put_zone b xs) e ∙ cons ih
+        ∙ sym (ap (put_zone b) (put-behind a x xs e) ∙ put-behind b x (put_zone a xs) f)
+
+put-swap : (a b : ZoneRow) (xs : List ZoneRow) → (a.dir == b.dir) ≡ false → put_zone a (put_zone b xs) ≡ put_zone b (put_zone a xs)
+put-swap a b xs d = go (nat_lt a.dir b.dir) refl
+  where
+    go : (t : Bool) → nat_lt a.dir b.dir ≡ t → put_zone a (put_zone b xs) ≡ put_zone b (put_zone a xs)
+    go true e = put-two a b xs e
+    go false e = sym (put-two b a xs (lt-other _ _ d e))
+
+mark-put : (m : Option KeyName) (id : ℕ) (z : ZoneRow) (xs : List ZoneRow) → (id == z.dir) ≡ false → with_mark m id (put_zone z xs) ≡ put_zone z (with_mark m id xs)
+mark-put None id z xs d = refl
+mark-put (Some key) id z xs d = put-swap (record { dir = id; key = key }) z xs d
+
+-- a zone of another directory is not found
+row-put : (z : ZoneRow) (xs : List ZoneRow) (dir : ℕ) → (z.dir == dir) ≡ false → zone_row (put_zone z xs) dir ≡ zone_row xs dir
+row-put z [] dir d = ap (λ (t : Bool). cond t (Some z) None) d
+row-put z (x ∷ xs) dir d = go (nat_lt z.dir x.dir) (row-put z xs dir d)
+  where
+    go : (t : Bool) → zone_row (put_zone z xs) dir ≡ zone_row xs dir → zone_row (cond t (z ∷ x ∷ xs) (x ∷ put_zone z xs)) dir ≡ zone_row (x ∷ xs) dir
+    go true ih = ap (λ (t : Bool). cond t (Some z) (zone_row (x ∷ xs) dir)) d
+    go false ih = ap (λ (o : Option ZoneRow). cond (x.dir == dir) (Some x) o) ih
+
+row-mark : (m : Option KeyName) (id : ℕ) (xs : List ZoneRow) (dir : ℕ) → (id == dir) ≡ false → zone_row (with_mark m id xs) dir ≡ zone_row xs dir
+row-mark None id xs dir d = refl
+row-mark (Some key) id xs dir d = row-put (record { dir = id; key = key }) xs dir d
+
+-- the row is found by its id
+abbrev pub IsFound : List Entry → Entry → Type 0
+IsFound rows e = entry_of rows e.row.id ≡ Some e
+
+-- the row that has an id is the one that is found by it
+module _ (rows : List Entry) (dir : Entry) (found : IsFound rows dir) where
+  is-it : (e : Entry) → IsFound rows e → (e.row.id == dir.row.id) ≡ true → e ≡ dir
+  is-it e h t = let i = eq-yes _ _ t in let f : entry_of rows e.row.id ≡ entry_of rows dir.row.id = ap (entry_of rows) i in cc
+
+  -- no row but an unmarked one has the id
+  no-zone : (es : List Entry) → All (IsFound rows) es → mark_of dir.row.kind ≡ None → zone_row (zones_of es) dir.row.id ≡ None
+  no-zone [] a u = refl
+  no-zone (e ∷ es) a u = go (e.row.id == dir.row.id) refl (no-zone es (All-tail (IsFound rows) e es a) u)
+    where
+      go : (t : Bool) → (e.row.id == dir.row.id) ≡ t → zone_row (zones_of es) dir.row.id ≡ None → zone_row (zones_of (e ∷ es)) dir.row.id ≡ None
+      go true h ih =
+          let same : e ≡ dir = is-it e (All-head (IsFound rows) e es a) h in
+          ap (λ (m : Option KeyName). zone_row (with_mark m e.row.id (zones_of es)) dir.row.id) (ap (λ (f : Entry). mark_of f.row.kind) same ∙ u) ∙ ih
+      go false h ih = row-mark (mark_of e.row.kind) e.row.id (zones_of es) dir.row.id h ∙ ih
+
+  -- rows that come after it have other ids
+  unmoved : (es : List Entry) (kind : Kind) → All (IsFound rows) es → AllAfter dir.path es → set_kind es dir.row.id kind ≡ es
+  unmoved [] kind a after = refl
+  unmoved (e ∷ es) kind a after = go (e.row.id == dir.row.id) refl (unmoved es kind (All-tail (IsFound rows) e es a) after.1)
+    where
+      go : (t : Bool) → (e.row.id == dir.row.id) ≡ t → set_kind es dir.row.id kind ≡ es → cond t (record e { row = record { id = dir.row.id; kind = kind } }) e ∷ set_kind es dir.row.id kind ≡ e ∷ es
+      go true h ih =
+          let same : e ≡ dir = is-it e (All-head (IsFound rows) e es a) h in
+          let before : is_before dir.path dir.path ≡ true = ap (λ (f : Entry). is_before dir.path f.path) (sym same) ∙ after.0 in
+          let not-itself = not-before-itself dir.path in cc
+      go false h ih = ap (λ (l : List Entry). e ∷ l) ih
+
+  marked : (es : List Entry) (key : KeyName) → All (IsFound rows) es → IsRising es → entry_of es dir.row.id ≡ Some dir → mark_of dir.row.kind ≡ None
+      → zones_of (set_kind es dir.row.id (Dir (Some key))) ≡ put_zone (record { dir = dir.row.id; key = key }) (zones_of es)
+  marked [] key a r f u = cc
+  marked (e ∷ es) key a r f u = go (e.row.id == dir.row.id) refl f (marked es key (All-tail (IsFound rows) e es a) r.1)
+    where
+      go : (t : Bool) → (e.row.id == dir.row.id) ≡ t → cond t (Some e) (entry_of es dir.row.id) ≡ Some dir
+          → (entry_of es dir.row.id ≡ Some dir → mark_of dir.row.kind ≡ None → zones_of (set_kind es dir.row.id (Dir (Some key))) ≡ put_zone (record { dir = dir.row.id; key = key }) (zones_of es))
+          → zones_of (cond t (record e { row = record { id = dir.row.id; kind = Dir (Some key) } }) e ∷ set_kind es dir.row.id (Dir (Some key))) ≡ put_zone (record { dir = dir.row.id; key = key }) (zones_of (e ∷ es))
+      go true h g ih =
+          let same : e ≡ dir = cc in
+          let after : AllAfter dir.path es = subst (λ (d : Entry). AllAfter d.path es) same r.0 in
+          ap (λ (l : List Entry). put_zone (record { dir = dir.row.id; key = key }) (zones_of l)) (unmoved es (Dir (Some key)) (All-tail (IsFound rows) e es a) after)
+          ∙ ap (λ (m : Option KeyName). put_zone (record { dir = dir.row.id; key = key }) (with_mark m e.row.id (zones_of es))) (sym (ap (λ (d : Entry). mark_of d.row.kind) same ∙ u))
+      go false h g ih =
+          ap (with_mark (mark_of e.row.kind) e.row.id) (ih g u)
+          ∙ mark-put (mark_of e.row.kind) e.row.id (record { dir = dir.row.id; key = key }) (zones_of es) h
+
+pub marked-is-a-zone : MarkedIsAZone
+marked-is-a-zone rows dir key r found d u = (marked rows dir found rows key r.once r.rising found u, no-zone rows dir found rows r.once u)
+
+-- what is found by an id has it
+pub found-has : (rows : List Entry) (id : ℕ) (e : Entry) → entry_of rows id ≡ Some e → e.row.id ≡ id
+found-has [] id e h = cc
+found-has (x ∷ xs) id e h = go (x.row.id == id) refl h (found-has xs id e)
+  where
+    go : (t : Bool) → (x.row.id == id) ≡ t → cond t (Some x) (entry_of xs id) ≡ Some e → (entry_of xs id ≡ Some e → e.row.id ≡ id) → e.row.id ≡ id
+    go true f g ih = let same : x ≡ e = cc in subst (λ (d : Entry). d.row.id ≡ id) same (eq-yes _ _ f)
+    go false f g ih = ih g
+
+-- the row is that of a directory without a mark
+abbrev pub is_plain : Entry → Bool
+is_plain e = is_dir e.row.kind && is_none (mark_of e.row.kind)
+
+none-from : (m : Option KeyName) → is_none m ≡ true → m ≡ None
+none-from None h = refl
+none-from (Some key) h = cc
+
+-- the same where the directory is named by its id
+pub marked-by-id : (rows : List Entry) (id : ℕ) (key : KeyName) → IsRows rows → option_map_or is_plain (entry_of rows id) false ≡ true
+    → (zones_of (set_kind rows id (Dir (Some key))) ≡ put_zone (record { dir = id; key = key }) (zones_of rows)) × (zone_row (zones_of rows) id ≡ None) × (option_map_or (λ (e : Entry). is_dir e.row.kind) (entry_of rows id) false ≡ true)
+marked-by-id rows id key r h = go (entry_of rows id) refl h
+  where
+    go : (o : Option Entry) → entry_of rows id ≡ o → option_map_or is_plain o false ≡ true
+        → (zones_of (set_kind rows id (Dir (Some key))) ≡ put_zone (record { dir = id; key = key }) (zones_of rows)) × (zone_row (zones_of rows) id ≡ None) × (option_map_or (λ (e : Entry). is_dir e.row.kind) o false ≡ true)
+    go None e f = cc
+    go (Some dir) e f =
+        let same : dir.row.id ≡ id = found-has rows id dir e in
+        let parts = and-parts (is_dir dir.row.kind) (is_none (mark_of dir.row.kind)) f in
+        let law = marked-is-a-zone rows dir key r (ap (entry_of rows) same ∙ e) parts.0 (none-from _ parts.1) in (
+          subst (λ (i : ℕ). zones_of (set_kind rows i (Dir (Some key))) ≡ put_zone (record { dir = i; key = key }) (zones_of rows)) same law.0,
+          subst (λ (i : ℕ). zone_row (zones_of rows) i ≡ None) same law.1,
+          parts.0,
+        )
+
+-- the zones that pass a test, where one more is put in: they stand in order of their directories' ids
+abbrev pub AllFrom : ℕ → List ZoneRow → Type 0
+AllFrom dir [] = ⊤
+AllFrom dir (x ∷ xs) = (nat_lt x.dir dir ≡ false) × AllFrom dir xs
+
+abbrev pub IsOrdered : List ZoneRow → Type 0
+IsOrdered [] = ⊤
+IsOrdered (x ∷ xs) = AllFrom x.dir xs × IsOrdered xs
+
+lt-le-trans : (a b c : ℕ) → nat_lt a b ≡ true → nat_lt c b ≡ false → nat_lt a c ≡ true
+lt-le-trans a b c h k = grind (arith, nat_tests)
+
+from-put : (dir : ℕ) (z : ZoneRow) (xs : List ZoneRow) → nat_lt z.dir dir ≡ false → AllFrom dir xs → AllFrom dir (put_zone z xs)
+from-put dir z [] h a = (h, tt)
+from-put dir z (x ∷ xs) h a = go (nat_lt z.dir x.dir) (from-put dir z xs h a.1)
+  where
+    go : (t : Bool) → AllFrom dir (put_zone z xs) → AllFrom dir (cond t (z ∷ x ∷ xs) (x ∷ put_zone z xs))
+    go true ih = (h, a)
+    go false ih = (a.0, ih)
+
+from-lower : (b a : ℕ) (xs : List ZoneRow) → nat_lt b a ≡ true → AllFrom a xs → AllFrom b xs
+from-lower b a [] h f = tt
+from-lower b a (x ∷ xs) h f = (lt-not b x.dir (lt-le-trans b a x.dir h f.0), from-lower b a xs h f.1)
+
+ordered-put : (z : ZoneRow) (xs : List ZoneRow) → IsOrdered xs → IsOrdered (put_zone z xs)
+ordered-put z [] o = (tt, tt)
+ordered-put z (x ∷ xs) o = go (nat_lt z.dir x.dir) refl (ordered-put z xs o.1)
+  where
+    go : (t : Bool) → nat_lt z.dir x.dir ≡ t → IsOrdered (put_zone z xs) → IsOrdered (cond t (z ∷ x ∷ xs) (x ∷ put_zone z xs))
+    go true e ih = ((lt-not z.dir x.dir e, from-lower z.dir x.dir xs e o.0), o)
+    go false e ih = (from-put x.dir z xs e o.0, ih)
+
+ordered-mark : (m : Option KeyName) (id : ℕ) (xs : List ZoneRow) → IsOrdered xs → IsOrdered (with_mark m id xs)
+ordered-mark None id xs o = o
+ordered-mark (Some key) id xs o = ordered-put (record { dir = id; key = key }) xs o
+
+pub zones-ordered : (es : List Entry) → IsOrdered (zones_of es)
+zones-ordered [] = tt
+zones-ordered (e ∷ es) = ordered-mark (mark_of e.row.kind) e.row.id (zones_of es) (zones-ordered es)
+
+-- what comes before all others is put in first
+put-first : (z : ZoneRow) (xs : List ZoneRow) (keep : ZoneRow → Bool) (a : ℕ) → nat_lt z.dir a ≡ true → AllFrom a xs → put_zone z (filter keep xs) ≡ z ∷ filter keep xs
+put-first z [] keep a h f = refl
+put-first z (x ∷ xs) keep a h f = go (keep x) (put-first z xs keep a h f.1)
+  where
+    go : (t : Bool) → put_zone z (filter keep xs) ≡ z ∷ filter keep xs → put_zone z (cond t (x ∷ filter keep xs) (filter keep xs)) ≡ z ∷ cond t (x ∷ filter keep xs) (filter keep xs)
+    go true ih = put-front z x (filter keep xs) (lt-le-trans z.dir a x.dir h f.0)
+    go false ih = ih
+
+filter-put : (keep : ZoneRow → Bool) (z : ZoneRow) (xs : List ZoneRow) → IsOrdered xs → filter keep (put_zone z xs) ≡ cond (keep z) (put_zone z (filter keep xs)) (filter keep xs)
+filter-put keep z [] o = refl
+filter-put keep z (x ∷ xs) o = go (nat_lt z.dir x.dir) refl (keep x) refl (filter-put keep z xs o.1)
+  where
+    all : List ZoneRow
+    all = filter keep xs
+
+    go : (t : Bool) → nat_lt z.dir x.dir ≡ t → (u : Bool) → keep x ≡ u → filter keep (put_zone z xs) ≡ cond (keep z) (put_zone z (filter keep xs)) (filter keep xs)
+        → filter keep (cond t (z ∷ x ∷ xs) (x ∷ put_zone z xs)) ≡ cond (keep z) (put_zone z (cond u (x ∷ filter keep xs) (filter keep xs))) (cond u (x ∷ filter keep xs) (filter keep xs))
+    go true e u k ih =
+        ap (λ (v : Bool). cond (keep z) (z ∷ cond v (x ∷ filter keep xs) (filter keep xs)) (cond v (x ∷ filter keep xs) (filter keep xs))) k
+        ∙ ap (λ (l : List ZoneRow). cond (keep z) l (cond u (x ∷ filter keep xs) (filter keep xs))) (sym (first u))
+      where
+        first : (v : Bool) → put_zone z (cond v (x ∷ filter keep xs) (filter keep xs)) ≡ z ∷ cond v (x ∷ filter keep xs) (filter keep xs)
+        first true = put-front z x (filter keep xs) e
+        first false = put-first z xs keep x.dir e o.0
+    go false e true k ih =
+        ap (λ (v : Bool). cond v (x ∷ filter keep (put_zone z xs)) (filter keep (put_zone z xs))) k
+        ∙ ap (λ (l : List ZoneRow). x ∷ l) ih ∙ two (keep z)
+      where
+        two : (v : Bool) → x ∷ cond v (put_zone z (filter keep xs)) (filter keep xs) ≡ cond v (put_zone z (x ∷ filter keep xs)) (x ∷ filter keep xs)
+        two true = sym (put-behind z x (filter keep xs) e)
+        two false = refl
+    go false e false k ih = ap (λ (v : Bool). cond v (x ∷ filter keep (put_zone z xs)) (filter keep (put_zone z xs))) k ∙ ih
+
+filter-mark : (keep : ZoneRow → Bool) (m : Option KeyName) (id : ℕ) (b : Bool) (xs : List ZoneRow) → IsOrdered xs → ((key : KeyName) → keep (record { dir = id; key = key }) ≡ b)
+    → filter keep (with_mark m id xs) ≡ cond b (with_mark m id (filter keep xs)) (filter keep xs)
+filter-mark keep None id true xs o h = refl
+filter-mark keep None id false xs o h = refl
+filter-mark keep (Some key) id b xs o h =
+    filter-put keep (record { dir = id; key = key }) xs o
+    ∙ ap (λ (v : Bool). cond v (put_zone (record { dir = id; key = key }) (filter keep xs)) (filter keep xs)) (h key)
+
+-- the zones of the directories that are neither at the path nor below it
+abbrev pub outside : List Entry → List (List ℕ) → ZoneRow → Bool
+outside rows p z = not (at_or_below rows z.dir p)
+
+removed-mark : (rows : List Entry) (p : List (List ℕ)) (e : Entry) (es : List Entry) (b : Bool) → not (is_prefix p e.path) ≡ b → zones_of (removed p es) ≡ filter (outside rows p) (zones_of es)
+    → zones_of (cond b (e ∷ removed p es) (removed p es)) ≡ cond b (with_mark (mark_of e.row.kind) e.row.id (filter (outside rows p) (zones_of es))) (filter (outside rows p) (zones_of es))
+removed-mark rows p e es true h ih = ap (with_mark (mark_of e.row.kind) e.row.id) ih
+removed-mark rows p e es false h ih = ih
+
+removed-from : (rows : List Entry) (p : List (List ℕ)) (es : List Entry) → All (IsFound rows) es → zones_of (removed p es) ≡ filter (outside rows p) (zones_of es)
+removed-from rows p [] a = refl
+removed-from rows p (e ∷ es) a =
+    removed-mark rows p e es (not (is_prefix p e.path)) refl (removed-from rows p es (All-tail (IsFound rows) e es a))
+    ∙ sym (filter-mark (outside rows p) (mark_of e.row.kind) e.row.id (not (is_prefix p e.path)) (zones_of es) (zones-ordered es)
+    (λ key. ap (λ (o : Option Entry). not (option_map_or (λ (f : Entry). is_prefix p f.path) o false)) (All-head (IsFound rows) e es a)))
+
+-- without the rows at and below a path the zones are those outside it
+pub removed-zones : (rows : List Entry) (p : List (List ℕ)) → IsRows rows → filter (outside rows p) (zones_of rows) ≡ zones_of (removed p rows)
+removed-zones rows p r = sym (removed-from rows p rows r.once)

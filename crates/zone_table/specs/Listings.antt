@@ -1,0 +1,20 @@
+-- The zones of a tree by the places of their directories in path order.
+use Rattle.std.specs.Prelude.{ℕ, List, [], slice_get, Option, Some, None}
+use Rattle.std.specs.Option.{option_map_or}
+use Rattle.inode_tree.specs.Arena.{rank}
+use Rattle.inode_tree.specs.Rows.{Entry, entry_of, mark_of}
+use Rattle.zone_table.specs.declared.list.ZonePath.{ZonePath}
+use Rattle.zone_table.specs.Zones.{listed}
+
+-- how many rows come before that of an id
+abbrev pub place_of : List Entry → ℕ → ℕ
+place_of rows id = option_map_or (λ e. rank rows e.path) (entry_of rows id) 0
+
+-- the zone of a row, where the row is marked
+abbrev pub shown : Option Entry → List ZonePath
+shown None = []
+shown (Some e) = listed (mark_of e.row.kind) e.path []
+
+-- the zone at a place, where the row there is marked
+abbrev pub listed_at : List Entry → ℕ → List ZonePath
+listed_at rows at = shown (slice_get rows at)

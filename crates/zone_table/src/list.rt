@@ -1,0 +1,117 @@
+//! The zones as they are listed.
+ghost use Rattle.std.specs.Prelude.{◌≡◌, ◌<◌, ◌++◌, ◌∷◌, [], length, map, IfOk, IsSome, OnOk, OnErr};
+ghost use Rattle.std.specs.List.{All, flat_map};
+ghost use Rattle.inode_tree.specs.Rows.{entry_of, mark_of};
+ghost use Rattle.zone_table.specs.Listings.{listed_at, place_of};
+
+use crate::zones::ZoneRow;
+use hk_base::{KeyName, NoMemory};
+use inode_tree::{Kind, NPath, Row, Tree};
+use std::alloc::Global;
+use std::marker::Model;
+
+/// An encryption zone as it is listed: the path of its directory, and the key of its files.
+#[derive(Drop)]
+pub struct ZonePath {
+    pub path: NPath,
+    pub key: KeyName,
+}
+
+/// Zones as they are listed. Contracts see them in one list.
+#[derive(Drop)]
+pub struct ZoneList {
+    zones: Vec<ZonePath>,
+}
+
+impl Model for ZoneList {
+    ghost use Rattle.std.specs.Prelude.{List};
+    ghost use Rattle.zone_table.specs.declared.list.ZonePath.{ZonePath};
+
+    ghost Value = { List ZonePath };
+
+    ghost view = { λ list. list.zones.items };
+}
+
+impl ZoneList {
+    /// No zones. It takes no memory.
+    pub fn new(alloc: Global) -> ZoneList
+        ensures { result ≡ [] }
+    {
+        ZoneList {
+            zones: Vec::new(alloc),
+        }
+    }
+
+    /// The zones, in the order of the list.
+    pub fn as_slice(&self) -> &[ZonePath]
+        ensures { result.now ≡ self.now }
+    {
+        self.zones.as_slice()
+    }
+
+    /// Adds a zone at the end. Where memory is wanting the list stays as it was.
+    pub fn push(&mut self, zone: ZonePath) -> Result<(), NoMemory>
+        ensures ok { OnOk result (self.new ≡ self.old ++ zone ∷ []) }
+        ensures err { OnErr result (self.new ≡ self.old) }
+    {
+        self.zones.push(zone)?;
+        Ok(())
+    }
+}
+
+/// The place in path order of the directory that has an id.
+fn place_of(tree: &Tree, dir: u64) -> Result<u32, NoMemory>
+    requires { IsSome (entry_of tree.now.rows dir) }
+    ensures { IfOk result (λ place. place ≡ place_of tree.now.rows dir) }
+{
+    let path = tree.path_of(dir)?;
+    Ok(tree.place(&path))
+}
+
+/// The places in path order of the directories of zones.
+pub fn places_of(alloc: Global, rows: &Vec<ZoneRow>, tree: &Tree) -> Result<Vec<u32>, NoMemory>
+    requires { All (λ row. IsSome (entry_of tree.now.rows row.dir)) rows.now.items }
+    ensures { IfOk result (λ places. places.items ≡ map (λ row. place_of tree.now.rows row.dir) rows.now.items) }
+{
+    let mut places = Vec::with_capacity(alloc, rows.len())?;
+    for row in rows {
+        places.push(place_of(tree, row.dir)?)?;
+    }
+    Ok(places)
+}
+
+/// The key that a row is marked with.
+fn mark_of(row: &Row) -> Option<KeyName>
+    ensures { result ≡ mark_of row.now.kind }
+{
+    match &row.kind {
+        Kind::Dir { key } => *key,
+        Kind::File { .. } => None,
+    }
+}
+
+/// Lists the zone at a place of the tree, where one stands there.
+fn list_place(list: &mut ZoneList, tree: &Tree, at: u32) -> Result<(), NoMemory>
+    requires { at < length tree.now.rows }
+    ensures { OnOk result (list.new ≡ list.old ++ listed_at tree.now.rows at) }
+{
+    match mark_of(&tree.row_at_place(at)) {
+        Some(key) => {
+            let path = tree.path_from(at, 0)?;
+            list.push(ZonePath { path, key })
+        }
+        None => Ok(()),
+    }
+}
+
+/// The zones at places of the tree, in the order of the places.
+pub fn list_places(alloc: Global, tree: &Tree, places: &Vec<u32>) -> Result<ZoneList, NoMemory>
+    requires { All (λ at. at < length tree.now.rows) places.now.items }
+    ensures { IfOk result (λ list. list ≡ flat_map (listed_at tree.now.rows) places.now.items) }
+{
+    let mut list = ZoneList::new(alloc);
+    for at in places {
+        list_place(&mut list, tree, *at)?;
+    }
+    Ok(list)
+}
