@@ -15,7 +15,7 @@ use std::marker::Model;
 
 /// Whether a row at the path or below it stands at a place of the tree.
 fn goes_on(tree: &Tree, at: u32, path: &NPath) -> bool
-    ensures { result ≡ option_map_or (λ e. is_prefix path.now e.path) (slice_get tree.now at) false }
+    ensures { result ≡ option_map_or (λ e. is_prefix path.now e.path) (slice_get tree.now.rows at) false }
 {
     if at < tree.rows() {
         tree.place_is_below(at, path)
@@ -26,7 +26,7 @@ fn goes_on(tree: &Tree, at: u32, path: &NPath) -> bool
 
 /// Whether the rows are exactly those at and below a path. It takes no memory.
 fn are_below(rows: &Vec<FrozenRow>, tree: &Tree, path: &NPath) -> bool
-    ensures { IsTrue result ↔ (filter (λ e. is_prefix path.now e.path) tree.now ≡ rows.now.items) }
+    ensures { IsTrue result ↔ (filter (λ e. is_prefix path.now e.path) tree.now.rows ≡ rows.now.items) }
 {
     let _count = tree.rows();
     let mut at = tree.place(path);
@@ -67,8 +67,8 @@ impl Model for Prepared {
 impl Prepared {
     /// Copies of the rows at and below the directory that has the id.
     fn of(alloc: Global, tree: &Tree, dir: u64) -> Result<Prepared, NoMemory>
-        requires { IsSome (entry_of tree.now dir) }
-        ensures { IfOk result (λ prepared. copied_for tree.now dir ≡ Some prepared) }
+        requires { IsSome (entry_of tree.now.rows dir) }
+        ensures { IfOk result (λ prepared. copied_for tree.now.rows dir ≡ Some prepared) }
     {
         let path = tree.path_of(dir)?;
         let whole = copy_rows(alloc, tree, &path, 0)?;
@@ -78,7 +78,7 @@ impl Prepared {
 
     /// Whether it is what a snapshot of the directory needs. It takes no memory.
     fn is_of(&self, tree: &Tree, dir: u64) -> bool
-        ensures { IsTrue result ↔ (copied_for tree.now dir ≡ Some self.now) }
+        ensures { IsTrue result ↔ (copied_for tree.now.rows dir ≡ Some self.now) }
     {
         if !tree.at_or_above(dir, &self.path) {
             return false;
@@ -99,7 +99,7 @@ impl Prepared {
 
 /// What a snapshot of a directory needs; `None` where its row does not stand.
 pub fn prepare(alloc: Global, tree: &Tree, dir: u64) -> Result<Option<Prepared>, NoMemory>
-    ensures { IfOk result (λ prepared. prepared ≡ copied_for tree.now dir) }
+    ensures { IfOk result (λ prepared. prepared ≡ copied_for tree.now.rows dir) }
 {
     match tree.row(dir) {
         Some(_) => {
@@ -118,9 +118,9 @@ pub fn rows_for(
     tree: &Tree,
     dir: u64,
 ) -> Result<FrozenRows, NoMemory>
-    requires { IsSome (entry_of tree.now dir) }
-    ensures rows { IfOk result (λ rows. rows ≡ frozen tree.now dir) }
-    ensures ready { prepared ≡ copied_for tree.now dir → IsOk result }
+    requires { IsSome (entry_of tree.now.rows dir) }
+    ensures rows { IfOk result (λ rows. rows ≡ frozen tree.now.rows dir) }
+    ensures ready { prepared ≡ copied_for tree.now.rows dir → IsOk result }
 {
     match prepared {
         Some(prepared) => {

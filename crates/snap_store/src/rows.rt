@@ -111,7 +111,7 @@ impl FrozenRow {
 
     /// Whether it is the row at a place of the tree. It takes no memory.
     pub fn stands_at(&self, tree: &Tree, at: u32) -> bool
-        ensures { IsTrue result ↔ (slice_get tree.now at ≡ Some self.now) }
+        ensures { IsTrue result ↔ (slice_get tree.now.rows at ≡ Some self.now) }
     {
         if at >= tree.rows() {
             return false;
@@ -136,8 +136,8 @@ fn copy_of(alloc: Global, name: &Text) -> Result<Text, NoMemory>
 /// A copy of the row at a place in path order, as it is seen from the directory that its first
 /// `from` names lead to.
 fn copy_row(tree: &Tree, at: u32, from: usize) -> Result<FrozenRow, NoMemory>
-    requires { at < length tree.now }
-    ensures { IfOk result (λ row. option_map (seen_from from) (slice_get tree.now at) ≡ Some row) }
+    requires { at < length tree.now.rows }
+    ensures { IfOk result (λ row. option_map (seen_from from) (slice_get tree.now.rows at) ≡ Some row) }
 {
     let path = tree.path_from(at, from)?;
     let row = tree.row_at_place(at);
@@ -152,7 +152,7 @@ pub fn copy_rows(
     path: &NPath,
     from: usize,
 ) -> Result<Vec<FrozenRow>, NoMemory>
-    ensures { IfOk result (λ rows. rows.items ≡ map (seen_from from) (filter (λ e. is_prefix path.now e.path) tree.now)) }
+    ensures { IfOk result (λ rows. rows.items ≡ map (seen_from from) (filter (λ e. is_prefix path.now e.path) tree.now.rows)) }
 {
     let mut rows = Vec::new(alloc);
     for at in tree.place(path)..tree.rows() {
@@ -258,8 +258,8 @@ impl Model for FrozenRows {
 impl FrozenRows {
     /// Copies of the rows at and below the directory that has the id.
     pub fn of(alloc: Global, tree: &Tree, dir: u64) -> Result<FrozenRows, NoMemory>
-        requires { IsSome (entry_of tree.now dir) }
-        ensures { IfOk result (λ rows. rows ≡ frozen tree.now dir) }
+        requires { IsSome (entry_of tree.now.rows dir) }
+        ensures { IfOk result (λ rows. rows ≡ frozen tree.now.rows dir) }
     {
         let _count = tree.rows();
         let path = tree.path_of(dir)?;

@@ -292,15 +292,15 @@ impl Snaps {
     /// is wanting all stays as it was. It takes none where `reserve_take` was `Ok` for the directory and
     /// neither the snapshots nor the rows at and below it have changed since.
     pub fn take(&mut self, tree: &Tree, dir: u64, name: Text) -> Result<(), NoMemory>
-        requires stands { IsSome (entry_of tree.now dir) }
+        requires stands { IsSome (entry_of tree.now.rows dir) }
         requires allowed { IsTrue (is_among dir self.old.allowed) }
         requires free { snapshot_named self.old.taken dir name ≡ None }
         requires room { count_of self.old.taken dir < 65536 }
-        ensures ok { OnOk result (self.new.taken ≡ put_snapshot (record { dir = dir; name = name; rows = frozen tree.now dir }) self.old.taken) }
+        ensures ok { OnOk result (self.new.taken ≡ put_snapshot (record { dir = dir; name = name; rows = frozen tree.now.rows dir }) self.old.taken) }
         ensures err { OnErr result (self.new.taken ≡ self.old.taken) }
         ensures others { (d : ℕ) (n : List ℕ) → is_named dir name (key_of d n) ≡ false → snapshot_named self.new.taken d n ≡ snapshot_named self.old.taken d n }
         ensures allowed { self.new.allowed ≡ self.old.allowed }
-        ensures spare { IsReady self.old tree.now dir name → IsOk result }
+        ensures spare { IsReady self.old tree.now.rows dir name → IsOk result }
     {
         let rows = rows_for(self.alloc, self.ready.take(), tree, dir)?;
         put(&mut self.taken, Taken { dir, name, rows })
@@ -309,7 +309,7 @@ impl Snaps {
     /// Takes the memory for a snapshot of a directory, by copying its rows. Nothing else changes; once
     /// it was `Ok`, `take` is too.
     pub fn reserve_take(&mut self, tree: &Tree, dir: u64, name: &Text) -> Result<(), NoMemory>
-        ensures ok { OnOk result (IsReady self.new tree.now dir name.now) }
+        ensures ok { OnOk result (IsReady self.new tree.now.rows dir name.now) }
         ensures allowed { self.new.allowed ≡ self.old.allowed }
         ensures taken { self.new.taken ≡ self.old.taken }
     {
@@ -391,7 +391,7 @@ impl Snaps {
 
     /// Whether there is a snapshot of a directory at the path or below it.
     pub fn holds(&self, tree: &Tree, path: &NPath) -> bool
-        ensures { result ≡ holds_snapshot tree.now self.now.taken path.now }
+        ensures { result ≡ holds_snapshot tree.now.rows self.now.taken path.now }
     {
         self.taken
             .iter()
@@ -400,14 +400,14 @@ impl Snaps {
 
     /// Whether a directory above the path, and not at it, may have snapshots.
     pub fn allowed_above(&self, tree: &Tree, path: &NPath) -> bool
-        ensures { result ≡ allowed_above tree.now self.now.allowed path.now }
+        ensures { result ≡ allowed_above tree.now.rows self.now.allowed path.now }
     {
         self.allowed.iter().any(|dir| is_above(tree, *dir, path))
     }
 
     /// Whether a directory below the path, and not at it, may have snapshots.
     pub fn allowed_below(&self, tree: &Tree, path: &NPath) -> bool
-        ensures { result ≡ allowed_below tree.now self.now.allowed path.now }
+        ensures { result ≡ allowed_below tree.now.rows self.now.allowed path.now }
     {
         self.allowed.iter().any(|dir| is_below(tree, *dir, path))
     }
@@ -415,7 +415,7 @@ impl Snaps {
 
 /// Whether the row of the id is above the path, and not at it.
 fn is_above(tree: &Tree, id: u64, path: &NPath) -> bool
-    ensures { result ≡ (at_or_above tree.now id path.now && not (at_or_below tree.now id path.now)) }
+    ensures { result ≡ (at_or_above tree.now.rows id path.now && not (at_or_below tree.now.rows id path.now)) }
 {
     let above = tree.at_or_above(id, path);
     let below = tree.at_or_below(id, path);
@@ -424,7 +424,7 @@ fn is_above(tree: &Tree, id: u64, path: &NPath) -> bool
 
 /// Whether the row of the id is below the path, and not at it.
 fn is_below(tree: &Tree, id: u64, path: &NPath) -> bool
-    ensures { result ≡ (at_or_below tree.now id path.now && not (at_or_above tree.now id path.now)) }
+    ensures { result ≡ (at_or_below tree.now.rows id path.now && not (at_or_above tree.now.rows id path.now)) }
 {
     let above = tree.at_or_above(id, path);
     let below = tree.at_or_below(id, path);

@@ -10,7 +10,7 @@ invariant_of-self-2 c =
     (ap (λ (s : Snapshots). is_among c.args.dir s.allowed) c.self.view_is ∙ c.requires.allowed)
     (ap (λ (s : Snapshots). snapshot_named s.taken c.args.dir c.args.name) c.self.view_is ∙ c.requires.free)
     (subst (λ (s : Snapshots). count_of s.taken c.args.dir < 65536) (sym c.self.view_is) c.requires.room)
-    (frozen-own c.args.tree.now c.args.dir c.in_ok-rows.rows c.requires.stands c.in_ok-rows.ensures.rows)
+    (frozen-own c.args.tree.now.rows c.args.dir c.in_ok-rows.rows c.requires.stands c.in_ok-rows.ensures.rows)
     c.put.ensures.ok c.put.ensures.err
 
 pub returns-clause-others : goal.returns-clause-others
