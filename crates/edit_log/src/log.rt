@@ -33,7 +33,7 @@ impl Model for EditLog {
 }
 
 impl EditLog {
-    ghost use Rattle.std.specs.Prelude.{◌≡◌, ◌≢◌, ◌<◌, ◌+◌, ◌⊎◌, ◌++◌, [], ◌∷◌, ℕ, List, Option, Some, None, Ok, IsTrue, IsErr, IfOk, OnOk, OnErr, IsErrOf, slice_get, map};
+    ghost use Rattle.std.specs.Prelude.{◌≡◌, ◌≢◌, ◌<◌, ◌+◌, ◌⊎◌, ◌++◌, [], ◌∷◌, ℕ, List, Option, Some, None, Ok, IsTrue, IsErr, IfOk, OnOk, OnErr, IsErrOf, is_some, slice_get, map};
     ghost use Rattle.hk_base.specs.Disk.{Tells, RunOn, LeavesOnly};
     ghost use Rattle.hk_base.specs.Faults.{Rose};
     ghost use Rattle.frame_log.specs.Format.{log_of, NoLog, IsAsFound, IsRecovered};
@@ -200,6 +200,15 @@ impl EditLog {
             // An append never finds the log damaged.
             Err(_) => return Err(StoreRefusal::NoMemory),
         }
+    }
+
+    /// Whether an operation is pending.
+    pub fn is_pending(&self) -> bool
+        ensures pending { result ≡ is_some self.now.pending }
+        // The log is that of file 1.
+        ensures file { self.now.log.file ≡ 1 }
+    {
+        self.pending.is_some()
     }
 
     /// Settles the pending operation: it is kept, and answered, where the gate byte before its record
