@@ -1,0 +1,126 @@
+-- The ids that operations use.
+use Rattle.std.proofs.Common.{◌≡◌, ℕ, ◌+◌, ◌*◌, ◌^◌, ◌<◌, ◌≤◌, Bool, true, false, not, ◌&&◌, ◌||◌, ◌==◌, nat_lt, nat_le, cond, List, [], ◌∷◌, Some, None, is_none, refl, sym, ◌∙◌, ap, subst, arith}
+use Rattle.std.specs.Prelude.{if◌then◌else◌}
+use Rattle.std.specs.List.{All}
+use Rattle.std.proofs.lemmas.Bool.Decides.{Decides-eqb, nat_tests}
+use Rattle.std.proofs.lemmas.List.Elements.{All-cons, All-filter, All-head, All-map, All-nil, All-tail, All-weaker}
+use Rattle.inode_tree.specs.declared.rows.Kind.{Kind}
+use Rattle.inode_tree.specs.declared.rows.Kind.TheVariants.{Dir}
+use Rattle.inode_tree.specs.Paths.{is_before}
+use Rattle.inode_tree.specs.Rows.{Entry, entry_of, put, row_at, set_kind, with_kind}
+use Rattle.edit_ops.specs.declared.ops.EditOp.{EditOp}
+use Rattle.edit_ops.specs.declared.ops.EditOp.TheVariants as op
+use Rattle.name_store.specs.Table.{NameTable, Replayed, after, allows, applies, fits_zone, id_of, is_among, is_fresh, is_of_opening, key_of_zone, may_be_made, may_use, nothing_logged}
+use Rattle.name_store.specs.Replay.{AllBelow, IdsOfOpening, name_replay}
+use Rattle.name_store.proofs.RowLemmas.{both}
+
+abbrev BelowId : ℕ → Entry → Type 0
+BelowId n e = e.row.id < n
+
+all-either : (P : Entry → Type 0) (b : Bool) (xs ys : List Entry) → All P xs → All P ys → All P (cond b xs ys)
+all-either P true xs ys h g = h
+all-either P false xs ys h g = g
+
+all-put : (P : Entry → Type 0) (e : Entry) (es : List Entry) → P e → All P es → All P (put e es)
+all-put P e [] p h = All-cons P e [] p h
+all-put P e (x ∷ xs) p h =
+    all-either P (is_before e.path x.path) (e ∷ x ∷ xs) (x ∷ put e xs) (All-cons P e (x ∷ xs) p h)
+    (All-cons P x (put e xs) (All-head P x xs h) (all-put P e xs p (All-tail P x xs h)))
+
+-- another kind leaves the id
+kind-id : (n : ℕ) (kind : Kind) (e : Entry) → (with_kind n kind e).row.id ≡ e.row.id
+kind-id n kind e = go (e.row.id == n) refl
+  where
+    go : (b : Bool) → (e.row.id == n) ≡ b → (cond b (record e { row = record { id = n; kind = kind } }) e).row.id ≡ e.row.id
+    go true h = sym ((Decides-eqb e.row.id n).0 h)
+    go false h = refl
+
+kinds-below : (m n : ℕ) (kind : Kind) (es : List Entry) → All (BelowId m) es → All (BelowId m) (set_kind es n kind)
+kinds-below m n kind es h =
+    All-map (BelowId m) (with_kind n kind) es (All-weaker (BelowId m) (λ e. BelowId m (with_kind n kind e)) (λ e below. subst (λ (i : ℕ). i < m) (sym (kind-id n kind e)) below) es h)
+
+used-weaker : (n m : ℕ) → n ≤ m → (ids : List ℕ) → AllBelow n ids → AllBelow m ids
+used-weaker n m le [] h = tt
+used-weaker n m le (id ∷ ids) h = (omega (arith, le, h.0), used-weaker n m le ids h.1)
+
+-- what an id of an opening is below
+abbrev end_of_ids : ℕ → ℕ
+end_of_ids opening = (opening + 1) * 2 ^ 32
+
+below-end : (opening id : ℕ) → is_of_opening opening id ≡ true → id < end_of_ids opening
+below-end opening id h =
+    let parts = both (nat_le (opening * 2 ^ 32) id) (nat_lt id ((opening + 1) * 2 ^ 32)) h in
+    let last : nat_lt id ((opening + 1) * 2 ^ 32) ≡ true = parts.1 in
+    grind (arith, nat_tests, last)
+
+of-opening : (t : NameTable) (id : ℕ) (p : List (List ℕ)) → (nat_lt 0 t.opening && may_use t id && may_be_made t.rows p) ≡ true → id < end_of_ids t.opening
+of-opening t id p h =
+    let first = (both (nat_lt 0 t.opening && may_use t id) (may_be_made t.rows p) h).0 in
+    let fits = (both (nat_lt 0 t.opening) (may_use t id) first).1 in
+    below-end t.opening id (both (is_of_opening t.opening id) (is_none (entry_of t.rows id)) fits).0
+
+later : (a b : ℕ) → b ≡ a + 1 → end_of_ids a ≤ end_of_ids b
+later a b h = omega (arith, h)
+
+-- an operation that the table allows keeps the ids within the openings
+ids-after : (r : Replayed) (o : EditOp) → allows r.table o ≡ true → IdsOfOpening r → IdsOfOpening (after r o)
+ids-after r (op.Opened opening) may h =
+    let next : opening ≡ r.table.opening + 1 = (Decides-eqb opening (r.table.opening + 1)).0 may in
+    let more = later r.table.opening opening next in
+    record {
+      rows = All-weaker (BelowId (end_of_ids r.table.opening)) (BelowId (end_of_ids opening)) (λ e below. omega (arith, more, below)) r.table.rows h.rows;
+      used = used-weaker (end_of_ids r.table.opening) (end_of_ids opening) more r.used h.used;
+    }
+ids-after r (op.Mkdir id p) may h =
+    let below = of-opening r.table id p may in
+    record { rows = all-put (BelowId (end_of_ids r.table.opening)) _ r.table.rows below h.rows; used = (below, h.used) }
+ids-after r (op.File id p edek) may h =
+    let made = (both (nat_lt 0 r.table.opening && may_use r.table id && may_be_made r.table.rows p) (fits_zone (key_of_zone r.table.rows p) edek) may).0 in
+    let below = of-opening r.table id p made in
+    record { rows = all-put (BelowId (end_of_ids r.table.opening)) _ r.table.rows below h.rows; used = (below, h.used) }
+ids-after r (op.Remove p) may h = record { rows = All-filter _ (BelowId (end_of_ids r.table.opening)) r.table.rows h.rows; used = h.used }
+ids-after r (op.Zone p key) may h = record {
+  rows = kinds-below (end_of_ids r.table.opening) (id_of (row_at r.table.rows p)) (Dir (Some key)) r.table.rows h.rows;
+  used = h.used;
+}
+
+ids-of-all : (r made : Replayed) (ops : List EditOp) → IdsOfOpening r → name_replay r ops ≡ Some made → IdsOfOpening made
+ids-of-all r made [] h is = let same : r ≡ made = cc is in subst IdsOfOpening same h
+ids-of-all r made (o ∷ ops) h is = go (ids-of-all (after r o) made ops) (applies r o) refl is
+  where
+    go : (IdsOfOpening (after r o) → name_replay (after r o) ops ≡ Some made → IdsOfOpening made) → (b : Bool) → applies r o ≡ b → (if b then name_replay (after r o) ops else None) ≡ Some made → IdsOfOpening made
+    go rest true may is = rest (ids-after r o (both (allows r.table o) (is_fresh r.used o) may).0 h) is
+    go rest false may is = absurd cc
+
+-- ids used are of the openings so far
+pub used_earlier : (r : Replayed) (ops : List EditOp) → name_replay nothing_logged ops ≡ Some r → IdsOfOpening r
+used_earlier r ops is = ids-of-all nothing_logged r ops (record { rows = All-cons (BelowId (end_of_ids 0)) _ [] (omega arith) (All-nil (BelowId (end_of_ids 0))); used = tt }) is
+
+-- an operation of this opening uses no id of an earlier one
+
+among-below : (n : ℕ) (used : List ℕ) (id : ℕ) → AllBelow n used → n ≤ id → is_among used id ≡ false
+among-below n [] id h le = refl
+among-below n (i ∷ used) id h le =
+    let below : i < n = h.0 in
+    let apart : (i == id) ≡ false = grind (arith, nat_tests) in
+    ap (λ (b : Bool). b || is_among used id) apart ∙ among-below n used id h.1 le
+
+from-first : (opening id : ℕ) → is_of_opening opening id ≡ true → opening * 2 ^ 32 ≤ id
+from-first opening id h =
+    let first : nat_le (opening * 2 ^ 32) id ≡ true = (both (nat_le (opening * 2 ^ 32) id) (nat_lt id ((opening + 1) * 2 ^ 32)) h).0 in
+    grind (arith, nat_tests, first)
+
+of-this : (t : NameTable) (id : ℕ) (p : List (List ℕ)) → (nat_lt 0 t.opening && may_use t id && may_be_made t.rows p) ≡ true → t.opening * 2 ^ 32 ≤ id
+of-this t id p h =
+    let first = (both (nat_lt 0 t.opening && may_use t id) (may_be_made t.rows p) h).0 in
+    let fits = (both (nat_lt 0 t.opening) (may_use t id) first).1 in
+    from-first t.opening id (both (is_of_opening t.opening id) (is_none (entry_of t.rows id)) fits).0
+
+pub fresh_in : (t : NameTable) (used : List ℕ) (o : EditOp) → allows t o ≡ true → AllBelow (t.opening * 2 ^ 32) used → is_fresh used o ≡ true
+fresh_in t used (op.Opened opening) may h = refl
+fresh_in t used (op.Mkdir id p) may h = ap (λ (b : Bool). not (b || false)) (among-below (t.opening * 2 ^ 32) used id h (of-this t id p may))
+fresh_in t used (op.File id p edek) may h =
+    let made = (both (nat_lt 0 t.opening && may_use t id && may_be_made t.rows p) (fits_zone (key_of_zone t.rows p) edek) may).0 in
+    ap (λ (b : Bool). not (b || false)) (among-below (t.opening * 2 ^ 32) used id h (of-this t id p made))
+fresh_in t used (op.Remove p) may h = refl
+fresh_in t used (op.Zone p key) may h = refl

@@ -1,0 +1,104 @@
+-- Operations one after another.
+use Rattle.std.proofs.Common.{◌≡◌, ℕ, ◌+◌, ◌<◌, ◌≤◌, Bool, true, false, not, ◌&&◌, ◌||◌, ◌==◌, List, [], ◌∷◌, ◌++◌, length, map, Option, Some, None, get_or, take, drop, take-append-drop, refl, sym, ◌∙◌, ap, subst}
+use Rattle.std.specs.Prelude.{if◌then◌else◌}
+use Rattle.std.specs.List.{list_any}
+use Rattle.std.proofs.lemmas.List.{map-append, take_all, take_more, drop_more}
+use Rattle.edit_ops.specs.Records.{spelling}
+use Rattle.edit_ops.specs.declared.ops.EditOp.{EditOp}
+use Rattle.edit_log.specs.declared.op_list.PlacedOp.{PlacedOp}
+use Rattle.edit_log.specs.Replay.{op_view}
+use Rattle.name_store.specs.Table.{NameTable, Replayed, after, allows, applies, is_among, nothing_logged, uses}
+use Rattle.name_store.specs.Replay.{Broken_off, Ids, IsMade, IsNext, IsRefusedAt, IsStuck, applies_beside, name_replay}
+
+-- an operation more, which applies
+pub replay_more : (t u : Replayed) (ops : List EditOp) (op : EditOp) → name_replay t ops ≡ Some u → applies u op ≡ true → name_replay t (ops ++ op ∷ []) ≡ Some (after u op)
+replay_more t u [] op is may =
+    let same : t ≡ u = cc is in
+    let here : applies t op ≡ true = subst (λ (x : Replayed). applies x op ≡ true) (sym same) may in
+    ap (λ (b : Bool). if b then Some (after t op) else None) here ∙ ap (λ (x : Replayed). Some (after x op)) same
+replay_more t u (first ∷ rest) op is may =
+    let P : Bool → Type 0 = λ b. (if b then name_replay (after t first) rest else None) ≡ Some u → (if b then name_replay (after t first) (rest ++ op ∷ []) else None) ≡ Some (after u op) in
+    (elim (applies t first) as P [ true ↦ (λ e. replay_more (after t first) u rest op e may) | false ↦ (λ e. absurd (cc e)) ]) is
+
+pub spelled_more : (ops : List EditOp) (op : EditOp) → map spelling (ops ++ op ∷ []) ≡ map spelling ops ++ spelling op ∷ []
+spelled_more ops op = map-append spelling ops (op ∷ [])
+
+-- ids used, as a list and as a set
+
+abbrev pub AreIds : Ids → List ℕ → Type 0
+AreIds has used = (id : ℕ) → is_among used id ≡ has id
+
+same_uses : (has : Ids) (used ids : List ℕ) → AreIds has used → list_any (is_among used) ids ≡ list_any has ids
+same_uses has used [] same = refl
+same_uses has used (id ∷ ids) same = ap (λ (b : Bool). b || list_any (is_among used) ids) (same id) ∙ ap (λ (b : Bool). has id || b) (same_uses has used ids same)
+
+pub applies_same : (t : NameTable) (has : Ids) (used : List ℕ) (op : EditOp) → AreIds has used → applies (record { table = t; used = used }) op ≡ applies_beside t has op
+applies_same t has used op same = ap (λ (b : Bool). allows t op && not b) (same_uses has used (uses op) same)
+
+or_assoc : (a b c : Bool) → (a || (b || c)) ≡ ((a || b) || c)
+or_assoc true b c = refl
+or_assoc false b c = refl
+
+among_append : (ids used : List ℕ) (id : ℕ) → is_among (ids ++ used) id ≡ (is_among ids id || is_among used id)
+among_append [] used id = refl
+among_append (i ∷ ids) used id = ap (λ (b : Bool). i == id || b) (among_append ids used id) ∙ or_assoc (i == id) (is_among ids id) (is_among used id)
+
+-- operations come to this table, where these ids were used
+pub record ComesTo (ops : List EditOp) (t : NameTable) (has : Ids) : Type 0 where
+  pub used : List ℕ
+  pub makes : name_replay nothing_logged ops ≡ Some (record { table = t; used = used })
+  pub ids : AreIds has used
+
+-- no operations come to the root alone
+pub comes_to_none : (t : NameTable) (has : Ids) → t ≡ nothing_logged.table → ((id : ℕ) → has id ≡ false) → ComesTo [] t has
+comes_to_none t has is none = record {
+  used = [];
+  makes = ap (λ (x : NameTable). Some (record { table = x; used = [] })) (sym is);
+  ids = λ id. sym (none id);
+}
+
+pub comes_to_more : (ops : List EditOp) (op : EditOp) (t u : NameTable) (has had : Ids) → ComesTo ops t has → IsNext t has op u had → ComesTo (ops ++ op ∷ []) u had
+comes_to_more ops op t u has had c n = record {
+  used = uses op ++ c.used;
+  makes =
+      replay_more nothing_logged (record { table = t; used = c.used }) ops op c.makes (applies_same t has c.used op c.ids ∙ n.may)
+      ∙ ap (λ (x : NameTable). Some (record { table = x; used = uses op ++ c.used })) (sym n.table);
+  ids = λ id. among_append (uses op) c.used id ∙ ap (λ (b : Bool). is_among (uses op) id || b) (c.ids id) ∙ sym (n.ids id);
+}
+
+module _ (list : List PlacedOp) (i : ℕ) (placed : PlacedOp) (inside : i < length list) (is : placed ≡ get_or list i placed) where
+  around : list ≡ take i list ++ placed ∷ drop (i + 1) list
+  around = sym (take-append-drop i list) ∙ ap (λ (l : List PlacedOp). take i list ++ l) (drop_more list i placed inside ∙ ap (λ (p : PlacedOp). p ∷ drop (i + 1) list) (sym is))
+
+  so_far : map op_view (take (i + 1) list) ≡ map op_view (take i list) ++ placed.op ∷ []
+  so_far =
+      ap (map op_view) (take_more list i placed inside ∙ ap (λ (p : PlacedOp). take i list ++ p ∷ []) (sym is))
+      ∙ map-append op_view (take i list) (placed ∷ [])
+
+  -- the next operation applies
+  pub taken_here : (t u : NameTable) (has had : Ids) → ComesTo (map op_view (take i list)) t has → IsNext t has placed.op u had → ComesTo (map op_view (take (i + 1) list)) u had
+  taken_here t u has had c n = subst (λ (l : List EditOp). ComesTo l u had) (sym so_far) (comes_to_more (map op_view (take i list)) placed.op t u has had c n)
+
+  -- it doesn't
+  pub stuck_here : (t : NameTable) (has : Ids) (at : ℕ) → ComesTo (map op_view (take i list)) t has → applies_beside t has placed.op ≡ false → at ≡ placed.at → IsStuck list at
+  stuck_here t has at c none place = record {
+    before = take i list;
+    placed = placed;
+    behind = drop (i + 1) list;
+    made = record { table = t; used = c.used };
+    split = around;
+    makes = c.makes;
+    not_next = applies_same t has c.used placed.op c.ids ∙ none;
+    place = place;
+  }
+
+-- where all operations were taken
+
+all_taken : (list : List PlacedOp) (i : ℕ) (t : NameTable) (has : Ids) → length list ≤ i → ComesTo (map op_view (take i list)) t has → ComesTo (map op_view list) t has
+all_taken list i t has all c = subst (λ (l : List PlacedOp). ComesTo (map op_view l) t has) (take_all i list all) c
+
+pub made_here : (list : List PlacedOp) (damaged : Option ℕ) (i : ℕ) (t : NameTable) (has : Ids) → length list ≤ i → ComesTo (map op_view (take i list)) t has → damaged ≡ None → IsMade list damaged t
+made_here list damaged i t has all c none = let whole = all_taken list i t has all c in record { used = whole.used; makes = whole.makes; whole = none }
+
+pub broken_here : (list : List PlacedOp) (damaged : Option ℕ) (at i : ℕ) (t : NameTable) (has : Ids) → length list ≤ i → ComesTo (map op_view (take i list)) t has → damaged ≡ Some at → IsRefusedAt list damaged at
+broken_here list damaged at i t has all c some = let whole = all_taken list i t has all c in Broken_off (record { table = t; used = whole.used }) whole.makes some

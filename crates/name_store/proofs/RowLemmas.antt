@@ -1,0 +1,135 @@
+-- The row at a path, and the row of the zone that a path lies in.
+use Rattle.std.proofs.Common.{◌≡◌, ℕ, Bool, true, false, cond, not, ◌&&◌, List, [], ◌∷◌, length, Option, Some, None, is_none, nat_lt, refl, sym, ap, ◌∙◌, subst}
+use Rattle.std.specs.Prelude.{bytes_eq, is_some}
+use Rattle.std.specs.Bool.{⊤}
+use Rattle.std.specs.Option.{option_and_then, option_map}
+use Rattle.std.specs.List.{All}
+use Rattle.std.proofs.lemmas.List.Elements.{All-head, All-tail}
+use Rattle.hk_base.specs.declared.names.KeyName.{KeyName}
+use Rattle.inode_tree.specs.declared.rows.Row.{Row}
+use Rattle.inode_tree.specs.declared.rows.Kind.TheVariants.{Dir}
+use Rattle.inode_tree.specs.Paths.{is_prefix, same_path}
+use Rattle.inode_tree.specs.Rows.{Entry, IsRows, entry_of, has_children, is_dir, is_dir_at, is_zone_over, longer, mark_of, row_at, set_kind, zone_id, zone_of}
+use Rattle.zone_table.specs.Laws.{MarkedIsAZone}
+use Rattle.zone_table.specs.Zones.{put_zone, zone_row, zones_of}
+use Rattle.name_store.specs.Table.{key_of_zone, may_be_zone}
+
+pub both : (a b : Bool) → (a && b) ≡ true → (a ≡ true) × (b ≡ true)
+both true b h = (refl, h)
+both false b h = absurd cc
+
+-- the row of a zone
+
+abbrev HoldsOf : (Entry → Type 0) → Option Entry → Type 0
+HoldsOf P None = ⊤
+HoldsOf P (Some e) = P e
+
+holds-either : (P : Entry → Type 0) (b : Bool) (o q : Option Entry) → HoldsOf P o → HoldsOf P q → HoldsOf P (cond b o q)
+holds-either P true o q h g = h
+holds-either P false o q h g = g
+
+either-holds : (P : Entry → Type 0) (b : Bool) (e f : Entry) → P e → P f → P (cond b e f)
+either-holds P true e f h g = h
+either-holds P false e f h g = g
+
+longer-holds : (P : Entry → Type 0) (e : Entry) (o : Option Entry) → P e → HoldsOf P o → P (longer e o)
+longer-holds P e None h g = h
+longer-holds P e (Some f) h g = either-holds P (nat_lt (length e.path) (length f.path)) f e g h
+
+-- what holds of all rows holds of the row of a zone
+zone-holds : (P : Entry → Type 0) (p : List (List ℕ)) (es : List Entry) → All P es → HoldsOf P (zone_of es p)
+zone-holds P p [] h = tt
+zone-holds P p (e ∷ es) h =
+    let rest = zone-holds P p es (All-tail P e es h) in
+    holds-either P (is_zone_over p e) (Some (longer e (zone_of es p))) (zone_of es p) (longer-holds P e (zone_of es p) (All-head P e es h) rest) rest
+
+-- the row that has the id of a path's zone is that zone's row
+zone-row : (rows : List Entry) (p : List (List ℕ)) (id : ℕ) → IsRows rows → zone_id rows p ≡ Some id → entry_of rows id ≡ zone_of rows p
+zone-row rows p id good h = go (zone_of rows p) (zone-holds (λ e. entry_of rows e.row.id ≡ Some e) p rows good.once) h
+  where
+    go : (o : Option Entry) → HoldsOf (λ e. entry_of rows e.row.id ≡ Some e) o → option_map (λ e. e.row.id) o ≡ Some id → entry_of rows id ≡ o
+    go None once is = absurd cc
+    go (Some z) once is = let same : id ≡ z.row.id = cc in ap (entry_of rows) same ∙ once
+
+-- and has its key
+pub key-of-row : (rows : List Entry) (p : List (List ℕ)) (id : ℕ) → IsRows rows → zone_id rows p ≡ Some id
+    → option_and_then (λ (r : Row). mark_of r.kind) (option_map (λ e. e.row) (entry_of rows id)) ≡ key_of_zone rows p
+key-of-row rows p id good h = ap (λ (o : Option Entry). option_and_then (λ (r : Row). mark_of r.kind) (option_map (λ e. e.row) o)) (zone-row rows p id good h) ∙ go (zone_of rows p)
+  where
+    go : (o : Option Entry) → option_and_then (λ (r : Row). mark_of r.kind) (option_map (λ e. e.row) o) ≡ option_and_then (λ e. mark_of e.row.kind) o
+    go None = refl
+    go (Some e) = refl
+
+-- the row at a path
+
+-- a row that stands at a path is the row of its id
+pub entry-at : (rows : List Entry) (p : List (List ℕ)) (row : Row) → IsRows rows → row_at rows p ≡ Some row → (dir : Entry) × (dir.row ≡ row) × (entry_of rows row.id ≡ Some dir)
+entry-at rows p row good h = go rows good.once h
+  where
+    step : (x : Entry) (es : List Entry) (t : Bool) → entry_of rows x.row.id ≡ Some x
+        → (row_at es p ≡ Some row → (dir : Entry) × (dir.row ≡ row) × (entry_of rows row.id ≡ Some dir))
+        → cond t (Some x.row) (row_at es p) ≡ Some row → (dir : Entry) × (dir.row ≡ row) × (entry_of rows row.id ≡ Some dir)
+    step x es true once rest is = let same : x.row ≡ row = cc is in (x, same, ap (λ (r : Row). entry_of rows r.id) (sym same) ∙ once)
+    step x es false once rest is = rest is
+
+    go : (es : List Entry) → All (λ e. entry_of rows e.row.id ≡ Some e) es → row_at es p ≡ Some row → (dir : Entry) × (dir.row ≡ row) × (entry_of rows row.id ≡ Some dir)
+    go [] once is = absurd cc
+    go (x ∷ es) once is =
+        step x es (same_path x.path p) (All-head (λ e. entry_of rows e.row.id ≡ Some e) x es once) (go es (All-tail (λ e. entry_of rows e.row.id ≡ Some e) x es once)) is
+
+same-prefix : (p q : List (List ℕ)) → same_path p q ≡ true → is_prefix p q ≡ true
+same-prefix [] q h = refl
+same-prefix (x ∷ p) [] h = absurd cc
+same-prefix (x ∷ p) (y ∷ q) h =
+    let parts = both (bytes_eq x y) (same_path p q) h in
+    ap (λ (b : Bool). b && is_prefix p q) parts.0 ∙ same-prefix p q parts.1
+
+not-over : (x : Entry) (es : List Entry) (p : List (List ℕ)) → zone_of (x ∷ es) p ≡ None → (is_zone_over p x ≡ false) × (zone_of es p ≡ None)
+not-over x es p h = go (is_zone_over p x) h
+  where
+    go : (t : Bool) → cond t (Some (longer x (zone_of es p))) (zone_of es p) ≡ None → (t ≡ false) × (zone_of es p ≡ None)
+    go true h = absurd cc
+    go false h = (refl, h)
+
+-- where a path lies in no zone, the row that stands there has no mark
+unmarked : (es : List Entry) (p : List (List ℕ)) (row : Row) → row_at es p ≡ Some row → zone_of es p ≡ None → mark_of row.kind ≡ None
+unmarked [] p row is none = absurd cc
+unmarked (x ∷ es) p row is none = step (λ stands. unmarked es p row stands outside.1) (same_path x.path p) refl is
+  where
+    outside : (is_zone_over p x ≡ false) × (zone_of es p ≡ None)
+    outside = not-over x es p none
+
+    plain : (o : Option KeyName) (b : Bool) → b ≡ true → (is_some o && b) ≡ false → o ≡ None
+    plain None b over h = refl
+    plain (Some key) b over h = absurd (cc (over, h))
+
+    step : (row_at es p ≡ Some row → mark_of row.kind ≡ None) → (t : Bool) → same_path x.path p ≡ t → cond t (Some x.row) (row_at es p) ≡ Some row → mark_of row.kind ≡ None
+    step rest true here is =
+        let same : x.row ≡ row = cc is in
+        ap (λ (r : Row). mark_of r.kind) (sym same) ∙ plain (mark_of x.row.kind) (is_prefix x.path p) (same-prefix x.path p here) outside.0
+    step rest false here is = rest is
+
+is-none : {X : Type 0} (o : Option X) → is_none o ≡ true → o ≡ None
+is-none None h = refl
+is-none (Some x) h = absurd cc
+
+-- what becomes a zone is a directory without a mark
+module _ (rows : List Entry) (p : List (List ℕ)) (row : Row) (may : may_be_zone rows p ≡ true) (is : row_at rows p ≡ Some row) where
+  pub is-directory : is_dir row.kind ≡ true
+  is-directory = ap is_dir_at (sym is) ∙ (both (is_dir_at (row_at rows p)) (not (has_children rows p)) (both (is_dir_at (row_at rows p) && not (has_children rows p)) (is_none (zone_of rows p)) may).0).0
+
+  pub is-unmarked : mark_of row.kind ≡ None
+  is-unmarked = unmarked rows p row is (is-none (zone_of rows p) (both (is_dir_at (row_at rows p) && not (has_children rows p)) (is_none (zone_of rows p)) may).1)
+
+  -- and so it is one
+  pub zone-made : (key : KeyName) → IsRows rows → MarkedIsAZone → (zones_of (set_kind rows row.id (Dir (Some key))) ≡ put_zone (record { dir = row.id; key = key }) (zones_of rows)) × (zone_row (zones_of rows) row.id ≡ None)
+  zone-made key good law =
+      let at = entry-at rows p row good is in
+      subst (λ (r : Row). (zones_of (set_kind rows r.id (Dir (Some key))) ≡ put_zone (record { dir = r.id; key = key }) (zones_of rows)) × (zone_row (zones_of rows) r.id ≡ None)) at.1
+      (law rows at.0 key good (ap (λ (r : Row). entry_of rows r.id) at.1 ∙ at.2)
+      (ap (λ (r : Row). is_dir r.kind) at.1 ∙ is-directory) (ap (λ (r : Row). mark_of r.kind) at.1 ∙ is-unmarked))
+
+  pub directory-of : IsRows rows → is_dir_at (option_map (λ e. e.row) (entry_of rows row.id)) ≡ true
+  directory-of good =
+      let at = entry-at rows p row good is in
+      ap (λ (o : Option Entry). is_dir_at (option_map (λ e. e.row) o)) at.2 ∙ ap (λ (r : Row). is_dir r.kind) at.1 ∙ is-directory

@@ -1,0 +1,5 @@
+pub mod Table
+pub mod Replay
+pub mod Store
+pub mod Names
+pub mod Laws

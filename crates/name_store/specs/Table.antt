@@ -1,0 +1,134 @@
+-- The table of the namesystem, and what an operation of the edit log does to it.
+use Rattle.std.specs.Prelude.{ℕ, ◌+◌, ◌*◌, ◌^◌, Bool, true, false, not, ◌&&◌, ◌==◌, nat_lt, nat_le, List, [], ◌∷◌, ◌++◌, length, Option, Some, None, is_none, is_some, bytes_eq}
+use Rattle.std.specs.List.{list_any}
+use Rattle.std.specs.Option.{option_and_then}
+use Rattle.hk_base.specs.declared.names.Edek.{Edek}
+use Rattle.hk_base.specs.declared.names.KeyName.{KeyName}
+use Rattle.inode_tree.specs.declared.rows.Row.{Row}
+use Rattle.inode_tree.specs.declared.rows.Kind.TheVariants.{Dir, File as FileKind}
+use Rattle.inode_tree.specs.Paths.{parent}
+use Rattle.inode_tree.specs.Rows.{Entry, entry_of, has_children, is_dir_at, mark_of, put, removed, root_only, row_at, set_kind, zone_of}
+use Rattle.edit_ops.specs.declared.ops.EditOp.{EditOp}
+use Rattle.edit_ops.specs.declared.ops.EditOp.TheVariants.{Opened, Mkdir, File, Remove, Zone}
+
+-- the number of the opening, and the rows in path order
+pub record NameTable : Type 0 where
+  pub opening : ℕ
+  pub rows : List Entry
+
+-- what the operations of a log come to: the table that they make, and the ids that they used
+pub record Replayed : Type 0 where
+  pub table : NameTable
+  pub used : List ℕ
+
+-- before the first opening: the root alone
+abbrev pub nothing_logged : Replayed
+nothing_logged = record { table = record { opening = 0; rows = root_only }; used = [] }
+
+-- an id is of an opening: its number above, and a counter below
+abbrev pub is_of_opening : ℕ → ℕ → Bool
+is_of_opening opening id = nat_le (opening * 2 ^ 32) id && nat_lt id ((opening + 1) * 2 ^ 32)
+
+-- the id is one of the opening, and no row has it
+abbrev pub may_use : NameTable → ℕ → Bool
+may_use t id = is_of_opening t.opening id && is_none (entry_of t.rows id)
+
+-- a path that may be made: its directory stands and is one, the path is free, and there is room for one more row
+abbrev pub may_be_made : List Entry → List (List ℕ) → Bool
+may_be_made rows p = is_dir_at (row_at rows (parent p)) && is_none (row_at rows p) && nat_lt (length rows) 1000000
+
+-- a path that may be removed: something below the root stands there
+abbrev pub may_be_removed : List Entry → List (List ℕ) → Bool
+may_be_removed rows p = nat_lt 0 (length p) && is_some (row_at rows p)
+
+-- a directory that may become a zone: it stands, is empty, and lies in no zone and is none
+abbrev pub may_be_zone : List Entry → List (List ℕ) → Bool
+may_be_zone rows p = is_dir_at (row_at rows p) && not (has_children rows p) && is_none (zone_of rows p)
+
+-- the key of the zone that a path lies in
+abbrev pub key_of_zone : List Entry → List (List ℕ) → Option KeyName
+key_of_zone rows p = option_and_then (λ e. mark_of e.row.kind) (zone_of rows p)
+
+-- a file has an encrypted key exactly where it lies in a zone, and then of that zone's key
+abbrev pub fits_zone : Option KeyName → Option Edek → Bool
+fits_zone None None = true
+fits_zone None (Some e) = false
+fits_zone (Some key) None = false
+fits_zone (Some key) (Some e) = bytes_eq e.version.key key
+
+-- Whether the table allows the operation, but for whether its id was used before. The rules are those of the calls that log it.
+abbrev pub allows : NameTable → EditOp → Bool
+allows t (Opened opening) = opening == t.opening + 1
+allows t (Mkdir id p) = nat_lt 0 t.opening && may_use t id && may_be_made t.rows p
+allows t (File id p edek) = nat_lt 0 t.opening && may_use t id && may_be_made t.rows p && fits_zone (key_of_zone t.rows p) edek
+allows t (Remove p) = nat_lt 0 t.opening && may_be_removed t.rows p
+allows t (Zone p key) = nat_lt 0 t.opening && may_be_zone t.rows p
+
+-- the row of a directory without a key, and of a file
+
+abbrev pub new_directory : ℕ → List (List ℕ) → Entry
+new_directory id p = record { path = p; row = record { id = id; kind = Dir None } }
+
+abbrev pub new_file : ℕ → List (List ℕ) → Option Edek → Entry
+new_file id p edek = record { path = p; row = record { id = id; kind = FileKind edek } }
+
+abbrev pub id_of : Option Row → ℕ
+id_of None = 0
+id_of (Some row) = row.id
+
+-- the directory at the path is marked with a key
+abbrev pub marked : List Entry → List (List ℕ) → KeyName → List Entry
+marked rows p key = set_kind rows (id_of (row_at rows p)) (Dir (Some key))
+
+-- the table once the operation took effect
+abbrev pub after_table : NameTable → EditOp → NameTable
+after_table t (Opened opening) = record t { opening = opening }
+after_table t (Mkdir id p) = record t { rows = put (new_directory id p) t.rows }
+after_table t (File id p edek) = record t { rows = put (new_file id p edek) t.rows }
+after_table t (Remove p) = record t { rows = removed p t.rows }
+after_table t (Zone p key) = record t { rows = marked t.rows p key }
+
+-- the ids that an operation uses
+abbrev pub uses : EditOp → List ℕ
+uses (Opened opening) = []
+uses (Mkdir id p) = id ∷ []
+uses (File id p edek) = id ∷ []
+uses (Remove p) = []
+uses (Zone p key) = []
+
+abbrev pub is_among : List ℕ → ℕ → Bool
+is_among used id = list_any (λ i. i == id) used
+
+-- no operation before used its id
+abbrev pub is_fresh : List ℕ → EditOp → Bool
+is_fresh used op = not (list_any (is_among used) (uses op))
+
+abbrev pub applies : Replayed → EditOp → Bool
+applies r op = allows r.table op && is_fresh r.used op
+
+abbrev pub after : Replayed → EditOp → Replayed
+after r op = record { table = after_table r.table op; used = uses op ++ r.used }
+
+-- the opening that follows this table
+abbrev pub next_opening : NameTable → EditOp
+next_opening t = Opened (t.opening + 1)
+
+-- the table, the ids and what is acknowledged, once the pending operation was settled: it was kept, or not
+
+abbrev pub settled_table : Bool → Option EditOp → NameTable → NameTable
+settled_table kept None t = t
+settled_table true (Some op) t = after_table t op
+settled_table false (Some op) t = t
+
+abbrev pub settled_used : Bool → Option EditOp → List ℕ → List ℕ
+settled_used kept None used = used
+settled_used true (Some op) used = uses op ++ used
+settled_used false (Some op) used = used
+
+abbrev pub settled_ops : Bool → Option EditOp → List EditOp
+settled_ops kept None = []
+settled_ops true (Some op) = op ∷ []
+settled_ops false (Some op) = []
+
+abbrev pub settled_log : Bool → Option EditOp → Replayed → Replayed
+settled_log kept pending r = record { table = settled_table kept pending r.table; used = settled_used kept pending r.used }

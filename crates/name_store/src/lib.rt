@@ -1,0 +1,17 @@
+//! The namesystem's table over its edit log: what the operations of the log make, and the log that
+//! keeps them.
+#![tactic(auto)]
+
+mod effects;
+mod laws;
+mod names;
+mod opening;
+mod replay;
+mod rules;
+mod store;
+#[cfg(test)]
+mod tests;
+mod used;
+
+pub use laws::what_a_crash_leaves_is_no_damage;
+pub use store::NameStore;

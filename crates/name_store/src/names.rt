@@ -1,0 +1,119 @@
+//! The table of the namesystem as it is kept in memory.
+use crate::effects::{make, make_file, mark, remove};
+use crate::rules::allows;
+use edit_ops::EditOp;
+use hk_base::NoMemory;
+use inode_tree::Tree;
+use std::alloc::Global;
+use std::marker::Model;
+use zone_table::{ZoneList, Zones, zones_are_the_marks};
+
+/// The number of the opening, the directories and files, and the encryption zones.
+#[derive(Drop)]
+pub(crate) struct Names {
+    opening: u32,
+    tree: Tree,
+    zones: Zones,
+}
+
+impl Model for Names {
+    ghost use Rattle.std.specs.Prelude.{◌≡◌};
+    ghost use Rattle.zone_table.specs.Zones.{zones_of};
+    ghost use Rattle.name_store.specs.Names.{NamesState};
+
+    ghost Value = { NamesState };
+
+    ghost view = { λ a. record { table = record { opening = a.opening; rows = a.tree.rows }; tree_spare = a.tree.spare; zone_spare = a.zones.spare } };
+
+    ghost invariant = { λ a. a.zones.rows ≡ zones_of a.tree.rows };
+}
+
+impl Names {
+    ghost use Rattle.std.specs.Prelude.{◌≡◌, IfOk, IsOk, IsTrue, OnOk, OnErr};
+    ghost use Rattle.inode_tree.specs.Rows.{IsRows, root_only};
+    ghost use Rattle.zone_table.specs.Zones.{zone_paths};
+    ghost use Rattle.name_store.specs.Table.{after_table, allows};
+    ghost use Rattle.name_store.specs.Names.{HasRoom};
+
+    /// The root alone, before the first opening.
+    pub(crate) fn new(alloc: Global) -> Result<Names, NoMemory>
+        ensures { IfOk result (λ names. names.table ≡ record { opening = 0; rows = root_only }) }
+    {
+        // The root alone has no zones.
+        zones_are_the_marks();
+        Ok(Names {
+            opening: 0,
+            tree: Tree::new(alloc)?,
+            zones: Zones::new(alloc),
+        })
+    }
+
+    /// Whether the operation may take effect, but for whether its id was used before.
+    pub(crate) fn allows(&self, op: &EditOp) -> bool
+        ensures { result ≡ allows self.now.table op.now }
+    {
+        allows(self.opening, &self.tree, op)
+    }
+
+    /// Takes the memory that the operation will need. The table stays as it is, also where memory is
+    /// wanting. After `Ok` the operation takes effect with `Ok`, for as long as the table is left as
+    /// it is.
+    pub(crate) fn reserve(&mut self, op: &EditOp) -> Result<(), NoMemory>
+        ensures same { self.new.table ≡ self.old.table }
+        ensures ok { OnOk result (HasRoom op.now self.new) }
+    {
+        match op {
+            EditOp::Opened { .. } => Ok(()),
+            EditOp::Mkdir { id, path } => self.tree.reserve_mkdir(path, *id),
+            EditOp::File { id, path, edek } => self.tree.reserve_add_file(path, *id, *edek),
+            EditOp::Remove { .. } => Ok(()),
+            EditOp::Zone { key, .. } => self.zones.reserve_add(0, *key),
+        }
+    }
+
+    /// Lets an operation take effect. Where memory is wanting the table stays as it was. It is `Ok`
+    /// where there is room for the operation.
+    pub(crate) fn apply(&mut self, op: &EditOp) -> Result<(), NoMemory>
+        requires { IsTrue (allows self.old.table op.now) }
+        ensures ok { OnOk result (self.new.table ≡ after_table self.old.table op.now) }
+        ensures err { OnErr result (self.new.table ≡ self.old.table) }
+        ensures room { HasRoom op.now self.old → IsOk result }
+    {
+        match op {
+            EditOp::Opened { opening } => {
+                self.opening = *opening;
+                Ok(())
+            }
+            EditOp::Mkdir { id, path } => make(&mut self.tree, path, *id),
+            EditOp::File { id, path, edek } => make_file(&mut self.tree, path, *id, *edek),
+            EditOp::Remove { path } => {
+                remove(&mut self.tree, &mut self.zones, path);
+                Ok(())
+            }
+            EditOp::Zone { path, key } => mark(&mut self.tree, &mut self.zones, path, *key),
+        }
+    }
+
+    /// The directories and files.
+    pub(crate) fn tree(&self) -> &Tree
+        ensures rows { result.now.rows ≡ self.now.table.rows }
+        ensures rules { IsRows self.now.table.rows }
+    {
+        let _ = self.tree.rows();
+        &self.tree
+    }
+
+    /// The number of the last opening, 0 before the first.
+    pub(crate) fn opening(&self) -> u32
+        ensures { result ≡ self.now.table.opening }
+    {
+        self.opening
+    }
+
+    /// The encryption zones with their keys, in path order.
+    pub(crate) fn zones(&self) -> Result<ZoneList, NoMemory>
+        ensures { IfOk result (λ list. list ≡ zone_paths self.now.table.rows) }
+    {
+        self.zones.all(&self.tree)
+    }
+}

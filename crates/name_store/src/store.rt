@@ -1,0 +1,166 @@
+//! The table of the namesystem over its edit log.
+use crate::names::Names;
+use crate::opening::open;
+use crate::replay::replay;
+use edit_log::EditLog;
+use edit_ops::EditOp;
+use frame_log::{StartFault, StoreRefusal};
+use hk_base::{Disk, NoMemory};
+use inode_tree::Tree;
+use std::alloc::Global;
+use std::marker::Model;
+use zone_table::ZoneList;
+
+/// The directories, files and encryption zones of the namesystem, and the edit log on file 1 of a disk
+/// from which they can be made again.
+///
+/// After a store fault in a commit one operation is pending: the disk may or may not hold its record,
+/// and the table is as before. The next call that changes the namesystem settles it first.
+#[derive(Drop)]
+pub struct NameStore {
+    log: EditLog,
+    names: Names,
+}
+
+impl Model for NameStore {
+    ghost use Rattle.std.specs.Prelude.{◌<◌, IfSome};
+    ghost use Rattle.name_store.specs.Names.{HasRoom};
+    ghost use Rattle.name_store.specs.Store.{IsPending, StoreState};
+
+    ghost Value = { StoreState };
+
+    ghost view = { λ a. record { log = a.log; table = a.names.table } };
+
+    ghost invariant = { λ a. (0 < a.names.table.opening) × IfSome a.log.pending (λ op. IsPending a.names.table op × HasRoom op a.names) };
+}
+
+impl NameStore {
+    ghost use Rattle.std.specs.Prelude.{◌≡◌, ◌≢◌, ◌≤◌, ◌<◌, ◌+◌, ◌⊎◌, ◌++◌, [], ◌∷◌, ℕ, List, Option, Some, None, Ok, IsTrue, IsSome, IsOk, IsErr, IfOk, OnOk, OnErr, IsErrOf, MatchResult, true, false, map};
+    ghost use Rattle.hk_base.specs.Disk.{Tells, RunOn, LeavesOnly};
+    ghost use Rattle.hk_base.specs.Faults.{Rose};
+    ghost use Rattle.frame_log.specs.Stands.{LeavesFrom};
+    ghost use Rattle.frame_log.specs.declared.fault.StoreRefusal.TheVariants as store;
+    ghost use Rattle.frame_log.specs.declared.fault.StartFault.TheVariants as start;
+    ghost use Rattle.edit_ops.specs.Records.{fits};
+    ghost use Rattle.edit_ops.specs.declared.ops.EditOp.{EditOp};
+    ghost use Rattle.zone_table.specs.Zones.{zone_paths};
+    ghost use Rattle.name_store.specs.Table.{Replayed, after_table, allows};
+    ghost use Rattle.name_store.specs.Store.{Commits, IsDamagedAt, IsLeftByStart, IsLeftOf, IsNameLog, IsStore, NothingMore, Settles, StandsFor, Started, Unsettled, is_opening, made_with};
+
+    /// Opens the edit log of a disk, makes the table of its operations, and commits the record of a new
+    /// opening. It may be stopped at any moment, and started again.
+    ///
+    /// `Damaged` comes exactly where the file is no log, or a record is no operation or doesn't apply, with
+    /// the offset of its gate. `Spent` comes exactly where opening 4,294,967,295 is recorded.
+    pub fn start<D: Disk>(alloc: Global, disk: &mut D) -> Result<NameStore, StartFault>
+        ensures started { IfOk result (Started (D.state disk.old) (D.state disk.new)) }
+        ensures damaged { (at : ℕ) → IsErrOf result (start.Damaged at) → Tells (D.state disk.old) → IsDamagedAt ((D.state disk.old).reads 1) at }
+        ensures spent { IsErrOf result start.Spent → Tells (D.state disk.old) → ((ops : List EditOp) × (made : Replayed)
+            × IsNameLog ((D.state disk.old).reads 1) ops made × (made.table.opening ≡ 4294967295)) }
+
+        // A crash at any moment leaves what it might have left before, or the log found, now or with its end
+        // gate read as 1, or its operations with the new opening or without it.
+        ensures any_moment { Tells (D.state disk.old) → LeavesOnly 1 (D.state disk.old) (D.state disk.new)
+            (λ c. (D.state disk.old).leaves 1 c ⊎ IsLeftByStart ((D.state disk.old).reads 1) c) }
+
+        // Whatever the answer, since the first sync of the call it leaves the latter alone. Where that sync
+        // failed, nothing was written.
+        ensures since_sync { Tells (D.state disk.old) →
+            (IsErrOf result start.StoreFault × LeavesOnly 1 (D.state disk.old) (D.state disk.new) ((D.state disk.old).leaves 1))
+            ⊎ LeavesFrom 1 (D.state disk.old) (D.state disk.new) (IsLeftByStart ((D.state disk.old).reads 1)) }
+
+        ensures run { RunOn 1 (D.state disk.old) (D.state disk.new) }
+        ensures cause { IsErrOf result start.StoreFault → Rose (D.state disk.old).faults (D.state disk.new).faults }
+    {
+        let (log, ops) = EditLog::recover(alloc, disk)?;
+        let mut log = log;
+        let mut names = replay(alloc, &ops)?;
+        open(alloc, disk, &mut log, &mut names)?;
+        Ok(NameStore { log, names })
+    }
+
+    /// Writes the record of an operation to the log and then lets it take effect. All memory is taken
+    /// before the log is written: after `NoMemory` all is as before. After `StoreFault` the operation is
+    /// pending, and the table is as before; the memory that it will need stays put by.
+    pub fn commit<D: Disk>(
+        &mut self,
+        alloc: Global,
+        disk: &mut D,
+        op: &EditOp,
+    ) -> Result<(), StoreRefusal>
+        requires settled { self.old.log.pending ≡ None }
+        requires allowed { IsTrue (allows self.old.table op.now) }
+        requires no_opening { is_opening op.now ≡ false }
+        requires fits { IsTrue (fits op.now) }
+        requires stands { Tells (D.state disk.old) → ((used : List ℕ) × (ops : List EditOp) × StandsFor (D.state disk.old) self.old used ops) }
+
+        ensures done { OnOk result ((self.new.table ≡ after_table self.old.table op.now) × (self.new.log.pending ≡ None)) }
+        ensures pending { IsErrOf result store.StoreFault → (self.new.table ≡ self.old.table) × (self.new.log.pending ≡ Some op.now) }
+        ensures memory { IsErrOf result store.NoMemory → (self.new ≡ self.old) × (disk.new ≡ disk.old) }
+        ensures log { MatchResult result
+            (λ _. Commits (D.state disk.old) (D.state disk.new) self.old op.now true self.new)
+            (λ _. Commits (D.state disk.old) (D.state disk.new) self.old op.now false self.new) }
+        ensures cause { IsErrOf result store.StoreFault → Rose (D.state disk.old).faults (D.state disk.new).faults }
+    {
+        self.names.reserve(op)?;
+        match self.log.commit(alloc, disk, op) {
+            Ok(()) => {
+                self.names.apply(op)?;
+                return Ok(());
+            }
+            Err(refusal) => return Err(refusal),
+        }
+    }
+
+    /// Settles the pending operation: where the log keeps it, it takes effect; else it is dropped. Where
+    /// none is pending nothing is done. It takes no memory. After `StoreFault`, the only refusal, it is
+    /// still pending.
+    pub fn settle<D: Disk>(&mut self, disk: &mut D) -> Result<(), StoreRefusal>
+        requires stands { Tells (D.state disk.old) → ((used : List ℕ) × (ops : List EditOp) × StandsFor (D.state disk.old) self.old used ops) }
+
+        ensures nothing { self.old.log.pending ≡ None → (result ≡ Ok tt) × (self.new ≡ self.old) × (disk.new ≡ disk.old) }
+        ensures settles { MatchResult result
+            (λ _. Settles (D.state disk.old) (D.state disk.new) self.old self.new)
+            (λ _. Unsettled (D.state disk.old) (D.state disk.new) self.old self.new) }
+        ensures fault { IsErr result → IsErrOf result store.StoreFault }
+
+        // A crash at any moment leaves the operations from before it, with the pending one or without.
+        ensures any_moment { Tells (D.state disk.old) → (used : List ℕ) (ops : List EditOp) → StandsFor (D.state disk.old) self.old used ops
+            → LeavesOnly 1 (D.state disk.old) (D.state disk.new) (IsLeftOf (made_with self.old used) self.old.log.pending NothingMore ops) }
+        ensures run { RunOn 1 (D.state disk.old) (D.state disk.new) }
+    {
+        match self.log.settle(disk) {
+            Ok(None) => return Ok(()),
+            Ok(Some(op)) => {
+                self.names.apply(&op)?;
+                return Ok(());
+            }
+            Err(_) => return Err(StoreRefusal::StoreFault),
+        }
+    }
+
+    /// The directories and files as they are without the pending operation.
+    pub fn tree(&self) -> &Tree
+        ensures rows { result.now.rows ≡ self.now.table.rows }
+        // What it keeps by itself.
+        ensures rules { IsStore self.now }
+    {
+        // Its log is that of file 1.
+        let _ = self.log.is_pending();
+        self.names.tree()
+    }
+
+    /// The number of this opening.
+    pub fn opening(&self) -> u32
+        ensures { result ≡ self.now.table.opening }
+    {
+        self.names.opening()
+    }
+
+    /// The encryption zones with their keys, in path order.
+    pub fn zones(&self) -> Result<ZoneList, NoMemory>
+        ensures { IfOk result (λ list. list ≡ zone_paths self.now.table.rows) }
+    {
+        self.names.zones()
+    }
+}
