@@ -1,12 +1,15 @@
--- The laws of finishes: what they come to, the files that they make, and that an ask is finished once.
-use Rattle.std.proofs.Common.{◌≡◌, ℕ, ◌<◌, ◌⊎◌, inl, inr, Bool, true, false, cond, not, is_none, is_some, nat_le, length, List, [], ◌∷◌, ◌++◌, Option, Some, None, Result, Ok, Err, refl, sym, ap, ◌∙◌, subst, arith}
+-- The laws of finishes: the files that they make, ids, and that an ask is finished once.
+use Rattle.std.proofs.Common.{◌≡◌, ℕ, ◌<◌, ◌≤◌, ◌⊎◌, inl, inr, Bool, true, false, cond, not, is_none, List, [], ◌∷◌, ◌++◌, Option, Some, None, Result, Ok, Err, refl, sym, ap, ◌∙◌, subst, arith}
 use Rattle.std.specs.Prelude.{◌==◌}
 use Rattle.std.specs.Option.{option_map}
 use Rattle.std.specs.List.{AllByRecursion}
 use Rattle.std.proofs.lemmas.Bool.Decides.{nat_tests}
 use Rattle.hk_base.specs.declared.names.Edek.{Edek}
-use Rattle.inode_tree.specs.Paths.{parent}
-use Rattle.inode_tree.specs.Rows.{Entry, is_dir_at, put, row_at, same_id, zone_id}
+use Rattle.inode_tree.specs.Paths.{parent, starts_reserved}
+use Rattle.inode_tree.specs.Rows.{Entry, put, row_at, same_id, zone_id}
+use Rattle.edit_ops.specs.declared.ops.EditOp.{EditOp}
+use Rattle.edit_ops.specs.declared.ops.EditOp.TheVariants as op
+use Rattle.name_store.specs.Table.{after_table, new_file, settled_ops}
 use Rattle.name_core.specs.declared.asks.OpenAsk.{OpenAsk}
 use Rattle.name_core.specs.declared.calls.Ask.{Ask}
 use Rattle.name_core.specs.declared.calls.Ask.TheVariants as ask
@@ -17,197 +20,31 @@ use Rattle.name_core.specs.declared.calls.NameCall.TheVariants as call
 use Rattle.name_core.specs.declared.calls.NameReply.{NameReply}
 use Rattle.name_core.specs.declared.calls.NameReply.TheVariants.{Refused}
 use Rattle.name_core.specs.declared.calls.NameRefusal.{NameRefusal}
-use Rattle.name_core.specs.declared.calls.NameRefusal.TheVariants.{NoSuchPath, NotADirectory, Exists, ZoneChanged, TooManyInodes, NoMemory}
-use Rattle.name_core.specs.State.{NameState, next_id}
-use Rattle.name_core.specs.Asks.{Asks, Finishes, GivesFile, ask_causes, ask_gone, asked, closed, finish_causes, finish_found, finish_open, finished, finished_rows, is_other_zone, new_file, open_ask, opened, path_asked, unless_not_asked, unless_stopped, without}
-use Rattle.name_core.specs.Calls.{NameActs, Plain, NoRoom, causes, deed, first_cause, info_reply, path_of_zone, shown_at, unless_refused}
-use Rattle.name_core.specs.Laws.{IdsBelowNext, IsStep, Called, Asked, Finished, Reaches, FileIsTold, FinishedForGood, FinishedOnce, IdsStayByFinishes, OthersStayByFile, ZoneIsAsAsked}
-use Rattle.name_core.specs.Steps.{IsRising}
-use Rattle.name_core.proofs.AskLemmas.{fit-finished, fit-without, open-holds, open-id, without-apart}
-use Rattle.name_core.proofs.LawLemmas.{none-of, other, row-new, row-other, told-by, zone-above, zone-same}
+use Rattle.name_core.specs.declared.calls.NameRefusal.TheVariants as refusal
+use Rattle.name_core.specs.State.{IsRising, NameService, NameState, next_id, settled}
+use Rattle.name_core.specs.Asks.{Finishes, ask_gone, closed, finish_causes, finish_op, finished, is_other_zone, open_ask, opened, path_asked, unless_stopped, without}
+use Rattle.name_core.specs.Calls.{NameActs, Plain, NoRoom, causes, deed, done_with, early_causes, first_cause, info_reply, numbered, path_of_zone, shown_at, unless_refused}
+use Rattle.name_core.specs.Service.{Changes, Concludes, FinishServes, FinishServesAt, FinishServesOpen, Serves, ServesBy, ServesUnless, is_change}
+use Rattle.name_core.specs.Steps.{Keeps}
+use Rattle.name_core.specs.Laws.{AnyFault, IsStep, Called, Asked, Finished, Reaches, FileIsTold, FinishedForGood, FinishedOnce, IdsStayBelow, OthersStayByFile, ZoneIsAsAsked}
+use Rattle.name_core.proofs.AllowedLemmas.{behind-finish, behind-make, behind-remove, clear, makeable}
+use Rattle.name_core.proofs.AskLemmas.{ask-room, open-holds, open-id, without-apart}
+use Rattle.name_core.proofs.KeepLemmas.{keeps-asked, keeps-closed, keeps-done, keeps-pending, keeps-settled, next-done, settled-next}
+use Rattle.name_core.proofs.LawLemmas.{other, row-new, row-other, told-by, zone-above, zone-same}
+use Rattle.name_core.proofs.Layers.{Asking, Same, Opened, asking}
+use Rattle.name_core.proofs.RowLemmas.{room-left}
 
--- what a finish comes to
-
-pub data Ended (s : NameState) (id : ℕ) (given : KeyAnswer) (told : Result (Unit {0}) NameRefusal) (s' : NameState) : Type 0 where
-  Wanting : told ≡ Err NoMemory → s' ≡ s → Ended s id given told s'
-  Gone : open_ask s.asks id ≡ None → s' ≡ s → Ended s id given told s'
-  Stopped : (a : OpenAsk) (why : NameRefusal) → open_ask s.asks id ≡ Some a → told ≡ Err why → s' ≡ closed s a.id → Ended s id given told s'
-  Done : (a : OpenAsk) (edek : Option Edek) → open_ask s.asks id ≡ Some a → given ≡ answer.Given edek → first_cause (finish_causes s.table.rows a a.ask) ≡ None
-      → s' ≡ finished s a edek → Ended s id given told s'
-
-pub ended : (s : NameState) (id : ℕ) (given : KeyAnswer) (told : Result (Unit {0}) NameRefusal) (s' : NameState) → Finishes s id given told s' → Ended s id given told s'
-ended s id given told s' (NoRoom, may, is) = Wanting (ap (λ o. o.told) is) (ap (λ o. o.state) is)
-ended s id given told s' (Plain, may, is) = found (open_ask s.asks id) refl is
+-- what a finish that was done was not stopped by, and what it left
+pub finished-by : (s : NameState) (a : OpenAsk) (edek : Option Edek) (s' : NameState) → Finishes s a edek (Ok tt) s'
+    → (first_cause (finish_causes s.table.rows a edek a.ask) ≡ None) × (s' ≡ finished s a edek)
+finished-by s a edek s' (NoRoom, may, is) = let f : Ok tt ≡ Err refusal.NoMemory = ap (λ o. o.told) is in absurd cc
+finished-by s a edek s' (Plain, may, is) = go (first_cause (finish_causes s.table.rows a edek a.ask)) is
   where
-    checked : (a : OpenAsk) (edek : Option Edek) (o : Option NameRefusal) → open_ask s.asks id ≡ Some a → given ≡ answer.Given edek → first_cause (finish_causes s.table.rows a a.ask) ≡ o
-        → (record { told = told; state = s' }) ≡ unless_stopped o s a edek → Ended s id given told s'
-    checked a edek (Some why) stands gave stop is = Stopped a why stands (ap (λ o. o.told) is) (ap (λ o. o.state) is)
-    checked a edek None stands gave stop is = Done a edek stands gave stop (ap (λ o. o.state) is)
-
-    answered : (a : OpenAsk) (g : KeyAnswer) → open_ask s.asks id ≡ Some a → given ≡ g → (record { told = told; state = s' }) ≡ finish_open s a g → Ended s id given told s'
-    answered a (answer.Refused why) stands gave is = Stopped a _ stands (ap (λ o. o.told) is) (ap (λ o. o.state) is)
-    answered a (answer.Given edek) stands gave is = checked a edek (first_cause (finish_causes s.table.rows a a.ask)) stands gave refl is
-
-    found : (o : Option OpenAsk) → open_ask s.asks id ≡ o → (record { told = told; state = s' }) ≡ finish_found s o given → Ended s id given told s'
-    found None stands is = Gone stands (ap (λ o. o.state) is)
-    found (Some a) stands is = answered a given stands refl is
-
--- no ask is open any more
-
-unlike : (a b : ℕ) → (a ≡ b → ⊥) → (a == b) ≡ false
-unlike a b h = grind (arith, nat_tests)
-
-none-open : (asks : List OpenAsk) (id : ℕ) → AllByRecursion (λ (q : OpenAsk). q.id ≡ id → ⊥) asks → open_ask asks id ≡ None
-none-open [] id h = refl
-none-open (a ∷ asks) id h = ap (λ (t : Bool). cond t (Some a) (open_ask asks id)) (unlike a.id id h.0) ∙ none-open asks id h.1
-
-gone-from : (asks : List OpenAsk) (id : ℕ) (a : OpenAsk) → IsRising asks → open_ask asks id ≡ Some a → open_ask (without asks a.id) id ≡ None
-gone-from asks id a rising stands =
-    subst (λ (i : ℕ). open_ask (without asks i) id ≡ None) (sym (open-id asks id a stands)) (none-open (without asks id) id (without-apart asks id rising))
-
-moved : (id : ℕ) (t s' : NameState) → s' ≡ t → open_ask t.asks id ≡ None → open_ask s'.asks id ≡ None
-moved id t s' is h = subst (λ (u : NameState). open_ask u.asks id ≡ None) (sym is) h
-
-closes : (s : NameState) (id : ℕ) (given : KeyAnswer) (told : Result (Unit {0}) NameRefusal) (s' : NameState) → IsRising s.asks → Finishes s id given told s'
-    → (told ≡ Err NoMemory → ⊥) → open_ask s'.asks id ≡ None
-closes s id given told s' rising finishes room = go (ended s id given told s' finishes)
-  where
-    go : Ended s id given told s' → open_ask s'.asks id ≡ None
-    go (Wanting wants is) = absurd (room wants)
-    go (Gone none is) = moved id s s' is none
-    go (Stopped a why stands tells is) = moved id (closed s a.id) s' is (gone-from s.asks id a rising stands)
-    go (Done a edek stands gave free is) = moved id (finished s a edek) s' is (gone-from s.asks id a rising stands)
-
-told-gone : (s : NameState) (id : ℕ) (given : KeyAnswer) (told : Result (Unit {0}) NameRefusal) (s' : NameState) → open_ask s.asks id ≡ None → Finishes s id given told s'
-    → (told ≡ Err (ask_gone s)) × (s' ≡ s)
-told-gone s id given told s' none (NoRoom, may, is) = absurd (subst (λ (o : Option OpenAsk). GivesFile s o given) none may)
-told-gone s id given told s' none (Plain, may, is) =
-    let gone = is ∙ ap (λ (o : Option OpenAsk). finish_found s o given) none in (ap (λ o. o.told) gone, ap (λ o. o.state) gone)
-
-pub finished_once : FinishedOnce
-finished_once s id given told s' given' told' s'' rising first room second = told-gone s' id given' told' s'' (closes s id given told s' rising first room) second
-
--- an id that is used and not open stays so
-
-abbrev IsPast : ℕ → NameState → Type 0
-IsPast id s = (open_ask s.asks id ≡ None) × (id < next_id s)
-
-past-moved : (id : ℕ) (t s' : NameState) → s' ≡ t → IsPast id t → IsPast id s'
-past-moved id t s' is h = subst (IsPast id) (sym is) h
-
-past-called : (id : ℕ) (s : NameState) (c : NameCall) (told : NameReply) (s' : NameState) → NameActs s c told s' → IsPast id s → IsPast id s'
-past-called id s c told s' (NoRoom, may, is) past = past-moved id s s' (ap (λ o. o.state) is) past
-past-called id s c told s' (Plain, may, is) past = go (first_cause (causes s c)) is
-  where
-    done : (c : NameCall) → IsPast id (deed s c).state
-    done (call.Mkdir p) = let low = past.1 in (past.0, omega (arith, low))
-    done (call.Info p) = past
-
-    go : (o : Option NameRefusal) → (record { told = told; state = s' }) ≡ unless_refused o s (deed s c) → IsPast id s'
-    go (Some why) is = past-moved id s s' (ap (λ o. o.state) is) past
-    go None is = past-moved id (deed s c).state s' (ap (λ o. o.state) is) (done c)
-
-none-added : (asks : List OpenAsk) (q : OpenAsk) (id : ℕ) → (q.id == id) ≡ false → open_ask asks id ≡ None → open_ask (asks ++ q ∷ []) id ≡ None
-none-added [] q id h none = ap (λ (t : Bool). cond t (Some q) None) h
-none-added (a ∷ asks) q id h none = go (a.id == id) (none-added asks q id h) none
-  where
-    go : (t : Bool) → (open_ask asks id ≡ None → open_ask (asks ++ q ∷ []) id ≡ None) → cond t (Some a) (open_ask asks id) ≡ None → cond t (Some a) (open_ask (asks ++ q ∷ []) id) ≡ None
-    go true rest e = absurd cc
-    go false rest e = rest e
-
-higher : (a b : ℕ) → b < a → (a == b) ≡ false
-higher a b h = grind (arith, nat_tests)
-
-past-asked : (id : ℕ) (s : NameState) (user : List ℕ) (a : Ask) (told : Result _ NameRefusal) (s' : NameState) → Asks s user a told s' → IsPast id s → IsPast id s'
-past-asked id s user a told s' (NoRoom, may, is) past = past-moved id s s' (ap (λ o. o.state) is) past
-past-asked id s user a told s' (Plain, may, is) past = go (first_cause (ask_causes s user a)) is
-  where
-    go : (o : Option NameRefusal) → (record { told = told; state = s' }) ≡ unless_not_asked o s a → IsPast id s'
-    go (Some why) is = past-moved id s s' (ap (λ o. o.state) is) past
-    go None is =
-        let low = past.1 in
-        past-moved id (asked s a) s' (ap (λ o. o.state) is) (none-added s.asks (opened s a) id (higher (next_id s) id past.1) past.0, omega (arith, low))
-
-none-left : (asks : List OpenAsk) (gone id : ℕ) → open_ask asks id ≡ None → open_ask (without asks gone) id ≡ None
-none-left [] gone id none = refl
-none-left (a ∷ asks) gone id none = go (a.id == id) refl (none-left asks gone id) none
-  where
-    kept : (t : Bool) → (a.id == id) ≡ false → open_ask asks id ≡ None → open_ask (without asks gone) id ≡ None → open_ask (cond t asks (a ∷ without asks gone)) id ≡ None
-    kept true apart here rest = here
-    kept false apart here rest = ap (λ (t : Bool). cond t (Some a) (open_ask (without asks gone) id)) apart ∙ rest
-
-    go : (t : Bool) → (a.id == id) ≡ t → (open_ask asks id ≡ None → open_ask (without asks gone) id ≡ None) → cond t (Some a) (open_ask asks id) ≡ None
-        → open_ask (cond (a.id == gone) asks (a ∷ without asks gone)) id ≡ None
-    go true is rest e = absurd cc
-    go false is rest e = kept (a.id == gone) is e (rest e)
-
-past-finished : (id : ℕ) (s : NameState) (other : ℕ) (given : KeyAnswer) (told : Result (Unit {0}) NameRefusal) (s' : NameState) → Finishes s other given told s' → IsPast id s → IsPast id s'
-past-finished id s other given told s' finishes past = go (ended s other given told s' finishes)
-  where
-    go : Ended s other given told s' → IsPast id s'
-    go (Wanting wants is) = past-moved id s s' is past
-    go (Gone none is) = past-moved id s s' is past
-    go (Stopped a why stands tells is) = past-moved id (closed s a.id) s' is (none-left s.asks a.id id past.0, past.1)
-    go (Done a edek stands gave free is) = past-moved id (finished s a edek) s' is (none-left s.asks a.id id past.0, past.1)
-
-past-step : (id : ℕ) (s s' : NameState) → IsStep s s' → IsPast id s → IsPast id s'
-past-step id s s' (Called c told acts) past = past-called id s c told s' acts past
-past-step id s s' (Asked user a told asks) past = past-asked id s user a told s' asks past
-past-step id s s' (Finished other given told finishes) past = past-finished id s other given told s' finishes past
-
-past-steps : (id : ℕ) (s : NameState) (between : List NameState) (t : NameState) → Reaches s between t → IsPast id s → IsPast id t
-past-steps id s [] t is past = past-moved id s t is past
-past-steps id s (m ∷ ms) t steps past = past-steps id m ms t steps.1 (past-step id s m steps.0 past)
-
-next-same : (s : NameState) (id : ℕ) (given : KeyAnswer) (told : Result (Unit {0}) NameRefusal) (s' : NameState) → Finishes s id given told s' → next_id s' ≡ next_id s
-next-same s id given told s' finishes = go (ended s id given told s' finishes)
-  where
-    go : Ended s id given told s' → next_id s' ≡ next_id s
-    go (Wanting wants is) = ap next_id is
-    go (Gone none is) = ap next_id is
-    go (Stopped a why stands tells is) = ap next_id is
-    go (Done a edek stands gave free is) = ap next_id is
-
-pub finished_for_good : FinishedForGood
-finished_for_good s id a given told s' between t given' told' t' below stands first room steps second =
-    told-gone t id given' told' t' (past-steps id s' between t steps past).0 second
-  where
-    low : id < next_id s
-    low = subst (λ (i : ℕ). i < next_id s) (open-id s.asks id a stands) (open-holds (λ (q : OpenAsk). q.id < next_id s) s.asks id a below.of_asks stands)
-
-    past : IsPast id s'
-    past = (closes s id given told s' below.rising first room, subst (λ (n : ℕ). id < n) (sym (next-same s id given told s' first)) low)
-
--- ids stay in order
-
-pub ids_stay_by_finishes : IdsStayByFinishes
-ids_stay_by_finishes s id given told s' finishes below = go (ended s id given told s' finishes)
-  where
-    go : Ended s id given told s' → IdsBelowNext s'
-    go (Wanting wants is) = subst IdsBelowNext (sym is) below
-    go (Gone none is) = subst IdsBelowNext (sym is) below
-    go (Stopped a why stands tells is) = subst IdsBelowNext (sym is) (fit-without s.table.rows s.asks a.id (next_id s) below)
-    go (Done a edek stands gave free is) =
-        subst IdsBelowNext (sym is)
-        (fit-finished s.table.rows s.asks a.id (next_id s) a edek (subst (λ (i : ℕ). open_ask s.asks i ≡ Some a) (sym (open-id s.asks id a stands)) stands) below)
+    go : (o : Option NameRefusal) → (record { told = Ok tt; state = s' }) ≡ unless_stopped o s a edek → (o ≡ None) × (s' ≡ finished s a edek)
+    go (Some why) is = let f : Ok tt ≡ Err why = ap (λ o. o.told) is in absurd cc
+    go None is = (refl, ap (λ o. o.state) is)
 
 -- what holds of a file that was made
-
-record MadeBy (s : NameState) (id : ℕ) (a : OpenAsk) (p : List (List ℕ)) (edek : Option Edek) (s' : NameState) : Type 0 where
-  absent : row_at s.table.rows p ≡ None
-  zone : zone_id s.table.rows p ≡ a.zone
-  rows : s'.table.rows ≡ put (new_file id p edek) s.table.rows
-
-free-path : (rows : List Entry) (a : OpenAsk) (p : List (List ℕ)) → first_cause (finish_causes rows a (ask.Create p)) ≡ None
-    → (is_some (row_at rows p) ≡ false) × (is_other_zone rows a ≡ false)
-free-path rows a p h = go (is_none (row_at rows (parent p))) (not (is_dir_at (row_at rows (parent p)))) (is_some (row_at rows p)) (is_other_zone rows a) (nat_le 1000000 (length rows)) h
-  where
-    go : (b c d e f : Bool) → first_cause ((b, NoSuchPath) ∷ (c, NotADirectory) ∷ (d, Exists) ∷ (e, ZoneChanged) ∷ (f, TooManyInodes) ∷ []) ≡ None → (d ≡ false) × (e ≡ false)
-    go true c d e f h = absurd cc
-    go false true d e f h = absurd cc
-    go false false true e f h = absurd cc
-    go false false false true f h = absurd cc
-    go false false false false f h = (refl, refl)
 
 same-id-is : (i j : Option ℕ) → not (same_id i j) ≡ false → i ≡ j
 same-id-is None None h = refl
@@ -222,48 +59,321 @@ same-id-is (Some i) (Some j) h = ap Some (go (i == j) refl h)
     go true is h = equal is
     go false is h = absurd cc
 
-made-by : (s : NameState) (id : ℕ) (a : OpenAsk) (p : List (List ℕ)) (edek : Option Edek) (s' : NameState)
-    → open_ask s.asks id ≡ Some a → a.ask ≡ ask.Create p → Finishes s id (answer.Given edek) (Ok tt) s' → MadeBy s id a p edek s'
-made-by s id a p edek s' stands asks finishes = go (ended s id (answer.Given edek) (Ok tt) s' finishes)
-  where
-    go : Ended s id (answer.Given edek) (Ok tt) s' → MadeBy s id a p edek s'
-    go (Wanting wants is) = absurd cc
-    go (Gone none is) = let f : None ≡ Some a = sym none ∙ stands in absurd cc
-    go (Stopped b why found tells is) = absurd cc
-    go (Done b key found gave free is) =
-        let same : b ≡ a = let f : Some b ≡ Some a = sym found ∙ stands in cc in
-        let given : key ≡ edek = let f = gave in cc in
-        let allowed = subst (λ (k : Ask). first_cause (finish_causes s.table.rows a k) ≡ None) asks (subst (λ (q : OpenAsk). first_cause (finish_causes s.table.rows q q.ask) ≡ None) same free) in
-        let path = free-path s.table.rows a p allowed in
-        record {
-          absent = none-of (row_at s.table.rows p) path.0;
-          zone = ap (λ (k : Ask). zone_id s.table.rows (path_asked k)) (sym asks) ∙ same-id-is (zone_id s.table.rows (path_asked a.ask)) a.zone path.1;
-          rows =
-              ap (λ (t : NameState). t.table.rows) is
-              ∙ ap (λ (q : OpenAsk). finished_rows s.table.rows q.id key q.ask) same
-              ∙ ap (λ (k : Ask). finished_rows s.table.rows a.id key k) asks
-              ∙ ap (λ (i : ℕ). put (new_file i p key) s.table.rows) (open-id s.asks id a stands)
-              ∙ ap (λ (e : Option Edek). put (new_file id p e) s.table.rows) given;
-        }
+record MadeBy (s : NameState) (a : OpenAsk) (p : List (List ℕ)) (edek : Option Edek) (s' : NameState) : Type 0 where
+  absent : row_at s.table.rows p ≡ None
+  zone : zone_id s.table.rows p ≡ a.zone
+  rows : s'.table.rows ≡ put (new_file a.id p edek) s.table.rows
+
+absent-of : {X : Type 0} (o : Option X) → is_none o ≡ true → o ≡ None
+absent-of None h = refl
+absent-of (Some x) h = absurd cc
+
+made-by : (s : NameState) (a : OpenAsk) (p : List (List ℕ)) (edek : Option Edek) (s' : NameState) → a.ask ≡ ask.Create p → Finishes s a edek (Ok tt) s' → MadeBy s a p edek s'
+made-by s a p edek s' asks finishes =
+    let done = finished-by s a edek s' finishes in
+    let free = subst (λ (k : Ask). first_cause (finish_causes s.table.rows a edek k) ≡ None) asks done.0 in
+    let r = clear (starts_reserved p) refusal.BadPath _ free in
+    let m = makeable s.table.rows p _ r.1 in
+    let z = clear (is_other_zone s.table.rows a) refusal.ZoneChanged _ m.1 in
+    record {
+      absent = absent-of (row_at s.table.rows p) m.0.absent;
+      zone = ap (λ (k : Ask). zone_id s.table.rows (path_asked k)) (sym asks) ∙ same-id-is (zone_id s.table.rows (path_asked a.ask)) a.zone z.0;
+      rows = ap (λ (t : NameState). t.table.rows) done.1 ∙ ap (λ (k : Ask). (after_table s.table (finish_op a.id edek k)).rows) asks;
+    }
 
 pub file_is_told : FileIsTold
-file_is_told s id a p edek s' told s'' stands asks finishes info = go (told-by s' p told s'' info)
+file_is_told s a p edek s' told s'' asks finishes info = go (told-by s' p told s'' info)
   where
-    made : MadeBy s id a p edek s'
-    made = made-by s id a p edek s' stands asks finishes
+    made : MadeBy s a p edek s'
+    made = made-by s a p edek s' asks finishes
 
-    zone_is : path_of_zone (put (new_file id p edek) s.table.rows) p ≡ path_of_zone s.table.rows (parent p)
-    zone_is = ap (option_map (λ e. e.path)) (zone-same (new_file id p edek) s.table.rows p refl ∙ zone-above s.table.rows p made.absent)
+    zone_is : path_of_zone (put (new_file a.id p edek) s.table.rows) p ≡ path_of_zone s.table.rows (parent p)
+    zone_is = ap (option_map (λ e. e.path)) (zone-same (new_file a.id p edek) s.table.rows p refl ∙ zone-above s.table.rows p made.absent)
 
-    go : (told ≡ Refused NoMemory) ⊎ (told ≡ info_reply s'.table.rows p) → (told ≡ Refused NoMemory) ⊎ (told ≡ shown_at (path_of_zone s.table.rows (parent p)) (Some (new_file id p edek).row))
+    go : (told ≡ Refused refusal.NoMemory) ⊎ (told ≡ info_reply s'.table.rows p) → (told ≡ Refused refusal.NoMemory) ⊎ (told ≡ shown_at (path_of_zone s.table.rows (parent p)) (Some (new_file a.id p edek).row))
     go (inl wanting) = inl wanting
-    go (inr is) = inr (is ∙ ap (λ (rows : List Entry). info_reply rows p) made.rows ∙ (λ i. shown_at (zone_is i) (row-new (new_file id p edek) s.table.rows made.absent i)))
+    go (inr is) = inr (is ∙ ap (λ (rows : List Entry). info_reply rows p) made.rows ∙ (λ i. shown_at (zone_is i) (row-new (new_file a.id p edek) s.table.rows made.absent i)))
 
 pub zone_is_as_asked : ZoneIsAsAsked
-zone_is_as_asked s id a p edek s' stands asks finishes =
-    let made = made-by s id a p edek s' stands asks finishes in ap (option_map (λ e. e.row.id)) (sym (zone-above s.table.rows p made.absent)) ∙ made.zone
+zone_is_as_asked s a p edek s' asks finishes =
+    let made = made-by s a p edek s' asks finishes in ap (option_map (λ e. e.row.id)) (sym (zone-above s.table.rows p made.absent)) ∙ made.zone
 
 pub others_stay_by_file : OthersStayByFile
-others_stay_by_file s id a p edek s' q stands asks finishes apart =
-    ap (λ (rows : List Entry). info_reply rows q) (made-by s id a p edek s' stands asks finishes).rows
-    ∙ (λ i. shown_at (option_map (λ e. e.path) (zone-same (new_file id p edek) s.table.rows q refl i)) (row-other (new_file id p edek) s.table.rows q (other p q apart) i))
+others_stay_by_file s a p edek s' q asks finishes apart =
+    ap (λ (rows : List Entry). info_reply rows q) (made-by s a p edek s' asks finishes).rows
+    ∙ (λ i. shown_at (option_map (λ e. e.path) (zone-same (new_file a.id p edek) s.table.rows q refl i)) (row-other (new_file a.id p edek) s.table.rows q (other p q apart) i))
+
+-- what a step leaves of asks and ids
+
+-- the same asks, and no lower next id
+record Onward (s s' : NameState) : Type 0 where
+  asks : s'.asks ≡ s.asks
+  rises : next_id s ≤ next_id s'
+
+onward-same : (s s' : NameState) → s' ≡ s → Onward s s'
+onward-same s s' is = record { asks = ap (λ (x : NameState). x.asks) is; rises = let n = ap next_id is in omega (arith, n) }
+
+-- the parts of what a namesystem keeps
+abbrev Alone : NameState → NameService
+Alone s = record { names = s; pending = None }
+
+record Served (s : NameState) (s' : NameService) : Type 0 where
+  onward : Onward s s'.names
+  keeps : Keeps s'
+
+served-same : (s s' : NameService) → s' ≡ s → Keeps s → Served s.names s'
+served-same s s' is k = record { onward = onward-same s.names s'.names (ap (λ (x : NameService). x.names) is); keeps = subst Keeps (sym is) k }
+
+served-at : (s : NameState) (t s' : NameService) → s' ≡ t → Served s t → Served s s'
+served-at s t s' is h = subst (Served s) (sym is) h
+
+served-none : (s : NameState) → Keeps (Alone s) → Served s (Alone s)
+served-none s k = record { onward = onward-same s s refl; keeps = k }
+
+-- a change that was done
+deed-done : (s : NameState) (c : NameCall) → first_cause (causes s c) ≡ None → Keeps (Alone s) → Served s (Alone (done_with (deed s c).logs (deed s c).state))
+deed-done s (call.Mkdir p) free k = record {
+  onward = record { asks = refl; rises = omega arith };
+  keeps = keeps-done s (numbered s) (op.Mkdir (next_id s) p) (behind-make s p k.ids k.recent (room-left s p free));
+}
+deed-done s (call.Delete p recursive) free k = record {
+  onward = record { asks = refl; rises = omega arith };
+  keeps = keeps-done s s (op.Remove p) (behind-remove s p s.next refl k.few k.ids k.recent);
+}
+deed-done s (call.Info p) free k = served-none s k
+deed-done s (call.List p) free k = served-none s k
+deed-done s call.Zones free k = served-none s k
+
+-- a change whose record was not written
+deed-pending : (s : NameState) (c : NameCall) → first_cause (causes s c) ≡ None → Keeps (Alone s) → Served s (record { names = (deed s c).state; pending = (deed s c).logs })
+deed-pending s (call.Mkdir p) free k = record {
+  onward = record { asks = refl; rises = omega arith };
+  keeps = keeps-pending s (numbered s) (op.Mkdir (next_id s) p) (behind-make s p k.ids k.recent (room-left s p free));
+}
+deed-pending s (call.Delete p recursive) free k = record {
+  onward = onward-same s s refl;
+  keeps = keeps-pending s s (op.Remove p) (behind-remove s p s.next refl k.few k.ids k.recent);
+}
+deed-pending s (call.Info p) free k = served-none s k
+deed-pending s (call.List p) free k = served-none s k
+deed-pending s call.Zones free k = served-none s k
+
+acts-on : (s : NameState) (c : NameCall) (told : NameReply) (s' : NameState) → NameActs s c told s' → Keeps (Alone s) → Served s (Alone s')
+acts-on s c told s' (NoRoom, may, is) k = served-at s (Alone s) (Alone s') (ap Alone (ap (λ o. o.state) is)) (served-none s k)
+acts-on s c told s' (Plain, may, is) k = go (first_cause (causes s c)) refl is
+  where
+    go : (o : Option NameRefusal) → first_cause (causes s c) ≡ o → (record { told = told; state = s' }) ≡ unless_refused o s (deed s c) → Served s (Alone s')
+    go (Some why) stops is = served-at s (Alone s) (Alone s') (ap Alone (ap (λ o. o.state) is)) (served-none s k)
+    go None free is = served-at s (Alone (done_with (deed s c).logs (deed s c).state)) (Alone s') (ap Alone (ap (λ o. o.state) is)) (deed-done s c free k)
+
+behind-settled : (kept : Bool) (s s' : NameService) → Keeps s → Served (settled kept s) s' → Served s.names s'
+behind-settled kept s s' k h =
+    let n = settled-next kept s k in
+    let r = h.onward.rises in
+    record { onward = record { asks = h.onward.asks; rises = omega (arith, n, r) }; keeps = h.keeps }
+
+served : (s : NameService) (user : List ℕ) (c : NameCall) (told : NameReply) (logged : List EditOp) (s' : NameService) → Serves s user c AnyFault told logged s' → Keeps s → Served s.names s'
+served s user c told logged s' serves k = early (first_cause (early_causes user c)) serves
+  where
+    changes : (kept : Bool) → Changes (settled kept s) (settled_ops kept s.pending) c AnyFault told logged s' → Served (settled kept s) s'
+    changes kept (inl w) = served-at (settled kept s) (Alone w.changed) s' w.left (acts-on (settled kept s) c told w.changed w.acts (keeps-settled kept s k))
+    changes kept (inr u) =
+        served-at (settled kept s) (record { names = (deed (settled kept s) c).state; pending = (deed (settled kept s) c).logs }) s' u.left (deed-pending (settled kept s) c u.free (keeps-settled kept s k))
+
+    by : (change : Bool) → ServesBy change s c AnyFault told logged s' → Served s.names s'
+    by false reads = served-same s s' reads.same k
+    by true (inl waits) = served-same s s' waits.same k
+    by true (inr (kept, did)) = behind-settled kept s s' k (changes kept did)
+
+    early : (o : Option NameRefusal) → ServesUnless o s c AnyFault told logged s' → Served s.names s'
+    early (Some why) refused = served-same s s' refused.same k
+    early None serves = by (is_change c) serves
+
+-- what a finish leaves: its ask is away, but for want of memory
+data Finishing (s : NameState) (id : ℕ) (told : Result (Unit {0}) NameRefusal) (s' : NameService) : Type 0 where
+  Wanting : told ≡ Err refusal.NoMemory → Served s s' → Finishing s id told s'
+  Gone : open_ask s.asks id ≡ None → Served s s' → Finishing s id told s'
+  Closed : (a : OpenAsk) → open_ask s.asks id ≡ Some a → s'.names.asks ≡ without s.asks a.id → next_id s ≤ next_id s'.names → Keeps s' → Finishing s id told s'
+
+module _ (s : NameService) (id : ℕ) (a : OpenAsk) (stands : open_ask s.names.asks id ≡ Some a) (k : Keeps s) where
+  its : open_ask s.names.asks a.id ≡ Some a
+  its = subst (λ (i : ℕ). open_ask s.names.asks i ≡ Some a) (sym (open-id s.names.asks id a stands)) stands
+
+  away : (told : Result (Unit {0}) NameRefusal) (s' t : NameService) → s' ≡ t → t.names.asks ≡ without s.names.asks a.id → next_id s.names ≤ next_id t.names → Keeps t → Finishing s.names id told s'
+  away told s' t is gone rises keeps = subst (Finishing s.names id told) (sym is) (Closed a stands gone rises keeps)
+
+  module _ (kept : Bool) (edek : Option Edek) where
+    abbrev n : NameState
+    n = settled kept s
+
+    alone : Keeps (Alone n)
+    alone = keeps-settled kept s k
+
+    abbrev o : EditOp
+    o = finish_op a.id edek a.ask
+
+    left-next : next_id s.names ≤ next_id (closed n a.id)
+    left-next = let e = settled-next kept s k in omega (arith, e)
+
+    done-keeps : Keeps (Alone (finished n a edek))
+    done-keeps = keeps-done n (closed n a.id) o (behind-finish n a.id a edek alone.few alone.ids alone.recent its)
+
+    done-next : next_id s.names ≤ next_id (finished n a edek)
+    done-next = let e = next-done n (closed n a.id) o (behind-finish n a.id a edek alone.few alone.ids alone.recent its) in let l = left-next in omega (arith, e, l)
+
+    pending-keeps : Keeps (record { names = closed n a.id; pending = Some o })
+    pending-keeps = keeps-pending n (closed n a.id) o (behind-finish n a.id a edek alone.few alone.ids alone.recent its)
+
+    wrote : (told : Result (Unit {0}) NameRefusal) (changed : NameState) (s' : NameService) → Finishes n a edek told changed → s' ≡ Alone changed → Finishing s.names id told s'
+    wrote told changed s' (NoRoom, may, is) left =
+        Wanting (ap (λ x. x.told) is) (behind-settled kept s s' k (served-at n (Alone n) s' (left ∙ ap Alone (ap (λ x. x.state) is)) (served-none n alone)))
+    wrote told changed s' (Plain, may, is) left = go (first_cause (finish_causes n.table.rows a edek a.ask)) is
+      where
+        go : (why : Option NameRefusal) → (record { told = told; state = changed }) ≡ unless_stopped why n a edek → Finishing s.names id told s'
+        go (Some why) is = away told s' (Alone (closed n a.id)) (left ∙ ap Alone (ap (λ x. x.state) is)) refl left-next (keeps-closed (Alone n) a.id alone)
+        go None is = away told s' (Alone (finished n a edek)) (left ∙ ap Alone (ap (λ x. x.state) is)) refl done-next done-keeps
+
+    concludes : (told : Result (Unit {0}) NameRefusal) (logged : List EditOp) (s' : NameService) → Concludes n (settled_ops kept s.pending) a edek AnyFault told logged s' → Finishing s.names id told s'
+    concludes told logged s' (inl w) = wrote told w.changed s' w.finishes w.left
+    concludes told logged s' (inr u) = away told s' (record { names = closed n a.id; pending = Some o }) u.left refl left-next pending-keeps
+
+  closed-now : Keeps (record { names = closed s.names a.id; pending = s.pending })
+  closed-now = keeps-closed s a.id k
+
+  opened-by : (given : KeyAnswer) (told : Result (Unit {0}) NameRefusal) (logged : List EditOp) (s' : NameService) → FinishServesOpen s a given AnyFault told logged s' → Finishing s.names id told s'
+  opened-by (answer.Refused why) told logged s' ends = away told s' (record { names = closed s.names a.id; pending = s.pending }) ends.left_is refl (omega arith) closed-now
+  opened-by (answer.Given edek) told logged s' (inl waits) = away told s' (record { names = closed s.names a.id; pending = s.pending }) waits.ends.left_is refl (omega arith) closed-now
+  opened-by (answer.Given edek) told logged s' (inr (kept, did)) = concludes kept edek told logged s' did
+
+finishing : (s : NameService) (id : ℕ) (given : KeyAnswer) (told : Result (Unit {0}) NameRefusal) (logged : List EditOp) (s' : NameService) → FinishServes s id given AnyFault told logged s' → Keeps s
+    → Finishing s.names id told s'
+finishing s id given told logged s' serves k = go (open_ask s.names.asks id) refl serves
+  where
+    go : (o : Option OpenAsk) → open_ask s.names.asks id ≡ o → FinishServesAt s o given AnyFault told logged s' → Finishing s.names id told s'
+    go None is ends = Gone is (served-same s s' ends.left_is k)
+    go (Some a) is serves = opened-by s id a is k given told logged s' serves
+
+finishing-keeps : (s : NameState) (id : ℕ) (told : Result (Unit {0}) NameRefusal) (s' : NameService) → Finishing s id told s' → Keeps s'
+finishing-keeps s id told s' (Wanting wants h) = h.keeps
+finishing-keeps s id told s' (Gone none h) = h.keeps
+finishing-keeps s id told s' (Closed a stands gone rises keeps) = keeps
+
+asked-keeps : (s s' : NameService) (user : List ℕ) (a : Ask) → s'.pending ≡ s.pending → Asking s.names user a s'.names → Keeps s → Keeps s'
+asked-keeps s s' user a same (Same is) k = subst Keeps (sym (λ i. record { names = is i; pending = same i })) k
+asked-keeps s s' user a same (Opened free is) k =
+    subst Keeps (sym (λ i. record { names = is i; pending = same i })) (keeps-asked s (opened s.names a) refl (ask-room s.names user a free) k)
+
+pub ids_stay_below : IdsStayBelow
+ids_stay_below s s' (Called user c told logged serves) k = (served s user c told logged s' serves k).keeps
+ids_stay_below s s' (Asked user a told asks same) k = asked-keeps s s' user a same (asking s.names user a told s'.names asks) k
+ids_stay_below s s' (Finished id given told logged serves) k = finishing-keeps s.names id told s' (finishing s id given told logged s' serves k)
+
+-- no ask is open any more
+
+unlike : (a b : ℕ) → (a ≡ b → ⊥) → (a == b) ≡ false
+unlike a b h = grind (arith, nat_tests)
+
+none-open : (asks : List OpenAsk) (id : ℕ) → AllByRecursion (λ (q : OpenAsk). q.id ≡ id → ⊥) asks → open_ask asks id ≡ None
+none-open [] id h = refl
+none-open (a ∷ asks) id h = ap (λ (t : Bool). cond t (Some a) (open_ask asks id)) (unlike a.id id h.0) ∙ none-open asks id h.1
+
+gone-from : (asks : List OpenAsk) (id : ℕ) (a : OpenAsk) → IsRising asks → open_ask asks id ≡ Some a → open_ask (without asks a.id) id ≡ None
+gone-from asks id a rising stands =
+    subst (λ (i : ℕ). open_ask (without asks i) id ≡ None) (sym (open-id asks id a stands)) (none-open (without asks id) id (without-apart asks id rising))
+
+told-gone : (s : NameService) (id : ℕ) (given : KeyAnswer) (told : Result (Unit {0}) NameRefusal) (logged : List EditOp) (s' : NameService) → open_ask s.names.asks id ≡ None
+    → FinishServes s id given AnyFault told logged s' → (told ≡ Err (ask_gone s.names)) × (s' ≡ s)
+told-gone s id given told logged s' none serves =
+    let ends = subst (λ (o : Option OpenAsk). FinishServesAt s o given AnyFault told logged s') none serves in (ends.told_is, ends.left_is)
+
+moved : (id : ℕ) (asks left : List OpenAsk) → left ≡ asks → open_ask asks id ≡ None → open_ask left id ≡ None
+moved id asks left is h = subst (λ (l : List OpenAsk). open_ask l id ≡ None) (sym is) h
+
+closes : (s : NameState) (id : ℕ) (told : Result (Unit {0}) NameRefusal) (s' : NameService) → IsRising s.asks → Finishing s id told s' → (told ≡ Err refusal.NoMemory → ⊥) → open_ask s'.names.asks id ≡ None
+closes s id told s' rising (Wanting wants h) room = absurd (room wants)
+closes s id told s' rising (Gone none h) room = moved id s.asks s'.names.asks h.onward.asks none
+closes s id told s' rising (Closed a stands gone rises keeps) room = moved id (without s.asks a.id) s'.names.asks gone (gone-from s.asks id a rising stands)
+
+pub finished_once : FinishedOnce
+finished_once s id given told logged s' given' told' logged' s'' k first room second =
+    told-gone s' id given' told' logged' s'' (closes s.names id told s' k.ids.rising (finishing s id given told logged s' first k) room) second
+
+-- an id that is used and not open stays so
+
+record IsPast (id : ℕ) (s : NameService) : Type 0 where
+  gone : open_ask s.names.asks id ≡ None
+  low : id < next_id s.names
+  keeps : Keeps s
+
+none-added : (asks : List OpenAsk) (q : OpenAsk) (id : ℕ) → (q.id == id) ≡ false → open_ask asks id ≡ None → open_ask (asks ++ q ∷ []) id ≡ None
+none-added [] q id h none = ap (λ (t : Bool). cond t (Some q) None) h
+none-added (a ∷ asks) q id h none = go (a.id == id) (none-added asks q id h) none
+  where
+    go : (t : Bool) → (open_ask asks id ≡ None → open_ask (asks ++ q ∷ []) id ≡ None) → cond t (Some a) (open_ask asks id) ≡ None → cond t (Some a) (open_ask (asks ++ q ∷ []) id) ≡ None
+    go true rest e = absurd cc
+    go false rest e = rest e
+
+higher : (a b : ℕ) → b < a → (a == b) ≡ false
+higher a b h = grind (arith, nat_tests)
+
+none-left : (asks : List OpenAsk) (gone id : ℕ) → open_ask asks id ≡ None → open_ask (without asks gone) id ≡ None
+none-left [] gone id none = refl
+none-left (a ∷ asks) gone id none = go (a.id == id) refl (none-left asks gone id) none
+  where
+    kept : (t : Bool) → (a.id == id) ≡ false → open_ask asks id ≡ None → open_ask (without asks gone) id ≡ None → open_ask (cond t asks (a ∷ without asks gone)) id ≡ None
+    kept true apart here rest = here
+    kept false apart here rest = ap (λ (t : Bool). cond t (Some a) (open_ask (without asks gone) id)) apart ∙ rest
+
+    go : (t : Bool) → (a.id == id) ≡ t → (open_ask asks id ≡ None → open_ask (without asks gone) id ≡ None) → cond t (Some a) (open_ask asks id) ≡ None
+        → open_ask (cond (a.id == gone) asks (a ∷ without asks gone)) id ≡ None
+    go true is rest e = absurd cc
+    go false is rest e = kept (a.id == gone) is e (rest e)
+
+past-served : (id : ℕ) (s s' : NameService) → Served s.names s' → IsPast id s → IsPast id s'
+past-served id s s' h past = record {
+  gone = moved id s.names.asks s'.names.asks h.onward.asks past.gone;
+  low = let l = past.low in let r = h.onward.rises in omega (arith, l, r);
+  keeps = h.keeps;
+}
+
+past-finished : (id : ℕ) (s : NameService) (another : ℕ) (told : Result (Unit {0}) NameRefusal) (s' : NameService) → Finishing s.names another told s' → IsPast id s → IsPast id s'
+past-finished id s another told s' (Wanting wants h) past = past-served id s s' h past
+past-finished id s another told s' (Gone none h) past = past-served id s s' h past
+past-finished id s another told s' (Closed a stands gone rises keeps) past = record {
+  gone = moved id (without s.names.asks a.id) s'.names.asks gone (none-left s.names.asks a.id id past.gone);
+  low = let l = past.low in omega (arith, l, rises);
+  keeps = keeps;
+}
+
+past-asked : (id : ℕ) (s s' : NameService) (user : List ℕ) (a : Ask) → s'.pending ≡ s.pending → Asking s.names user a s'.names → IsPast id s → IsPast id s'
+past-asked id s s' user a same (Same is) past = past-served id s s' (served-same s s' (λ i. record { names = is i; pending = same i }) past.keeps) past
+past-asked id s s' user a same (Opened free is) past =
+    let n = ap next_id is in
+    let l = past.low in
+    record {
+      gone = moved id (s.names.asks ++ opened s.names a ∷ []) s'.names.asks (ap (λ (x : NameState). x.asks) is) (none-added s.names.asks (opened s.names a) id (higher (next_id s.names) id past.low) past.gone);
+      low = omega (arith, n, l);
+      keeps = asked-keeps s s' user a same (Opened free is) past.keeps;
+    }
+
+past-step : (id : ℕ) (s s' : NameService) → IsStep s s' → IsPast id s → IsPast id s'
+past-step id s s' (Called user c told logged serves) past = past-served id s s' (served s user c told logged s' serves past.keeps) past
+past-step id s s' (Asked user a told asks same) past = past-asked id s s' user a same (asking s.names user a told s'.names asks) past
+past-step id s s' (Finished another given told logged serves) past = past-finished id s another told s' (finishing s another given told logged s' serves past.keeps) past
+
+past-steps : (id : ℕ) (s : NameService) (between : List NameService) (t : NameService) → Reaches s between t → IsPast id s → IsPast id t
+past-steps id s [] t is past = subst (IsPast id) (sym is) past
+past-steps id s (m ∷ ms) t steps past = past-steps id m ms t steps.1 (past-step id s m steps.0 past)
+
+past-end : (s : NameState) (id : ℕ) (told : Result (Unit {0}) NameRefusal) (s' : NameService) → IsRising s.asks → id < next_id s → Finishing s id told s' → (told ≡ Err refusal.NoMemory → ⊥) → IsPast id s'
+past-end s id told s' rising low (Wanting wants h) room = absurd (room wants)
+past-end s id told s' rising low (Gone none h) room = record { gone = moved id s.asks s'.names.asks h.onward.asks none; low = let r = h.onward.rises in omega (arith, low, r); keeps = h.keeps }
+past-end s id told s' rising low (Closed a stands gone rises keeps) room =
+    record { gone = closes s id told s' rising (Closed a stands gone rises keeps) room; low = omega (arith, low, rises); keeps = keeps }
+
+pub finished_for_good : FinishedForGood
+finished_for_good s id a given told logged s' between t given' told' logged' t' k stands first room steps second =
+    let low : id < next_id s.names =
+    subst (λ (i : ℕ). i < next_id s.names) (open-id s.names.asks id a stands) (open-holds (λ (q : OpenAsk). q.id < next_id s.names) s.names.asks id a k.ids.of_asks stands) in
+    let past = past-end s.names id told s' k.ids.rising low (finishing s id given told logged s' first k) room in
+    told-gone t id given' told' logged' t' (past-steps id s' between t steps past).gone second

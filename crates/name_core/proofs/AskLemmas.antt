@@ -6,21 +6,19 @@ use Rattle.std.specs.Option.{option_map, option_and_then}
 use Rattle.std.specs.List.Sorted.{IsNonDecreasingBy, IsPartitionPoint}
 use Rattle.std.proofs.lemmas.Bool.Decides.{nat_tests}
 use Rattle.std.proofs.lemmas.List.Elements.{All-head, All-tail, All-cons, All-nil}
-use Rattle.hk_base.specs.declared.names.Edek.{Edek}
 use Rattle.inode_tree.specs.declared.rows.Kind.{Kind}
-use Rattle.inode_tree.specs.declared.rows.Kind.TheVariants.{Dir}
 use Rattle.inode_tree.specs.declared.rows.Row.{Row}
-use Rattle.inode_tree.specs.Paths.{is_before, same_path}
-use Rattle.inode_tree.specs.Rows.{Entry, IsRows, entry_of, has_children, is_dir, is_dir_at, mark_of, put, row_at, set_kind, with_kind, zone_id, zone_of}
+use Rattle.inode_tree.specs.Paths.{is_before, starts_reserved}
+use Rattle.inode_tree.specs.Rows.{Entry, IsRows, entry_of, has_children, is_dir_at, mark_of, put, row_at, set_kind, with_kind, zone_id, zone_of}
 use Rattle.name_core.specs.declared.asks.OpenAsk.{OpenAsk}
-use Rattle.name_core.specs.declared.calls.NameRefusal.TheVariants.{NoSuchPath, NotADirectory, NotEmpty, NotSuperuser, AlreadyInZone, TooManyInodes}
+use Rattle.name_core.specs.declared.calls.NameRefusal.TheVariants.{BadPath, NoSuchPath, NotADirectory, NotEmpty, NotSuperuser, AlreadyInZone, TooManyInodes}
 use Rattle.name_core.specs.declared.calls.Ask.{Ask}
 use Rattle.name_core.specs.declared.calls.Ask.TheVariants as ask
-use Rattle.name_core.specs.State.{NameState}
-use Rattle.name_core.specs.Asks.{ask_causes, finished_rows, id_of, is_superuser, key_of_zone, new_file, open_ask, without, zone_causes}
-use Rattle.name_core.specs.Calls.{first_cause}
-use Rattle.name_core.specs.Steps.{IdsFit, IsRising}
-use Rattle.name_core.proofs.RowLemmas.{BelowId, below-put, all-put, id-free, room-left, zone-row}
+use Rattle.name_store.specs.Table.{key_of_zone}
+use Rattle.name_core.specs.State.{IdsFit, IsRising, NameState}
+use Rattle.name_core.specs.Asks.{ask_causes, open_ask, without}
+use Rattle.name_core.specs.Calls.{first_cause, is_superuser, mkdir_causes}
+use Rattle.name_core.proofs.RowLemmas.{BelowId, id-free, room-left, zone-row}
 
 -- what holds of each ask
 
@@ -194,22 +192,6 @@ kind-below m n kind (x ∷ es) h =
     All-cons (BelowId m) (with_kind n kind x) (set_kind es n kind) (subst (λ (i : ℕ). i < m) (sym (kind-id n kind x)) (All-head (BelowId m) x es h))
     (kind-below m n kind es (All-tail (BelowId m) x es h))
 
--- a row that stands at a path is the row of its id
-pub row-of-path : (rows : List Entry) (p : List (List ℕ)) (row : Row) → IsRows rows → row_at rows p ≡ Some row → option_map (λ e. e.row) (entry_of rows row.id) ≡ Some row
-row-of-path rows p row good h = go rows good.once h
-  where
-    step : (x : Entry) (es : List Entry) (t : Bool) → entry_of rows x.row.id ≡ Some x
-        → (row_at es p ≡ Some row → option_map (λ e. e.row) (entry_of rows row.id) ≡ Some row)
-        → cond t (Some x.row) (row_at es p) ≡ Some row → option_map (λ e. e.row) (entry_of rows row.id) ≡ Some row
-    step x es true once rest is =
-        let same : x.row ≡ row = cc in subst (λ (r : Row). option_map (λ e. e.row) (entry_of rows r.id) ≡ Some r) same (ap (option_map (λ e. e.row)) once)
-    step x es false once rest is = rest is
-
-    go : (es : List Entry) → All (λ e. entry_of rows e.row.id ≡ Some e) es → row_at es p ≡ Some row → option_map (λ e. e.row) (entry_of rows row.id) ≡ Some row
-    go [] once is = absurd cc
-    go (x ∷ es) once is =
-        step x es (same_path x.path p) (All-head (λ e. entry_of rows e.row.id ≡ Some e) x es once) (go es (All-tail (λ e. entry_of rows e.row.id ≡ Some e) x es once)) is
-
 -- the row that has the id of a path's zone is the zone's
 pub key-of-row : (rows : List Entry) (p : List (List ℕ)) (id : ℕ) → IsRows rows → zone_id rows p ≡ Some id
     → option_and_then (λ (r : Row). mark_of r.kind) (option_map (λ e. e.row) (entry_of rows id)) ≡ key_of_zone rows p
@@ -226,18 +208,6 @@ no-key rows p h = go (zone_of rows p) h
     go None h = refl
     go (Some e) h = absurd cc
 
--- what is to become a zone is a directory
-pub is-directory : (rows : List Entry) (p : List (List ℕ)) (row : Row) → row_at rows p ≡ Some row → first_cause (zone_causes rows p) ≡ None → is_dir row.kind ≡ true
-is-directory rows p row is h = go (row_at rows p) is h
-  where
-    step : (t c d : Bool) → first_cause ((false, NoSuchPath) ∷ (not t, NotADirectory) ∷ (c, NotEmpty) ∷ (d, AlreadyInZone) ∷ []) ≡ None → t ≡ true
-    step true c d h = refl
-    step false c d h = absurd cc
-
-    go : (o : Option Row) → o ≡ Some row → first_cause ((is_none o, NoSuchPath) ∷ (not (is_dir_at o), NotADirectory) ∷ (has_children rows p, NotEmpty) ∷ (is_some (zone_of rows p), AlreadyInZone) ∷ []) ≡ None → is_dir row.kind ≡ true
-    go None is h = absurd cc
-    go (Some r) is h = let same : r ≡ row = cc in ap (λ (x : Row). is_dir x.kind) (sym same) ∙ step (is_dir r.kind) (has_children rows p) (is_some (zone_of rows p)) h
-
 -- ids, while rows and asks change
 
 differ : (a b : ℕ) → a < b → (b == a) ≡ false
@@ -246,22 +216,13 @@ differ a b h = grind (arith, nat_tests)
 unlike : (a b : ℕ) → (a ≡ b → ⊥) → (b == a) ≡ false
 unlike a b h = grind (arith, nat_tests)
 
-free-put : (e : Entry) (rows : List Entry) (asks : List OpenAsk) → AllByRecursion (λ (a : OpenAsk). (e.row.id == a.id) ≡ false) asks
+pub free-put : (e : Entry) (rows : List Entry) (asks : List OpenAsk) → AllByRecursion (λ (a : OpenAsk). (e.row.id == a.id) ≡ false) asks
     → AllByRecursion (λ (a : OpenAsk). entry_of rows a.id ≡ None) asks → AllByRecursion (λ (a : OpenAsk). entry_of (put e rows) a.id ≡ None) asks
 free-put e rows [] h k = tt
 free-put e rows (a ∷ asks) h k = (put-free e rows a.id h.0 k.0, free-put e rows asks h.1 k.1)
 
 more : (n m : ℕ) → n < m → (asks : List OpenAsk) → AllByRecursion (λ (a : OpenAsk). a.id < n) asks → AllByRecursion (λ (a : OpenAsk). a.id < m) asks
 more n m h asks k = each-map (λ (a : OpenAsk). a.id < n) (λ (a : OpenAsk). a.id < m) (λ a b. omega (arith, h, b)) asks k
-
-pub fit-row : (e : Entry) (rows : List Entry) (asks : List OpenAsk) (n m : ℕ) → e.row.id ≡ n → n < m → IdsFit rows asks n → IdsFit (put e rows) asks m
-fit-row e rows asks n m is h fit =
-    record {
-      of_rows = below-put e rows n m is h fit.of_rows;
-      of_asks = more n m h asks fit.of_asks;
-      free = free-put e rows asks (each-map (λ (a : OpenAsk). a.id < n) (λ (a : OpenAsk). (e.row.id == a.id) ≡ false) (λ a b. differ a.id e.row.id (omega (arith, is, b))) asks fit.of_asks) fit.free;
-      rising = fit.rising;
-    }
 
 below-more : (n m : ℕ) → n < m → (rows : List Entry) → All (BelowId n) rows → All (BelowId m) rows
 below-more n m h rows k = λ i d b. omega (arith, h, k i d b)
@@ -292,43 +253,6 @@ open-id (a ∷ asks) id q h = go (a.id == id) refl (open-id asks id q) h
     go true e rest h = let same : a ≡ q = cc in ap (λ (x : OpenAsk). x.id) (sym same) ∙ equal a.id id e
     go false e rest h = rest h
 
-fit-file : (e : Entry) (rows : List Entry) (asks : List OpenAsk) (id n : ℕ) → e.row.id ≡ id → id < n → IdsFit rows asks n → IdsFit (put e rows) (without asks id) n
-fit-file e rows asks id n is h fit =
-    let rest = fit-without rows asks id n fit in
-    record {
-      of_rows = all-put (BelowId n) e rows (omega (arith, is, h)) fit.of_rows;
-      of_asks = rest.of_asks;
-      free = free-put e rows (without asks id)
-          (each-map (λ (q : OpenAsk). q.id ≡ id → ⊥) (λ (a : OpenAsk). (e.row.id == a.id) ≡ false) (λ a k. unlike a.id e.row.id (λ same. k (same ∙ is))) (without asks id) (without-apart asks id fit.rising))
-          rest.free;
-      rising = rest.rising;
-    }
-
-fit-mark : (dir : ℕ) (kind : Kind) (rows : List Entry) (asks : List OpenAsk) (id n : ℕ) → IdsFit rows asks n → IdsFit (set_kind rows dir kind) (without asks id) n
-fit-mark dir kind rows asks id n fit =
-    let rest = fit-without rows asks id n fit in
-    record {
-      of_rows = kind-below n dir kind rows fit.of_rows;
-      of_asks = rest.of_asks;
-      free = each-map (λ (a : OpenAsk). entry_of rows a.id ≡ None) (λ (a : OpenAsk). entry_of (set_kind rows dir kind) a.id ≡ None) (λ a k. kind-free dir kind rows a.id k) (without asks id) rest.free;
-      rising = rest.rising;
-    }
-
--- a finished ask leaves them so
-pub fit-finished : (rows : List Entry) (asks : List OpenAsk) (id n : ℕ) (q : OpenAsk) (edek : Option Edek) → open_ask asks id ≡ Some q → IdsFit rows asks n
-    → IdsFit (finished_rows rows q.id edek q.ask) (without asks id) n
-fit-finished rows asks id n q edek h fit = go q.ask
-  where
-    same : q.id ≡ id
-    same = open-id asks id q h
-
-    low : q.id < n
-    low = open-holds (λ (a : OpenAsk). a.id < n) asks id q fit.of_asks h
-
-    go : (a : Ask) → IdsFit (finished_rows rows q.id edek a) (without asks id) n
-    go (ask.Create p) = fit-file (new_file q.id p edek) rows asks id n same (omega (arith, same, low)) fit
-    go (ask.Zone p key) = fit-mark (id_of (row_at rows p)) (Dir (Some key)) rows asks id n fit
-
 -- an ask that is accepted has an id left for it
 
 spent-not : (n : ℕ) (b : Bool) → nat_le (2 ^ 32) n ≡ b → cond b (Some TooManyInodes) None ≡ None → n < 2 ^ 32
@@ -336,16 +260,21 @@ spent-not n true is h = absurd cc
 spent-not n false is h = grind (arith, nat_tests, is)
 
 pub ask-room : (s : NameState) (user : List ℕ) (a : Ask) → first_cause (ask_causes s user a) ≡ None → s.next < 2 ^ 32
-ask-room s user (ask.Create p) h = room-left s p h
-ask-room s user (ask.Zone p key) h =
-    go (is_superuser user) (is_none (row_at s.table.rows p)) (not (is_dir_at (row_at s.table.rows p))) (has_children s.table.rows p) (is_some (zone_of s.table.rows p)) h
+ask-room s user (ask.Create p) h = go (starts_reserved p) h
   where
-    go : (u a b c d : Bool)
-        → first_cause ((not u, NotSuperuser) ∷ (a, NoSuchPath) ∷ (b, NotADirectory) ∷ (c, NotEmpty) ∷ (d, AlreadyInZone) ∷ (nat_le (2 ^ 32) s.next, TooManyInodes) ∷ []) ≡ None
+    go : (b : Bool) → first_cause ((b, BadPath) ∷ mkdir_causes s p) ≡ None → s.next < 2 ^ 32
+    go true h = absurd cc
+    go false h = room-left s p h
+ask-room s user (ask.Zone p key) h =
+    go (starts_reserved p) (is_superuser user) (is_none (row_at s.table.rows p)) (not (is_dir_at (row_at s.table.rows p))) (has_children s.table.rows p) (is_some (zone_of s.table.rows p)) h
+  where
+    go : (v u a b c d : Bool)
+        → first_cause ((v, BadPath) ∷ (not u, NotSuperuser) ∷ (a, NoSuchPath) ∷ (b, NotADirectory) ∷ (c, NotEmpty) ∷ (d, AlreadyInZone) ∷ (nat_le (2 ^ 32) s.next, TooManyInodes) ∷ []) ≡ None
         → s.next < 2 ^ 32
-    go false a b c d h = absurd cc
-    go true true b c d h = absurd cc
-    go true false true c d h = absurd cc
-    go true false false true d h = absurd cc
-    go true false false false true h = absurd cc
-    go true false false false false h = spent-not s.next (nat_le (2 ^ 32) s.next) refl h
+    go true u a b c d h = absurd cc
+    go false false a b c d h = absurd cc
+    go false true true b c d h = absurd cc
+    go false true false true c d h = absurd cc
+    go false true false false true d h = absurd cc
+    go false true false false false true h = absurd cc
+    go false true false false false false h = spent-not s.next (nat_le (2 ^ 32) s.next) refl h

@@ -1,33 +1,34 @@
 -- The laws of directories that are made, and of ids.
 use Rattle.std.proofs.Common.{◌≡◌, ℕ, ◌<◌, ◌⊎◌, inl, inr, Bool, true, false, cond, not, ◌&&◌, is_none, is_some, List, [], ◌∷◌, Option, Some, None, Ok, Err, refl, sym, ap, ◌∙◌, subst, arith}
 use Rattle.std.specs.Option.{option_map}
-use Rattle.std.proofs.lemmas.List.Elements.{All-cons, All-nil}
 use Rattle.std.specs.Str.{bytes_eq}
 use Rattle.inode_tree.specs.declared.rows.Row.{Row}
 use Rattle.inode_tree.specs.Paths.{is_before, is_prefix, parent, same_path}
 use Rattle.inode_tree.specs.Rows.{Entry, is_dir_at, is_marked, is_zone_over, longer, put, row_at, zone_of}
 use Rattle.inode_tree.proofs.Seeks.{same-is, same-itself}
-use Rattle.name_core.specs.declared.calls.NameCall.{NameCall}
 use Rattle.name_core.specs.declared.calls.NameCall.TheVariants as call
 use Rattle.name_core.specs.declared.calls.NameReply.{NameReply}
 use Rattle.name_core.specs.declared.calls.NameReply.TheVariants.{Done, Refused}
 use Rattle.name_core.specs.declared.calls.NameRefusal.{NameRefusal}
 use Rattle.name_core.specs.declared.calls.NameRefusal.TheVariants.{NoSuchPath, NotADirectory, Exists, TooManyInodes, NoMemory}
-use Rattle.name_core.specs.State.{NameState, first_state, is_full, next_id}
-use Rattle.name_core.specs.Calls.{NameActs, Plain, NoRoom, causes, deed, first_cause, info_reply, made, mkdir_causes, new_directory, path_of_zone, shown_at, unless_refused}
+use Rattle.edit_ops.specs.declared.ops.EditOp.TheVariants as op
+use Rattle.name_store.specs.Table.{new_directory}
+use Rattle.name_core.specs.State.{NameState, is_full, next_id}
+use Rattle.name_core.specs.Calls.{NameActs, Plain, NoRoom, done_with, first_cause, info_reply, mkdir_causes, numbered, path_of_zone, shown_at, unless_refused}
 use Rattle.name_core.specs.Asks.{ask_causes, asked, note_of, opened, unless_not_asked}
-use Rattle.name_core.specs.Laws.{AskIdsRise, IdsBelowNext, IdsRise, IdsStayBelow, IdsStayByAsks, MadeIsTold, OthersStay}
-use Rattle.name_core.proofs.AskLemmas.{fit-ask, fit-row}
-use Rattle.name_core.proofs.RowLemmas.{BelowId}
+use Rattle.name_core.specs.Laws.{AskIdsRise, IdsRise, MadeIsTold, OthersStay}
 use Rattle.name_core.specs.declared.calls.AskNote.{AskNote}
 
 -- what holds of a mkdir that was done
+
+abbrev made : NameState → List (List ℕ) → NameState
+made s p = done_with (Some (op.Mkdir (next_id s) p)) (numbered s)
 
 done-by : (s : NameState) (p : List (List ℕ)) (s' : NameState) → NameActs s (call.Mkdir p) Done s' → (first_cause (mkdir_causes s p) ≡ None) × (s' ≡ made s p)
 done-by s p s' (NoRoom, may, is) = let f : Done ≡ Refused NoMemory = ap (λ o. o.told) is in absurd cc
 done-by s p s' (Plain, may, is) = go (first_cause (mkdir_causes s p)) is
   where
-    go : (o : Option NameRefusal) → (record { told = Done; state = s' }) ≡ unless_refused o s (record { answer = Done; state = made s p }) → (o ≡ None) × (s' ≡ made s p)
+    go : (o : Option NameRefusal) → (record { told = Done; state = s' }) ≡ unless_refused o s (record { answer = Done; logs = Some (op.Mkdir (next_id s) p); state = numbered s }) → (o ≡ None) × (s' ≡ made s p)
     go None is = (refl, ap (λ o. o.state) is)
     go (Some why) is = let f : Done ≡ Refused why = ap (λ o. o.told) is in absurd cc
 
@@ -110,7 +111,7 @@ pub told-by : (s : NameState) (p : List (List ℕ)) (told : NameReply) (s' : Nam
 told-by s p told s' (NoRoom, may, is) = inl (ap (λ o. o.told) is)
 told-by s p told s' (Plain, may, is) = inr (go (row_at s.table.rows p) is)
   where
-    go : (o : Option Row) → (record { told = told; state = s' }) ≡ unless_refused (cond (is_none o) (Some NoSuchPath) None) s (record { answer = shown_at (path_of_zone s.table.rows p) o; state = s })
+    go : (o : Option Row) → (record { told = told; state = s' }) ≡ unless_refused (cond (is_none o) (Some NoSuchPath) None) s (record { answer = shown_at (path_of_zone s.table.rows p) o; logs = None; state = s })
         → told ≡ shown_at (path_of_zone s.table.rows p) o
     go None is = ap (λ o. o.told) is
     go (Some row) is = ap (λ o. o.told) is
@@ -121,12 +122,12 @@ made_is_told s p s' told s'' did asked = go (told-by s' p told s'' asked)
     absent : row_at s.table.rows p ≡ None
     absent = was-absent s p (done-by s p s' did).0
 
-    zone_is : path_of_zone (put (new_directory s p) s.table.rows) p ≡ path_of_zone s.table.rows (parent p)
-    zone_is = ap (option_map (λ e. e.path)) (zone-same (new_directory s p) s.table.rows p refl ∙ zone-above s.table.rows p absent)
+    zone_is : path_of_zone (put (new_directory (next_id s) p) s.table.rows) p ≡ path_of_zone s.table.rows (parent p)
+    zone_is = ap (option_map (λ e. e.path)) (zone-same (new_directory (next_id s) p) s.table.rows p refl ∙ zone-above s.table.rows p absent)
 
-    go : (told ≡ Refused NoMemory) ⊎ (told ≡ info_reply s'.table.rows p) → (told ≡ Refused NoMemory) ⊎ (told ≡ shown_at (path_of_zone s.table.rows (parent p)) (Some (new_directory s p).row))
+    go : (told ≡ Refused NoMemory) ⊎ (told ≡ info_reply s'.table.rows p) → (told ≡ Refused NoMemory) ⊎ (told ≡ shown_at (path_of_zone s.table.rows (parent p)) (Some (new_directory (next_id s) p).row))
     go (inl wanting) = inl wanting
-    go (inr is) = inr (is ∙ ap (λ (t : NameState). info_reply t.table.rows p) (done-by s p s' did).1 ∙ (λ i. shown_at (zone_is i) (row-new (new_directory s p) s.table.rows absent i)))
+    go (inr is) = inr (is ∙ ap (λ (t : NameState). info_reply t.table.rows p) (done-by s p s' did).1 ∙ (λ i. shown_at (zone_is i) (row-new (new_directory (next_id s) p) s.table.rows absent i)))
 
 pub other : (p q : List (List ℕ)) → (q ≡ p → ⊥) → same_path p q ≡ false
 other p q h = go (same_path p q) refl
@@ -138,7 +139,7 @@ other p q h = go (same_path p q) refl
 pub others_stay : OthersStay
 others_stay s p s' q did apart =
     ap (λ (t : NameState). info_reply t.table.rows q) (done-by s p s' did).1
-    ∙ (λ i. shown_at (option_map (λ e. e.path) (zone-same (new_directory s p) s.table.rows q refl i)) (row-other (new_directory s p) s.table.rows q (other p q apart) i))
+    ∙ (λ i. shown_at (option_map (λ e. e.path) (zone-same (new_directory (next_id s) p) s.table.rows q refl i)) (row-other (new_directory (next_id s) p) s.table.rows q (other p q apart) i))
 
 pub ids_rise : IdsRise
 ids_rise s p s' did = subst (λ (t : NameState). next_id s < next_id t) (sym (done-by s p s' did).1) (omega arith)
@@ -152,34 +153,3 @@ ask_ids_rise s user a note s' (Plain, may, is) = go (first_cause (ask_causes s u
     go None is =
         let same : note ≡ note_of (opened s a) = let f : Ok note ≡ Ok (note_of (opened s a)) = ap (λ o. o.told) is in cc in
         (ap (λ (n : AskNote). n.id) same, subst (λ (t : NameState). next_id s < next_id t) (sym (ap (λ o. o.state) is)) (omega arith))
-
-pub start_below : IdsBelowNext first_state
-start_below = record {
-  of_rows = All-cons (BelowId (next_id first_state)) _ [] (omega arith) (All-nil (BelowId (next_id first_state)));
-  of_asks = tt;
-  free = tt;
-  rising = tt;
-}
-
-moved-below : (s s' : NameState) → s' ≡ s → IdsBelowNext s → IdsBelowNext s'
-moved-below s s' is below = subst IdsBelowNext (sym is) below
-
-deed-below : (s : NameState) (c : NameCall) → IdsBelowNext s → IdsBelowNext (deed s c).state
-deed-below s (call.Mkdir p) below = fit-row (new_directory s p) s.table.rows s.asks (next_id s) (next_id (made s p)) refl (omega arith) below
-deed-below s (call.Info p) below = below
-
-pub ids_stay_below : IdsStayBelow
-ids_stay_below s c told s' (NoRoom, may, is) below = moved-below s s' (ap (λ o. o.state) is) below
-ids_stay_below s c told s' (Plain, may, is) below = go (first_cause (causes s c)) is
-  where
-    go : (o : Option NameRefusal) → (record { told = told; state = s' }) ≡ unless_refused o s (deed s c) → IdsBelowNext s'
-    go (Some why) is = moved-below s s' (ap (λ o. o.state) is) below
-    go None is = moved-below (deed s c).state s' (ap (λ o. o.state) is) (deed-below s c below)
-
-pub ids_stay_by_asks : IdsStayByAsks
-ids_stay_by_asks s user a told s' (NoRoom, may, is) below = moved-below s s' (ap (λ o. o.state) is) below
-ids_stay_by_asks s user a told s' (Plain, may, is) below = go (first_cause (ask_causes s user a)) is
-  where
-    go : (o : Option NameRefusal) → (record { told = told; state = s' }) ≡ unless_not_asked o s a → IdsBelowNext s'
-    go (Some why) is = moved-below s s' (ap (λ o. o.state) is) below
-    go None is = moved-below (asked s a) s' (ap (λ o. o.state) is) (fit-ask (opened s a) s.table.rows s.asks (next_id s) (next_id (asked s a)) refl (omega arith) below)

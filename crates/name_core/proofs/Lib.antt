@@ -1,6 +1,14 @@
+pub mod AllowedLemmas
 pub mod AskLaws
 pub mod AskLemmas
-pub mod FinishLemmas
+pub mod CallLemmas
+pub mod DeleteLaws
+pub mod KeepLemmas
 pub mod LawLemmas
+pub mod Layers
+pub mod LoggingLemmas
+pub mod PathCopies
 pub mod RowLemmas
+pub mod StartLemmas
+pub mod WriteLemmas
 pub mod ZoneLaws

@@ -1,16 +1,17 @@
 -- What is told of a directory that was made a zone.
-use Rattle.std.proofs.Common.{◌≡◌, ℕ, ◌⊎◌, inl, inr, Bool, true, false, cond, not, ◌&&◌, is_none, is_some, nat_lt, length, List, [], ◌∷◌, Option, Some, None, Ok, refl, sym, ap, ◌∙◌, subst, arith}
+use Rattle.std.proofs.Common.{◌≡◌, ℕ, ◌⊎◌, inl, inr, Bool, true, false, cond, not, ◌&&◌, is_none, is_some, nat_lt, length, List, [], ◌∷◌, Option, Some, None, refl, sym, ap, ◌∙◌, subst, arith}
 use Rattle.std.specs.Prelude.{◌==◌}
 use Rattle.std.specs.Bool.{⊤}
 use Rattle.std.specs.Option.{option_map}
 use Rattle.std.specs.List.{All}
 use Rattle.std.proofs.lemmas.Bool.Decides.{nat_tests}
 use Rattle.std.proofs.lemmas.List.Elements.{All-head, All-tail}
+use Rattle.hk_base.specs.declared.names.Edek.{Edek}
 use Rattle.hk_base.specs.declared.names.KeyName.{KeyName}
 use Rattle.inode_tree.specs.declared.rows.Row.{Row}
 use Rattle.inode_tree.specs.declared.rows.Kind.{Kind}
 use Rattle.inode_tree.specs.declared.rows.Kind.TheVariants.{Dir}
-use Rattle.inode_tree.specs.Paths.{is_prefix, same_path}
+use Rattle.inode_tree.specs.Paths.{is_prefix, same_path, starts_reserved}
 use Rattle.inode_tree.specs.Rows.{Entry, IsRows, entry_of, has_children, is_dir_at, is_marked, is_zone_over, longer, row_at, set_kind, with_kind, zone_of}
 use Rattle.inode_tree.proofs.Seeks.{same-is}
 use Rattle.inode_tree.proofs.ZoneLemmas.{prefix-itself}
@@ -18,12 +19,13 @@ use Rattle.name_core.specs.declared.asks.OpenAsk.{OpenAsk}
 use Rattle.name_core.specs.declared.calls.Ask.{Ask}
 use Rattle.name_core.specs.declared.calls.Ask.TheVariants as ask
 use Rattle.name_core.specs.declared.calls.NameReply.TheVariants.{Refused}
-use Rattle.name_core.specs.declared.calls.NameRefusal.TheVariants.{NoSuchPath, NotADirectory, NotEmpty, AlreadyInZone, ZoneChanged, NoMemory}
+use Rattle.name_core.specs.declared.calls.NameRefusal.TheVariants.{BadPath, NoSuchPath, NotADirectory, NotEmpty, AlreadyInZone, ZoneChanged, NoMemory}
 use Rattle.name_core.specs.State.{NameState}
-use Rattle.name_core.specs.Asks.{finish_causes, finished_rows, id_of, is_other_zone}
+use Rattle.name_store.specs.Table.{after_table, id_of}
+use Rattle.name_core.specs.Asks.{finish_causes, finish_op, finished, is_other_zone}
 use Rattle.name_core.specs.Calls.{first_cause, info_reply, shown_at}
 use Rattle.name_core.specs.Laws.{ZoneIsTold}
-use Rattle.name_core.proofs.AskLaws.{Ended, Wanting, Gone, Stopped, Done, ended}
+use Rattle.name_core.proofs.AskLaws.{finished-by}
 use Rattle.name_core.proofs.LawLemmas.{told-by}
 
 -- a row keeps its path
@@ -163,16 +165,17 @@ record MayMark (rows : List Entry) (p : List (List ℕ)) : Type 0 where
   stands : is_none (row_at rows p) ≡ false
   outside : is_some (zone_of rows p) ≡ false
 
-may-mark : (rows : List Entry) (a : OpenAsk) (p : List (List ℕ)) (key : KeyName) → first_cause (finish_causes rows a (ask.Zone p key)) ≡ None → MayMark rows p
-may-mark rows a p key h = go (is_none (row_at rows p)) (not (is_dir_at (row_at rows p))) (has_children rows p) (is_some (zone_of rows p)) (is_other_zone rows a) refl refl h
+may-mark : (rows : List Entry) (a : OpenAsk) (edek : Option Edek) (p : List (List ℕ)) (key : KeyName) → first_cause (finish_causes rows a edek (ask.Zone p key)) ≡ None → MayMark rows p
+may-mark rows a edek p key h = go (starts_reserved p) (is_none (row_at rows p)) (not (is_dir_at (row_at rows p))) (has_children rows p) (is_some (zone_of rows p)) (is_other_zone rows a) refl refl h
   where
-    go : (b c d e f : Bool) → is_none (row_at rows p) ≡ b → is_some (zone_of rows p) ≡ e
-        → first_cause ((b, NoSuchPath) ∷ (c, NotADirectory) ∷ (d, NotEmpty) ∷ (e, AlreadyInZone) ∷ (f, ZoneChanged) ∷ []) ≡ None → MayMark rows p
-    go true c d e f x y h = absurd cc
-    go false true d e f x y h = absurd cc
-    go false false true e f x y h = absurd cc
-    go false false false true f x y h = absurd cc
-    go false false false false f x y h = record { stands = x; outside = y }
+    go : (r b c d e f : Bool) → is_none (row_at rows p) ≡ b → is_some (zone_of rows p) ≡ e
+        → first_cause ((r, BadPath) ∷ (b, NoSuchPath) ∷ (c, NotADirectory) ∷ (d, NotEmpty) ∷ (e, AlreadyInZone) ∷ (f, ZoneChanged) ∷ []) ≡ None → MayMark rows p
+    go true b c d e f x y h = absurd cc
+    go false true c d e f x y h = absurd cc
+    go false false true d e f x y h = absurd cc
+    go false false false true e f x y h = absurd cc
+    go false false false false true f x y h = absurd cc
+    go false false false false false f x y h = record { stands = x; outside = y }
 
 none-zone : (o : Option Entry) → is_some o ≡ false → o ≡ None
 none-zone None h = refl
@@ -190,25 +193,20 @@ marked-reply rows p key (Some row) good stands may = λ i. shown_at (zone_is i) 
         (zone-made rows p row key stands)
 
 pub zone_is_told : ZoneIsTold
-zone_is_told s id a p key given s' told s'' good stands asks finishes info = go (ended s id given (Ok tt) s' finishes)
+zone_is_told s a p key edek s' told s'' good asks finishes info = reply (told-by s' p told s'' info)
   where
     id_there : ℕ
     id_there = id_of (row_at s.table.rows p)
 
-    reply : s'.table.rows ≡ set_kind s.table.rows id_there (Dir (Some key)) → MayMark s.table.rows p → (told ≡ Refused NoMemory) ⊎ (told ≡ info_reply s'.table.rows p)
-        → (told ≡ Refused NoMemory) ⊎ (told ≡ shown_at (Some p) (Some (with_mark id_there (Dir (Some key)))))
-    reply rows may (inl wanting) = inl wanting
-    reply rows may (inr is) = inr (is ∙ ap (λ (es : List Entry). info_reply es p) rows ∙ marked-reply s.table.rows p key (row_at s.table.rows p) good refl may)
+    done : (first_cause (finish_causes s.table.rows a edek a.ask) ≡ None) × (s' ≡ finished s a edek)
+    done = finished-by s a edek s' finishes
 
-    go : Ended s id given (Ok tt) s' → (told ≡ Refused NoMemory) ⊎ (told ≡ shown_at (Some p) (Some (with_mark id_there (Dir (Some key)))))
-    go (Wanting wants is) = absurd cc
-    go (Gone none is) = let f : None ≡ Some a = sym none ∙ stands in absurd cc
-    go (Stopped b why found tells is) = absurd cc
-    go (Done b edek found gave free is) =
-        let same : b ≡ a = let f : Some b ≡ Some a = sym found ∙ stands in cc in
-        let allowed = subst (λ (k : Ask). first_cause (finish_causes s.table.rows a k) ≡ None) asks (subst (λ (q : OpenAsk). first_cause (finish_causes s.table.rows q q.ask) ≡ None) same free) in
-        let rows =
-        ap (λ (t : NameState). t.table.rows) is
-        ∙ ap (λ (q : OpenAsk). finished_rows s.table.rows q.id edek q.ask) same
-        ∙ ap (λ (k : Ask). finished_rows s.table.rows a.id edek k) asks in
-        reply rows (may-mark s.table.rows a p key allowed) (told-by s' p told s'' info)
+    may : MayMark s.table.rows p
+    may = may-mark s.table.rows a edek p key (subst (λ (k : Ask). first_cause (finish_causes s.table.rows a edek k) ≡ None) asks done.0)
+
+    rows : s'.table.rows ≡ set_kind s.table.rows id_there (Dir (Some key))
+    rows = ap (λ (t : NameState). t.table.rows) done.1 ∙ ap (λ (k : Ask). (after_table s.table (finish_op a.id edek k)).rows) asks
+
+    reply : (told ≡ Refused NoMemory) ⊎ (told ≡ info_reply s'.table.rows p) → (told ≡ Refused NoMemory) ⊎ (told ≡ shown_at (Some p) (Some (with_mark id_there (Dir (Some key)))))
+    reply (inl wanting) = inl wanting
+    reply (inr is) = inr (is ∙ ap (λ (es : List Entry). info_reply es p) rows ∙ marked-reply s.table.rows p key (row_at s.table.rows p) good refl may)

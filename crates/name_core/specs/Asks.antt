@@ -1,14 +1,15 @@
 -- Asks: what each is refused for when it is made and when it is finished, and what it leaves.
-use Rattle.std.specs.Prelude.{◌≡◌, ℕ, ◌+◌, Bool, not, List, [], ◌∷◌, ◌++◌, Option, Some, None, is_none, is_some, option_and_then, if◌then◌else◌, Result, Ok, Err, bytes_eq, codes, length, nat_le, ◌==◌}
+use Rattle.std.specs.Prelude.{◌≡◌, ℕ, ◌+◌, Bool, not, List, [], ◌∷◌, ◌++◌, Option, Some, None, is_none, is_some, if◌then◌else◌, Result, Ok, Err, length, nat_le, ◌==◌}
 use Rattle.hk_base.specs.declared.names.Edek.{Edek}
 use Rattle.hk_base.specs.declared.names.KeyName.{KeyName}
 use Rattle.hk_base.specs.declared.texts.Text.{Text}
 use Rattle.key_rows.specs.declared.calls.KmsReply.{KmsReply}
 use Rattle.key_rows.specs.declared.calls.KmsReply.TheVariants as reply
 use Rattle.inode_tree.specs.declared.paths.NPath.{NPath}
-use Rattle.inode_tree.specs.declared.rows.Row.{Row}
-use Rattle.inode_tree.specs.declared.rows.Kind.TheVariants.{Dir, File}
-use Rattle.inode_tree.specs.Rows.{Entry, row_at, is_dir_at, has_children, mark_of, put, same_id, set_kind, zone_id, zone_of}
+use Rattle.inode_tree.specs.Rows.{Entry, row_at, is_dir_at, has_children, same_id, zone_id, zone_of}
+use Rattle.edit_ops.specs.declared.ops.EditOp.{EditOp}
+use Rattle.edit_ops.specs.declared.ops.EditOp.TheVariants as op
+use Rattle.name_store.specs.Table.{after_table, fits_zone, key_of_zone}
 use Rattle.name_core.specs.declared.calls.Ask.{Ask}
 use Rattle.name_core.specs.declared.calls.Ask.TheVariants as ask
 use Rattle.name_core.specs.declared.calls.AskNote.{AskNote}
@@ -20,7 +21,7 @@ use Rattle.name_core.specs.declared.calls.Want.{Want}
 use Rattle.name_core.specs.declared.calls.Want.TheVariants as want
 use Rattle.name_core.specs.declared.asks.OpenAsk.{OpenAsk}
 use Rattle.name_core.specs.State.{NameState, next_id, is_full, is_spent}
-use Rattle.name_core.specs.Calls.{Ending, Plain, NoRoom, first_cause, to_be_made}
+use Rattle.name_core.specs.Calls.{Ending, Plain, NoRoom, first_cause, is_superuser, path_causes, to_be_made}
 
 -- the asks that are open
 
@@ -34,12 +35,6 @@ without (a ∷ asks) id = if a.id == id then asks else a ∷ without asks id
 
 -- making an ask
 
-abbrev pub superuser : List ℕ
-superuser = codes "hdfs"
-
-abbrev pub is_superuser : Text → Bool
-is_superuser user = bytes_eq user superuser
-
 -- a directory that is to become a zone has to stand, to be empty, and to lie in no zone and be none
 abbrev pub zone_causes : List Entry → NPath → List (Bool × NameRefusal)
 zone_causes rows p =
@@ -47,17 +42,13 @@ zone_causes rows p =
     ∷ (is_some (zone_of rows p), refusal.AlreadyInZone) ∷ []
 
 abbrev pub ask_causes : NameState → Text → Ask → List (Bool × NameRefusal)
-ask_causes s user (ask.Create p) = to_be_made s.table.rows p ++ (is_full s, refusal.TooManyInodes) ∷ []
+ask_causes s user (ask.Create p) = path_causes p ++ to_be_made s.table.rows p ++ (is_full s, refusal.TooManyInodes) ∷ []
 ask_causes s user (ask.Zone p key) =
-    (not (is_superuser user), refusal.NotSuperuser) ∷ zone_causes s.table.rows p ++ (is_spent s, refusal.TooManyInodes) ∷ []
+    path_causes p ++ (not (is_superuser user), refusal.NotSuperuser) ∷ zone_causes s.table.rows p ++ (is_spent s, refusal.TooManyInodes) ∷ []
 
 abbrev pub path_asked : Ask → NPath
 path_asked (ask.Create p) = p
 path_asked (ask.Zone p key) = p
-
--- the key of the zone that a path lies in
-abbrev pub key_of_zone : List Entry → NPath → Option KeyName
-key_of_zone rows p = option_and_then (λ e. mark_of e.row.kind) (zone_of rows p)
 
 abbrev pub wanted_under : Option KeyName → Want
 wanted_under None = want.Nothing
@@ -120,24 +111,21 @@ answer_of (Some _) = answer.Given None
 abbrev pub is_other_zone : List Entry → OpenAsk → Bool
 is_other_zone rows a = not (same_id (zone_id rows (path_asked a.ask)) a.zone)
 
--- all is checked again, but who asked
-abbrev pub finish_causes : List Entry → OpenAsk → Ask → List (Bool × NameRefusal)
-finish_causes rows a (ask.Create p) =
-    to_be_made rows p ++ (is_other_zone rows a, refusal.ZoneChanged) ∷ (nat_le 1000000 (length rows), refusal.TooManyInodes) ∷ []
-finish_causes rows a (ask.Zone p key) = zone_causes rows p ++ (is_other_zone rows a, refusal.ZoneChanged) ∷ []
+-- the encrypted key that was given is none of the zone's key, or one is missing or too much
+abbrev pub is_other_key : List Entry → NPath → Option Edek → Bool
+is_other_key rows p edek = not (fits_zone (key_of_zone rows p) edek)
 
--- the row of a file with the ask's id, and the encrypted key that was given
-abbrev pub new_file : ℕ → NPath → Option Edek → Entry
-new_file id p edek = record { path = p; row = record { id = id; kind = File edek } }
+-- All is checked again, but who asked. A reply that doesn't answer what the ask wanted is refused as a zone that changed.
+abbrev pub finish_causes : List Entry → OpenAsk → Option Edek → Ask → List (Bool × NameRefusal)
+finish_causes rows a edek (ask.Create p) =
+    path_causes p ++ to_be_made rows p
+    ++ (is_other_zone rows a, refusal.ZoneChanged) ∷ (is_other_key rows p edek, refusal.ZoneChanged) ∷ (nat_le 1000000 (length rows), refusal.TooManyInodes) ∷ []
+finish_causes rows a edek (ask.Zone p key) = path_causes p ++ zone_causes rows p ++ (is_other_zone rows a, refusal.ZoneChanged) ∷ []
 
-abbrev pub id_of : Option Row → ℕ
-id_of None = 0
-id_of (Some row) = row.id
-
--- a create adds its file, and a zone marks its directory
-abbrev pub finished_rows : List Entry → ℕ → Option Edek → Ask → List Entry
-finished_rows rows id edek (ask.Create p) = put (new_file id p edek) rows
-finished_rows rows id edek (ask.Zone p key) = set_kind rows (id_of (row_at rows p)) (Dir (Some key))
+-- a create adds its file, with the ask's id and the encrypted key that was given, and a zone marks its directory
+abbrev pub finish_op : ℕ → Option Edek → Ask → EditOp
+finish_op id edek (ask.Create p) = op.File id p edek
+finish_op id edek (ask.Zone p key) = op.Zone p key
 
 -- what a finish comes to: why it was refused, if it was, and the state after it
 pub record FinishOutcome : Type 0 where
@@ -152,43 +140,24 @@ abbrev pub closed : NameState → ℕ → NameState
 closed s id = record s { asks = without s.asks id }
 
 abbrev pub finished : NameState → OpenAsk → Option Edek → NameState
-finished s a edek = record (closed s a.id) { table = record s.table { rows = finished_rows s.table.rows a.id edek a.ask } }
+finished s a edek = record (closed s a.id) { table = after_table s.table (finish_op a.id edek a.ask) }
 
 abbrev pub unless_stopped : Option NameRefusal → NameState → OpenAsk → Option Edek → FinishOutcome
 unless_stopped (Some why) s a edek = finish_refused why (closed s a.id)
 unless_stopped None s a edek = record { told = Ok tt; state = finished s a edek }
 
-abbrev pub finish_open : NameState → OpenAsk → KeyAnswer → FinishOutcome
-finish_open s a (answer.Refused why) = finish_refused (refusal.KeyRefused why) (closed s a.id)
-finish_open s a (answer.Given edek) = unless_stopped (first_cause (finish_causes s.table.rows a a.ask)) s a edek
+-- A finish takes its ask away, whatever it answers, but where memory is wanting, which is so only where nothing else stops it.
+abbrev pub finish_outcome : NameState → OpenAsk → Option Edek → Ending → FinishOutcome
+finish_outcome s a edek Plain = unless_stopped (first_cause (finish_causes s.table.rows a edek a.ask)) s a edek
+finish_outcome s a edek NoRoom = finish_refused refusal.NoMemory s
+
+abbrev pub FinishMayEnd : NameState → OpenAsk → Option Edek → Ending → Type 0
+FinishMayEnd s a edek Plain = Unit {0}
+FinishMayEnd s a edek NoRoom = first_cause (finish_causes s.table.rows a edek a.ask) ≡ None
+
+-- From s, while nothing is pending, a finish of an open ask with this encrypted key may be answered so and leave s'.
+abbrev pub Finishes : NameState → OpenAsk → Option Edek → Result (Unit {0}) NameRefusal → NameState → Type 0
+Finishes s a edek told s' = (e : Ending) × FinishMayEnd s a edek e × (record { told = told; state = s' } ≡ finish_outcome s a edek e)
 
 abbrev pub ask_gone : NameState → NameRefusal
 ask_gone s = refusal.AskGone s.table.opening s.next
-
-abbrev pub finish_found : NameState → Option OpenAsk → KeyAnswer → FinishOutcome
-finish_found s None given = finish_refused (ask_gone s) s
-finish_found s (Some a) given = finish_open s a given
-
--- a finish takes its ask away, whatever it answers, but where no ask is open and where memory is wanting
-abbrev pub finish_outcome : NameState → ℕ → KeyAnswer → Ending → FinishOutcome
-finish_outcome s id given Plain = finish_found s (open_ask s.asks id) given
-finish_outcome s id given NoRoom = finish_refused refusal.NoMemory s
-
--- a file takes memory
-abbrev pub MakesFile : List Entry → OpenAsk → Ask → Type 0
-MakesFile rows a (ask.Create p) = first_cause (finish_causes rows a (ask.Create p)) ≡ None
-MakesFile rows a (ask.Zone p key) = ⊥
-
-abbrev pub GivesFile : NameState → Option OpenAsk → KeyAnswer → Type 0
-GivesFile s None given = ⊥
-GivesFile s (Some a) (answer.Refused why) = ⊥
-GivesFile s (Some a) (answer.Given edek) = MakesFile s.table.rows a a.ask
-
--- memory is wanting only where a file would be made
-abbrev pub FinishMayEnd : NameState → ℕ → KeyAnswer → Ending → Type 0
-FinishMayEnd s id given Plain = Unit {0}
-FinishMayEnd s id given NoRoom = GivesFile s (open_ask s.asks id) given
-
--- From s, a finish of the ask of this id may be answered so and leave s'.
-abbrev pub Finishes : NameState → ℕ → KeyAnswer → Result (Unit {0}) NameRefusal → NameState → Type 0
-Finishes s id given told s' = (e : Ending) × FinishMayEnd s id given e × (record { told = told; state = s' } ≡ finish_outcome s id given e)

@@ -1,11 +1,17 @@
 -- The calls of the namesystem: what each is refused for, what it answers, and what it leaves.
-use Rattle.std.specs.Prelude.{◌≡◌, ℕ, ◌+◌, Bool, true, not, List, [], ◌∷◌, ◌++◌, Option, Some, None, is_some, is_none, option_map, if◌then◌else◌}
+use Rattle.std.specs.Prelude.{◌≡◌, ℕ, ◌+◌, ◌==◌, ◌&&◌, Bool, true, not, List, [], ◌∷◌, ◌++◌, Option, Some, None, is_some, is_none, length, option_map, bytes_eq, codes, if◌then◌else◌}
+use Rattle.hk_base.specs.declared.texts.Text.{Text}
+use Rattle.edit_ops.specs.declared.ops.EditOp.{EditOp}
+use Rattle.edit_ops.specs.declared.ops.EditOp.TheVariants as op
 use Rattle.inode_tree.specs.declared.paths.NPath.{NPath}
 use Rattle.inode_tree.specs.declared.rows.Row.{Row}
 use Rattle.inode_tree.specs.declared.rows.Kind.{Kind}
 use Rattle.inode_tree.specs.declared.rows.Kind.TheVariants.{Dir, File}
-use Rattle.inode_tree.specs.Paths.{parent}
-use Rattle.inode_tree.specs.Rows.{Entry, row_at, is_dir_at, put, zone_of}
+use Rattle.inode_tree.specs.Listing.{children}
+use Rattle.inode_tree.specs.Paths.{parent, starts_reserved}
+use Rattle.inode_tree.specs.Rows.{Entry, has_children, row_at, is_dir_at, zone_of}
+use Rattle.zone_table.specs.Zones.{zone_paths}
+use Rattle.name_store.specs.Table.{after_table}
 use Rattle.name_core.specs.declared.calls.NameCall.{NameCall}
 use Rattle.name_core.specs.declared.calls.NameCall.TheVariants as call
 use Rattle.name_core.specs.declared.calls.NameReply.{NameReply}
@@ -32,22 +38,54 @@ mkdir_causes s p = to_be_made s.table.rows p ++ (is_full s, refusal.TooManyInode
 abbrev pub info_causes : List Entry → NPath → List (Bool × NameRefusal)
 info_causes rows p = (is_none (row_at rows p), refusal.NoSuchPath) ∷ []
 
+abbrev pub list_causes : List Entry → NPath → List (Bool × NameRefusal)
+list_causes rows p = (is_none (row_at rows p), refusal.NoSuchPath) ∷ (not (is_dir_at (row_at rows p)), refusal.NotADirectory) ∷ []
+
+abbrev pub is_root : NPath → Bool
+is_root p = length p == 0
+
+-- the root stays, and a directory that has something in it is deleted only together with that
+abbrev pub delete_causes : List Entry → NPath → Bool → List (Bool × NameRefusal)
+delete_causes rows p recursive =
+    (is_root p, refusal.RootOrInside) ∷ (is_none (row_at rows p), refusal.NoSuchPath) ∷ (not recursive && has_children rows p, refusal.NotEmpty) ∷ []
+
 abbrev pub causes : NameState → NameCall → List (Bool × NameRefusal)
 causes s (call.Mkdir p) = mkdir_causes s p
+causes s (call.Delete p recursive) = delete_causes s.table.rows p recursive
 causes s (call.Info p) = info_causes s.table.rows p
+causes s (call.List p) = list_causes s.table.rows p
+causes s call.Zones = []
 
--- what a call that is not refused does: its answer, and the state that it leaves
+-- why a call is refused before anything is settled: its path is outside the rule of absolute paths, or it is the superuser's alone
+
+abbrev pub superuser : List ℕ
+superuser = codes "hdfs"
+
+abbrev pub is_superuser : Text → Bool
+is_superuser user = bytes_eq user superuser
+
+abbrev pub path_causes : NPath → List (Bool × NameRefusal)
+path_causes p = (starts_reserved p, refusal.BadPath) ∷ []
+
+abbrev pub early_causes : Text → NameCall → List (Bool × NameRefusal)
+early_causes user (call.Mkdir p) = path_causes p
+early_causes user (call.Delete p recursive) = path_causes p
+early_causes user (call.Info p) = path_causes p
+early_causes user (call.List p) = path_causes p
+early_causes user call.Zones = (not (is_superuser user), refusal.NotSuperuser) ∷ []
+
+-- What a call that is not refused does: its answer, what it changes of the table, and the state in which that takes effect.
 pub record Deed : Type 0 where
   pub answer : NameReply
+  pub logs : Option EditOp
   pub state : NameState
 
--- the row of a directory without a key, with the next id
-abbrev pub new_directory : NameState → NPath → Entry
-new_directory s p = record { path = p; row = record { id = next_id s; kind = Dir None } }
+-- the next id is used
+abbrev pub numbered : NameState → NameState
+numbered s = record s { next = s.next + 1 }
 
--- the state with that row, whose id is used
-abbrev pub made : NameState → NPath → NameState
-made s p = record s { table = record s.table { rows = put (new_directory s p) s.table.rows }; next = s.next + 1 }
+abbrev pub only_answer : NameState → NameReply → Deed
+only_answer s answer = record { answer = answer; logs = None; state = s }
 
 -- the path of the zone that a path lies in
 abbrev pub path_of_zone : List Entry → NPath → Option NPath
@@ -66,8 +104,15 @@ abbrev pub info_reply : List Entry → NPath → NameReply
 info_reply rows p = shown_at (path_of_zone rows p) (row_at rows p)
 
 abbrev pub deed : NameState → NameCall → Deed
-deed s (call.Mkdir p) = record { answer = reply.Done; state = made s p }
-deed s (call.Info p) = record { answer = info_reply s.table.rows p; state = s }
+deed s (call.Mkdir p) = record { answer = reply.Done; logs = Some (op.Mkdir (next_id s) p); state = numbered s }
+deed s (call.Delete p recursive) = record { answer = reply.Done; logs = Some (op.Remove p); state = s }
+deed s (call.Info p) = only_answer s (info_reply s.table.rows p)
+deed s (call.List p) = only_answer s (reply.List (children s.table.rows p))
+deed s call.Zones = only_answer s (reply.Zones (zone_paths s.table.rows))
+
+abbrev pub done_with : Option EditOp → NameState → NameState
+done_with None s = s
+done_with (Some op) s = record s { table = after_table s.table op }
 
 -- what a call comes to: its reply, and the state after it
 pub record Outcome : Type 0 where
@@ -80,17 +125,20 @@ refused why s = record { told = reply.Refused why; state = s }
 
 abbrev pub unless_refused : Option NameRefusal → NameState → Deed → Outcome
 unless_refused (Some why) s d = refused why s
-unless_refused None s d = record { told = d.answer; state = d.state }
+unless_refused None s d = record { told = d.answer; state = done_with d.logs d.state }
 
 -- what is free in a call: memory may be wanting
 pub data Ending : Type 0 where
   Plain : Ending
   NoRoom : Ending
 
--- the path of a zone takes memory
+-- a change takes memory for its record, a list for itself, and the path of a zone
 abbrev pub takes_memory : NameState → NameCall → Bool
 takes_memory s (call.Mkdir p) = true
+takes_memory s (call.Delete p recursive) = true
 takes_memory s (call.Info p) = is_some (path_of_zone s.table.rows p)
+takes_memory s (call.List p) = true
+takes_memory s call.Zones = true
 
 -- memory is wanting only where the call takes some and no other refusal comes
 abbrev pub MayEnd : NameState → NameCall → Ending → Type 0

@@ -1,16 +1,19 @@
--- What follows for what was made, for ids, and for asks that were finished.
-use Rattle.std.specs.Prelude.{◌≡◌, ℕ, ◌<◌, ◌⊎◌, List, [], ◌∷◌, Option, None, Some, Result, Ok, Err}
+-- What follows for what was made and what was deleted, for ids, and for asks that were finished.
+use Rattle.std.specs.Prelude.{◌≡◌, ℕ, ◌<◌, ◌⊎◌, Bool, true, false, List, [], ◌∷◌, ◌++◌, Option, None, Some, Result, Ok, Err, bytes_eq, is_some}
+use Rattle.std.specs.List.{list_any}
 use Rattle.hk_base.specs.declared.names.Edek.{Edek}
 use Rattle.hk_base.specs.declared.names.KeyName.{KeyName}
 use Rattle.hk_base.specs.declared.texts.Text.{Text}
+use Rattle.inode_tree.specs.declared.listing.Child.{Child}
 use Rattle.inode_tree.specs.declared.paths.NPath.{NPath}
-use Rattle.inode_tree.specs.Paths.{parent}
+use Rattle.inode_tree.specs.Paths.{is_prefix, parent}
 use Rattle.inode_tree.specs.Rows.{IsRows, row_at, zone_id}
+use Rattle.edit_ops.specs.declared.ops.EditOp.{EditOp}
+use Rattle.name_store.specs.Table.{id_of}
 use Rattle.name_core.specs.declared.calls.Ask.{Ask}
 use Rattle.name_core.specs.declared.calls.Ask.TheVariants as ask
 use Rattle.name_core.specs.declared.calls.AskNote.{AskNote}
 use Rattle.name_core.specs.declared.calls.KeyAnswer.{KeyAnswer}
-use Rattle.name_core.specs.declared.calls.KeyAnswer.TheVariants as answer
 use Rattle.name_core.specs.declared.calls.NameCall.{NameCall}
 use Rattle.name_core.specs.declared.calls.NameCall.TheVariants as call
 use Rattle.name_core.specs.declared.calls.NameReply.{NameReply}
@@ -18,10 +21,11 @@ use Rattle.name_core.specs.declared.calls.NameReply.TheVariants as reply
 use Rattle.name_core.specs.declared.calls.NameRefusal.{NameRefusal}
 use Rattle.name_core.specs.declared.calls.NameRefusal.TheVariants as refusal
 use Rattle.name_core.specs.declared.asks.OpenAsk.{OpenAsk}
-use Rattle.name_core.specs.State.{NameState, next_id}
-use Rattle.name_core.specs.Asks.{Asks, Finishes, ask_gone, id_of, open_ask}
+use Rattle.name_core.specs.State.{IsNames, NameService, NameState, next_id}
+use Rattle.name_core.specs.Asks.{Asks, Finishes, ask_gone, open_ask}
 use Rattle.name_core.specs.Calls.{NameActs, info_reply, path_of_zone}
-use Rattle.name_core.specs.Steps.{IdsFit, IsRising}
+use Rattle.name_core.specs.Service.{FinishServes, Serves}
+use Rattle.name_core.specs.Steps.{Keeps}
 
 -- what was made is told
 
@@ -41,29 +45,48 @@ OthersStay =
 -- a file that was made is told with the id of its ask, the zone that its own directory lies in, and the encrypted key that was given
 abbrev pub FileIsTold : Type 0
 FileIsTold =
-    (s : NameState) (id : ℕ) (a : OpenAsk) (p : NPath) (edek : Option Edek) (s' : NameState) (told : NameReply) (s'' : NameState)
-    → open_ask s.asks id ≡ Some a → a.ask ≡ ask.Create p → Finishes s id (answer.Given edek) (Ok tt) s' → NameActs s' (call.Info p) told s''
-    → (told ≡ reply.Refused refusal.NoMemory) ⊎ (told ≡ reply.File id (path_of_zone s.table.rows (parent p)) edek)
+    (s : NameState) (a : OpenAsk) (p : NPath) (edek : Option Edek) (s' : NameState) (told : NameReply) (s'' : NameState)
+    → a.ask ≡ ask.Create p → Finishes s a edek (Ok tt) s' → NameActs s' (call.Info p) told s''
+    → (told ≡ reply.Refused refusal.NoMemory) ⊎ (told ≡ reply.File a.id (path_of_zone s.table.rows (parent p)) edek)
 
 -- that zone is the one under which the file was asked for, or there was none and is none
 abbrev pub ZoneIsAsAsked : Type 0
 ZoneIsAsAsked =
-    (s : NameState) (id : ℕ) (a : OpenAsk) (p : NPath) (edek : Option Edek) (s' : NameState)
-    → open_ask s.asks id ≡ Some a → a.ask ≡ ask.Create p → Finishes s id (answer.Given edek) (Ok tt) s' → zone_id s.table.rows (parent p) ≡ a.zone
+    (s : NameState) (a : OpenAsk) (p : NPath) (edek : Option Edek) (s' : NameState)
+    → a.ask ≡ ask.Create p → Finishes s a edek (Ok tt) s' → zone_id s.table.rows (parent p) ≡ a.zone
 
 -- what is told of another path is what was told before the finish
 abbrev pub OthersStayByFile : Type 0
 OthersStayByFile =
-    (s : NameState) (id : ℕ) (a : OpenAsk) (p : NPath) (edek : Option Edek) (s' : NameState) (q : NPath)
-    → open_ask s.asks id ≡ Some a → a.ask ≡ ask.Create p → Finishes s id (answer.Given edek) (Ok tt) s' → (q ≡ p → ⊥)
-    → info_reply s'.table.rows q ≡ info_reply s.table.rows q
+    (s : NameState) (a : OpenAsk) (p : NPath) (edek : Option Edek) (s' : NameState) (q : NPath)
+    → a.ask ≡ ask.Create p → Finishes s a edek (Ok tt) s' → (q ≡ p → ⊥) → info_reply s'.table.rows q ≡ info_reply s.table.rows q
 
 -- a directory that was made a zone is told with the id that it had, itself as its zone, and the key that was asked for
 abbrev pub ZoneIsTold : Type 0
 ZoneIsTold =
-    (s : NameState) (id : ℕ) (a : OpenAsk) (p : NPath) (key : KeyName) (given : KeyAnswer) (s' : NameState) (told : NameReply) (s'' : NameState)
-    → IsRows s.table.rows → open_ask s.asks id ≡ Some a → a.ask ≡ ask.Zone p key → Finishes s id given (Ok tt) s' → NameActs s' (call.Info p) told s''
+    (s : NameState) (a : OpenAsk) (p : NPath) (key : KeyName) (edek : Option Edek) (s' : NameState) (told : NameReply) (s'' : NameState)
+    → IsRows s.table.rows → a.ask ≡ ask.Zone p key → Finishes s a edek (Ok tt) s' → NameActs s' (call.Info p) told s''
     → (told ≡ reply.Refused refusal.NoMemory) ⊎ (told ≡ reply.Dir (id_of (row_at s.table.rows p)) (Some p) (Some key))
+
+-- what was deleted is gone
+
+-- nothing is told of the path that was deleted, nor of one below it
+abbrev pub DeletedIsGone : Type 0
+DeletedIsGone =
+    (s : NameState) (p : NPath) (recursive : Bool) (s' : NameState) (q : NPath) (told : NameReply) (s'' : NameState)
+    → NameActs s (call.Delete p recursive) reply.Done s' → is_prefix p q ≡ true → NameActs s' (call.Info q) told s'' → told ≡ reply.Refused refusal.NoSuchPath
+
+-- what is told of another path is what was told before
+abbrev pub OthersStayByDelete : Type 0
+OthersStayByDelete =
+    (s : NameState) (p : NPath) (recursive : Bool) (s' : NameState) (q : NPath)
+    → NameActs s (call.Delete p recursive) reply.Done s' → is_prefix p q ≡ false → info_reply s'.table.rows q ≡ info_reply s.table.rows q
+
+-- a list tells a name exactly where something stands at that name in the directory
+abbrev pub ListTellsChildren : Type 0
+ListTellsChildren =
+    (s : NameState) (p : NPath) (list : List Child) (s' : NameState) (name : List ℕ)
+    → NameActs s (call.List p) (reply.List list) s' → list_any (λ (c : Child). bytes_eq c.name name) list ≡ is_some (row_at s.table.rows (p ++ name ∷ []))
 
 -- ids rise
 
@@ -76,47 +99,47 @@ abbrev pub AskIdsRise : Type 0
 AskIdsRise =
     (s : NameState) (user : Text) (a : Ask) (note : AskNote) (s' : NameState) → Asks s user a (Ok note) s' → (note.id ≡ next_id s) × (next_id s < next_id s')
 
--- the ids of rows and of open asks are below the next one, no row has the id of an open ask, and no two open asks have the same
-abbrev pub IdsBelowNext : NameState → Type 0
-IdsBelowNext s = IdsFit s.table.rows s.asks (next_id s)
+-- the ids of rows, of open asks and of the operation that waits are below the next one, and no two of them are the same
+abbrev pub IdsBelowNext : NameService → Type 0
+IdsBelowNext s = Keeps s
 
--- each call leaves it so
+-- that is so of what every namesystem is
+abbrev pub NamesKeepIds : Type 0
+NamesKeepIds = (s : NameService) → IsNames s → IdsBelowNext s
+
+-- a store fault may come at any time
+abbrev pub AnyFault : Type 0
+AnyFault = Unit {0}
+
+-- one step of the namesystem: a call, an ask or a finish, whatever it answers
+pub data IsStep (s s' : NameService) : Type 0 where
+  Called : (user : Text) (c : NameCall) (told : NameReply) (logged : List EditOp) → Serves s user c AnyFault told logged s' → IsStep s s'
+  Asked : (user : Text) (a : Ask) (told : Result AskNote NameRefusal) → Asks s.names user a told s'.names → s'.pending ≡ s.pending → IsStep s s'
+  Finished : (id : ℕ) (given : KeyAnswer) (told : Result (Unit {0}) NameRefusal) (logged : List EditOp) → FinishServes s id given AnyFault told logged s' → IsStep s s'
+
+-- each step leaves it so, and the next id is no lower behind it
 abbrev pub IdsStayBelow : Type 0
-IdsStayBelow = (s : NameState) (c : NameCall) (told : NameReply) (s' : NameState) → NameActs s c told s' → IdsBelowNext s → IdsBelowNext s'
-
--- and each ask
-abbrev pub IdsStayByAsks : Type 0
-IdsStayByAsks = (s : NameState) (user : Text) (a : Ask) (told : Result AskNote NameRefusal) (s' : NameState) → Asks s user a told s' → IdsBelowNext s → IdsBelowNext s'
-
--- and each finish
-abbrev pub IdsStayByFinishes : Type 0
-IdsStayByFinishes =
-    (s : NameState) (id : ℕ) (given : KeyAnswer) (told : Result (Unit {0}) NameRefusal) (s' : NameState) → Finishes s id given told s' → IdsBelowNext s → IdsBelowNext s'
+IdsStayBelow = (s s' : NameService) → IsStep s s' → IdsBelowNext s → IdsBelowNext s'
 
 -- an ask is finished once
 
 -- a finish right after one of the same id finds no open ask, whatever the first one answered but want of memory
 abbrev pub FinishedOnce : Type 0
 FinishedOnce =
-    (s : NameState) (id : ℕ) (given : KeyAnswer) (told : Result (Unit {0}) NameRefusal) (s' : NameState) (given' : KeyAnswer) (told' : Result (Unit {0}) NameRefusal) (s'' : NameState)
-    → IsRising s.asks → Finishes s id given told s' → (told ≡ Err refusal.NoMemory → ⊥) → Finishes s' id given' told' s''
-    → (told' ≡ Err (ask_gone s')) × (s'' ≡ s')
-
--- one step of the namesystem: a call, an ask or a finish, whatever it answers
-pub data IsStep (s s' : NameState) : Type 0 where
-  Called : (c : NameCall) (told : NameReply) → NameActs s c told s' → IsStep s s'
-  Asked : (user : Text) (a : Ask) (told : Result AskNote NameRefusal) → Asks s user a told s' → IsStep s s'
-  Finished : (id : ℕ) (given : KeyAnswer) (told : Result (Unit {0}) NameRefusal) → Finishes s id given told s' → IsStep s s'
+    (s : NameService) (id : ℕ) (given : KeyAnswer) (told : Result (Unit {0}) NameRefusal) (logged : List EditOp) (s' : NameService) (given' : KeyAnswer)
+    (told' : Result (Unit {0}) NameRefusal) (logged' : List EditOp) (s'' : NameService)
+    → IdsBelowNext s → FinishServes s id given AnyFault told logged s' → (told ≡ Err refusal.NoMemory → ⊥) → FinishServes s' id given' AnyFault told' logged' s''
+    → (told' ≡ Err (ask_gone s'.names)) × (s'' ≡ s')
 
 -- from s, steps through these states lead to t
-abbrev pub Reaches : NameState → List NameState → NameState → Type 0
+abbrev pub Reaches : NameService → List NameService → NameService → Type 0
 Reaches s [] t = t ≡ s
 Reaches s (m ∷ ms) t = IsStep s m × Reaches m ms t
 
 -- nor is an ask that was open found by its id after any steps that come behind its finish
 abbrev pub FinishedForGood : Type 0
 FinishedForGood =
-    (s : NameState) (id : ℕ) (a : OpenAsk) (given : KeyAnswer) (told : Result (Unit {0}) NameRefusal) (s' : NameState) (between : List NameState) (t : NameState)
-    (given' : KeyAnswer) (told' : Result (Unit {0}) NameRefusal) (t' : NameState)
-    → IdsBelowNext s → open_ask s.asks id ≡ Some a → Finishes s id given told s' → (told ≡ Err refusal.NoMemory → ⊥)
-    → Reaches s' between t → Finishes t id given' told' t' → (told' ≡ Err (ask_gone t)) × (t' ≡ t)
+    (s : NameService) (id : ℕ) (a : OpenAsk) (given : KeyAnswer) (told : Result (Unit {0}) NameRefusal) (logged : List EditOp) (s' : NameService) (between : List NameService) (t : NameService)
+    (given' : KeyAnswer) (told' : Result (Unit {0}) NameRefusal) (logged' : List EditOp) (t' : NameService)
+    → IdsBelowNext s → open_ask s.names.asks id ≡ Some a → FinishServes s id given AnyFault told logged s' → (told ≡ Err refusal.NoMemory → ⊥)
+    → Reaches s' between t → FinishServes t id given' AnyFault told' logged' t' → (told' ≡ Err (ask_gone t.names)) × (t' ≡ t)

@@ -1,5 +1,6 @@
 pub mod Asks
 pub mod Calls
 pub mod Laws
+pub mod Service
 pub mod State
 pub mod Steps

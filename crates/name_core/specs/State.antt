@@ -1,14 +1,16 @@
 -- The namesystem in an opening.
-use Rattle.std.specs.Prelude.{ℕ, ◌+◌, ◌*◌, ◌^◌, Bool, ◌||◌, nat_le, List, [], length}
-use Rattle.inode_tree.specs.Rows.{Entry, root_only}
+use Rattle.std.specs.Prelude.{◌≡◌, ℕ, ◌+◌, ◌*◌, ◌^◌, ◌<◌, ◌≤◌, ⊤, Bool, false, ◌||◌, nat_le, List, [], ◌∷◌, length, Option, None, IfSome}
+use Rattle.std.specs.List.{All, AllByRecursion}
+use Rattle.hk_base.specs.Disk.{DiskState}
+use Rattle.inode_tree.specs.Rows.{Entry, IsRows, entry_of}
+use Rattle.edit_ops.specs.declared.ops.EditOp.{EditOp}
+use Rattle.name_store.specs.Table.{NameTable, after_table, is_among, next_opening, settled_table, uses}
+use Rattle.name_store.specs.Replay.{AllBelow}
+use Rattle.name_store.specs.Store.{IsPending, StoreState}
+use Rattle.name_store.specs.Store as store
 use Rattle.name_core.specs.declared.asks.OpenAsk.{OpenAsk}
 
--- the number of the opening, and the rows in path order
-pub record NameTable : Type 0 where
-  pub opening : ℕ
-  pub rows : List Entry
-
--- the rows, the counter of the next id, and the open asks in the order of their ids
+-- the table, the counter of the next id, and the open asks in the order of their ids
 pub record NameState : Type 0 where
   pub table : NameTable
   pub next : ℕ
@@ -26,6 +28,70 @@ is_spent s = nat_le (2 ^ 32) s.next
 abbrev pub is_full : NameState → Bool
 is_full s = nat_le 1000000 (length s.table.rows) || is_spent s
 
--- the root alone, in a first opening
-abbrev pub first_state : NameState
-first_state = record { table = record { opening = 1; rows = root_only }; next = 1; asks = [] }
+-- the namesystem over a disk: its state, and the operation of which the disk may or may not hold the record
+pub record NameService : Type 0 where
+  pub names : NameState
+  pub pending : Option EditOp
+
+-- the state once the pending operation was settled: it was kept, or not
+abbrev pub settled : Bool → NameService → NameState
+settled kept s = record s.names { table = settled_table kept s.pending s.names.table }
+
+-- behind a start that found this table: in the opening that follows, with no ask open and nothing pending
+abbrev pub started : NameTable → NameService
+started t = record { names = record { table = after_table t (next_opening t); next = 1; asks = [] }; pending = None }
+
+-- A namesystem that runs: its store, the counter of the next id, and the open asks.
+pub record RunningNames : Type 0 where
+  pub store : StoreState
+  pub next : ℕ
+  pub asks : List OpenAsk
+
+abbrev pub names_of : RunningNames → NameState
+names_of r = record { table = r.store.table; next = r.next; asks = r.asks }
+
+-- what a running namesystem is, whatever its disk
+abbrev pub service_of : RunningNames → NameService
+service_of r = record { names = names_of r; pending = r.store.log.pending }
+
+-- ids rise from ask to ask
+abbrev pub IsRising : List OpenAsk → Type 0
+IsRising [] = ⊤
+IsRising (a ∷ asks) = AllByRecursion (λ (b : OpenAsk). a.id < b.id) asks × IsRising asks
+
+-- ids of rows and of open asks lie below the next one, and no row has the id of an open ask
+pub record IdsFit (rows : List Entry) (asks : List OpenAsk) (next : ℕ) : Type 0 where
+  pub of_rows : All (λ e. e.row.id < next) rows
+  pub of_asks : AllByRecursion (λ (a : OpenAsk). a.id < next) asks
+  pub free : AllByRecursion (λ (a : OpenAsk). entry_of rows a.id ≡ None) asks
+  pub rising : IsRising asks
+
+-- open asks were made in this opening
+abbrev pub AreRecent : ℕ → List OpenAsk → Type 0
+AreRecent opening asks = AllByRecursion (λ (a : OpenAsk). opening * 2 ^ 32 ≤ a.id) asks
+
+-- no open ask has one of the ids
+abbrev pub AreFree : List ℕ → List OpenAsk → Type 0
+AreFree ids asks = AllByRecursion (λ (a : OpenAsk). is_among ids a.id ≡ false) asks
+
+-- an operation that may be pending: the table allows it, its id is taken, and no open ask has it
+pub record IsWaiting (s : NameState) (op : EditOp) : Type 0 where
+  pub pending : IsPending s.table op
+  pub below : AllBelow (next_id s) (uses op)
+  pub free : AreFree (uses op) s.asks
+
+-- What every namesystem keeps: the rules of rows, ids in use below the next one, and the rules of the operation that waits.
+pub record IsNames (s : NameService) : Type 0 where
+  pub opened : 0 < s.names.table.opening
+  pub few : s.names.next ≤ 2 ^ 32
+  pub rows : IsRows s.names.table.rows
+  pub ids : IdsFit s.names.table.rows s.names.asks (next_id s.names)
+  pub recent : AreRecent s.names.table.opening s.names.asks
+  pub waits : IfSome s.pending (IsWaiting s.names)
+
+-- The log stands for these acknowledged operations. The ids that they used lie below the next one, and no open ask has one.
+pub record StandsFor (disk : DiskState) (r : RunningNames) (ops : List EditOp) : Type 0 where
+  pub used : List ℕ
+  pub store : store.StandsFor disk r.store used ops
+  pub below : AllBelow (next_id (names_of r)) used
+  pub free : AreFree used r.asks

@@ -1,24 +1,33 @@
 -- The steps of a call that the namesystem takes one after another.
-use Rattle.std.specs.Prelude.{◌≡◌, ◌⊎◌, ◌<◌, ⊤, ℕ, true, List, [], ◌∷◌, length, None, Some, is_some, slice_index_or}
-use Rattle.std.specs.List.{All, AllByRecursion, remove}
+use Rattle.std.specs.Prelude.{◌≡◌, ◌⊎◌, ◌<◌, ◌≤◌, ◌^◌, ℕ, Bool, true, false, List, [], ◌∷◌, ◌++◌, length, Option, None, Some, Result, Ok, Err, IfSome, is_some, slice_index_or}
+use Rattle.std.specs.List.{remove}
+use Rattle.hk_base.specs.Disk.{DiskState, Tells, RunOn, LeavesOnly}
+use Rattle.hk_base.specs.Faults.{Rose}
+use Rattle.hk_base.specs.declared.names.Edek.{Edek}
+use Rattle.frame_log.specs.declared.fault.StoreRefusal.{StoreRefusal}
+use Rattle.frame_log.specs.declared.fault.StoreRefusal.TheVariants as store
 use Rattle.inode_tree.specs.declared.paths.NPath.{NPath}
-use Rattle.inode_tree.specs.Rows.{Entry, entry_of}
+use Rattle.inode_tree.specs.Rows.{Entry}
+use Rattle.edit_ops.specs.Records.{HasSpelling, fits}
+use Rattle.edit_ops.specs.declared.ops.EditOp.{EditOp}
+use Rattle.name_store.specs.Replay.{AllBelow, Applies}
+use Rattle.name_store.specs.Store.{IsLeftOf, IsLogOf, NothingMore, is_opening, made_with}
+use Rattle.name_store.specs.Table.{Replayed, allows, is_fresh, settled_ops, uses}
 use Rattle.name_core.specs.declared.asks.OpenAsk.{OpenAsk}
+use Rattle.name_core.specs.declared.calls.NameCall.{NameCall}
 use Rattle.name_core.specs.declared.calls.NameReply.{NameReply}
-use Rattle.name_core.specs.declared.calls.NameReply.TheVariants.{Refused}
-use Rattle.name_core.specs.declared.calls.NameRefusal.TheVariants.{NoMemory}
-use Rattle.name_core.specs.Asks.{open_ask, without}
-use Rattle.name_core.specs.Calls.{first_cause, info_causes, info_reply, path_of_zone}
+use Rattle.name_core.specs.declared.calls.NameReply.TheVariants.{Done, Refused}
+use Rattle.name_core.specs.declared.calls.NameRefusal.{NameRefusal}
+use Rattle.name_core.specs.declared.calls.NameRefusal.TheVariants.{NoMemory, StoreFault}
+use Rattle.name_core.specs.State.{AreFree, AreRecent, IdsFit, NameService, NameState, RunningNames, StandsFor, names_of, next_id, service_of, settled}
+use Rattle.name_core.specs.Asks.{finish_causes, finish_op, open_ask, without}
+use Rattle.name_core.specs.Calls.{causes, deed, done_with, first_cause, info_causes, info_reply, path_of_zone}
+use Rattle.name_core.specs.Service.{Changes, Concludes, OwnOf, ServesBy}
 
 -- what stands at the path is told, or memory is wanting for the path of its zone
-abbrev pub Tells : List Entry → NPath → NameReply → Type 0
-Tells rows p told =
+abbrev pub TellsOf : List Entry → NPath → NameReply → Type 0
+TellsOf rows p told =
     (told ≡ info_reply rows p) ⊎ ((told ≡ Refused NoMemory) × (is_some (path_of_zone rows p) ≡ true) × (first_cause (info_causes rows p) ≡ None))
-
--- ids rise from ask to ask
-abbrev pub IsRising : List OpenAsk → Type 0
-IsRising [] = ⊤
-IsRising (a ∷ asks) = AllByRecursion (λ (b : OpenAsk). a.id < b.id) asks × IsRising asks
 
 -- the ask of this id stands at the place
 pub record StandsAt (asks : List OpenAsk) (id at : ℕ) : Type 0 where
@@ -26,9 +35,132 @@ pub record StandsAt (asks : List OpenAsk) (id at : ℕ) : Type 0 where
   pub stands : (d : OpenAsk) → open_ask asks id ≡ Some (slice_index_or asks at d)
   pub removed : without asks id ≡ remove asks at
 
--- ids of rows and of open asks lie below the next one, and no row has the id of an open ask
-pub record IdsFit (rows : List Entry) (asks : List OpenAsk) (next : ℕ) : Type 0 where
-  pub of_rows : All (λ e. e.row.id < next) rows
-  pub of_asks : AllByRecursion (λ (a : OpenAsk). a.id < next) asks
-  pub free : AllByRecursion (λ (a : OpenAsk). entry_of rows a.id ≡ None) asks
-  pub rising : IsRising asks
+-- an operation that waits is no opening, its ids are taken, and no open ask has one
+pub record IsApart (s : NameState) (op : EditOp) : Type 0 where
+  pub no_opening : is_opening op ≡ false
+  pub below : AllBelow (next_id s) (uses op)
+  pub free : AreFree (uses op) s.asks
+
+-- What a namesystem keeps of ids beside its store: those in use lie below the next one, those of open asks are of this opening, and
+-- no open ask has one that the operation that waits uses.
+pub record Keeps (s : NameService) : Type 0 where
+  pub few : s.names.next ≤ 2 ^ 32
+  pub ids : IdsFit s.names.table.rows s.names.asks (next_id s.names)
+  pub recent : AreRecent s.names.table.opening s.names.asks
+  pub waits : IfSome s.pending (IsApart s.names)
+
+-- An operation and the state that its call leaves beside what the operation itself does: ids are in order behind it.
+pub record IsBehind (s : NameState) (op : EditOp) (left : NameState) : Type 0 where
+  pub no_opening : is_opening op ≡ false
+  pub same_table : left.table ≡ s.table
+  pub rises : s.next ≤ left.next
+  pub few : left.next ≤ 2 ^ 32
+  pub ids : IdsFit s.table.rows left.asks (next_id left)
+  pub recent : AreRecent s.table.opening left.asks
+  pub below : AllBelow (next_id left) (uses op)
+  pub free : AreFree (uses op) left.asks
+
+-- such an operation that may be written: the table allows it, and no operation before used its id
+pub record MayWrite (s : NameState) (op : EditOp) (left : NameState) : Type 0 where
+  pub behind : IsBehind s op left
+  pub allowed : allows s.table op ≡ true
+  pub spelled : fits op ≡ true
+  pub fresh : (used : List ℕ) → AllBelow (next_id s) used → AreFree used s.asks → is_fresh used op ≡ true
+  pub fewer : (used : List ℕ) → AreFree used s.asks → AreFree used left.asks
+
+-- What a crash may leave of a log of these operations, which come to this, while nothing is pending: that log, with one operation
+-- more, which is its call's own and applies, or without it.
+pub record Grows (made : Replayed) (own : EditOp → Type 0) (ops : List EditOp) (bytes : List ℕ) : Type 0 where
+  pub more : Option EditOp
+  pub more_is : IfSome more own
+  pub fits : Applies made more
+  pub spelled : IfSome more HasSpelling
+  pub log : IsLogOf ops more bytes
+
+abbrev pub Growing : RunningNames → (EditOp → Type 0) → List ℕ → List EditOp → List ℕ → Type 0
+Growing r own used ops bytes = Grows (made_with r.store used) own ops bytes
+
+abbrev pub Leaving : RunningNames → (Bool → EditOp → Type 0) → List ℕ → List EditOp → List ℕ → Type 0
+Leaving r own used ops bytes = IsLeftOf (made_with r.store used) r.store.log.pending own ops bytes
+
+-- What a step does to its disk: the operations acknowledged are in the log behind those before, and a crash at any moment of the
+-- step leaves what P says of those before and the ids that they used.
+pub record Logging (old new : DiskState) (r r' : RunningNames) (P : List ℕ → List EditOp → List ℕ → Type 0) (logged : List EditOp) : Type 0 where
+  pub stands : Tells old → (ops : List EditOp) → StandsFor old r ops → StandsFor new r' (ops ++ logged)
+  pub moments : Tells old → (ops : List EditOp) → (s : StandsFor old r ops) → LeavesOnly 1 old new (P s.used ops)
+  pub run : RunOn 1 old new
+
+-- the pending operation was settled, and was kept or not
+pub record Settling (old new : DiskState) (r r' : RunningNames) : Type 0 where
+  pub kept : Bool
+  pub service : service_of r' ≡ record { names = settled kept (service_of r); pending = None }
+  pub disk : Logging old new r r' (Leaving r NothingMore) (settled_ops kept r.store.log.pending)
+
+-- the disk failed, and the operation is still pending
+pub record IsUnsettled (old new : DiskState) (r r' : RunningNames) : Type 0 where
+  pub waits : is_some r.store.log.pending ≡ true
+  pub failed : Rose old.faults new.faults
+  pub same : r' ≡ r
+  pub disk : Logging old new r r' (Leaving r NothingMore) []
+
+-- the operation was written and took effect
+pub record IsDone (old new : DiskState) (r : RunningNames) (left : NameState) (op : EditOp) (r' : RunningNames) : Type 0 where
+  pub service : service_of r' ≡ record { names = done_with (Some op) left; pending = None }
+  pub disk : Logging old new r r' (Growing r (λ own. own ≡ op)) (op ∷ [])
+
+-- memory is wanting, and nothing changes
+pub record IsWanting (old new : DiskState) (r r' : RunningNames) : Type 0 where
+  pub service : service_of r' ≡ record { names = names_of r; pending = None }
+  pub disk : Logging old new r r' (Growing r (λ own. ⊥)) []
+
+-- the disk failed, and the operation is pending
+pub record IsPendingNow (old new : DiskState) (r : RunningNames) (left : NameState) (op : EditOp) (r' : RunningNames) : Type 0 where
+  pub failed : Rose old.faults new.faults
+  pub service : service_of r' ≡ record { names = left; pending = Some op }
+  pub disk : Logging old new r r' (Growing r (λ own. own ≡ op)) []
+
+-- what comes of an operation that was to be written while nothing was pending
+abbrev pub Writes : DiskState → DiskState → RunningNames → NameState → EditOp → Result (Unit {0}) StoreRefusal → RunningNames → Type 0
+Writes old new r left op (Ok done) r' = IsDone old new r left op r'
+Writes old new r left op (Err store.NoMemory) r' = IsWanting old new r r'
+Writes old new r left op (Err store.StoreFault) r' = IsPendingNow old new r left op r'
+
+-- what a refusal of the store is told as
+abbrev pub refusal_of : StoreRefusal → NameRefusal
+refusal_of store.NoMemory = NoMemory
+refusal_of store.StoreFault = StoreFault
+
+abbrev pub told_of : Result (Unit {0}) StoreRefusal → NameReply
+told_of (Ok done) = Done
+told_of (Err why) = Refused (refusal_of why)
+
+abbrev pub finish_told : Result (Unit {0}) StoreRefusal → Result (Unit {0}) NameRefusal
+finish_told (Ok done) = Ok done
+finish_told (Err why) = Err (refusal_of why)
+
+-- a call that is not refused before anything is settled
+pub record ActsOn (old new : DiskState) (r : RunningNames) (c : NameCall) (told : NameReply) (r' : RunningNames) : Type 0 where
+  pub logged : List EditOp
+  pub serves : ServesBy true (service_of r) c (Rose old.faults new.faults) told logged (service_of r')
+  pub disk : Logging old new r r' (Leaving r (OwnOf (service_of r) c)) logged
+
+-- what a change may write while nothing is pending
+abbrev pub OwnChange : NameState → NameCall → EditOp → Type 0
+OwnChange s c op = (first_cause (causes s c) ≡ None) × ((deed s c).logs ≡ Some op)
+
+-- a change while nothing is pending
+pub record ActsSettled (old new : DiskState) (r : RunningNames) (c : NameCall) (told : NameReply) (r' : RunningNames) : Type 0 where
+  pub logged : List EditOp
+  pub changes : Changes (names_of r) [] c (Rose old.faults new.faults) told logged (service_of r')
+  pub disk : Logging old new r r' (Growing r (OwnChange (names_of r) c)) logged
+
+-- what a finish that was answered so and left this may write while nothing is pending
+abbrev pub OwnFinish : NameState → OpenAsk → Option Edek → Result (Unit {0}) NameRefusal → NameService → EditOp → Type 0
+OwnFinish s a edek told s' op =
+    (first_cause (finish_causes s.table.rows a edek a.ask) ≡ None) × (op ≡ finish_op a.id edek a.ask) × ((told ≡ Ok tt) ⊎ (s'.pending ≡ Some op))
+
+-- a finish of an open ask while nothing is pending
+pub record FinishesSettled (old new : DiskState) (r : RunningNames) (a : OpenAsk) (edek : Option Edek) (told : Result (Unit {0}) NameRefusal) (r' : RunningNames) : Type 0 where
+  pub logged : List EditOp
+  pub concludes : Concludes (names_of r) [] a edek (Rose old.faults new.faults) told logged (service_of r')
+  pub disk : Logging old new r r' (Growing r (OwnFinish (names_of r) a edek told (service_of r'))) logged

@@ -3,7 +3,8 @@ ghost use Rattle.std.specs.Prelude.{◌≡◌, ◌∷◌, ◌++◌, ◌≤◌, �
 ghost use Rattle.std.specs.List.{AllByRecursion};
 ghost use Rattle.std.specs.List.Sorted.{IsPartitionPoint};
 ghost use Rattle.name_core.specs.Asks.{note_of, open_ask, without};
-ghost use Rattle.name_core.specs.Steps.{IsRising, StandsAt};
+ghost use Rattle.name_core.specs.State.{IsRising};
+ghost use Rattle.name_core.specs.Steps.{StandsAt};
 
 use crate::calls::{Ask, AskNote, Want};
 use hk_base::NoMemory;
@@ -41,7 +42,7 @@ pub struct OpenAsks {
 impl Model for OpenAsks {
     ghost use Rattle.std.specs.Prelude.{List};
     ghost use Rattle.name_core.specs.declared.asks.OpenAsk.{OpenAsk};
-    ghost use Rattle.name_core.specs.Steps.{IsRising};
+    ghost use Rattle.name_core.specs.State.{IsRising};
 
     ghost Value = { List OpenAsk };
 

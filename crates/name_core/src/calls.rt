@@ -3,8 +3,9 @@ ghost use Rattle.std.specs.Prelude.{◌≡◌};
 ghost use Rattle.name_core.specs.Asks.{answer_of};
 
 use hk_base::{Edek, KeyName};
-use inode_tree::NPath;
+use inode_tree::{ChildList, NPath};
 use key_rows::{KmsRefusal, KmsReply};
+use zone_table::ZoneList;
 
 /// A call of the namesystem. Its paths are absolute ones.
 #[derive(Drop)]
@@ -12,15 +13,22 @@ pub enum NameCall {
     /// Makes a directory, whose own directory has to stand (`mkdir` of the HDFS shell, without
     /// `-p`).
     Mkdir { path: NPath },
+    /// Deletes what stands at a path. A directory that has something in it is deleted only where
+    /// `recursive` says so (`rm` and `rm -r` of the HDFS shell, without the trash).
+    Delete { path: NPath, recursive: bool },
     /// Asks what stands at a path.
     Info { path: NPath },
+    /// Asks what lies in a directory.
+    List { path: NPath },
+    /// Asks for the encryption zones (`hdfs crypto -listZones`). The superuser `hdfs` alone may.
+    Zones,
 }
 
 /// Why a call is refused.
 #[derive(Clone, Copy, Debug, PartialEq, Eq)]
 pub enum NameRefusal {
-    /// The bytes that were given as a path are outside the rule of paths. No call on a path that
-    /// was read is refused so.
+    /// The bytes that were given as a path are outside the rule of paths: no call on a path that
+    /// was read is refused so, but where its first name is `.reserved`.
     BadPath,
     /// Nothing stands at the path, or at the directory of a path that is to be made.
     NoSuchPath,
@@ -28,16 +36,17 @@ pub enum NameRefusal {
     Exists,
     /// A directory is needed where a file stands.
     NotADirectory,
-    /// A directory that is to become a zone has something in it.
+    /// A directory that is to become a zone, or is to be deleted alone, has something in it.
     NotEmpty,
-    /// The user is not `hdfs`, who alone makes zones.
+    /// The user is not `hdfs`, who alone makes zones and asks for them.
     NotSuperuser,
     /// A directory that is to become a zone is one, or lies in one.
     AlreadyInZone,
     /// No ask of the id is open: it was finished, or a restart dropped it. `opening` and `next` are
     /// the number of the opening and the counter of its next id.
     AskGone { opening: u32, next: u64 },
-    /// The zone of the path is not the one under which the ask was made.
+    /// The zone of the path is not the one under which the ask was made, or the encrypted key that
+    /// was given is none of its key.
     ZoneChanged,
     /// 1,000,000 directories and files stand, or the ids of this start are used up.
     TooManyInodes,
@@ -45,6 +54,12 @@ pub enum NameRefusal {
     KeyRefused(KmsRefusal),
     /// There is no memory for the call.
     NoMemory,
+    /// The disk failed. Where that was when the record of the change was written, the change is
+    /// pending: the disk may or may not hold its record, and the next call that changes something
+    /// settles it first.
+    StoreFault,
+    /// The root is not deleted.
+    RootOrInside,
 }
 
 /// What is asked of the namesystem that takes a call of the key management service in between. Its
@@ -86,9 +101,9 @@ pub struct Answered {
     pub reply: Option<KmsReply>,
 }
 
-/// The reply to a call: Mkdir is answered by Done, Info by Dir or File, and each by Refused where
-/// it is refused. `zone` is the path of the encryption zone that the path lies in, `None` where it
-/// lies in none.
+/// The reply to a call: Mkdir and Delete are answered by Done, Info by Dir or File, List and Zones
+/// by their own, and each by Refused where it is refused. `zone` is the path of the encryption zone
+/// that the path lies in, `None` where it lies in none.
 #[derive(Drop)]
 pub enum NameReply {
     Done,
@@ -104,6 +119,10 @@ pub enum NameReply {
         zone: Option<NPath>,
         edek: Option<Edek>,
     },
+    /// What lies in a directory, by name, byte by byte.
+    List(ChildList),
+    /// The encryption zones, in path order.
+    Zones(ZoneList),
     Refused(NameRefusal),
 }
 

@@ -1,7 +1,6 @@
-//! What follows for directories, files and zones that are made, for ids, and for asks that were finished.
-//! The functions do nothing: their contracts are the laws.
-ghost use Rattle.name_core.specs.Laws.{AskIdsRise, FileIsTold, FinishedForGood, FinishedOnce, IdsBelowNext, IdsRise, IdsStayBelow, IdsStayByAsks, IdsStayByFinishes, MadeIsTold, OthersStay, OthersStayByFile, ZoneIsAsAsked, ZoneIsTold};
-ghost use Rattle.name_core.specs.State.{first_state};
+//! What follows for directories, files and zones that are made, for what is deleted, for ids, and for
+//! asks that were finished. The functions do nothing: their contracts are the laws.
+ghost use Rattle.name_core.specs.Laws.{AskIdsRise, DeletedIsGone, FileIsTold, FinishedForGood, FinishedOnce, IdsRise, IdsStayBelow, ListTellsChildren, MadeIsTold, NamesKeepIds, OthersStay, OthersStayByDelete, OthersStayByFile, ZoneIsAsAsked, ZoneIsTold};
 
 /// A directory that was made is what is told of its path: with the next id, the zone that its own
 /// directory lies in, and without a key. What is told of each other path stays.
@@ -25,15 +24,26 @@ pub fn made_zones_are_told()
     ensures { ZoneIsTold }
 {}
 
-/// A directory that is made and an ask that is accepted raise the next id, which from the start and
-/// after each call, ask and finish is above all ids in use. So no two rows get the same id.
+/// Of a path that was deleted, and of each path below it, nothing is told any more. What is told of
+/// each other path stays.
+pub fn deleted_paths_are_gone()
+    ensures gone { DeletedIsGone }
+    ensures others { OthersStayByDelete }
+{}
+
+/// A list tells a name exactly where something stands at that name in the directory.
+pub fn lists_tell_what_lies_in_a_directory()
+    ensures { ListTellsChildren }
+{}
+
+/// A directory that is made and an ask that is accepted raise the next id, which is above all ids in
+/// use in every namesystem, and stays so behind each call, ask and finish, whatever it answers and
+/// whenever its disk fails. So no two rows get the same id.
 pub fn ids_rise()
     ensures rise { IdsRise }
     ensures rise_by_asks { AskIdsRise }
-    ensures start { IdsBelowNext first_state }
+    ensures below { NamesKeepIds }
     ensures stay { IdsStayBelow }
-    ensures stay_by_asks { IdsStayByAsks }
-    ensures stay_by_finishes { IdsStayByFinishes }
 {}
 
 /// After a finish that answered anything but want of memory, its ask is open no more: a finish of the

@@ -1,101 +1,218 @@
 //! The namesystem and its calls.
-ghost use Rattle.std.specs.Prelude.{◌≡◌, ℕ, IfOk, None, Option, OnOk, OnErr, false, length};
-ghost use Rattle.inode_tree.specs.Rows.{IsRows, entry_of};
-ghost use Rattle.name_core.specs.State.{first_state, is_full, is_spent, next_id};
-ghost use Rattle.name_core.specs.Asks.{Asks, Finishes, answer_of, MakesFile, ask_causes, finish_causes, finished_rows, zone_causes};
-ghost use Rattle.name_core.specs.Calls.{NameActs, first_cause, mkdir_causes};
-ghost use Rattle.name_core.specs.Steps.{IdsFit};
+ghost use Rattle.std.specs.Prelude.{◌≡◌, ◌⊎◌, ◌+◌, ℕ, List, IfOk, IsErrOf, MatchResult, None, Option, Some, false, is_some, length, true};
+ghost use Rattle.hk_base.specs.Disk.{LeavesOnly, RunOn, Tells};
+ghost use Rattle.hk_base.specs.Faults.{Rose};
+ghost use Rattle.frame_log.specs.declared.fault.StartFault.TheVariants as start;
+ghost use Rattle.inode_tree.specs.Paths.{starts_reserved};
+ghost use Rattle.edit_ops.specs.declared.ops.EditOp.{EditOp};
+ghost use Rattle.name_store.specs.Table.{Replayed};
+ghost use Rattle.name_store.specs.Store.{IsDamagedAt, IsLeftByStart, IsNameLog};
+ghost use Rattle.name_core.specs.State.{IsNames, StandsFor, is_full, is_spent, names_of, next_id, service_of};
+ghost use Rattle.name_core.specs.Asks.{Asks, answer_of, ask_causes, ask_gone, closed, finish_causes, finish_op, open_ask, opened, without};
+ghost use Rattle.name_core.specs.Calls.{NameActs, delete_causes, first_cause, mkdir_causes};
+ghost use Rattle.name_core.specs.Service.{Acts, FinishActs, Starts};
+ghost use Rattle.name_core.specs.declared.asks.OpenAsk.{OpenAsk};
+ghost use Rattle.name_core.specs.Steps.{ActsOn, ActsSettled, FinishesSettled, IsUnsettled, MayWrite, Settling, Writes, finish_told, refusal_of, told_of};
 
 use crate::asks::{OpenAsk, OpenAsks};
 use crate::calls::{Answered, Ask, AskNote, KeyAnswer, NameCall, NameRefusal, NameReply};
 use crate::rules::{
-    info, is_superuser, path_asked, to_be_finished, to_be_made, to_be_zone, wanted,
+    early_refusal, finish_op, info, is_superuser, path_asked, path_refusal, to_be_deleted,
+    to_be_finished, to_be_listed, to_be_made, to_be_zone, wanted,
 };
-use hk_base::{Edek, KeyName, NoMemory, Text};
-use inode_tree::{MOST_ROWS, NPath, Tree};
-use key_rows::KmsRefusal;
+use edit_ops::EditOp;
+use frame_log::{StartFault, StoreRefusal};
+use hk_base::{Disk, Edek, KeyName, NoMemory, Text};
+use inode_tree::{MOST_ROWS, NPath};
+use name_store::NameStore;
 use std::alloc::Global;
 use std::marker::Model;
 
 /// How many ids an opening has.
 const IDS: u64 = 1 << 32;
 
-/// The namesystem in an opening. Contracts see the rows of its directories and files in path order,
-/// the number of the opening, the counter of the next id, and the open asks.
+/// The namesystem in an opening, over the edit log on file 1 of a disk. Contracts see its store, the
+/// counter of the next id, and the open asks; what a call means is said of the rows and the pending
+/// operation.
+///
+/// Each call that takes a disk is to be given the disk that the namesystem was started on.
 #[derive(Drop)]
 pub struct Name {
-    tree: Tree,
-    opening: u32,
+    alloc: Global,
+    store: NameStore,
     next: u64,
     asks: OpenAsks,
 }
 
 impl Model for Name {
-    ghost use Rattle.std.specs.Prelude.{◌+◌, ◌*◌, ◌^◌, ◌<◌, ◌≤◌};
-    ghost use Rattle.name_core.specs.State.{NameState};
-    ghost use Rattle.name_core.specs.Steps.{IdsFit};
+    ghost use Rattle.name_core.specs.State.{RunningNames, service_of};
+    ghost use Rattle.name_core.specs.Steps.{Keeps};
 
-    ghost Value = { NameState };
+    ghost Value = { RunningNames };
 
-    ghost view = { λ a. record { table = record { opening = a.opening; rows = a.tree }; next = a.next; asks = a.asks } };
+    ghost view = { λ a. record { store = a.store; next = a.next; asks = a.asks } };
 
-    ghost invariant = { λ a. (0 < a.opening) × (a.next ≤ 2 ^ 32) × IdsFit a.tree a.asks (a.opening * 2 ^ 32 + a.next) };
+    ghost invariant = { λ a. Keeps (service_of (record { store = a.store; next = a.next; asks = a.asks })) };
 }
 
 impl Name {
-    /// The root alone, in a first opening.
-    pub fn new(alloc: Global) -> Result<Name, NoMemory>
-        ensures { IfOk result (λ name. name ≡ first_state) }
+    /// Opens the edit log on file 1 of a disk, makes the rows of its operations, and commits the record
+    /// of a new opening. No ask is open then. It may be stopped at any moment, and started again.
+    ///
+    /// `Damaged` comes exactly where the file is no log, or a record is no operation or doesn't apply, with
+    /// the offset of its gate. `Spent` comes exactly where opening 4,294,967,295 is recorded.
+    pub fn start<D: Disk>(alloc: Global, disk: &mut D) -> Result<Name, StartFault>
+        ensures started { IfOk result (Starts (D.state disk.old) (D.state disk.new)) }
+        ensures damaged { (at : ℕ) → IsErrOf result (start.Damaged at) → Tells (D.state disk.old) → IsDamagedAt ((D.state disk.old).reads 1) at }
+        ensures spent { IsErrOf result start.Spent → Tells (D.state disk.old) → ((ops : List EditOp) × (made : Replayed)
+            × IsNameLog ((D.state disk.old).reads 1) ops made × (made.table.opening ≡ 4294967295)) }
+
+        // A crash at any moment leaves what it might have left before, or the log found, now or with its end
+        // gate read as 1, or its operations with the new opening or without it.
+        ensures any_moment { Tells (D.state disk.old) → LeavesOnly 1 (D.state disk.old) (D.state disk.new)
+            (λ c. (D.state disk.old).leaves 1 c ⊎ IsLeftByStart ((D.state disk.old).reads 1) c) }
+
+        ensures run { RunOn 1 (D.state disk.old) (D.state disk.new) }
+        ensures cause { IsErrOf result start.StoreFault → Rose (D.state disk.old).faults (D.state disk.new).faults }
     {
+        let store = NameStore::start(alloc, disk)?;
         Ok(Name {
-            tree: Tree::new(alloc)?,
-            opening: 1,
+            alloc,
+            store,
             next: 1,
             asks: OpenAsks::new(alloc),
         })
     }
 
-    /// How many directories and files stand, the root among them.
-    pub fn count(&self) -> u32
-        ensures count { result ≡ length self.now.table.rows }
-        ensures rules { IsRows self.now.table.rows }
-        // Ids in use lie below the next one, and no row has the id of an open ask.
-        ensures ids { IdsFit self.now.table.rows self.now.asks (next_id self.now) }
+    /// Opens the edit log again, and goes on with the rows that it finds. Open asks and what was pending
+    /// are gone. Where it fails, nothing changes but the disk, and the namesystem is not to go on with
+    /// this disk then.
+    pub fn restart<D: Disk>(&mut self, alloc: Global, disk: &mut D) -> Result<(), StartFault>
+        ensures started { MatchResult result (λ _. Starts (D.state disk.old) (D.state disk.new) self.new) (λ _. self.new ≡ self.old) }
+        ensures damaged { (at : ℕ) → IsErrOf result (start.Damaged at) → Tells (D.state disk.old) → IsDamagedAt ((D.state disk.old).reads 1) at }
+        ensures spent { IsErrOf result start.Spent → Tells (D.state disk.old) → ((ops : List EditOp) × (made : Replayed)
+            × IsNameLog ((D.state disk.old).reads 1) ops made × (made.table.opening ≡ 4294967295)) }
+        ensures any_moment { Tells (D.state disk.old) → LeavesOnly 1 (D.state disk.old) (D.state disk.new)
+            (λ c. (D.state disk.old).leaves 1 c ⊎ IsLeftByStart ((D.state disk.old).reads 1) c) }
+        ensures run { RunOn 1 (D.state disk.old) (D.state disk.new) }
+        ensures cause { IsErrOf result start.StoreFault → Rose (D.state disk.old).faults (D.state disk.new).faults }
     {
-        self.tree.rows()
-    }
-
-    /// Answers a call of a user. A refusal leaves all as it was. Info takes memory only where the
-    /// path lies in a zone.
-    pub fn act(&mut self, _user: &Text, call: NameCall) -> NameReply
-        ensures { NameActs self.old call result self.new }
-    {
-        match call {
-            NameCall::Mkdir { path } => self.mkdir(&path),
-            NameCall::Info { path } => info(&self.tree, &path),
-        }
-    }
-
-    fn mkdir(&mut self, path: &NPath) -> NameReply
-        ensures { NameActs self.old (NameCall.Mkdir path.now) result self.new }
-    {
-        if let Some(why) = self.mkdir_refusal(path) {
-            return NameReply::Refused(why);
-        }
-        let id = self.next_id();
-        match self.tree.mkdir(path, id) {
-            Err(NoMemory) => NameReply::Refused(NameRefusal::NoMemory),
-            Ok(()) => {
-                self.next += 1;
-                NameReply::Done
+        match Name::start(alloc, disk) {
+            Err(fault) => Err(fault),
+            Ok(name) => {
+                *self = name;
+                Ok(())
             }
         }
     }
 
-    fn mkdir_refusal(&self, path: &NPath) -> Option<NameRefusal>
-        ensures { result ≡ first_cause (mkdir_causes self.now path.now) }
+    /// How many directories and files stand, the root among them.
+    pub fn count(&self) -> u32
+        ensures count { result ≡ length self.now.store.table.rows }
+        // What the namesystem keeps by itself.
+        ensures rules { IsNames (service_of self.now) }
+        // The log is that of file 1.
+        ensures file { self.now.store.log.log.file ≡ 1 }
     {
-        if let Some(why) = to_be_made(&self.tree, path) {
+        self.store.tree().rows()
+    }
+
+    /// The number of this opening.
+    pub fn opening(&self) -> u32
+        ensures { result ≡ self.now.store.table.opening }
+    {
+        self.store.opening()
+    }
+
+    /// Answers a call of a user. A change settles the pending operation first, is written to the log,
+    /// and then takes effect. A refusal leaves all as it was, but that the settled operation may have
+    /// taken effect, and that after `StoreFault` at its own record the change is pending.
+    pub fn act<D: Disk>(&mut self, disk: &mut D, user: &Text, call: NameCall) -> NameReply
+        requires stands { Tells (D.state disk.old) → ((ops : List EditOp) × StandsFor (D.state disk.old) self.old ops) }
+        ensures { Acts (D.state disk.old) (D.state disk.new) self.old user.now call result self.new }
+    {
+        if let Some(why) = early_refusal(user, &call) {
+            return NameReply::Refused(why);
+        }
+        match call {
+            NameCall::Mkdir { path } => self.mkdir(disk, path),
+            NameCall::Delete { path, recursive } => self.delete(disk, path, recursive),
+            NameCall::Info { path } => self.info(&path),
+            NameCall::List { path } => self.list(&path),
+            NameCall::Zones => self.zones(),
+        }
+    }
+
+    fn info(&self, path: &NPath) -> NameReply
+        ensures { NameActs (names_of self.now) (NameCall.Info path.now) result (names_of self.now) }
+    {
+        info(self.store.tree(), path)
+    }
+
+    fn list(&self, path: &NPath) -> NameReply
+        ensures { NameActs (names_of self.now) (NameCall.List path.now) result (names_of self.now) }
+    {
+        let tree = self.store.tree();
+        if let Some(why) = to_be_listed(tree, path) {
+            return NameReply::Refused(why);
+        }
+        match tree.list(path) {
+            Err(NoMemory) => NameReply::Refused(NameRefusal::NoMemory),
+            Ok(children) => NameReply::List(children),
+        }
+    }
+
+    fn zones(&self) -> NameReply
+        ensures { NameActs (names_of self.now) NameCall.Zones result (names_of self.now) }
+    {
+        match self.store.zones() {
+            Err(NoMemory) => NameReply::Refused(NameRefusal::NoMemory),
+            Ok(zones) => NameReply::Zones(zones),
+        }
+    }
+
+    /// Settles the pending operation, if there is one. Where the disk fails it is still pending.
+    fn settle<D: Disk>(&mut self, disk: &mut D) -> Result<(), StoreRefusal>
+        requires stands { Tells (D.state disk.old) → ((ops : List EditOp) × StandsFor (D.state disk.old) self.old ops) }
+        ensures { MatchResult result (λ _. Settling (D.state disk.old) (D.state disk.new) self.old self.new) (λ _. IsUnsettled (D.state disk.old) (D.state disk.new) self.old self.new) }
+    {
+        // What the store keeps by itself.
+        let _ = self.store.tree();
+        self.store.settle(disk)
+    }
+
+    fn mkdir<D: Disk>(&mut self, disk: &mut D, path: NPath) -> NameReply
+        requires path { starts_reserved path ≡ false }
+        requires stands { Tells (D.state disk.old) → ((ops : List EditOp) × StandsFor (D.state disk.old) self.old ops) }
+        ensures { ActsOn (D.state disk.old) (D.state disk.new) self.old (NameCall.Mkdir path) result self.new }
+    {
+        match self.settle(disk) {
+            Err(_) => NameReply::Refused(NameRefusal::StoreFault),
+            Ok(()) => self.mkdir_settled(disk, path),
+        }
+    }
+
+    /// Makes a directory while nothing is pending.
+    fn mkdir_settled<D: Disk>(&mut self, disk: &mut D, path: NPath) -> NameReply
+        requires path { starts_reserved path ≡ false }
+        requires settled { self.old.store.log.pending ≡ None }
+        requires stands { Tells (D.state disk.old) → ((ops : List EditOp) × StandsFor (D.state disk.old) self.old ops) }
+        ensures { ActsSettled (D.state disk.old) (D.state disk.new) self.old (NameCall.Mkdir path) result self.new }
+    {
+        // What the namesystem keeps by itself.
+        let _ = self.count();
+        if let Some(why) = self.mkdir_refusal(&path) {
+            return NameReply::Refused(why);
+        }
+        let id = self.next_id();
+        let op = EditOp::Mkdir { id, path };
+        told(self.write(disk, &op, 1))
+    }
+
+    fn mkdir_refusal(&self, path: &NPath) -> Option<NameRefusal>
+        ensures { result ≡ first_cause (mkdir_causes (names_of self.now) path.now) }
+    {
+        if let Some(why) = to_be_made(self.store.tree(), path) {
             return Some(why);
         }
         if self.is_full() {
@@ -105,44 +222,91 @@ impl Name {
     }
 
     fn is_full(&self) -> bool
-        ensures { result ≡ is_full self.now }
+        ensures { result ≡ is_full (names_of self.now) }
     {
-        self.tree.rows() >= MOST_ROWS || self.is_spent()
+        self.store.tree().rows() >= MOST_ROWS || self.is_spent()
     }
 
     fn is_spent(&self) -> bool
-        ensures { result ≡ is_spent self.now }
+        ensures { result ≡ is_spent (names_of self.now) }
     {
         self.next >= IDS
     }
 
     fn next_id(&self) -> u64
-        requires { is_spent self.now ≡ false }
-        ensures { result ≡ next_id self.now }
+        requires { is_spent (names_of self.now) ≡ false }
+        ensures { result ≡ next_id (names_of self.now) }
     {
-        self.opening as u64 * IDS + self.next
+        self.store.opening() as u64 * IDS + self.next
+    }
+
+    fn delete<D: Disk>(&mut self, disk: &mut D, path: NPath, recursive: bool) -> NameReply
+        requires path { starts_reserved path ≡ false }
+        requires stands { Tells (D.state disk.old) → ((ops : List EditOp) × StandsFor (D.state disk.old) self.old ops) }
+        ensures { ActsOn (D.state disk.old) (D.state disk.new) self.old (NameCall.Delete path recursive) result self.new }
+    {
+        match self.settle(disk) {
+            Err(_) => NameReply::Refused(NameRefusal::StoreFault),
+            Ok(()) => self.delete_settled(disk, path, recursive),
+        }
+    }
+
+    /// Deletes what stands at a path while nothing is pending.
+    fn delete_settled<D: Disk>(&mut self, disk: &mut D, path: NPath, recursive: bool) -> NameReply
+        requires path { starts_reserved path ≡ false }
+        requires settled { self.old.store.log.pending ≡ None }
+        requires stands { Tells (D.state disk.old) → ((ops : List EditOp) × StandsFor (D.state disk.old) self.old ops) }
+        ensures { ActsSettled (D.state disk.old) (D.state disk.new) self.old (NameCall.Delete path recursive) result self.new }
+    {
+        // What the namesystem keeps by itself.
+        let _ = self.count();
+        if let Some(why) = self.delete_refusal(&path, recursive) {
+            return NameReply::Refused(why);
+        }
+        let op = EditOp::Remove { path };
+        told(self.write(disk, &op, 0))
+    }
+
+    fn delete_refusal(&self, path: &NPath, recursive: bool) -> Option<NameRefusal>
+        ensures { result ≡ first_cause (delete_causes self.now.store.table.rows path.now recursive) }
+    {
+        to_be_deleted(self.store.tree(), path, recursive)
+    }
+
+    /// Writes the operation of a call, all being checked, while nothing is pending. Unless memory is
+    /// wanting, so many ids are used up.
+    fn write<D: Disk>(&mut self, disk: &mut D, op: &EditOp, ids: u64) -> Result<(), StoreRefusal>
+        requires may { MayWrite (names_of self.old) op.now (record (names_of self.old) { next = self.old.next + ids }) }
+        requires settled { self.old.store.log.pending ≡ None }
+        requires stands { Tells (D.state disk.old) → ((ops : List EditOp) × StandsFor (D.state disk.old) self.old ops) }
+        ensures { Writes (D.state disk.old) (D.state disk.new) self.old (record (names_of self.old) { next = self.old.next + ids }) op.now result self.new }
+    {
+        match self.store.commit(self.alloc, disk, op) {
+            Err(StoreRefusal::NoMemory) => Err(StoreRefusal::NoMemory),
+            Err(StoreRefusal::StoreFault) => {
+                self.next += ids;
+                Err(StoreRefusal::StoreFault)
+            }
+            Ok(()) => {
+                self.next += ids;
+                Ok(())
+            }
+        }
     }
 }
 
 impl Name {
     /// Makes an ask of a user, the first of its three parts. The note tells its id and the call of
     /// the key management service that is wanted before it is finished. A refusal leaves all as it
-    /// was.
+    /// was. It reads the rows without the pending operation, and asks nothing of the disk.
     pub fn ask(&mut self, user: &Text, ask: Ask) -> Result<AskNote, NameRefusal>
-        ensures { Asks self.old user.now ask result self.new }
+        ensures asks { Asks (names_of self.old) user.now ask result (names_of self.new) }
+        ensures store { self.new.store ≡ self.old.store }
     {
         if let Some(why) = self.ask_refusal(user, &ask) {
             return Err(why);
         }
-        let id = self.next_id();
-        let zone = self.tree.zone_of(path_asked(&ask));
-        let want = wanted(&self.tree, &ask);
-        let opened = OpenAsk {
-            id,
-            ask,
-            zone,
-            want,
-        };
+        let opened = self.opened(ask);
         let note = opened.note();
         match self.asks.push(opened) {
             Err(NoMemory) => Err(NameRefusal::NoMemory),
@@ -153,22 +317,50 @@ impl Name {
         }
     }
 
+    /// An ask with the next id.
+    fn opened(&self, ask: Ask) -> OpenAsk
+        requires { is_spent (names_of self.now) ≡ false }
+        ensures { result ≡ opened (names_of self.now) ask }
+    {
+        let tree = self.store.tree();
+        let zone = tree.zone_of(path_asked(&ask));
+        let want = wanted(tree, &ask);
+        OpenAsk {
+            id: self.next_id(),
+            ask,
+            zone,
+            want,
+        }
+    }
+
     fn ask_refusal(&self, user: &Text, ask: &Ask) -> Option<NameRefusal>
-        ensures { result ≡ first_cause (ask_causes self.now user.now ask.now) }
+        ensures { result ≡ first_cause (ask_causes (names_of self.now) user.now ask.now) }
     {
         match ask {
-            Ask::Create { path } => self.mkdir_refusal(path),
+            Ask::Create { path } => self.file_refusal(path),
             Ask::Zone { path, .. } => self.zone_refusal(user, path),
         }
     }
 
-    fn zone_refusal(&self, user: &Text, path: &NPath) -> Option<NameRefusal>
-        ensures { (key : KeyName) → result ≡ first_cause (ask_causes self.now user.now (Ask.Zone path.now key)) }
+    fn file_refusal(&self, path: &NPath) -> Option<NameRefusal>
+        ensures { (user : Text) → result ≡ first_cause (ask_causes (names_of self.now) user (Ask.Create path.now)) }
     {
+        if let Some(why) = path_refusal(path) {
+            return Some(why);
+        }
+        self.mkdir_refusal(path)
+    }
+
+    fn zone_refusal(&self, user: &Text, path: &NPath) -> Option<NameRefusal>
+        ensures { (key : KeyName) → result ≡ first_cause (ask_causes (names_of self.now) user.now (Ask.Zone path.now key)) }
+    {
+        if let Some(why) = path_refusal(path) {
+            return Some(why);
+        }
         if !is_superuser(user) {
             return Some(NameRefusal::NotSuperuser);
         }
-        if let Some(why) = to_be_zone(&self.tree, path) {
+        if let Some(why) = to_be_zone(self.store.tree(), path) {
             return Some(why);
         }
         if self.is_spent() {
@@ -179,57 +371,148 @@ impl Name {
 
     /// Finishes the ask that a reply of the key management service answers, the last of its three
     /// parts: makes the file, with the encrypted key of the reply, or marks the zone. All is checked
-    /// again. The ask is open no more afterwards, but where none was open under the id and where
-    /// memory is wanting: then all is as it was. A zone takes no memory.
-    pub fn finish(&mut self, answered: Answered) -> Result<(), NameRefusal>
-        ensures { Finishes self.old answered.id (answer_of answered.reply) result self.new }
+    /// again, behind the settling of the pending operation. The ask is open no more afterwards, but
+    /// where none was open under the id and where memory is wanting.
+    pub fn finish<D: Disk>(&mut self, disk: &mut D, answered: Answered) -> Result<(), NameRefusal>
+        requires stands { Tells (D.state disk.old) → ((ops : List EditOp) × StandsFor (D.state disk.old) self.old ops) }
+        ensures { FinishActs (D.state disk.old) (D.state disk.new) self.old answered.id (answer_of answered.reply) result self.new }
     {
         let answer = answered.answer();
-        self.finish_with(answered.id, answer)
+        self.finish_with(disk, answered.id, answer)
     }
 
     /// The same by what the reply says alone.
-    pub fn finish_with(&mut self, id: u64, answer: KeyAnswer) -> Result<(), NameRefusal>
-        ensures { Finishes self.old id answer result self.new }
+    pub fn finish_with<D: Disk>(
+        &mut self,
+        disk: &mut D,
+        id: u64,
+        answer: KeyAnswer,
+    ) -> Result<(), NameRefusal>
+        requires stands { Tells (D.state disk.old) → ((ops : List EditOp) × StandsFor (D.state disk.old) self.old ops) }
+        ensures { FinishActs (D.state disk.old) (D.state disk.new) self.old id answer result self.new }
     {
+        if !self.is_open(id) {
+            return Err(self.ask_gone());
+        }
         match answer {
-            KeyAnswer::Refused(why) => self.give_up(id, why),
-            KeyAnswer::Given(edek) => self.conclude(id, edek),
+            KeyAnswer::Refused(why) => {
+                self.close(id);
+                Err(NameRefusal::KeyRefused(why))
+            }
+            KeyAnswer::Given(edek) => self.conclude(disk, id, edek),
         }
     }
 
+    fn is_open(&self, id: u64) -> bool
+        ensures { result ≡ is_some (open_ask self.now.asks id) }
+    {
+        self.asks.get(id).is_some()
+    }
+
+    /// Takes an ask away.
+    fn close(&mut self, id: u64)
+        ensures { self.new ≡ record self.old { asks = without self.old.asks id } }
+    {
+        self.asks.remove(id);
+    }
+
     fn ask_gone(&self) -> NameRefusal
-        ensures { result ≡ NameRefusal.AskGone self.now.table.opening self.now.next }
+        ensures { result ≡ ask_gone (names_of self.now) }
     {
         NameRefusal::AskGone {
-            opening: self.opening,
+            opening: self.store.opening(),
             next: self.next,
         }
     }
 
-    /// Takes away an ask whose call was refused.
-    fn give_up(&mut self, id: u64, why: KmsRefusal) -> Result<(), NameRefusal>
-        ensures { Finishes self.old id (KeyAnswer.Refused why) result self.new }
+    /// Finishes an open ask whose call was answered.
+    fn conclude<D: Disk>(
+        &mut self,
+        disk: &mut D,
+        id: u64,
+        edek: Option<Edek>,
+    ) -> Result<(), NameRefusal>
+        requires asked { is_some (open_ask self.old.asks id) ≡ true }
+        requires stands { Tells (D.state disk.old) → ((ops : List EditOp) × StandsFor (D.state disk.old) self.old ops) }
+        ensures { FinishActs (D.state disk.old) (D.state disk.new) self.old id (KeyAnswer.Given edek) result self.new }
     {
-        let Some(_ask) = self.asks.get(id) else {
-            return Err(self.ask_gone());
-        };
-        self.asks.remove(id);
-        Err(NameRefusal::KeyRefused(why))
+        match self.settle(disk) {
+            Err(_) => {
+                self.close(id);
+                Err(NameRefusal::StoreFault)
+            }
+            Ok(()) => self.conclude_settled(disk, id, edek),
+        }
     }
 
-    fn conclude(&mut self, id: u64, edek: Option<Edek>) -> Result<(), NameRefusal>
-        ensures { Finishes self.old id (KeyAnswer.Given edek) result self.new }
+    /// Finishes an open ask while nothing is pending.
+    fn conclude_settled<D: Disk>(
+        &mut self,
+        disk: &mut D,
+        id: u64,
+        edek: Option<Edek>,
+    ) -> Result<(), NameRefusal>
+        requires asked { is_some (open_ask self.old.asks id) ≡ true }
+        requires settled { self.old.store.log.pending ≡ None }
+        requires stands { Tells (D.state disk.old) → ((ops : List EditOp) × StandsFor (D.state disk.old) self.old ops) }
+        ensures { (ask : OpenAsk) → open_ask self.old.asks id ≡ Some ask → FinishesSettled (D.state disk.old) (D.state disk.new) self.old ask edek result self.new }
     {
-        let Some(ask) = self.asks.get(id) else {
-            return Err(self.ask_gone());
-        };
-        if let Some(why) = to_be_finished(&self.tree, ask) {
-            self.asks.remove(id);
+        // What the namesystem keeps by itself.
+        let _ = self.count();
+        if let Some(why) = self.finish_refusal(id, &edek) {
+            self.close(id);
             return Err(why);
         }
-        match finish_on(&mut self.tree, ask, edek) {
+        match self.finish_op(id, edek) {
             Err(NoMemory) => Err(NameRefusal::NoMemory),
+            Ok(op) => finished(self.write_finish(disk, id, &op)),
+        }
+    }
+
+    /// The open ask that has the id.
+    fn open_ask(&self, id: u64) -> &OpenAsk
+        requires { is_some (open_ask self.now.asks id) ≡ true }
+        ensures { open_ask self.now.asks id ≡ Some result.now }
+    {
+        match self.asks.get(id) {
+            None => unreachable!(),
+            Some(ask) => ask,
+        }
+    }
+
+    fn finish_refusal(&self, id: u64, edek: &Option<Edek>) -> Option<NameRefusal>
+        requires { is_some (open_ask self.now.asks id) ≡ true }
+        ensures { (ask : OpenAsk) → open_ask self.now.asks id ≡ Some ask → result ≡ first_cause (finish_causes self.now.store.table.rows ask edek.now ask.ask) }
+    {
+        to_be_finished(self.store.tree(), self.open_ask(id), edek)
+    }
+
+    fn finish_op(&self, id: u64, edek: Option<Edek>) -> Result<EditOp, NoMemory>
+        requires { is_some (open_ask self.now.asks id) ≡ true }
+        ensures { (ask : OpenAsk) → open_ask self.now.asks id ≡ Some ask → IfOk result (λ op. op ≡ finish_op ask.id edek ask.ask) }
+    {
+        finish_op(self.alloc, self.open_ask(id), edek)
+    }
+
+    /// Writes the operation of a finish, all being checked, while nothing is pending. Unless memory is
+    /// wanting, the ask is open no more.
+    fn write_finish<D: Disk>(
+        &mut self,
+        disk: &mut D,
+        id: u64,
+        op: &EditOp,
+    ) -> Result<(), StoreRefusal>
+        requires may { MayWrite (names_of self.old) op.now (closed (names_of self.old) id) }
+        requires settled { self.old.store.log.pending ≡ None }
+        requires stands { Tells (D.state disk.old) → ((ops : List EditOp) × StandsFor (D.state disk.old) self.old ops) }
+        ensures { Writes (D.state disk.old) (D.state disk.new) self.old (closed (names_of self.old) id) op.now result self.new }
+    {
+        match self.store.commit(self.alloc, disk, op) {
+            Err(StoreRefusal::NoMemory) => Err(StoreRefusal::NoMemory),
+            Err(StoreRefusal::StoreFault) => {
+                self.asks.remove(id);
+                Err(StoreRefusal::StoreFault)
+            }
             Ok(()) => {
                 self.asks.remove(id);
                 Ok(())
@@ -238,43 +521,43 @@ impl Name {
     }
 }
 
-/// Adds the file of an ask, or marks the directory of its zone, all being checked.
-fn finish_on(tree: &mut Tree, ask: &OpenAsk, edek: Option<Edek>) -> Result<(), NoMemory>
-    requires allowed { first_cause (finish_causes tree.old ask.now ask.now.ask) ≡ None }
-    requires fresh { entry_of tree.old ask.now.id ≡ None }
-    ensures ok { OnOk result (tree.new ≡ finished_rows tree.old ask.now.id edek ask.now.ask) }
-    ensures err { OnErr result ((tree.new ≡ tree.old) × MakesFile tree.old ask.now ask.now.ask) }
+/// What a refusal of the store is told as.
+fn refusal(why: StoreRefusal) -> NameRefusal
+    ensures { result ≡ refusal_of why }
 {
-    match &ask.ask {
-        Ask::Create { path } => tree.add_file(path, ask.id, edek),
-        Ask::Zone { path, key } => {
-            mark_zone(tree, path, *key);
-            Ok(())
-        }
+    match why {
+        StoreRefusal::NoMemory => NameRefusal::NoMemory,
+        StoreRefusal::StoreFault => NameRefusal::StoreFault,
     }
 }
 
-/// Marks an empty directory that lies in no zone.
-fn mark_zone(tree: &mut Tree, path: &NPath, key: KeyName)
-    requires { first_cause (zone_causes tree.old path.now) ≡ None }
-    ensures { (id : ℕ) (edek : Option Edek) → tree.new ≡ finished_rows tree.old id edek (Ask.Zone path.now key) }
+/// What a change is told, once its operation was to be written.
+fn told(written: Result<(), StoreRefusal>) -> NameReply
+    ensures { result ≡ told_of written }
 {
-    if let Some(row) = tree.find(path) {
-        // Each id is that of one row.
-        let _ = tree.rows();
-        tree.set_key(row.id, key);
+    match written {
+        Ok(()) => NameReply::Done,
+        Err(why) => NameReply::Refused(refusal(why)),
+    }
+}
+
+/// What a finish is told, once its operation was to be written.
+fn finished(written: Result<(), StoreRefusal>) -> Result<(), NameRefusal>
+    ensures { result ≡ finish_told written }
+{
+    match written {
+        Ok(()) => Ok(()),
+        Err(why) => Err(refusal(why)),
     }
 }
 
 #[cfg(test)]
 impl Name {
-    /// The root alone, in a first opening that has one id left.
-    pub fn with_one_id(alloc: Global) -> Result<Name, NoMemory> {
-        Ok(Name {
-            tree: Tree::new(alloc)?,
-            opening: 1,
-            next: IDS - 1,
-            asks: OpenAsks::new(alloc),
-        })
+    /// Leaves one id of this opening.
+    #[tactic(auto, using(crate::proofs::KeepLemmas::keeps_later))]
+    pub fn skip_ids(&mut self) {
+        if self.next < IDS - 1 {
+            self.next = IDS - 1;
+        }
     }
 }

@@ -1,18 +1,65 @@
 //! What the rows of a tree say of a path.
-ghost use Rattle.std.specs.Prelude.{◌≡◌, IsTrue, MatchResult, is_some};
+ghost use Rattle.std.specs.Prelude.{◌≡◌, ℕ, IfOk, IsTrue, MatchResult, Option, Some, is_some};
+ghost use Rattle.inode_tree.specs.Paths.{starts_reserved};
 ghost use Rattle.inode_tree.specs.Rows.{mark_of};
-ghost use Rattle.name_core.specs.Asks.{finish_causes, is_other_zone, is_superuser, key_of_zone, path_asked, wanted, zone_causes};
-ghost use Rattle.name_core.specs.Calls.{first_cause, path_of_zone, shown, to_be_made};
-ghost use Rattle.name_core.specs.Steps.{Tells};
+ghost use Rattle.name_store.specs.Table.{fits_zone, key_of_zone};
+ghost use Rattle.name_core.specs.Asks.{finish_causes, finish_op, is_other_key, is_other_zone, path_asked, wanted, zone_causes};
+ghost use Rattle.name_core.specs.Calls.{delete_causes, early_causes, first_cause, is_superuser, list_causes, path_causes, path_of_zone, shown, to_be_made};
+ghost use Rattle.name_core.specs.Steps.{TellsOf};
 
 use crate::asks::OpenAsk;
-use crate::calls::{Ask, NameRefusal, NameReply, Want};
+use crate::calls::{Ask, NameCall, NameRefusal, NameReply, Want};
+use edit_ops::EditOp;
 use hk_base::{Edek, KeyName, NoMemory, Text};
 use inode_tree::{Kind, MOST_ROWS, NPath, Row, Tree};
+use std::alloc::Global;
+
+/// Whether the first name of a path is `.reserved`.
+fn is_reserved(path: &NPath) -> bool
+    ensures { result ≡ starts_reserved path.now }
+{
+    if path.is_root() {
+        return false;
+    }
+    path.name(0).as_str().as_bytes() == b".reserved".as_slice()
+}
+
+/// Why no call speaks of a path: its first name is `.reserved`.
+pub fn path_refusal(path: &NPath) -> Option<NameRefusal>
+    ensures { result ≡ first_cause (path_causes path.now) }
+{
+    if is_reserved(path) {
+        return Some(NameRefusal::BadPath);
+    }
+    None
+}
+
+/// Why a call is refused before the pending operation is settled.
+pub fn early_refusal(user: &Text, call: &NameCall) -> Option<NameRefusal>
+    ensures { result ≡ first_cause (early_causes user.now call.now) }
+{
+    match call {
+        NameCall::Mkdir { path } => path_refusal(path),
+        NameCall::Delete { path, .. } => path_refusal(path),
+        NameCall::Info { path } => path_refusal(path),
+        NameCall::List { path } => path_refusal(path),
+        NameCall::Zones => zones_refusal(user),
+    }
+}
+
+/// Why the zones are not told: the superuser alone may ask for them.
+fn zones_refusal(user: &Text) -> Option<NameRefusal>
+    ensures { result ≡ first_cause (early_causes user.now NameCall.Zones) }
+{
+    if !is_superuser(user) {
+        return Some(NameRefusal::NotSuperuser);
+    }
+    None
+}
 
 /// Why a path can not be made: its own directory has to stand and be one, and the path to be free.
 pub fn to_be_made(tree: &Tree, path: &NPath) -> Option<NameRefusal>
-    ensures { result ≡ first_cause (to_be_made tree.now path.now) }
+    ensures { result ≡ first_cause (to_be_made tree.now.rows path.now) }
 {
     let Some(above) = tree.find_parent(path) else {
         return Some(NameRefusal::NoSuchPath);
@@ -26,9 +73,39 @@ pub fn to_be_made(tree: &Tree, path: &NPath) -> Option<NameRefusal>
     None
 }
 
+/// Why a path can not be deleted: it has to stand and not to be the root, and a directory to be empty
+/// unless what is in it goes too.
+pub fn to_be_deleted(tree: &Tree, path: &NPath, recursive: bool) -> Option<NameRefusal>
+    ensures { result ≡ first_cause (delete_causes tree.now.rows path.now recursive) }
+{
+    if path.len() == 0 {
+        return Some(NameRefusal::RootOrInside);
+    }
+    if tree.find(path).is_none() {
+        return Some(NameRefusal::NoSuchPath);
+    }
+    if !recursive && tree.has_children(path) {
+        return Some(NameRefusal::NotEmpty);
+    }
+    None
+}
+
+/// Why a path can not be listed: a directory has to stand there.
+pub fn to_be_listed(tree: &Tree, path: &NPath) -> Option<NameRefusal>
+    ensures { result ≡ first_cause (list_causes tree.now.rows path.now) }
+{
+    let Some(row) = tree.find(path) else {
+        return Some(NameRefusal::NoSuchPath);
+    };
+    if !row.kind.is_dir() {
+        return Some(NameRefusal::NotADirectory);
+    }
+    None
+}
+
 /// What stands at a path. It takes memory only where the path lies in a zone.
 pub fn info(tree: &Tree, path: &NPath) -> NameReply
-    ensures { Tells tree.now path.now result }
+    ensures { TellsOf tree.now.rows path.now result }
 {
     let Some(row) = tree.find(path) else {
         return NameReply::Refused(NameRefusal::NoSuchPath);
@@ -41,7 +118,7 @@ pub fn info(tree: &Tree, path: &NPath) -> NameReply
 
 /// The path of the zone that a path lies in.
 fn zone_path(tree: &Tree, path: &NPath) -> Result<Option<NPath>, NoMemory>
-    ensures { MatchResult result (λ zone. zone ≡ path_of_zone tree.now path.now) (λ why. IsTrue (is_some (path_of_zone tree.now path.now))) }
+    ensures { MatchResult result (λ zone. zone ≡ path_of_zone tree.now.rows path.now) (λ why. IsTrue (is_some (path_of_zone tree.now.rows path.now))) }
 {
     // Each id is that of one row.
     let _ = tree.rows();
@@ -62,7 +139,7 @@ fn shown(row: Row, zone: Option<NPath>) -> NameReply
     }
 }
 
-/// Whether the user is the one who alone makes zones.
+/// Whether the user is the one who alone makes zones and asks for them.
 pub fn is_superuser(user: &Text) -> bool
     ensures { result ≡ is_superuser user.now }
 {
@@ -71,7 +148,7 @@ pub fn is_superuser(user: &Text) -> bool
 
 /// Why a directory can not become a zone: it has to stand, to be empty, and to lie in no zone.
 pub fn to_be_zone(tree: &Tree, path: &NPath) -> Option<NameRefusal>
-    ensures { result ≡ first_cause (zone_causes tree.now path.now) }
+    ensures { result ≡ first_cause (zone_causes tree.now.rows path.now) }
 {
     let Some(row) = tree.find(path) else {
         return Some(NameRefusal::NoSuchPath);
@@ -100,7 +177,7 @@ pub fn path_asked(ask: &Ask) -> &NPath
 
 /// The key of the zone that a path lies in.
 fn key_of_zone(tree: &Tree, path: &NPath) -> Option<KeyName>
-    ensures { result ≡ key_of_zone tree.now path.now }
+    ensures { result ≡ key_of_zone tree.now.rows path.now }
 {
     // Each id is that of one row.
     let _ = tree.rows();
@@ -125,7 +202,7 @@ fn mark(kind: Kind) -> Option<KeyName>
 
 /// The call of the key management service that an ask wants.
 pub fn wanted(tree: &Tree, ask: &Ask) -> Want
-    ensures { result ≡ wanted tree.now ask.now }
+    ensures { result ≡ wanted tree.now.rows ask.now }
 {
     match ask {
         Ask::Create { path } => match key_of_zone(tree, path) {
@@ -138,28 +215,66 @@ pub fn wanted(tree: &Tree, ask: &Ask) -> Want
 
 /// Whether the path of an ask lies in another zone than when the ask was made.
 fn is_other_zone(tree: &Tree, ask: &OpenAsk) -> bool
-    ensures { result ≡ is_other_zone tree.now ask.now }
+    ensures { result ≡ is_other_zone tree.now.rows ask.now }
 {
     tree.zone_of(path_asked(&ask.ask)) != ask.zone
 }
 
+/// Whether an encrypted key was given exactly where there is a key to a zone, and is one of that key.
+fn fits_zone(key: Option<KeyName>, edek: &Option<Edek>) -> bool
+    ensures { result ≡ fits_zone key edek.now }
+{
+    match key {
+        None => edek.is_none(),
+        Some(key) => is_of_key(&key, edek),
+    }
+}
+
+/// Whether an encrypted key was given and is one of this key.
+fn is_of_key(key: &KeyName, edek: &Option<Edek>) -> bool
+    ensures { result ≡ fits_zone (Some key.now) edek.now }
+{
+    match edek {
+        None => false,
+        Some(edek) => edek.version.key.as_bytes() == key.as_bytes(),
+    }
+}
+
+/// Whether the encrypted key that was given is none of the zone's key, or one is missing or too much.
+fn is_other_key(tree: &Tree, path: &NPath, edek: &Option<Edek>) -> bool
+    ensures { result ≡ is_other_key tree.now.rows path.now edek.now }
+{
+    !fits_zone(key_of_zone(tree, path), edek)
+}
+
 /// Why an ask can not be finished: all is checked again, but who asked.
-pub fn to_be_finished(tree: &Tree, ask: &OpenAsk) -> Option<NameRefusal>
-    ensures { result ≡ first_cause (finish_causes tree.now ask.now ask.now.ask) }
+pub fn to_be_finished(tree: &Tree, ask: &OpenAsk, edek: &Option<Edek>) -> Option<NameRefusal>
+    ensures { result ≡ first_cause (finish_causes tree.now.rows ask.now edek.now ask.now.ask) }
 {
     match &ask.ask {
-        Ask::Create { path } => file_refusal(tree, ask, path),
+        Ask::Create { path } => file_refusal(tree, ask, edek, path),
         Ask::Zone { path, .. } => zone_refusal(tree, ask, path),
     }
 }
 
-fn file_refusal(tree: &Tree, ask: &OpenAsk, path: &NPath) -> Option<NameRefusal>
-    ensures { result ≡ first_cause (finish_causes tree.now ask.now (Ask.Create path.now)) }
+fn file_refusal(
+    tree: &Tree,
+    ask: &OpenAsk,
+    edek: &Option<Edek>,
+    path: &NPath,
+) -> Option<NameRefusal>
+    ensures { result ≡ first_cause (finish_causes tree.now.rows ask.now edek.now (Ask.Create path.now)) }
 {
+    if let Some(why) = path_refusal(path) {
+        return Some(why);
+    }
     if let Some(why) = to_be_made(tree, path) {
         return Some(why);
     }
     if is_other_zone(tree, ask) {
+        return Some(NameRefusal::ZoneChanged);
+    }
+    if is_other_key(tree, path, edek) {
         return Some(NameRefusal::ZoneChanged);
     }
     if tree.rows() >= MOST_ROWS {
@@ -169,8 +284,11 @@ fn file_refusal(tree: &Tree, ask: &OpenAsk, path: &NPath) -> Option<NameRefusal>
 }
 
 fn zone_refusal(tree: &Tree, ask: &OpenAsk, path: &NPath) -> Option<NameRefusal>
-    ensures { (key : KeyName) → result ≡ first_cause (finish_causes tree.now ask.now (Ask.Zone path.now key)) }
+    ensures { (edek : Option Edek) (key : KeyName) → result ≡ first_cause (finish_causes tree.now.rows ask.now edek (Ask.Zone path.now key)) }
 {
+    if let Some(why) = path_refusal(path) {
+        return Some(why);
+    }
     if let Some(why) = to_be_zone(tree, path) {
         return Some(why);
     }
@@ -178,4 +296,37 @@ fn zone_refusal(tree: &Tree, ask: &OpenAsk, path: &NPath) -> Option<NameRefusal>
         return Some(NameRefusal::ZoneChanged);
     }
     None
+}
+
+/// The operation that finishes an ask: makes its file, or marks the directory of its zone.
+pub fn finish_op(alloc: Global, ask: &OpenAsk, edek: Option<Edek>) -> Result<EditOp, NoMemory>
+    ensures { IfOk result (λ op. op ≡ finish_op ask.now.id edek ask.now.ask) }
+{
+    match &ask.ask {
+        Ask::Create { path } => Ok(EditOp::File {
+            id: ask.id,
+            path: copy_of(alloc, path)?,
+            edek,
+        }),
+        Ask::Zone { path, key } => Ok(EditOp::Zone {
+            path: copy_of(alloc, path)?,
+            key: *key,
+        }),
+    }
+}
+
+fn copy_of(alloc: Global, path: &NPath) -> Result<NPath, NoMemory>
+    ensures { IfOk result (λ copy. copy ≡ path.now) }
+{
+    let mut copy = NPath::root(alloc);
+    for k in 0..path.len() {
+        copy.push(copy_of_name(alloc, path.name(k))?)?;
+    }
+    Ok(copy)
+}
+
+fn copy_of_name(alloc: Global, name: &Text) -> Result<Text, NoMemory>
+    ensures { IfOk result (λ copy. copy ≡ name.now) }
+{
+    Ok(Text::of(String::from_str(alloc, name.as_str())?))
 }

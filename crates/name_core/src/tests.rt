@@ -1,7 +1,9 @@
 //! What calls, asks and finishes answer, what they are refused for, and what they leave.
 mod asks;
 mod calls;
+mod faults;
 mod finishes;
+mod untold;
 
 use super::*;
 use hk_base::{ByteList, Dek, Edek, Iv, KeyName, Text, VersionName};
@@ -9,6 +11,7 @@ use inode_tree::NPath;
 use key_rows::{Description, EdekList, KeyMeta, KmsReply};
 use std::alloc::Global;
 use std::process::Abort;
+use untold::Untold;
 
 /// The id that the first directory gets.
 const FIRST_ID: u64 = 4294967297;
@@ -52,10 +55,11 @@ fn path(rt: &impl Abort, alloc: Global, text: &str) -> NPath {
     NPath::read(alloc, text.as_bytes()).expect(rt, "a path")
 }
 
-/// A namesystem, and two users who call it: alice and the superuser.
+/// A namesystem on its disk, and two users who call it: alice and the superuser.
 #[derive(Drop)]
 struct Desk {
     alloc: Global,
+    disk: Untold,
     name: Name,
     alice: Text,
     hdfs: Text,
@@ -63,28 +67,51 @@ struct Desk {
 
 impl Desk {
     fn new(rt: &impl Abort, alloc: Global) -> Desk {
-        Desk::with(rt, alloc, Name::new(alloc).expect(rt, "memory"))
+        Desk::failing(rt, alloc, &[])
     }
 
-    fn with(rt: &impl Abort, alloc: Global, name: Name) -> Desk {
-        let alice = user(rt, alloc, "alice");
-        let hdfs = user(rt, alloc, "hdfs");
+    /// One whose disk fails at these calls. The start makes 8 of them, each change 4, and settling 2.
+    fn failing(rt: &impl Abort, alloc: Global, calls: &[u64]) -> Desk {
+        let calls = calls.to_vec(alloc).expect(rt, "memory");
+        let mut disk = Untold::new(alloc, calls);
         Desk {
             alloc,
-            name,
-            alice,
-            hdfs,
+            name: Name::start(alloc, &mut disk).expect(rt, "a start"),
+            disk,
+            alice: user(rt, alloc, "alice"),
+            hdfs: user(rt, alloc, "hdfs"),
         }
+    }
+
+    /// Starts the namesystem again on the same disk.
+    fn restart(&mut self, rt: &impl Abort) {
+        let restarted = self.name.restart(self.alloc, &mut self.disk);
+        restarted.expect(rt, "a start");
+    }
+
+    /// The answer to a call of alice.
+    fn call(&mut self, call: NameCall) -> NameReply {
+        self.name.act(&mut self.disk, &self.alice, call)
     }
 
     fn mkdir(&mut self, rt: &impl Abort, text: &str) -> NameReply {
         let path = path(rt, self.alloc, text);
-        self.name.act(&self.alice, NameCall::Mkdir { path })
+        self.call(NameCall::Mkdir { path })
+    }
+
+    fn delete(&mut self, rt: &impl Abort, text: &str, recursive: bool) -> NameReply {
+        let path = path(rt, self.alloc, text);
+        self.call(NameCall::Delete { path, recursive })
     }
 
     fn info(&mut self, rt: &impl Abort, text: &str) -> NameReply {
         let path = path(rt, self.alloc, text);
-        self.name.act(&self.alice, NameCall::Info { path })
+        self.call(NameCall::Info { path })
+    }
+
+    fn list(&mut self, rt: &impl Abort, text: &str) -> NameReply {
+        let path = path(rt, self.alloc, text);
+        self.call(NameCall::List { path })
     }
 
     fn create(&mut self, rt: &impl Abort, text: &str) -> Result<AskNote, NameRefusal> {
@@ -111,7 +138,13 @@ impl Desk {
     }
 
     fn finish(&mut self, id: u64, reply: Option<KmsReply>) -> Result<(), NameRefusal> {
-        self.name.finish(Answered { id, reply })
+        self.name.finish(&mut self.disk, Answered { id, reply })
+    }
+
+    /// Makes a file outside all zones.
+    fn make_file(&mut self, rt: &impl Abort, text: &str) {
+        let id = self.ask_file(rt, text);
+        self.finish(id, None).expect(rt, "a file");
     }
 
     /// Makes a directory and makes it a zone, which takes two ids.

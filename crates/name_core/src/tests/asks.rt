@@ -91,8 +91,8 @@ fn the_root_may_be_a_zone_while_it_is_empty(rt: HostRuntime) {
 #[test]
 fn asks_use_up_the_ids_of_an_opening(rt: HostRuntime) {
     let alloc = rt.alloc();
-    let name = Name::with_one_id(alloc).expect(&rt, "memory");
-    let mut desk = Desk::with(&rt, alloc, name);
+    let mut desk = Desk::new(&rt, alloc);
+    desk.name.skip_ids();
     let told = desk.create(&rt, "/f");
     assert_note(&rt, told, LAST_ID, Want::Nothing);
     let full = NameRefusal::TooManyInodes;

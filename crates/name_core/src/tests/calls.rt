@@ -1,8 +1,5 @@
 //! What the calls answer, and what is told of zones and files.
 use super::*;
-use crate::rules::{info, to_be_made};
-use hk_base::NoMemory;
-use inode_tree::{Kind, MOST_ROWS, Row, Tree};
 
 #[test]
 fn directories_get_rising_ids(rt: HostRuntime) {
@@ -34,104 +31,121 @@ fn a_refused_call_changes_nothing(rt: HostRuntime) {
 #[test]
 fn an_opening_has_so_many_ids(rt: HostRuntime) {
     let alloc = rt.alloc();
-    let mut desk = Desk::with(&rt, alloc, Name::with_one_id(alloc).expect(&rt, "memory"));
+    let mut desk = Desk::new(&rt, alloc);
+    desk.name.skip_ids();
     assert_done(&rt, desk.mkdir(&rt, "/a"));
     assert_refused(&rt, desk.mkdir(&rt, "/b"), NameRefusal::TooManyInodes);
     assert_refused(&rt, desk.mkdir(&rt, "/a"), NameRefusal::Exists);
     assert_directory(&rt, alloc, desk.info(&rt, "/a"), LAST_ID, "", None);
 }
 
-/// Adds a row where the rules allow it.
-fn offer(tree: &mut Tree, path: &NPath, row: Row) -> Result<bool, NoMemory> {
-    match to_be_made(tree, path) {
-        Some(_) => return Ok(false),
-        None => {}
-    }
-    match tree.row(row.id) {
-        Some(_) => return Ok(false),
-        None => {}
-    }
-    if tree.rows() >= MOST_ROWS {
-        return Ok(false);
-    }
-    let Row { id, kind } = row;
-    match kind {
-        Kind::Dir { .. } => tree.mkdir(path, id)?,
-        Kind::File { edek } => tree.add_file(path, id, edek)?,
-    }
-    Ok(true)
-}
-
-/// Marks the directory that has the id, where one has it.
-fn mark(tree: &mut Tree, id: u64, key: KeyName) -> bool {
-    match tree.row(id) {
-        Some(row) => {
-            if !row.kind.is_dir() {
-                return false;
-            }
-        }
-        None => return false,
-    }
-    tree.set_key(id, key);
-    true
-}
-
-fn directory(id: u64) -> Row {
-    let kind = Kind::Dir { key: None };
-    Row { id, kind }
-}
-
-fn file(id: u64, edek: Option<Edek>) -> Row {
-    let kind = Kind::File { edek };
-    Row { id, kind }
-}
-
-/// A zone with a directory and a file in it, and a file outside.
-fn zone(rt: &impl Abort, alloc: Global) -> Tree {
-    let mut tree = Tree::new(alloc).expect(rt, "memory");
-    for (text, row) in [
-        ("/zone", directory(7)),
-        ("/zone/sub", directory(8)),
-        ("/zone/sub/secret", file(9, Some(encrypted(rt, 7)))),
-        ("/plain", file(10, None)),
-    ] {
-        let added = offer(&mut tree, &path(rt, alloc, text), row);
-        assert!(rt; added.expect(rt, "memory"));
-    }
-    assert!(rt; mark(&mut tree, 7, key_name(rt)));
-    tree
-}
-
-fn told(rt: &impl Abort, alloc: Global, tree: &Tree, text: &str) -> NameReply {
-    info(tree, &path(rt, alloc, text))
-}
-
-#[test]
-fn the_zone_of_what_lies_in_it_is_told(rt: HostRuntime) {
-    let alloc = rt.alloc();
-    let tree = zone(&rt, alloc);
-    let key = Some(key_name(&rt));
-    let edek = Some(encrypted(&rt, 7));
-    assert_directory(&rt, alloc, told(&rt, alloc, &tree, "/"), 0, "", None);
-    let reply = told(&rt, alloc, &tree, "/zone");
-    assert_directory(&rt, alloc, reply, 7, "/zone", key);
-    let reply = told(&rt, alloc, &tree, "/zone/sub");
-    assert_directory(&rt, alloc, reply, 8, "/zone", None);
-    let reply = told(&rt, alloc, &tree, "/zone/sub/secret");
-    assert_file(&rt, alloc, reply, 9, "/zone", edek);
-    assert_file(&rt, alloc, told(&rt, alloc, &tree, "/plain"), 10, "", None);
-}
-
 #[test]
 fn nothing_is_made_below_a_file(rt: HostRuntime) {
-    let alloc = rt.alloc();
-    let tree = zone(&rt, alloc);
+    let mut desk = Desk::new(&rt, rt.alloc());
+    desk.make_file(&rt, "/plain");
     for (text, why) in [
-        ("/plain/x", Some(NameRefusal::NotADirectory)),
-        ("/plain/x/y", Some(NameRefusal::NoSuchPath)),
-        ("/plain", Some(NameRefusal::Exists)),
-        ("/zone/sub/other", None),
+        ("/plain/x", NameRefusal::NotADirectory),
+        ("/plain/x/y", NameRefusal::NoSuchPath),
+        ("/plain", NameRefusal::Exists),
     ] {
-        assert!(rt; to_be_made(&tree, &path(&rt, alloc, text)) == why);
+        assert_refused(&rt, desk.mkdir(&rt, text), why);
     }
+}
+
+#[test]
+fn what_is_deleted_is_gone(rt: HostRuntime) {
+    let alloc = rt.alloc();
+    let mut desk = Desk::new(&rt, alloc);
+    for text in ["/a", "/a/b", "/ab"] {
+        assert_done(&rt, desk.mkdir(&rt, text));
+    }
+    desk.make_file(&rt, "/a/b/f");
+    let full = NameRefusal::NotEmpty;
+    assert_refused(&rt, desk.delete(&rt, "/a", false), full);
+    assert_done(&rt, desk.delete(&rt, "/a/b/f", false));
+    assert_done(&rt, desk.delete(&rt, "/a/b", false));
+    assert_done(&rt, desk.mkdir(&rt, "/a/c"));
+    assert_done(&rt, desk.delete(&rt, "/a", true));
+    for text in ["/a", "/a/b", "/a/b/f", "/a/c"] {
+        assert_refused(&rt, desk.info(&rt, text), NameRefusal::NoSuchPath);
+    }
+    assert_directory(&rt, alloc, desk.info(&rt, "/ab"), FIRST_ID + 2, "", None);
+    assert_eq!(rt; desk.name.count(), 2);
+}
+
+#[test]
+fn the_root_and_what_is_absent_are_not_deleted(rt: HostRuntime) {
+    let mut desk = Desk::new(&rt, rt.alloc());
+    for recursive in [false, true] {
+        let root = desk.delete(&rt, "/", recursive);
+        assert_refused(&rt, root, NameRefusal::RootOrInside);
+        let absent = desk.delete(&rt, "/x", recursive);
+        assert_refused(&rt, absent, NameRefusal::NoSuchPath);
+    }
+}
+
+#[test]
+fn a_directory_tells_what_lies_in_it(rt: HostRuntime) {
+    let mut desk = Desk::new(&rt, rt.alloc());
+    for text in ["/b", "/b/x", "/a"] {
+        assert_done(&rt, desk.mkdir(&rt, text));
+    }
+    desk.make_file(&rt, "/c");
+    match desk.list(&rt, "/") {
+        NameReply::List(list) => {
+            let told = list.as_slice();
+            assert_eq!(rt; told.len(), 3);
+            for (k, (name, directory)) in [("a", true), ("b", true), ("c", false)]
+                .into_iter()
+                .enumerate()
+            {
+                assert_eq!(rt; told[k].name.as_str(), name);
+                assert_eq!(rt; told[k].directory, directory);
+            }
+        }
+        _ => panic!(rt; "no list"),
+    }
+    assert_refused(&rt, desk.list(&rt, "/c"), NameRefusal::NotADirectory);
+    assert_refused(&rt, desk.list(&rt, "/x"), NameRefusal::NoSuchPath);
+}
+
+#[test]
+fn the_superuser_alone_is_told_the_zones(rt: HostRuntime) {
+    let alloc = rt.alloc();
+    let mut desk = Desk::new(&rt, alloc);
+    desk.make_zone(&rt, "/z");
+    let denied = desk.call(NameCall::Zones);
+    assert_refused(&rt, denied, NameRefusal::NotSuperuser);
+    match desk.name.act(&mut desk.disk, &desk.hdfs, NameCall::Zones) {
+        NameReply::Zones(list) => {
+            assert_eq!(rt; list.as_slice().len(), 1);
+            let mut out = ByteList::new(alloc);
+            list.as_slice()[0]
+                .path
+                .write(&mut out)
+                .expect(&rt, "memory");
+            assert_eq!(rt; out.as_slice(), b"/z".as_slice());
+            assert!(rt; list.as_slice()[0].key == key_name(&rt));
+        }
+        _ => panic!(rt; "no zones"),
+    }
+}
+
+#[test]
+fn a_restart_keeps_rows_and_drops_asks(rt: HostRuntime) {
+    let alloc = rt.alloc();
+    let mut desk = Desk::new(&rt, alloc);
+    desk.make_zone(&rt, "/z");
+    let id = desk.ask_file(&rt, "/z/f");
+    desk.restart(&rt);
+    assert_eq!(rt; desk.name.opening(), 2);
+    let gone = NameRefusal::AskGone {
+        opening: 2,
+        next: 1,
+    };
+    assert!(rt; desk.finish(id, None).err() == Some(gone));
+    let key = Some(key_name(&rt));
+    assert_directory(&rt, alloc, desk.info(&rt, "/z"), FIRST_ID, "/z", key);
+    assert_done(&rt, desk.mkdir(&rt, "/d"));
+    assert_directory(&rt, alloc, desk.info(&rt, "/d"), LAST_ID + 2, "", None);
 }

@@ -1,7 +1,7 @@
 use Rattle.std.proofs.Common.{◌≡◌, ◌∙◌, List, sym, subst}
 use Rattle.name_core.specs.declared.asks.OpenAsk.{OpenAsk}
 use Rattle.name_core.specs.Asks.{without}
-use Rattle.name_core.specs.Steps.{IsRising}
+use Rattle.name_core.specs.State.{IsRising}
 use Rattle.name_core.proofs.AskLemmas.{rising-without, without-none}
 use Rattle.name_core.proofs.asks.OpenAsks.remove.Goals as goal
 

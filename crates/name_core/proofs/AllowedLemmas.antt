@@ -1,0 +1,301 @@
+-- Operations that the causes of a refusal let through are allowed.
+use Rattle.std.proofs.Common.{◌≡◌, ℕ, ◌+◌, ◌*◌, ◌^◌, ◌<◌, ◌≤◌, ◌&&◌, ◌||◌, Bool, true, false, cond, not, List, [], ◌∷◌, length, Option, Some, None, is_none, is_some, nat_lt, nat_le, refl, ap, sym, subst, ◌∙◌, arith}
+use Rattle.std.specs.Prelude.{◌==◌}
+use Rattle.std.specs.List.{AllByRecursion}
+use Rattle.std.proofs.lemmas.Bool.Decides.{nat_tests}
+use Rattle.hk_base.specs.declared.names.Edek.{Edek}
+use Rattle.inode_tree.specs.Paths.{parent, starts_reserved}
+use Rattle.inode_tree.specs.Rows.{Entry, entry_of, has_children, is_dir_at, row_at, zone_of}
+use Rattle.edit_ops.specs.Records.{fits}
+use Rattle.edit_ops.specs.declared.ops.EditOp.{EditOp}
+use Rattle.edit_ops.specs.declared.ops.EditOp.TheVariants as op
+use Rattle.name_store.specs.Replay.{AllBelow}
+use Rattle.name_store.specs.Store.{is_opening}
+use Rattle.name_store.specs.Table.{NameTable, allows, fits_zone, is_among, is_fresh, is_of_opening, key_of_zone, may_be_made, may_be_removed, may_be_zone, may_use, uses}
+use Rattle.name_core.specs.declared.asks.OpenAsk.{OpenAsk}
+use Rattle.name_core.specs.declared.calls.Ask.{Ask}
+use Rattle.name_core.specs.declared.calls.Ask.TheVariants as ask
+use Rattle.name_core.specs.declared.calls.NameCall.{NameCall}
+use Rattle.name_core.specs.declared.calls.NameCall.TheVariants as call
+use Rattle.name_core.specs.declared.calls.NameRefusal.{NameRefusal}
+use Rattle.name_core.specs.declared.calls.NameRefusal.TheVariants as refusal
+use Rattle.name_core.specs.State.{AreFree, AreRecent, IdsFit, NameState, is_full, is_spent, next_id}
+use Rattle.name_core.specs.Asks.{closed, finish_causes, finish_op, is_other_key, is_other_zone, open_ask, without}
+use Rattle.name_core.specs.Calls.{causes, deed, delete_causes, first_cause, is_root, mkdir_causes, path_causes}
+use Rattle.name_core.specs.Steps.{IsBehind, MayWrite}
+use Rattle.name_core.proofs.AskLemmas.{each-map, each-without, fit-without, open-holds, open-id, without-apart}
+use Rattle.name_core.proofs.RowLemmas.{id-free, room-left}
+
+-- a cause that doesn't hold, and those behind it
+pub clear : (b : Bool) (why : NameRefusal) (rest : Option NameRefusal) → cond b (Some why) rest ≡ None → (b ≡ false) × (rest ≡ None)
+clear true why rest h = absurd cc
+clear false why rest h = (refl, h)
+
+both : (a b : Bool) → a ≡ true → b ≡ true → (a && b) ≡ true
+both a b h g = ap (λ x. x && b) h ∙ g
+
+yes : (b : Bool) → not b ≡ false → b ≡ true
+yes true h = refl
+yes false h = absurd cc
+
+none : {X : Type 0} (o : Option X) → is_some o ≡ false → is_none o ≡ true
+none None h = refl
+none (Some x) h = absurd cc
+
+there : {X : Type 0} (o : Option X) → is_none o ≡ false → is_some o ≡ true
+there None h = absurd cc
+there (Some x) h = refl
+
+le-yes : (a b : ℕ) → a ≤ b → nat_le a b ≡ true
+le-yes a b h = grind (arith, nat_tests, h)
+
+lt-yes : (a b : ℕ) → a < b → nat_lt a b ≡ true
+lt-yes a b h = grind (arith, nat_tests, h)
+
+lt-not-le : (a b : ℕ) → nat_le b a ≡ false → nat_lt a b ≡ true
+lt-not-le a b h = grind (arith, nat_tests, h)
+
+positive : (n : ℕ) → (n == 0) ≡ false → nat_lt 0 n ≡ true
+positive n h = grind (arith, nat_tests, h)
+
+differ : (a b : ℕ) → a < b → (a == b) ≡ false
+differ a b h = grind (arith, nat_tests, h)
+
+unlike : (a b : ℕ) → (a ≡ b → ⊥) → (b == a) ≡ false
+unlike a b h = grind (arith, nat_tests, h)
+
+of-opening : (o id n : ℕ) → o * 2 ^ 32 ≤ id → id < o * 2 ^ 32 + n → n ≤ 2 ^ 32 → is_of_opening o id ≡ true
+of-opening o id n low high few =
+    both (nat_le (o * 2 ^ 32) id) (nat_lt id ((o + 1) * 2 ^ 32)) (le-yes (o * 2 ^ 32) id low) (lt-yes id ((o + 1) * 2 ^ 32) (omega (arith, low, high, few)))
+
+pub not-reserved : (p : List (List ℕ)) → first_cause (path_causes p) ≡ None → starts_reserved p ≡ false
+not-reserved p h = (clear (starts_reserved p) refusal.BadPath None h).0
+
+pub not-spent : (s : NameState) → s.next < 2 ^ 32 → is_spent s ≡ false
+not-spent s h = grind (arith, nat_tests, h)
+
+-- what each is allowed by
+
+-- what the causes of a path that is to be made rule out
+pub record IsMakeable (rows : List Entry) (p : List (List ℕ)) : Type 0 where
+  pub house : is_dir_at (row_at rows (parent p)) ≡ true
+  pub absent : is_none (row_at rows p) ≡ true
+
+pub makeable : (rows : List Entry) (p : List (List ℕ)) (rest : Option NameRefusal)
+    → cond (is_none (row_at rows (parent p))) (Some refusal.NoSuchPath) (cond (not (is_dir_at (row_at rows (parent p)))) (Some refusal.NotADirectory) (cond (is_some (row_at rows p)) (Some refusal.Exists) rest)) ≡ None
+    → IsMakeable rows p × (rest ≡ None)
+makeable rows p rest h =
+    let a = clear (is_none (row_at rows (parent p))) refusal.NoSuchPath _ h in
+    let b = clear (not (is_dir_at (row_at rows (parent p)))) refusal.NotADirectory _ a.1 in
+    let c = clear (is_some (row_at rows p)) refusal.Exists _ b.1 in
+    (record { house = yes _ b.0; absent = none (row_at rows p) c.0 }, c.1)
+
+made : (t : NameTable) (p : List (List ℕ)) → IsMakeable t.rows p → nat_le 1000000 (length t.rows) ≡ false → may_be_made t.rows p ≡ true
+made t p m room =
+    both (is_dir_at (row_at t.rows (parent p)) && is_none (row_at t.rows p)) (nat_lt (length t.rows) 1000000)
+    (both (is_dir_at (row_at t.rows (parent p))) (is_none (row_at t.rows p)) m.house m.absent) (lt-not-le (length t.rows) 1000000 room)
+
+usable : (t : NameTable) (id n : ℕ) → t.opening * 2 ^ 32 ≤ id → id < t.opening * 2 ^ 32 + n → n ≤ 2 ^ 32 → entry_of t.rows id ≡ None → may_use t id ≡ true
+usable t id n low high few free =
+    both (is_of_opening t.opening id) (is_none (entry_of t.rows id)) (of-opening t.opening id n low high few) (ap is_none free)
+
+either-not : (a b : Bool) → (a || b) ≡ false → a ≡ false
+either-not true b h = absurd cc
+either-not false b h = refl
+
+pub allowed-mkdir : (s : NameState) (p : List (List ℕ)) → 0 < s.table.opening → IdsFit s.table.rows s.asks (next_id s) → first_cause (mkdir_causes s p) ≡ None
+    → allows s.table (op.Mkdir (next_id s) p) ≡ true
+allowed-mkdir s p opened ids h =
+    let m = makeable s.table.rows p _ h in
+    let full : is_full s ≡ false = (clear (is_full s) refusal.TooManyInodes _ m.1).0 in
+    let left : s.next < 2 ^ 32 = room-left s p h in
+    both (nat_lt 0 s.table.opening && may_use s.table (next_id s)) (may_be_made s.table.rows p)
+    (both (nat_lt 0 s.table.opening) (may_use s.table (next_id s)) (lt-yes 0 s.table.opening opened)
+    (usable s.table (next_id s) (s.next + 1) (omega arith) (omega arith) (omega (arith, left)) (id-free s.table.rows (next_id s) ids.of_rows)))
+    (made s.table p m.0 (either-not (nat_le 1000000 (length s.table.rows)) (is_spent s) full))
+
+pub allowed-remove : (s : NameState) (p : List (List ℕ)) (recursive : Bool) → 0 < s.table.opening → first_cause (delete_causes s.table.rows p recursive) ≡ None → allows s.table (op.Remove p) ≡ true
+allowed-remove s p recursive opened h =
+    let a = clear (is_root p) refusal.RootOrInside _ h in
+    let b = clear (is_none (row_at s.table.rows p)) refusal.NoSuchPath _ a.1 in
+    both (nat_lt 0 s.table.opening) (may_be_removed s.table.rows p) (lt-yes 0 s.table.opening opened)
+    (both (nat_lt 0 (length p)) (is_some (row_at s.table.rows p)) (positive (length p) a.0) (there (row_at s.table.rows p) b.0))
+
+pub allowed-finish : (s : NameState) (id : ℕ) (a : OpenAsk) (edek : Option Edek) → 0 < s.table.opening → s.next ≤ 2 ^ 32 → IdsFit s.table.rows s.asks (next_id s)
+    → AreRecent s.table.opening s.asks → open_ask s.asks id ≡ Some a → first_cause (finish_causes s.table.rows a edek a.ask) ≡ None → allows s.table (finish_op a.id edek a.ask) ≡ true
+allowed-finish s id a edek opened few ids recent stands free = go a.ask free
+  where
+    low : s.table.opening * 2 ^ 32 ≤ a.id
+    low = open-holds (λ (q : OpenAsk). s.table.opening * 2 ^ 32 ≤ q.id) s.asks id a recent stands
+
+    high : a.id < next_id s
+    high = open-holds (λ (q : OpenAsk). q.id < next_id s) s.asks id a ids.of_asks stands
+
+    unused : entry_of s.table.rows a.id ≡ None
+    unused = open-holds (λ (q : OpenAsk). entry_of s.table.rows q.id ≡ None) s.asks id a ids.free stands
+
+    go : (k : Ask) → first_cause (finish_causes s.table.rows a edek k) ≡ None → allows s.table (finish_op a.id edek k) ≡ true
+    go (ask.Create p) h =
+        let r = clear (starts_reserved p) refusal.BadPath _ h in
+        let m = makeable s.table.rows p _ r.1 in
+        let z = clear (is_other_zone s.table.rows a) refusal.ZoneChanged _ m.1 in
+        let e = clear (is_other_key s.table.rows p edek) refusal.ZoneChanged _ z.1 in
+        let n = clear (nat_le 1000000 (length s.table.rows)) refusal.TooManyInodes _ e.1 in
+        both (nat_lt 0 s.table.opening && may_use s.table a.id && may_be_made s.table.rows p) (fits_zone (key_of_zone s.table.rows p) edek)
+        (both (nat_lt 0 s.table.opening && may_use s.table a.id) (may_be_made s.table.rows p)
+        (both (nat_lt 0 s.table.opening) (may_use s.table a.id) (lt-yes 0 s.table.opening opened) (usable s.table a.id s.next low high few unused))
+        (made s.table p m.0 n.0))
+        (yes _ e.0)
+    go (ask.Zone p key) h =
+        let r = clear (starts_reserved p) refusal.BadPath _ h in
+        let a1 = clear (is_none (row_at s.table.rows p)) refusal.NoSuchPath _ r.1 in
+        let a2 = clear (not (is_dir_at (row_at s.table.rows p))) refusal.NotADirectory _ a1.1 in
+        let a3 = clear (has_children s.table.rows p) refusal.NotEmpty _ a2.1 in
+        let a4 = clear (is_some (zone_of s.table.rows p)) refusal.AlreadyInZone _ a3.1 in
+        both (nat_lt 0 s.table.opening) (may_be_zone s.table.rows p) (lt-yes 0 s.table.opening opened)
+        (both (is_dir_at (row_at s.table.rows p) && not (has_children s.table.rows p)) (is_none (zone_of s.table.rows p))
+        (both (is_dir_at (row_at s.table.rows p)) (not (has_children s.table.rows p)) (yes _ a2.0) (ap not a3.0)) (none (zone_of s.table.rows p) a4.0))
+
+-- what a call logs is allowed
+pub allowed-call : (s : NameState) (c : NameCall) (o : EditOp) → 0 < s.table.opening → IdsFit s.table.rows s.asks (next_id s) → first_cause (causes s c) ≡ None → (deed s c).logs ≡ Some o
+    → allows s.table o ≡ true
+allowed-call s (call.Mkdir p) o opened ids free is =
+    let same : op.Mkdir (next_id s) p ≡ o = cc in subst (λ (x : EditOp). allows s.table x ≡ true) same (allowed-mkdir s p opened ids free)
+allowed-call s (call.Delete p recursive) o opened ids free is =
+    let same : op.Remove p ≡ o = cc in subst (λ (x : EditOp). allows s.table x ≡ true) same (allowed-remove s p recursive opened free)
+allowed-call s (call.Info p) o opened ids free is = absurd cc
+allowed-call s (call.List p) o opened ids free is = absurd cc
+allowed-call s call.Zones o opened ids free is = absurd cc
+
+-- no call and no finish logs an opening
+
+pub no-opening : (s : NameState) (c : NameCall) (o : EditOp) → (deed s c).logs ≡ Some o → is_opening o ≡ false
+no-opening s (call.Mkdir p) o is = let same : op.Mkdir (next_id s) p ≡ o = cc in ap is_opening (sym same)
+no-opening s (call.Delete p recursive) o is = let same : op.Remove p ≡ o = cc in ap is_opening (sym same)
+no-opening s (call.Info p) o is = absurd cc
+no-opening s (call.List p) o is = absurd cc
+no-opening s call.Zones o is = absurd cc
+
+pub no-opening-finish : (id : ℕ) (edek : Option Edek) (k : Ask) → is_opening (finish_op id edek k) ≡ false
+no-opening-finish id edek (ask.Create p) = refl
+no-opening-finish id edek (ask.Zone p key) = refl
+
+-- ids that nothing used
+
+pub not-among : (used : List ℕ) (n : ℕ) → AllBelow n used → is_among used n ≡ false
+not-among [] n h = refl
+not-among (i ∷ used) n h = ap (λ (b : Bool). b || is_among used n) (differ i n h.0) ∙ not-among used n h.1
+
+fresh-id : (used : List ℕ) (id : ℕ) → is_among used id ≡ false → not (is_among used id || false) ≡ true
+fresh-id used id h = ap (λ (b : Bool). not (b || false)) h
+
+one-apart : (id other : ℕ) → (id == other) ≡ false → is_among (id ∷ []) other ≡ false
+one-apart id other h = ap (λ (b : Bool). b || false) h
+
+pub fit-rise : (rows : List Entry) (asks : List OpenAsk) (n m : ℕ) → n ≤ m → IdsFit rows asks n → IdsFit rows asks m
+fit-rise rows asks n m h fit = record {
+  of_rows = λ i d b. let low = fit.of_rows i d b in omega (arith, h, low);
+  of_asks = each-map (λ (a : OpenAsk). a.id < n) (λ (a : OpenAsk). a.id < m) (λ a low. omega (arith, h, low)) asks fit.of_asks;
+  free = fit.free;
+  rising = fit.rising;
+}
+
+-- no ask has an id above those of the asks
+pub apart-from : (asks : List OpenAsk) (n : ℕ) → AllByRecursion (λ (a : OpenAsk). a.id < n) asks → AreFree (n ∷ []) asks
+apart-from asks n h =
+    each-map (λ (a : OpenAsk). a.id < n) (λ (a : OpenAsk). is_among (n ∷ []) a.id ≡ false) (λ a low. one-apart n a.id (unlike a.id n (λ same. absurd (omega (arith, low, same))))) asks h
+
+pub none-taken : (asks : List OpenAsk) → AreFree [] asks
+none-taken [] = tt
+none-taken (a ∷ asks) = (refl, none-taken asks)
+
+-- ids behind an operation
+
+pub behind-make : (s : NameState) (p : List (List ℕ)) → IdsFit s.table.rows s.asks (next_id s) → AreRecent s.table.opening s.asks → s.next < 2 ^ 32
+    → IsBehind s (op.Mkdir (next_id s) p) (record s { next = s.next + 1 })
+behind-make s p ids recent left = record {
+  no_opening = refl;
+  same_table = refl;
+  rises = omega arith;
+  few = omega (arith, left);
+  ids = fit-rise s.table.rows s.asks (next_id s) (next_id (record s { next = s.next + 1 })) (omega arith) ids;
+  recent = recent;
+  below = (omega arith, tt);
+  free = apart-from s.asks (next_id s) ids.of_asks;
+}
+
+pub behind-remove : (s : NameState) (p : List (List ℕ)) (n : ℕ) → n ≡ s.next → s.next ≤ 2 ^ 32 → IdsFit s.table.rows s.asks (next_id s) → AreRecent s.table.opening s.asks
+    → IsBehind s (op.Remove p) (record s { next = n })
+behind-remove s p n is few ids recent = record {
+  no_opening = refl;
+  same_table = refl;
+  rises = omega (arith, is);
+  few = omega (arith, few, is);
+  ids = fit-rise s.table.rows s.asks (next_id s) (next_id (record s { next = n })) (omega (arith, is)) ids;
+  recent = recent;
+  below = tt;
+  free = none-taken s.asks;
+}
+
+pub behind-finish : (s : NameState) (id : ℕ) (a : OpenAsk) (edek : Option Edek) → s.next ≤ 2 ^ 32 → IdsFit s.table.rows s.asks (next_id s) → AreRecent s.table.opening s.asks
+    → open_ask s.asks id ≡ Some a → IsBehind s (finish_op a.id edek a.ask) (closed s id)
+behind-finish s id a edek few ids recent stands = record {
+  no_opening = no-opening-finish a.id edek a.ask;
+  same_table = refl;
+  rises = omega arith;
+  few = few;
+  ids = fit-without s.table.rows s.asks id (next_id s) ids;
+  recent = each-without (λ (q : OpenAsk). s.table.opening * 2 ^ 32 ≤ q.id) s.asks id recent;
+  below = below a.ask;
+  free = apart a.ask;
+}
+  where
+    below : (k : Ask) → AllBelow (next_id s) (uses (finish_op a.id edek k))
+    below (ask.Create p) = (open-holds (λ (q : OpenAsk). q.id < next_id s) s.asks id a ids.of_asks stands, tt)
+    below (ask.Zone p key) = tt
+
+    apart : (k : Ask) → AreFree (uses (finish_op a.id edek k)) (without s.asks id)
+    apart (ask.Create p) =
+        each-map (λ (q : OpenAsk). q.id ≡ id → ⊥) (λ (q : OpenAsk). is_among (a.id ∷ []) q.id ≡ false)
+        (λ q other. one-apart a.id q.id (unlike q.id a.id (λ same. other (same ∙ open-id s.asks id a stands)))) (without s.asks id) (without-apart s.asks id ids.rising)
+    apart (ask.Zone p key) = none-taken (without s.asks id)
+
+-- what may be written
+
+pub may-make : (s : NameState) (p : List (List ℕ)) → 0 < s.table.opening → IdsFit s.table.rows s.asks (next_id s) → AreRecent s.table.opening s.asks → starts_reserved p ≡ false
+    → first_cause (mkdir_causes s p) ≡ None → MayWrite s (op.Mkdir (next_id s) p) (record s { next = s.next + 1 })
+may-make s p opened ids recent path free = record {
+  behind = behind-make s p ids recent (room-left s p free);
+  allowed = allowed-mkdir s p opened ids free;
+  spelled = ap not path;
+  fresh = λ used below apart. fresh-id used (next_id s) (not-among used (next_id s) below);
+  fewer = λ used h. h;
+}
+
+pub may-remove : (s : NameState) (p : List (List ℕ)) (recursive : Bool) → 0 < s.table.opening → s.next ≤ 2 ^ 32 → IdsFit s.table.rows s.asks (next_id s) → AreRecent s.table.opening s.asks
+    → starts_reserved p ≡ false → first_cause (delete_causes s.table.rows p recursive) ≡ None → MayWrite s (op.Remove p) (record s { next = s.next + 0 })
+may-remove s p recursive opened few ids recent path free = record {
+  behind = behind-remove s p (s.next + 0) (omega arith) few ids recent;
+  allowed = allowed-remove s p recursive opened free;
+  spelled = ap not path;
+  fresh = λ used below apart. refl;
+  fewer = λ used h. h;
+}
+
+pub may-finish : (s : NameState) (id : ℕ) (a : OpenAsk) (edek : Option Edek) → 0 < s.table.opening → s.next ≤ 2 ^ 32 → IdsFit s.table.rows s.asks (next_id s) → AreRecent s.table.opening s.asks
+    → open_ask s.asks id ≡ Some a → first_cause (finish_causes s.table.rows a edek a.ask) ≡ None → MayWrite s (finish_op a.id edek a.ask) (closed s id)
+may-finish s id a edek opened few ids recent stands free = record {
+  behind = behind-finish s id a edek few ids recent stands;
+  allowed = allowed-finish s id a edek opened few ids recent stands free;
+  spelled = spelled a.ask free;
+  fresh = λ used below apart. fresh used (open-holds (λ (q : OpenAsk). is_among used q.id ≡ false) s.asks id a apart stands) a.ask;
+  fewer = λ used h. each-without (λ (q : OpenAsk). is_among used q.id ≡ false) s.asks id h;
+}
+  where
+    spelled : (k : Ask) → first_cause (finish_causes s.table.rows a edek k) ≡ None → fits (finish_op a.id edek k) ≡ true
+    spelled (ask.Create p) h = ap not (clear (starts_reserved p) refusal.BadPath _ h).0
+    spelled (ask.Zone p key) h = ap not (clear (starts_reserved p) refusal.BadPath _ h).0
+
+    fresh : (used : List ℕ) → is_among used a.id ≡ false → (k : Ask) → is_fresh used (finish_op a.id edek k) ≡ true
+    fresh used h (ask.Create p) = fresh-id used a.id h
+    fresh used h (ask.Zone p key) = refl

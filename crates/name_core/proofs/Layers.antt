@@ -1,0 +1,85 @@
+-- What the layers above need of the namesystem.
+use Rattle.std.proofs.Common.{◌≡◌, ℕ, ◌<◌, ◌≤◌, Bool, true, false, List, Option, None, Some, refl, ap, sym, subst, ◌∙◌, arith}
+use Rattle.std.specs.Prelude.{Result}
+use Rattle.hk_base.specs.Disk.{DiskState}
+use Rattle.edit_ops.specs.declared.ops.EditOp.{EditOp}
+use Rattle.name_store.specs.Replay.{AllBelow}
+use Rattle.name_store.specs.Store.{StoreState, is_opening}
+use Rattle.name_store.specs.Store as store
+use Rattle.name_store.specs.Table.{allows, is_among}
+use Rattle.name_core.specs.declared.asks.OpenAsk.{OpenAsk}
+use Rattle.name_core.specs.declared.calls.Ask.{Ask}
+use Rattle.name_core.specs.declared.calls.AskNote.{AskNote}
+use Rattle.name_core.specs.declared.calls.KeyAnswer.{KeyAnswer}
+use Rattle.name_core.specs.declared.calls.NameCall.{NameCall}
+use Rattle.name_core.specs.declared.calls.NameRefusal.{NameRefusal}
+use Rattle.name_core.specs.State.{AreFree, IsNames, NameService, NameState, RunningNames, StandsFor, names_of, next_id, settled}
+use Rattle.name_core.specs.Asks.{Asks, ask_causes, asked, opened, unless_not_asked}
+use Rattle.name_core.specs.Calls.{NoRoom, Plain, first_cause}
+use Rattle.name_core.specs.Service.{OwnOf, OwnOfFinish}
+use Rattle.name_core.specs.Steps.{Keeps}
+use Rattle.name_core.proofs.AskLemmas.{each-append}
+use Rattle.name_core.proofs.KeepLemmas.{below-more, keeps-of, keeps-settled, settled-opening}
+pub use Rattle.name_core.proofs.AllowedLemmas.{allowed-call, allowed-finish, no-opening, no-opening-finish, not-among}
+
+-- asks
+
+-- what an ask leaves: all as it was, or one more open ask
+pub data Asking (s : NameState) (user : List ℕ) (a : Ask) (s' : NameState) : Type 0 where
+  Same : s' ≡ s → Asking s user a s'
+  Opened : first_cause (ask_causes s user a) ≡ None → s' ≡ asked s a → Asking s user a s'
+
+pub asking : (s : NameState) (user : List ℕ) (a : Ask) (told : Result AskNote NameRefusal) (s' : NameState) → Asks s user a told s' → Asking s user a s'
+asking s user a told s' (NoRoom, may, is) = Same (ap (λ o. o.state) is)
+asking s user a told s' (Plain, may, is) = go (first_cause (ask_causes s user a)) refl is
+  where
+    go : (o : Option NameRefusal) → first_cause (ask_causes s user a) ≡ o → (record { told = told; state = s' }) ≡ unless_not_asked o s a → Asking s user a s'
+    go (Some why) stops is = Same (ap (λ o. o.state) is)
+    go None free is = Opened free (ap (λ o. o.state) is)
+
+moved : (d : DiskState) (r t : RunningNames) (ops : List EditOp) → next_id (names_of r) ≤ next_id (names_of t)
+    → ((used : List ℕ) → AllBelow (next_id (names_of r)) used → AreFree used r.asks → AreFree used t.asks) → t.store ≡ r.store → StandsFor d r ops → StandsFor d t ops
+moved d r t ops rises free same s = record {
+  used = s.used;
+  store = subst (λ (x : StoreState). store.StandsFor d x s.used ops) (sym same) s.store;
+  below = below-more (next_id (names_of r)) (next_id (names_of t)) rises s.used s.below;
+  free = free s.used s.below s.free;
+}
+
+-- the log stands for the same operations behind an ask
+pub stands_after_ask : (d : DiskState) (r t : RunningNames) (user : List ℕ) (a : Ask) (told : Result AskNote NameRefusal) (ops : List EditOp) → Asks (names_of r) user a told (names_of t)
+    → t.store ≡ r.store → StandsFor d r ops → StandsFor d t ops
+stands_after_ask d r t user a told ops asks same s = go (asking (names_of r) user a told (names_of t) asks)
+  where
+    go : Asking (names_of r) user a (names_of t) → StandsFor d t ops
+    go (Same is) =
+        let n = ap next_id is in
+        moved d r t ops (omega (arith, n)) (λ used below free. subst (λ (l : List OpenAsk). AreFree used l) (sym (ap (λ (x : NameState). x.asks) is)) free) same s
+    go (Opened free is) =
+        let n = ap next_id is in
+        moved d r t ops (omega (arith, n))
+        (λ used below apart. subst (λ (l : List OpenAsk). AreFree used l) (sym (ap (λ (x : NameState). x.asks) is))
+        (each-append (λ (q : OpenAsk). is_among used q.id ≡ false) r.asks (opened (names_of r) a) apart (not-among used (next_id (names_of r)) below)))
+        same s
+
+-- behind the settling of what waits, the namesystem keeps its rules of ids
+
+pub settled_keeps : (kept : Bool) (s : NameService) → IsNames s → Keeps (record { names = settled kept s; pending = None })
+settled_keeps kept s n = keeps-settled kept s (keeps-of s n)
+
+pub settled_opened : (kept : Bool) (s : NameService) → IsNames s → 0 < (settled kept s).table.opening
+settled_opened kept s n = subst (λ (o : ℕ). 0 < o) (sym (settled-opening kept s.pending s.names s.names.table (keeps-of s n).waits)) n.opened
+
+-- what a call may write is allowed, and is no opening
+pub own_of_call : (s : NameService) (c : NameCall) (kept : Bool) (o : EditOp) → IsNames s → OwnOf s c kept o → (allows (settled kept s).table o ≡ true) × (is_opening o ≡ false)
+own_of_call s c kept o n own =
+    (allowed-call (settled kept s) c o (settled_opened kept s n) (settled_keeps kept s n).ids own.0 own.1, no-opening (settled kept s) c o own.1)
+
+-- what a finish may write is allowed, and is no opening
+pub own_of_finish : (s : NameService) (id : ℕ) (given : KeyAnswer) (told : Result (Unit {0}) NameRefusal) (s' : NameService) (kept : Bool) (o : EditOp) → IsNames s
+    → OwnOfFinish s id given told s' kept o → (allows (settled kept s).table o ≡ true) × (is_opening o ≡ false)
+own_of_finish s id given told s' kept o n own =
+    let k = settled_keeps kept s n in (
+      subst (λ (x : EditOp). allows (settled kept s).table x ≡ true) (sym own.is) (allowed-finish (settled kept s) id own.ask own.edek (settled_opened kept s n) k.few k.ids k.recent own.was_open own.free),
+      ap is_opening own.is ∙ no-opening-finish own.ask.id own.edek own.ask.ask,
+    )

@@ -1,0 +1,15 @@
+use Rattle.std.proofs.Common.{List, refl, sym, subst}
+use Rattle.name_core.specs.declared.asks.OpenAsk.{OpenAsk}
+use Rattle.name_core.specs.Service.{Starts}
+use Rattle.name_core.proofs.KeepLemmas.{keeps-started}
+use Rattle.name_core.proofs.StartLemmas.{starts}
+use Rattle.name_core.proofs.namesystem.Name.start.Goals as goal
+
+pub returns-clause-started : goal.returns-clause-started
+returns-clause-started g c =
+    subst (λ (asks : List OpenAsk). Starts (g.D.Disk.state c.args.disk.now) (g.D.Disk.state c.start.new.disk) (record { store = c.in_ok-store.store; next = 1; asks = asks })) (sym c.new.ensures)
+    (starts (g.D.Disk.state c.args.disk.now) (g.D.Disk.state c.start.new.disk) c.in_ok-store.store c.in_ok-store.ensures.started)
+
+pub invariant_of-result : goal.invariant_of-result
+invariant_of-result g c =
+    keeps-started (record { store = c.in_ok-store.store; next = 1; asks = c.new.result }) refl c.new.ensures c.in_ok-store.ensures.started.settled c.in_ok-store.ensures.started.earlier

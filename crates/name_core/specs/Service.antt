@@ -1,0 +1,181 @@
+-- The calls, asks and finishes of the namesystem over its store and its disk.
+use Rattle.std.specs.Prelude.{◌≡◌, ◌⊎◌, ℕ, Bool, true, false, is_some, List, [], ◌∷◌, ◌++◌, Option, None, Some, Result, Ok, Err}
+use Rattle.hk_base.specs.Disk.{DiskState, Tells, RunOn, LeavesOnly}
+use Rattle.hk_base.specs.Faults.{Rose}
+use Rattle.hk_base.specs.declared.names.Edek.{Edek}
+use Rattle.hk_base.specs.declared.texts.Text.{Text}
+use Rattle.edit_ops.specs.declared.ops.EditOp.{EditOp}
+use Rattle.name_store.specs.Table.{NameTable, next_opening, settled_ops}
+use Rattle.name_store.specs.Store.{IsLeftOf, IsNameLog, made_with}
+use Rattle.name_core.specs.declared.asks.OpenAsk.{OpenAsk}
+use Rattle.name_core.specs.declared.calls.KeyAnswer.{KeyAnswer}
+use Rattle.name_core.specs.declared.calls.KeyAnswer.TheVariants as answer
+use Rattle.name_core.specs.declared.calls.NameCall.{NameCall}
+use Rattle.name_core.specs.declared.calls.NameCall.TheVariants as call
+use Rattle.name_core.specs.declared.calls.NameReply.{NameReply}
+use Rattle.name_core.specs.declared.calls.NameReply.TheVariants as reply
+use Rattle.name_core.specs.declared.calls.NameRefusal.{NameRefusal}
+use Rattle.name_core.specs.declared.calls.NameRefusal.TheVariants as refusal
+use Rattle.name_core.specs.State.{NameService, NameState, RunningNames, StandsFor, service_of, settled, started}
+use Rattle.name_core.specs.Calls.{NameActs, causes, deed, early_causes, first_cause}
+use Rattle.name_core.specs.Asks.{Finishes, ask_gone, closed, finish_causes, finish_op, open_ask}
+
+-- The calls that change the table. Each settles the pending operation first; the others answer from the table without it.
+abbrev pub is_change : NameCall → Bool
+is_change (call.Mkdir p) = true
+is_change (call.Delete p recursive) = true
+is_change (call.Info p) = false
+is_change (call.List p) = false
+is_change call.Zones = false
+
+abbrev pub listed : Option EditOp → List EditOp
+listed None = []
+listed (Some op) = op ∷ []
+
+-- an operation is acknowledged by an answer that is no refusal
+abbrev pub acknowledged : NameReply → Option EditOp → List EditOp
+acknowledged (reply.Refused why) logs = []
+acknowledged _ logs = listed logs
+
+-- A call is refused before anything is settled, and nothing changes.
+pub record RefusedEarly (why : NameRefusal) (s : NameService) (told : NameReply) (logged : List EditOp) (s' : NameService) : Type 0 where
+  pub told_is : told ≡ reply.Refused why
+  pub none_logged : logged ≡ []
+  pub same : s' ≡ s
+
+-- a call that changes nothing
+pub record OnlyReads (s : NameService) (c : NameCall) (told : NameReply) (logged : List EditOp) (s' : NameService) : Type 0 where
+  pub acts : NameActs s.names c told s.names
+  pub none_logged : logged ≡ []
+  pub same : s' ≡ s
+
+-- The pending operation could not be settled: it is still pending, and nothing was done.
+pub record Unsettled (s : NameService) (fault : Type 0) (told : NameReply) (logged : List EditOp) (s' : NameService) : Type 0 where
+  pub waits : is_some s.pending ≡ true
+  pub failed : fault
+  pub told_is : told ≡ reply.Refused refusal.StoreFault
+  pub none_logged : logged ≡ []
+  pub same : s' ≡ s
+
+-- A change beside which nothing is pending, behind the operations that were settled. What it did was written to the log, if it did
+-- anything.
+pub record Written (names : NameState) (before : List EditOp) (c : NameCall) (told : NameReply) (logged : List EditOp) (s' : NameService) : Type 0 where
+  pub changed : NameState
+  pub acts : NameActs names c told changed
+  pub logged_is : logged ≡ before ++ acknowledged told (deed names c).logs
+  pub left : s' ≡ record { names = changed; pending = None }
+
+-- The disk failed when the record of the change was written: its operation is pending, its id is used, and nothing else changed.
+pub record Unwritten (names : NameState) (before : List EditOp) (c : NameCall) (fault : Type 0) (told : NameReply) (logged : List EditOp) (s' : NameService) : Type 0 where
+  pub failed : fault
+  pub free : first_cause (causes names c) ≡ None
+  pub told_is : told ≡ reply.Refused refusal.StoreFault
+  pub logged_is : logged ≡ before
+  pub left : s' ≡ record { names = (deed names c).state; pending = (deed names c).logs }
+
+abbrev pub Changes : NameState → List EditOp → NameCall → Type 0 → NameReply → List EditOp → NameService → Type 0
+Changes names before c fault told logged s' = Written names before c told logged s' ⊎ Unwritten names before c fault told logged s'
+
+abbrev pub ServesBy : Bool → NameService → NameCall → Type 0 → NameReply → List EditOp → NameService → Type 0
+ServesBy false s c fault told logged s' = OnlyReads s c told logged s'
+ServesBy true s c fault told logged s' = Unsettled s fault told logged s' ⊎ ((kept : Bool) × Changes (settled kept s) (settled_ops kept s.pending) c fault told logged s')
+
+abbrev pub ServesUnless : Option NameRefusal → NameService → NameCall → Type 0 → NameReply → List EditOp → NameService → Type 0
+ServesUnless (Some why) s c fault told logged s' = RefusedEarly why s told logged s'
+ServesUnless None s c fault told logged s' = ServesBy (is_change c) s c fault told logged s'
+
+-- From s, a call of a user may be answered so, have these operations acknowledged, and leave s'. A store fault comes only where
+-- `fault` holds. An operation that was pending is acknowledged where it was found to be kept.
+abbrev pub Serves : NameService → Text → NameCall → Type 0 → NameReply → List EditOp → NameService → Type 0
+Serves s user c fault told logged s' = ServesUnless (first_cause (early_causes user c)) s c fault told logged s'
+
+-- finishing an ask
+
+-- it is refused before anything is settled, and this is left
+pub record EndsEarly (why : NameRefusal) (left : NameService) (told : Result (Unit {0}) NameRefusal) (logged : List EditOp) (s' : NameService) : Type 0 where
+  pub told_is : told ≡ Err why
+  pub none_logged : logged ≡ []
+  pub left_is : s' ≡ left
+
+abbrev pub closed_service : NameService → OpenAsk → NameService
+closed_service s a = record s { names = closed s.names a.id }
+
+-- The pending operation could not be settled: it is still pending. The ask is open no more.
+pub record FinishUnsettled (s : NameService) (a : OpenAsk) (fault : Type 0) (told : Result (Unit {0}) NameRefusal) (logged : List EditOp) (s' : NameService) : Type 0 where
+  pub waits : is_some s.pending ≡ true
+  pub failed : fault
+  pub ends : EndsEarly refusal.StoreFault (closed_service s a) told logged s'
+
+abbrev pub finish_logs : Result (Unit {0}) NameRefusal → EditOp → List EditOp
+finish_logs (Ok _) op = op ∷ []
+finish_logs (Err why) op = []
+
+pub record FinishWritten (names : NameState) (before : List EditOp) (a : OpenAsk) (edek : Option Edek) (told : Result (Unit {0}) NameRefusal) (logged : List EditOp) (s' : NameService) : Type 0 where
+  pub changed : NameState
+  pub finishes : Finishes names a edek told changed
+  pub logged_is : logged ≡ before ++ finish_logs told (finish_op a.id edek a.ask)
+  pub left : s' ≡ record { names = changed; pending = None }
+
+-- The disk failed when the record was written: its operation is pending, and the ask is open no more.
+pub record FinishUnwritten (names : NameState) (before : List EditOp) (a : OpenAsk) (edek : Option Edek) (fault : Type 0) (told : Result (Unit {0}) NameRefusal) (logged : List EditOp) (s' : NameService) : Type 0 where
+  pub failed : fault
+  pub free : first_cause (finish_causes names.table.rows a edek a.ask) ≡ None
+  pub told_is : told ≡ Err refusal.StoreFault
+  pub logged_is : logged ≡ before
+  pub left : s' ≡ record { names = closed names a.id; pending = Some (finish_op a.id edek a.ask) }
+
+abbrev pub Concludes : NameState → List EditOp → OpenAsk → Option Edek → Type 0 → Result (Unit {0}) NameRefusal → List EditOp → NameService → Type 0
+Concludes names before a edek fault told logged s' = FinishWritten names before a edek told logged s' ⊎ FinishUnwritten names before a edek fault told logged s'
+
+abbrev pub FinishServesOpen : NameService → OpenAsk → KeyAnswer → Type 0 → Result (Unit {0}) NameRefusal → List EditOp → NameService → Type 0
+FinishServesOpen s a (answer.Refused why) fault told logged s' = EndsEarly (refusal.KeyRefused why) (closed_service s a) told logged s'
+FinishServesOpen s a (answer.Given edek) fault told logged s' =
+    FinishUnsettled s a fault told logged s' ⊎ ((kept : Bool) × Concludes (settled kept s) (settled_ops kept s.pending) a edek fault told logged s')
+
+abbrev pub FinishServesAt : NameService → Option OpenAsk → KeyAnswer → Type 0 → Result (Unit {0}) NameRefusal → List EditOp → NameService → Type 0
+FinishServesAt s None given fault told logged s' = EndsEarly (ask_gone s.names) s told logged s'
+FinishServesAt s (Some a) given fault told logged s' = FinishServesOpen s a given fault told logged s'
+
+-- From s, a finish of the ask of this id may be answered so, have these operations acknowledged, and leave s'.
+abbrev pub FinishServes : NameService → ℕ → KeyAnswer → Type 0 → Result (Unit {0}) NameRefusal → List EditOp → NameService → Type 0
+FinishServes s id given fault told logged s' = FinishServesAt s (open_ask s.names.asks id) given fault told logged s'
+
+-- over a disk
+
+-- what a call may write behind the settled log
+abbrev pub OwnOf : NameService → NameCall → Bool → EditOp → Type 0
+OwnOf s c kept op = (first_cause (causes (settled kept s) c) ≡ None) × ((deed (settled kept s) c).logs ≡ Some op)
+
+-- and what a finish may that was answered so and left this: its own record is written where it is done, or is left pending
+pub record OwnOfFinish (s : NameService) (id : ℕ) (given : KeyAnswer) (told : Result (Unit {0}) NameRefusal) (s' : NameService) (kept : Bool) (op : EditOp) : Type 0 where
+  pub ask : OpenAsk
+  pub edek : Option Edek
+  pub was_open : open_ask s.names.asks id ≡ Some ask
+  pub gave : given ≡ answer.Given edek
+  pub free : first_cause (finish_causes (settled kept s).table.rows ask edek ask.ask) ≡ None
+  pub is : op ≡ finish_op ask.id edek ask.ask
+  pub was_written : (told ≡ Ok tt) ⊎ (s'.pending ≡ Some op)
+
+-- What a call does to its disk: the operations acknowledged are in the log behind those before, and a crash at any moment of the
+-- call leaves what P says of those before.
+pub record Logs (old new : DiskState) (r r' : RunningNames) (own : Bool → EditOp → Type 0) (logged : List EditOp) : Type 0 where
+  pub stands : Tells old → (ops : List EditOp) → StandsFor old r ops → StandsFor new r' (ops ++ logged)
+  pub moments : Tells old → (ops : List EditOp) → (s : StandsFor old r ops) → LeavesOnly 1 old new (IsLeftOf (made_with r.store s.used) r.store.log.pending own ops)
+  pub run : RunOn 1 old new
+
+-- A call of a running namesystem over its disk.
+pub record Acts (old new : DiskState) (r : RunningNames) (user : Text) (c : NameCall) (told : NameReply) (r' : RunningNames) : Type 0 where
+  pub logged : List EditOp
+  pub serves : Serves (service_of r) user c (Rose old.faults new.faults) told logged (service_of r')
+  pub disk : Logs old new r r' (OwnOf (service_of r) c) logged
+
+pub record FinishActs (old new : DiskState) (r : RunningNames) (id : ℕ) (given : KeyAnswer) (told : Result (Unit {0}) NameRefusal) (r' : RunningNames) : Type 0 where
+  pub logged : List EditOp
+  pub serves : FinishServes (service_of r) id given (Rose old.faults new.faults) told logged (service_of r')
+  pub disk : Logs old new r r' (OwnOfFinish (service_of r) id given told (service_of r')) logged
+
+-- A start found a table in the log, and recorded the next opening behind its operations.
+pub record Starts (old new : DiskState) (r : RunningNames) : Type 0 where
+  pub found : NameTable
+  pub opens : service_of r ≡ started found
+  pub log : Tells old → (ops : List EditOp) × (used : List ℕ) × IsNameLog (old.reads 1) ops (record { table = found; used = used }) × StandsFor new r (ops ++ next_opening found ∷ [])
