@@ -1,185 +1,181 @@
--- What a crash leaves of the key log, and what a restart finds in it.
-use Rattle.std.proofs.Common.{◌≡◌, ◌⊎◌, ℕ, ◌∙◌, Bool, true, false, List, [], ◌∷◌, ◌++◌, refl, sym, ap, subst, ⊎_elim, arith}
-use Rattle.hk_base.specs.Disk.{DiskState, LeavesOnly, RunOn, Tells}
+-- What a crash leaves of both logs.
+use Rattle.std.proofs.Common.{◌≡◌, ℕ, ◌∙◌, Bool, List, ◌++◌, Option, Some, None, Ok, Err, refl, sym, ap, subst, arith}
+use Rattle.std.specs.Prelude.{MatchResult}
+use Rattle.std.specs.declared.result.Result.{Result}
+use Rattle.hk_base.specs.Disk.{DiskState, Image, IsImage, Tells}
 use Rattle.hk_base.specs.Faults.{Rose}
-use Rattle.hk_base.proofs.Runs.{weaker}
-use Rattle.frame_log.specs.declared.fault.StartFault.{StartFault}
-use Rattle.frame_log.specs.declared.fault.StartFault.TheVariants as start
-use Rattle.key_rows.specs.declared.rows.KeyCommand.{KeyCommand}
-use Rattle.key_rows.specs.Table.{Table}
+use Rattle.edit_ops.specs.declared.ops.EditOp.{EditOp}
+use Rattle.inode_tree.specs.declared.paths.NPath.{NPath}
+use Rattle.inode_tree.specs.Paths.{read_path}
 use Rattle.prop_text.specs.declared.lines.PropLine.{PropLine}
-use Rattle.kms_store.specs.Store.{Applies, IsDamagedAt, IsKeyLog, IsLeftByStart, IsLeftOf, IsSoundLog, StandsFor, next_opening, settled_commands}
-use Rattle.kms_store.proofs.Layers.{finds, left_by_start, left_by_store, not_damaged, sound_left, sound_store, stands_once}
-use Rattle.kms_core.specs.Service.{Starts}
-use Rattle.kms_core.specs.State.{IsService, Running, service_of, settled}
-use Rattle.kms_core.specs.Users.{running}
-use Rattle.name_core.specs.State as names
+use Rattle.kms_acls.specs.StandsFor.{StandsFor as ListsFor}
+use Rattle.kms_core.specs.State.{settled}
+use Rattle.kms_store.specs.Store.{IsSoundLog, settled_commands}
+use Rattle.kms_store.proofs.Layers.{sound_left}
+use Rattle.name_store.specs.Store.{IsSoundLog as IsSoundNames, NothingMore, made_with}
+use Rattle.name_store.specs.Table.{after_table, settled_log, settled_ops}
+use Rattle.name_core.specs.declared.calls.NameCall.{NameCall}
+use Rattle.name_core.specs.declared.calls.NameCall.TheVariants as call
+use Rattle.name_core.specs.declared.calls.NameRefusal.{NameRefusal}
+use Rattle.name_core.specs.Service.{OwnOfFinish}
+use Rattle.name_core.specs.State.{settled as settled_names}
 use Rattle.world_run.specs.declared.event.Event.{Event}
 use Rattle.world_run.specs.declared.event.Event.TheVariants as event
 use Rattle.world_run.specs.declared.event.Line.{Line}
-use Rattle.world_run.specs.declared.event.Line.TheVariants as line
-use Rattle.world_run.specs.World.{RunningWorld, WorldState, first_world, world_of}
-use Rattle.world_run.specs.Ledger.{Hidden, hidden_after, nothing_drawn}
-use Rattle.world_run.specs.Linked.{LinkedWorld, ServicesFit}
-use Rattle.world_run.specs.Promise.{Survives}
-use Rattle.world_run.specs.Keeps.{Begins, Fails, KnowsKeys, Steps, SurvivesNow, SurvivesThrough}
-use Rattle.world_run.specs.Step.{FailsToOpen, Happens, NotOpened, Recovers}
+use Rattle.world_run.specs.declared.event.WorldFault.{WorldFault}
+use Rattle.world_run.specs.declared.kept.KeptReply.{KeptReply}
+use Rattle.world_run.specs.Acknowledged.{Acknowledged, HoldsLogs, Survives}
+use Rattle.world_run.specs.Does.{Happens, OwnOfEvent, OwnOfPath, OwnOfReply}
+use Rattle.world_run.specs.Keeps.{Fails, KnowsWorld, SoundNow, SoundThrough, Steps, SurvivesNow, SurvivesThrough}
+use Rattle.world_run.specs.Ledger.{Hidden, Ledger, hidden_after}
+use Rattle.world_run.specs.Linked.{FilesLinked, LinkedWorld, ServicesFit, SoundFiles}
+use Rattle.world_run.specs.Step.{FinishReply, Step, delete_with, finish_line}
+use Rattle.world_run.specs.World.{RunningWorld, WorldState, numbered, world_of}
+use Rattle.world_run.proofs.BothLemmas.{IsLeftOfBoth, LeavesLogs, keys-now, leaves-weaker, names-now, one-holds, one-leaves, one-runs}
 use Rattle.world_run.proofs.KeepLemmas.{keeps-linked, linked-promise}
-use Rattle.world_run.proofs.Laters.{may-wait, names-with, table-settled}
-use Rattle.world_run.proofs.StartLemmas.{first-linked}
-use Rattle.world_run.proofs.WorldLemmas.{linked-found}
+use Rattle.world_run.proofs.Laters.{may-wait}
+use Rattle.world_run.proofs.SoundLemmas.{LinkedFiles, OwnLinks, event-files, own-of-call, own-of-finish, own-of-nothing, own-of-opening, tables-through, world-files}
+use Rattle.name_store.proofs.Layers.{sound_left as sound_names_left}
 
--- a crash
+-- the logs that are left
 
--- what a crash may leave of the log survives
-pub survives-left : (d : DiskState) (w : RunningWorld) (h : Hidden) (commands : List KeyCommand) (bytes : List ℕ) → IsService (world_of w).keys → StandsFor d w.keys.store commands → LinkedWorld (world_of w) h
-    → IsLeftOf w.keys.store.table.keys w.keys.store.pending commands bytes → Survives (world_of w) h commands bytes
-survives-left d w h commands bytes fit s l left = record {
-  kept = left.kept;
-  more = left.more;
-  log = sound_left w.keys.store.table.keys w.keys.store.pending commands bytes s.spelled s.waits s.makes (may-wait w.keys.store.pending (world_of w).keys.keys fit.waits) left;
-  open_up = λ found.
-      linked-promise _ h (names-with found left.more (settled left.kept (world_of w).keys).table (table-settled left.kept (world_of w).keys fit) left.fits)
-      (linked-found (world_of w) h left.kept found left.more fit left.fits l);
+keys-left : (d : DiskState) (r : RunningWorld) (own : Bool → EditOp → Type 0) (done : Acknowledged) (s : HoldsLogs d r done) → ServicesFit (world_of r) → (c : Image) → (left : IsLeftOfBoth r own done s.names.used c)
+    → IsSoundLog (c 0) (done.keys ++ settled_commands left.keys.kept r.keys.store.pending) left.keys.more (settled left.keys.kept (world_of r).keys).table
+keys-left d r own done s fit c left =
+    sound_left r.keys.store.table.keys r.keys.store.pending done.keys (c 0) s.keys.spelled s.keys.waits s.keys.makes (may-wait r.keys.store.pending (world_of r).keys.keys fit.keys.waits) left.keys
+
+names-left : (d : DiskState) (r : RunningWorld) (own : Bool → EditOp → Type 0) (done : Acknowledged) (s : HoldsLogs d r done) → (c : Image) → (left : IsLeftOfBoth r own done s.names.used c)
+    → IsSoundNames (c 1) (done.names ++ settled_ops left.names.kept r.names.store.log.pending) left.names.more (settled_log left.names.kept r.names.store.log.pending (made_with r.names.store s.names.used))
+names-left d r own done s c left =
+    sound_names_left (made_with r.names.store s.names.used) r.names.store.log.pending own done.names (c 1) s.names.store.log.spelled s.names.store.log.waits s.names.store.makes s.names.store.waits left.names
+
+survives-left : (d : DiskState) (r : RunningWorld) (own : Bool → EditOp → Type 0) (done : Acknowledged) (s : HoldsLogs d r done) → ServicesFit (world_of r) → (c : Image) → IsLeftOfBoth r own done s.names.used c
+    → Survives (world_of r) done c
+survives-left d r own done s fit c left = record {
+  keys = record { kept = left.keys.kept; more = left.keys.more; log = keys-left d r own done s fit c left };
+  names = record { kept = left.names.kept; more = left.names.more; used = _; log = names-left d r own done s c left };
 }
 
-survives-crash : (old new : DiskState) (w : RunningWorld) → IsService (world_of w).keys
-    → (Tells old → (commands : List KeyCommand) → StandsFor old w.keys.store commands → LeavesOnly 0 old new (IsLeftOf w.keys.store.table.keys w.keys.store.pending commands))
-    → SurvivesThrough old new w
-survives-crash old new w fit moments told commands s h l = weaker (λ c left. survives-left old w h commands c fit s l left) (moments told commands s)
+pub survives-through : (old new : DiskState) (r : RunningWorld) (own : Bool → EditOp → Type 0) → ServicesFit (world_of r) → (Tells old → LeavesLogs old new r own) → SurvivesThrough old new r
+survives-through old new r own fit moments told done s =
+    leaves-weaker old new (IsLeftOfBoth r own done s.names.used) (Survives (world_of r) done) (λ c left. survives-left old r own done s fit c left) (moments told done s)
 
-survives-now : (d : DiskState) (w : RunningWorld) (h : Hidden) → w.keys.store.log.file ≡ 0 → IsService (world_of w).keys → LinkedWorld (world_of w) h → SurvivesNow d w h
-survives-now d w h of_file fit l commands s bytes left =
-    survives-left d w h commands bytes fit s l (left_by_store d w.keys.store commands of_file (may-wait w.keys.store.pending (world_of w).keys.keys fit.waits) s bytes left)
+-- what is left now, while nothing is written
+left-now : (d : DiskState) (r : RunningWorld) (done : Acknowledged) → r.keys.store.log.file ≡ 0 → r.names.store.log.log.file ≡ 1 → ServicesFit (world_of r) → (s : HoldsLogs d r done) → (c : Image) → IsImage d c
+    → IsLeftOfBoth r NothingMore done s.names.used c
+left-now d r done keys_file names_file fit s c image =
+    record { keys = keys-now d r done keys_file fit s (c 0) (image 0 (omega arith)); names = names-now d r NothingMore done names_file s (c 1) (image 1 (omega arith)) }
+
+pub survives-now : (d : DiskState) (r : RunningWorld) → r.keys.store.log.file ≡ 0 → r.names.store.log.log.file ≡ 1 → ServicesFit (world_of r) → SurvivesNow d r
+survives-now d r keys_file names_file fit done s c image = survives-left d r NothingMore done s fit c (left-now d r done keys_file names_file fit s c image)
+
+-- and what is linked there
+
+sound-left : (d : DiskState) (r : RunningWorld) (ledger : Ledger) (place : ℕ) (own : Bool → EditOp → Type 0) → LinkedFiles (world_of r) ledger place → OwnLinks (world_of r) ledger own → (done : Acknowledged) (s : HoldsLogs d r done)
+    → ServicesFit (world_of r) → (c : Image) → IsLeftOfBoth r own done s.names.used c → SoundFiles ledger place c
+sound-left d r ledger place own files owns done s fit c left = record {
+  commands = done.keys ++ settled_commands left.keys.kept r.keys.store.pending;
+  more = left.keys.more;
+  table = (settled left.keys.kept (world_of r).keys).table;
+  ops = done.names ++ settled_ops left.names.kept r.names.store.log.pending;
+  more_ops = left.names.more;
+  made = settled_log left.names.kept r.names.store.log.pending (made_with r.names.store s.names.used);
+  keys = keys-left d r own done s fit c left;
+  names = names-left d r own done s c left;
+  linked = λ found found_names.
+      tables-through (world_of r) ledger place own left.keys.kept found left.keys.more (made_with r.names.store s.names.used) done.names (c 1) fit left.keys.fits refl files owns left.names found_names;
+}
+
+pub sound-through : (old new : DiskState) (r : RunningWorld) (h : Hidden) (own : Bool → EditOp → Type 0) → ServicesFit (world_of r) → LinkedFiles (world_of r) h.ledger h.place → OwnLinks (world_of r) h.ledger own → LeavesLogs old new r own
+    → SoundThrough old new r h
+sound-through old new r h own fit files owns moments done s =
+    leaves-weaker old new (IsLeftOfBoth r own done s.names.used) (SoundFiles h.ledger h.place) (λ c left. sound-left old r h.ledger h.place own files owns done s fit c left) (moments done s)
+
+pub sound-now : (d : DiskState) (r : RunningWorld) (h : Hidden) → r.keys.store.log.file ≡ 0 → r.names.store.log.log.file ≡ 1 → ServicesFit (world_of r) → LinkedWorld (world_of r) h → SoundNow d r h
+sound-now d r h keys_file names_file fit l done s c image =
+    sound-left d r h.ledger h.place NothingMore (world-files (world_of r) h l) (own-of-nothing (world_of r) h) done s fit c (left-now d r done keys_file names_file fit s c image)
+
+-- what an event may write keeps the files linked, with the ledger behind it
+
+finish-owns : (w : WorldState) (h : Hidden) (words : ℕ → ℕ) (drawn number : ℕ) (reply : Option KeptReply) (fault : Type 0) (told : Line) (logged : Acknowledged) (w' : WorldState) → numbered w.kept.replies number ≡ reply
+    → FinishReply w reply fault told drawn logged w' → ServicesFit w → LinkedWorld w h → OwnLinks w (hidden_after w words (event.Finish number) told drawn w' h).ledger (OwnOfReply w.names reply told w'.names)
+finish-owns w h words drawn number None fault told logged w' at acts fit l = λ kept op own. absurd own
+finish-owns w h words drawn number (Some reply) fault told logged w' at acts fit l = λ kept op own may.
+    subst (λ (v : WorldState). FilesLinked (hidden_after w words (event.Finish number) told drawn v h).ledger w.keys.keys.table.rows (after_table (settled_names kept w.names).table op).rows) (sym acts.left)
+    (subst (λ (x : Line). FilesLinked (hidden_after w words (event.Finish number) x drawn (record w { names = acts.names }) h).ledger w.keys.keys.table.rows (after_table (settled_names kept w.names).table op).rows) (sym acts.told_is)
+    (own-of-finish w h words drawn number reply fault acts.result acts.ops acts.names acts.finishes at fit l kept op (by-result own.result own.told_is own.own) may))
+  where
+    one-result : (a b : Result (Unit {0}) NameRefusal) → finish_line a ≡ finish_line b → a ≡ b
+    one-result (Ok u) (Ok v) is = refl
+    one-result (Err why) (Err other) is = let same : why ≡ other = cc is in ap (λ (r : NameRefusal). Err r) same
+    one-result (Ok u) (Err why) is = absurd (cc is)
+    one-result (Err why) (Ok u) is = absurd (cc is)
+
+    by-result : (result : Result (Unit {0}) NameRefusal) → told ≡ finish_line result → {kept : Bool} {op : EditOp} → OwnOfFinish w.names reply.id reply.answer result w'.names kept op
+        → OwnOfFinish w.names reply.id reply.answer acts.result acts.names kept op
+    by-result result is {kept} {op} o =
+        subst (λ (r : Result (Unit {0}) NameRefusal). OwnOfFinish w.names reply.id reply.answer r acts.names kept op) (one-result result acts.result (sym is ∙ acts.told_is))
+        (subst (λ (v : WorldState). OwnOfFinish w.names reply.id reply.answer result v.names kept op) acts.left o)
+
+event-owns : (lines : List PropLine) (w : WorldState) (words : ℕ → ℕ) (now : ℕ) (e : Event) (fault tells : Type 0) (told : Line) (drawn : ℕ) (logged : Acknowledged) (w' : WorldState) (h : Hidden) → ServicesFit w
+    → Step lines w words now e fault tells told drawn logged w' → LinkedWorld w h → OwnLinks w (hidden_after w words e told drawn w' h).ledger (OwnOfEvent w e told w')
+event-owns lines w words now e fault tells told drawn logged w' h fit step l = go e step
+  where
+    by-path : (c : NPath → NameCall) (path : Option NPath) → OwnLinks w h.ledger (OwnOfPath w.names c path)
+    by-path c None = λ kept op own. absurd own
+    by-path c (Some path) = own-of-call w h (c path) fit l
+
+    go : (x : Event) → Step lines w words now x fault tells told drawn logged w' → OwnLinks w (hidden_after w words x told drawn w' h).ledger (OwnOfEvent w x told w')
+    go (event.Kms user c) s = own-of-nothing w h
+    go event.RestartKms s = own-of-nothing w h
+    go event.RestartName s = own-of-opening w h fit l
+    go (event.Mkdir user path) s = by-path call.Mkdir (read_path path)
+    go (event.Delete user path recursive) s = by-path (delete_with recursive) (read_path path)
+    go (event.Info user path) s = by-path call.Info (read_path path)
+    go (event.List user path) s = by-path call.List (read_path path)
+    go (event.Zones user) s = own-of-call w h call.Zones fit l
+    go (event.AskCreate user path) s = own-of-nothing w h
+    go (event.AskZone user path key) s = own-of-nothing w h
+    go (event.Draw number) s = λ kept op own. absurd own
+    go (event.Finish number) s = finish-owns w h words drawn number (numbered w.kept.replies number) fault told logged w' refl s fit l
 
 -- an event
 
-pub steps : (lines : List PropLine) (old new : DiskState) (w : RunningWorld) (words : ℕ → ℕ) (now : ℕ) (e : Event) (told : Line) (w' : RunningWorld) (words' : ℕ → ℕ) → ServicesFit (world_of w) → ServicesFit (world_of w')
-    → w'.keys.store.log.file ≡ 0 → Happens lines old new w words now e told w' words' → Steps lines old new w words now e told w' words'
-steps lines old new w words now e told w' words' fit fit' of_file h = record {
-  drawn = h.drawn;
-  logged = h.logged;
+pub steps : (lines : List PropLine) (old new : DiskState) (r : RunningWorld) (words : ℕ → ℕ) (now : ℕ) (e : Event) (told : Line) (r' : RunningWorld) (words' : ℕ → ℕ) → r.keys.store.log.file ≡ 0 → r.names.store.log.log.file ≡ 1
+    → ServicesFit (world_of r) → r'.keys.store.log.file ≡ 0 → r'.names.store.log.log.file ≡ 1 → ServicesFit (world_of r') → Happens lines old new r words now e told r' words' → Steps lines old new r words now e told r' words'
+steps lines old new r words now e told r' words' keys_file names_file fit keys_file' names_file' fit' does = record {
+  drawn = does.drawn;
+  logged = does.logged;
   step = record {
-    step = h.acts;
+    step = does.acts;
     linked = linked;
-    files_open = λ knows hidden l. linked-promise (world_of w') (hidden_after (world_of w) words e told h.drawn hidden) fit'.keys.table.names (linked knows hidden l);
+    files_open = λ knows h l. linked-promise (world_of r') (hidden_after (world_of r) words e told does.drawn (world_of r') h) fit'.keys.table.names (linked knows h l);
   };
-  rest = h.rest;
-  stands = h.disk.stands;
-  survives = survives-crash old new w fit.keys h.disk.moments;
-  survives_then = λ knows hidden l. survives-now new w' (hidden_after (world_of w) words e told h.drawn hidden) of_file fit'.keys (linked knows hidden l);
-  run = h.disk.run;
-  lists = h.lists;
+  rest = does.rest;
+  stands = one-holds old new r r' own does.logged keys_file names_file does.disk;
+  survives = survives-through old new r own fit moments;
+  survives_then = survives-now new r' keys_file' names_file' fit';
+  sound = λ tells h l. sound-through old new r (hidden_after (world_of r) words e told does.drawn (world_of r') h) own fit
+      (event-files lines (world_of r) words now e (Rose old.faults new.faults) (Tells old) told does.drawn does.logged (world_of r') h fit does.acts l)
+      (event-owns lines (world_of r) words now e (Rose old.faults new.faults) (Tells old) told does.drawn does.logged (world_of r') h fit does.acts l) (moments tells);
+  sound_then = λ knows h l. sound-now new r' (hidden_after (world_of r) words e told does.drawn (world_of r') h) keys_file' names_file' fit' (linked knows h l);
+  run = one-runs old new r r' own does.logged does.disk;
+  lists = does.lists;
 }
   where
-    linked : KnowsKeys e (Tells old) → (hidden : Hidden) → LinkedWorld (world_of w) hidden → LinkedWorld (world_of w') (hidden_after (world_of w) words e told h.drawn hidden)
-    linked knows hidden l = keeps-linked lines (world_of w) words now e (Rose old.faults new.faults) (Tells old) told h.drawn h.logged (world_of w') hidden knows fit h.acts l
+    own : Bool → EditOp → Type 0
+    own = OwnOfEvent (world_of r) e told (world_of r')
 
-pub fails : (old new : DiskState) (w : RunningWorld) (words : ℕ → ℕ) (e : Event) (fault : StartFault) (w' : RunningWorld) (words' : ℕ → ℕ) → ServicesFit (world_of w)
-    → FailsToOpen old new w words e fault w' words' → Fails old new w words e fault w' words'
-fails old new w words e fault w' words' fit f = record { fails = f; survives = survives-crash old new w fit.keys f.why.moments }
+    moments : Tells old → LeavesLogs old new r own
+    moments = one-leaves old new r r' own does.logged keys_file names_file fit does.disk
 
--- a start
+    linked : KnowsWorld e (Tells old) → (h : Hidden) → LinkedWorld (world_of r) h → LinkedWorld (world_of r') (hidden_after (world_of r) words e told does.drawn (world_of r') h)
+    linked knows h l = keeps-linked lines (world_of r) words now e (Rose old.faults new.faults) (Tells old) told does.drawn does.logged (world_of r') h knows fit does.acts l
 
-pub begins : (old new : DiskState) (w : RunningWorld) → w.keys.store.log.file ≡ 0 → IsService (world_of w).keys → w.names ≡ names.first_state → w.kept ≡ record { notes = []; replies = [] }
-    → Starts old new (running w.keys) → Begins old new w
-begins old new w of_file fit root nothing s =
-    let first : world_of w ≡ first_world s.table = λ i. record { keys = s.opens i; names = root i; kept = nothing i } in
-    record {
-      table = s.table;
-      first = first;
-      log = s.log;
-      survives_then = survives-now new w nothing_drawn of_file fit (subst (λ (v : WorldState). LinkedWorld v nothing_drawn) (sym first) (first-linked s.table));
-    }
-
--- a restart
-
--- a start leaves of the log of a service what a crash may leave of it
-pub left-by-restart : (old new : DiskState) (r : Running) → r.store.log.file ≡ 0 → IsService (service_of r)
-    → (Tells old → LeavesOnly 0 old new (λ c. old.leaves 0 c ⊎ IsLeftByStart (old.reads 0) c))
-    → Tells old → (commands : List KeyCommand) → StandsFor old r.store commands → LeavesOnly 0 old new (IsLeftOf r.store.table.keys r.store.pending commands)
-left-by-restart old new r of_file fit moments told commands s =
-    let may : Applies r.store.table.keys r.store.pending = may-wait r.store.pending (service_of r).keys fit.waits in
-    let sound : IsSoundLog (old.reads 0) commands r.store.pending r.store.table.keys = sound_store old r.store commands of_file may s in
-    weaker (λ c left. ⊎_elim (λ before. left_by_store old r.store commands of_file may s c before) (λ found. left_by_start (old.reads 0) commands r.store.pending r.store.table.keys sound c found) left) (moments told)
-
--- what a start found beside the log of a service
-record Reopened (old new : DiskState) (r r' : Running) (table : Table) : Type 0 where
-  logged : List KeyCommand
-  found : Tells old → Recovers (service_of r) table logged
-  stands : Tells old → (commands : List KeyCommand) → StandsFor old r.store commands → StandsFor new r'.store (commands ++ logged)
-
-joined : (xs ys zs : List KeyCommand) → (xs ++ ys) ++ zs ≡ xs ++ (ys ++ zs)
-joined [] ys zs = refl
-joined (x ∷ xs) ys zs = ap (λ (l : List KeyCommand). x ∷ l) (joined xs ys zs)
-
-reopened : (old new : DiskState) (r r' : Running) → r.store.log.file ≡ 0 → IsService (service_of r) → (Tells old → (commands : List KeyCommand) × StandsFor old r.store commands) → (s : Starts old new r')
-    → Reopened old new r r' s.table
-reopened old new r r' of_file fit stands s = go old.tells refl
-  where
-    may : Applies r.store.table.keys r.store.pending
-    may = may-wait r.store.pending (service_of r).keys fit.waits
-
-    go : (b : Bool) → old.tells ≡ b → Reopened old new r r' s.table
-    go false silent = record {
-      logged = [];
-      found = λ told. absurd (cc (told, silent));
-      stands = λ told. absurd (cc (told, silent));
-    }
-    go true told =
-        let log = s.log told in
-        let before = stands told in
-        let f = finds (old.reads 0) before.0 r.store.pending r.store.table.keys log.0 s.table (sound_store old r.store before.0 of_file may before.1) log.1 in
-        let logged : List KeyCommand = settled_commands f.kept r.store.pending ++ next_opening s.table ∷ [] in
-        let all : log.0 ++ next_opening s.table ∷ [] ≡ before.0 ++ logged =
-        ap (λ (l : List KeyCommand). l ++ next_opening s.table ∷ []) f.commands_are ∙ joined before.0 (settled_commands f.kept r.store.pending) (next_opening s.table ∷ []) in
-        record {
-          logged = logged;
-          found = λ again. record { kept = f.kept; table_is = f.table_is; logged_is = refl };
-          stands = λ again commands other.
-              let one : commands ≡ before.0 = stands_once old r.store before.0 commands log.0 s.table of_file may before.1 other log.1 in
-              subst (StandsFor new r'.store) (all ∙ ap (λ (l : List KeyCommand). l ++ logged) (sym one)) log.2;
-        }
-
--- a restart, with its new keys put in place of the old ones, and the same lists
-pub restarted : (old new : DiskState) (w w' : RunningWorld) (opening : ℕ) → w'.keys.acls ≡ w.keys.acls → w.keys.store.log.file ≡ 0 → IsService (world_of w).keys → (Tells old → (commands : List KeyCommand) × StandsFor old w.keys.store commands)
-    → Starts old new (running w'.keys) → (Tells old → LeavesOnly 0 old new (λ c. old.leaves 0 c ⊎ IsLeftByStart (old.reads 0) c)) → RunOn 0 old new
-    → opening ≡ w'.keys.store.table.keys.opening → w' ≡ record w { keys = w'.keys }
-    → (lines : List PropLine) (words : ℕ → ℕ) (now : ℕ) → Happens lines old new w words now event.RestartKms (line.Opened opening) w' words
-restarted old new w w' opening lists of_file fit stands s moments run number rest lines words now =
-    let found = reopened old new (running w.keys) (running w'.keys) of_file fit stands s in
-    record {
-      drawn = 0;
-      logged = found.logged;
-      acts = record {
-        table = s.table;
-        found = found.found;
-        told_is = ap (λ (n : ℕ). line.Opened n) (number ∙ ap (λ t. t.keys.table.opening) s.opens);
-        none_drawn = refl;
-        left = ap world_of rest ∙ ap (λ t. record (world_of w) { keys = t }) s.opens;
-      };
-      rest = λ k. ap words (omega arith);
-      disk = record { stands = found.stands; moments = left-by-restart old new (running w.keys) of_file fit moments; run = run };
-      lists = lists;
-    }
-
--- a restart whose opening failed
-
-pub not-opened : (old new : DiskState) (r : Running) (fault : StartFault) → r.store.log.file ≡ 0 → IsService (service_of r) → (Tells old → (commands : List KeyCommand) × StandsFor old r.store commands)
-    → ((at : ℕ) → fault ≡ start.Damaged at → Tells old → IsDamagedAt (old.reads 0) at)
-    → (fault ≡ start.Spent → Tells old → (commands : List KeyCommand) × (table : Table) × IsKeyLog (old.reads 0) commands table × (table.opening ≡ 4294967295))
-    → (fault ≡ start.StoreFault → Rose old.faults new.faults)
-    → (Tells old → LeavesOnly 0 old new (λ c. old.leaves 0 c ⊎ IsLeftByStart (old.reads 0) c)) → RunOn 0 old new → NotOpened old new r fault
-not-opened old new r fault of_file fit stands damaged spent cause moments run = record {
-  never_damaged = λ told at is. not_damaged (old.reads 0) (stands told).0 r.store.pending r.store.table.keys at (sound told) (damaged at is told);
-  spent = λ is told.
-      let k = spent is told in
-      let f = finds (old.reads 0) (stands told).0 r.store.pending r.store.table.keys k.0 k.1 (sound told) k.2 in
-      (f.kept, ap (λ (t : Table). t.opening) (sym f.table_is) ∙ k.3);
-  cause = cause;
-  moments = left-by-restart old new r of_file fit moments;
-  run = run;
-}
-  where
-    sound : (told : Tells old) → IsSoundLog (old.reads 0) (stands told).0 r.store.pending r.store.table.keys
-    sound told = sound_store old r.store (stands told).0 of_file (may-wait r.store.pending (service_of r).keys fit.waits) (stands told).1
+-- what step answers, by what happened
+pub step-result : (old new : DiskState) (r : RunningWorld) (words : ℕ → ℕ) (now : ℕ) (e : Event) (result : Result Line WorldFault) (r' : RunningWorld) (words' : ℕ → ℕ) → r.keys.store.log.file ≡ 0 → r.names.store.log.log.file ≡ 1
+    → ServicesFit (world_of r) → r'.keys.store.log.file ≡ 0 → r'.names.store.log.log.file ≡ 1 → ServicesFit (world_of r')
+    → MatchResult result (λ told. (lines : List PropLine) → ListsFor r.keys.acls lines → Happens lines old new r words now e told r' words') (λ fault. Fails old new r words e fault.file fault.fault r' words')
+    → MatchResult result (λ told. (lines : List PropLine) → ListsFor r.keys.acls lines → Steps lines old new r words now e told r' words') (λ fault. Fails old new r words e fault.file fault.fault r' words')
+step-result old new r words now e (Ok told) r' words' keys_file names_file fit keys_file' names_file' fit' happens = λ lines lists. steps lines old new r words now e told r' words' keys_file names_file fit keys_file' names_file' fit' (happens lines lists)
+step-result old new r words now e (Err fault) r' words' keys_file names_file fit keys_file' names_file' fit' fails = fails

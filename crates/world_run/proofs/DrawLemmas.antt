@@ -24,10 +24,9 @@ use Rattle.kms_core.specs.State.{KmsState}
 use Rattle.kms_core.proofs.DrawLemmas.{length-drawn}
 use Rattle.kms_core.proofs.KeyLemmas.{found_passes}
 use Rattle.kms_core.proofs.LawLemmas.{generated_opens}
-use Rattle.name_core.specs.declared.calls.Want.TheVariants as want
 use Rattle.name_core.specs.Asks.{answer_of}
 use Rattle.world_run.specs.Ledger.{draw_of}
-use Rattle.world_run.specs.Linked.{Answers, OpensTo, given}
+use Rattle.world_run.specs.Linked.{OpensTo, given}
 use Rattle.world_run.specs.Promise.{In}
 
 -- members of a table of keys
@@ -102,18 +101,17 @@ opens-alone rows row e dek found named h = alone _ rows row e.version dek found 
 
 -- a metadata that was wanted
 
-pub record NoKeyGiven (name : List ℕ) (told : KmsReply) : Type 0 where
-  pub answers : Answers (want.Metadata name) (answer_of (Some told))
-  pub none : given (answer_of (Some told)) ≡ None
+abbrev NoKeyGiven : KmsReply → Type 0
+NoKeyGiven told = given (answer_of (Some told)) ≡ None
 
 pub meta-answers : (s : KmsState) (words : ℕ → ℕ) (now : ℕ) (name : List ℕ) (told : KmsReply) (drawn : ℕ) (s' : KmsState)
-    → KmsActs s words now (call.Metadata name) told drawn s' → NoKeyGiven name told
-meta-answers s words now name told drawn s' (NoRoom some, may, is) = subst (NoKeyGiven name) (sym (ap (λ o. o.told) is)) (record { answers = tt; none = refl })
-meta-answers s words now name told drawn s' (Plain, may, is) = subst (NoKeyGiven name) (sym (ap (λ o. o.told) is)) (go (first_cause (causes s (call.Metadata name))))
+    → KmsActs s words now (call.Metadata name) told drawn s' → given (answer_of (Some told)) ≡ None
+meta-answers s words now name told drawn s' (NoRoom some, may, is) = subst NoKeyGiven (sym (ap (λ o. o.told) is)) refl
+meta-answers s words now name told drawn s' (Plain, may, is) = subst NoKeyGiven (sym (ap (λ o. o.told) is)) (go (first_cause (causes s (call.Metadata name))))
   where
-    go : (o : Option KmsRefusal) → NoKeyGiven name (unless_refused o s (deed s words now (call.Metadata name))).told
-    go (Some why) = record { answers = tt; none = refl }
-    go None = record { answers = refl; none = refl }
+    go : (o : Option KmsRefusal) → NoKeyGiven (unless_refused o s (deed s words now (call.Metadata name))).told
+    go (Some why) = refl
+    go None = refl
 
 -- a generate of one key that was wanted
 
@@ -164,7 +162,6 @@ row-stands None h = absurd cc
 row-stands (Some row) h = (row, refl)
 
 pub record FreshKey (s : KmsState) (words : ℕ → ℕ) (place : ℕ) (name : List ℕ) (e : Edek) : Type 0 where
-  pub of_name : e.version.key ≡ name
   pub of_draw : e.version ≡ (draw_of s words place name).version
   pub opens : OpensTo s.table.rows (draw_of s words place name) e
   pub born : (draw_of s words place name).birth ≤ s.table.greatest
@@ -191,7 +188,6 @@ fresh-key s words place now name e drawn s' table acts one =
     (generated_opens s words now name 1 (e ∷ []) s' (λ k. words (drawn + k)) table (record { drawn = drawn; acts = acts; rest = λ k. refl }) 0 e refl)
     ∙ ap (λ (n : ℕ). Some (drawn_dek words n (length (current_material s name)))) (first-place (length (current_material s name))) in
     record {
-      of_name = key ∙ same-bytes row.0.name name named;
       of_draw = ap (λ (k : Edek). k.version) one.drawn_is;
       opens = λ other i birth.
           let is : other ≡ row.0 = rising-once 0 s.table.greatest s.table.rows table.births other row.0 i (found-in name s.table.rows row.0 row.1) (birth ∙ ap birth_of row.1) in

@@ -1,42 +1,37 @@
--- A finish keeps the world linked.
-use Rattle.std.proofs.Common.{◌≡◌, ◌⊎◌, inl, inr, ℕ, ◌<◌, Bool, true, false, cond, not, List, [], ◌∷◌, ◌++◌, length, Option, Some, None, is_none, is_some, refl, sym, ap, subst, ◌∙◌, arith}
+-- What a finish makes of the ledger of draws, and of the files.
+use Rattle.std.proofs.Common.{◌≡◌, ◌⊎◌, inl, inr, ℕ, ◌<◌, Bool, true, false, cond, not, ◌&&◌, List, [], ◌∷◌, ◌++◌, length, Option, Some, None, is_none, is_some, refl, sym, ap, subst, ◌∙◌, arith}
 use Rattle.std.specs.Prelude.{◌==◌, nat_le}
 use Rattle.std.specs.List.{AllByRecursion}
-use Rattle.std.specs.Option.{option_map, option_and_then}
 use Rattle.std.proofs.lemmas.Bool.Decides.{nat_tests}
+use Rattle.std.proofs.lemmas.List.{append-nil}
 use Rattle.hk_base.specs.declared.names.Edek.{Edek}
-use Rattle.hk_base.specs.declared.names.KeyName.{KeyName}
 use Rattle.hk_base.specs.declared.names.VersionName.{VersionName}
 use Rattle.key_rows.specs.declared.rows.KeyRow.{KeyRow}
-use Rattle.inode_tree.specs.declared.paths.NPath.{NPath}
-use Rattle.inode_tree.specs.declared.rows.Kind.{Kind}
-use Rattle.inode_tree.specs.declared.rows.Kind.TheVariants.{Dir, File}
-use Rattle.inode_tree.specs.declared.rows.Row.{Row}
-use Rattle.inode_tree.specs.Paths.{parent}
-use Rattle.inode_tree.specs.Rows.{Entry, IsRows, has_children, is_dir, is_dir_at, mark_of, row_at, same_id, set_kind, zone_id, zone_of}
+use Rattle.inode_tree.specs.Rows.{Entry, has_children, is_dir_at, row_at, zone_of}
+use Rattle.name_store.specs.Table.{fits_zone, key_of_zone}
 use Rattle.name_core.specs.declared.asks.OpenAsk.{OpenAsk}
 use Rattle.name_core.specs.declared.calls.Ask.{Ask}
 use Rattle.name_core.specs.declared.calls.Ask.TheVariants as ask
-use Rattle.name_core.specs.declared.calls.AskNote.{AskNote}
-use Rattle.name_core.specs.declared.calls.KeyAnswer.{KeyAnswer}
-use Rattle.name_core.specs.declared.calls.KeyAnswer.TheVariants.{Given}
+use Rattle.name_core.specs.declared.calls.NameRefusal.{NameRefusal}
 use Rattle.name_core.specs.declared.calls.NameRefusal.TheVariants as refusal
-use Rattle.name_core.specs.declared.calls.Want.{Want}
-use Rattle.name_core.specs.declared.calls.Want.TheVariants.{Generate}
-use Rattle.name_core.specs.Asks.{finish_causes, finished, finished_rows, id_of, is_other_zone, key_of_zone, new_file, open_ask, path_asked, without, closed}
-use Rattle.name_core.specs.Calls.{first_cause}
-use Rattle.name_core.specs.State.{next_id}
-use Rattle.name_core.proofs.AskLemmas.{open-id, without-apart}
+use Rattle.name_core.specs.Asks.{finish_causes, finish_op, is_other_key, is_other_zone, open_ask, without}
+use Rattle.name_core.specs.Calls.{first_cause, path_causes, to_be_made}
+use Rattle.name_core.specs.State.{IsNames, IsRising, NameService, next_id, settled}
 use Rattle.world_run.specs.declared.kept.KeptReply.{KeptReply}
 use Rattle.world_run.specs.World.{WorldState}
-use Rattle.world_run.specs.Ledger.{Draw, Hidden, Ledger, entry_of}
-use Rattle.world_run.specs.Promise.{FitsZone, In, edek_of}
-use Rattle.world_run.specs.Linked.{Answers, DrawsFit, FilesLinked, HasDraw, IsDrawn, KeyLinked, LedgerFits, LinkedWorld, NamesFit, OpensTo, Replied, RepliesLinked, WantsFit, ZoneStands, given}
+use Rattle.world_run.specs.Ledger.{Draw, Hidden, Ledger, entered, entry_of, makes_file}
+use Rattle.world_run.specs.Promise.{In}
+use Rattle.world_run.specs.Linked.{DrawsFit, FilesLinked, HasDraw, IsDrawn, KeyLinked, LedgerFits, LinkedWorld, Replied, RepliesLinked}
 use Rattle.world_run.proofs.Members.{in-append, in-left, in-right, numbered-in}
-use Rattle.world_run.proofs.RowLemmas.{Markable, in-mark, key-mark, marked-stays, one-of-id, zone-in}
-use Rattle.world_run.proofs.WorldLemmas.{files-row, wants-row}
+use Rattle.world_run.proofs.RowsAfter.{OpFits, OpHasDraw}
 
--- asks that stay open
+-- open asks
+
+is-id : (a b : ℕ) → (a == b) ≡ true → a ≡ b
+is-id a b h = grind (arith, nat_tests)
+
+same-id : (a b : ℕ) → a ≡ b → (a == b) ≡ true
+same-id a b h = grind (arith, nat_tests)
 
 in-without : (asks : List OpenAsk) (id : ℕ) (a : OpenAsk) → In a (without asks id) → In a asks
 in-without [] id a i = absurd i
@@ -52,52 +47,39 @@ each-in P [] a h i = absurd i
 each-in P (b ∷ asks) a h (inl is) = subst P (sym is) h.0
 each-in P (b ∷ asks) a h (inr i) = each-in P asks a h.1 i
 
--- the open ask of an id is a member
-open-in : (asks : List OpenAsk) (id : ℕ) (a : OpenAsk) → open_ask asks id ≡ Some a → In a asks
+-- the open ask of an id is a member, and has that id
+pub open-in : (asks : List OpenAsk) (id : ℕ) (a : OpenAsk) → open_ask asks id ≡ Some a → In a asks × (a.id ≡ id)
 open-in [] id a h = absurd cc
-open-in (b ∷ asks) id a h = go (b.id == id) (open-in asks id a) h
+open-in (b ∷ asks) id a h = go (b.id == id) refl (open-in asks id a) h
   where
-    go : (t : Bool) → (open_ask asks id ≡ Some a → In a asks) → cond t (Some b) (open_ask asks id) ≡ Some a → In a (b ∷ asks)
-    go true ih h = let is : b ≡ a = cc in inl (sym is)
-    go false ih h = inr (ih h)
+    go : (t : Bool) → (b.id == id) ≡ t → (open_ask asks id ≡ Some a → In a asks × (a.id ≡ id)) → cond t (Some b) (open_ask asks id) ≡ Some a → In a (b ∷ asks) × (a.id ≡ id)
+    go true same ih h = let is : b ≡ a = cc in (inl (sym is), ap (λ (x : OpenAsk). x.id) (sym is) ∙ is-id b.id id same)
+    go false same ih h = let q = ih h in (inr q.0, q.1)
 
-fewer-ledger : (ledger : Ledger) (replies : List KeptReply) (replied : List (Option Draw)) (asks : List OpenAsk) (id next : ℕ) → LedgerFits ledger replies replied asks next
-    → LedgerFits ledger replies replied (without asks id) next
-fewer-ledger ledger replies replied asks id next g =
-    record { one_draw = g.one_draw; one_file = g.one_file; below = g.below; not_open = λ a d i. g.not_open a d (in-without asks id a i); its_ask = g.its_ask }
-
-fewer-wants : (rows : List Entry) (asks : List OpenAsk) (notes : List AskNote) (replies : List KeptReply) (id next : ℕ) → WantsFit rows asks notes replies next
-    → WantsFit rows (without asks id) notes replies next
-fewer-wants rows asks notes replies id next v =
-    record {
-      in_zone = λ a zone i. v.in_zone a zone (in-without asks id a i);
-      outside = λ a p i. v.outside a p (in-without asks id a i);
-      noted = λ a note i. v.noted a note (in-without asks id a i);
-      answered = λ a r i. v.answered a r (in-without asks id a i);
-      old_notes = v.old_notes;
-      old_replies = v.old_replies;
-    }
-
-pub linked-closed : (w : WorldState) (h : Hidden) (id : ℕ) → LinkedWorld w h → LinkedWorld (record w { names = closed w.names id }) h
-linked-closed w h id l =
-    record {
-      files = l.files;
-      replies = l.replies;
-      draws = l.draws;
-      ledger = fewer-ledger h.ledger w.kept.replies h.replied w.names.asks id (next_id w.names) l.ledger;
-      wants = fewer-wants w.names.table.rows w.names.asks w.kept.notes w.kept.replies id (next_id w.names) l.wants;
-    }
+-- once it is closed no open ask has the id
+without-apart : (asks : List OpenAsk) (id : ℕ) → IsRising asks → (b : OpenAsk) → In b (without asks id) → b.id ≡ id → ⊥
+without-apart [] id r b i same = absurd i
+without-apart (a ∷ asks) id r b i same = go (a.id == id) refl i (without-apart asks id r.1 b)
+  where
+    go : (t : Bool) → (a.id == id) ≡ t → In b (cond t asks (a ∷ without asks id)) → (In b (without asks id) → b.id ≡ id → ⊥) → ⊥
+    go true is i ih = let h = each-in (λ (x : OpenAsk). a.id < x.id) asks b r.0 i in absurd (omega (arith, h, same, is-id a.id id is))
+    go false is (inl e) ih = let h = same-id a.id id (ap (λ (x : OpenAsk). x.id) (sym e) ∙ same) in absurd cc
+    go false is (inr i) ih = ih i same
 
 -- the entry of a finish
 
-in-entry : (ledger : Ledger) (kept : KeptReply) (o : Option Draw) (i : ℕ) (d : Draw) → In (i, d) (ledger ++ entry_of (Some kept) (Some o)) → In (i, d) ledger ⊎ ((i ≡ kept.id) × (o ≡ Some d))
-in-entry ledger kept o i d p = go o (in-append (i, d) ledger (entry_of (Some kept) (Some o)) p)
+abbrev pub with_entry : Bool → KeptReply → Option Draw → Ledger → Ledger
+with_entry enter kept o ledger = ledger ++ entered enter (entry_of (Some kept) (Some o))
+
+in-entry : (enter : Bool) (ledger : Ledger) (kept : KeptReply) (o : Option Draw) (i : ℕ) (d : Draw) → In (i, d) (with_entry enter kept o ledger) → In (i, d) ledger ⊎ ((i ≡ kept.id) × (o ≡ Some d))
+in-entry enter ledger kept o i d p = go enter o (in-append (i, d) ledger (entered enter (entry_of (Some kept) (Some o))) p)
   where
-    go : (q : Option Draw) → In (i, d) ledger ⊎ In (i, d) (entry_of (Some kept) (Some q)) → In (i, d) ledger ⊎ ((i ≡ kept.id) × (q ≡ Some d))
-    go q (inl old) = inl old
-    go None (inr none) = absurd none
-    go (Some f) (inr (inl is)) = inr (ap (λ (e : ℕ × Draw). e.0) is, ap (λ (e : ℕ × Draw). Some e.1) (sym is))
-    go (Some f) (inr (inr none)) = absurd none
+    go : (b : Bool) (q : Option Draw) → In (i, d) ledger ⊎ In (i, d) (entered b (entry_of (Some kept) (Some q))) → In (i, d) ledger ⊎ ((i ≡ kept.id) × (q ≡ Some d))
+    go b q (inl old) = inl old
+    go false q (inr none) = absurd none
+    go true None (inr none) = absurd none
+    go true (Some f) (inr (inl is)) = inr (ap (λ (e : ℕ × Draw). e.0) is, ap (λ (e : ℕ × Draw). Some e.1) (sym is))
+    go true (Some f) (inr (inr none)) = absurd none
 
 same-draw : (o : Option Draw) (d f : Draw) → o ≡ Some d → o ≡ Some f → d ≡ f
 same-draw o d f h k = go (sym h ∙ k)
@@ -105,38 +87,37 @@ same-draw o d f h k = go (sym h ∙ k)
     go : Some d ≡ Some f → d ≡ f
     go e = cc
 
-entered-ledger : (ledger : Ledger) (keys : List KeyRow) (replies : List KeptReply) (replied : List (Option Draw)) (asks : List OpenAsk) (a : OpenAsk) (kept : KeptReply) (o : Option Draw) (next : ℕ)
-    → In a asks → a.id ≡ kept.id → kept.id < next → Replied replies replied kept o → RepliesLinked keys replies replied
-    → AllByRecursion (λ (b : OpenAsk). b.id ≡ kept.id → ⊥) (without asks kept.id)
-    → LedgerFits ledger replies replied asks next → LedgerFits (ledger ++ entry_of (Some kept) (Some o)) replies replied (without asks kept.id) next
-entered-ledger ledger keys replies replied asks a kept o next member same low at l apart g =
+pub entered-ledger : (enter : Bool) (ledger : Ledger) (keys : List KeyRow) (replies : List KeptReply) (replied : List (Option Draw)) (asks : List OpenAsk) (a : OpenAsk) (kept : KeptReply) (o : Option Draw) (next : ℕ)
+    → In a asks → a.id ≡ kept.id → a.id < next → IsRising asks → Replied replies replied kept o → RepliesLinked keys replies replied
+    → LedgerFits ledger replies replied asks next → LedgerFits (with_entry enter kept o ledger) replies replied (without asks a.id) next
+entered-ledger enter ledger keys replies replied asks a kept o next member same low rising at l g =
     record {
-      one_draw = λ id d f i j. elim (in-entry ledger kept o id d i) [
-        | inl old ↦ elim (in-entry ledger kept o id f j) [
+      one_draw = λ id d f i j. elim (in-entry enter ledger kept o id d i) [
+        | inl old ↦ elim (in-entry enter ledger kept o id f j) [
           | inl other ↦ g.one_draw id d f old other
           | inr new ↦ absurd (g.not_open a d member (subst (λ (n : ℕ). In (n, d) ledger) (new.0 ∙ sym same) old))
         ]
-        | inr mine ↦ elim (in-entry ledger kept o id f j) [
+        | inr mine ↦ elim (in-entry enter ledger kept o id f j) [
           | inl other ↦ absurd (g.not_open a f member (subst (λ (n : ℕ). In (n, f) ledger) (mine.0 ∙ sym same) other))
           | inr new ↦ same-draw o d f mine.1 new.1
         ]
       ];
-      one_file = λ i j d p q. elim (in-entry ledger kept o i d p) [
-        | inl old ↦ elim (in-entry ledger kept o j d q) [
+      one_file = λ i j d p q. elim (in-entry enter ledger kept o i d p) [
+        | inl old ↦ elim (in-entry enter ledger kept o j d q) [
           | inl other ↦ g.one_file i j d old other
           | inr new ↦ sym (g.its_ask i kept d old (replied-as new.1)) ∙ sym new.0
         ]
-        | inr mine ↦ elim (in-entry ledger kept o j d q) [
+        | inr mine ↦ elim (in-entry enter ledger kept o j d q) [
           | inl other ↦ mine.0 ∙ g.its_ask j kept d other (replied-as mine.1)
           | inr new ↦ mine.0 ∙ sym new.0
         ]
       ];
-      below = λ id d i. elim (in-entry ledger kept o id d i) [ inl old ↦ g.below id d old | inr new ↦ omega (arith, low, new.0) ];
-      not_open = λ b d i j. elim (in-entry ledger kept o b.id d j) [
-        | inl old ↦ g.not_open b d (in-without asks kept.id b i) old
-        | inr new ↦ each-in (λ (x : OpenAsk). x.id ≡ kept.id → ⊥) (without asks kept.id) b apart i new.0
+      below = λ id d i. elim (in-entry enter ledger kept o id d i) [ inl old ↦ g.below id d old | inr new ↦ omega (arith, low, same, new.0) ];
+      not_open = λ b d i j. elim (in-entry enter ledger kept o b.id d j) [
+        | inl old ↦ g.not_open b d (in-without asks a.id b i) old
+        | inr new ↦ without-apart asks a.id rising b i (new.0 ∙ sym same)
       ];
-      its_ask = λ id r d i r_at. elim (in-entry ledger kept o id d i) [
+      its_ask = λ id r d i r_at. elim (in-entry enter ledger kept o id d i) [
         | inl old ↦ g.its_ask id r d old r_at
         | inr new ↦ l.one_ask r kept d r_at (replied-as new.1) ∙ sym new.0
       ];
@@ -145,19 +126,20 @@ entered-ledger ledger keys replies replied asks a kept o next member same low at
     replied-as : {d : Draw} → o ≡ Some d → Replied replies replied kept (Some d)
     replied-as {d = d} is = subst (λ (x : Option Draw). Replied replies replied kept x) is at
 
-entered-draws : (ledger : Ledger) (replies : List KeptReply) (replied : List (Option Draw)) (kept : KeptReply) (o : Option Draw) (place greatest : ℕ) → Replied replies replied kept o
-    → DrawsFit ledger replied place greatest → DrawsFit (ledger ++ entry_of (Some kept) (Some o)) replied place greatest
-entered-draws ledger replies replied kept o place greatest at f =
+entered-draws : (enter : Bool) (ledger : Ledger) (replies : List KeptReply) (replied : List (Option Draw)) (kept : KeptReply) (o : Option Draw) (place greatest : ℕ) → Replied replies replied kept o
+    → DrawsFit ledger replied place greatest → DrawsFit (with_entry enter kept o ledger) replied place greatest
+entered-draws enter ledger replies replied kept o place greatest at f =
     record { taken = λ d i. f.taken d (was d i); born = λ d i. f.born d (was d i); apart = λ d g i j. f.apart d g (was d i) (was g j) }
   where
-    was : (d : Draw) → IsDrawn (ledger ++ entry_of (Some kept) (Some o)) replied d → IsDrawn ledger replied d
-    was d (inl (id, i)) = elim (in-entry ledger kept o id d i) [
+    was : (d : Draw) → IsDrawn (with_entry enter kept o ledger) replied d → IsDrawn ledger replied d
+    was d (inl (id, i)) = elim (in-entry enter ledger kept o id d i) [
       | inl old ↦ inl (id, old)
       | inr new ↦ inr (subst (λ (x : Option Draw). In x replied) new.1 (numbered-in replied at.0 o at.2))
     ]
     was d (inr i) = inr i
 
-entered-files : (ledger entries : Ledger) (keys : List KeyRow) (rows : List Entry) → FilesLinked ledger keys rows → FilesLinked (ledger ++ entries) keys rows
+-- files are linked with more entries too
+pub entered-files : (ledger entries : Ledger) (keys : List KeyRow) (rows : List Entry) → FilesLinked ledger keys rows → FilesLinked (ledger ++ entries) keys rows
 entered-files ledger entries keys rows f =
     record {
       files = λ x e i h. let d = f.files x e i h in record { draw = d.draw; entered = in-left (x.row.id, d.draw) ledger entries d.entered; of_key = d.of_key; opens = d.opens };
@@ -165,187 +147,88 @@ entered-files ledger entries keys rows f =
     }
 
 -- the draw of the key of a new file
-new-draw : (ledger : Ledger) (keys : List KeyRow) (kept : KeptReply) (o : Option Draw) (edek : Option Edek) (e : Edek) → edek ≡ Some e → KeyLinked keys edek o
-    → HasDraw (ledger ++ entry_of (Some kept) (Some o)) keys kept.id e
-new-draw ledger keys kept o None e is k = absurd cc
-new-draw ledger keys kept None (Some f) e is k = absurd k
-new-draw ledger keys kept (Some d) (Some f) e is k =
-    let same : f ≡ e = cc in
-    record {
-      draw = d;
-      entered = in-right (kept.id, d) ledger ((kept.id, d) ∷ []) (inl refl);
-      of_key = ap (λ (v : VersionName). v.key) (ap (λ (x : Edek). x.version) (sym same) ∙ k.0);
-      opens = subst (λ (x : Edek). OpensTo keys d x) same k.1;
-    }
+new-draw : (ledger : Ledger) (keys : List KeyRow) (kept : KeptReply) (o : Option Draw) (e : Edek) → KeyLinked keys (Some e) o → HasDraw (with_entry true kept o ledger) keys kept.id e
+new-draw ledger keys kept None e k = absurd k
+new-draw ledger keys kept (Some d) e k = record {
+  draw = d;
+  entered = in-right (kept.id, d) ledger ((kept.id, d) ∷ []) (inl refl);
+  of_key = ap (λ (v : VersionName). v.key) k.0;
+  opens = k.1;
+}
 
--- the key of a new file is of its zone
-
-number-is : (a b : ℕ) → (a == b) ≡ true → a ≡ b
-number-is a b h = grind (arith, nat_tests)
-
-fits-generate : (key : KeyName) (edek : Option Edek) (zone : Option KeyName) → zone ≡ Some key → Answers (Generate key) (Given edek) → FitsZone zone (File edek)
-fits-generate key None in_zone is h = absurd h
-fits-generate key (Some e) in_zone is h = subst (λ (z : Option KeyName). FitsZone z (File (Some e))) (sym is) h
-
-fits-zone : (rows : List Entry) (asks : List OpenAsk) (notes : List AskNote) (replies : List KeptReply) (next : ℕ) (a : OpenAsk) (p : NPath) (edek : Option Edek) → IsRows rows
-    → WantsFit rows asks notes replies next → In a asks → a.ask ≡ ask.Create p → same_id (zone_id rows p) a.zone ≡ true → Answers a.want (Given edek) → FitsZone (key_of_zone rows p) (File edek)
-fits-zone rows asks notes replies next a p edek good v i asked same answers = go (zone_of rows p) refl a.zone refl same
-  where
-    found : (z : Entry) → zone_of rows p ≡ Some z → (zone : ℕ) → z.row.id ≡ zone → ZoneStands rows zone a.want → FitsZone (key_of_zone rows p) (File edek)
-    found z is zone id s =
-        let dir : s.dir ≡ z = one-of-id rows good s.dir z s.stands (zone-in rows p z is) (s.of_id ∙ sym id) in
-        fits-generate s.key edek (key_of_zone rows p)
-        (ap (option_and_then (λ (e : Entry). mark_of e.row.kind)) is ∙ ap (λ (e : Entry). mark_of e.row.kind) (sym dir) ∙ s.marked)
-        (subst (λ (w : Want). Answers w (Given edek)) s.wants answers)
-
-    go : (o : Option Entry) → zone_of rows p ≡ o → (q : Option ℕ) → a.zone ≡ q → same_id (option_map (λ e. e.row.id) o) q ≡ true → FitsZone (key_of_zone rows p) (File edek)
-    go None is None none same =
-        subst (λ (k : Option KeyName). FitsZone k (File edek)) (sym (ap (option_and_then (λ (e : Entry). mark_of e.row.kind)) is))
-        (subst (λ (w : Want). Answers w (Given edek)) (v.outside a p i asked none) answers)
-    go None is (Some zone) some same = absurd cc
-    go (Some z) is None none same = absurd cc
-    go (Some z) is (Some zone) some same = found z is zone (number-is z.row.id zone same) (v.in_zone a zone i some)
+-- the operation of a finish has a draw, where its file is entered
+pub finish-drawn : (enter : Bool) (ledger : Ledger) (keys : List KeyRow) (a : OpenAsk) (kept : KeptReply) (o : Option Draw) (edek : Option Edek) (x : Ask) → a.id ≡ kept.id → KeyLinked keys edek o
+    → (makes_file kept.id (Some (finish_op a.id edek x)) ≡ true → enter ≡ true) → OpHasDraw (with_entry enter kept o ledger) keys (finish_op a.id edek x)
+finish-drawn enter ledger keys a kept o None (ask.Create p) same k enters = tt
+finish-drawn enter ledger keys a kept o (Some e) (ask.Create p) same k enters =
+    subst (λ (b : Bool). HasDraw (with_entry b kept o ledger) keys a.id e) (sym (enters (same-id a.id kept.id same)))
+    (subst (λ (n : ℕ). HasDraw (with_entry true kept o ledger) keys n e) (sym same) (new-draw ledger keys kept o e k))
+finish-drawn enter ledger keys a kept o edek (ask.Zone p key) same k enters = tt
 
 -- what stops a finish stands not
 
-file-free : (rows : List Entry) (a : OpenAsk) (p : NPath) → first_cause (finish_causes rows a (ask.Create p)) ≡ None → is_other_zone rows a ≡ false
-file-free rows a p h = go (is_none (row_at rows (parent p))) (not (is_dir_at (row_at rows (parent p)))) (is_some (row_at rows p)) (is_other_zone rows a) (nat_le 1000000 (length rows)) h
+free-at : (before : List (Bool × NameRefusal)) (cause : Bool × NameRefusal) (behind : List (Bool × NameRefusal)) → first_cause (before ++ cause ∷ behind) ≡ None → cause.0 ≡ false
+free-at [] cause behind h = go cause.0 h
   where
-    go : (b c d e f : Bool)
-        → first_cause ((b, refusal.NoSuchPath) ∷ (c, refusal.NotADirectory) ∷ (d, refusal.Exists) ∷ (e, refusal.ZoneChanged) ∷ (f, refusal.TooManyInodes) ∷ []) ≡ None → e ≡ false
-    go true c d e f h = absurd cc
-    go false true c e f h = absurd cc
-    go false false true e f h = absurd cc
-    go false false false true f h = absurd cc
-    go false false false false f h = refl
+    go : (b : Bool) → cond b (Some cause.1) (first_cause behind) ≡ None → b ≡ false
+    go true h = absurd cc
+    go false h = refl
+free-at (c ∷ before) cause behind h = go c.0 h (free-at before cause behind)
+  where
+    go : (b : Bool) → cond b (Some c.1) (first_cause (before ++ cause ∷ behind)) ≡ None → (first_cause (before ++ cause ∷ behind) ≡ None → cause.0 ≡ false) → cause.0 ≡ false
+    go true h ih = absurd cc
+    go false h ih = ih h
 
 not-false : (b : Bool) → not b ≡ false → b ≡ true
 not-false true h = refl
 not-false false h = absurd cc
 
-markable : (rows : List Entry) (a : OpenAsk) (p : NPath) (row : Row) → row_at rows p ≡ Some row → (d : Bool) → is_dir row.kind ≡ d → (c : Bool) → has_children rows p ≡ c
-    → (z : Option Entry) → zone_of rows p ≡ z
-    → first_cause ((false, refusal.NoSuchPath) ∷ (not d, refusal.NotADirectory) ∷ (c, refusal.NotEmpty) ∷ (is_some z, refusal.AlreadyInZone) ∷ (is_other_zone rows a, refusal.ZoneChanged) ∷ []) ≡ None
-    → Markable rows p (id_of (row_at rows p))
-markable rows a p row is false dir c children z zone h = absurd cc
-markable rows a p row is true dir true children z zone h = absurd cc
-markable rows a p row is true dir false children (Some e) zone h = absurd cc
-markable rows a p row is true dir false children None zone h = record { row = row; stands = is; is_dir = dir; empty = children; free = zone; of_id = ap id_of (sym is) }
+may-be : (a b : Bool) (o : Option Entry) → not a ≡ false → b ≡ false → is_some o ≡ false → (a && not b && is_none o) ≡ true
+may-be true false None h k l = refl
+may-be true false (Some e) h k l = absurd cc
+may-be true true o h k l = absurd cc
+may-be false b o h k l = absurd cc
 
-zone-markable : (rows : List Entry) (a : OpenAsk) (p : NPath) (key : KeyName) → first_cause (finish_causes rows a (ask.Zone p key)) ≡ None → Markable rows p (id_of (row_at rows p))
-zone-markable rows a p key h = go (row_at rows p) refl h
-  where
-    go : (o : Option Row) → row_at rows p ≡ o
-        → first_cause ((is_none o, refusal.NoSuchPath) ∷ (not (is_dir_at o), refusal.NotADirectory) ∷ (has_children rows p, refusal.NotEmpty) ∷ (is_some (zone_of rows p), refusal.AlreadyInZone)
-        ∷ (is_other_zone rows a, refusal.ZoneChanged) ∷ []) ≡ None
-        → Markable rows p (id_of (row_at rows p))
-    go None is h = absurd cc
-    go (Some row) is h = markable rows a p row is (is_dir row.kind) refl (has_children rows p) refl (zone_of rows p) refl h
+pub finish-fits : (rows : List Entry) (a : OpenAsk) (edek : Option Edek) (x : Ask) → first_cause (finish_causes rows a edek x) ≡ None → OpFits rows (finish_op a.id edek x)
+finish-fits rows a edek (ask.Create p) free =
+    not-false (fits_zone (key_of_zone rows p) edek)
+    (free-at (path_causes p ++ to_be_made rows p ++ (is_other_zone rows a, refusal.ZoneChanged) ∷ []) (is_other_key rows p edek, refusal.ZoneChanged)
+    ((nat_le 1000000 (length rows), refusal.TooManyInodes) ∷ []) free)
+finish-fits rows a edek (ask.Zone p key) free =
+    let none : List (Bool × NameRefusal) = path_causes p ++ (is_none (row_at rows p), refusal.NoSuchPath) ∷ [] in
+    let dir : Bool × NameRefusal = (not (is_dir_at (row_at rows p)), refusal.NotADirectory) in
+    let children : Bool × NameRefusal = (has_children rows p, refusal.NotEmpty) in
+    let in_zone : Bool × NameRefusal = (is_some (zone_of rows p), refusal.AlreadyInZone) in
+    let other : List (Bool × NameRefusal) = (is_other_zone rows a, refusal.ZoneChanged) ∷ [] in
+    may-be (is_dir_at (row_at rows p)) (has_children rows p) (zone_of rows p) (free-at none dir (children ∷ in_zone ∷ other) free) (free-at (none ++ dir ∷ []) children (in_zone ∷ other) free)
+    (free-at (none ++ dir ∷ children ∷ []) in_zone other free)
 
--- rows after a finish
+-- the world behind a finish
 
-wants-mark : (rows : List Entry) (asks : List OpenAsk) (notes : List AskNote) (replies : List KeptReply) (next dir : ℕ) (p : NPath) (key : KeyName) → IsRows rows → Markable rows p dir
-    → WantsFit rows asks notes replies next → WantsFit (set_kind rows dir (Dir (Some key))) asks notes replies next
-wants-mark rows asks notes replies next dir p key good m v =
-    record {
-      in_zone = λ a zone i z.
-          let s = v.in_zone a zone i z in
-          record { dir = s.dir; stands = marked-stays dir key rows p good m s.dir s.stands (ap (λ (k : Option KeyName). is_some k) s.marked); of_id = s.of_id; key = s.key; marked = s.marked; wants = s.wants };
-      outside = v.outside;
-      noted = v.noted;
-      answered = v.answered;
-      old_notes = v.old_notes;
-      old_replies = v.old_replies;
-    }
-
-dir-or-file : (x : Entry) → is_dir x.row.kind ≡ true → edek_of x.row.kind ≡ None
-dir-or-file x h = go x.row.kind h
-  where
-    go : (k : Kind) → is_dir k ≡ true → edek_of k ≡ None
-    go (Dir key) h = refl
-    go (File edek) h = absurd cc
-
-fits-dir : (zone : Option KeyName) (k : Kind) → is_dir k ≡ true → FitsZone zone k
-fits-dir in_zone (Dir key) h = tt
-fits-dir in_zone (File edek) h = absurd cc
-
-files-mark : (ledger : Ledger) (keys : List KeyRow) (rows : List Entry) (p : NPath) (key : KeyName) → IsRows rows → Markable rows p (id_of (row_at rows p))
-    → FilesLinked ledger keys rows → FilesLinked ledger keys (set_kind rows (id_of (row_at rows p)) (Dir (Some key)))
-files-mark ledger keys rows p key good m f =
-    record {
-      files = λ x e i h. elim (in-mark (id_of (row_at rows p)) key rows x i) [
-        | inl is ↦ let none : None ≡ Some e = ap edek_of (sym is) ∙ h in absurd cc
-        | inr old ↦ f.files x e old h
-      ];
-      zones = λ x i. zone x i (is_dir x.row.kind) refl;
-    }
-  where
-    zone : (x : Entry) → In x (set_kind rows (id_of (row_at rows p)) (Dir (Some key))) → (b : Bool) → is_dir x.row.kind ≡ b
-        → FitsZone (key_of_zone (set_kind rows (id_of (row_at rows p)) (Dir (Some key))) x.path) x.row.kind
-    zone x i true dir = fits-dir (key_of_zone (set_kind rows (id_of (row_at rows p)) (Dir (Some key))) x.path) x.row.kind dir
-    zone x i false file = elim (in-mark (id_of (row_at rows p)) key rows x i) [
-      | inl is ↦ let no : true ≡ false = ap is_dir (sym is) ∙ file in absurd cc
-      | inr old ↦ subst (λ (k : Option KeyName). FitsZone k x.row.kind) (sym (key-mark (id_of (row_at rows p)) key rows p good m x old file)) (f.zones x old)
-    ]
-
--- what a finish that is done makes of the world
-pub record Done (w : WorldState) (h : Hidden) (a : OpenAsk) (kept : KeptReply) (o : Option Draw) (edek : Option Edek) : Type 0 where
-  pub opened : open_ask w.names.asks kept.id ≡ Some a
+-- an open ask, and the kept reply that answers it, with its draw
+pub record Answered (w : WorldState) (h : Hidden) (a : OpenAsk) (kept : KeptReply) (o : Option Draw) : Type 0 where
+  pub opened : open_ask w.names.names.asks kept.id ≡ Some a
   pub at : Replied w.kept.replies h.replied kept o
-  pub said : kept.answer ≡ Given edek
-  pub free : first_cause (finish_causes w.names.table.rows a a.ask) ≡ None
 
-abbrev pub entered : Hidden → KeptReply → Option Draw → Hidden
-entered h kept o = record h { ledger = h.ledger ++ entry_of (Some kept) (Some o) }
+abbrev pub entered_in : Bool → KeptReply → Option Draw → Hidden → Hidden
+entered_in enter kept o h = record h { ledger = with_entry enter kept o h.ledger }
 
-pub linked-done : (w : WorldState) (h : Hidden) (a : OpenAsk) (kept : KeptReply) (o : Option Draw) (edek : Option Edek) → NamesFit w.names → LinkedWorld w h → Done w h a kept o edek
-    → LinkedWorld (record w { names = finished w.names a edek }) (entered h kept o)
-linked-done w h a kept o edek fit l d =
-    subst (λ (n : ℕ). LinkedWorld (record w { names = record w.names { asks = without w.names.asks n; table = record w.names.table { rows = finished_rows w.names.table.rows n edek a.ask } } }) (entered h kept o)) (sym same)
-    (record {
-      files = by_files a.ask refl;
+-- the ask is open no more, and its draw may be entered
+pub linked-finished : (w : WorldState) (h : Hidden) (enter : Bool) (a : OpenAsk) (kept : KeptReply) (o : Option Draw) (names : NameService) → IsNames w.names → Answered w h a kept o
+    → names.names.asks ≡ without w.names.names.asks a.id → next_id names.names ≡ next_id w.names.names
+    → ((k : Bool) → FilesLinked (with_entry enter kept o h.ledger) w.keys.keys.table.rows (settled k names).table.rows) → LinkedWorld w h → LinkedWorld (record w { names = names }) (entered_in enter kept o h)
+linked-finished w h enter a kept o names fit answered asks next files l =
+    let member = open-in w.names.names.asks kept.id a answered.opened in
+    let low : a.id < next_id w.names.names = each-in (λ (q : OpenAsk). q.id < next_id w.names.names) w.names.names.asks a fit.ids.of_asks member.0 in
+    record {
+      files = files;
       replies = l.replies;
-      draws = entered-draws h.ledger w.kept.replies h.replied kept o h.place _ d.at l.draws;
-      ledger = entered-ledger h.ledger w.keys.keys.table.rows w.kept.replies h.replied w.names.asks a kept o (next_id w.names) member same low d.at l.replies
-          (without-apart w.names.asks kept.id fit.ids.rising) l.ledger;
-      wants = fewer-wants (finished_rows w.names.table.rows kept.id edek a.ask) w.names.asks w.kept.notes w.kept.replies kept.id (next_id w.names) (by_wants a.ask refl);
-    })
-  where
-    rows : List Entry
-    rows = w.names.table.rows
+      draws = entered-draws enter h.ledger w.kept.replies h.replied kept o h.place w.keys.keys.table.greatest answered.at l.draws;
+      ledger = subst (λ (open_asks : List OpenAsk). LedgerFits (with_entry enter kept o h.ledger) w.kept.replies h.replied open_asks (next_id names.names)) (sym asks)
+          (subst (λ (n : ℕ). LedgerFits (with_entry enter kept o h.ledger) w.kept.replies h.replied (without w.names.names.asks a.id) n) (sym next)
+          (entered-ledger enter h.ledger w.keys.keys.table.rows w.kept.replies h.replied w.names.names.asks a kept o (next_id w.names.names) member.0 member.1 low fit.ids.rising answered.at l.replies l.ledger));
+    }
 
-    member : In a w.names.asks
-    member = open-in w.names.asks kept.id a d.opened
-
-    same : a.id ≡ kept.id
-    same = open-id w.names.asks kept.id a d.opened
-
-    low : kept.id < next_id w.names
-    low = let b : a.id < next_id w.names = each-in (λ (q : OpenAsk). q.id < next_id w.names) w.names.asks a fit.ids.of_asks member in omega (arith, b, same)
-
-    answers : Answers a.want (Given edek)
-    answers = subst (λ (x : KeyAnswer). Answers a.want x) d.said (l.wants.answered a kept member (numbered-in w.kept.replies d.at.0 kept d.at.1) (sym same))
-
-    linked : KeyLinked w.keys.keys.table.rows edek o
-    linked = subst (λ (x : KeyAnswer). KeyLinked w.keys.keys.table.rows (given x) o) d.said (l.replies.keys_open kept o d.at)
-
-    before : FilesLinked (h.ledger ++ entry_of (Some kept) (Some o)) w.keys.keys.table.rows rows
-    before = entered-files h.ledger (entry_of (Some kept) (Some o)) w.keys.keys.table.rows rows l.files
-
-    causes : (x : Ask) → a.ask ≡ x → first_cause (finish_causes rows a x) ≡ None
-    causes x is = ap (λ (y : Ask). first_cause (finish_causes rows a y)) (sym is) ∙ d.free
-
-    by_files : (x : Ask) → a.ask ≡ x → FilesLinked (h.ledger ++ entry_of (Some kept) (Some o)) w.keys.keys.table.rows (finished_rows rows kept.id edek x)
-    by_files (ask.Create p) is =
-        files-row (h.ledger ++ entry_of (Some kept) (Some o)) w.keys.keys.table.rows rows (new_file kept.id p edek) refl
-        (λ e has. new-draw h.ledger w.keys.keys.table.rows kept o edek e has linked)
-        (fits-zone rows w.names.asks w.kept.notes w.kept.replies (next_id w.names) a p edek fit.rows l.wants member is
-        (ap (λ (x : Ask). same_id (zone_id rows (path_asked x)) a.zone) (sym is) ∙ not-false _ (file-free rows a p (causes (ask.Create p) is))) answers)
-        before
-    by_files (ask.Zone p key) is =
-        files-mark (h.ledger ++ entry_of (Some kept) (Some o)) w.keys.keys.table.rows rows p key fit.rows (zone-markable rows a p key (causes (ask.Zone p key) is)) before
-
-    by_wants : (x : Ask) → a.ask ≡ x → WantsFit (finished_rows rows kept.id edek x) w.names.asks w.kept.notes w.kept.replies (next_id w.names)
-    by_wants (ask.Create p) is = wants-row rows (new_file kept.id p edek) w.names.asks w.kept.notes w.kept.replies (next_id w.names) (next_id w.names) (omega arith) l.wants
-    by_wants (ask.Zone p key) is =
-        wants-mark rows w.names.asks w.kept.notes w.kept.replies (next_id w.names) (id_of (row_at rows p)) p key fit.rows (zone-markable rows a p key (causes (ask.Zone p key) is)) l.wants
+-- nothing is entered
+pub linked-unentered : (w : WorldState) (h : Hidden) → LinkedWorld w h → LinkedWorld w (record h { ledger = h.ledger ++ [] })
+linked-unentered w h l = subst (λ (ledger : Ledger). LinkedWorld w (record h { ledger = ledger })) (sym (append-nil h.ledger)) l

@@ -236,22 +236,6 @@ names-with found None t is may = is.names
 names-with true (Some c) t is may = names-behind t c is may
 names-with false (Some c) t is may = is.names
 
--- a command that waits leaves a table in this opening
-table-behind : (s : KmsState) (c : KeyCommand) → IsTable s.table → IsPending s c → IsTable (after s.table c)
-table-behind s (Opened opening) is waits =
-    record { opening = let same = waits.same_opening in let low = is.opening in omega (arith, same, low); few = is.few; births = is.births; names = is.names; rows = is.rows }
-table-behind s (Create birth name bits description created material) is waits = sound_create s.table birth name bits description created material is waits.fits
-table-behind s (Roll birth number material) is waits = sound_roll s.table birth number material is waits.fits
-table-behind s (Delete birth) is waits = sound_delete s.table birth is
-
-pub table-settled : (kept : Bool) (s : ServiceState) → IsService s → IsTable (settled kept s).table
-table-settled kept s is = go kept s.pending is.waits
-  where
-    go : (b : Bool) (o : Option KeyCommand) → IfSome o (IsPending s.keys) → IsTable (settled_table b o s.keys.table)
-    go b None waits = is.table
-    go true (Some c) waits = table-behind s.keys c is.table waits
-    go false (Some c) waits = is.table
-
 pub draw-later : (olds rows : List KeyRow) (o : Option Edek) (d : Option Draw) → ((x : Draw) → d ≡ Some x → LaterAt olds rows x.birth) → KeyLinked olds o d → KeyLinked rows o d
 draw-later olds rows None None later h = tt
 draw-later olds rows None (Some d) later h = h

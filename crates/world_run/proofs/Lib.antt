@@ -1,10 +1,16 @@
+pub mod AskLemmas
+pub mod BothLemmas
 pub mod CrashLemmas
 pub mod DrawLemmas
 pub mod FinishLemmas
 pub mod KeepLemmas
 pub mod Laters
+pub mod LawLemmas
 pub mod Members
+pub mod RestartLemmas
 pub mod RowLemmas
+pub mod RowsAfter
+pub mod SoundLemmas
 pub mod StartLemmas
 pub mod StepLemmas
 pub mod WorldLemmas

@@ -26,7 +26,7 @@ in-map f y [] p = absurd p
 in-map f y (x ∷ xs) (inl e) = (x, inl refl, e)
 in-map f y (x ∷ xs) (inr p) = let q = in-map f y xs p in (q.0, inr q.1, q.2)
 
-some-is : {X : Type 0} (x y : X) → Some x ≡ Some y → x ≡ y
+pub some-is : {X : Type 0} (x y : X) → Some x ≡ Some y → x ≡ y
 some-is x y h = cc
 
 got-in : {X : Type 0} (xs : List X) (n : ℕ) (x : X) → slice_get xs n ≡ Some x → In x xs

@@ -1,21 +1,40 @@
--- Rows that are added and marked, and the zones of files then.
-use Rattle.std.proofs.Common.{◌≡◌, ◌⊎◌, inl, inr, ℕ, zero, suc, ◌+◌, ◌≤◌, Bool, true, false, cond, ◌&&◌, ◌||◌, List, [], ◌∷◌, length, Option, Some, None, refl, sym, ap, subst, ◌∙◌, arith}
-use Rattle.std.specs.Prelude.{◌==◌, nat_lt}
+-- Rows that are put in, marked and taken away, and the zones of paths then.
+use Rattle.std.proofs.Common.{◌≡◌, ◌⊎◌, inl, inr, ℕ, zero, suc, ◌+◌, ◌≤◌, Bool, true, false, cond, ◌&&◌, ◌||◌, not, List, [], ◌∷◌, length, Option, Some, None, refl, sym, ap, subst, ◌∙◌, arith}
+use Rattle.std.specs.Prelude.{◌==◌}
 use Rattle.std.specs.List.{All, list_any}
 use Rattle.std.specs.Option.{option_and_then}
 use Rattle.std.specs.Str.{bytes_eq}
 use Rattle.std.proofs.lemmas.Bool.Decides.{nat_tests}
 use Rattle.std.proofs.lemmas.List.Elements.{All-head, All-tail}
+use Rattle.std.proofs.lemmas.Slice.Eq.{bytes_eq-Decides}
+use Rattle.hk_base.specs.declared.names.KeyName.{KeyName}
 use Rattle.inode_tree.specs.declared.rows.Kind.TheVariants.{Dir}
 use Rattle.inode_tree.specs.declared.rows.Row.{Row}
-use Rattle.hk_base.specs.declared.names.KeyName.{KeyName}
 use Rattle.inode_tree.specs.Paths.{is_before, is_child, is_prefix, parent, same_path}
-use Rattle.inode_tree.specs.Rows.{AllAfter, Entry, IsRising, IsRows, entry_of, has_children, is_dir, is_dir_at, is_marked, is_zone_over, longer, mark_of, put, row_at, set_kind, with_kind, zone_of}
+use Rattle.inode_tree.specs.Rows.{AllAfter, Entry, IsRising, IsRows, entry_of, has_children, is_dir, is_dir_at, is_marked, is_zone_over, longer, mark_of, put, removed, row_at, set_kind, with_kind, zone_of}
 use Rattle.inode_tree.proofs.Seeks.{before-not-same, same-is, same-itself}
 use Rattle.inode_tree.proofs.ZoneLemmas.{prefix-itself}
-use Rattle.name_core.specs.Asks.{key_of_zone}
+use Rattle.name_store.specs.Table.{key_of_zone}
 use Rattle.world_run.specs.Promise.{In}
-use Rattle.world_run.proofs.Members.{in-map}
+use Rattle.world_run.proofs.Members.{in-map, some-is}
+
+-- rows in path order, each with an id of its own and in a directory
+pub record InPlace (rows : List Entry) : Type 0 where
+  pub rising : IsRising rows
+  pub once : (x : Entry) → In x rows → entry_of rows x.row.id ≡ Some x
+  pub housed : (x : Entry) → In x rows → is_dir_at (row_at rows (parent x.path)) ≡ true
+
+all-in : (P : Entry → Type 0) (rows : List Entry) → All P rows → (x : Entry) → In x rows → P x
+all-in P [] h x i = absurd i
+all-in P (e ∷ es) h x (inl is) = subst P (sym is) (All-head P e es h)
+all-in P (e ∷ es) h x (inr i) = all-in P es (All-tail P e es h) x i
+
+pub in-place : (rows : List Entry) → IsRows rows → InPlace rows
+in-place rows good = record {
+  rising = good.rising;
+  once = all-in (λ e. entry_of rows e.row.id ≡ Some e) rows good.once;
+  housed = all-in (λ e. is_dir_at (row_at rows (parent e.path)) ≡ true) rows good.housed;
+}
 
 -- a row that is put in
 
@@ -30,15 +49,6 @@ in-put x e (y ∷ ys) p = go (is_before e.path y.path) p (in-put x e ys)
     go false (inl q) ih = inr (inl q)
     go false (inr q) ih = elim (ih q) [ inl r ↦ inl r | inr r ↦ inr (inr r) ]
 
-pub put-in : (x e : Entry) (rows : List Entry) → In x rows → In x (put e rows)
-put-in x e [] p = absurd p
-put-in x e (y ∷ ys) p = go (is_before e.path y.path) p (put-in x e ys)
-  where
-    go : (b : Bool) → In x (y ∷ ys) → (In x ys → In x (put e ys)) → In x (cond b (e ∷ y ∷ ys) (y ∷ put e ys))
-    go true p ih = inr p
-    go false (inl q) ih = inl q
-    go false (inr q) ih = inr (ih q)
-
 -- a row without a mark is no zone
 zone-put : (e : Entry) (rows : List Entry) (p : List (List ℕ)) → is_marked e.row ≡ false → zone_of (put e rows) p ≡ zone_of rows p
 zone-put e [] p h = ap (λ b. cond (b && is_prefix e.path p) (Some e) None) h
@@ -51,26 +61,7 @@ zone-put e (y ∷ ys) p h = go (is_before e.path y.path) (zone-put e ys p h)
 pub key-put : (e : Entry) (rows : List Entry) (p : List (List ℕ)) → is_marked e.row ≡ false → key_of_zone (put e rows) p ≡ key_of_zone rows p
 key-put e rows p h = ap (option_and_then (λ (z : Entry). mark_of z.row.kind)) (zone-put e rows p h)
 
--- the zone of a path is one of the rows
-
-either-in : (b : Bool) (x y : Entry) (rows : List Entry) → In x rows → In y rows → In (cond b x y) rows
-either-in true x y rows p q = p
-either-in false x y rows p q = q
-
-longer-in : (e : Entry) (o : Option Entry) (rows : List Entry) → In e rows → ((z : Entry) → o ≡ Some z → In z rows) → In (longer e o) rows
-longer-in e None rows p q = p
-longer-in e (Some f) rows p q = either-in (nat_lt (length e.path) (length f.path)) f e rows (q f refl) p
-
-some-is : {X : Type 0} (x y : X) → Some x ≡ Some y → x ≡ y
-some-is x y h = cc
-
-pub zone-in : (rows : List Entry) (p : List (List ℕ)) (z : Entry) → zone_of rows p ≡ Some z → In z rows
-zone-in [] p z h = absurd cc
-zone-in (e ∷ es) p z h = go (is_zone_over p e) (zone-in es p) h
-  where
-    go : (b : Bool) → ((y : Entry) → zone_of es p ≡ Some y → In y es) → cond b (Some (longer e (zone_of es p))) (zone_of es p) ≡ Some z → In z (e ∷ es)
-    go true ih h = subst (λ (y : Entry). In y (e ∷ es)) (some-is (longer e (zone_of es p)) z h) (longer-in e (zone_of es p) (e ∷ es) (inl refl) (λ y is. inr (ih y is)))
-    go false ih h = inr (ih z h)
+-- members and their paths and ids
 
 -- where a path has no zone, no row over it is marked
 unmarked-over : (rows : List Entry) (p : List (List ℕ)) → zone_of rows p ≡ None → (x : Entry) → In x rows → is_zone_over p x ≡ false
@@ -83,20 +74,13 @@ unmarked-over (e ∷ es) p h x i = go (is_zone_over p e) refl (unmarked-over es 
     go false is ih h (inl same) = subst (λ (y : Entry). is_zone_over p y ≡ false) (sym same) is
     go false is ih h (inr i) = ih h x i
 
--- members and their paths and ids
-
-all-in : (P : Entry → Type 0) (rows : List Entry) → All P rows → (x : Entry) → In x rows → P x
-all-in P [] h x i = absurd i
-all-in P (e ∷ es) h x (inl is) = subst P (sym is) (All-head P e es h)
-all-in P (e ∷ es) h x (inr i) = all-in P es (All-tail P e es h) x i
-
 after-in : (p : List (List ℕ)) (rows : List Entry) → AllAfter p rows → (x : Entry) → In x rows → is_before p x.path ≡ true
 after-in p [] h x i = absurd i
 after-in p (e ∷ es) h x (inl is) = subst (λ (y : Entry). is_before p y.path ≡ true) (sym is) h.0
 after-in p (e ∷ es) h x (inr i) = after-in p es h.1 x i
 
 -- the row at a member's path is the member's
-pub row-at-member : (rows : List Entry) → IsRising rows → (x : Entry) → In x rows → row_at rows x.path ≡ Some x.row
+row-at-member : (rows : List Entry) → IsRising rows → (x : Entry) → In x rows → row_at rows x.path ≡ Some x.row
 row-at-member [] r x i = absurd i
 row-at-member (e ∷ es) r x (inl is) = subst (λ (y : Entry). cond (same_path e.path y.path) (Some e.row) (row_at es y.path) ≡ Some y.row) (sym is)
     (ap (λ b. cond b (Some e.row) (row_at es e.path)) (same-itself e.path))
@@ -104,7 +88,7 @@ row-at-member (e ∷ es) r x (inr i) =
     ap (λ b. cond b (Some e.row) (row_at es x.path)) (before-not-same e.path x.path (after-in e.path es r.0 x i)) ∙ row-at-member es r.1 x i
 
 -- a row at a path is of a member
-pub member-at : (rows : List Entry) (p : List (List ℕ)) (row : Row) → row_at rows p ≡ Some row → (x : Entry) × In x rows × (x.path ≡ p) × (x.row ≡ row)
+member-at : (rows : List Entry) (p : List (List ℕ)) (row : Row) → row_at rows p ≡ Some row → (x : Entry) × In x rows × (x.path ≡ p) × (x.row ≡ row)
 member-at [] p row h = absurd cc
 member-at (e ∷ es) p row h = go (same_path e.path p) refl (member-at es p row) h
   where
@@ -114,9 +98,8 @@ member-at (e ∷ es) p row h = go (same_path e.path p) refl (member-at es p row)
     go false same ih h = let q = ih h in (q.0, inr q.1, q.2, q.3)
 
 -- a member with the id of another is that one
-pub one-of-id : (rows : List Entry) → IsRows rows → (x y : Entry) → In x rows → In y rows → x.row.id ≡ y.row.id → x ≡ y
-one-of-id rows good x y i j same =
-    some-is x y (sym (all-in (λ e. entry_of rows e.row.id ≡ Some e) rows good.once x i) ∙ ap (entry_of rows) same ∙ all-in (λ e. entry_of rows e.row.id ≡ Some e) rows good.once y j)
+one-of-id : (rows : List Entry) → InPlace rows → (x y : Entry) → In x rows → In y rows → x.row.id ≡ y.row.id → x ≡ y
+one-of-id rows good x y i j same = some-is x y (sym (good.once x i) ∙ ap (entry_of rows) same ∙ good.once y j)
 
 -- what lies below a directory without children: nothing
 
@@ -134,7 +117,7 @@ none-below true = refl
 none-below false = refl
 
 -- what lies above a path, but is not it, lies at or above its directory
-pub prefix-parent : (q p : List (List ℕ)) → same_path q p ≡ false → is_prefix q p ≡ is_prefix q (parent p)
+prefix-parent : (q p : List (List ℕ)) → same_path q p ≡ false → is_prefix q p ≡ is_prefix q (parent p)
 prefix-parent [] p h = refl
 prefix-parent (x ∷ q) [] h = refl
 prefix-parent (x ∷ []) (y ∷ []) h = h
@@ -169,7 +152,7 @@ child p a q over up =
 abbrev HasBelow : List Entry → List (List ℕ) → ℕ → Type 0
 HasBelow rows p n = (x : Entry) → In x rows → length x.path ≤ n → is_prefix p x.path ≡ true → same_path p x.path ≡ false → has_children rows p ≡ true
 
-below-step : (n : ℕ) (rows : List Entry) (p : List (List ℕ)) → IsRows rows → HasBelow rows p n → (x : Entry) → In x rows → (q : List (List ℕ)) → x.path ≡ q → length q ≤ suc n
+below-step : (n : ℕ) (rows : List Entry) (p : List (List ℕ)) → InPlace rows → HasBelow rows p n → (x : Entry) → In x rows → (q : List (List ℕ)) → x.path ≡ q → length q ≤ suc n
     → is_prefix p q ≡ true → same_path p q ≡ false → has_children rows p ≡ true
 below-step n rows p good ih x i [] is short over apart = absurd (not-root p over apart)
 below-step n rows p good ih x i (a ∷ q) is short over apart = go (same_path p (parent (a ∷ q))) refl
@@ -178,7 +161,7 @@ below-step n rows p good ih x i (a ∷ q) is short over apart = go (same_path p 
     up = sym (prefix-parent p (a ∷ q) apart) ∙ over
 
     housed : is_dir_at (row_at rows (parent (a ∷ q))) ≡ true
-    housed = subst (λ (r : List (List ℕ)). is_dir_at (row_at rows (parent r)) ≡ true) is (all-in (λ e. is_dir_at (row_at rows (parent e.path)) ≡ true) rows good.housed x i)
+    housed = subst (λ (r : List (List ℕ)). is_dir_at (row_at rows (parent r)) ≡ true) is (good.housed x i)
 
     go : (b : Bool) → same_path p (parent (a ∷ q)) ≡ b → has_children rows p ≡ true
     go true same = any-in (λ e. is_child p e.path) rows x i (subst (λ (r : List (List ℕ)). is_child p r ≡ true) (sym is) (child p a q over (same-is p (parent (a ∷ q)) same)))
@@ -187,7 +170,7 @@ below-step n rows p good ih x i (a ∷ q) is short over apart = go (same_path p 
         let y = member-at rows (parent (a ∷ q)) row.0 row.1 in
         ih y.0 y.1 (omega (arith, ap (λ (r : List (List ℕ)). length r) y.2, length-parent a q, short)) (ap (is_prefix p) y.2 ∙ up) (ap (same_path p) y.2 ∙ other)
 
-below-has : (n : ℕ) (rows : List Entry) (p : List (List ℕ)) → IsRows rows → HasBelow rows p n
+below-has : (n : ℕ) (rows : List Entry) (p : List (List ℕ)) → InPlace rows → HasBelow rows p n
 below-has zero rows p good x i short over apart = none x.path refl
   where
     none : (q : List (List ℕ)) → x.path ≡ q → has_children rows p ≡ true
@@ -211,13 +194,11 @@ both true h k = absurd cc
 both false h k = absurd cc
 
 -- a member with the directory's id has its row, which is a directory without a mark
-dir-row : (rows : List Entry) (p : List (List ℕ)) (dir : ℕ) → IsRows rows → Markable rows p dir → (x : Entry) → In x rows → x.row.id ≡ dir
-    → (is_dir x.row.kind ≡ true) × (is_marked x.row ≡ false) × (x.path ≡ p)
+dir-row : (rows : List Entry) (p : List (List ℕ)) (dir : ℕ) → InPlace rows → Markable rows p dir → (x : Entry) → In x rows → x.row.id ≡ dir → (is_marked x.row ≡ false) × (x.path ≡ p)
 dir-row rows p dir good m x i same =
     let y = member-at rows p m.row m.stands in
     let is : y.0 ≡ x = one-of-id rows good y.0 x y.1 i (ap (λ (r : Row). r.id) y.3 ∙ m.of_id ∙ sym same) in
-    subst (λ (z : Entry). (is_dir z.row.kind ≡ true) × (is_marked z.row ≡ false) × (z.path ≡ p)) is (
-      ap (λ (r : Row). is_dir r.kind) y.3 ∙ m.is_dir,
+    subst (λ (z : Entry). (is_marked z.row ≡ false) × (z.path ≡ p)) is (
       unmarked (is_marked y.0.row) (is_prefix y.0.path p) (unmarked-over rows p m.free y.0 y.1) (subst (λ (q : List (List ℕ)). is_prefix q p ≡ true) (sym y.2) (prefix-itself p)),
       y.2,
     )
@@ -227,7 +208,7 @@ dir-row rows p dir good m x i same =
     unmarked false b h k = refl
 
 -- a file does not lie below it
-beside : (rows : List Entry) (p : List (List ℕ)) (dir : ℕ) → IsRows rows → Markable rows p dir → (x : Entry) → In x rows → is_dir x.row.kind ≡ false → is_prefix p x.path ≡ false
+beside : (rows : List Entry) (p : List (List ℕ)) (dir : ℕ) → InPlace rows → Markable rows p dir → (x : Entry) → In x rows → is_dir x.row.kind ≡ false → is_prefix p x.path ≡ false
 beside rows p dir good m x i file = go (is_prefix p x.path) refl (same_path p x.path) refl
   where
     here : p ≡ x.path → ⊥
@@ -240,21 +221,21 @@ beside rows p dir good m x i file = go (is_prefix p x.path) refl (same_path p x.
     go true over true same = absurd (here (same-is p x.path same))
     go true over false same = absurd (both (has_children rows p) (below-has (length x.path) rows p good x i (omega arith) over same) m.empty)
 
-abbrev marked : ℕ → KeyName → Entry → Entry
-marked dir key x = record x { row = record { id = dir; kind = Dir (Some key) } }
+abbrev pub with_mark : ℕ → KeyName → Entry → Entry
+with_mark dir key x = record x { row = record { id = dir; kind = Dir (Some key) } }
 
 -- either the row has the id and gets the mark, or it stays
-pub which : (dir : ℕ) (key : KeyName) (x : Entry) → ((x.row.id ≡ dir) × (with_kind dir (Dir (Some key)) x ≡ marked dir key x)) ⊎ (with_kind dir (Dir (Some key)) x ≡ x)
+pub which : (dir : ℕ) (key : KeyName) (x : Entry) → ((x.row.id ≡ dir) × (with_kind dir (Dir (Some key)) x ≡ with_mark dir key x)) ⊎ (with_kind dir (Dir (Some key)) x ≡ x)
 which dir key x = go (x.row.id == dir) refl
   where
     equal : (a b : ℕ) → (a == b) ≡ true → a ≡ b
     equal a b h = grind (arith, nat_tests)
 
-    go : (b : Bool) → (x.row.id == dir) ≡ b → ((x.row.id ≡ dir) × (cond b (marked dir key x) x ≡ marked dir key x)) ⊎ (cond b (marked dir key x) x ≡ x)
+    go : (b : Bool) → (x.row.id == dir) ≡ b → ((x.row.id ≡ dir) × (cond b (with_mark dir key x) x ≡ with_mark dir key x)) ⊎ (cond b (with_mark dir key x) x ≡ x)
     go true h = inl (equal x.row.id dir h, refl)
     go false h = inr refl
 
--- the zone of a path beside the new one, by its key
+-- the zone of a path beside the new one
 zone-beside : (dir : ℕ) (key : KeyName) (rows : List Entry) (p q : List (List ℕ)) → is_prefix p q ≡ false
     → ((x : Entry) → In x rows → x.row.id ≡ dir → (is_marked x.row ≡ false) × (x.path ≡ p)) → zone_of (set_kind rows dir (Dir (Some key))) q ≡ zone_of rows q
 zone-beside dir key [] p q out dirs = refl
@@ -263,38 +244,20 @@ zone-beside dir key (y ∷ ys) p q out dirs = go (which dir key y) (zone-beside 
     rest : List Entry
     rest = set_kind ys dir (Dir (Some key))
 
-    none : (t : Bool) → (false && t) ≡ false
-    none t = refl
-
-    go : ((y.row.id ≡ dir) × (with_kind dir (Dir (Some key)) y ≡ marked dir key y)) ⊎ (with_kind dir (Dir (Some key)) y ≡ y)
+    go : ((y.row.id ≡ dir) × (with_kind dir (Dir (Some key)) y ≡ with_mark dir key y)) ⊎ (with_kind dir (Dir (Some key)) y ≡ y)
         → zone_of rest q ≡ zone_of ys q → zone_of (with_kind dir (Dir (Some key)) y ∷ rest) q ≡ zone_of (y ∷ ys) q
     go (inl (same, is)) ih =
         let d = dirs y (inl refl) same in
         ap (λ (x : Entry). zone_of (x ∷ rest) q) is
-        ∙ ap (λ b. cond b (Some (longer (marked dir key y) (zone_of rest q))) (zone_of rest q)) (subst (λ (r : List (List ℕ)). is_prefix r q ≡ false) (sym d.1) out)
+        ∙ ap (λ b. cond b (Some (longer (with_mark dir key y) (zone_of rest q))) (zone_of rest q)) (subst (λ (r : List (List ℕ)). is_prefix r q ≡ false) (sym d.1) out)
         ∙ ih ∙ sym (ap (λ b. cond (b && is_prefix y.path q) (Some (longer y (zone_of ys q))) (zone_of ys q)) d.0)
     go (inr is) ih = ap (λ (x : Entry). zone_of (x ∷ rest) q) is ∙ ap (λ z. cond (is_zone_over q y) (Some (longer y z)) z) ih
 
 -- the key of a file's zone stays
-pub key-mark : (dir : ℕ) (key : KeyName) (rows : List Entry) (p : List (List ℕ)) → IsRows rows → Markable rows p dir → (x : Entry) → In x rows → is_dir x.row.kind ≡ false
+pub key-mark : (dir : ℕ) (key : KeyName) (rows : List Entry) (p : List (List ℕ)) → InPlace rows → Markable rows p dir → (x : Entry) → In x rows → is_dir x.row.kind ≡ false
     → key_of_zone (set_kind rows dir (Dir (Some key))) x.path ≡ key_of_zone rows x.path
 key-mark dir key rows p good m x i file =
-    ap (option_and_then (λ (z : Entry). mark_of z.row.kind))
-    (zone-beside dir key rows p x.path (beside rows p dir good m x i file) (λ y j same. let d = dir-row rows p dir good m y j same in (d.1, d.2)))
-
--- a marked directory stays as it is
-pub marked-stays : (dir : ℕ) (key : KeyName) (rows : List Entry) (p : List (List ℕ)) → IsRows rows → Markable rows p dir → (x : Entry) → In x rows → is_marked x.row ≡ true
-    → In x (set_kind rows dir (Dir (Some key)))
-marked-stays dir key rows p good m x i mark = go (which dir key x)
-  where
-    map-in : (ys : List Entry) → In x ys → In (with_kind dir (Dir (Some key)) x) (set_kind ys dir (Dir (Some key)))
-    map-in [] j = absurd j
-    map-in (y ∷ ys) (inl is) = inl (ap (with_kind dir (Dir (Some key))) is)
-    map-in (y ∷ ys) (inr j) = inr (map-in ys j)
-
-    go : ((x.row.id ≡ dir) × (with_kind dir (Dir (Some key)) x ≡ marked dir key x)) ⊎ (with_kind dir (Dir (Some key)) x ≡ x) → In x (set_kind rows dir (Dir (Some key)))
-    go (inl (same, is)) = absurd (both (is_marked x.row) mark (dir-row rows p dir good m x i same).1)
-    go (inr is) = subst (λ (y : Entry). In y (set_kind rows dir (Dir (Some key)))) is (map-in rows i)
+    ap (option_and_then (λ (z : Entry). mark_of z.row.kind)) (zone-beside dir key rows p x.path (beside rows p dir good m x i file) (dir-row rows p dir good m))
 
 -- a row after the mark is the marked directory, or was there
 pub in-mark : (dir : ℕ) (key : KeyName) (rows : List Entry) (x : Entry) → In x (set_kind rows dir (Dir (Some key))) → (x.row.kind ≡ Dir (Some key)) ⊎ In x rows
@@ -305,3 +268,49 @@ in-mark dir key rows x i = go (in-map (with_kind dir (Dir (Some key))) x rows i)
       | inl w ↦ inl (ap (λ (z : Entry). z.row.kind) (is ∙ w.1))
       | inr same ↦ inr (subst (λ (z : Entry). In z rows) (sym (is ∙ same)) j)
     ]
+
+-- rows that are taken away
+
+-- what lies at or below a path below p does so too
+below-too : (p q r : List (List ℕ)) → is_prefix p q ≡ true → is_prefix q r ≡ true → is_prefix p r ≡ true
+below-too [] q r h k = refl
+below-too (x ∷ p) [] r h k = absurd cc
+below-too (x ∷ p) (y ∷ q) [] h k = absurd cc
+below-too (x ∷ p) (y ∷ q) (z ∷ r) h k = go (bytes_eq x y) refl (bytes_eq y z) refl h k (below-too p q r)
+  where
+    go : (s : Bool) → bytes_eq x y ≡ s → (t : Bool) → bytes_eq y z ≡ t → (s && is_prefix p q) ≡ true → (t && is_prefix q r) ≡ true
+        → (is_prefix p q ≡ true → is_prefix q r ≡ true → is_prefix p r ≡ true) → (bytes_eq x z && is_prefix p r) ≡ true
+    go false e t f h k ih = absurd cc
+    go true e false f h k ih = absurd cc
+    go true e true f h k ih =
+        let same : x ≡ z = (bytes_eq-Decides x y).0 e ∙ (bytes_eq-Decides y z).0 f in
+        ap (λ b. b && is_prefix p r) ((bytes_eq-Decides x z).1 same) ∙ ih h k
+
+pub in-removed : (p : List (List ℕ)) (x : Entry) (rows : List Entry) → In x (removed p rows) → In x rows × (is_prefix p x.path ≡ false)
+in-removed p x [] i = absurd i
+in-removed p x (y ∷ ys) i = go (is_prefix p y.path) refl i (in-removed p x ys)
+  where
+    go : (b : Bool) → is_prefix p y.path ≡ b → In x (cond (not b) (y ∷ removed p ys) (removed p ys)) → (In x (removed p ys) → In x ys × (is_prefix p x.path ≡ false))
+        → In x (y ∷ ys) × (is_prefix p x.path ≡ false)
+    go true is i ih = let q = ih i in (inr q.0, q.1)
+    go false is (inl same) ih = (inl same, ap (λ (z : Entry). is_prefix p z.path) same ∙ is)
+    go false is (inr i) ih = let q = ih i in (inr q.0, q.1)
+
+-- the zone of a path that stays stays
+zone-removed : (p q : List (List ℕ)) (rows : List Entry) → is_prefix p q ≡ false → zone_of (removed p rows) q ≡ zone_of rows q
+zone-removed p q [] out = refl
+zone-removed p q (y ∷ ys) out = go (is_prefix p y.path) refl (zone-removed p q ys out)
+  where
+    gone : is_prefix p y.path ≡ true → is_zone_over q y ≡ false
+    gone is = over (is_marked y.row) (is_prefix y.path q) refl
+      where
+        over : (m b : Bool) → is_prefix y.path q ≡ b → (m && b) ≡ false
+        over m true up = absurd (both (is_prefix p q) (below-too p y.path q is up) out)
+        over m false up = none-below m
+
+    go : (b : Bool) → is_prefix p y.path ≡ b → zone_of (removed p ys) q ≡ zone_of ys q → zone_of (cond (not b) (y ∷ removed p ys) (removed p ys)) q ≡ zone_of (y ∷ ys) q
+    go true is ih = ih ∙ sym (ap (λ b. cond b (Some (longer y (zone_of ys q))) (zone_of ys q)) (gone is))
+    go false is ih = ap (λ z. cond (is_zone_over q y) (Some (longer y z)) z) ih
+
+pub key-removed : (p q : List (List ℕ)) (rows : List Entry) → is_prefix p q ≡ false → key_of_zone (removed p rows) q ≡ key_of_zone rows q
+key-removed p q rows out = ap (option_and_then (λ (z : Entry). mark_of z.row.kind)) (zone-removed p q rows out)

@@ -1,120 +1,295 @@
 -- The parts of a step, put together.
-use Rattle.std.proofs.Common.{◌≡◌, inl, inr, ℕ, ◌+◌, List, [], ◌∷◌, ◌++◌, length, Option, Some, None, Ok, Err, refl, sym, ap, subst, ◌∙◌, arith, length-append}
-use Rattle.std.specs.Prelude.{MatchResult}
+use Rattle.std.proofs.Common.{◌≡◌, ◌⊎◌, inl, inr, ℕ, ◌+◌, Bool, List, [], ◌∷◌, ◌++◌, length, Option, Some, None, Ok, Err, refl, sym, ap, subst, ◌∙◌, arith, length-append}
+use Rattle.std.specs.Prelude.{IfSome, MatchResult, false}
 use Rattle.std.specs.declared.result.Result.{Result}
 use Rattle.std.proofs.lemmas.List.{append-nil}
 use Rattle.hk_base.specs.Disk.{DiskState, Tells}
 use Rattle.hk_base.specs.Faults.{Rose}
 use Rattle.hk_base.specs.declared.names.KeyName.{KeyName}
 use Rattle.hk_base.specs.declared.texts.Text.{Text}
-use Rattle.hk_base.proofs.Runs.{begin}
-use Rattle.frame_log.specs.declared.fault.StartFault.{StartFault}
+use Rattle.hk_base.proofs.Runs.{begin, weaker}
+use Rattle.inode_tree.specs.declared.paths.NPath.{NPath}
+use Rattle.inode_tree.specs.declared.paths.PathFault.{PathFault}
+use Rattle.inode_tree.specs.declared.paths.PathFault.TheVariants.{BadPath, NoMemory}
+use Rattle.inode_tree.specs.Paths.{read_path}
+use Rattle.edit_ops.specs.declared.ops.EditOp.{EditOp}
 use Rattle.key_rows.specs.declared.calls.KmsCall.{KmsCall}
 use Rattle.key_rows.specs.declared.calls.KmsCall.TheVariants as call
 use Rattle.key_rows.specs.declared.calls.KmsRefusal.TheVariants as key_refusal
 use Rattle.key_rows.specs.declared.calls.KmsReply.{KmsReply}
 use Rattle.key_rows.specs.declared.calls.KmsReply.TheVariants as key_reply
-use Rattle.key_rows.specs.declared.rows.KeyCommand.{KeyCommand}
 use Rattle.prop_text.specs.declared.lines.PropLine.{PropLine}
 use Rattle.kms_store.specs.Store.{IsLeftOf, StandsFor}
 use Rattle.kms_acls.specs.StandsFor.{StandsFor as ListsFor}
 use Rattle.kms_core.specs.Service.{Logs}
 use Rattle.kms_core.specs.State.{service_of}
 use Rattle.kms_core.specs.Users.{ActsFor, RunningKms, running}
+use Rattle.name_store.specs.Store.{IsLeftOf as IsLeftOfNames, NothingMore, made_with}
 use Rattle.name_core.specs.declared.calls.Ask.{Ask}
+use Rattle.name_core.specs.declared.calls.Ask.TheVariants as ask
 use Rattle.name_core.specs.declared.calls.AskNote.{AskNote}
+use Rattle.name_core.specs.declared.calls.NameCall.{NameCall}
 use Rattle.name_core.specs.declared.calls.NameRefusal.{NameRefusal}
+use Rattle.name_core.specs.declared.calls.NameReply.{NameReply}
 use Rattle.name_core.specs.declared.calls.Want.{Want}
 use Rattle.name_core.specs.declared.calls.Want.TheVariants as want
-use Rattle.name_core.specs.Asks.{Asks, Finishes, superuser}
-use Rattle.name_core.specs.State.{NameState}
+use Rattle.name_core.specs.Asks.{Asks}
+use Rattle.name_core.specs.Calls.{superuser}
+use Rattle.name_core.specs.Service.{Acts, FinishActs, Logs as NameLogs}
+use Rattle.name_core.specs.State.{NameState, RunningNames, StandsFor as NamesStandFor, names_of, service_of as names_service}
 use Rattle.world_run.specs.declared.event.Event.{Event}
 use Rattle.world_run.specs.declared.event.Event.TheVariants as event
 use Rattle.world_run.specs.declared.event.Line.{Line}
 use Rattle.world_run.specs.declared.event.Line.TheVariants as line
+use Rattle.world_run.specs.declared.event.WorldFault.{WorldFault}
 use Rattle.world_run.specs.declared.kept.KeptReply.{KeptReply}
-use Rattle.world_run.specs.World.{RunningWorld, numbered, world_of}
-use Rattle.world_run.specs.Step.{AskActs, Does, DrawActs, Draws, FailsToOpen, FinishReply, Happens, NotOpened, Step, WantActs, Wants, finish_line, kept_reply}
+use Rattle.world_run.specs.Acknowledged.{Acknowledged, nothing_acknowledged, of_keys, of_names}
+use Rattle.world_run.specs.Does.{CallHappens, Does, DrawHappens, FinishHappens, Happens, OwnOfReply, PathHappens, WantHappens}
+use Rattle.world_run.specs.Keeps.{Fails}
+use Rattle.world_run.specs.Step.{AskAt, PathActs, Step, after_ask, finish_line, kept_reply, unread_reply, zone_with}
+use Rattle.world_run.specs.World.{RunningWorld, WorldState, numbered, with_names, world_of}
+use Rattle.world_run.proofs.AskLemmas.{ask-stands}
 
-abbrev pub parts : RunningKms → NameState → List AskNote → List KeptReply → RunningWorld
+abbrev pub parts : RunningKms → RunningNames → List AskNote → List KeptReply → RunningWorld
 parts keys names notes replies = record { keys = keys; names = names; kept = record { notes = notes; replies = replies } }
 
 -- nothing is done to the disk
 
-pub no-log : (d : DiskState) (r r' : RunningKms) → r' ≡ r → Logs d d r.store r'.store (IsLeftOf r.store.table.keys r.store.pending) []
-no-log d r r' same =
-    let none : (commands : List KeyCommand) → commands ≡ commands ++ [] = λ commands. sym (append-nil commands) in
-    record {
-      stands = λ told commands s. subst (λ (q : RunningKms). StandsFor d q.store (commands ++ [])) (sym same) (subst (StandsFor d r.store) (none commands) s);
-      moments = λ told commands s. (begin 0 d (IsLeftOf r.store.table.keys r.store.pending commands)).moments;
-      run = (begin 0 d (IsLeftOf r.store.table.keys r.store.pending [])).run;
-    }
+no-log : (d : DiskState) (r : RunningKms) → Logs d d r.store r.store (IsLeftOf r.store.table.keys r.store.pending) []
+no-log d r = record {
+  stands = λ told commands s. subst (StandsFor d r.store) (sym (append-nil commands)) s;
+  moments = λ told commands s. (begin 0 d (IsLeftOf r.store.table.keys r.store.pending commands)).moments;
+  run = (begin 0 d (IsLeftOf r.store.table.keys r.store.pending [])).run;
+}
 
--- no word is drawn, and the disk is not touched
-pub does-quietly : (d : DiskState) (r r' : RunningKms) (words : ℕ → ℕ) (P : ℕ → List KeyCommand → Type 0) → r' ≡ r → P 0 [] → Does d d r r' words words P
-does-quietly d r r' words P same p = record { drawn = 0; logged = []; acts = p; rest = λ k. ap words (omega arith); disk = no-log d r r' same; lists = ap (λ (q : RunningKms). q.acls) same }
+no-log-to : (d : DiskState) (r r' : RunningKms) → r' ≡ r → Logs d d r.store r'.store (IsLeftOf r.store.table.keys r.store.pending) []
+no-log-to d r r' same = subst (λ (q : RunningKms). Logs d d r.store q.store (IsLeftOf r.store.table.keys r.store.pending) []) (sym same) (no-log d r)
 
--- an ask that is refused
-pub ask-refused : (w : RunningWorld) (user : Text) (a : Ask) (keys : RunningKms) (names names' : NameState) (notes notes' : List AskNote) (replies : List KeptReply) (why : NameRefusal)
-    → parts keys names notes replies ≡ w → Asks names user a (Err why) names' → notes' ≡ notes
-    → AskActs (world_of w) user a (line.Refused why) (world_of (parts keys names' notes' replies))
-ask-refused w user a keys names names' notes notes' replies why view asks same =
-    subst (λ (v : RunningWorld). AskActs (world_of v) user a (line.Refused why) (world_of (parts keys names' notes' replies))) view
-    (record { result = Err why; names = names'; asks = asks; told_is = refl; left = ap (λ (l : List AskNote). world_of (parts keys names' l replies)) same })
+-- no word is drawn, the disk is not touched, and the world is as it was
+pub does-nothing : (d : DiskState) (r r' : RunningWorld) (words : ℕ → ℕ) (own : Bool → EditOp → Type 0) (P : ℕ → Acknowledged → Type 0) → r' ≡ r → P 0 nothing_acknowledged → Does d d r r' words words own P
+does-nothing d r r' words own P same p = record {
+  drawn = 0;
+  logged = nothing_acknowledged;
+  acts = p;
+  rest = λ k. ap words (omega arith);
+  disk = inl (record { commands = []; logged_is = refl; log = no-log-to d r.keys r'.keys (ap (λ (w : RunningWorld). w.keys) same); names = ap (λ (w : RunningWorld). w.names) same });
+  lists = ap (λ (w : RunningWorld). w.keys.acls) same;
+}
+
+-- an ask changes no row and no record of the log
+
+-- the same of the namesystem, of which an ask leaves another state beside the same store
+
+names-no-log : (d : DiskState) (r r' : RunningNames) (own : Bool → EditOp → Type 0) → ((ops : List EditOp) → NamesStandFor d r ops → NamesStandFor d r' ops) → NameLogs d d r r' own []
+names-no-log d r r' own stands = record {
+  stands = λ told ops s. subst (NamesStandFor d r') (sym (append-nil ops)) (stands ops s);
+  moments = λ told ops s. (begin 1 d (IsLeftOfNames (made_with r.store s.used) r.store.log.pending own ops)).moments;
+  run = (begin 1 d (IsLeftOfNames (made_with r.store []) r.store.log.pending own [])).run;
+}
+
+ask-does : (d : DiskState) (r r' : RunningWorld) (user : Text) (a : Ask) (result : Result AskNote NameRefusal) (words : ℕ → ℕ) (P : ℕ → Acknowledged → Type 0) → r'.keys ≡ r.keys → r'.names.store ≡ r.names.store
+    → Asks (names_of r.names) user a result (names_of r'.names) → P 0 nothing_acknowledged → Does d d r r' words words NothingMore P
+ask-does d r r' user a result words P keys store asks p = record {
+  drawn = 0;
+  logged = nothing_acknowledged;
+  acts = p;
+  rest = λ k. ap words (omega arith);
+  disk = inr (record { ops = []; logged_is = refl; log = names-no-log d r.names r'.names NothingMore (λ ops s. ask-stands d r.names r'.names user a result ops store asks s); keys = keys });
+  lists = ap (λ (k : RunningKms). k.acls) keys;
+}
+
+-- an ask that changed nothing of the namesystem
+still-does : (d : DiskState) (r r' : RunningWorld) (words : ℕ → ℕ) (P : ℕ → Acknowledged → Type 0) → r'.keys ≡ r.keys → r'.names.store ≡ r.names.store → names_of r'.names ≡ names_of r.names
+    → P 0 nothing_acknowledged → Does d d r r' words words NothingMore P
+still-does d r r' words P keys store names p = record {
+  drawn = 0;
+  logged = nothing_acknowledged;
+  acts = p;
+  rest = λ k. ap words (omega arith);
+  disk = inr (record { ops = []; logged_is = refl; log = names-no-log d r.names r'.names NothingMore (λ ops s. subst (λ (q : RunningNames). NamesStandFor d q ops) (sym same) s); keys = keys });
+  lists = ap (λ (k : RunningKms). k.acls) keys;
+}
+  where
+    same : r'.names ≡ r.names
+    same = λ i. record { store = store i; next = (names i).next; asks = (names i).asks }
+
+-- an ask leaves this state of the namesystem
+names-left : (result : Result AskNote NameRefusal) (w : WorldState) (names : NameState) → (after_ask result (with_names names w)).names.names ≡ names
+names-left (Ok note) w names = refl
+names-left (Err why) w names = refl
+
+ask-at : (d : DiskState) (r r' : RunningWorld) (user : Text) (c : NPath → Ask) (path : Option NPath) (told : Line) (words : ℕ → ℕ) (P : ℕ → Acknowledged → Type 0) → r'.keys ≡ r.keys → r'.names.store ≡ r.names.store
+    → AskAt (world_of r) user c path told (world_of r') → P 0 nothing_acknowledged → Does d d r r' words words NothingMore P
+ask-at d r r' user c None told words P keys store refused p = still-does d r r' words P keys store (ap (λ (w : WorldState). w.names.names) refused.same) p
+ask-at d r r' user c (Some path) told words P keys store (inr refused) p = still-does d r r' words P keys store (ap (λ (w : WorldState). w.names.names) refused.same) p
+ask-at d r r' user c (Some path) told words P keys store (inl a) p =
+    ask-does d r r' user (c path) a.result words P keys store (subst (Asks (names_of r.names) user (c path) a.result) (sym (ap (λ (w : WorldState). w.names.names) a.left ∙ names-left a.result (world_of r) a.names)) a.asks) p
+
+pub ask-happens : (lines : List PropLine) (d : DiskState) (w w' : RunningWorld) (words : ℕ → ℕ) (now : ℕ) (e : Event) (user : Text) (path : List ℕ) (told : Line) → e ≡ event.AskCreate user path
+    → w'.keys ≡ w.keys → w'.names.store ≡ w.names.store → AskAt (world_of w) user ask.Create (read_path path) told (world_of w') → Happens lines d d w words now e told w' words
+ask-happens lines d w w' words now e user path told is keys store at =
+    subst (λ (x : Event). Happens lines d d w words now x told w' words) (sym is)
+    (ask-at d w w' user ask.Create (read_path path) told words (λ drawn logged. Step lines (world_of w) words now (event.AskCreate user path) (Rose d.faults d.faults) (Tells d) told drawn logged (world_of w')) keys store at ((refl, refl), at))
+
+pub zone-happens : (lines : List PropLine) (d : DiskState) (w w' : RunningWorld) (words : ℕ → ℕ) (now : ℕ) (e : Event) (user : Text) (path : List ℕ) (key : KeyName) (told : Line) → e ≡ event.AskZone user path key
+    → w'.keys ≡ w.keys → w'.names.store ≡ w.names.store → AskAt (world_of w) user (zone_with key) (read_path path) told (world_of w') → Happens lines d d w words now e told w' words
+zone-happens lines d w w' words now e user path key told is keys store at =
+    subst (λ (x : Event). Happens lines d d w words now x told w' words) (sym is)
+    (ask-at d w w' user (zone_with key) (read_path path) told words (λ drawn logged. Step lines (world_of w) words now (event.AskZone user path key) (Rose d.faults d.faults) (Tells d) told drawn logged (world_of w')) keys store at ((refl, refl), at))
 
 more-by-one : {X : Type 0} (xs ys : List X) (x : X) → ys ≡ xs ++ x ∷ [] → length ys ≡ length xs + 1
 more-by-one xs ys x is = ap length is ∙ length-append xs (x ∷ [])
 
--- an ask that is accepted, and its note
-pub ask-noted : (w : RunningWorld) (user : Text) (a : Ask) (keys : RunningKms) (names names' : NameState) (notes notes' : List AskNote) (replies : List KeptReply) (note : AskNote) (number : ℕ)
-    → parts keys names notes replies ≡ w → Asks names user a (Ok note) names' → notes' ≡ notes ++ note ∷ [] → number ≡ length notes'
-    → AskActs (world_of w) user a (line.Asked number note) (world_of (parts keys names' notes' replies))
-ask-noted w user a keys names names' notes notes' replies note number view asks more count =
-    subst (λ (v : RunningWorld). AskActs (world_of v) user a (line.Asked number note) (world_of (parts keys names' notes' replies))) view
-    (record {
-      result = Ok note;
-      names = names';
-      asks = asks;
-      told_is = ap (λ (n : ℕ). line.Asked n note) (count ∙ more-by-one notes notes' note more);
-      left = ap (λ (l : List AskNote). world_of (parts keys names' l replies)) more;
+-- what may be written, said in another way
+
+more-weaker : (own other : Bool → EditOp → Type 0) (k : Bool) (pending more : Option EditOp) → ((b : Bool) (op : EditOp) → own b op → other b op)
+    → IfSome more (λ op. ((k ≡ false) × (pending ≡ Some op)) ⊎ own k op) → IfSome more (λ op. ((k ≡ false) × (pending ≡ Some op)) ⊎ other k op)
+more-weaker own other k pending None f is = tt
+more-weaker own other k pending (Some op) f (inl is) = inl is
+more-weaker own other k pending (Some op) f (inr is) = inr (f k op is)
+
+pub own-weaker : (own other : Bool → EditOp → Type 0) (r : RunningNames) (used : List ℕ) (ops : List EditOp) (bytes : List ℕ) → ((b : Bool) (op : EditOp) → own b op → other b op)
+    → IsLeftOfNames (made_with r.store used) r.store.log.pending own ops bytes → IsLeftOfNames (made_with r.store used) r.store.log.pending other ops bytes
+own-weaker own other r used ops bytes f left = record {
+  kept = left.kept;
+  more = left.more;
+  more_is = more-weaker own other left.kept r.store.log.pending left.more f left.more_is;
+  fits = left.fits;
+  spelled = left.spelled;
+  log = left.log;
+}
+
+-- calls of the namesystem
+
+pub called : (old new : DiskState) (w : RunningWorld) (keys : RunningKms) (names names' : RunningNames) (notes : List AskNote) (replies : List KeptReply) (user : Text) (c : NameCall) (told : NameReply)
+    → parts keys names notes replies ≡ w → Acts old new names user c told names' → CallHappens old new w user c (line.Name told) (parts keys names' notes replies)
+called old new w keys names names' notes replies user c told view acts =
+    subst (λ (v : RunningWorld). CallHappens old new v user c (line.Name told) (parts keys names' notes replies)) view
+    (λ words. record {
+      drawn = 0;
+      logged = of_names acts.logged;
+      acts = record { reply = told; names = names_service names'; ops = acts.logged; serves = acts.serves; logged_is = refl; told_is = refl; none_drawn = refl; left = refl };
+      rest = λ k. ap words (omega arith);
+      disk = inr (record { ops = acts.logged; logged_is = refl; log = acts.disk; keys = refl });
+      lists = refl;
     })
+
+-- at a path that was read
+pub path-called : (old new : DiskState) (w w' : RunningWorld) (user : Text) (c : NPath → NameCall) (read : Option NPath) (path : NPath) (told : Line) → read ≡ Some path → CallHappens old new w user (c path) told w'
+    → PathHappens old new w user c read told w'
+path-called old new w w' user c read path told is happens =
+    subst (λ (o : Option NPath). PathHappens old new w user c o told w') (sym is)
+    (λ words. let h = happens words in record { drawn = h.drawn; logged = h.logged; acts = inl h.acts; rest = h.rest; disk = h.disk; lists = h.lists })
+
+-- and at one that could not be read
+pub path-unread : (d : DiskState) (w w' : RunningWorld) (user : Text) (c : NPath → NameCall) (read : Option NPath) (fault : PathFault) (told : NameReply) → w' ≡ w → told ≡ unread_reply fault
+    → (fault ≡ BadPath → read ≡ None) → (read ≡ None → fault ≡ BadPath) → PathHappens d d w user c read (line.Name told) w'
+path-unread d w w' user c read fault told same is bad only = λ words. does-nothing d w w' words _ _ same (go read fault bad only is)
+  where
+    go : (o : Option NPath) (f : PathFault) → (f ≡ BadPath → o ≡ None) → (o ≡ None → f ≡ BadPath) → told ≡ unread_reply f
+        → PathActs (world_of w) user c o (Rose d.faults d.faults) (line.Name told) 0 nothing_acknowledged (world_of w')
+    go None f b o t = record { told_is = ap (λ (r : NameReply). line.Name r) (t ∙ ap unread_reply (o refl)); quiet = (refl, refl); same = ap world_of same }
+    go (Some path) BadPath b o t = absurd (cc (b refl))
+    go (Some path) NoMemory b o t = inr (record { told_is = ap (λ (r : NameReply). line.Name r) t; quiet = (refl, refl); same = ap world_of same })
+
+-- a finish by a kept reply, and by none
+
+pub finished : (old new : DiskState) (w : RunningWorld) (keys : RunningKms) (names names' : RunningNames) (notes : List AskNote) (replies : List KeptReply) (kept : KeptReply) (n : ℕ) (result : Result (Unit {0}) NameRefusal) (told : Line)
+    → parts keys names notes replies ≡ w → Some kept ≡ numbered w.kept.replies n → FinishActs old new names kept.id kept.answer result names' → told ≡ finish_line result
+    → FinishHappens old new w (numbered w.kept.replies n) told (parts keys names' notes replies)
+finished old new w keys names names' notes replies kept n result told view at acts is =
+    subst (λ (o : Option KeptReply). FinishHappens old new w o told (parts keys names' notes replies)) at
+    (subst (λ (l : Line). FinishHappens old new w (Some kept) l (parts keys names' notes replies)) (sym is)
+    (subst (λ (v : RunningWorld). FinishHappens old new v (Some kept) (finish_line result) (parts keys names' notes replies)) view
+    (λ words. record {
+      drawn = 0;
+      logged = of_names acts.logged;
+      acts = record { result = result; names = names_service names'; ops = acts.logged; finishes = acts.serves; logged_is = refl; told_is = refl; none_drawn = refl; left = refl };
+      rest = λ k. ap words (omega arith);
+      disk = inr (record { ops = acts.logged; logged_is = refl; log = own-by; keys = refl });
+      lists = refl;
+    })))
+  where
+    -- what may be written, beside the line that tells the result
+    own-by : NameLogs old new names names' (OwnOfReply (names_service names) (Some kept) (finish_line result) (names_service names')) acts.logged
+    own-by = record {
+      stands = acts.disk.stands;
+      moments = λ told ops s. weaker (λ c left. own-weaker _ _ names s.used ops c (λ k op own. record { result = result; told_is = refl; own = own }) left) (acts.disk.moments told ops s);
+      run = acts.disk.run;
+    }
+
+pub finish-unknown : (d : DiskState) (w w' : RunningWorld) (read : Option KeptReply) → None ≡ read → w' ≡ w → FinishHappens d d w read line.Unknown w'
+finish-unknown d w w' read none same =
+    subst (λ (o : Option KeptReply). FinishHappens d d w o line.Unknown w') none
+    (λ words. does-nothing d w w' words _ _ same (record { told_is = refl; quiet = (refl, refl); same = ap world_of same }))
+
+-- a draw
+
+pub draw-unknown : (lines : List PropLine) (d : DiskState) (w w' : RunningWorld) (words : ℕ → ℕ) (now : ℕ) (o : Option AskNote) → None ≡ o → w' ≡ w → DrawHappens lines d d w words now o line.Unknown w' words
+draw-unknown lines d w w' words now o none same =
+    subst (λ (x : Option AskNote). DrawHappens lines d d w words now x line.Unknown w' words) none
+    (does-nothing d w w' words _ _ same (record { told_is = refl; quiet = (refl, refl); same = ap world_of same }))
+
+pub draw-no-room : (lines : List PropLine) (d : DiskState) (w w' : RunningWorld) (words : ℕ → ℕ) (now : ℕ) (o : Option AskNote) (note : AskNote) → Some note ≡ o → w' ≡ w
+    → DrawHappens lines d d w words now o (line.Kms (key_reply.Refused key_refusal.NoMemory)) w' words
+draw-no-room lines d w w' words now o note is same =
+    subst (λ (x : Option AskNote). DrawHappens lines d d w words now x (line.Kms (key_reply.Refused key_refusal.NoMemory)) w' words) is
+    (does-nothing d w w' words _ _ same (inr (record { told_is = refl; quiet = (refl, refl); same = ap world_of same })))
 
 -- a call that was wanted, and its reply
-pub drew-note : (lines : List PropLine) (old new : DiskState) (w : RunningWorld) (words : ℕ → ℕ) (now : ℕ) (note : AskNote) (keys keys' : RunningKms) (names : NameState) (notes : List AskNote) (replies replies' : List KeptReply)
+pub drew-note : (lines : List PropLine) (old new : DiskState) (w : RunningWorld) (words : ℕ → ℕ) (now : ℕ) (note : AskNote) (keys keys' : RunningKms) (names : RunningNames) (notes : List AskNote) (replies replies' : List KeptReply)
     (told : Option KmsReply) (n number : ℕ) (words' : ℕ → ℕ)
-    → parts keys names notes replies ≡ w → numbered notes n ≡ Some note → (ListsFor keys.acls lines → Wants lines old new keys words now note.want told keys' words')
+    → parts keys names notes replies ≡ w → Some note ≡ numbered w.kept.notes n → (ListsFor keys.acls lines → WantHappens lines old new keys words now note.want told keys' words')
     → replies' ≡ replies ++ (kept_reply note told) ∷ [] → number ≡ length replies'
-    → ListsFor w.keys.acls lines → Draws lines old new w words now (numbered w.kept.notes n) (line.Replied number told) (parts keys' names notes replies') words'
+    → ListsFor w.keys.acls lines → DrawHappens lines old new w words now (numbered w.kept.notes n) (line.Replied number told) (parts keys' names notes replies') words'
 drew-note lines old new w words now note keys keys' names notes replies replies' told n number words' view at wants more count =
-    subst (λ (v : RunningWorld). ListsFor v.keys.acls lines → Draws lines old new v words now (numbered v.kept.notes n) (line.Replied number told) (parts keys' names notes replies') words') view
+    subst (λ (o : Option AskNote). ListsFor w.keys.acls lines → DrawHappens lines old new w words now o (line.Replied number told) (parts keys' names notes replies') words') at
+    (subst (λ (v : RunningWorld). ListsFor v.keys.acls lines → DrawHappens lines old new v words now (Some note) (line.Replied number told) (parts keys' names notes replies') words') view
     (λ lists. let does = wants lists in record {
       drawn = does.drawn;
-      logged = does.logged;
-      acts = subst (λ (o : Option AskNote). DrawActs lines (world_of (parts keys names notes replies)) words now o (Rose old.faults new.faults) (line.Replied number told) does.drawn does.logged (world_of (parts keys' names notes replies'))) (sym at)
-          (inl (record {
-            reply = told;
-            keys = service_of (running keys');
-            acts = does.acts;
-            told_is = ap (λ (k : ℕ). line.Replied k told) (count ∙ more-by-one replies replies' (kept_reply note told) more);
-            left = ap (λ (l : List KeptReply). world_of (parts keys' names notes l)) more;
-          }));
+      logged = of_keys does.commands;
+      acts = inl (record {
+        reply = told;
+        keys = service_of (running keys');
+        commands = does.commands;
+        acts = does.acts;
+        logged_is = refl;
+        told_is = ap (λ (k : ℕ). line.Replied k told) (count ∙ more-by-one replies replies' (kept_reply note told) more);
+        left = ap (λ (l : List KeptReply). world_of (parts keys' names notes l)) more;
+      });
       rest = does.rest;
-      disk = does.disk;
+      disk = inl (record { commands = does.commands; logged_is = refl; log = does.log; names = refl });
       lists = does.lists;
-    })
+    }))
 
--- a finish by a kept reply
-pub finished-by : (w : RunningWorld) (keys : RunningKms) (names names' : NameState) (notes : List AskNote) (replies : List KeptReply) (kept : KeptReply) (n : ℕ) (result : Result (Unit {0}) NameRefusal)
-    → parts keys names notes replies ≡ w → numbered replies n ≡ Some kept → Finishes names kept.id kept.answer result names'
-    → FinishReply (world_of w) (numbered w.kept.replies n) (finish_line result) 0 [] (world_of (parts keys names' notes replies))
-finished-by w keys names names' notes replies kept n result view at finishes =
-    subst (λ (v : RunningWorld). FinishReply (world_of v) (numbered v.kept.replies n) (finish_line result) 0 [] (world_of (parts keys names' notes replies))) view
-    (subst (λ (o : Option KeptReply). FinishReply (world_of (parts keys names notes replies)) o (finish_line result) 0 [] (world_of (parts keys names' notes replies))) (sym at)
-    (record { result = result; names = names'; finishes = finishes; told_is = refl; quiet = (refl, refl); left = refl }))
+-- the call that was wanted
+
+pub nothing-wanted : (lines : List PropLine) (d : DiskState) (r : RunningKms) (words : ℕ → ℕ) (now : ℕ) (wanted : Want) → wanted ≡ want.Nothing → WantHappens lines d d r words now wanted None r words
+nothing-wanted lines d r words now wanted is =
+    subst (λ (x : Want). WantHappens lines d d r words now x None r words) (sym is)
+    (record { drawn = 0; commands = []; acts = record { told_is = refl; none_drawn = refl; none_logged = refl; same = refl }; rest = λ k. ap words (omega arith); log = no-log d r; lists = refl })
+
+pub generate-wanted : (lines : List PropLine) (old new : DiskState) (r r' : RunningKms) (words words' : ℕ → ℕ) (now : ℕ) (user : Text) (wanted : Want) (name : KeyName) (told : KmsReply) → user ≡ superuser → wanted ≡ want.Generate name
+    → ActsFor lines user old new r words now (call.Generate name 1) told r' words' → WantHappens lines old new r words now wanted (Some told) r' words'
+generate-wanted lines old new r r' words words' now user wanted name told as_superuser is acts =
+    subst (λ (x : Want). WantHappens lines old new r words now x (Some told) r' words') (sym is)
+    (made (subst (λ (u : Text). ActsFor lines u old new r words now (call.Generate name 1) told r' words') as_superuser acts))
+  where
+    made : ActsFor lines superuser old new r words now (call.Generate name 1) told r' words' → WantHappens lines old new r words now (want.Generate name) (Some told) r' words'
+    made a = record { drawn = a.drawn; commands = a.logged; acts = record { reply = told; serves = a.serves; told_is = refl }; rest = a.rest; log = a.disk; lists = a.lists }
+
+pub metadata-wanted : (lines : List PropLine) (old new : DiskState) (r r' : RunningKms) (words words' : ℕ → ℕ) (now : ℕ) (user : Text) (wanted : Want) (name : KeyName) (told : KmsReply) → user ≡ superuser → wanted ≡ want.Metadata name
+    → ActsFor lines user old new r words now (call.Metadata name) told r' words' → WantHappens lines old new r words now wanted (Some told) r' words'
+metadata-wanted lines old new r r' words words' now user wanted name told as_superuser is acts =
+    subst (λ (x : Want). WantHappens lines old new r words now x (Some told) r' words') (sym is)
+    (made (subst (λ (u : Text). ActsFor lines u old new r words now (call.Metadata name) told r' words') as_superuser acts))
+  where
+    made : ActsFor lines superuser old new r words now (call.Metadata name) told r' words' → WantHappens lines old new r words now (want.Metadata name) (Some told) r' words'
+    made a = record { drawn = a.drawn; commands = a.logged; acts = record { reply = told; serves = a.serves; told_is = refl }; rest = a.rest; log = a.disk; lists = a.lists }
 
 -- an event, by what it was
 
-pub kms-happens : (lines : List PropLine) (old new : DiskState) (w : RunningWorld) (keys keys' : RunningKms) (names : NameState) (notes : List AskNote) (replies : List KeptReply) (words words' : ℕ → ℕ) (now : ℕ) (e : Event) (user : Text) (c : KmsCall) (reply : KmsReply)
+pub kms-happens : (lines : List PropLine) (old new : DiskState) (w : RunningWorld) (keys keys' : RunningKms) (names : RunningNames) (notes : List AskNote) (replies : List KeptReply) (words words' : ℕ → ℕ) (now : ℕ) (e : Event) (user : Text) (c : KmsCall) (reply : KmsReply)
     → parts keys names notes replies ≡ w → e ≡ event.Kms user c → (ListsFor keys.acls lines → ActsFor lines user old new keys words now c reply keys' words')
     → ListsFor w.keys.acls lines → Happens lines old new w words now e (line.Kms reply) (parts keys' names notes replies) words'
 kms-happens lines old new w keys keys' names notes replies words words' now e user c reply view is served =
@@ -122,68 +297,20 @@ kms-happens lines old new w keys keys' names notes replies words words' now e us
     (subst (λ (v : RunningWorld). ListsFor v.keys.acls lines → Happens lines old new v words now (event.Kms user c) (line.Kms reply) (parts keys' names notes replies) words') view
     (λ lists. let acts = served lists in record {
       drawn = acts.drawn;
-      logged = acts.logged;
-      acts = record { reply = reply; keys = service_of (running keys'); serves = acts.serves; told_is = refl; left = refl };
+      logged = of_keys acts.logged;
+      acts = record { reply = reply; keys = service_of (running keys'); commands = acts.logged; serves = acts.serves; logged_is = refl; told_is = refl; left = refl };
       rest = acts.rest;
-      disk = acts.disk;
+      disk = inl (record { commands = acts.logged; logged_is = refl; log = acts.disk; names = refl });
       lists = acts.lists;
     }))
 
--- one that neither draws a word nor touches the disk
-pub quiet-happens : (lines : List PropLine) (d : DiskState) (w w' : RunningWorld) (words : ℕ → ℕ) (now : ℕ) (e f : Event) (told : Line) → e ≡ f → w'.keys ≡ w.keys
-    → Step lines (world_of w) words now f (Rose d.faults d.faults) (Tells d) told 0 [] (world_of w') → Happens lines d d w words now e told w' words
-quiet-happens lines d w w' words now e f told is same step =
-    subst (λ (x : Event). Happens lines d d w words now x told w' words) (sym is)
-    (does-quietly d w.keys w'.keys words (λ drawn logged. Step lines (world_of w) words now f (Rose d.faults d.faults) (Tells d) told drawn logged (world_of w')) same step)
-
-pub draw-happens : (lines : List PropLine) (old new : DiskState) (w w' : RunningWorld) (words words' : ℕ → ℕ) (now : ℕ) (e : Event) (number : ℕ) (told : Line) → e ≡ event.Draw number
-    → Draws lines old new w words now (numbered w.kept.notes number) told w' words' → Happens lines old new w words now e told w' words'
-draw-happens lines old new w w' words words' now e number told is draws = subst (λ (x : Event). Happens lines old new w words now x told w' words') (sym is) draws
-
--- a draw that makes no call
-
-pub draws-unknown : (lines : List PropLine) (d : DiskState) (w : RunningWorld) (words : ℕ → ℕ) (now : ℕ) (o : Option AskNote) → o ≡ None → Draws lines d d w words now o line.Unknown w words
-draws-unknown lines d w words now o none =
-    subst (λ (x : Option AskNote). Draws lines d d w words now x line.Unknown w words) (sym none)
-    (does-quietly d w.keys w.keys words (λ drawn logged. DrawActs lines (world_of w) words now None (Rose d.faults d.faults) line.Unknown drawn logged (world_of w)) refl
-    (record { told_is = refl; quiet = (refl, refl); same = refl }))
-
-pub draws-no-room : (lines : List PropLine) (d : DiskState) (w w' : RunningWorld) (words : ℕ → ℕ) (now : ℕ) (o : Option AskNote) (note : AskNote) → o ≡ Some note → w' ≡ w
-    → Draws lines d d w words now o (line.Kms (key_reply.Refused key_refusal.NoMemory)) w' words
-draws-no-room lines d w w' words now o note is same =
-    subst (λ (x : Option AskNote). Draws lines d d w words now x (line.Kms (key_reply.Refused key_refusal.NoMemory)) w' words) (sym is)
-    (does-quietly d w.keys w'.keys words (λ drawn logged. DrawActs lines (world_of w) words now (Some note) (Rose d.faults d.faults) (line.Kms (key_reply.Refused key_refusal.NoMemory)) drawn logged (world_of w')) (ap (λ (v : RunningWorld). v.keys) same)
-    (inr (record { told_is = refl; quiet = (refl, refl); same = ap world_of same })))
-
--- the call that was wanted
-
-pub nothing-wanted : (lines : List PropLine) (d : DiskState) (r : RunningKms) (words : ℕ → ℕ) (now : ℕ) (wanted : Want) → wanted ≡ want.Nothing → Wants lines d d r words now wanted None r words
-nothing-wanted lines d r words now wanted is =
-    subst (λ (x : Want). Wants lines d d r words now x None r words) (sym is)
-    (does-quietly d r r words (λ drawn logged. WantActs lines (service_of (running r)) words now want.Nothing (Rose d.faults d.faults) None drawn logged (service_of (running r))) refl
-    (record { told_is = refl; quiet = (refl, refl); same = refl }))
-
-pub generate-wanted : (lines : List PropLine) (old new : DiskState) (r r' : RunningKms) (words words' : ℕ → ℕ) (now : ℕ) (user : Text) (wanted : Want) (name : KeyName) (told : KmsReply) → user ≡ superuser → wanted ≡ want.Generate name
-    → ActsFor lines user old new r words now (call.Generate name 1) told r' words' → Wants lines old new r words now wanted (Some told) r' words'
-generate-wanted lines old new r r' words words' now user wanted name told as_superuser is acts =
-    subst (λ (x : Want). Wants lines old new r words now x (Some told) r' words') (sym is)
-    (made (subst (λ (u : Text). ActsFor lines u old new r words now (call.Generate name 1) told r' words') as_superuser acts))
-  where
-    made : ActsFor lines superuser old new r words now (call.Generate name 1) told r' words' → Wants lines old new r words now (want.Generate name) (Some told) r' words'
-    made a = record { drawn = a.drawn; logged = a.logged; acts = record { reply = told; serves = a.serves; told_is = refl }; rest = a.rest; disk = a.disk; lists = a.lists }
-
-pub metadata-wanted : (lines : List PropLine) (old new : DiskState) (r r' : RunningKms) (words words' : ℕ → ℕ) (now : ℕ) (user : Text) (wanted : Want) (name : KeyName) (told : KmsReply) → user ≡ superuser → wanted ≡ want.Metadata name
-    → ActsFor lines user old new r words now (call.Metadata name) told r' words' → Wants lines old new r words now wanted (Some told) r' words'
-metadata-wanted lines old new r r' words words' now user wanted name told as_superuser is acts =
-    subst (λ (x : Want). Wants lines old new r words now x (Some told) r' words') (sym is)
-    (made (subst (λ (u : Text). ActsFor lines u old new r words now (call.Metadata name) told r' words') as_superuser acts))
-  where
-    made : ActsFor lines superuser old new r words now (call.Metadata name) told r' words' → Wants lines old new r words now (want.Metadata name) (Some told) r' words'
-    made a = record { drawn = a.drawn; logged = a.logged; acts = record { reply = told; serves = a.serves; told_is = refl }; rest = a.rest; disk = a.disk; lists = a.lists }
+-- one that was shown to happen under its own name
+pub so-happens : (lines : List PropLine) (old new : DiskState) (w w' : RunningWorld) (words words' : ℕ → ℕ) (now : ℕ) (e f : Event) (told : Line) → e ≡ f → Happens lines old new w words now f told w' words' → Happens lines old new w words now e told w' words'
+so-happens lines old new w w' words words' now e f told is happens = subst (λ (x : Event). Happens lines old new w words now x told w' words') (sym is) happens
 
 -- a restart, done or not
-pub restart-happens : (old new : DiskState) (w w' : RunningWorld) (words : ℕ → ℕ) (now : ℕ) (e : Event) (result : Result Line StartFault) → e ≡ event.RestartKms
-    → MatchResult result (λ line. (lines : List PropLine) (words : ℕ → ℕ) (now : ℕ) → Happens lines old new w words now event.RestartKms line w' words) (λ fault. (w' ≡ w) × NotOpened old new (running w.keys) fault)
-    → MatchResult result (λ line. (lines : List PropLine) → ListsFor w.keys.acls lines → Happens lines old new w words now e line w' words) (λ fault. FailsToOpen old new w words e fault w' words)
-restart-happens old new w w' words now e (Ok told) is happens = λ lines lists. subst (λ (x : Event). Happens lines old new w words now x told w' words) (sym is) (happens lines words now)
-restart-happens old new w w' words now e (Err fault) is fails = record { is_restart = is; same = fails.0; same_words = refl; why = fails.1 }
+pub restart-happens : (old new : DiskState) (w w' : RunningWorld) (words : ℕ → ℕ) (now : ℕ) (e f : Event) (result : Result Line WorldFault) → e ≡ f
+    → MatchResult result (λ line. (lines : List PropLine) (words : ℕ → ℕ) (now : ℕ) → Happens lines old new w words now f line w' words) (λ fault. (words : ℕ → ℕ) → Fails old new w words f fault.file fault.fault w' words)
+    → MatchResult result (λ line. (lines : List PropLine) → ListsFor w.keys.acls lines → Happens lines old new w words now e line w' words) (λ fault. Fails old new w words e fault.file fault.fault w' words)
+restart-happens old new w w' words now e f (Ok told) is happens = λ lines lists. subst (λ (x : Event). Happens lines old new w words now x told w' words) (sym is) (happens lines words now)
+restart-happens old new w w' words now e f (Err fault) is fails = subst (λ (x : Event). Fails old new w words x fault.file fault.fault w' words) (sym is) (fails words)

@@ -1,63 +1,116 @@
--- An event, and what it keeps.
-use Rattle.std.specs.Prelude.{◌≡◌, ℕ, ◌+◌, List, ◌∷◌, [], ◌++◌}
-use Rattle.hk_base.specs.Disk.{DiskState, Tells, RunOn, LeavesOnly}
+-- An event over the disk, and what it keeps.
+use Rattle.std.specs.Prelude.{◌≡◌, ◌⊎◌, ℕ, ◌+◌, Bool, List, ◌∷◌, [], ◌++◌}
+use Rattle.hk_base.specs.Disk.{DiskState, Image, IsImage, Tells}
 use Rattle.hk_base.specs.Faults.{Rose}
 use Rattle.frame_log.specs.declared.fault.StartFault.{StartFault}
+use Rattle.frame_log.specs.declared.fault.StartFault.TheVariants as start
+use Rattle.edit_ops.specs.declared.ops.EditOp.{EditOp}
 use Rattle.key_rows.specs.declared.rows.KeyCommand.{KeyCommand}
 use Rattle.key_rows.specs.Table.{Table}
 use Rattle.prop_text.specs.declared.lines.PropLine.{PropLine}
-use Rattle.kms_store.specs.Store.{IsKeyLog, StandsFor, next_opening}
+use Rattle.kms_core.specs.State.{settled}
+use Rattle.kms_store.specs.Store.{IsKeyLog, IsLeftByStart, next_opening}
+use Rattle.name_core.specs.State.{settled as settled_names}
+use Rattle.name_store.specs.Table.{NameTable, next_opening as next_opening_of_names}
+use Rattle.name_store.specs.Store.{IsNameLog, IsLeftByStart as IsLeftByNameStart}
 use Rattle.world_run.specs.declared.event.Event.{Event}
 use Rattle.world_run.specs.declared.event.Event.TheVariants as event
 use Rattle.world_run.specs.declared.event.Line.{Line}
 use Rattle.world_run.specs.World.{RunningWorld, WorldState, first_world, world_of}
-use Rattle.world_run.specs.Step.{FailsToOpen, Step}
-use Rattle.world_run.specs.Ledger.{Hidden, hidden_after, nothing_drawn}
-use Rattle.world_run.specs.Linked.{LinkedWorld}
-use Rattle.world_run.specs.Promise.{Survives, ZoneFilesOpen}
+use Rattle.world_run.specs.Acknowledged.{Acknowledged, HoldsLogs, LeavesBoth, RunBoth, Survives, also}
+use Rattle.world_run.specs.Step.{Step}
+use Rattle.world_run.specs.Ledger.{Hidden, Ledger, drawn_before, hidden_after}
+use Rattle.world_run.specs.Linked.{LinkedWorld, SoundFiles, StartsSound}
+use Rattle.world_run.specs.Promise.{ZoneFilesOpen}
 
--- The keys after an event are known, whatever the disk, but after a restart: there they are what the disk tells.
-abbrev pub KnowsKeys : Event → Type 0 → Type 0
-KnowsKeys event.RestartKms tells = tells
-KnowsKeys _ tells = Unit {0}
+-- What a restart finds is what the disk tells, and other events know the world after them whatever the disk.
+abbrev pub KnowsWorld : Event → Type 0 → Type 0
+KnowsWorld event.RestartKms tells = tells
+KnowsWorld event.RestartName tells = tells
+KnowsWorld _ tells = Unit {0}
 
 -- An event that happens so under the properties of these lines. Whatever is hidden beside a world that is linked, the world
 -- after it is linked again, and its zone files open.
-pub record LinkedStep (lines : List PropLine) (w : WorldState) (words : ℕ → ℕ) (now : ℕ) (e : Event) (fault tells : Type 0) (told : Line) (drawn : ℕ) (logged : List KeyCommand) (w' : WorldState) : Type 0 where
+pub record LinkedStep (lines : List PropLine) (w : WorldState) (words : ℕ → ℕ) (now : ℕ) (e : Event) (fault tells : Type 0) (told : Line) (drawn : ℕ) (logged : Acknowledged) (w' : WorldState) : Type 0 where
   pub step : Step lines w words now e fault tells told drawn logged w'
-  pub linked : KnowsKeys e tells → (h : Hidden) → LinkedWorld w h → LinkedWorld w' (hidden_after w words e told drawn h)
-  pub files_open : KnowsKeys e tells → (h : Hidden) → LinkedWorld w h → ZoneFilesOpen w' (hidden_after w words e told drawn h)
+  pub linked : KnowsWorld e tells → (h : Hidden) → LinkedWorld w h → LinkedWorld w' (hidden_after w words e told drawn w' h)
+  pub files_open : KnowsWorld e tells → (h : Hidden) → LinkedWorld w h → ZoneFilesOpen w' (hidden_after w words e told drawn w' h)
 
--- Whatever is hidden beside a linked world, a crash at any moment of an event leaves a key log with which its zone files open.
+-- a crash at any moment since leaves both logs, with what was acknowledged
 abbrev pub SurvivesThrough : DiskState → DiskState → RunningWorld → Type 0
-SurvivesThrough old new r =
-    Tells old → (commands : List KeyCommand) → StandsFor old r.keys.store commands → (h : Hidden) → LinkedWorld (world_of r) h → LeavesOnly 0 old new (Survives (world_of r) h commands)
+SurvivesThrough old new r = Tells old → (done : Acknowledged) → HoldsLogs old r done → LeavesBoth old new (Survives (world_of r) done)
 
 -- and so does a crash at this moment
-abbrev pub SurvivesNow : DiskState → RunningWorld → Hidden → Type 0
-SurvivesNow disk r h = (commands : List KeyCommand) → StandsFor disk r.keys.store commands → (bytes : List ℕ) → disk.leaves 0 bytes → Survives (world_of r) h commands bytes
+abbrev pub SurvivesNow : DiskState → RunningWorld → Type 0
+SurvivesNow disk r = (done : Acknowledged) → HoldsLogs disk r done → (c : Image) → IsImage disk c → Survives (world_of r) done c
 
--- An event of a world over its disk, under the properties of these lines. The commands acknowledged are in the log behind those
+-- a crash leaves files that the next run may start from, with this ledger of draws
+abbrev pub SoundThrough : DiskState → DiskState → RunningWorld → Hidden → Type 0
+SoundThrough old new r h = (done : Acknowledged) → HoldsLogs old r done → LeavesBoth old new (SoundFiles h.ledger h.place)
+
+abbrev pub SoundNow : DiskState → RunningWorld → Hidden → Type 0
+SoundNow disk r h = (done : Acknowledged) → HoldsLogs disk r done → (c : Image) → IsImage disk c → SoundFiles h.ledger h.place c
+
+-- An event of a world over its disk, under the properties of these lines. What is acknowledged is in the logs behind what was
 -- before, the next event begins with the words that are left, and the access control lists stay as they are.
 pub record Steps (lines : List PropLine) (old new : DiskState) (r : RunningWorld) (words : ℕ → ℕ) (now : ℕ) (e : Event) (told : Line) (r' : RunningWorld) (words' : ℕ → ℕ) : Type 0 where
   pub drawn : ℕ
-  pub logged : List KeyCommand
+  pub logged : Acknowledged
   pub step : LinkedStep lines (world_of r) words now e (Rose old.faults new.faults) (Tells old) told drawn logged (world_of r')
   pub rest : (k : ℕ) → words' k ≡ words (drawn + k)
-  pub stands : Tells old → (commands : List KeyCommand) → StandsFor old r.keys.store commands → StandsFor new r'.keys.store (commands ++ logged)
+  pub stands : Tells old → (done : Acknowledged) → HoldsLogs old r done → HoldsLogs new r' (also done logged)
   pub survives : SurvivesThrough old new r
-  pub survives_then : KnowsKeys e (Tells old) → (h : Hidden) → LinkedWorld (world_of r) h → SurvivesNow new r' (hidden_after (world_of r) words e told drawn h)
-  pub run : RunOn 0 old new
+  pub survives_then : SurvivesNow new r'
+  -- whatever is hidden beside a linked world, the files that a crash leaves are sound, with what is hidden after the event
+  pub sound : Tells old → (h : Hidden) → LinkedWorld (world_of r) h → SoundThrough old new r (hidden_after (world_of r) words e told drawn (world_of r') h)
+  pub sound_then : KnowsWorld e (Tells old) → (h : Hidden) → LinkedWorld (world_of r) h → SoundNow new r' (hidden_after (world_of r) words e told drawn (world_of r') h)
+  pub run : RunBoth old new
   pub lists : r'.keys.acls ≡ r.keys.acls
 
--- a restart whose opening failed
-pub record Fails (old new : DiskState) (r : RunningWorld) (words : ℕ → ℕ) (e : Event) (fault : StartFault) (r' : RunningWorld) (words' : ℕ → ℕ) : Type 0 where
-  pub fails : FailsToOpen old new r words e fault r' words'
-  pub survives : SurvivesThrough old new r
+-- which log a restart opens, and the number of the last opening in it, its pending record kept or not
+abbrev pub is_restart : Event → ℕ → Type 0
+is_restart event.RestartKms file = file ≡ 0
+is_restart event.RestartName file = file ≡ 1
+is_restart _ file = ⊥
 
--- A start found a table in the key log, and recorded the next opening behind its commands.
+abbrev pub last_opening : WorldState → Event → Bool → ℕ
+last_opening w event.RestartKms kept = (settled kept w.keys).table.opening
+last_opening w _ kept = (settled_names kept w.names).table.opening
+
+-- A restart whose opening failed. The log was opened before, so it is not damaged. The world is as it was, but its log may have
+-- grown: it is not to go on with this disk.
+pub record Fails (old new : DiskState) (r : RunningWorld) (words : ℕ → ℕ) (e : Event) (file : ℕ) (fault : StartFault) (r' : RunningWorld) (words' : ℕ → ℕ) : Type 0 where
+  pub restart : is_restart e file
+  pub same : r' ≡ r
+  pub same_words : words' ≡ words
+  pub never_damaged : Tells old → (at : ℕ) → fault ≡ start.Damaged at → ⊥
+  pub spent : fault ≡ start.Spent → Tells old → (kept : Bool) × (last_opening (world_of r) e kept ≡ 4294967295)
+  pub cause : fault ≡ start.StoreFault → Rose old.faults new.faults
+  pub survives : SurvivesThrough old new r
+  pub sound : Tells old → (h : Hidden) → LinkedWorld (world_of r) h → SoundThrough old new r h
+  pub run : RunBoth old new
+
+-- What a start found in both logs, where the disk tells it, and what they hold behind it: what was found, and the next openings.
+pub record BeganLogs (old new : DiskState) (r : RunningWorld) (table : Table) (names : NameTable) : Type 0 where
+  pub commands : List KeyCommand
+  pub ops : List EditOp
+  pub used : List ℕ
+  pub keys : IsKeyLog (old.reads 0) commands table
+  pub edits : IsNameLog (old.reads 1) ops (record { table = names; used = used })
+  pub holds : HoldsLogs new r (record { keys = commands ++ next_opening table ∷ []; names = ops ++ next_opening_of_names names ∷ [] })
+
+-- A start found a table in each log, and recorded the next opening behind its records. Where every image of the files was one that
+-- a run may start from, with a ledger of draws of earlier runs, the first world is linked with it.
 pub record Begins (old new : DiskState) (r : RunningWorld) : Type 0 where
   pub table : Table
-  pub first : world_of r ≡ first_world table
-  pub log : Tells old → (commands : List KeyCommand) × IsKeyLog (old.reads 0) commands table × StandsFor new r.keys.store (commands ++ next_opening table ∷ [])
-  pub survives_then : SurvivesNow new r nothing_drawn
+  pub names : NameTable
+  pub first : world_of r ≡ first_world table names
+  pub log : Tells old → BeganLogs old new r table names
+  pub linked : Tells old → (ledger : Ledger) (place : ℕ) → StartsSound old ledger place → LinkedWorld (world_of r) (drawn_before place ledger)
+  pub survives_then : SurvivesNow new r
+  pub sound_then : Tells old → (ledger : Ledger) (place : ℕ) → StartsSound old ledger place → SoundNow new r (drawn_before place ledger)
+
+-- what openings leave of each file: what it may have been before, or what its start leaves of the log found
+pub record LeftByStarts (old : DiskState) (c : Image) : Type 0 where
+  pub keys : old.leaves 0 (c 0) ⊎ IsLeftByStart (old.reads 0) (c 0)
+  pub names : old.leaves 1 (c 1) ⊎ IsLeftByNameStart (old.reads 1) (c 1)

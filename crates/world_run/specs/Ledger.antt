@@ -1,5 +1,5 @@
 -- What is stored nowhere: which data encryption key was drawn for which file.
-use Rattle.std.specs.Prelude.{ℕ, ◌+◌, List, [], ◌∷◌, ◌++◌, length, Option, None, Some}
+use Rattle.std.specs.Prelude.{ℕ, ◌+◌, ◌==◌, Bool, true, false, List, [], ◌∷◌, ◌++◌, length, Option, None, Some}
 use Rattle.hk_base.specs.declared.names.Dek.{Dek}
 use Rattle.hk_base.specs.declared.names.Iv.{Iv}
 use Rattle.hk_base.specs.declared.names.KeyName.{KeyName}
@@ -10,7 +10,11 @@ use Rattle.kms_core.specs.Draws.{drawn_dek, drawn_iv}
 use Rattle.kms_core.specs.State.{KmsState}
 use Rattle.kms_core.specs.Calls.{birth_of, current_material, current_version, row_of}
 use Rattle.name_core.specs.declared.calls.AskNote.{AskNote}
+use Rattle.edit_ops.specs.declared.ops.EditOp.{EditOp}
+use Rattle.edit_ops.specs.declared.ops.EditOp.TheVariants.{File}
+use Rattle.name_core.specs.State.{NameService}
 use Rattle.name_core.specs.declared.calls.NameReply.TheVariants.{Done}
+use Rattle.name_core.specs.declared.calls.NameRefusal.TheVariants.{StoreFault}
 use Rattle.name_core.specs.declared.calls.Want.{Want}
 use Rattle.name_core.specs.declared.calls.Want.TheVariants.{Generate}
 use Rattle.world_run.specs.declared.event.Event.{Event}
@@ -39,9 +43,9 @@ pub record Hidden : Type 0 where
   pub replied : List (Option Draw)
   pub ledger : Ledger
 
--- nothing was drawn yet
-abbrev pub nothing_drawn : Hidden
-nothing_drawn = record { place = 0; replied = []; ledger = [] }
+-- Before the first event: so many words were drawn by then, in earlier runs, and files got draws of that time.
+abbrev pub drawn_before : ℕ → Ledger → Hidden
+drawn_before place ledger = record { place = place; replied = []; ledger = ledger }
 
 -- the draw of a generate of one key
 abbrev pub draw_of : KmsState → (ℕ → ℕ) → ℕ → KeyName → Draw
@@ -68,15 +72,35 @@ abbrev pub entry_of : Option KeptReply → Option (Option Draw) → Ledger
 entry_of (Some kept) (Some (Some draw)) = (kept.id, draw) ∷ []
 entry_of _ _ = []
 
+-- the operation makes the file of this id
+abbrev pub makes_file : ℕ → Option EditOp → Bool
+makes_file id (Some (File made path edek)) = made == id
+makes_file id _ = false
+
+abbrev pub id_of_reply : Option KeptReply → ℕ
+id_of_reply None = 0
+id_of_reply (Some kept) = kept.id
+
+-- A finish enters its draw where it is done, and where the disk failed at its record: the file is pending then.
+abbrev pub enters : ℕ → Line → NameService → Bool
+enters id (line.Name Done) left = true
+enters id (line.Refused StoreFault) left = makes_file id left.pending
+enters id _ left = false
+
+abbrev pub entered : Bool → Ledger → Ledger
+entered true entry = entry
+entered false entry = []
+
 -- so many words more were drawn
 abbrev pub behind_words : ℕ → Hidden → Hidden
 behind_words drawn h = record h { place = h.place + drawn }
 
--- what is hidden after an event that was answered so: a draw keeps what was drawn for its reply, and a finish that is
--- done enters the draw of the reply that it used
-abbrev pub hidden_after : WorldState → (ℕ → ℕ) → Event → Line → ℕ → Hidden → Hidden
-hidden_after w words (event.Draw number) (line.Replied n told) drawn h =
+-- What is hidden after an event that was answered so and left this world: a draw keeps what was drawn for its reply, and a finish
+-- enters the draw of the reply that it used, where it enters one.
+abbrev pub hidden_after : WorldState → (ℕ → ℕ) → Event → Line → ℕ → WorldState → Hidden → Hidden
+hidden_after w words (event.Draw number) (line.Replied n told) drawn w' h =
     record (behind_words drawn h) { replied = h.replied ++ draw_noted w.keys.keys words h.place (numbered w.kept.notes number) told ∷ [] }
-hidden_after w words (event.Finish number) (line.Name Done) drawn h =
-    record (behind_words drawn h) { ledger = h.ledger ++ entry_of (numbered w.kept.replies number) (numbered h.replied number) }
-hidden_after w words _ _ drawn h = behind_words drawn h
+hidden_after w words (event.Finish number) told drawn w' h =
+    let kept = numbered w.kept.replies number in
+    record (behind_words drawn h) { ledger = h.ledger ++ entered (enters (id_of_reply kept) told w'.names) (entry_of kept (numbered h.replied number)) }
+hidden_after w words _ _ drawn w' h = behind_words drawn h

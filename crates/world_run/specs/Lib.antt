@@ -1,6 +1,10 @@
+pub mod Acknowledged
+pub mod Does
 pub mod Keeps
 pub mod Ledger
+pub mod Laws
 pub mod Linked
 pub mod Promise
-pub mod World
+pub mod Starts
 pub mod Step
+pub mod World

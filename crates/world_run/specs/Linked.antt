@@ -1,38 +1,31 @@
 -- What holds from event to event, and gives the promise on zone files.
-use Rattle.std.specs.Prelude.{◌≡◌, ◌⊎◌, ◌+◌, ◌<◌, ◌≤◌, ℕ, ⊤, List, [], ◌∷◌, length, Option, None, Some}
+use Rattle.std.specs.Prelude.{◌≡◌, ◌⊎◌, ◌+◌, ◌*◌, ◌^◌, ◌<◌, ◌≤◌, ℕ, ⊤, Bool, List, [], ◌∷◌, length, Option, None, Some}
+use Rattle.hk_base.specs.Disk.{DiskState, Image, IsImage}
 use Rattle.hk_base.specs.declared.names.Edek.{Edek}
-use Rattle.hk_base.specs.declared.names.KeyName.{KeyName}
-use Rattle.inode_tree.specs.declared.paths.NPath.{NPath}
-use Rattle.inode_tree.specs.Rows.{Entry, IsRows, mark_of}
+use Rattle.inode_tree.specs.Rows.{Entry}
+use Rattle.edit_ops.specs.declared.ops.EditOp.{EditOp}
+use Rattle.key_rows.specs.declared.rows.KeyCommand.{KeyCommand}
 use Rattle.key_rows.specs.declared.rows.KeyRow.{KeyRow}
+use Rattle.key_rows.specs.Table.{Table}
 use Rattle.kms_core.specs.Draws.{words_of_draw}
 use Rattle.kms_core.specs.Opening.{unseals}
 use Rattle.kms_core.specs.State.{IsService}
+use Rattle.kms_store.specs.Store.{IsSoundLog, settled_table}
+use Rattle.name_store.specs.Table.{NameTable, Replayed, key_of_zone, settled_log}
+use Rattle.name_store.specs.Store.{IsSoundLog as IsSoundNames}
 use Rattle.name_core.specs.declared.asks.OpenAsk.{OpenAsk}
-use Rattle.name_core.specs.declared.calls.Ask.TheVariants as ask
-use Rattle.name_core.specs.declared.calls.AskNote.{AskNote}
 use Rattle.name_core.specs.declared.calls.KeyAnswer.{KeyAnswer}
 use Rattle.name_core.specs.declared.calls.KeyAnswer.TheVariants.{Given, Refused}
-use Rattle.name_core.specs.declared.calls.Want.{Want}
-use Rattle.name_core.specs.declared.calls.Want.TheVariants.{Nothing, Generate, Metadata}
-use Rattle.name_core.specs.Asks.{key_of_zone}
-use Rattle.name_core.specs.State.{NameState, next_id}
-use Rattle.name_core.specs.Steps.{IdsFit}
+use Rattle.name_core.specs.State.{IsNames, next_id, settled as settled_names}
 use Rattle.world_run.specs.declared.kept.KeptReply.{KeptReply}
 use Rattle.world_run.specs.World.{WorldState, numbered}
 use Rattle.world_run.specs.Ledger.{Draw, Hidden, Ledger}
 use Rattle.world_run.specs.Promise.{Apart, FitsZone, In, edek_of}
 
 -- what both services keep by themselves
-
--- the rows of the namesystem, and the ids in use
-pub record NamesFit (s : NameState) : Type 0 where
-  pub rows : IsRows s.table.rows
-  pub ids : IdsFit s.table.rows s.asks (next_id s)
-
 pub record ServicesFit (w : WorldState) : Type 0 where
   pub keys : IsService w.keys
-  pub names : NamesFit w.names
+  pub names : IsNames w.names
 
 -- the row of the draw's birth, while that stands, opens the encrypted key to the data key drawn
 abbrev pub OpensTo : List KeyRow → Draw → Edek → Type 0
@@ -89,39 +82,33 @@ pub record LedgerFits (ledger : Ledger) (replies : List KeptReply) (replied : Li
   -- the draw of an entry is of no other ask's reply
   pub its_ask : (id : ℕ) (r : KeptReply) (d : Draw) → In (id, d) ledger → Replied replies replied r (Some d) → r.id ≡ id
 
--- the reply answers what was wanted
-abbrev pub Answers : Want → KeyAnswer → Type 0
-Answers Nothing (Refused why) = ⊥
-Answers Nothing (Given edek) = edek ≡ None
-Answers (Generate key) (Refused why) = ⊤
-Answers (Generate key) (Given None) = ⊥
-Answers (Generate key) (Given (Some edek)) = edek.version.key ≡ key
-Answers (Metadata key) (Refused why) = ⊤
-Answers (Metadata key) (Given edek) = edek ≡ None
-
--- a marked directory with this id, whose key is wanted
-pub record ZoneStands (rows : List Entry) (zone : ℕ) (wanted : Want) : Type 0 where
-  pub dir : Entry
-  pub stands : In dir rows
-  pub of_id : dir.row.id ≡ zone
-  pub key : KeyName
-  pub marked : mark_of dir.row.kind ≡ Some key
-  pub wants : wanted ≡ Generate key
-
--- what open asks want: a file in a zone a key of that zone's key, and a file outside nothing
-pub record WantsFit (rows : List Entry) (asks : List OpenAsk) (notes : List AskNote) (replies : List KeptReply) (next : ℕ) : Type 0 where
-  -- the zone under which an ask was made stands, with the key that the ask wants
-  pub in_zone : (a : OpenAsk) (zone : ℕ) → In a asks → a.zone ≡ Some zone → ZoneStands rows zone a.want
-  pub outside : (a : OpenAsk) (p : NPath) → In a asks → a.ask ≡ ask.Create p → a.zone ≡ None → a.want ≡ Nothing
-  pub noted : (a : OpenAsk) (note : AskNote) → In a asks → In note notes → note.id ≡ a.id → note.want ≡ a.want
-  pub answered : (a : OpenAsk) (r : KeptReply) → In a asks → In r replies → r.id ≡ a.id → Answers a.want r.answer
-  pub old_notes : (note : AskNote) → In note notes → note.id < next
-  pub old_replies : (r : KeptReply) → In r replies → r.id < next
-
--- From event to event.
+-- From event to event, with and without the pending operation of the namesystem.
 pub record LinkedWorld (w : WorldState) (h : Hidden) : Type 0 where
-  pub files : FilesLinked h.ledger w.keys.keys.table.rows w.names.table.rows
+  pub files : (kept : Bool) → FilesLinked h.ledger w.keys.keys.table.rows (settled_names kept w.names).table.rows
   pub replies : RepliesLinked w.keys.keys.table.rows w.kept.replies h.replied
   pub draws : DrawsFit h.ledger h.replied h.place w.keys.keys.table.greatest
-  pub ledger : LedgerFits h.ledger w.kept.replies h.replied w.names.asks (next_id w.names)
-  pub wants : WantsFit w.names.table.rows w.names.asks w.kept.notes w.kept.replies (next_id w.names)
+  pub ledger : LedgerFits h.ledger w.kept.replies h.replied w.names.names.asks (next_id w.names.names)
+
+-- What holds of two tables that are found in the files, while nothing is kept: files are linked, and the ids of the ledger are of
+-- openings that the table of the namesystem has seen.
+pub record LinkedTables (ledger : Ledger) (place : ℕ) (keys : Table) (names : NameTable) : Type 0 where
+  pub files : FilesLinked ledger keys.rows names.rows
+  pub draws : DrawsFit ledger [] place keys.greatest
+  pub fits : LedgerFits ledger [] [] [] ((names.opening + 1) * 2 ^ 32)
+
+-- Files that a run may start from, with a ledger of draws among so many words: two logs, and one more record may be behind each,
+-- which applies. The two tables are linked with those records and without them.
+pub record SoundFiles (ledger : Ledger) (place : ℕ) (image : Image) : Type 0 where
+  pub commands : List KeyCommand
+  pub more : Option KeyCommand
+  pub table : Table
+  pub ops : List EditOp
+  pub more_ops : Option EditOp
+  pub made : Replayed
+  pub keys : IsSoundLog (image 0) commands more table
+  pub names : IsSoundNames (image 1) ops more_ops made
+  pub linked : (found found_names : Bool) → LinkedTables ledger place (settled_table found more table) (settled_log found_names more_ops made).table
+
+-- every image of a moment is such files
+abbrev pub StartsSound : DiskState → Ledger → ℕ → Type 0
+StartsSound old ledger place = (c : Image) → IsImage old c → SoundFiles ledger place c

@@ -3,8 +3,8 @@ use Rattle.std.specs.Prelude.{ℕ, zero, suc, ◌+◌, List, [], ◌∷◌, ◌+
 use Rattle.key_rows.specs.Table.{Table}
 use Rattle.kms_core.specs.State.{ServiceState, opened, service_of}
 use Rattle.kms_core.specs.Users.{RunningKms, running}
-use Rattle.name_core.specs.State.{NameState}
-use Rattle.name_core.specs.State as names
+use Rattle.name_store.specs.Table.{NameTable}
+use Rattle.name_core.specs.State.{NameService, NameState, RunningNames, started, service_of as names_service}
 use Rattle.name_core.specs.declared.calls.AskNote.{AskNote}
 use Rattle.world_run.specs.declared.kept.KeptReply.{KeptReply}
 
@@ -16,26 +16,34 @@ pub record Kept : Type 0 where
 -- the key management service, the namesystem, and what is kept
 pub record WorldState : Type 0 where
   pub keys : ServiceState
-  pub names : NameState
+  pub names : NameService
   pub kept : Kept
 
--- behind a start that found this table of keys: the root alone, and nothing kept
-abbrev pub first_world : Table → WorldState
-first_world table = record { keys = opened table; names = names.first_state; kept = record { notes = []; replies = [] } }
+-- behind a start that found these two tables: nothing is kept
+abbrev pub first_world : Table → NameTable → WorldState
+first_world table names = record { keys = opened table; names = started names; kept = record { notes = []; replies = [] } }
 
--- the same world with the keys of another table, and none of its commands pending
-abbrev pub found_in : Table → WorldState → WorldState
-found_in table w = record w { keys = record { keys = record w.keys.keys { table = table }; pending = None } }
+-- the same world with the keys of another table and with the rows of another, and nothing pending
+abbrev pub found_in : Table → NameTable → WorldState → WorldState
+found_in table names w =
+    record w {
+      keys = record { keys = record w.keys.keys { table = table }; pending = None };
+      names = record { names = record w.names.names { table = names }; pending = None };
+    }
 
--- A world that runs: its key management service has access control lists and a store.
+-- A world that runs: its key management service has access control lists and a store, and its namesystem has a store.
 pub record RunningWorld : Type 0 where
   pub keys : RunningKms
-  pub names : NameState
+  pub names : RunningNames
   pub kept : Kept
 
 -- what a running world is, whatever its disk and its lists
 abbrev pub world_of : RunningWorld → WorldState
-world_of r = record { keys = service_of (running r.keys); names = r.names; kept = r.kept }
+world_of r = record { keys = service_of (running r.keys); names = names_service r.names; kept = r.kept }
+
+-- the world with the namesystem in another state, and the same operation pending
+abbrev pub with_names : NameState → WorldState → WorldState
+with_names names w = record w { names = record w.names { names = names } }
 
 -- what is kept under a number, from 1
 abbrev pub numbered : {X : Type 0} → List X → ℕ → Option X

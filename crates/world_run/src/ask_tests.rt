@@ -37,7 +37,7 @@ impl Desk {
     /// A world with a key `k`, and a directory `/d`.
     fn new(rt: &impl Abort, alloc: Global) -> Desk {
         let words = WORDS.as_slice().to_vec(alloc).expect(rt, "memory");
-        let mut disk = QuietDisk::new(rt, alloc, b"", &[]);
+        let mut disk = QuietDisk::new(rt, alloc, b"", b"", &[]);
         let props = props(rt, alloc, "");
         let mut desk = Desk {
             alloc,

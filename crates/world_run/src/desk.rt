@@ -4,7 +4,7 @@ use crate::quiet_disk::QuietDisk;
 use disk_kinds::ListWords;
 use hk_base::{ByteList, KeyName, Text};
 use key_rows::{Description, KmsCall, KmsRefusal, KmsReply};
-use name_core::NameReply;
+use name_core::{NameRefusal, NameReply};
 use prop_text::{Props, read_props};
 use std::alloc::Global;
 use std::process::Abort;
@@ -40,7 +40,7 @@ impl Desk {
         Desk::failing(rt, alloc, &[])
     }
 
-    /// A world over an empty disk, of which the calls with these numbers fail. A start makes 8.
+    /// A world over an empty disk, of which the calls with these numbers fail. A start makes 16.
     pub fn failing(rt: &impl Abort, alloc: Global, calls: &[u64]) -> Desk {
         Desk::under(rt, alloc, "", calls)
     }
@@ -48,7 +48,12 @@ impl Desk {
     /// The same under these lines of properties besides those for everybody.
     pub fn under(rt: &impl Abort, alloc: Global, lines: &str, calls: &[u64]) -> Desk {
         let props = props(rt, alloc, lines);
-        Desk::open(rt, alloc, QuietDisk::new(rt, alloc, b"", calls), &props)
+        Desk::open(
+            rt,
+            alloc,
+            QuietDisk::new(rt, alloc, b"", b"", calls),
+            &props,
+        )
     }
 
     pub fn open(rt: &impl Abort, alloc: Global, disk: QuietDisk, props: &Props) -> Desk {
@@ -85,7 +90,7 @@ impl Desk {
         }
     }
 
-    fn kms(&mut self, rt: &impl Abort, now: u64, call: KmsCall) -> KmsReply {
+    pub fn kms(&mut self, rt: &impl Abort, now: u64, call: KmsCall) -> KmsReply {
         let user = self.user(rt);
         match self.line(rt, now, Event::Kms { user, call }) {
             Line::Kms(reply) => reply,
@@ -134,6 +139,14 @@ impl Desk {
         }
     }
 
+    /// Opens the namesystem again, which is to be the opening of this number.
+    pub fn restart_names(&mut self, rt: &impl Abort, wanted: u32) {
+        match self.line(rt, 5, Event::RestartName) {
+            Line::Opened { opening } => assert_eq!(rt; opening, wanted),
+            _ => panic!(rt; "not opened"),
+        }
+    }
+
     fn name(&mut self, rt: &impl Abort, event: Event) -> NameReply {
         match self.line(rt, 5, event) {
             Line::Name(reply) => reply,
@@ -145,6 +158,38 @@ impl Desk {
         let user = self.user(rt);
         let path = self.list(rt, path);
         self.name(rt, Event::Mkdir { user, path })
+    }
+
+    pub fn delete_path(&mut self, rt: &impl Abort, path: &[u8], recursive: bool) -> NameReply {
+        let user = self.user(rt);
+        let path = self.list(rt, path);
+        self.name(
+            rt,
+            Event::Delete {
+                user,
+                path,
+                recursive,
+            },
+        )
+    }
+
+    pub fn list_path(&mut self, rt: &impl Abort, path: &[u8]) -> NameReply {
+        let user = self.user(rt);
+        let path = self.list(rt, path);
+        self.name(rt, Event::List { user, path })
+    }
+
+    pub fn zones(&mut self, rt: &impl Abort) -> NameReply {
+        let user = self.user(rt);
+        self.name(rt, Event::Zones { user })
+    }
+
+    pub fn draw(&mut self, rt: &impl Abort, ask: u32) -> Line {
+        self.line(rt, 5, Event::Draw { ask })
+    }
+
+    pub fn finish(&mut self, rt: &impl Abort, reply: u32) -> Line {
+        self.line(rt, 5, Event::Finish { reply })
     }
 
     pub fn info(&mut self, rt: &impl Abort, path: &[u8]) -> NameReply {
@@ -213,5 +258,38 @@ pub fn assert_fault(rt: &impl Abort, reply: KmsReply) {
     match reply {
         KmsReply::Refused(why) => assert!(rt; why == KmsRefusal::StoreFault),
         _ => panic!(rt; "no fault"),
+    }
+}
+
+pub fn assert_asked(rt: &impl Abort, told: Line, wanted: u64) {
+    match told {
+        Line::Asked { number, .. } => assert_eq!(rt; number, wanted),
+        _ => panic!(rt; "not asked"),
+    }
+}
+
+pub fn assert_finished(rt: &impl Abort, told: Line) {
+    match told {
+        Line::Name(NameReply::Done) => {}
+        _ => panic!(rt; "not finished"),
+    }
+}
+
+/// An ask or a finish was refused for this.
+pub fn assert_refused(rt: &impl Abort, told: Line, wanted: NameRefusal) {
+    match told {
+        Line::Refused(why) => assert!(rt; why == wanted),
+        _ => panic!(rt; "no refusal"),
+    }
+}
+
+/// The reply to the call that an ask wants.
+pub fn drawn(rt: &impl Abort, told: Line) -> KmsReply {
+    match told {
+        Line::Replied { reply, .. } => match reply {
+            Some(reply) => reply,
+            None => panic!(rt; "nothing was wanted"),
+        },
+        _ => panic!(rt; "no reply"),
     }
 }

@@ -16,15 +16,32 @@ pub enum Event {
     },
     /// Drops the key management service, and opens it again from its log.
     RestartKms,
+    /// Drops the namesystem, and opens it again from its log. The asks that were open are gone.
+    RestartName,
     /// Makes a directory of the namesystem.
     Mkdir {
         user: Text,
         path: ByteList,
     },
+    /// Deletes what stands at a path of the namesystem, with all below it where it is recursive.
+    Delete {
+        user: Text,
+        path: ByteList,
+        recursive: bool,
+    },
     /// Asks what stands at a path of the namesystem.
     Info {
         user: Text,
         path: ByteList,
+    },
+    /// Asks what lies in a directory of the namesystem.
+    List {
+        user: Text,
+        path: ByteList,
+    },
+    /// Asks for the encryption zones.
+    Zones {
+        user: Text,
     },
     /// Asks the namesystem to make a file. Where the ask is accepted its note is kept.
     AskCreate {
@@ -54,7 +71,7 @@ pub enum Event {
 pub enum Line {
     /// The reply of the key management service.
     Kms(KmsReply),
-    /// The key management service was opened again, and this is the number of the opening.
+    /// A service was opened again, and this is the number of the opening.
     Opened {
         opening: u32,
     },

@@ -1,13 +1,12 @@
-//! What holds before the first event. The function does nothing: its contract is the law.
-ghost use Rattle.key_rows.specs.Table.{Table};
-ghost use Rattle.world_run.specs.World.{first_world};
-ghost use Rattle.world_run.specs.Ledger.{nothing_drawn};
-ghost use Rattle.world_run.specs.Linked.{LinkedWorld};
-ghost use Rattle.world_run.specs.Promise.{ZoneFilesOpen};
+//! What holds of files that a run may start from. The function does nothing: its contract is the law.
+ghost use Rattle.world_run.specs.Laws.{EmptyFilesAreSound, SoundFilesAreWhole, SoundFilesOpen};
 
-/// Whatever keys a start finds, the first world is linked while nothing was drawn, and the promise on
-/// zone files holds of it. Each event keeps both (`World::step`).
-pub fn the_first_world_is_linked()
-    ensures linked { (table : Table) → LinkedWorld (first_world table) nothing_drawn }
-    ensures files_open { (table : Table) → ZoneFilesOpen (first_world table) nothing_drawn }
+/// Two files that were never written may be started from, with an empty ledger of draws. Where a run
+/// may start from two files, neither is damaged, and each file in a zone opens to the data encryption
+/// key drawn for it, with the keys and the rows that a start finds. Each start and each event leaves
+/// such files (`World::start`, `World::step`).
+pub fn sound_files_may_be_started_from()
+    ensures empty { EmptyFilesAreSound }
+    ensures whole { SoundFilesAreWhole }
+    ensures open_up { SoundFilesOpen }
 {}

@@ -1,5 +1,5 @@
-//! Both services in one world: the key management service over its log on a disk and the namesystem,
-//! and the events that happen to them.
+//! Both services in one world: the key management service and the namesystem, each over its log on a
+//! disk, and the events that happen to them.
 #![tactic(auto)]
 
 mod event;
@@ -9,13 +9,15 @@ mod world;
 
 pub use event::{Event, Line, WorldFault};
 pub use kept::KeptReply;
-pub use laws::the_first_world_is_linked;
+pub use laws::sound_files_may_be_started_from;
 pub use world::World;
 
 #[cfg(test)]
 mod ask_tests;
 #[cfg(test)]
 mod desk;
+#[cfg(test)]
+mod late_tests;
 #[cfg(test)]
 mod log_tests;
 #[cfg(test)]

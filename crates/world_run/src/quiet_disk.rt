@@ -1,5 +1,5 @@
 //! A disk for tests, of which a proof knows nothing: so a test owes nothing of what the disk holds.
-ghost use Rattle.std.specs.Prelude.{◌≤◌};
+ghost use Rattle.std.specs.Prelude.{◌≤◌, length};
 ghost use Rattle.hk_base.specs.Faults.{Rose};
 ghost use Rattle.disk_kinds.specs.Untold.{untold};
 
@@ -15,16 +15,30 @@ pub struct QuietDisk {
     pub faults: u64,
 }
 
+/// The bytes of a log of a test.
+fn log(rt: &impl Abort, alloc: Global, bytes: &[u8]) -> Vec<u8>
+    ensures { length result.items ≤ 1000 }
+{
+    if bytes.len() > 1000 {
+        panic!(rt; "a longer log");
+    }
+    bytes.to_vec(alloc).expect(rt, "memory")
+}
+
 impl QuietDisk {
-    /// A disk with this key log, of which the calls with these numbers fail.
-    pub fn new(rt: &impl Abort, alloc: Global, log: &[u8], failing: &[u64]) -> QuietDisk {
-        if log.len() > 1000 {
-            panic!(rt; "a longer log");
-        }
-        let log = log.to_vec(alloc).expect(rt, "memory");
+    /// A disk with these two logs, of which the calls with these numbers fail.
+    pub fn new(
+        rt: &impl Abort,
+        alloc: Global,
+        keys: &[u8],
+        names: &[u8],
+        failing: &[u64],
+    ) -> QuietDisk {
+        let keys = log(rt, alloc, keys);
+        let names = log(rt, alloc, names);
         let failing = failing.to_vec(alloc).expect(rt, "memory");
         QuietDisk {
-            disk: MemDisk::new(alloc, log, Vec::new(alloc), failing).expect(rt, "memory"),
+            disk: MemDisk::new(alloc, keys, names, failing).expect(rt, "memory"),
             faults: 0,
         }
     }

@@ -1,13 +1,15 @@
 //! Events under access control lists.
-use super::*;
-use crate::desk::{Desk, assert_done, assert_fault, assert_known, assert_version};
+use crate::desk::{
+    Desk, assert_asked, assert_done, assert_fault, assert_finished, assert_known, assert_refused,
+    assert_version, drawn,
+};
 use key_rows::{AclOp, AclTable, KmsRefusal, KmsReply};
-use name_core::{NameRefusal, NameReply};
+use name_core::NameRefusal;
 use std::process::Abort;
 
 /// The calls of the disk up to the last one of a roll behind a start and a create: its gate is
 /// written but not synced.
-const GATE_OF_ROLL: u64 = 16;
+const GATE_OF_ROLL: u64 = 24;
 
 fn denial(table: AclTable, op: AclOp) -> KmsRefusal {
     KmsRefusal::Denied { table, op }
@@ -77,38 +79,13 @@ fn ask_in_zone(rt: &impl Abort, desk: &mut Desk) {
     assert_done(rt, desk.mkdir(rt, b"/d"));
     desk.enter(rt, "hdfs");
     assert_asked(rt, desk.ask_zone(rt, b"/d", b"k"), 1);
-    match drawn(rt, desk, 1) {
+    match drawn(rt, desk.draw(rt, 1)) {
         KmsReply::Metadata(_) => {}
         _ => panic!(rt; "no metadata"),
     }
-    assert_finished(rt, desk, 1);
+    assert_finished(rt, desk.finish(rt, 1));
     desk.enter(rt, "alice");
     assert_asked(rt, desk.ask_create(rt, b"/d/f"), 2);
-}
-
-fn assert_asked(rt: &impl Abort, told: Line, wanted: u64) {
-    match told {
-        Line::Asked { number, .. } => assert_eq!(rt; number, wanted),
-        _ => panic!(rt; "not asked"),
-    }
-}
-
-/// The reply to the call that an ask wants.
-fn drawn(rt: &impl Abort, desk: &mut Desk, ask: u32) -> KmsReply {
-    match desk.line(rt, 5, Event::Draw { ask }) {
-        Line::Replied { reply, .. } => match reply {
-            Some(reply) => reply,
-            None => panic!(rt; "nothing was wanted"),
-        },
-        _ => panic!(rt; "no reply"),
-    }
-}
-
-fn assert_finished(rt: &impl Abort, desk: &mut Desk, reply: u32) {
-    match desk.line(rt, 5, Event::Finish { reply }) {
-        Line::Name(NameReply::Done) => {}
-        _ => panic!(rt; "not finished"),
-    }
 }
 
 #[test]
@@ -117,11 +94,8 @@ fn a_draw_that_is_denied_ends_its_ask(rt: HostRuntime) {
     let mut desk = Desk::under(&rt, rt.alloc(), lines, &[]);
     ask_in_zone(&rt, &mut desk);
     let why = denial(AclTable::ServiceBlacklist, AclOp::GenerateEek);
-    assert_denied(&rt, drawn(&rt, &mut desk, 2), why);
-    match desk.line(&rt, 5, Event::Finish { reply: 2 }) {
-        Line::Refused(refusal) => assert!(rt; refusal == NameRefusal::KeyRefused(why)),
-        _ => panic!(&rt; "not refused"),
-    }
+    assert_denied(&rt, drawn(&rt, desk.draw(&rt, 2)), why);
+    assert_refused(&rt, desk.finish(&rt, 2), NameRefusal::KeyRefused(why));
 }
 
 #[test]
@@ -129,9 +103,9 @@ fn a_draw_is_made_as_the_superuser_whoever_asked(rt: HostRuntime) {
     let lines = "hadoop.kms.acl.GENERATE_EEK=hdfs\n";
     let mut desk = Desk::under(&rt, rt.alloc(), lines, &[]);
     ask_in_zone(&rt, &mut desk);
-    match drawn(&rt, &mut desk, 2) {
+    match drawn(&rt, desk.draw(&rt, 2)) {
         KmsReply::Ready(keys) => assert_eq!(rt; keys.as_slice().len(), 1),
         _ => panic!(&rt; "no key"),
     }
-    assert_finished(&rt, &mut desk, 2);
+    assert_finished(&rt, desk.finish(&rt, 2));
 }

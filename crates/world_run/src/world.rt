@@ -1,23 +1,31 @@
 //! The world and its events.
-ghost use Rattle.std.specs.Prelude.{◌≡◌, ◌⊎◌, ℕ, List, [], IfOk, IsErrOf, MatchResult};
+ghost use Rattle.std.specs.Prelude.{◌≡◌, ◌⊎◌, ℕ, List, IfOk, IsErrOf, MatchResult};
 ghost use Rattle.hk_base.specs.Disk.{LeavesOnly, RunOn, Tells};
 ghost use Rattle.hk_base.specs.Faults.{Rose};
 ghost use Rattle.frame_log.specs.declared.fault.StartFault.TheVariants as start;
 ghost use Rattle.inode_tree.specs.Paths.{read_path};
+ghost use Rattle.edit_ops.specs.declared.ops.EditOp.{EditOp};
 ghost use Rattle.key_rows.specs.declared.rows.KeyCommand.{KeyCommand};
 ghost use Rattle.key_rows.specs.Table.{Table};
 ghost use Rattle.kms_acls.specs.StandsFor.{StandsFor as ListsFor};
+ghost use Rattle.kms_core.specs.Service.{Starts};
 ghost use Rattle.kms_core.specs.Users.{running};
 ghost use Rattle.kms_store.specs.Store.{IsDamagedAt, IsKeyLog, IsLeftByStart, StandsFor};
 ghost use Rattle.name_core.specs.declared.calls.Ask.TheVariants as ask;
 ghost use Rattle.name_core.specs.declared.calls.NameCall.TheVariants as call;
-ghost use Rattle.name_core.specs.Asks.{superuser};
+ghost use Rattle.name_core.specs.Calls.{superuser};
+ghost use Rattle.name_store.specs.Table.{Replayed};
+ghost use Rattle.name_store.specs.Store.{IsDamagedAt as IsDamagedName, IsNameLog};
 ghost use Rattle.prop_text.specs.declared.lines.PropLine.{PropLine};
 ghost use Rattle.world_run.specs.declared.event.Event.TheVariants as event;
+ghost use Rattle.world_run.specs.Acknowledged.{Acknowledged, HoldsLogs, LeavesBoth, RunBoth};
+ghost use Rattle.world_run.specs.Does.{CallHappens, DrawHappens, FinishHappens, Happens, PathHappens, WantHappens};
+ghost use Rattle.world_run.specs.Keeps.{Begins, Fails, LeftByStarts, Steps};
+ghost use Rattle.world_run.specs.Ledger.{Ledger};
+ghost use Rattle.world_run.specs.Linked.{ServicesFit, SoundFiles, StartsSound};
+ghost use Rattle.world_run.specs.Starts.{StartHappens};
+ghost use Rattle.world_run.specs.Step.{AskActs, AskAt, Refuses, delete_with, finish_line, unread_refusal, unread_reply, zone_with};
 ghost use Rattle.world_run.specs.World.{numbered, world_of};
-ghost use Rattle.world_run.specs.Keeps.{Begins, Fails, Steps};
-ghost use Rattle.world_run.specs.Linked.{ServicesFit};
-ghost use Rattle.world_run.specs.Step.{AskActs, AskAt, Draws, FailsToOpen, FinishReply, Happens, NotOpened, PathActs, Refuses, Wants, finish_line, unread_refusal, unread_reply, zone_with};
 
 use crate::event::{Event, Line, WorldFault};
 use crate::kept::{KeptReply, again, note_numbered, reply_numbered};
@@ -35,9 +43,12 @@ use std::marker::Model;
 /// The number of the file that has the key log.
 const KEYS: u8 = 0;
 
+/// The number of the file that has the edit log.
+const NAMES: u8 = 1;
+
 /// Both services, and what is kept between the parts of a call in three parts. Contracts see the
-/// access control lists and the store of the key management service, the state of the namesystem, and
-/// the notes and replies that are kept as lists.
+/// access control lists and the store of the key management service, the store and the open asks of
+/// the namesystem, and the notes and replies that are kept as lists.
 ///
 /// Each call that takes a disk is to be given the disk that the world was started on.
 #[derive(Drop)]
@@ -52,14 +63,14 @@ pub struct World {
 
 impl Model for World {
     ghost use Rattle.std.specs.Prelude.{◌≡◌};
-    ghost use Rattle.name_core.specs.Asks as asks;
+    ghost use Rattle.name_core.specs.Calls as calls;
     ghost use Rattle.world_run.specs.World.{RunningWorld};
 
     ghost Value = { RunningWorld };
 
     ghost view = { λ a. record { keys = a.keys; names = a.names; kept = record { notes = a.notes.items; replies = a.replies.items } } };
 
-    ghost invariant = { λ a. a.superuser ≡ asks.superuser };
+    ghost invariant = { λ a. a.superuser ≡ calls.superuser };
 }
 
 /// The answer where a path could not be read.
@@ -99,52 +110,78 @@ fn superuser(alloc: Global) -> Result<Text, NoMemory>
     Ok(Text::of(String::from_str(alloc, "hdfs")?))
 }
 
+/// The key management service over its log, with the lists of the properties. The log is opened last.
+fn open_keys<D: Disk>(alloc: Global, disk: &mut D, props: &Props) -> Result<Kms, StartFault>
+    ensures started { IfOk result (λ kms. Starts (D.state disk.old) (D.state disk.new) (running kms)) }
+    ensures lists { IfOk result (λ kms. ListsFor kms.acls props.now.lines) }
+    ensures damaged { (at : ℕ) → IsErrOf result (start.Damaged at) → Tells (D.state disk.old) → IsDamagedAt ((D.state disk.old).reads 0) at }
+    ensures spent { IsErrOf result start.Spent → Tells (D.state disk.old) → ((commands : List KeyCommand) × (table : Table)
+        × IsKeyLog ((D.state disk.old).reads 0) commands table × (table.opening ≡ 4294967295)) }
+    ensures any_moment { Tells (D.state disk.old) → LeavesOnly 0 (D.state disk.old) (D.state disk.new)
+        (λ c. (D.state disk.old).leaves 0 c ⊎ IsLeftByStart ((D.state disk.old).reads 0) c) }
+    ensures run { RunOn 0 (D.state disk.old) (D.state disk.new) }
+    ensures cause { IsErrOf result start.StoreFault → Rose (D.state disk.old).faults (D.state disk.new).faults }
+{
+    let acls = Acls::from_props(alloc, props)?;
+    Kms::start(alloc, disk, acls)
+}
+
 impl World {
-    /// Opens the key log on file 0 of a disk. The namesystem is in its first state: the root alone.
-    /// Calls of the key management service are judged by the access control lists of the properties,
-    /// from now on and also behind a restart.
+    /// Opens the key log on file 0 of a disk, and then the edit log on file 1. Calls of the key
+    /// management service are judged by the access control lists of the properties, from now on and
+    /// also behind a restart. Where memory is wanting before a log is opened, the fault is that of file 0.
     ///
-    /// `Damaged` comes exactly where the file is no log, or a record is no command or doesn't apply,
-    /// with the offset of its gate. `Spent` comes exactly where opening 4,294,967,295 is recorded.
+    /// `Damaged` comes exactly where the file is no log, or a record is none or doesn't apply, with the
+    /// offset of its gate. `Spent` comes exactly where opening 4,294,967,295 is recorded. The first file
+    /// that has a fault counts.
     pub fn start<D: Disk>(alloc: Global, disk: &mut D, props: &Props) -> Result<World, WorldFault>
         ensures began { IfOk result (Begins (D.state disk.old) (D.state disk.new)) }
         ensures lists { IfOk result (λ world. ListsFor world.keys.acls props.now.lines) }
-        ensures file { (file : ℕ) (fault : StartFault) → IsErrOf result (record { file = file; fault = fault }) → file ≡ 0 }
-        ensures damaged { (at : ℕ) → IsErrOf result (record { file = 0; fault = start.Damaged at }) → Tells (D.state disk.old) → IsDamagedAt ((D.state disk.old).reads 0) at }
-        ensures spent { IsErrOf result (record { file = 0; fault = start.Spent }) → Tells (D.state disk.old) → ((commands : List KeyCommand) × (table : Table)
+        ensures file { (file : ℕ) (fault : StartFault) → IsErrOf result (record { file = file; fault = fault }) → (file ≡ 0) ⊎ (file ≡ 1) }
+        ensures damaged_keys { (at : ℕ) → IsErrOf result (record { file = 0; fault = start.Damaged at }) → Tells (D.state disk.old) → IsDamagedAt ((D.state disk.old).reads 0) at }
+        ensures damaged_names { (at : ℕ) → IsErrOf result (record { file = 1; fault = start.Damaged at }) → Tells (D.state disk.old) → IsDamagedName ((D.state disk.old).reads 1) at }
+        ensures spent_keys { IsErrOf result (record { file = 0; fault = start.Spent }) → Tells (D.state disk.old) → ((commands : List KeyCommand) × (table : Table)
             × IsKeyLog ((D.state disk.old).reads 0) commands table × (table.opening ≡ 4294967295)) }
+        ensures spent_names { IsErrOf result (record { file = 1; fault = start.Spent }) → Tells (D.state disk.old) → ((ops : List EditOp) × (made : Replayed)
+            × IsNameLog ((D.state disk.old).reads 1) ops made × (made.table.opening ≡ 4294967295)) }
 
-        // A crash at any moment leaves what it might have left before, or the log found, now or with its end
-        // gate read as 1, or its commands with the new opening or without it.
-        ensures any_moment { Tells (D.state disk.old) → LeavesOnly 0 (D.state disk.old) (D.state disk.new)
-            (λ c. (D.state disk.old).leaves 0 c ⊎ IsLeftByStart ((D.state disk.old).reads 0) c) }
+        // A crash at any moment leaves of each file what it might have left before, or the log found, now or
+        // with its end gate read as 1, or its records with the new opening or without it.
+        ensures any_moment { Tells (D.state disk.old) → LeavesBoth (D.state disk.old) (D.state disk.new) (LeftByStarts (D.state disk.old)) }
 
-        ensures run { RunOn 0 (D.state disk.old) (D.state disk.new) }
-        ensures cause { IsErrOf result (record { file = 0; fault = start.StoreFault }) → Rose (D.state disk.old).faults (D.state disk.new).faults }
+        // Where every image was one that a run may start from, with a ledger, so is every image since.
+        ensures sound { Tells (D.state disk.old) → (ledger : Ledger) (place : ℕ) → StartsSound (D.state disk.old) ledger place
+            → LeavesBoth (D.state disk.old) (D.state disk.new) (SoundFiles ledger place) }
+
+        ensures run { RunBoth (D.state disk.old) (D.state disk.new) }
+        ensures cause { (file : ℕ) → IsErrOf result (record { file = file; fault = start.StoreFault }) → Rose (D.state disk.old).faults (D.state disk.new).faults }
     {
-        match World::open(alloc, disk, props) {
-            Ok(world) => Ok(world),
-            Err(fault) => Err(WorldFault { file: KEYS, fault }),
-        }
+        World::open(alloc, disk, props)
     }
 
-    /// The same, but for the file of the fault. The log is opened last.
-    fn open<D: Disk>(alloc: Global, disk: &mut D, props: &Props) -> Result<World, StartFault>
-        ensures began { IfOk result (Begins (D.state disk.old) (D.state disk.new)) }
-        ensures lists { IfOk result (λ world. ListsFor world.keys.acls props.now.lines) }
-        ensures damaged { (at : ℕ) → IsErrOf result (start.Damaged at) → Tells (D.state disk.old) → IsDamagedAt ((D.state disk.old).reads 0) at }
-        ensures spent { IsErrOf result start.Spent → Tells (D.state disk.old) → ((commands : List KeyCommand) × (table : Table)
-            × IsKeyLog ((D.state disk.old).reads 0) commands table × (table.opening ≡ 4294967295)) }
-        ensures any_moment { Tells (D.state disk.old) → LeavesOnly 0 (D.state disk.old) (D.state disk.new)
-            (λ c. (D.state disk.old).leaves 0 c ⊎ IsLeftByStart ((D.state disk.old).reads 0) c) }
-        ensures run { RunOn 0 (D.state disk.old) (D.state disk.new) }
-        ensures cause { IsErrOf result start.StoreFault → Rose (D.state disk.old).faults (D.state disk.new).faults }
+    /// The same, said in one clause.
+    fn open<D: Disk>(alloc: Global, disk: &mut D, props: &Props) -> Result<World, WorldFault>
+        ensures { StartHappens (D.state disk.old) (D.state disk.new) props.now.lines result }
     {
-        let acls = Acls::from_props(alloc, props)?;
-        let user = superuser(alloc)?;
-        let names = Name::new(alloc)?;
-        let keys = Kms::start(alloc, disk, acls)?;
+        let user = match superuser(alloc) {
+            Ok(user) => user,
+            Err(_) => {
+                return Err(WorldFault {
+                    file: KEYS,
+                    fault: StartFault::NoMemory,
+                });
+            }
+        };
+        let keys = match open_keys(alloc, disk, props) {
+            Ok(keys) => keys,
+            Err(fault) => return Err(WorldFault { file: KEYS, fault }),
+        };
+        let names = match Name::start(alloc, disk) {
+            Ok(names) => names,
+            Err(fault) => return Err(WorldFault { file: NAMES, fault }),
+        };
         let _ = keys.count();
+        let _ = names.count();
         Ok(World {
             alloc,
             keys,
@@ -157,14 +194,14 @@ impl World {
 
     /// Lets an event happen, and answers it. `now` is the moment of the event. Where the world was
     /// linked with what was drawn and entered so far, it is linked again, and each file in a zone
-    /// opens to the data encryption key drawn for it, also with the keys that a crash at any moment of
-    /// the event leaves.
+    /// opens to the data encryption key drawn for it, also with the keys and the files that a crash at
+    /// any moment of the event leaves in both logs.
     ///
     /// A call of the key management service is judged first, by the access control lists of the start:
     /// those of a user as that user, and those that asks want as the user `hdfs`. A call that is denied
     /// does nothing. The lists stay as they are.
     ///
-    /// The only event that may fail is a restart whose opening fails. The world is not to go on with
+    /// The only events that may fail are restarts whose opening fails. The world is not to go on with
     /// this disk then.
     pub fn step<D: Disk, W: Words>(
         &mut self,
@@ -173,25 +210,24 @@ impl World {
         now: u64,
         event: Event,
     ) -> Result<Line, WorldFault>
-        requires stands { Tells (D.state disk.old) → ((commands : List KeyCommand) × StandsFor (D.state disk.old) self.old.keys.store commands) }
+        requires stands { Tells (D.state disk.old) → ((done : Acknowledged) × HoldsLogs (D.state disk.old) self.old done) }
         ensures { MatchResult result
             (λ line. (lines : List PropLine) → ListsFor self.old.keys.acls lines → Steps lines (D.state disk.old) (D.state disk.new) self.old (W.to_come words.old) now event line self.new (W.to_come words.new))
-            (λ fault. (fault.file ≡ 0) × Fails (D.state disk.old) (D.state disk.new) self.old (W.to_come words.old) event fault.fault self.new (W.to_come words.new)) }
+            (λ fault. Fails (D.state disk.old) (D.state disk.new) self.old (W.to_come words.old) event fault.file fault.fault self.new (W.to_come words.new)) }
     {
         self.fits();
         let told = self.happen(disk, words, now, event);
         self.fits();
-        match told {
-            Ok(line) => Ok(line),
-            Err(fault) => Err(WorldFault { file: KEYS, fault }),
-        }
+        told
     }
 
     /// What both services keep by themselves.
     fn fits(&self)
         ensures fits { ServicesFit (world_of self.now) }
-        // The log is that of file 0.
-        ensures file { self.now.keys.store.log.file ≡ 0 }
+        // The key log is that of file 0.
+        ensures keys_file { self.now.keys.store.log.file ≡ 0 }
+        // The edit log is that of file 1.
+        ensures names_file { self.now.names.store.log.log.file ≡ 1 }
     {
         let _ = self.keys.count();
         let _ = self.names.count();
@@ -203,67 +239,127 @@ impl World {
         words: &mut W,
         now: u64,
         event: Event,
-    ) -> Result<Line, StartFault>
-        requires stands { Tells (D.state disk.old) → ((commands : List KeyCommand) × StandsFor (D.state disk.old) self.old.keys.store commands) }
+    ) -> Result<Line, WorldFault>
+        requires stands { Tells (D.state disk.old) → ((done : Acknowledged) × HoldsLogs (D.state disk.old) self.old done) }
         ensures { MatchResult result
             (λ line. (lines : List PropLine) → ListsFor self.old.keys.acls lines → Happens lines (D.state disk.old) (D.state disk.new) self.old (W.to_come words.old) now event line self.new (W.to_come words.new))
-            (λ fault. FailsToOpen (D.state disk.old) (D.state disk.new) self.old (W.to_come words.old) event fault self.new (W.to_come words.new)) }
+            (λ fault. Fails (D.state disk.old) (D.state disk.new) self.old (W.to_come words.old) event fault.file fault.fault self.new (W.to_come words.new)) }
     {
         match event {
             Event::Kms { user, call } => {
                 let reply = self.keys.act(disk, words, now, &user, call);
                 Ok(Line::Kms(reply))
             }
-            Event::RestartKms => self.restart(disk),
-            Event::Mkdir { user, path } => Ok(self.mkdir(&user, &path)),
-            Event::Info { user, path } => Ok(self.info(&user, &path)),
+            Event::RestartKms => self.restart_keys(disk),
+            Event::RestartName => self.restart_names(disk),
+            Event::Mkdir { user, path } => Ok(self.mkdir(disk, &user, &path)),
+            Event::Delete {
+                user,
+                path,
+                recursive,
+            } => Ok(self.delete(disk, &user, &path, recursive)),
+            Event::Info { user, path } => Ok(self.info(disk, &user, &path)),
+            Event::List { user, path } => Ok(self.list(disk, &user, &path)),
+            Event::Zones { user } => Ok(self.call(disk, &user, NameCall::Zones)),
             Event::AskCreate { user, path } => Ok(self.ask_create(&user, &path)),
             Event::AskZone { user, path, key } => Ok(self.ask_zone(&user, &path, key)),
             Event::Draw { ask } => Ok(self.draw(disk, words, now, ask)),
-            Event::Finish { reply } => Ok(self.finish(reply)),
+            Event::Finish { reply } => Ok(self.finish(disk, reply)),
         }
     }
 
     /// Opens the key log again, and goes on with the keys that it finds and with the same lists. Where
     /// it fails, nothing changes but the disk.
-    fn restart<D: Disk>(&mut self, disk: &mut D) -> Result<Line, StartFault>
-        requires stands { Tells (D.state disk.old) → ((commands : List KeyCommand) × StandsFor (D.state disk.old) self.old.keys.store commands) }
+    fn restart_keys<D: Disk>(&mut self, disk: &mut D) -> Result<Line, WorldFault>
+        requires stands { Tells (D.state disk.old) → ((done : Acknowledged) × HoldsLogs (D.state disk.old) self.old done) }
         ensures { MatchResult result
             (λ line. (lines : List PropLine) (words : ℕ → ℕ) (now : ℕ) → Happens lines (D.state disk.old) (D.state disk.new) self.old words now event.RestartKms line self.new words)
-            (λ fault. (self.new ≡ self.old) × NotOpened (D.state disk.old) (D.state disk.new) (running self.old.keys) fault) }
+            (λ fault. (words : ℕ → ℕ) → Fails (D.state disk.old) (D.state disk.new) self.old words event.RestartKms fault.file fault.fault self.new words) }
     {
         self.fits();
         match self.keys.restart(self.alloc, disk) {
-            Err(fault) => return Err(fault),
+            Err(fault) => return Err(WorldFault { file: KEYS, fault }),
             Ok(()) => {}
         }
         let opening = self.keys.opening();
         Ok(Line::Opened { opening })
     }
 
-    fn mkdir(&mut self, user: &Text, path: &ByteList) -> Line
-        ensures acts { PathActs (world_of self.old) call.Mkdir (read_path path.now) result (world_of self.new) }
-        ensures keys { self.new.keys ≡ self.old.keys }
+    /// Opens the edit log again, and goes on with the rows that it finds. No ask is open then. Where it
+    /// fails, nothing changes but the disk.
+    fn restart_names<D: Disk>(&mut self, disk: &mut D) -> Result<Line, WorldFault>
+        requires stands { Tells (D.state disk.old) → ((done : Acknowledged) × HoldsLogs (D.state disk.old) self.old done) }
+        ensures { MatchResult result
+            (λ line. (lines : List PropLine) (words : ℕ → ℕ) (now : ℕ) → Happens lines (D.state disk.old) (D.state disk.new) self.old words now event.RestartName line self.new words)
+            (λ fault. (words : ℕ → ℕ) → Fails (D.state disk.old) (D.state disk.new) self.old words event.RestartName fault.file fault.fault self.new words) }
+    {
+        self.fits();
+        match self.names.restart(self.alloc, disk) {
+            Err(fault) => return Err(WorldFault { file: NAMES, fault }),
+            Ok(()) => {}
+        }
+        let opening = self.names.opening();
+        Ok(Line::Opened { opening })
+    }
+
+    /// A call of the namesystem.
+    fn call<D: Disk>(&mut self, disk: &mut D, user: &Text, call: NameCall) -> Line
+        requires stands { Tells (D.state disk.old) → ((done : Acknowledged) × HoldsLogs (D.state disk.old) self.old done) }
+        ensures { CallHappens (D.state disk.old) (D.state disk.new) self.old user.now call result self.new }
+    {
+        Line::Name(self.names.act(disk, user, call))
+    }
+
+    fn mkdir<D: Disk>(&mut self, disk: &mut D, user: &Text, path: &ByteList) -> Line
+        requires stands { Tells (D.state disk.old) → ((done : Acknowledged) × HoldsLogs (D.state disk.old) self.old done) }
+        ensures { PathHappens (D.state disk.old) (D.state disk.new) self.old user.now call.Mkdir (read_path path.now) result self.new }
     {
         match NPath::read(self.alloc, path.as_slice()) {
             Err(fault) => Line::Name(unread(fault)),
-            Ok(path) => Line::Name(self.names.act(user, NameCall::Mkdir { path })),
+            Ok(path) => self.call(disk, user, NameCall::Mkdir { path }),
         }
     }
 
-    fn info(&mut self, user: &Text, path: &ByteList) -> Line
-        ensures acts { PathActs (world_of self.old) call.Info (read_path path.now) result (world_of self.new) }
-        ensures keys { self.new.keys ≡ self.old.keys }
+    fn delete<D: Disk>(
+        &mut self,
+        disk: &mut D,
+        user: &Text,
+        path: &ByteList,
+        recursive: bool,
+    ) -> Line
+        requires stands { Tells (D.state disk.old) → ((done : Acknowledged) × HoldsLogs (D.state disk.old) self.old done) }
+        ensures { PathHappens (D.state disk.old) (D.state disk.new) self.old user.now (delete_with recursive) (read_path path.now) result self.new }
     {
         match NPath::read(self.alloc, path.as_slice()) {
             Err(fault) => Line::Name(unread(fault)),
-            Ok(path) => Line::Name(self.names.act(user, NameCall::Info { path })),
+            Ok(path) => self.call(disk, user, NameCall::Delete { path, recursive }),
+        }
+    }
+
+    fn info<D: Disk>(&mut self, disk: &mut D, user: &Text, path: &ByteList) -> Line
+        requires stands { Tells (D.state disk.old) → ((done : Acknowledged) × HoldsLogs (D.state disk.old) self.old done) }
+        ensures { PathHappens (D.state disk.old) (D.state disk.new) self.old user.now call.Info (read_path path.now) result self.new }
+    {
+        match NPath::read(self.alloc, path.as_slice()) {
+            Err(fault) => Line::Name(unread(fault)),
+            Ok(path) => self.call(disk, user, NameCall::Info { path }),
+        }
+    }
+
+    fn list<D: Disk>(&mut self, disk: &mut D, user: &Text, path: &ByteList) -> Line
+        requires stands { Tells (D.state disk.old) → ((done : Acknowledged) × HoldsLogs (D.state disk.old) self.old done) }
+        ensures { PathHappens (D.state disk.old) (D.state disk.new) self.old user.now call.List (read_path path.now) result self.new }
+    {
+        match NPath::read(self.alloc, path.as_slice()) {
+            Err(fault) => Line::Name(unread(fault)),
+            Ok(path) => self.call(disk, user, NameCall::List { path }),
         }
     }
 
     fn ask_create(&mut self, user: &Text, path: &ByteList) -> Line
         ensures acts { AskAt (world_of self.old) user.now ask.Create (read_path path.now) result (world_of self.new) }
         ensures keys { self.new.keys ≡ self.old.keys }
+        ensures store { self.new.names.store ≡ self.old.names.store }
     {
         match NPath::read(self.alloc, path.as_slice()) {
             Err(fault) => unread_ask(fault),
@@ -274,6 +370,7 @@ impl World {
     fn ask_zone(&mut self, user: &Text, path: &ByteList, key: KeyName) -> Line
         ensures acts { AskAt (world_of self.old) user.now (zone_with key) (read_path path.now) result (world_of self.new) }
         ensures keys { self.new.keys ≡ self.old.keys }
+        ensures store { self.new.names.store ≡ self.old.names.store }
     {
         match NPath::read(self.alloc, path.as_slice()) {
             Err(fault) => unread_ask(fault),
@@ -285,6 +382,7 @@ impl World {
     fn ask(&mut self, user: &Text, ask: Ask) -> Line
         ensures acts { AskActs (world_of self.old) user.now ask result (world_of self.new) ⊎ Refuses (world_of self.old) NameRefusal.NoMemory result (world_of self.new) }
         ensures keys { self.new.keys ≡ self.old.keys }
+        ensures store { self.new.names.store ≡ self.old.names.store }
     {
         match self.notes.reserve(1) {
             Err(_) => return Line::Refused(NameRefusal::NoMemory),
@@ -309,8 +407,8 @@ impl World {
         now: u64,
         number: u32,
     ) -> Line
-        requires stands { Tells (D.state disk.old) → ((commands : List KeyCommand) × StandsFor (D.state disk.old) self.old.keys.store commands) }
-        ensures { (lines : List PropLine) → ListsFor self.old.keys.acls lines → Draws lines (D.state disk.old) (D.state disk.new) self.old (W.to_come words.old) now (numbered self.old.kept.notes number) result self.new (W.to_come words.new) }
+        requires stands { Tells (D.state disk.old) → ((done : Acknowledged) × HoldsLogs (D.state disk.old) self.old done) }
+        ensures { (lines : List PropLine) → ListsFor self.old.keys.acls lines → DrawHappens lines (D.state disk.old) (D.state disk.new) self.old (W.to_come words.old) now (numbered self.old.kept.notes number) result self.new (W.to_come words.new) }
     {
         let note = match note_numbered(&self.notes, number) {
             None => return Line::Unknown,
@@ -334,13 +432,14 @@ impl World {
         }
     }
 
-    fn finish(&mut self, number: u32) -> Line
-        ensures acts { FinishReply (world_of self.old) (numbered self.old.kept.replies number) result 0 [] (world_of self.new) }
-        ensures keys { self.new.keys ≡ self.old.keys }
+    /// Finishes the ask that a kept reply answers.
+    fn finish<D: Disk>(&mut self, disk: &mut D, number: u32) -> Line
+        requires stands { Tells (D.state disk.old) → ((done : Acknowledged) × HoldsLogs (D.state disk.old) self.old done) }
+        ensures { FinishHappens (D.state disk.old) (D.state disk.new) self.old (numbered self.old.kept.replies number) result self.new }
     {
         match reply_numbered(&self.replies, number) {
             None => Line::Unknown,
-            Some(kept) => finish_line(self.names.finish_with(kept.id, kept.answer)),
+            Some(kept) => finish_line(self.names.finish_with(disk, kept.id, kept.answer)),
         }
     }
 }
@@ -356,7 +455,7 @@ fn call_wanted<D: Disk, W: Words>(
 ) -> Option<KmsReply>
     requires stands { Tells (D.state disk.old) → ((commands : List KeyCommand) × StandsFor (D.state disk.old) keys.old.store commands) }
     requires user { user.now ≡ superuser }
-    ensures { (lines : List PropLine) → ListsFor keys.old.acls lines → Wants lines (D.state disk.old) (D.state disk.new) keys.old (W.to_come words.old) now note.now.want result keys.new (W.to_come words.new) }
+    ensures { (lines : List PropLine) → ListsFor keys.old.acls lines → WantHappens lines (D.state disk.old) (D.state disk.new) keys.old (W.to_come words.old) now note.now.want result keys.new (W.to_come words.new) }
 {
     match note.want {
         Want::Nothing => None,

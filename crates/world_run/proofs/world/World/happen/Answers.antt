@@ -1,6 +1,5 @@
-use Rattle.std.proofs.Common.{refl}
 use Rattle.world_run.specs.declared.event.Event.TheVariants as event
-use Rattle.world_run.proofs.StepLemmas.{draw-happens, kms-happens, quiet-happens, restart-happens}
+use Rattle.world_run.proofs.StepLemmas.{ask-happens, kms-happens, restart-happens, so-happens, zone-happens}
 use Rattle.world_run.proofs.world.World.happen.Goals as goal
 
 pub returns-in-Kms : goal.returns-in-Kms
@@ -10,35 +9,55 @@ returns-in-Kms g c lines lists =
 
 pub returns-in-RestartKms : goal.returns-in-RestartKms
 returns-in-RestartKms g c =
-    restart-happens (g.D.Disk.state c.args.disk.now) (g.D.Disk.state c.restart.new.disk) c.args.self.now c.restart.new.self (g.W.Words.to_come c.args.words.now) c.args.now c.args.event
-    c.restart.result c.in-RestartKms.is c.restart.ensures
+    restart-happens (g.D.Disk.state c.args.disk.now) (g.D.Disk.state c.restart_keys.new.disk) c.args.self.now c.restart_keys.new.self (g.W.Words.to_come c.args.words.now) c.args.now c.args.event event.RestartKms
+    c.restart_keys.result c.in-RestartKms.is c.restart_keys.ensures
+
+pub returns-in-RestartName : goal.returns-in-RestartName
+returns-in-RestartName g c =
+    restart-happens (g.D.Disk.state c.args.disk.now) (g.D.Disk.state c.restart_names.new.disk) c.args.self.now c.restart_names.new.self (g.W.Words.to_come c.args.words.now) c.args.now c.args.event event.RestartName
+    c.restart_names.result c.in-RestartName.is c.restart_names.ensures
 
 pub returns-in-Mkdir : goal.returns-in-Mkdir
 returns-in-Mkdir g c lines lists =
-    quiet-happens lines (g.D.Disk.state c.args.disk.now) c.args.self.now c.mkdir.new.self (g.W.Words.to_come c.args.words.now) c.args.now c.args.event (event.Mkdir c.in-Mkdir.user c.in-Mkdir.path) c.mkdir.result c.in-Mkdir.is
-    c.mkdir.ensures.keys ((refl, refl), c.mkdir.ensures.acts)
+    so-happens lines (g.D.Disk.state c.args.disk.now) (g.D.Disk.state c.mkdir.new.disk) c.args.self.now c.mkdir.new.self (g.W.Words.to_come c.args.words.now) (g.W.Words.to_come c.args.words.now) c.args.now c.args.event (event.Mkdir c.in-Mkdir.user c.in-Mkdir.path) c.mkdir.result c.in-Mkdir.is
+    (c.mkdir.ensures (g.W.Words.to_come c.args.words.now))
+
+pub returns-in-Delete : goal.returns-in-Delete
+returns-in-Delete g c lines lists =
+    so-happens lines (g.D.Disk.state c.args.disk.now) (g.D.Disk.state c.delete.new.disk) c.args.self.now c.delete.new.self (g.W.Words.to_come c.args.words.now) (g.W.Words.to_come c.args.words.now) c.args.now c.args.event (event.Delete c.in-Delete.user c.in-Delete.path c.in-Delete.recursive) c.delete.result c.in-Delete.is
+    (c.delete.ensures (g.W.Words.to_come c.args.words.now))
 
 pub returns-in-Info : goal.returns-in-Info
 returns-in-Info g c lines lists =
-    quiet-happens lines (g.D.Disk.state c.args.disk.now) c.args.self.now c.info.new.self (g.W.Words.to_come c.args.words.now) c.args.now c.args.event (event.Info c.in-Info.user c.in-Info.path) c.info.result c.in-Info.is
-    c.info.ensures.keys ((refl, refl), c.info.ensures.acts)
+    so-happens lines (g.D.Disk.state c.args.disk.now) (g.D.Disk.state c.info.new.disk) c.args.self.now c.info.new.self (g.W.Words.to_come c.args.words.now) (g.W.Words.to_come c.args.words.now) c.args.now c.args.event (event.Info c.in-Info.user c.in-Info.path) c.info.result c.in-Info.is
+    (c.info.ensures (g.W.Words.to_come c.args.words.now))
+
+pub returns-in-List : goal.returns-in-List
+returns-in-List g c lines lists =
+    so-happens lines (g.D.Disk.state c.args.disk.now) (g.D.Disk.state c.list.new.disk) c.args.self.now c.list.new.self (g.W.Words.to_come c.args.words.now) (g.W.Words.to_come c.args.words.now) c.args.now c.args.event (event.List c.in-List.user c.in-List.path) c.list.result c.in-List.is
+    (c.list.ensures (g.W.Words.to_come c.args.words.now))
+
+pub returns-in-Zones : goal.returns-in-Zones
+returns-in-Zones g c lines lists =
+    so-happens lines (g.D.Disk.state c.args.disk.now) (g.D.Disk.state c.call.new.disk) c.args.self.now c.call.new.self (g.W.Words.to_come c.args.words.now) (g.W.Words.to_come c.args.words.now) c.args.now c.args.event (event.Zones c.in-Zones.user) c.call.result c.in-Zones.is
+    (c.call.ensures (g.W.Words.to_come c.args.words.now))
 
 pub returns-in-AskCreate : goal.returns-in-AskCreate
 returns-in-AskCreate g c lines lists =
-    quiet-happens lines (g.D.Disk.state c.args.disk.now) c.args.self.now c.ask_create.new.self (g.W.Words.to_come c.args.words.now) c.args.now c.args.event (event.AskCreate c.in-AskCreate.user c.in-AskCreate.path) c.ask_create.result c.in-AskCreate.is
-    c.ask_create.ensures.keys ((refl, refl), c.ask_create.ensures.acts)
+    ask-happens lines (g.D.Disk.state c.args.disk.now) c.args.self.now c.ask_create.new.self (g.W.Words.to_come c.args.words.now) c.args.now c.args.event c.in-AskCreate.user c.in-AskCreate.path c.ask_create.result c.in-AskCreate.is
+    c.ask_create.ensures.keys c.ask_create.ensures.store c.ask_create.ensures.acts
 
 pub returns-in-AskZone : goal.returns-in-AskZone
 returns-in-AskZone g c lines lists =
-    quiet-happens lines (g.D.Disk.state c.args.disk.now) c.args.self.now c.ask_zone.new.self (g.W.Words.to_come c.args.words.now) c.args.now c.args.event (event.AskZone c.in-AskZone.user c.in-AskZone.path c.in-AskZone.key) c.ask_zone.result c.in-AskZone.is
-    c.ask_zone.ensures.keys ((refl, refl), c.ask_zone.ensures.acts)
+    zone-happens lines (g.D.Disk.state c.args.disk.now) c.args.self.now c.ask_zone.new.self (g.W.Words.to_come c.args.words.now) c.args.now c.args.event c.in-AskZone.user c.in-AskZone.path c.in-AskZone.key c.ask_zone.result c.in-AskZone.is
+    c.ask_zone.ensures.keys c.ask_zone.ensures.store c.ask_zone.ensures.acts
 
 pub returns-in-Draw : goal.returns-in-Draw
 returns-in-Draw g c lines lists =
-    draw-happens lines (g.D.Disk.state c.args.disk.now) (g.D.Disk.state c.draw.new.disk) c.args.self.now c.draw.new.self (g.W.Words.to_come c.args.words.now) (g.W.Words.to_come c.draw.new.words) c.args.now c.args.event
-    c.in-Draw.ask c.draw.result c.in-Draw.is (c.draw.ensures lines lists)
+    so-happens lines (g.D.Disk.state c.args.disk.now) (g.D.Disk.state c.draw.new.disk) c.args.self.now c.draw.new.self (g.W.Words.to_come c.args.words.now) (g.W.Words.to_come c.draw.new.words) c.args.now c.args.event (event.Draw c.in-Draw.ask) c.draw.result c.in-Draw.is
+    (c.draw.ensures lines lists)
 
 pub returns-in-Finish : goal.returns-in-Finish
 returns-in-Finish g c lines lists =
-    quiet-happens lines (g.D.Disk.state c.args.disk.now) c.args.self.now c.finish.new.self (g.W.Words.to_come c.args.words.now) c.args.now c.args.event (event.Finish c.in-Finish.reply) c.finish.result c.in-Finish.is
-    c.finish.ensures.keys c.finish.ensures.acts
+    so-happens lines (g.D.Disk.state c.args.disk.now) (g.D.Disk.state c.finish.new.disk) c.args.self.now c.finish.new.self (g.W.Words.to_come c.args.words.now) (g.W.Words.to_come c.args.words.now) c.args.now c.args.event (event.Finish c.in-Finish.reply) c.finish.result c.in-Finish.is
+    (c.finish.ensures (g.W.Words.to_come c.args.words.now))

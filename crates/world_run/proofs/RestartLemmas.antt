@@ -1,0 +1,229 @@
+-- A restart of either service: what it finds in its log, and what a crash leaves meanwhile.
+use Rattle.std.proofs.Common.{◌≡◌, ◌⊎◌, inl, inr, ℕ, ◌∙◌, Bool, true, false, List, [], ◌∷◌, ◌++◌, refl, sym, ap, subst, ⊎_elim, arith, append_assoc}
+use Rattle.hk_base.specs.Disk.{DiskState, LeavesOnly, RunOn, Tells}
+use Rattle.hk_base.specs.Faults.{Rose}
+use Rattle.hk_base.proofs.Runs.{weaker}
+use Rattle.frame_log.specs.declared.fault.StartFault.{StartFault}
+use Rattle.frame_log.specs.declared.fault.StartFault.TheVariants as start
+use Rattle.edit_ops.specs.declared.ops.EditOp.{EditOp}
+use Rattle.key_rows.specs.declared.rows.KeyCommand.{KeyCommand}
+use Rattle.key_rows.specs.Table.{Table}
+use Rattle.prop_text.specs.declared.lines.PropLine.{PropLine}
+use Rattle.kms_store.specs.Store.{Applies, IsDamagedAt, IsKeyLog, IsLeftByStart, IsLeftOf, IsSoundLog, StandsFor, next_opening, settled_commands}
+use Rattle.kms_store.proofs.Layers.{finds, left_by_start, left_by_store, not_damaged, sound_store, stands_once}
+use Rattle.kms_core.specs.Service.{Starts}
+use Rattle.kms_core.specs.Users.{RunningKms, running}
+use Rattle.name_store.specs.Store.{AnOpening, IsDamagedAt as IsDamagedName, IsLeftByStart as IsLeftByNameStart, IsLeftOf as IsLeftOfNames, IsNameLog, IsSoundLog as IsSoundNames, NothingMore, made_with}
+use Rattle.name_store.specs.Table.{NameTable, Replayed, next_opening as next_opening_of_names, settled_ops}
+use Rattle.name_core.specs.Service.{Starts as NamesStart}
+use Rattle.name_core.specs.State.{StandsFor as NamesStandFor}
+use Rattle.world_run.specs.declared.event.Event.TheVariants as event
+use Rattle.world_run.specs.declared.event.Line.TheVariants as line
+use Rattle.world_run.specs.Acknowledged.{Acknowledged, HoldsLogs, of_keys, of_names}
+use Rattle.world_run.specs.Does.{Happens}
+use Rattle.world_run.specs.Keeps.{Fails}
+use Rattle.world_run.specs.Linked.{ServicesFit}
+use Rattle.world_run.specs.Step.{Recovers, RecoversNames}
+use Rattle.world_run.specs.World.{RunningWorld, world_of}
+use Rattle.world_run.proofs.BothLemmas.{LeavesLogs, both-of, on-keys-leaves, on-names-leaves}
+use Rattle.world_run.proofs.CrashLemmas.{sound-through, survives-through}
+use Rattle.world_run.proofs.Laters.{may-wait}
+use Rattle.world_run.proofs.SoundLemmas.{own-of-nothing, own-of-opening, world-files}
+use Rattle.world_run.proofs.StepLemmas.{own-weaker}
+use Rattle.name_store.proofs.Layers.{finds as finds_names, left_by_start as names_left_by_start, left_by_store as names_left_by_store, not_damaged as names_not_damaged, sound_store as sound_names, stands_once as names_stand_once}
+
+abbrev Held : DiskState → RunningWorld → Type 0
+Held d w = Tells d → (done : Acknowledged) × HoldsLogs d w done
+
+-- the key management service
+
+may-be-kept : (w : RunningWorld) → ServicesFit (world_of w) → Applies w.keys.store.table.keys w.keys.store.pending
+may-be-kept w fit = may-wait w.keys.store.pending (world_of w).keys.keys fit.keys.waits
+
+-- a start leaves of the log of a service what a crash may leave of it
+keys-left-by-restart : (old new : DiskState) (w : RunningWorld) → w.keys.store.log.file ≡ 0 → ServicesFit (world_of w) → (Tells old → LeavesOnly 0 old new (λ c. old.leaves 0 c ⊎ IsLeftByStart (old.reads 0) c))
+    → Tells old → (commands : List KeyCommand) → StandsFor old w.keys.store commands → LeavesOnly 0 old new (IsLeftOf w.keys.store.table.keys w.keys.store.pending commands)
+keys-left-by-restart old new w of_file fit moments told commands s =
+    let sound = sound_store old w.keys.store commands of_file (may-be-kept w fit) s in
+    weaker (λ c left. ⊎_elim (λ before. left_by_store old w.keys.store commands of_file (may-be-kept w fit) s c before)
+    (λ found. left_by_start (old.reads 0) commands w.keys.store.pending w.keys.store.table.keys sound c found) left) (moments told)
+
+-- what a start found beside the log of a service
+record KeysReopened (old new : DiskState) (w w' : RunningWorld) (table : Table) : Type 0 where
+  logged : List KeyCommand
+  found : Tells old → Recovers (world_of w).keys table logged
+  stands : Tells old → (commands : List KeyCommand) → StandsFor old w.keys.store commands → StandsFor new w'.keys.store (commands ++ logged)
+
+keys-reopened : (old new : DiskState) (w w' : RunningWorld) → w.keys.store.log.file ≡ 0 → ServicesFit (world_of w) → Held old w → (s : Starts old new (running w'.keys)) → KeysReopened old new w w' s.table
+keys-reopened old new w w' of_file fit held s = go old.tells refl
+  where
+    go : (b : Bool) → old.tells ≡ b → KeysReopened old new w w' s.table
+    go false silent = record {
+      logged = [];
+      found = λ told. absurd (cc (told, silent));
+      stands = λ told. absurd (cc (told, silent));
+    }
+    go true told =
+        let log = s.log told in
+        let before = held told in
+        let may = may-be-kept w fit in
+        let f = finds (old.reads 0) before.0.keys w.keys.store.pending w.keys.store.table.keys log.0 s.table (sound_store old w.keys.store before.0.keys of_file may before.1.keys) log.1 in
+        let logged : List KeyCommand = settled_commands f.kept w.keys.store.pending ++ next_opening s.table ∷ [] in
+        let all : log.0 ++ next_opening s.table ∷ [] ≡ before.0.keys ++ logged =
+        ap (λ (l : List KeyCommand). l ++ next_opening s.table ∷ []) f.commands_are ∙ append_assoc before.0.keys (settled_commands f.kept w.keys.store.pending) (next_opening s.table ∷ []) in
+        record {
+          logged = logged;
+          found = λ again. record { kept = f.kept; table_is = f.table_is; commands_are = refl };
+          stands = λ again commands other.
+              let one : commands ≡ before.0.keys = stands_once old w.keys.store before.0.keys commands log.0 s.table of_file may before.1.keys other log.1 in
+              subst (StandsFor new w'.keys.store) (all ∙ ap (λ (l : List KeyCommand). l ++ logged) (sym one)) log.2;
+        }
+
+-- the new keys are put in place of the old ones, beside the same lists
+pub keys-restarted : (old new : DiskState) (w w' : RunningWorld) (opening : ℕ) → w'.keys.acls ≡ w.keys.acls → w.keys.store.log.file ≡ 0 → ServicesFit (world_of w) → Held old w → Starts old new (running w'.keys)
+    → (Tells old → LeavesOnly 0 old new (λ c. old.leaves 0 c ⊎ IsLeftByStart (old.reads 0) c)) → RunOn 0 old new → opening ≡ w'.keys.store.table.keys.opening → w' ≡ record w { keys = w'.keys }
+    → (lines : List PropLine) (words : ℕ → ℕ) (now : ℕ) → Happens lines old new w words now event.RestartKms (line.Opened opening) w' words
+keys-restarted old new w w' opening lists of_file fit held s moments run number rest lines words now =
+    let found = keys-reopened old new w w' of_file fit held s in
+    record {
+      drawn = 0;
+      logged = of_keys found.logged;
+      acts = record {
+        table = s.table;
+        commands = found.logged;
+        found = found.found;
+        logged_is = refl;
+        told_is = ap (λ (n : ℕ). line.Opened n) (number ∙ ap (λ t. t.keys.table.opening) s.opens);
+        none_drawn = refl;
+        left = ap world_of rest ∙ ap (λ t. record (world_of w) { keys = t }) s.opens;
+      };
+      rest = λ k. ap words (omega arith);
+      disk = inl (record {
+        commands = found.logged;
+        logged_is = refl;
+        log = record { stands = found.stands; moments = keys-left-by-restart old new w of_file fit moments; run = run };
+        names = ap (λ (v : RunningWorld). v.names) rest;
+      });
+      lists = lists;
+    }
+
+-- the opening failed
+pub keys-fail : (old new : DiskState) (w w' : RunningWorld) (words : ℕ → ℕ) (fault : StartFault) → w' ≡ w → w.keys.store.log.file ≡ 0 → w.names.store.log.log.file ≡ 1 → ServicesFit (world_of w) → Held old w
+    → ((at : ℕ) → fault ≡ start.Damaged at → Tells old → IsDamagedAt (old.reads 0) at)
+    → (fault ≡ start.Spent → Tells old → (commands : List KeyCommand) × (table : Table) × IsKeyLog (old.reads 0) commands table × (table.opening ≡ 4294967295))
+    → (fault ≡ start.StoreFault → Rose old.faults new.faults)
+    → (Tells old → LeavesOnly 0 old new (λ c. old.leaves 0 c ⊎ IsLeftByStart (old.reads 0) c)) → RunOn 0 old new → Fails old new w words event.RestartKms 0 fault w' words
+keys-fail old new w w' words fault same keys_file names_file fit held damaged spent cause moments run = record {
+  restart = refl;
+  same = same;
+  same_words = refl;
+  never_damaged = λ told at is. not_damaged (old.reads 0) (held told).0.keys w.keys.store.pending w.keys.store.table.keys at (sound told) (damaged at is told);
+  spent = λ is told.
+      let k = spent is told in
+      let f = finds (old.reads 0) (held told).0.keys w.keys.store.pending w.keys.store.table.keys k.0 k.1 (sound told) k.2 in
+      (f.kept, ap (λ (t : Table). t.opening) (sym f.table_is) ∙ k.3);
+  cause = cause;
+  survives = survives-through old new w NothingMore fit left;
+  sound = λ told h l. sound-through old new w h NothingMore fit (world-files (world_of w) h l) (own-of-nothing (world_of w) h) (left told);
+  run = both-of 0 old new run;
+}
+  where
+    sound : (told : Tells old) → IsSoundLog (old.reads 0) (held told).0.keys w.keys.store.pending w.keys.store.table.keys
+    sound told = sound_store old w.keys.store (held told).0.keys keys_file (may-be-kept w fit) (held told).1.keys
+
+    left : Tells old → LeavesLogs old new w NothingMore
+    left told = on-keys-leaves old new w NothingMore names_file (keys-left-by-restart old new w keys_file fit moments told)
+
+-- the namesystem
+
+names-left-by-restart : (old new : DiskState) (w : RunningWorld) → w.names.store.log.log.file ≡ 1 → (Tells old → LeavesOnly 1 old new (λ c. old.leaves 1 c ⊎ IsLeftByNameStart (old.reads 1) c))
+    → Tells old → (ops : List EditOp) (s : NamesStandFor old w.names ops) → LeavesOnly 1 old new (IsLeftOfNames (made_with w.names.store s.used) w.names.store.log.pending AnOpening ops)
+names-left-by-restart old new w of_file moments told ops s =
+    let sound = sound_names old w.names.store s.used ops of_file s.store in
+    weaker (λ c left. ⊎_elim (λ before. own-weaker NothingMore AnOpening w.names s.used ops c (λ k op none. absurd none) (names_left_by_store old w.names.store s.used ops of_file s.store c before))
+    (λ found. names_left_by_start (old.reads 1) ops w.names.store.log.pending (made_with w.names.store s.used) sound c found) left) (moments told)
+
+record NamesReopened (old new : DiskState) (w w' : RunningWorld) (table : NameTable) : Type 0 where
+  logged : List EditOp
+  found : Tells old → RecoversNames (world_of w).names table logged
+  stands : Tells old → (ops : List EditOp) → NamesStandFor old w.names ops → NamesStandFor new w'.names (ops ++ logged)
+
+names-reopened : (old new : DiskState) (w w' : RunningWorld) → w.names.store.log.log.file ≡ 1 → Held old w → (s : NamesStart old new w'.names) → NamesReopened old new w w' s.found
+names-reopened old new w w' of_file held s = go old.tells refl
+  where
+    go : (b : Bool) → old.tells ≡ b → NamesReopened old new w w' s.found
+    go false silent = record {
+      logged = [];
+      found = λ told. absurd (cc (told, silent));
+      stands = λ told. absurd (cc (told, silent));
+    }
+    go true told =
+        let log = s.log told in
+        let before = held told in
+        let n = before.1.names in
+        let f = finds_names (old.reads 1) before.0.names w.names.store.log.pending (made_with w.names.store n.used) log.0 _ (sound_names old w.names.store n.used before.0.names of_file n.store) log.2 in
+        let logged : List EditOp = settled_ops f.kept w.names.store.log.pending ++ next_opening_of_names s.found ∷ [] in
+        let all : log.0 ++ next_opening_of_names s.found ∷ [] ≡ before.0.names ++ logged =
+        ap (λ (l : List EditOp). l ++ next_opening_of_names s.found ∷ []) f.ops_are ∙ append_assoc before.0.names (settled_ops f.kept w.names.store.log.pending) (next_opening_of_names s.found ∷ []) in
+        record {
+          logged = logged;
+          found = λ again. record { kept = f.kept; table_is = ap (λ (m : Replayed). m.table) f.made_is; ops_are = refl };
+          stands = λ again ops other.
+              let one : ops ≡ before.0.names = (names_stand_once old w.names.store n.used other.used before.0.names ops of_file n.store other.store).0 in
+              subst (NamesStandFor new w'.names) (all ∙ ap (λ (l : List EditOp). l ++ logged) (sym one)) log.3;
+        }
+
+-- the new rows are put in place of the old ones
+pub names-restarted : (old new : DiskState) (w w' : RunningWorld) (opening : ℕ) → w'.keys ≡ w.keys → w.names.store.log.log.file ≡ 1 → Held old w → NamesStart old new w'.names
+    → (Tells old → LeavesOnly 1 old new (λ c. old.leaves 1 c ⊎ IsLeftByNameStart (old.reads 1) c)) → RunOn 1 old new → opening ≡ w'.names.store.table.opening → w' ≡ record w { names = w'.names }
+    → (lines : List PropLine) (words : ℕ → ℕ) (now : ℕ) → Happens lines old new w words now event.RestartName (line.Opened opening) w' words
+names-restarted old new w w' opening keys of_file held s moments run number rest lines words now =
+    let found = names-reopened old new w w' of_file held s in
+    record {
+      drawn = 0;
+      logged = of_names found.logged;
+      acts = record {
+        table = s.found;
+        ops = found.logged;
+        found = found.found;
+        logged_is = refl;
+        told_is = ap (λ (n : ℕ). line.Opened n) (number ∙ ap (λ t. t.names.table.opening) s.opens);
+        none_drawn = refl;
+        left = ap world_of rest ∙ ap (λ t. record (world_of w) { names = t }) s.opens;
+      };
+      rest = λ k. ap words (omega arith);
+      disk = inr (record {
+        ops = found.logged;
+        logged_is = refl;
+        log = record { stands = found.stands; moments = names-left-by-restart old new w of_file moments; run = run };
+        keys = keys;
+      });
+      lists = ap (λ (k : RunningKms). k.acls) keys;
+    }
+
+-- the opening failed
+pub names-fail : (old new : DiskState) (w w' : RunningWorld) (words : ℕ → ℕ) (fault : StartFault) → w' ≡ w → w.keys.store.log.file ≡ 0 → w.names.store.log.log.file ≡ 1 → ServicesFit (world_of w) → Held old w
+    → ((at : ℕ) → fault ≡ start.Damaged at → Tells old → IsDamagedName (old.reads 1) at)
+    → (fault ≡ start.Spent → Tells old → (ops : List EditOp) × (made : Replayed) × IsNameLog (old.reads 1) ops made × (made.table.opening ≡ 4294967295))
+    → (fault ≡ start.StoreFault → Rose old.faults new.faults)
+    → (Tells old → LeavesOnly 1 old new (λ c. old.leaves 1 c ⊎ IsLeftByNameStart (old.reads 1) c)) → RunOn 1 old new → Fails old new w words event.RestartName 1 fault w' words
+names-fail old new w w' words fault same keys_file names_file fit held damaged spent cause moments run = record {
+  restart = refl;
+  same = same;
+  same_words = refl;
+  never_damaged = λ told at is. names_not_damaged (old.reads 1) (held told).0.names w.names.store.log.pending (made_with w.names.store (held told).1.names.used) at (sound told) (damaged at is told);
+  spent = λ is told.
+      let k = spent is told in
+      let f = finds_names (old.reads 1) (held told).0.names w.names.store.log.pending (made_with w.names.store (held told).1.names.used) k.0 k.1 (sound told) k.2 in
+      (f.kept, ap (λ (m : Replayed). m.table.opening) (sym f.made_is) ∙ k.3);
+  cause = cause;
+  survives = survives-through old new w AnOpening fit left;
+  sound = λ told h l. sound-through old new w h AnOpening fit (world-files (world_of w) h l) (own-of-opening (world_of w) h fit l) (left told);
+  run = both-of 1 old new run;
+}
+  where
+    sound : (told : Tells old) → IsSoundNames (old.reads 1) (held told).0.names w.names.store.log.pending (made_with w.names.store (held told).1.names.used)
+    sound told = sound_names old w.names.store (held told).1.names.used (held told).0.names names_file (held told).1.names.store
+
+    left : Tells old → LeavesLogs old new w AnOpening
+    left told = on-names-leaves old new w AnOpening keys_file fit (names-left-by-restart old new w names_file moments told)

@@ -1,0 +1,318 @@
+-- The rows behind an operation of the edit log, and the files linked there.
+use Rattle.std.proofs.Common.{◌≡◌, inl, inr, ℕ, Bool, true, false, cond, not, ◌&&◌, List, [], ◌∷◌, length, Option, Some, None, is_none, refl, sym, ap, subst, ◌∙◌, arith}
+use Rattle.std.specs.Prelude.{◌==◌, nat_lt, ⊤}
+use Rattle.std.specs.Option.{option_map}
+use Rattle.std.specs.Str.{bytes_eq}
+use Rattle.std.proofs.lemmas.Bool.Decides.{nat_tests}
+use Rattle.std.proofs.lemmas.Slice.Eq.{bytes_eq-Decides}
+use Rattle.hk_base.specs.declared.names.Edek.{Edek}
+use Rattle.hk_base.specs.declared.names.KeyName.{KeyName}
+use Rattle.key_rows.specs.declared.rows.KeyRow.{KeyRow}
+use Rattle.key_rows.proofs.Births.{both}
+use Rattle.inode_tree.specs.declared.rows.Kind.{Kind}
+use Rattle.inode_tree.specs.declared.rows.Kind.TheVariants.{Dir, File as FileKind}
+use Rattle.inode_tree.specs.declared.rows.Row.{Row}
+use Rattle.inode_tree.specs.Paths.{is_before, is_prefix, parent, same_path}
+use Rattle.inode_tree.specs.Rows.{AllAfter, Entry, IsRising, entry_of, has_children, is_dir, is_dir_at, is_marked, put, removed, row_at, set_kind, with_kind, zone_of}
+use Rattle.inode_tree.proofs.Puts.{rising-put}
+use Rattle.inode_tree.proofs.Seeks.{same-is}
+use Rattle.edit_ops.specs.declared.ops.EditOp.{EditOp}
+use Rattle.edit_ops.specs.declared.ops.EditOp.TheVariants.{Opened, Mkdir, File, Remove, Zone}
+use Rattle.name_store.specs.Table.{NameTable, after_table, allows, fits_zone, id_of, is_of_opening, key_of_zone, may_be_made, may_be_zone, may_use, new_directory, new_file}
+use Rattle.world_run.specs.Ledger.{Ledger}
+use Rattle.world_run.specs.Promise.{FitsZone, In, edek_of}
+use Rattle.world_run.specs.Linked.{FilesLinked, HasDraw}
+use Rattle.world_run.proofs.Members.{in-map, some-is}
+use Rattle.world_run.proofs.RowLemmas.{InPlace, Markable, in-mark, in-put, in-removed, key-mark, key-put, key-removed, which}
+
+none-is : {X : Type 0} (o : Option X) → is_none o ≡ true → o ≡ None
+none-is None h = refl
+none-is (Some x) h = absurd cc
+
+not-both : {X : Type 0} (o : Option X) (x : X) → o ≡ None → o ≡ Some x → ⊥
+not-both o x h k = absurd (go (sym h ∙ k))
+  where
+    go : None ≡ Some x → ⊥
+    go e = absurd cc
+
+-- a row that is put in
+
+same-id : (n : ℕ) → (n == n) ≡ true
+same-id n = grind (arith, nat_tests)
+
+is-id : (a b : ℕ) → (a == b) ≡ true → a ≡ b
+is-id a b h = grind (arith, nat_tests)
+
+-- it has its id alone
+entry-new : (e : Entry) (rows : List Entry) → entry_of rows e.row.id ≡ None → entry_of (put e rows) e.row.id ≡ Some e
+entry-new e [] h = ap (λ b. cond b (Some e) None) (same-id e.row.id)
+entry-new e (y ∷ ys) h = go (is_before e.path y.path) (y.row.id == e.row.id) refl h (entry-new e ys)
+  where
+    go : (b t : Bool) → (y.row.id == e.row.id) ≡ t → cond t (Some y) (entry_of ys e.row.id) ≡ None → (entry_of ys e.row.id ≡ None → entry_of (put e ys) e.row.id ≡ Some e)
+        → entry_of (cond b (e ∷ y ∷ ys) (y ∷ put e ys)) e.row.id ≡ Some e
+    go b true is h ih = absurd cc
+    go true false is h ih = ap (λ c. cond c (Some e) (entry_of (y ∷ ys) e.row.id)) (same-id e.row.id)
+    go false false is h ih = ap (λ c. cond c (Some y) (entry_of (put e ys) e.row.id)) is ∙ ih h
+
+-- and what has another id keeps it
+entry-old : (e : Entry) (rows : List Entry) (id : ℕ) → (e.row.id == id) ≡ false → entry_of (put e rows) id ≡ entry_of rows id
+entry-old e [] id h = ap (λ b. cond b (Some e) None) h
+entry-old e (y ∷ ys) id h = go (is_before e.path y.path) (entry-old e ys id h)
+  where
+    go : (b : Bool) → entry_of (put e ys) id ≡ entry_of ys id → entry_of (cond b (e ∷ y ∷ ys) (y ∷ put e ys)) id ≡ entry_of (y ∷ ys) id
+    go true ih = ap (λ c. cond c (Some e) (entry_of (y ∷ ys) id)) h
+    go false ih = ap (λ o. cond (y.row.id == id) (Some y) o) ih
+
+row-old : (e : Entry) (rows : List Entry) (q : List (List ℕ)) → same_path e.path q ≡ false → row_at (put e rows) q ≡ row_at rows q
+row-old e [] q h = ap (λ b. cond b (Some e.row) None) h
+row-old e (y ∷ ys) q h = go (is_before e.path y.path) (row-old e ys q h)
+  where
+    go : (b : Bool) → row_at (put e ys) q ≡ row_at ys q → row_at (cond b (e ∷ y ∷ ys) (y ∷ put e ys)) q ≡ row_at (y ∷ ys) q
+    go true ih = ap (λ c. cond c (Some e.row) (row_at (y ∷ ys) q)) h
+    go false ih = ap (λ o. cond (same_path y.path q) (Some y.row) o) ih
+
+-- a directory stays one
+dir-put : (e : Entry) (rows : List Entry) (q : List (List ℕ)) → row_at rows e.path ≡ None → is_dir_at (row_at rows q) ≡ true → is_dir_at (row_at (put e rows) q) ≡ true
+dir-put e rows q new h = go (same_path e.path q) refl
+  where
+    go : (b : Bool) → same_path e.path q ≡ b → is_dir_at (row_at (put e rows) q) ≡ true
+    go true is = let none : row_at rows q ≡ None = ap (row_at rows) (sym (same-is e.path q is)) ∙ new in let dir : is_dir_at None ≡ true = ap is_dir_at (sym none) ∙ h in absurd cc
+    go false is = ap is_dir_at (row-old e rows q is) ∙ h
+
+put-in-place : (e : Entry) (rows : List Entry) → row_at rows e.path ≡ None → entry_of rows e.row.id ≡ None → is_dir_at (row_at rows (parent e.path)) ≡ true → InPlace rows → InPlace (put e rows)
+put-in-place e rows new fresh dir good = record {
+  rising = rising-put rows e good.rising new;
+  once = λ x i. elim (in-put x e rows i) [
+    | inl is ↦ subst (λ (y : Entry). entry_of (put e rows) y.row.id ≡ Some y) (sym is) (entry-new e rows fresh)
+    | inr old ↦ entry-old e rows x.row.id (other x old (e.row.id == x.row.id) refl) ∙ good.once x old
+  ];
+  housed = λ x i. elim (in-put x e rows i) [
+    | inl is ↦ subst (λ (y : Entry). is_dir_at (row_at (put e rows) (parent y.path)) ≡ true) (sym is) (dir-put e rows (parent e.path) new dir)
+    | inr old ↦ dir-put e rows (parent x.path) new (good.housed x old)
+  ];
+}
+  where
+    other : (x : Entry) → In x rows → (b : Bool) → (e.row.id == x.row.id) ≡ b → b ≡ false
+    other x i true is = absurd (not-both (entry_of rows e.row.id) x fresh (ap (entry_of rows) (is-id e.row.id x.row.id is) ∙ good.once x i))
+    other x i false is = refl
+
+-- rows that are taken away
+
+after-removed : (p q : List (List ℕ)) (rows : List Entry) → AllAfter q rows → AllAfter q (removed p rows)
+after-removed p q [] a = tt
+after-removed p q (y ∷ ys) a = go (is_prefix p y.path) (after-removed p q ys a.1)
+  where
+    go : (b : Bool) → AllAfter q (removed p ys) → AllAfter q (cond (not b) (y ∷ removed p ys) (removed p ys))
+    go true ih = ih
+    go false ih = (a.0, ih)
+
+rising-removed : (p : List (List ℕ)) (rows : List Entry) → IsRising rows → IsRising (removed p rows)
+rising-removed p [] r = tt
+rising-removed p (y ∷ ys) r = go (is_prefix p y.path) (rising-removed p ys r.1)
+  where
+    go : (b : Bool) → IsRising (removed p ys) → IsRising (cond (not b) (y ∷ removed p ys) (removed p ys))
+    go true ih = ih
+    go false ih = (after-removed p y.path ys r.0, ih)
+
+entry-removed : (p : List (List ℕ)) (rows : List Entry) (id : ℕ) (x : Entry) → is_prefix p x.path ≡ false → entry_of rows id ≡ Some x → entry_of (removed p rows) id ≡ Some x
+entry-removed p [] id x out h = absurd cc
+entry-removed p (y ∷ ys) id x out h = go (is_prefix p y.path) refl (y.row.id == id) refl h (entry-removed p ys id x out)
+  where
+    go : (b : Bool) → is_prefix p y.path ≡ b → (t : Bool) → (y.row.id == id) ≡ t → cond t (Some y) (entry_of ys id) ≡ Some x → (entry_of ys id ≡ Some x → entry_of (removed p ys) id ≡ Some x)
+        → entry_of (cond (not b) (y ∷ removed p ys) (removed p ys)) id ≡ Some x
+    go true in_it true is h ih = let no : true ≡ false = sym in_it ∙ ap (λ (z : Entry). is_prefix p z.path) (some-is y x h) ∙ out in absurd cc
+    go true in_it false is h ih = ih h
+    go false beside true is h ih = ap (λ c. cond c (Some y) (entry_of (removed p ys) id)) is ∙ h
+    go false beside false is h ih = ap (λ c. cond c (Some y) (entry_of (removed p ys) id)) is ∙ ih h
+
+row-removed : (p : List (List ℕ)) (rows : List Entry) (q : List (List ℕ)) → is_prefix p q ≡ false → row_at (removed p rows) q ≡ row_at rows q
+row-removed p [] q out = refl
+row-removed p (y ∷ ys) q out = go (is_prefix p y.path) refl (same_path y.path q) refl (row-removed p ys q out)
+  where
+    go : (b : Bool) → is_prefix p y.path ≡ b → (t : Bool) → same_path y.path q ≡ t → row_at (removed p ys) q ≡ row_at ys q
+        → row_at (cond (not b) (y ∷ removed p ys) (removed p ys)) q ≡ cond t (Some y.row) (row_at ys q)
+    go true in_it true is ih = let no : true ≡ false = sym in_it ∙ ap (is_prefix p) (same-is y.path q is) ∙ out in absurd cc
+    go true in_it false is ih = ih
+    go false beside true is ih = ap (λ c. cond c (Some y.row) (row_at (removed p ys) q)) is
+    go false beside false is ih = ap (λ c. cond c (Some y.row) (row_at (removed p ys) q)) is ∙ ih
+
+-- the directory of what lies not below a path lies not below it
+parent-out : (p q : List (List ℕ)) → is_prefix p q ≡ false → is_prefix p (parent q) ≡ false
+parent-out [] q h = absurd cc
+parent-out (x ∷ p) [] h = refl
+parent-out (x ∷ p) (y ∷ []) h = refl
+parent-out (x ∷ p) (y ∷ z ∷ q) h = go (bytes_eq x y) h (parent-out p (z ∷ q))
+  where
+    go : (b : Bool) → (b && is_prefix p (z ∷ q)) ≡ false → (is_prefix p (z ∷ q) ≡ false → is_prefix p (parent (z ∷ q)) ≡ false) → (b && is_prefix p (parent (z ∷ q))) ≡ false
+    go true h ih = ih h
+    go false h ih = refl
+
+removed-in-place : (p : List (List ℕ)) (rows : List Entry) → InPlace rows → InPlace (removed p rows)
+removed-in-place p rows good = record {
+  rising = rising-removed p rows good.rising;
+  once = λ x i. let was = in-removed p x rows i in entry-removed p rows x.row.id x was.1 (good.once x was.0);
+  housed = λ x i. let was = in-removed p x rows i in ap is_dir_at (row-removed p rows (parent x.path) (parent-out p x.path was.1)) ∙ good.housed x was.0;
+}
+
+-- a directory that is marked
+
+module _ (dir : ℕ) (key : KeyName) where
+  path-stays : (x : Entry) → (with_kind dir (Dir (Some key)) x).path ≡ x.path
+  path-stays x = elim (which dir key x) [ inl w ↦ ap (λ (y : Entry). y.path) w.1 | inr same ↦ ap (λ (y : Entry). y.path) same ]
+
+  id-stays : (x : Entry) → (with_kind dir (Dir (Some key)) x).row.id ≡ x.row.id
+  id-stays x = elim (which dir key x) [ inl w ↦ ap (λ (y : Entry). y.row.id) w.1 ∙ sym w.0 | inr same ↦ ap (λ (y : Entry). y.row.id) same ]
+
+  dir-stays : (x : Entry) → is_dir x.row.kind ≡ true → is_dir (with_kind dir (Dir (Some key)) x).row.kind ≡ true
+  dir-stays x h = elim (which dir key x) [ inl w ↦ ap (λ (y : Entry). is_dir y.row.kind) w.1 | inr same ↦ ap (λ (y : Entry). is_dir y.row.kind) same ∙ h ]
+
+  after-mark : (q : List (List ℕ)) (rows : List Entry) → AllAfter q rows → AllAfter q (set_kind rows dir (Dir (Some key)))
+  after-mark q [] a = tt
+  after-mark q (y ∷ ys) a = (ap (is_before q) (path-stays y) ∙ a.0, after-mark q ys a.1)
+
+  rising-mark : (rows : List Entry) → IsRising rows → IsRising (set_kind rows dir (Dir (Some key)))
+  rising-mark [] r = tt
+  rising-mark (y ∷ ys) r = (subst (λ (q : List (List ℕ)). AllAfter q (set_kind ys dir (Dir (Some key)))) (sym (path-stays y)) (after-mark y.path ys r.0), rising-mark ys r.1)
+
+  entry-mark : (rows : List Entry) (id : ℕ) → entry_of (set_kind rows dir (Dir (Some key))) id ≡ option_map (with_kind dir (Dir (Some key))) (entry_of rows id)
+  entry-mark [] id = refl
+  entry-mark (y ∷ ys) id =
+      ap (λ (n : ℕ). cond (n == id) (Some (with_kind dir (Dir (Some key)) y)) (entry_of (set_kind ys dir (Dir (Some key))) id)) (id-stays y) ∙ go (y.row.id == id) (entry-mark ys id)
+    where
+      go : (b : Bool) → entry_of (set_kind ys dir (Dir (Some key))) id ≡ option_map (with_kind dir (Dir (Some key))) (entry_of ys id)
+          → cond b (Some (with_kind dir (Dir (Some key)) y)) (entry_of (set_kind ys dir (Dir (Some key))) id) ≡ option_map (with_kind dir (Dir (Some key))) (cond b (Some y) (entry_of ys id))
+      go true ih = refl
+      go false ih = ih
+
+  dir-mark : (rows : List Entry) (q : List (List ℕ)) → is_dir_at (row_at rows q) ≡ true → is_dir_at (row_at (set_kind rows dir (Dir (Some key))) q) ≡ true
+  dir-mark [] q h = h
+  dir-mark (y ∷ ys) q h =
+      ap (λ (r : List (List ℕ)). is_dir_at (cond (same_path r q) (Some (with_kind dir (Dir (Some key)) y).row) (row_at (set_kind ys dir (Dir (Some key))) q))) (path-stays y)
+      ∙ go (same_path y.path q) h (dir-mark ys q)
+    where
+      go : (b : Bool) → is_dir_at (cond b (Some y.row) (row_at ys q)) ≡ true → (is_dir_at (row_at ys q) ≡ true → is_dir_at (row_at (set_kind ys dir (Dir (Some key))) q) ≡ true)
+          → is_dir_at (cond b (Some (with_kind dir (Dir (Some key)) y).row) (row_at (set_kind ys dir (Dir (Some key))) q)) ≡ true
+      go true h ih = dir-stays y h
+      go false h ih = ih h
+
+  marked-in-place : (rows : List Entry) → InPlace rows → InPlace (set_kind rows dir (Dir (Some key)))
+  marked-in-place rows good = record {
+    rising = rising-mark rows good.rising;
+    once = λ x i.
+        let y = in-map (with_kind dir (Dir (Some key))) x rows i in
+        subst (λ (z : Entry). entry_of (set_kind rows dir (Dir (Some key))) z.row.id ≡ Some z) (sym y.2)
+        (ap (entry_of (set_kind rows dir (Dir (Some key)))) (id-stays y.0) ∙ entry-mark rows y.0.row.id ∙ ap (option_map (with_kind dir (Dir (Some key)))) (good.once y.0 y.1));
+    housed = λ x i.
+        let y = in-map (with_kind dir (Dir (Some key))) x rows i in
+        dir-mark rows (parent x.path) (ap (λ (q : List (List ℕ)). is_dir_at (row_at rows (parent q))) (ap (λ (z : Entry). z.path) y.2 ∙ path-stays y.0) ∙ good.housed y.0 y.1);
+  }
+
+-- the rows behind an operation
+
+made-in-place : (t : NameTable) (e : Entry) → may_use t e.row.id ≡ true → may_be_made t.rows e.path ≡ true → InPlace t.rows → InPlace (put e t.rows)
+made-in-place t e used made good =
+    let fresh = both (is_of_opening t.opening e.row.id) (is_none (entry_of t.rows e.row.id)) used in
+    let few = both (is_dir_at (row_at t.rows (parent e.path)) && is_none (row_at t.rows e.path)) (nat_lt (length t.rows) 1000000) made in
+    let free = both (is_dir_at (row_at t.rows (parent e.path))) (is_none (row_at t.rows e.path)) few.0 in
+    put-in-place e t.rows (none-is (row_at t.rows e.path) free.1) (none-is (entry_of t.rows e.row.id) fresh.1) free.0 good
+
+-- they are in place where the table allows it
+pub rows-after : (t : NameTable) (op : EditOp) → InPlace t.rows → allows t op ≡ true → InPlace (after_table t op).rows
+rows-after t (Opened opening) good may = good
+rows-after t (Mkdir id p) good may =
+    let made = both (nat_lt 0 t.opening && may_use t id) (may_be_made t.rows p) may in
+    made-in-place t (new_directory id p) (both (nat_lt 0 t.opening) (may_use t id) made.0).1 made.1 good
+rows-after t (File id p edek) good may =
+    let fit = both (nat_lt 0 t.opening && may_use t id && may_be_made t.rows p) (fits_zone (key_of_zone t.rows p) edek) may in
+    let made = both (nat_lt 0 t.opening && may_use t id) (may_be_made t.rows p) fit.0 in
+    made-in-place t (new_file id p edek) (both (nat_lt 0 t.opening) (may_use t id) made.0).1 made.1 good
+rows-after t (Remove p) good may = removed-in-place p t.rows good
+rows-after t (Zone p key) good may = marked-in-place (id_of (row_at t.rows p)) key t.rows good
+
+-- the files linked there
+
+-- a file that an operation makes has a draw
+abbrev pub OpHasDraw : Ledger → List KeyRow → EditOp → Type 0
+OpHasDraw ledger keys (File id p (Some e)) = HasDraw ledger keys id e
+OpHasDraw ledger keys _ = ⊤
+
+-- its encrypted key is of its zone, and a directory may become a zone
+abbrev pub OpFits : List Entry → EditOp → Type 0
+OpFits rows (File id p edek) = fits_zone (key_of_zone rows p) edek ≡ true
+OpFits rows (Zone p key) = may_be_zone rows p ≡ true
+OpFits rows _ = ⊤
+
+-- a row that is put in keeps the files linked, where it is linked itself
+files-row : (ledger : Ledger) (keys : List KeyRow) (rows : List Entry) (e : Entry) → is_marked e.row ≡ false
+    → ((edek : Edek) → edek_of e.row.kind ≡ Some edek → HasDraw ledger keys e.row.id edek) → FitsZone (key_of_zone rows e.path) e.row.kind
+    → FilesLinked ledger keys rows → FilesLinked ledger keys (put e rows)
+files-row ledger keys rows e plain has fits f =
+    record {
+      files = λ x edek i h. elim (in-put x e rows i) [
+        | inl is ↦ subst (λ (y : Entry). HasDraw ledger keys y.row.id edek) (sym is) (has edek (ap (λ (y : Entry). edek_of y.row.kind) (sym is) ∙ h))
+        | inr old ↦ f.files x edek old h
+      ];
+      zones = λ x i. elim (in-put x e rows i) [
+        | inl is ↦ subst (λ (y : Entry). FitsZone (key_of_zone (put e rows) y.path) y.row.kind) (sym is)
+            (subst (λ (k : Option KeyName). FitsZone k e.row.kind) (sym (key-put e rows e.path plain)) fits)
+        | inr old ↦ subst (λ (k : Option KeyName). FitsZone k x.row.kind) (sym (key-put e rows x.path plain)) (f.zones x old)
+      ];
+    }
+
+of-zone : (zone : Option KeyName) (edek : Option Edek) → fits_zone zone edek ≡ true → FitsZone zone (FileKind edek)
+of-zone None None h = refl
+of-zone None (Some e) h = absurd cc
+of-zone (Some key) None h = absurd cc
+of-zone (Some key) (Some e) h = (bytes_eq-Decides e.version.key key).0 h
+
+file-drawn : (ledger : Ledger) (keys : List KeyRow) (id : ℕ) (p : List (List ℕ)) (made : Option Edek) → OpHasDraw ledger keys (File id p made) → (e : Edek) → made ≡ Some e → HasDraw ledger keys id e
+file-drawn ledger keys id p None has e is = absurd cc
+file-drawn ledger keys id p (Some f) has e is = subst (HasDraw ledger keys id) (some-is f e is) has
+
+files-removed : (ledger : Ledger) (keys : List KeyRow) (rows : List Entry) (p : List (List ℕ)) → FilesLinked ledger keys rows → FilesLinked ledger keys (removed p rows)
+files-removed ledger keys rows p f = record {
+  files = λ x e i h. f.files x e (in-removed p x rows i).0 h;
+  zones = λ x i. let was = in-removed p x rows i in subst (λ (k : Option KeyName). FitsZone k x.row.kind) (sym (key-removed p x.path rows was.1)) (f.zones x was.0);
+}
+
+markable : (rows : List Entry) (p : List (List ℕ)) → may_be_zone rows p ≡ true → Markable rows p (id_of (row_at rows p))
+markable rows p may =
+    let outside = both (is_dir_at (row_at rows p) && not (has_children rows p)) (is_none (zone_of rows p)) may in
+    let empty = both (is_dir_at (row_at rows p)) (not (has_children rows p)) outside.0 in
+    go (row_at rows p) refl empty.0 (has_children rows p) refl empty.1 (none-is (zone_of rows p) outside.1)
+  where
+    go : (o : Option Row) → row_at rows p ≡ o → is_dir_at o ≡ true → (c : Bool) → has_children rows p ≡ c → not c ≡ true → zone_of rows p ≡ None → Markable rows p (id_of (row_at rows p))
+    go None is dir c children h free = absurd cc
+    go (Some row) is dir true children h free = absurd cc
+    go (Some row) is dir false children h free = record { row = row; stands = is; is_dir = dir; empty = children; free = free; of_id = ap id_of (sym is) }
+
+fits-dir : (zone : Option KeyName) (k : Kind) → is_dir k ≡ true → FitsZone zone k
+fits-dir _ (Dir key) h = tt
+fits-dir _ (FileKind edek) h = absurd cc
+
+files-mark : (ledger : Ledger) (keys : List KeyRow) (rows : List Entry) (p : List (List ℕ)) (key : KeyName) (dir : ℕ) → InPlace rows → Markable rows p dir
+    → FilesLinked ledger keys rows → FilesLinked ledger keys (set_kind rows dir (Dir (Some key)))
+files-mark ledger keys rows p key dir good m f =
+    record {
+      files = λ x e i h. elim (in-mark dir key rows x i) [
+        | inl is ↦ let none : None ≡ Some e = ap edek_of (sym is) ∙ h in absurd cc
+        | inr old ↦ f.files x e old h
+      ];
+      zones = λ x i. zone x i (is_dir x.row.kind) refl;
+    }
+  where
+    zone : (x : Entry) → In x (set_kind rows dir (Dir (Some key))) → (b : Bool) → is_dir x.row.kind ≡ b → FitsZone (key_of_zone (set_kind rows dir (Dir (Some key))) x.path) x.row.kind
+    zone x i true is = fits-dir (key_of_zone (set_kind rows dir (Dir (Some key))) x.path) x.row.kind is
+    zone x i false is = elim (in-mark dir key rows x i) [
+      | inl marked ↦ let no : true ≡ false = ap is_dir (sym marked) ∙ is in absurd cc
+      | inr old ↦ subst (λ (k : Option KeyName). FitsZone k x.row.kind) (sym (key-mark dir key rows p good m x old is)) (f.zones x old)
+    ]
+
+pub files-after : (ledger : Ledger) (keys : List KeyRow) (t : NameTable) (op : EditOp) → InPlace t.rows → OpFits t.rows op → OpHasDraw ledger keys op → FilesLinked ledger keys t.rows
+    → FilesLinked ledger keys (after_table t op).rows
+files-after ledger keys t (Opened opening) good fits has f = f
+files-after ledger keys t (Mkdir id p) good fits has f = files-row ledger keys t.rows (new_directory id p) refl (λ edek is. absurd cc) tt f
+files-after ledger keys t (File id p edek) good fits has f =
+    files-row ledger keys t.rows (new_file id p edek) refl (file-drawn ledger keys id p edek has) (of-zone (key_of_zone t.rows p) edek fits) f
+files-after ledger keys t (Remove p) good fits has f = files-removed ledger keys t.rows p f
+files-after ledger keys t (Zone p key) good fits has f = files-mark ledger keys t.rows p key (id_of (row_at t.rows p)) good (markable t.rows p fits) f

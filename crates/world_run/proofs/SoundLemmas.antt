@@ -1,0 +1,292 @@
+-- What a crash leaves while an event goes on is linked with the ledger of draws behind that event.
+use Rattle.std.proofs.Common.{◌≡◌, ◌⊎◌, inl, inr, ℕ, zero, suc, ◌+◌, ◌*◌, ◌^◌, ◌<◌, ◌≤◌, Bool, true, false, List, [], ◌++◌, Option, Some, None, Err, refl, sym, ap, subst, ◌∙◌, arith}
+use Rattle.std.specs.Prelude.{IfSome, ◌==◌}
+use Rattle.std.specs.declared.result.Result.{Result}
+use Rattle.std.proofs.lemmas.Bool.Decides.{nat_tests}
+use Rattle.hk_base.specs.declared.names.Edek.{Edek}
+use Rattle.key_rows.specs.declared.rows.KeyCommand.{KeyCommand}
+use Rattle.key_rows.specs.Table.{Table}
+use Rattle.key_rows.proofs.Births.{both}
+use Rattle.prop_text.specs.declared.lines.PropLine.{PropLine}
+use Rattle.edit_ops.specs.declared.ops.EditOp.{EditOp}
+use Rattle.edit_ops.specs.declared.ops.EditOp.TheVariants as op
+use Rattle.kms_core.specs.State.{settled}
+use Rattle.kms_store.specs.Store.{Applies, settled_table}
+use Rattle.name_store.specs.Replay.{Applies as AppliesToNames}
+use Rattle.name_store.specs.Store.{AnOpening, IsLeftOf, NothingMore}
+use Rattle.name_store.specs.Table.{NameTable, Replayed, after_table, allows, is_fresh, settled_log, settled_table as settled_names_table}
+use Rattle.name_core.specs.declared.asks.OpenAsk.{OpenAsk}
+use Rattle.name_core.specs.declared.calls.KeyAnswer.{KeyAnswer}
+use Rattle.name_core.specs.declared.calls.KeyAnswer.TheVariants.{Given}
+use Rattle.name_core.specs.declared.calls.NameCall.{NameCall}
+use Rattle.name_core.specs.declared.calls.NameCall.TheVariants as call
+use Rattle.name_core.specs.declared.calls.NameRefusal.{NameRefusal}
+use Rattle.name_core.specs.declared.calls.NameRefusal.TheVariants as refusal
+use Rattle.name_core.specs.Asks.{finish_op, open_ask}
+use Rattle.name_core.specs.Calls.{deed}
+use Rattle.name_core.specs.Service.{FinishServes, FinishServesAt, FinishServesOpen, OwnOf, OwnOfFinish}
+use Rattle.name_core.specs.State.{NameService, next_id, settled as settled_names}
+use Rattle.world_run.specs.declared.event.Event.{Event}
+use Rattle.world_run.specs.declared.event.Event.TheVariants as event
+use Rattle.world_run.specs.declared.event.Line.{Line}
+use Rattle.world_run.specs.declared.event.Line.TheVariants as line
+use Rattle.world_run.specs.declared.kept.KeptReply.{KeptReply}
+use Rattle.world_run.specs.Acknowledged.{Acknowledged}
+use Rattle.world_run.specs.World.{WorldState, numbered}
+use Rattle.world_run.specs.Step.{FinishReply, Step, finish_line}
+use Rattle.world_run.specs.Ledger.{Draw, Hidden, Ledger, enters, hidden_after, makes_file}
+use Rattle.world_run.specs.Linked.{DrawsFit, FilesLinked, IsDrawn, LedgerFits, LinkedTables, LinkedWorld, Replied, ServicesFit}
+use Rattle.world_run.proofs.FinishLemmas.{linked-unentered, with_entry}
+use Rattle.world_run.proofs.KeepLemmas.{closed-keeps, finish-files, finish-ledger}
+use Rattle.world_run.proofs.Laters.{KeysLater, later-settled, later-with}
+use Rattle.world_run.proofs.Members.{numbered-beside, some-is}
+use Rattle.world_run.proofs.RowsAfter.{files-after}
+use Rattle.world_run.proofs.WorldLemmas.{draws-later, files-later, opening-settled, rows-settled}
+
+-- what is linked with a ledger, whatever is kept: the files with and without the pending operation, and the ledger itself
+pub record LinkedFiles (w : WorldState) (ledger : Ledger) (place : ℕ) : Type 0 where
+  pub files : (kept : Bool) → FilesLinked ledger w.keys.keys.table.rows (settled_names kept w.names).table.rows
+  pub draws : DrawsFit ledger [] place w.keys.keys.table.greatest
+  pub fits : LedgerFits ledger [] [] [] (next_id w.names.names)
+
+pub none-replied : (r : KeptReply) (o : Option Draw) → Replied [] [] r o → ⊥
+none-replied r o (n, at, other) = go n at
+  where
+    go : (k : ℕ) → numbered {X = KeptReply} [] k ≡ Some r → ⊥
+    go zero h = absurd cc
+    go (suc k) h = absurd cc
+
+pub world-files : (w : WorldState) (h : Hidden) → LinkedWorld w h → LinkedFiles w h.ledger h.place
+world-files w h l =
+    record {
+      files = l.files;
+      draws = record { taken = λ d i. l.draws.taken d (was d i); born = λ d i. l.draws.born d (was d i); apart = λ d f i j. l.draws.apart d f (was d i) (was f j) };
+      fits = record {
+        one_draw = l.ledger.one_draw;
+        one_file = l.ledger.one_file;
+        below = l.ledger.below;
+        not_open = λ a d i j. absurd i;
+        its_ask = λ id r d i at. absurd (none-replied r (Some d) at);
+      };
+    }
+  where
+    was : (d : Draw) → IsDrawn h.ledger [] d → IsDrawn h.ledger h.replied d
+    was d (inl i) = inl i
+    was d (inr none) = absurd none
+
+-- the world before an event, with the ledger behind it
+
+finish-through : (w : WorldState) (words : ℕ → ℕ) (h : Hidden) (number drawn : ℕ) (kept : KeptReply) (fault : Type 0) (result : Result (Unit {0}) NameRefusal) (ops : List EditOp) (names : NameService) → ServicesFit w → LinkedWorld w h
+    → numbered w.kept.replies number ≡ Some kept → FinishServes w.names kept.id kept.answer fault result ops names
+    → LinkedFiles w (hidden_after w words (event.Finish number) (finish_line result) drawn (record w { names = names }) h).ledger h.place
+finish-through w words h number drawn kept fault result ops names fit l at serves =
+    let drew = numbered-beside w.kept.replies h.replied number kept l.replies.as_many at in
+    subst (λ (ledger : Ledger). LinkedFiles w ledger h.place) (sym (finish-ledger w words h number drawn kept drew.0 result names at drew.1))
+    (go drew.0 drew.1 (open_ask w.names.names.asks kept.id) refl serves)
+  where
+    go : (o : Option Draw) → numbered h.replied number ≡ Some o → (q : Option OpenAsk) → open_ask w.names.names.asks kept.id ≡ q → FinishServesAt w.names q kept.answer fault result ops names
+        → LinkedFiles w (with_entry (enters kept.id (finish_line result) names) kept o h.ledger) h.place
+    go o drew None gone e =
+        subst (λ (r : Result (Unit {0}) NameRefusal). LinkedFiles w (with_entry (enters kept.id (finish_line r) names) kept o h.ledger) h.place) (sym e.told_is)
+        (world-files w (record h { ledger = h.ledger ++ [] }) (linked-unentered w h l))
+    go o drew (Some a) found s =
+        let f = world-files _ _ (closed-keeps w h kept o a fit.names l (record { opened = found; at = (number, at, drew) }) (enters kept.id (finish_line result) names)) in
+        record { files = f.files; draws = f.draws; fits = f.fits }
+
+finish-reply-through : (w : WorldState) (words : ℕ → ℕ) (h : Hidden) (number : ℕ) (fault : Type 0) (told : Line) (drawn : ℕ) (logged : Acknowledged) (w' : WorldState) (o : Option KeptReply) → ServicesFit w → LinkedWorld w h
+    → numbered w.kept.replies number ≡ o → FinishReply w o fault told drawn logged w' → LinkedFiles w (hidden_after w words (event.Finish number) told drawn w' h).ledger h.place
+finish-reply-through w words h number fault told drawn logged w' None fit l at u =
+    subst (λ (t : Line). LinkedFiles w (hidden_after w words (event.Finish number) t drawn w' h).ledger h.place) (sym u.told_is)
+    (world-files w (record h { ledger = h.ledger ++ [] }) (linked-unentered w h l))
+finish-reply-through w words h number fault told drawn logged w' (Some kept) fit l at f =
+    subst (λ (t : Line). LinkedFiles w (hidden_after w words (event.Finish number) t drawn w' h).ledger h.place) (sym f.told_is)
+    (subst (λ (v : WorldState). LinkedFiles w (hidden_after w words (event.Finish number) (finish_line f.result) drawn v h).ledger h.place) (sym f.left)
+    (finish-through w words h number drawn kept fault f.result f.ops f.names fit l at f.finishes))
+
+more-words : (w : WorldState) (ledger : Ledger) (place drawn : ℕ) → LinkedFiles w ledger place → LinkedFiles w ledger (place + drawn)
+more-words w ledger place drawn f =
+    record { files = f.files; draws = record { taken = λ d i. let t = f.draws.taken d i in omega (arith, t); born = f.draws.born; apart = f.draws.apart }; fits = f.fits }
+
+-- a draw enters nothing
+draw-through : (w : WorldState) (words : ℕ → ℕ) (h : Hidden) (number drawn : ℕ) (told : Line) (w' : WorldState) → LinkedFiles w h.ledger (h.place + drawn)
+    → LinkedFiles w (hidden_after w words (event.Draw number) told drawn w' h).ledger (hidden_after w words (event.Draw number) told drawn w' h).place
+draw-through w words h number drawn (line.Kms reply) w' f = f
+draw-through w words h number drawn (line.Opened opening) w' f = f
+draw-through w words h number drawn (line.Name reply) w' f = f
+draw-through w words h number drawn (line.Asked n note) w' f = f
+draw-through w words h number drawn (line.Replied n reply) w' f = f
+draw-through w words h number drawn (line.Refused why) w' f = f
+draw-through w words h number drawn line.Unknown w' f = f
+
+pub event-files : (lines : List PropLine) (w : WorldState) (words : ℕ → ℕ) (now : ℕ) (e : Event) (fault tells : Type 0) (told : Line) (drawn : ℕ) (logged : Acknowledged) (w' : WorldState) (h : Hidden) → ServicesFit w
+    → Step lines w words now e fault tells told drawn logged w' → LinkedWorld w h → LinkedFiles w (hidden_after w words e told drawn w' h).ledger (hidden_after w words e told drawn w' h).place
+event-files lines w words now e fault tells told drawn logged w' h fit s l = go e s
+  where
+    before : LinkedFiles w h.ledger (h.place + drawn)
+    before = more-words w h.ledger h.place drawn (world-files w h l)
+
+    go : (e : Event) → Step lines w words now e fault tells told drawn logged w' → LinkedFiles w (hidden_after w words e told drawn w' h).ledger (hidden_after w words e told drawn w' h).place
+    go (event.Kms user c) s = before
+    go event.RestartKms s = before
+    go event.RestartName s = before
+    go (event.Mkdir user p) s = before
+    go (event.Delete user p recursive) s = before
+    go (event.Info user p) s = before
+    go (event.List user p) s = before
+    go (event.Zones user) s = before
+    go (event.AskCreate user p) s = before
+    go (event.AskZone user p key) s = before
+    go (event.Draw number) s = draw-through w words h number drawn told w' before
+    go (event.Finish number) s =
+        more-words w (hidden_after w words (event.Finish number) told drawn w' h).ledger h.place drawn
+        (finish-reply-through w words h number fault told drawn logged w' (numbered w.kept.replies number) fit l refl s)
+
+-- what an event may write behind the settled edit log keeps the files linked
+
+abbrev pub OwnLinks : WorldState → Ledger → (Bool → EditOp → Type 0) → Type 0
+OwnLinks w ledger own = (kept : Bool) (op : EditOp) → own kept op → allows (settled_names kept w.names).table op ≡ true → FilesLinked ledger w.keys.keys.table.rows (after_table (settled_names kept w.names).table op).rows
+
+pub own-of-nothing : (w : WorldState) (h : Hidden) → OwnLinks w h.ledger NothingMore
+own-of-nothing w h kept written own may = absurd own
+
+pub own-of-opening : (w : WorldState) (h : Hidden) → ServicesFit w → LinkedWorld w h → OwnLinks w h.ledger AnOpening
+own-of-opening w h fit l kept (op.Opened opening) own may = l.files kept
+own-of-opening w h fit l kept (op.Mkdir id p) own may = absurd cc
+own-of-opening w h fit l kept (op.File id p edek) own may = absurd cc
+own-of-opening w h fit l kept (op.Remove p) own may = absurd cc
+own-of-opening w h fit l kept (op.Zone p key) own may = absurd cc
+
+pub own-of-call : (w : WorldState) (h : Hidden) (c : NameCall) → ServicesFit w → LinkedWorld w h → OwnLinks w h.ledger (OwnOf w.names c)
+own-of-call w h c fit l kept written own may = go c own.1
+  where
+    go : (c : NameCall) → (deed (settled_names kept w.names) c).logs ≡ Some written → FilesLinked h.ledger w.keys.keys.table.rows (after_table (settled_names kept w.names).table written).rows
+    go (call.Mkdir p) is =
+        subst (λ (x : EditOp). FilesLinked h.ledger w.keys.keys.table.rows (after_table (settled_names kept w.names).table x).rows) (some-is (op.Mkdir (next_id (settled_names kept w.names)) p) written is)
+        (files-after h.ledger w.keys.keys.table.rows (settled_names kept w.names).table (op.Mkdir (next_id (settled_names kept w.names)) p) (rows-settled kept w.names fit.names) tt tt (l.files kept))
+    go (call.Delete p recursive) is =
+        subst (λ (x : EditOp). FilesLinked h.ledger w.keys.keys.table.rows (after_table (settled_names kept w.names).table x).rows) (some-is (op.Remove p) written is)
+        (files-after h.ledger w.keys.keys.table.rows (settled_names kept w.names).table (op.Remove p) (rows-settled kept w.names fit.names) tt tt (l.files kept))
+    go (call.Info p) is = absurd cc
+    go (call.List p) is = absurd cc
+    go call.Zones is = absurd cc
+
+-- a finish that leaves an operation pending was answered so
+pending-told : (s : NameService) (a : OpenAsk) (given : KeyAnswer) (edek : Option Edek) (fault : Type 0) (result : Result (Unit {0}) NameRefusal) (ops : List EditOp) (names : NameService) (waiting : EditOp) → given ≡ Given edek
+    → FinishServesOpen s a given fault result ops names → names.pending ≡ Some waiting → result ≡ Err refusal.StoreFault
+pending-told s a given edek fault result ops names waiting said serves waits = go (subst (λ (x : KeyAnswer). FinishServesOpen s a x fault result ops names) said serves)
+  where
+    go : FinishServesOpen s a (Given edek) fault result ops names → result ≡ Err refusal.StoreFault
+    go (inl u) = u.ends.told_is
+    go (inr (k, inl d)) = let none : None ≡ Some waiting = sym (ap (λ (n : NameService). n.pending) d.left) ∙ waits in absurd cc
+    go (inr (k, inr u)) = u.told_is
+
+-- what a finish wrote, or left pending, is entered where it is a file
+written-enters : (s : NameService) (kept : KeptReply) (fault : Type 0) (result : Result (Unit {0}) NameRefusal) (ops : List EditOp) (names : NameService) (k : Bool) (written : EditOp) (own : OwnOfFinish s kept.id kept.answer result names k written)
+    → FinishServes s kept.id kept.answer fault result ops names → makes_file kept.id (Some (finish_op own.ask.id own.edek own.ask.ask)) ≡ true → enters kept.id (finish_line result) names ≡ true
+written-enters s kept fault result ops names k written own serves file = elim own.was_written [
+  | inl done ↦ ap (λ (r : Result (Unit {0}) NameRefusal). enters kept.id (finish_line r) names) done
+  | inr waits ↦
+      let told : result ≡ Err refusal.StoreFault = pending-told s own.ask kept.answer own.edek fault result ops names written own.gave
+      (subst (λ (o : Option OpenAsk). FinishServesAt s o kept.answer fault result ops names) own.was_open serves) waits in
+      ap (λ (r : Result (Unit {0}) NameRefusal). enters kept.id (finish_line r) names) told ∙ ap (makes_file kept.id) (waits ∙ ap Some own.is) ∙ file
+]
+
+pub own-of-finish : (w : WorldState) (h : Hidden) (words : ℕ → ℕ) (drawn : ℕ) (number : ℕ) (kept : KeptReply) (fault : Type 0) (result : Result (Unit {0}) NameRefusal) (ops : List EditOp) (names : NameService)
+    → FinishServes w.names kept.id kept.answer fault result ops names → numbered w.kept.replies number ≡ Some kept → ServicesFit w → LinkedWorld w h
+    → OwnLinks w (hidden_after w words (event.Finish number) (finish_line result) drawn (record w { names = names }) h).ledger (OwnOfFinish w.names kept.id kept.answer result names)
+own-of-finish w h words drawn number kept fault result ops names serves at fit l k written own may =
+    let drew = numbered-beside w.kept.replies h.replied number kept l.replies.as_many at in
+    subst (λ (ledger : Ledger). FilesLinked ledger w.keys.keys.table.rows (after_table (settled_names k w.names).table written).rows) (sym (finish-ledger w words h number drawn kept drew.0 result names at drew.1))
+    (subst (λ (x : EditOp). FilesLinked (with_entry (enters kept.id (finish_line result) names) kept drew.0 h.ledger) w.keys.keys.table.rows (after_table (settled_names k w.names).table x).rows) (sym own.is)
+    (finish-files w h (enters kept.id (finish_line result) names) k own.ask kept drew.0 own.edek fit.names l (record { opened = own.was_open; at = (number, at, drew.1) }) own.gave own.free
+    (written-enters w.names kept fault result ops names k written own serves)))
+
+-- the edit log that a crash leaves
+
+-- the pending operation as the one more that was written
+pending-more : (k : Bool) (o : Option EditOp) (waiting : EditOp) (t : NameTable) → k ≡ false → o ≡ Some waiting → settled_names_table true o t ≡ after_table (settled_names_table k o t) waiting
+pending-more true o waiting t fresh is = absurd cc
+pending-more false None waiting t fresh is = absurd cc
+pending-more false (Some q) waiting t fresh is = ap (after_table t) (some-is q waiting is)
+
+files-more : (w : WorldState) (ledger : Ledger) (place : ℕ) (own : Bool → EditOp → Type 0) (k : Bool) (r : Replayed) (more : Option EditOp) (found : Bool) → r.table ≡ (settled_names k w.names).table → LinkedFiles w ledger place → OwnLinks w ledger own
+    → IfSome more (λ op. ((k ≡ false) × (w.names.pending ≡ Some op)) ⊎ own k op) → AppliesToNames r more → FilesLinked ledger w.keys.keys.table.rows (settled_names_table found more (settled_names k w.names).table).rows
+files-more w ledger place own k r None found is f links which fits = f.files k
+files-more w ledger place own k r (Some more) false is f links which fits = f.files k
+files-more w ledger place own k r (Some more) true is f links (inl waits) fits =
+    subst (λ (t : NameTable). FilesLinked ledger w.keys.keys.table.rows t.rows) (pending-more k w.names.pending more w.names.names.table waits.0 waits.1) (f.files true)
+files-more w ledger place own k r (Some more) true is f links (inr mine) fits =
+    links k more mine (ap (λ (t : NameTable). allows t more) (sym is) ∙ (both (allows r.table more) (is_fresh r.used more) fits).0)
+
+pub files-left : (w : WorldState) (ledger : Ledger) (place : ℕ) (own : Bool → EditOp → Type 0) (made : Replayed) (ops : List EditOp) (bytes : List ℕ) → made.table ≡ w.names.names.table → LinkedFiles w ledger place → OwnLinks w ledger own
+    → (left : IsLeftOf made w.names.pending own ops bytes) → (found : Bool) → FilesLinked ledger w.keys.keys.table.rows (settled_log found left.more (settled_log left.kept w.names.pending made)).table.rows
+files-left w ledger place own made ops bytes is f links left found =
+    let settled_is : (settled_log left.kept w.names.pending made).table ≡ (settled_names left.kept w.names).table = ap (λ (t : NameTable). settled_names_table left.kept w.names.pending t) is in
+    subst (λ (t : NameTable). FilesLinked ledger w.keys.keys.table.rows (settled_names_table found left.more t).rows) (sym settled_is)
+    (files-more w ledger place own left.kept (settled_log left.kept w.names.pending made) left.more found settled_is f links left.more_is left.fits)
+
+-- the number of the opening never falls
+opening-rises : (t : NameTable) (more : EditOp) → allows t more ≡ true → t.opening ≤ (after_table t more).opening
+opening-rises t (op.Opened opening) may = next t.opening opening may
+  where
+    next : (a b : ℕ) → (b == a + 1) ≡ true → a ≤ b
+    next a b h = grind (arith, nat_tests)
+opening-rises t (op.Mkdir id p) may = omega arith
+opening-rises t (op.File id p edek) may = omega arith
+opening-rises t (op.Remove p) may = omega arith
+opening-rises t (op.Zone p key) may = omega arith
+
+opening-more : (r : Replayed) (more : Option EditOp) (found : Bool) → AppliesToNames r more → r.table.opening ≤ (settled_names_table found more r.table).opening
+opening-more r None found fits = omega arith
+opening-more r (Some more) false fits = omega arith
+opening-more r (Some more) true fits = opening-rises r.table more (both (allows r.table more) (is_fresh r.used more) fits).0
+
+pub opening-left : (w : WorldState) (own : Bool → EditOp → Type 0) (made : Replayed) (ops : List EditOp) (bytes : List ℕ) → made.table ≡ w.names.names.table → ServicesFit w
+    → (left : IsLeftOf made w.names.pending own ops bytes) → (found : Bool) → w.names.names.table.opening ≤ (settled_log found left.more (settled_log left.kept w.names.pending made)).table.opening
+opening-left w own made ops bytes is fit left found =
+    let same : (settled_log left.kept w.names.pending made).table.opening ≡ w.names.names.table.opening =
+    ap (λ (t : NameTable). (settled_names_table left.kept w.names.pending t).opening) is ∙ opening-settled left.kept w.names fit.names in
+    subst (λ (n : ℕ). n ≤ (settled_log found left.more (settled_log left.kept w.names.pending made)).table.opening) same (opening-more (settled_log left.kept w.names.pending made) left.more found left.fits)
+
+-- both tables
+
+later-tables : (ledger : Ledger) (place : ℕ) (keys later : Table) (names : NameTable) → KeysLater keys later → LinkedTables ledger place keys names → LinkedTables ledger place later names
+later-tables ledger place keys later names grew l = record {
+  files = files-later ledger [] place keys.greatest keys.rows later.rows names.rows l.draws grew.rows l.files;
+  draws = draws-later ledger [] place keys.greatest later.greatest grew.births l.draws;
+  fits = l.fits;
+}
+
+-- the key log may have grown by a command that applies
+pub tables-later : (ledger : Ledger) (place : ℕ) (keys : Table) (names : NameTable) (found : Bool) (more : Option KeyCommand) → Applies keys more → LinkedTables ledger place keys names
+    → LinkedTables ledger place (settled_table found more keys) names
+tables-later ledger place keys names found more may l = later-tables ledger place keys (settled_table found more keys) names (later-with found more keys may) l
+
+-- the keys with their pending command or without it, beside rows that are linked with the keys
+tables-of-files : (w : WorldState) (ledger : Ledger) (place : ℕ) (k : Bool) (names : NameTable) → ServicesFit w → LinkedFiles w ledger place → w.names.names.table.opening ≤ names.opening
+    → FilesLinked ledger w.keys.keys.table.rows names.rows → LinkedTables ledger place (settled k w.keys).table names
+tables-of-files w ledger place k names fit f rises files =
+    later-tables ledger place w.keys.keys.table (settled k w.keys).table names (later-settled k w.keys fit.keys) (
+    record {
+      files = files;
+      draws = f.draws;
+      fits = record {
+        one_draw = f.fits.one_draw;
+        one_file = f.fits.one_file;
+        below = λ id d i. let low = f.fits.below id d i in let few = fit.names.few in higher id w.names.names.table.opening names.opening w.names.names.next low few rises;
+        not_open = f.fits.not_open;
+        its_ask = f.fits.its_ask;
+      };
+    })
+  where
+    higher : (id old new next : ℕ) → id < old * 2 ^ 32 + next → next ≤ 2 ^ 32 → old ≤ new → id < (new + 1) * 2 ^ 32
+    higher id old new next low few over = omega (arith, low, few, over)
+
+-- the tables that a start finds in what a crash leaves of both logs
+pub tables-through : (w : WorldState) (ledger : Ledger) (place : ℕ) (own : Bool → EditOp → Type 0) (k found : Bool) (more : Option KeyCommand) (made : Replayed) (ops : List EditOp) (bytes : List ℕ) → ServicesFit w → Applies (settled k w.keys).table more
+    → made.table ≡ w.names.names.table → LinkedFiles w ledger place → OwnLinks w ledger own → (left : IsLeftOf made w.names.pending own ops bytes) → (found_names : Bool)
+    → LinkedTables ledger place (settled_table found more (settled k w.keys).table) (settled_log found_names left.more (settled_log left.kept w.names.pending made)).table
+tables-through w ledger place own k found more made ops bytes fit may is f links left found_names =
+    tables-later ledger place (settled k w.keys).table (settled_log found_names left.more (settled_log left.kept w.names.pending made)).table found more may
+    (tables-of-files w ledger place k (settled_log found_names left.more (settled_log left.kept w.names.pending made)).table fit f (opening-left w own made ops bytes is fit left found_names)
+    (files-left w ledger place own made ops bytes is f links left found_names))

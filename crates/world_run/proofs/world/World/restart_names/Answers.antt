@@ -1,0 +1,18 @@
+use Rattle.std.proofs.Common.{◌∙◌, Err, ap}
+use Rattle.name_core.specs.State.{RunningNames}
+use Rattle.world_run.specs.World.{RunningWorld}
+use Rattle.world_run.proofs.RestartLemmas.{names-fail, names-restarted}
+use Rattle.world_run.proofs.StepLemmas.{parts}
+use Rattle.world_run.proofs.world.World.restart_names.Goals as goal
+
+pub returns-in-Err : goal.returns-in-Err
+returns-in-Err g c words =
+    names-fail (g.D.Disk.state c.args.disk.now) (g.D.Disk.state c.restart.new.disk) c.args.self.now _ words c.in-Err.fault
+    (ap (λ (names : RunningNames). parts c.self.inside.keys names c.self.inside.notes.items c.self.inside.replies.items) c.in-Err.ensures.started ∙ c.self.view_is) c.fits.ensures.keys_file c.fits.ensures.names_file c.fits.ensures.fits c.requires.stands
+    (λ at is. c.in-Err.ensures.damaged at (ap Err is)) (λ is. c.in-Err.ensures.spent (ap Err is)) (λ is. c.in-Err.ensures.cause (ap Err is)) c.restart.ensures.any_moment c.restart.ensures.run
+
+pub returns : goal.returns
+returns g c lines words now =
+    names-restarted (g.D.Disk.state c.args.disk.now) (g.D.Disk.state c.restart.new.disk) c.args.self.now (parts c.self.inside.keys c.restart.new.self c.self.inside.notes.items c.self.inside.replies.items)
+    c.opening-opening.result (ap (λ (v : RunningWorld). v.keys) c.self.view_is) c.fits.ensures.names_file c.requires.stands c.in-Ok.ensures.started
+    c.restart.ensures.any_moment c.restart.ensures.run c.opening-opening.ensures (ap (λ (v : RunningWorld). record v { names = c.restart.new.self }) c.self.view_is) lines words now

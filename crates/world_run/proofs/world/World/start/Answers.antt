@@ -1,0 +1,16 @@
+use Rattle.world_run.proofs.world.World.start.Goals as goal
+
+pub returns : goal.returns
+returns g c = record {
+  began = c.open.ensures.began;
+  lists = c.open.ensures.lists;
+  file = c.open.ensures.file;
+  damaged_keys = c.open.ensures.damaged_keys;
+  damaged_names = c.open.ensures.damaged_names;
+  spent_keys = λ is told. let s = c.open.ensures.spent_keys is told in (s.commands, s.table, s.log, s.last);
+  spent_names = λ is told. let s = c.open.ensures.spent_names is told in (s.ops, s.made, s.log, s.last);
+  any_moment = c.open.ensures.any_moment;
+  sound = c.open.ensures.sound;
+  run = c.open.ensures.run;
+  cause = c.open.ensures.cause;
+}

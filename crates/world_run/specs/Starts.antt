@@ -1,0 +1,48 @@
+-- What a start of both services does, done or not.
+use Rattle.std.specs.Prelude.{◌≡◌, ◌⊎◌, ℕ, List, IfOk, IsErrOf, Result}
+use Rattle.hk_base.specs.Disk.{DiskState, Tells}
+use Rattle.hk_base.specs.Faults.{Rose}
+use Rattle.frame_log.specs.declared.fault.StartFault.{StartFault}
+use Rattle.frame_log.specs.declared.fault.StartFault.TheVariants as start
+use Rattle.edit_ops.specs.declared.ops.EditOp.{EditOp}
+use Rattle.key_rows.specs.declared.rows.KeyCommand.{KeyCommand}
+use Rattle.key_rows.specs.Table.{Table}
+use Rattle.prop_text.specs.declared.lines.PropLine.{PropLine}
+use Rattle.kms_acls.specs.StandsFor.{StandsFor as ListsFor}
+use Rattle.kms_store.specs.Store.{IsDamagedAt, IsKeyLog}
+use Rattle.name_store.specs.Table.{Replayed}
+use Rattle.name_store.specs.Store.{IsDamagedAt as IsDamagedName, IsNameLog}
+use Rattle.world_run.specs.declared.event.WorldFault.{WorldFault}
+use Rattle.world_run.specs.Acknowledged.{LeavesBoth, RunBoth}
+use Rattle.world_run.specs.Ledger.{Ledger}
+use Rattle.world_run.specs.Linked.{SoundFiles, StartsSound}
+use Rattle.world_run.specs.Keeps.{Begins, LeftByStarts}
+use Rattle.world_run.specs.World.{RunningWorld}
+
+-- the last opening of the key log is recorded, and of the edit log
+
+pub record SpentKeys (bytes : List ℕ) : Type 0 where
+  pub commands : List KeyCommand
+  pub table : Table
+  pub log : IsKeyLog bytes commands table
+  pub last : table.opening ≡ 4294967295
+
+pub record SpentNames (bytes : List ℕ) : Type 0 where
+  pub ops : List EditOp
+  pub made : Replayed
+  pub log : IsNameLog bytes ops made
+  pub last : made.table.opening ≡ 4294967295
+
+-- A start under the properties of these lines came to this: a world, or the first file that has a fault, and the fault.
+pub record StartHappens (old new : DiskState) (lines : List PropLine) (result : Result RunningWorld WorldFault) : Type 0 where
+  pub began : IfOk result (Begins old new)
+  pub lists : IfOk result (λ (world : RunningWorld). ListsFor world.keys.acls lines)
+  pub file : (file : ℕ) (fault : StartFault) → IsErrOf result (record { file = file; fault = fault }) → (file ≡ 0) ⊎ (file ≡ 1)
+  pub damaged_keys : (at : ℕ) → IsErrOf result (record { file = 0; fault = start.Damaged at }) → Tells old → IsDamagedAt (old.reads 0) at
+  pub damaged_names : (at : ℕ) → IsErrOf result (record { file = 1; fault = start.Damaged at }) → Tells old → IsDamagedName (old.reads 1) at
+  pub spent_keys : IsErrOf result (record { file = 0; fault = start.Spent }) → Tells old → SpentKeys (old.reads 0)
+  pub spent_names : IsErrOf result (record { file = 1; fault = start.Spent }) → Tells old → SpentNames (old.reads 1)
+  pub any_moment : Tells old → LeavesBoth old new (LeftByStarts old)
+  pub sound : Tells old → (ledger : Ledger) (place : ℕ) → StartsSound old ledger place → LeavesBoth old new (SoundFiles ledger place)
+  pub run : RunBoth old new
+  pub cause : (file : ℕ) → IsErrOf result (record { file = file; fault = start.StoreFault }) → Rose old.faults new.faults
