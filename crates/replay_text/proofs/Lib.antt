@@ -2,4 +2,5 @@ mod AskLemmas
 mod CallLemmas
 mod FieldLemmas
 mod ListLemmas
+mod NameLemmas
 mod OnceLemmas

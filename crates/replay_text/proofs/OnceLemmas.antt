@@ -9,8 +9,8 @@ use Rattle.key_rows.specs.declared.calls.RawEdek.{RawEdek}
 use Rattle.key_rows.specs.declared.calls.KmsCall.{KmsCall}
 use Rattle.key_rows.specs.declared.calls.KmsCall.TheVariants as call
 use Rattle.world_run.specs.declared.event.Event.{Event}
-use Rattle.world_run.specs.declared.event.Event.TheVariants.{Kms, RestartKms, Mkdir, Info, AskCreate, AskZone, Draw, Finish}
-use Rattle.replay_text.specs.Events.{AreTriples, IsMaterial, IsPath, IsQuiet, IsTriple, IsUser, Spells, SpellsAskCreate, SpellsAskZone, SpellsBatch, SpellsCall, SpellsCreate, SpellsEdek, SpellsEvent, SpellsGenerate, SpellsKept, SpellsKms, SpellsMaterial, SpellsMetadatas, SpellsNamed, SpellsPath, SpellsRoll, SpellsSent, SpellsVersion, fields_of, is_comma}
+use Rattle.world_run.specs.declared.event.Event.TheVariants as event
+use Rattle.replay_text.specs.Events.{AreTriples, IsMaterial, IsPath, IsQuiet, IsTriple, IsUser, Spells, SpellsAskCreate, SpellsAskZone, SpellsBatch, SpellsCall, SpellsCreate, SpellsEdek, SpellsEvent, SpellsGenerate, SpellsKept, SpellsKms, SpellsMaterial, SpellsMetadatas, SpellsNamed, SpellsPath, SpellsRestart, SpellsRoll, SpellsSent, SpellsVersion, SpellsZones, delete_verb, fields_of, is_comma}
 use Rattle.replay_text.proofs.CallLemmas.{apart, two_verbs}
 
 both : (s t : Bool) → (s && t) ≡ true → (s ≡ true) × (t ≡ true)
@@ -354,14 +354,14 @@ user_once f g user other field x y = sym x.decoded ∙ ap percent_decode field �
 path_once : (f g path other : List ℕ) → f ≡ g → IsPath f path → IsPath g other → path ≡ other
 path_once f g path other field x y = sym x.decoded ∙ ap percent_decode field ∙ y.decoded
 
-kms_once : (fields : List (List ℕ)) (user other : List ℕ) (c d : KmsCall) → SpellsKms fields user c → SpellsKms fields other d → Kms user c ≡ Kms other d
+kms_once : (fields : List (List ℕ)) (user other : List ℕ) (c d : KmsCall) → SpellsKms fields user c → SpellsKms fields other d → event.Kms user c ≡ event.Kms other d
 kms_once fields user other c d x y =
     let same = sym x.fields_are ∙ y.fields_are in
     let user_field : x.user_field ≡ y.user_field = cc in
     let call_fields : x.call_fields ≡ y.call_fields = cc in
     let who : user ≡ other = user_once x.user_field y.user_field user other user_field x.user_is y.user_is in
     let call : c ≡ d = call_once y.call_fields c d (subst (λ (fs : List (List ℕ)). SpellsCall fs c) call_fields x.call_is) y.call_is in
-    λ i. Kms (who i) (call i)
+    λ i. event.Kms (who i) (call i)
 
 -- two lines of one verb speak of one user and one path
 same_path : (verb : List ℕ) (fields : List (List ℕ)) (user other path also : List ℕ) → SpellsPath verb fields user path → SpellsPath verb fields other also → (user ≡ other) × (path ≡ also)
@@ -371,16 +371,16 @@ same_path verb fields user other path also x y =
     let path_field : x.path_field ≡ y.path_field = cc in
     (user_once x.user_field y.user_field user other user_field x.user_is y.user_is, path_once x.path_field y.path_field path also path_field x.path_is y.path_is)
 
-ask_create_once : (fields : List (List ℕ)) (user other path also : List ℕ) → SpellsAskCreate fields user path → SpellsAskCreate fields other also → AskCreate user path ≡ AskCreate other also
+ask_create_once : (fields : List (List ℕ)) (user other path also : List ℕ) → SpellsAskCreate fields user path → SpellsAskCreate fields other also → event.AskCreate user path ≡ event.AskCreate other also
 ask_create_once fields user other path also x y =
     let same = sym x.fields_are ∙ y.fields_are in
     let user_field : x.user_field ≡ y.user_field = cc in
     let path_field : x.path_field ≡ y.path_field = cc in
     let who : user ≡ other = user_once x.user_field y.user_field user other user_field x.user_is y.user_is in
     let where_ : path ≡ also = path_once x.path_field y.path_field path also path_field x.path_is y.path_is in
-    λ i. AskCreate (who i) (where_ i)
+    λ i. event.AskCreate (who i) (where_ i)
 
-ask_zone_once : (fields : List (List ℕ)) (user other path also key second : List ℕ) → SpellsAskZone fields user path key → SpellsAskZone fields other also second → AskZone user path key ≡ AskZone other also second
+ask_zone_once : (fields : List (List ℕ)) (user other path also key second : List ℕ) → SpellsAskZone fields user path key → SpellsAskZone fields other also second → event.AskZone user path key ≡ event.AskZone other also second
 ask_zone_once fields user other path also key second x y =
     let same = sym x.fields_are ∙ y.fields_are in
     let user_field : x.user_field ≡ y.user_field = cc in
@@ -388,7 +388,7 @@ ask_zone_once fields user other path also key second x y =
     let named : key ≡ second = cc in
     let who : user ≡ other = user_once x.user_field y.user_field user other user_field x.user_is y.user_is in
     let where_ : path ≡ also = path_once x.path_field y.path_field path also path_field x.path_is y.path_is in
-    λ i. AskZone (who i) (where_ i) (named i)
+    λ i. event.AskZone (who i) (where_ i) (named i)
 
 kept_once : (verb : List ℕ) (fields : List (List ℕ)) (m n : ℕ) → SpellsKept verb fields m → SpellsKept verb fields n → m ≡ n
 kept_once verb fields m n x y =
@@ -409,71 +409,193 @@ other_ask fields user other path also key x y =
     let is : codes "create" ≡ codes "zone" = cc in
     absurd (apart (codes "create") (codes "zone") refl is)
 
+-- `restart` with two services
+other_restart : {A : Type 0} (service other : List ℕ) (fields : List (List ℕ)) → (service ≡ other → ⊥) → SpellsRestart service fields → SpellsRestart other fields → A
+other_restart service other fields differ x y =
+    let same : codes "restart" ∷ service ∷ [] ≡ codes "restart" ∷ other ∷ [] = sym x ∙ y in
+    let is : service ≡ other = cc in
+    absurd (differ is)
+
+-- the line of a path has a field more than the line that asks for the zones
+path_is_more : {A : Type 0} (verb : List ℕ) (fields : List (List ℕ)) (user other path : List ℕ) → SpellsPath verb fields user path → SpellsZones fields other → A
+path_is_more verb fields user other path x y = absurd (omega (arith, ap length (sym x.fields_are ∙ y.fields_are)))
+
+zones_once : (fields : List (List ℕ)) (user other : List ℕ) → SpellsZones fields user → SpellsZones fields other → user ≡ other
+zones_once fields user other x y =
+    let same = sym x.fields_are ∙ y.fields_are in
+    let user_field : x.user_field ≡ y.user_field = cc in
+    user_once x.user_field y.user_field user other user_field x.user_is y.user_is
+
 event_once : (fields : List (List ℕ)) (a b : Event) → SpellsEvent fields a → SpellsEvent fields b → a ≡ b
-event_once fields (Kms user c) (Kms other d) x y = kms_once fields user other c d x y
-event_once fields (Kms user c) RestartKms x y = two_verbs fields _ _ (codes "kms") (codes "restart") (apart _ _ refl) x.fields_are y
-event_once fields (Kms user c) (Mkdir other also) x y = two_verbs fields _ _ (codes "kms") (codes "nn") (apart _ _ refl) x.fields_are y.fields_are
-event_once fields (Kms user c) (Info other also) x y = two_verbs fields _ _ (codes "kms") (codes "nn") (apart _ _ refl) x.fields_are y.fields_are
-event_once fields (Kms user c) (AskCreate other also) x y = two_verbs fields _ _ (codes "kms") (codes "ask") (apart _ _ refl) x.fields_are y.fields_are
-event_once fields (Kms user c) (AskZone other also second) x y = two_verbs fields _ _ (codes "kms") (codes "ask") (apart _ _ refl) x.fields_are y.fields_are
-event_once fields (Kms user c) (Draw n) x y = two_verbs fields _ _ (codes "kms") (codes "draw") (apart _ _ refl) x.fields_are y.fields_are
-event_once fields (Kms user c) (Finish n) x y = two_verbs fields _ _ (codes "kms") (codes "finish") (apart _ _ refl) x.fields_are y.fields_are
-event_once fields RestartKms (Kms other d) x y = two_verbs fields _ _ (codes "restart") (codes "kms") (apart _ _ refl) x y.fields_are
-event_once fields RestartKms RestartKms x y = refl
-event_once fields RestartKms (Mkdir other also) x y = two_verbs fields _ _ (codes "restart") (codes "nn") (apart _ _ refl) x y.fields_are
-event_once fields RestartKms (Info other also) x y = two_verbs fields _ _ (codes "restart") (codes "nn") (apart _ _ refl) x y.fields_are
-event_once fields RestartKms (AskCreate other also) x y = two_verbs fields _ _ (codes "restart") (codes "ask") (apart _ _ refl) x y.fields_are
-event_once fields RestartKms (AskZone other also second) x y = two_verbs fields _ _ (codes "restart") (codes "ask") (apart _ _ refl) x y.fields_are
-event_once fields RestartKms (Draw n) x y = two_verbs fields _ _ (codes "restart") (codes "draw") (apart _ _ refl) x y.fields_are
-event_once fields RestartKms (Finish n) x y = two_verbs fields _ _ (codes "restart") (codes "finish") (apart _ _ refl) x y.fields_are
-event_once fields (Mkdir user path) (Kms other d) x y = two_verbs fields _ _ (codes "nn") (codes "kms") (apart _ _ refl) x.fields_are y.fields_are
-event_once fields (Mkdir user path) RestartKms x y = two_verbs fields _ _ (codes "nn") (codes "restart") (apart _ _ refl) x.fields_are y
-event_once fields (Mkdir user path) (Mkdir other also) x y = let same = same_path (codes "mkdir") fields user other path also x y in λ i. Mkdir (same.0 i) (same.1 i)
-event_once fields (Mkdir user path) (Info other also) x y = other_path_verb (codes "mkdir") (codes "info") fields user other path also (apart _ _ refl) x y
-event_once fields (Mkdir user path) (AskCreate other also) x y = two_verbs fields _ _ (codes "nn") (codes "ask") (apart _ _ refl) x.fields_are y.fields_are
-event_once fields (Mkdir user path) (AskZone other also second) x y = two_verbs fields _ _ (codes "nn") (codes "ask") (apart _ _ refl) x.fields_are y.fields_are
-event_once fields (Mkdir user path) (Draw n) x y = two_verbs fields _ _ (codes "nn") (codes "draw") (apart _ _ refl) x.fields_are y.fields_are
-event_once fields (Mkdir user path) (Finish n) x y = two_verbs fields _ _ (codes "nn") (codes "finish") (apart _ _ refl) x.fields_are y.fields_are
-event_once fields (Info user path) (Kms other d) x y = two_verbs fields _ _ (codes "nn") (codes "kms") (apart _ _ refl) x.fields_are y.fields_are
-event_once fields (Info user path) RestartKms x y = two_verbs fields _ _ (codes "nn") (codes "restart") (apart _ _ refl) x.fields_are y
-event_once fields (Info user path) (Mkdir other also) x y = other_path_verb (codes "info") (codes "mkdir") fields user other path also (apart _ _ refl) x y
-event_once fields (Info user path) (Info other also) x y = let same = same_path (codes "info") fields user other path also x y in λ i. Info (same.0 i) (same.1 i)
-event_once fields (Info user path) (AskCreate other also) x y = two_verbs fields _ _ (codes "nn") (codes "ask") (apart _ _ refl) x.fields_are y.fields_are
-event_once fields (Info user path) (AskZone other also second) x y = two_verbs fields _ _ (codes "nn") (codes "ask") (apart _ _ refl) x.fields_are y.fields_are
-event_once fields (Info user path) (Draw n) x y = two_verbs fields _ _ (codes "nn") (codes "draw") (apart _ _ refl) x.fields_are y.fields_are
-event_once fields (Info user path) (Finish n) x y = two_verbs fields _ _ (codes "nn") (codes "finish") (apart _ _ refl) x.fields_are y.fields_are
-event_once fields (AskCreate user path) (Kms other d) x y = two_verbs fields _ _ (codes "ask") (codes "kms") (apart _ _ refl) x.fields_are y.fields_are
-event_once fields (AskCreate user path) RestartKms x y = two_verbs fields _ _ (codes "ask") (codes "restart") (apart _ _ refl) x.fields_are y
-event_once fields (AskCreate user path) (Mkdir other also) x y = two_verbs fields _ _ (codes "ask") (codes "nn") (apart _ _ refl) x.fields_are y.fields_are
-event_once fields (AskCreate user path) (Info other also) x y = two_verbs fields _ _ (codes "ask") (codes "nn") (apart _ _ refl) x.fields_are y.fields_are
-event_once fields (AskCreate user path) (AskCreate other also) x y = ask_create_once fields user other path also x y
-event_once fields (AskCreate user path) (AskZone other also second) x y = other_ask fields user other path also second x y
-event_once fields (AskCreate user path) (Draw n) x y = two_verbs fields _ _ (codes "ask") (codes "draw") (apart _ _ refl) x.fields_are y.fields_are
-event_once fields (AskCreate user path) (Finish n) x y = two_verbs fields _ _ (codes "ask") (codes "finish") (apart _ _ refl) x.fields_are y.fields_are
-event_once fields (AskZone user path key) (Kms other d) x y = two_verbs fields _ _ (codes "ask") (codes "kms") (apart _ _ refl) x.fields_are y.fields_are
-event_once fields (AskZone user path key) RestartKms x y = two_verbs fields _ _ (codes "ask") (codes "restart") (apart _ _ refl) x.fields_are y
-event_once fields (AskZone user path key) (Mkdir other also) x y = two_verbs fields _ _ (codes "ask") (codes "nn") (apart _ _ refl) x.fields_are y.fields_are
-event_once fields (AskZone user path key) (Info other also) x y = two_verbs fields _ _ (codes "ask") (codes "nn") (apart _ _ refl) x.fields_are y.fields_are
-event_once fields (AskZone user path key) (AskCreate other also) x y = other_ask fields other user also path key y x
-event_once fields (AskZone user path key) (AskZone other also second) x y = ask_zone_once fields user other path also key second x y
-event_once fields (AskZone user path key) (Draw n) x y = two_verbs fields _ _ (codes "ask") (codes "draw") (apart _ _ refl) x.fields_are y.fields_are
-event_once fields (AskZone user path key) (Finish n) x y = two_verbs fields _ _ (codes "ask") (codes "finish") (apart _ _ refl) x.fields_are y.fields_are
-event_once fields (Draw m) (Kms other d) x y = two_verbs fields _ _ (codes "draw") (codes "kms") (apart _ _ refl) x.fields_are y.fields_are
-event_once fields (Draw m) RestartKms x y = two_verbs fields _ _ (codes "draw") (codes "restart") (apart _ _ refl) x.fields_are y
-event_once fields (Draw m) (Mkdir other also) x y = two_verbs fields _ _ (codes "draw") (codes "nn") (apart _ _ refl) x.fields_are y.fields_are
-event_once fields (Draw m) (Info other also) x y = two_verbs fields _ _ (codes "draw") (codes "nn") (apart _ _ refl) x.fields_are y.fields_are
-event_once fields (Draw m) (AskCreate other also) x y = two_verbs fields _ _ (codes "draw") (codes "ask") (apart _ _ refl) x.fields_are y.fields_are
-event_once fields (Draw m) (AskZone other also second) x y = two_verbs fields _ _ (codes "draw") (codes "ask") (apart _ _ refl) x.fields_are y.fields_are
-event_once fields (Draw m) (Draw n) x y = ap Draw (kept_once (codes "draw") fields m n x y)
-event_once fields (Draw m) (Finish n) x y = two_verbs fields _ _ (codes "draw") (codes "finish") (apart _ _ refl) x.fields_are y.fields_are
-event_once fields (Finish m) (Kms other d) x y = two_verbs fields _ _ (codes "finish") (codes "kms") (apart _ _ refl) x.fields_are y.fields_are
-event_once fields (Finish m) RestartKms x y = two_verbs fields _ _ (codes "finish") (codes "restart") (apart _ _ refl) x.fields_are y
-event_once fields (Finish m) (Mkdir other also) x y = two_verbs fields _ _ (codes "finish") (codes "nn") (apart _ _ refl) x.fields_are y.fields_are
-event_once fields (Finish m) (Info other also) x y = two_verbs fields _ _ (codes "finish") (codes "nn") (apart _ _ refl) x.fields_are y.fields_are
-event_once fields (Finish m) (AskCreate other also) x y = two_verbs fields _ _ (codes "finish") (codes "ask") (apart _ _ refl) x.fields_are y.fields_are
-event_once fields (Finish m) (AskZone other also second) x y = two_verbs fields _ _ (codes "finish") (codes "ask") (apart _ _ refl) x.fields_are y.fields_are
-event_once fields (Finish m) (Draw n) x y = two_verbs fields _ _ (codes "finish") (codes "draw") (apart _ _ refl) x.fields_are y.fields_are
-event_once fields (Finish m) (Finish n) x y = ap Finish (kept_once (codes "finish") fields m n x y)
+event_once fields (event.Kms user c) (event.Kms other d) x y = kms_once fields user other c d x y
+event_once fields (event.Kms user c) event.RestartKms x y = two_verbs fields _ _ (codes "kms") (codes "restart") (apart _ _ refl) x.fields_are y
+event_once fields (event.Kms user c) event.RestartName x y = two_verbs fields _ _ (codes "kms") (codes "restart") (apart _ _ refl) x.fields_are y
+event_once fields (event.Kms user c) (event.Mkdir other also) x y = two_verbs fields _ _ (codes "kms") (codes "nn") (apart _ _ refl) x.fields_are y.fields_are
+event_once fields (event.Kms user c) (event.Delete other also false) x y = two_verbs fields _ _ (codes "kms") (codes "nn") (apart _ _ refl) x.fields_are y.fields_are
+event_once fields (event.Kms user c) (event.Delete other also true) x y = two_verbs fields _ _ (codes "kms") (codes "nn") (apart _ _ refl) x.fields_are y.fields_are
+event_once fields (event.Kms user c) (event.Info other also) x y = two_verbs fields _ _ (codes "kms") (codes "nn") (apart _ _ refl) x.fields_are y.fields_are
+event_once fields (event.Kms user c) (event.List other also) x y = two_verbs fields _ _ (codes "kms") (codes "nn") (apart _ _ refl) x.fields_are y.fields_are
+event_once fields (event.Kms user c) (event.Zones other) x y = two_verbs fields _ _ (codes "kms") (codes "nn") (apart _ _ refl) x.fields_are y.fields_are
+event_once fields (event.Kms user c) (event.AskCreate other also) x y = two_verbs fields _ _ (codes "kms") (codes "ask") (apart _ _ refl) x.fields_are y.fields_are
+event_once fields (event.Kms user c) (event.AskZone other also second) x y = two_verbs fields _ _ (codes "kms") (codes "ask") (apart _ _ refl) x.fields_are y.fields_are
+event_once fields (event.Kms user c) (event.Draw n) x y = two_verbs fields _ _ (codes "kms") (codes "draw") (apart _ _ refl) x.fields_are y.fields_are
+event_once fields (event.Kms user c) (event.Finish n) x y = two_verbs fields _ _ (codes "kms") (codes "finish") (apart _ _ refl) x.fields_are y.fields_are
+event_once fields event.RestartKms (event.Kms other d) x y = two_verbs fields _ _ (codes "restart") (codes "kms") (apart _ _ refl) x y.fields_are
+event_once fields event.RestartKms event.RestartKms x y = refl
+event_once fields event.RestartKms event.RestartName x y = other_restart (codes "kms") (codes "nn") fields (apart _ _ refl) x y
+event_once fields event.RestartKms (event.Mkdir other also) x y = two_verbs fields _ _ (codes "restart") (codes "nn") (apart _ _ refl) x y.fields_are
+event_once fields event.RestartKms (event.Delete other also false) x y = two_verbs fields _ _ (codes "restart") (codes "nn") (apart _ _ refl) x y.fields_are
+event_once fields event.RestartKms (event.Delete other also true) x y = two_verbs fields _ _ (codes "restart") (codes "nn") (apart _ _ refl) x y.fields_are
+event_once fields event.RestartKms (event.Info other also) x y = two_verbs fields _ _ (codes "restart") (codes "nn") (apart _ _ refl) x y.fields_are
+event_once fields event.RestartKms (event.List other also) x y = two_verbs fields _ _ (codes "restart") (codes "nn") (apart _ _ refl) x y.fields_are
+event_once fields event.RestartKms (event.Zones other) x y = two_verbs fields _ _ (codes "restart") (codes "nn") (apart _ _ refl) x y.fields_are
+event_once fields event.RestartKms (event.AskCreate other also) x y = two_verbs fields _ _ (codes "restart") (codes "ask") (apart _ _ refl) x y.fields_are
+event_once fields event.RestartKms (event.AskZone other also second) x y = two_verbs fields _ _ (codes "restart") (codes "ask") (apart _ _ refl) x y.fields_are
+event_once fields event.RestartKms (event.Draw n) x y = two_verbs fields _ _ (codes "restart") (codes "draw") (apart _ _ refl) x y.fields_are
+event_once fields event.RestartKms (event.Finish n) x y = two_verbs fields _ _ (codes "restart") (codes "finish") (apart _ _ refl) x y.fields_are
+event_once fields event.RestartName (event.Kms other d) x y = two_verbs fields _ _ (codes "restart") (codes "kms") (apart _ _ refl) x y.fields_are
+event_once fields event.RestartName event.RestartKms x y = other_restart (codes "nn") (codes "kms") fields (apart _ _ refl) x y
+event_once fields event.RestartName event.RestartName x y = refl
+event_once fields event.RestartName (event.Mkdir other also) x y = two_verbs fields _ _ (codes "restart") (codes "nn") (apart _ _ refl) x y.fields_are
+event_once fields event.RestartName (event.Delete other also false) x y = two_verbs fields _ _ (codes "restart") (codes "nn") (apart _ _ refl) x y.fields_are
+event_once fields event.RestartName (event.Delete other also true) x y = two_verbs fields _ _ (codes "restart") (codes "nn") (apart _ _ refl) x y.fields_are
+event_once fields event.RestartName (event.Info other also) x y = two_verbs fields _ _ (codes "restart") (codes "nn") (apart _ _ refl) x y.fields_are
+event_once fields event.RestartName (event.List other also) x y = two_verbs fields _ _ (codes "restart") (codes "nn") (apart _ _ refl) x y.fields_are
+event_once fields event.RestartName (event.Zones other) x y = two_verbs fields _ _ (codes "restart") (codes "nn") (apart _ _ refl) x y.fields_are
+event_once fields event.RestartName (event.AskCreate other also) x y = two_verbs fields _ _ (codes "restart") (codes "ask") (apart _ _ refl) x y.fields_are
+event_once fields event.RestartName (event.AskZone other also second) x y = two_verbs fields _ _ (codes "restart") (codes "ask") (apart _ _ refl) x y.fields_are
+event_once fields event.RestartName (event.Draw n) x y = two_verbs fields _ _ (codes "restart") (codes "draw") (apart _ _ refl) x y.fields_are
+event_once fields event.RestartName (event.Finish n) x y = two_verbs fields _ _ (codes "restart") (codes "finish") (apart _ _ refl) x y.fields_are
+event_once fields (event.Mkdir user path) (event.Kms other d) x y = two_verbs fields _ _ (codes "nn") (codes "kms") (apart _ _ refl) x.fields_are y.fields_are
+event_once fields (event.Mkdir user path) event.RestartKms x y = two_verbs fields _ _ (codes "nn") (codes "restart") (apart _ _ refl) x.fields_are y
+event_once fields (event.Mkdir user path) event.RestartName x y = two_verbs fields _ _ (codes "nn") (codes "restart") (apart _ _ refl) x.fields_are y
+event_once fields (event.Mkdir user path) (event.Mkdir other also) x y = let same = same_path (codes "mkdir") fields user other path also x y in λ i. event.Mkdir (same.0 i) (same.1 i)
+event_once fields (event.Mkdir user path) (event.Delete other also false) x y = other_path_verb (codes "mkdir") (codes "delete") fields user other path also (apart _ _ refl) x y
+event_once fields (event.Mkdir user path) (event.Delete other also true) x y = other_path_verb (codes "mkdir") (codes "rdelete") fields user other path also (apart _ _ refl) x y
+event_once fields (event.Mkdir user path) (event.Info other also) x y = other_path_verb (codes "mkdir") (codes "info") fields user other path also (apart _ _ refl) x y
+event_once fields (event.Mkdir user path) (event.List other also) x y = other_path_verb (codes "mkdir") (codes "list") fields user other path also (apart _ _ refl) x y
+event_once fields (event.Mkdir user path) (event.Zones other) x y = path_is_more (codes "mkdir") fields user other path x y
+event_once fields (event.Mkdir user path) (event.AskCreate other also) x y = two_verbs fields _ _ (codes "nn") (codes "ask") (apart _ _ refl) x.fields_are y.fields_are
+event_once fields (event.Mkdir user path) (event.AskZone other also second) x y = two_verbs fields _ _ (codes "nn") (codes "ask") (apart _ _ refl) x.fields_are y.fields_are
+event_once fields (event.Mkdir user path) (event.Draw n) x y = two_verbs fields _ _ (codes "nn") (codes "draw") (apart _ _ refl) x.fields_are y.fields_are
+event_once fields (event.Mkdir user path) (event.Finish n) x y = two_verbs fields _ _ (codes "nn") (codes "finish") (apart _ _ refl) x.fields_are y.fields_are
+event_once fields (event.Delete user path false) (event.Kms other d) x y = two_verbs fields _ _ (codes "nn") (codes "kms") (apart _ _ refl) x.fields_are y.fields_are
+event_once fields (event.Delete user path false) event.RestartKms x y = two_verbs fields _ _ (codes "nn") (codes "restart") (apart _ _ refl) x.fields_are y
+event_once fields (event.Delete user path false) event.RestartName x y = two_verbs fields _ _ (codes "nn") (codes "restart") (apart _ _ refl) x.fields_are y
+event_once fields (event.Delete user path false) (event.Mkdir other also) x y = other_path_verb (codes "delete") (codes "mkdir") fields user other path also (apart _ _ refl) x y
+event_once fields (event.Delete user path false) (event.Delete other also false) x y = let same = same_path (codes "delete") fields user other path also x y in λ i. event.Delete (same.0 i) (same.1 i) false
+event_once fields (event.Delete user path false) (event.Delete other also true) x y = other_path_verb (codes "delete") (codes "rdelete") fields user other path also (apart _ _ refl) x y
+event_once fields (event.Delete user path false) (event.Info other also) x y = other_path_verb (codes "delete") (codes "info") fields user other path also (apart _ _ refl) x y
+event_once fields (event.Delete user path false) (event.List other also) x y = other_path_verb (codes "delete") (codes "list") fields user other path also (apart _ _ refl) x y
+event_once fields (event.Delete user path false) (event.Zones other) x y = path_is_more (codes "delete") fields user other path x y
+event_once fields (event.Delete user path false) (event.AskCreate other also) x y = two_verbs fields _ _ (codes "nn") (codes "ask") (apart _ _ refl) x.fields_are y.fields_are
+event_once fields (event.Delete user path false) (event.AskZone other also second) x y = two_verbs fields _ _ (codes "nn") (codes "ask") (apart _ _ refl) x.fields_are y.fields_are
+event_once fields (event.Delete user path false) (event.Draw n) x y = two_verbs fields _ _ (codes "nn") (codes "draw") (apart _ _ refl) x.fields_are y.fields_are
+event_once fields (event.Delete user path false) (event.Finish n) x y = two_verbs fields _ _ (codes "nn") (codes "finish") (apart _ _ refl) x.fields_are y.fields_are
+event_once fields (event.Delete user path true) (event.Kms other d) x y = two_verbs fields _ _ (codes "nn") (codes "kms") (apart _ _ refl) x.fields_are y.fields_are
+event_once fields (event.Delete user path true) event.RestartKms x y = two_verbs fields _ _ (codes "nn") (codes "restart") (apart _ _ refl) x.fields_are y
+event_once fields (event.Delete user path true) event.RestartName x y = two_verbs fields _ _ (codes "nn") (codes "restart") (apart _ _ refl) x.fields_are y
+event_once fields (event.Delete user path true) (event.Mkdir other also) x y = other_path_verb (codes "rdelete") (codes "mkdir") fields user other path also (apart _ _ refl) x y
+event_once fields (event.Delete user path true) (event.Delete other also false) x y = other_path_verb (codes "rdelete") (codes "delete") fields user other path also (apart _ _ refl) x y
+event_once fields (event.Delete user path true) (event.Delete other also true) x y = let same = same_path (codes "rdelete") fields user other path also x y in λ i. event.Delete (same.0 i) (same.1 i) true
+event_once fields (event.Delete user path true) (event.Info other also) x y = other_path_verb (codes "rdelete") (codes "info") fields user other path also (apart _ _ refl) x y
+event_once fields (event.Delete user path true) (event.List other also) x y = other_path_verb (codes "rdelete") (codes "list") fields user other path also (apart _ _ refl) x y
+event_once fields (event.Delete user path true) (event.Zones other) x y = path_is_more (codes "rdelete") fields user other path x y
+event_once fields (event.Delete user path true) (event.AskCreate other also) x y = two_verbs fields _ _ (codes "nn") (codes "ask") (apart _ _ refl) x.fields_are y.fields_are
+event_once fields (event.Delete user path true) (event.AskZone other also second) x y = two_verbs fields _ _ (codes "nn") (codes "ask") (apart _ _ refl) x.fields_are y.fields_are
+event_once fields (event.Delete user path true) (event.Draw n) x y = two_verbs fields _ _ (codes "nn") (codes "draw") (apart _ _ refl) x.fields_are y.fields_are
+event_once fields (event.Delete user path true) (event.Finish n) x y = two_verbs fields _ _ (codes "nn") (codes "finish") (apart _ _ refl) x.fields_are y.fields_are
+event_once fields (event.Info user path) (event.Kms other d) x y = two_verbs fields _ _ (codes "nn") (codes "kms") (apart _ _ refl) x.fields_are y.fields_are
+event_once fields (event.Info user path) event.RestartKms x y = two_verbs fields _ _ (codes "nn") (codes "restart") (apart _ _ refl) x.fields_are y
+event_once fields (event.Info user path) event.RestartName x y = two_verbs fields _ _ (codes "nn") (codes "restart") (apart _ _ refl) x.fields_are y
+event_once fields (event.Info user path) (event.Mkdir other also) x y = other_path_verb (codes "info") (codes "mkdir") fields user other path also (apart _ _ refl) x y
+event_once fields (event.Info user path) (event.Delete other also false) x y = other_path_verb (codes "info") (codes "delete") fields user other path also (apart _ _ refl) x y
+event_once fields (event.Info user path) (event.Delete other also true) x y = other_path_verb (codes "info") (codes "rdelete") fields user other path also (apart _ _ refl) x y
+event_once fields (event.Info user path) (event.Info other also) x y = let same = same_path (codes "info") fields user other path also x y in λ i. event.Info (same.0 i) (same.1 i)
+event_once fields (event.Info user path) (event.List other also) x y = other_path_verb (codes "info") (codes "list") fields user other path also (apart _ _ refl) x y
+event_once fields (event.Info user path) (event.Zones other) x y = path_is_more (codes "info") fields user other path x y
+event_once fields (event.Info user path) (event.AskCreate other also) x y = two_verbs fields _ _ (codes "nn") (codes "ask") (apart _ _ refl) x.fields_are y.fields_are
+event_once fields (event.Info user path) (event.AskZone other also second) x y = two_verbs fields _ _ (codes "nn") (codes "ask") (apart _ _ refl) x.fields_are y.fields_are
+event_once fields (event.Info user path) (event.Draw n) x y = two_verbs fields _ _ (codes "nn") (codes "draw") (apart _ _ refl) x.fields_are y.fields_are
+event_once fields (event.Info user path) (event.Finish n) x y = two_verbs fields _ _ (codes "nn") (codes "finish") (apart _ _ refl) x.fields_are y.fields_are
+event_once fields (event.List user path) (event.Kms other d) x y = two_verbs fields _ _ (codes "nn") (codes "kms") (apart _ _ refl) x.fields_are y.fields_are
+event_once fields (event.List user path) event.RestartKms x y = two_verbs fields _ _ (codes "nn") (codes "restart") (apart _ _ refl) x.fields_are y
+event_once fields (event.List user path) event.RestartName x y = two_verbs fields _ _ (codes "nn") (codes "restart") (apart _ _ refl) x.fields_are y
+event_once fields (event.List user path) (event.Mkdir other also) x y = other_path_verb (codes "list") (codes "mkdir") fields user other path also (apart _ _ refl) x y
+event_once fields (event.List user path) (event.Delete other also false) x y = other_path_verb (codes "list") (codes "delete") fields user other path also (apart _ _ refl) x y
+event_once fields (event.List user path) (event.Delete other also true) x y = other_path_verb (codes "list") (codes "rdelete") fields user other path also (apart _ _ refl) x y
+event_once fields (event.List user path) (event.Info other also) x y = other_path_verb (codes "list") (codes "info") fields user other path also (apart _ _ refl) x y
+event_once fields (event.List user path) (event.List other also) x y = let same = same_path (codes "list") fields user other path also x y in λ i. event.List (same.0 i) (same.1 i)
+event_once fields (event.List user path) (event.Zones other) x y = path_is_more (codes "list") fields user other path x y
+event_once fields (event.List user path) (event.AskCreate other also) x y = two_verbs fields _ _ (codes "nn") (codes "ask") (apart _ _ refl) x.fields_are y.fields_are
+event_once fields (event.List user path) (event.AskZone other also second) x y = two_verbs fields _ _ (codes "nn") (codes "ask") (apart _ _ refl) x.fields_are y.fields_are
+event_once fields (event.List user path) (event.Draw n) x y = two_verbs fields _ _ (codes "nn") (codes "draw") (apart _ _ refl) x.fields_are y.fields_are
+event_once fields (event.List user path) (event.Finish n) x y = two_verbs fields _ _ (codes "nn") (codes "finish") (apart _ _ refl) x.fields_are y.fields_are
+event_once fields (event.Zones user) (event.Kms other d) x y = two_verbs fields _ _ (codes "nn") (codes "kms") (apart _ _ refl) x.fields_are y.fields_are
+event_once fields (event.Zones user) event.RestartKms x y = two_verbs fields _ _ (codes "nn") (codes "restart") (apart _ _ refl) x.fields_are y
+event_once fields (event.Zones user) event.RestartName x y = two_verbs fields _ _ (codes "nn") (codes "restart") (apart _ _ refl) x.fields_are y
+event_once fields (event.Zones user) (event.Mkdir other also) x y = path_is_more (codes "mkdir") fields other user also y x
+event_once fields (event.Zones user) (event.Delete other also false) x y = path_is_more (codes "delete") fields other user also y x
+event_once fields (event.Zones user) (event.Delete other also true) x y = path_is_more (codes "rdelete") fields other user also y x
+event_once fields (event.Zones user) (event.Info other also) x y = path_is_more (codes "info") fields other user also y x
+event_once fields (event.Zones user) (event.List other also) x y = path_is_more (codes "list") fields other user also y x
+event_once fields (event.Zones user) (event.Zones other) x y = ap event.Zones (zones_once fields user other x y)
+event_once fields (event.Zones user) (event.AskCreate other also) x y = two_verbs fields _ _ (codes "nn") (codes "ask") (apart _ _ refl) x.fields_are y.fields_are
+event_once fields (event.Zones user) (event.AskZone other also second) x y = two_verbs fields _ _ (codes "nn") (codes "ask") (apart _ _ refl) x.fields_are y.fields_are
+event_once fields (event.Zones user) (event.Draw n) x y = two_verbs fields _ _ (codes "nn") (codes "draw") (apart _ _ refl) x.fields_are y.fields_are
+event_once fields (event.Zones user) (event.Finish n) x y = two_verbs fields _ _ (codes "nn") (codes "finish") (apart _ _ refl) x.fields_are y.fields_are
+event_once fields (event.AskCreate user path) (event.Kms other d) x y = two_verbs fields _ _ (codes "ask") (codes "kms") (apart _ _ refl) x.fields_are y.fields_are
+event_once fields (event.AskCreate user path) event.RestartKms x y = two_verbs fields _ _ (codes "ask") (codes "restart") (apart _ _ refl) x.fields_are y
+event_once fields (event.AskCreate user path) event.RestartName x y = two_verbs fields _ _ (codes "ask") (codes "restart") (apart _ _ refl) x.fields_are y
+event_once fields (event.AskCreate user path) (event.Mkdir other also) x y = two_verbs fields _ _ (codes "ask") (codes "nn") (apart _ _ refl) x.fields_are y.fields_are
+event_once fields (event.AskCreate user path) (event.Delete other also false) x y = two_verbs fields _ _ (codes "ask") (codes "nn") (apart _ _ refl) x.fields_are y.fields_are
+event_once fields (event.AskCreate user path) (event.Delete other also true) x y = two_verbs fields _ _ (codes "ask") (codes "nn") (apart _ _ refl) x.fields_are y.fields_are
+event_once fields (event.AskCreate user path) (event.Info other also) x y = two_verbs fields _ _ (codes "ask") (codes "nn") (apart _ _ refl) x.fields_are y.fields_are
+event_once fields (event.AskCreate user path) (event.List other also) x y = two_verbs fields _ _ (codes "ask") (codes "nn") (apart _ _ refl) x.fields_are y.fields_are
+event_once fields (event.AskCreate user path) (event.Zones other) x y = two_verbs fields _ _ (codes "ask") (codes "nn") (apart _ _ refl) x.fields_are y.fields_are
+event_once fields (event.AskCreate user path) (event.AskCreate other also) x y = ask_create_once fields user other path also x y
+event_once fields (event.AskCreate user path) (event.AskZone other also second) x y = other_ask fields user other path also second x y
+event_once fields (event.AskCreate user path) (event.Draw n) x y = two_verbs fields _ _ (codes "ask") (codes "draw") (apart _ _ refl) x.fields_are y.fields_are
+event_once fields (event.AskCreate user path) (event.Finish n) x y = two_verbs fields _ _ (codes "ask") (codes "finish") (apart _ _ refl) x.fields_are y.fields_are
+event_once fields (event.AskZone user path key) (event.Kms other d) x y = two_verbs fields _ _ (codes "ask") (codes "kms") (apart _ _ refl) x.fields_are y.fields_are
+event_once fields (event.AskZone user path key) event.RestartKms x y = two_verbs fields _ _ (codes "ask") (codes "restart") (apart _ _ refl) x.fields_are y
+event_once fields (event.AskZone user path key) event.RestartName x y = two_verbs fields _ _ (codes "ask") (codes "restart") (apart _ _ refl) x.fields_are y
+event_once fields (event.AskZone user path key) (event.Mkdir other also) x y = two_verbs fields _ _ (codes "ask") (codes "nn") (apart _ _ refl) x.fields_are y.fields_are
+event_once fields (event.AskZone user path key) (event.Delete other also false) x y = two_verbs fields _ _ (codes "ask") (codes "nn") (apart _ _ refl) x.fields_are y.fields_are
+event_once fields (event.AskZone user path key) (event.Delete other also true) x y = two_verbs fields _ _ (codes "ask") (codes "nn") (apart _ _ refl) x.fields_are y.fields_are
+event_once fields (event.AskZone user path key) (event.Info other also) x y = two_verbs fields _ _ (codes "ask") (codes "nn") (apart _ _ refl) x.fields_are y.fields_are
+event_once fields (event.AskZone user path key) (event.List other also) x y = two_verbs fields _ _ (codes "ask") (codes "nn") (apart _ _ refl) x.fields_are y.fields_are
+event_once fields (event.AskZone user path key) (event.Zones other) x y = two_verbs fields _ _ (codes "ask") (codes "nn") (apart _ _ refl) x.fields_are y.fields_are
+event_once fields (event.AskZone user path key) (event.AskCreate other also) x y = other_ask fields other user also path key y x
+event_once fields (event.AskZone user path key) (event.AskZone other also second) x y = ask_zone_once fields user other path also key second x y
+event_once fields (event.AskZone user path key) (event.Draw n) x y = two_verbs fields _ _ (codes "ask") (codes "draw") (apart _ _ refl) x.fields_are y.fields_are
+event_once fields (event.AskZone user path key) (event.Finish n) x y = two_verbs fields _ _ (codes "ask") (codes "finish") (apart _ _ refl) x.fields_are y.fields_are
+event_once fields (event.Draw m) (event.Kms other d) x y = two_verbs fields _ _ (codes "draw") (codes "kms") (apart _ _ refl) x.fields_are y.fields_are
+event_once fields (event.Draw m) event.RestartKms x y = two_verbs fields _ _ (codes "draw") (codes "restart") (apart _ _ refl) x.fields_are y
+event_once fields (event.Draw m) event.RestartName x y = two_verbs fields _ _ (codes "draw") (codes "restart") (apart _ _ refl) x.fields_are y
+event_once fields (event.Draw m) (event.Mkdir other also) x y = two_verbs fields _ _ (codes "draw") (codes "nn") (apart _ _ refl) x.fields_are y.fields_are
+event_once fields (event.Draw m) (event.Delete other also false) x y = two_verbs fields _ _ (codes "draw") (codes "nn") (apart _ _ refl) x.fields_are y.fields_are
+event_once fields (event.Draw m) (event.Delete other also true) x y = two_verbs fields _ _ (codes "draw") (codes "nn") (apart _ _ refl) x.fields_are y.fields_are
+event_once fields (event.Draw m) (event.Info other also) x y = two_verbs fields _ _ (codes "draw") (codes "nn") (apart _ _ refl) x.fields_are y.fields_are
+event_once fields (event.Draw m) (event.List other also) x y = two_verbs fields _ _ (codes "draw") (codes "nn") (apart _ _ refl) x.fields_are y.fields_are
+event_once fields (event.Draw m) (event.Zones other) x y = two_verbs fields _ _ (codes "draw") (codes "nn") (apart _ _ refl) x.fields_are y.fields_are
+event_once fields (event.Draw m) (event.AskCreate other also) x y = two_verbs fields _ _ (codes "draw") (codes "ask") (apart _ _ refl) x.fields_are y.fields_are
+event_once fields (event.Draw m) (event.AskZone other also second) x y = two_verbs fields _ _ (codes "draw") (codes "ask") (apart _ _ refl) x.fields_are y.fields_are
+event_once fields (event.Draw m) (event.Draw n) x y = ap event.Draw (kept_once (codes "draw") fields m n x y)
+event_once fields (event.Draw m) (event.Finish n) x y = two_verbs fields _ _ (codes "draw") (codes "finish") (apart _ _ refl) x.fields_are y.fields_are
+event_once fields (event.Finish m) (event.Kms other d) x y = two_verbs fields _ _ (codes "finish") (codes "kms") (apart _ _ refl) x.fields_are y.fields_are
+event_once fields (event.Finish m) event.RestartKms x y = two_verbs fields _ _ (codes "finish") (codes "restart") (apart _ _ refl) x.fields_are y
+event_once fields (event.Finish m) event.RestartName x y = two_verbs fields _ _ (codes "finish") (codes "restart") (apart _ _ refl) x.fields_are y
+event_once fields (event.Finish m) (event.Mkdir other also) x y = two_verbs fields _ _ (codes "finish") (codes "nn") (apart _ _ refl) x.fields_are y.fields_are
+event_once fields (event.Finish m) (event.Delete other also false) x y = two_verbs fields _ _ (codes "finish") (codes "nn") (apart _ _ refl) x.fields_are y.fields_are
+event_once fields (event.Finish m) (event.Delete other also true) x y = two_verbs fields _ _ (codes "finish") (codes "nn") (apart _ _ refl) x.fields_are y.fields_are
+event_once fields (event.Finish m) (event.Info other also) x y = two_verbs fields _ _ (codes "finish") (codes "nn") (apart _ _ refl) x.fields_are y.fields_are
+event_once fields (event.Finish m) (event.List other also) x y = two_verbs fields _ _ (codes "finish") (codes "nn") (apart _ _ refl) x.fields_are y.fields_are
+event_once fields (event.Finish m) (event.Zones other) x y = two_verbs fields _ _ (codes "finish") (codes "nn") (apart _ _ refl) x.fields_are y.fields_are
+event_once fields (event.Finish m) (event.AskCreate other also) x y = two_verbs fields _ _ (codes "finish") (codes "ask") (apart _ _ refl) x.fields_are y.fields_are
+event_once fields (event.Finish m) (event.AskZone other also second) x y = two_verbs fields _ _ (codes "finish") (codes "ask") (apart _ _ refl) x.fields_are y.fields_are
+event_once fields (event.Finish m) (event.Draw n) x y = two_verbs fields _ _ (codes "finish") (codes "draw") (apart _ _ refl) x.fields_are y.fields_are
+event_once fields (event.Finish m) (event.Finish n) x y = ap event.Finish (kept_once (codes "finish") fields m n x y)
 
 pub spelled_once : (line : List ℕ) (a b : Event) → Spells line a → Spells line b → a ≡ b
 spelled_once line a b x y = event_once (fields_of line) a b x.fields y.fields
@@ -487,14 +609,18 @@ pub record Begins (fields : List (List ℕ)) : Type 0 where
   pub no_comment : first ≡ 35 → ⊥
 
 begins : (fields : List (List ℕ)) (event : Event) → SpellsEvent fields event → Begins fields
-begins fields (Kms user call) x = record { first = 107; front = codes "ms"; more = x.user_field ∷ x.call_fields; begin = x.fields_are; no_comment = λ e. omega (arith, e) }
-begins fields RestartKms x = record { first = 114; front = codes "estart"; more = codes "kms" ∷ []; begin = x; no_comment = λ e. omega (arith, e) }
-begins fields (Mkdir user path) x = record { first = 110; front = codes "n"; more = x.user_field ∷ codes "mkdir" ∷ x.path_field ∷ []; begin = x.fields_are; no_comment = λ e. omega (arith, e) }
-begins fields (Info user path) x = record { first = 110; front = codes "n"; more = x.user_field ∷ codes "info" ∷ x.path_field ∷ []; begin = x.fields_are; no_comment = λ e. omega (arith, e) }
-begins fields (AskCreate user path) x = record { first = 97; front = codes "sk"; more = x.user_field ∷ codes "create" ∷ x.path_field ∷ []; begin = x.fields_are; no_comment = λ e. omega (arith, e) }
-begins fields (AskZone user path key) x = record { first = 97; front = codes "sk"; more = x.user_field ∷ codes "zone" ∷ x.path_field ∷ key ∷ []; begin = x.fields_are; no_comment = λ e. omega (arith, e) }
-begins fields (Draw number) x = record { first = 100; front = codes "raw"; more = decimal number ∷ []; begin = x.fields_are; no_comment = λ e. omega (arith, e) }
-begins fields (Finish number) x = record { first = 102; front = codes "inish"; more = decimal number ∷ []; begin = x.fields_are; no_comment = λ e. omega (arith, e) }
+begins fields (event.Kms user call) x = record { first = 107; front = codes "ms"; more = x.user_field ∷ x.call_fields; begin = x.fields_are; no_comment = λ e. omega (arith, e) }
+begins fields event.RestartKms x = record { first = 114; front = codes "estart"; more = codes "kms" ∷ []; begin = x; no_comment = λ e. omega (arith, e) }
+begins fields event.RestartName x = record { first = 114; front = codes "estart"; more = codes "nn" ∷ []; begin = x; no_comment = λ e. omega (arith, e) }
+begins fields (event.Mkdir user path) x = record { first = 110; front = codes "n"; more = x.user_field ∷ codes "mkdir" ∷ x.path_field ∷ []; begin = x.fields_are; no_comment = λ e. omega (arith, e) }
+begins fields (event.Delete user path recursive) x = record { first = 110; front = codes "n"; more = x.user_field ∷ delete_verb recursive ∷ x.path_field ∷ []; begin = x.fields_are; no_comment = λ e. omega (arith, e) }
+begins fields (event.Info user path) x = record { first = 110; front = codes "n"; more = x.user_field ∷ codes "info" ∷ x.path_field ∷ []; begin = x.fields_are; no_comment = λ e. omega (arith, e) }
+begins fields (event.List user path) x = record { first = 110; front = codes "n"; more = x.user_field ∷ codes "list" ∷ x.path_field ∷ []; begin = x.fields_are; no_comment = λ e. omega (arith, e) }
+begins fields (event.Zones user) x = record { first = 110; front = codes "n"; more = x.user_field ∷ codes "zones" ∷ []; begin = x.fields_are; no_comment = λ e. omega (arith, e) }
+begins fields (event.AskCreate user path) x = record { first = 97; front = codes "sk"; more = x.user_field ∷ codes "create" ∷ x.path_field ∷ []; begin = x.fields_are; no_comment = λ e. omega (arith, e) }
+begins fields (event.AskZone user path key) x = record { first = 97; front = codes "sk"; more = x.user_field ∷ codes "zone" ∷ x.path_field ∷ key ∷ []; begin = x.fields_are; no_comment = λ e. omega (arith, e) }
+begins fields (event.Draw number) x = record { first = 100; front = codes "raw"; more = decimal number ∷ []; begin = x.fields_are; no_comment = λ e. omega (arith, e) }
+begins fields (event.Finish number) x = record { first = 102; front = codes "inish"; more = decimal number ∷ []; begin = x.fields_are; no_comment = λ e. omega (arith, e) }
 
 -- the first byte of a line begins its first field
 first_byte : (b c : ℕ) (fields : List (List ℕ)) (more : List ℕ) (rest : List (List ℕ)) → onto_first b fields ≡ (c ∷ more) ∷ rest → b ≡ c

@@ -193,6 +193,17 @@ pub record SpellsPath (verb : List ℕ) (fields : List (List ℕ)) (user path : 
   pub user_is : IsUser user_field user
   pub path_is : IsPath path_field path
 
+-- `nn U zones`
+pub record SpellsZones (fields : List (List ℕ)) (user : List ℕ) : Type 0 where
+  pub user_field : List ℕ
+  pub fields_are : fields ≡ codes "nn" ∷ user_field ∷ codes "zones" ∷ []
+  pub user_is : IsUser user_field user
+
+-- a removal with all below is a verb of its own
+abbrev pub delete_verb : Bool → List ℕ
+delete_verb false = codes "delete"
+delete_verb true = codes "rdelete"
+
 -- `ask U create P`
 pub record SpellsAskCreate (fields : List (List ℕ)) (user path : List ℕ) : Type 0 where
   pub user_field : List ℕ
@@ -215,16 +226,20 @@ pub record SpellsKept (verb : List ℕ) (fields : List (List ℕ)) (number : ℕ
   pub fields_are : fields ≡ verb ∷ decimal number ∷ []
   pub small : number < 2 ^ 32
 
--- `restart kms`
-abbrev pub SpellsRestartKms : List (List ℕ) → Type 0
-SpellsRestartKms fields = fields ≡ codes "restart" ∷ codes "kms" ∷ []
+-- `restart kms` and `restart nn`
+abbrev pub SpellsRestart : List ℕ → List (List ℕ) → Type 0
+SpellsRestart service fields = fields ≡ codes "restart" ∷ service ∷ []
 
 -- the fields of a line spell the event
 abbrev pub SpellsEvent : List (List ℕ) → Event → Type 0
 SpellsEvent fields (event.Kms user call) = SpellsKms fields user call
-SpellsEvent fields event.RestartKms = SpellsRestartKms fields
+SpellsEvent fields event.RestartKms = SpellsRestart (codes "kms") fields
+SpellsEvent fields event.RestartName = SpellsRestart (codes "nn") fields
 SpellsEvent fields (event.Mkdir user path) = SpellsPath (codes "mkdir") fields user path
+SpellsEvent fields (event.Delete user path recursive) = SpellsPath (delete_verb recursive) fields user path
 SpellsEvent fields (event.Info user path) = SpellsPath (codes "info") fields user path
+SpellsEvent fields (event.List user path) = SpellsPath (codes "list") fields user path
+SpellsEvent fields (event.Zones user) = SpellsZones fields user
 SpellsEvent fields (event.AskCreate user path) = SpellsAskCreate fields user path
 SpellsEvent fields (event.AskZone user path key) = SpellsAskZone fields user path key
 SpellsEvent fields (event.Draw ask) = SpellsKept (codes "draw") fields ask
@@ -237,10 +252,12 @@ pub record Spells (line : List ℕ) (event : Event) : Type 0 where
 
 -- the verbs that go with a path, and the event of each
 abbrev pub IsPathVerb : List ℕ → Type 0
-IsPathVerb verb = (verb ≡ codes "mkdir") ⊎ (verb ≡ codes "info")
+IsPathVerb verb = (verb ≡ codes "mkdir") ⊎ (verb ≡ codes "delete") ⊎ (verb ≡ codes "rdelete") ⊎ (verb ≡ codes "info") ⊎ (verb ≡ codes "list")
 
 abbrev pub IsPathEvent : List ℕ → List ℕ → List ℕ → Event → Type 0
-IsPathEvent verb user path e = ((verb ≡ codes "mkdir") × (e ≡ event.Mkdir user path)) ⊎ ((verb ≡ codes "info") × (e ≡ event.Info user path))
+IsPathEvent verb user path e =
+    ((verb ≡ codes "mkdir") × (e ≡ event.Mkdir user path)) ⊎ ((verb ≡ codes "delete") × (e ≡ event.Delete user path false))
+    ⊎ ((verb ≡ codes "rdelete") × (e ≡ event.Delete user path true)) ⊎ ((verb ≡ codes "info") × (e ≡ event.Info user path)) ⊎ ((verb ≡ codes "list") × (e ≡ event.List user path))
 
 -- the line has no byte, or is a comment: its first byte is '#'
 abbrev pub IsQuiet : List ℕ → Type 0

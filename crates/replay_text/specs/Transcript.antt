@@ -1,5 +1,5 @@
 -- The transcript: a line for each event, with its number and its answer.
-use Rattle.std.specs.Prelude.{ℕ, ◌+◌, List, [], ◌∷◌, ◌++◌, codes, Option, None, Some}
+use Rattle.std.specs.Prelude.{ℕ, ◌+◌, Bool, true, false, List, [], ◌∷◌, ◌++◌, codes, Option, None, Some}
 use Rattle.std.specs.Fmt.{decimal}
 use Rattle.std.specs.List.{flat_map}
 use Rattle.hex.specs.Hex.{encode_lower}
@@ -7,7 +7,9 @@ use Rattle.hk_base.specs.declared.names.Edek.{Edek}
 use Rattle.percent_encoding.specs.Percent.{percent_encode}
 use Rattle.hk_base.specs.declared.names.KeyName.{KeyName}
 use Rattle.hk_base.specs.Names.{version_text}
+use Rattle.inode_tree.specs.declared.listing.Child.{Child}
 use Rattle.inode_tree.specs.declared.paths.NPath.{NPath}
+use Rattle.zone_table.specs.declared.list.ZonePath.{ZonePath}
 use Rattle.inode_tree.specs.Paths.{path_text}
 use Rattle.name_core.specs.declared.calls.NameReply.{NameReply}
 use Rattle.name_core.specs.declared.calls.NameReply.TheVariants as name
@@ -74,6 +76,8 @@ name_refusal_text why.ZoneChanged = codes "N17 ZoneChanged"
 name_refusal_text why.TooManyInodes = codes "N20 TooManyInodes"
 name_refusal_text (why.KeyRefused refused) = codes "N21 KeyRefused " ++ refusal_text refused
 name_refusal_text why.NoMemory = codes "N22 NoMemory"
+name_refusal_text why.StoreFault = codes "N23 StoreFault"
+name_refusal_text why.RootOrInside = codes "N25 RootOrInside"
 
 -- a path with the bytes escaped that may not stand for themselves
 abbrev pub escaped_path : NPath → List ℕ
@@ -96,10 +100,24 @@ edek_field (Some edek) = edek_part edek
 abbrev pub row_front : List ℕ → ℕ → Option NPath → List ℕ
 row_front kind id zone = kind ++ decimal id ++ codes " " ++ zone_text zone ++ codes " "
 
+-- a child among others, with a slash behind a directory
+abbrev pub slash_of : Bool → List ℕ
+slash_of false = []
+slash_of true = codes "/"
+
+abbrev pub child_part : Child → List ℕ
+child_part child = codes " " ++ percent_encode ESCAPED child.name ++ slash_of child.directory
+
+-- a zone among others: its path and its key
+abbrev pub zone_part : ZonePath → List ℕ
+zone_part zone = codes " " ++ escaped_path zone.path ++ codes ":" ++ zone.key
+
 abbrev pub name_text : NameReply → List ℕ
 name_text name.Done = codes "done"
 name_text (name.Dir id zone key) = row_front (codes "dir ") id zone ++ key_text key
 name_text (name.File id zone edek) = row_front (codes "file ") id zone ++ edek_field edek
+name_text (name.List children) = codes "list" ++ flat_map child_part children
+name_text (name.Zones zones) = codes "zones" ++ flat_map zone_part zones
 name_text (name.Refused why) = codes "refused " ++ name_refusal_text why
 
 -- the call that an ask wants, and of which key

@@ -1,7 +1,7 @@
 //! Event lines.
 ghost use Rattle.std.specs.Prelude.{◌≡◌, ◌≢◌, ◌≤◌, ◌⊎◌, ◌∷◌, [], ℕ, List, length, codes, IfOk, MatchOption, MatchResult};
 ghost use Rattle.key_rows.specs.declared.calls.KmsCall.{KmsCall};
-ghost use Rattle.replay_text.specs.Events.{IsBad, IsPathEvent, IsPathVerb, IsQuiet, Spells, SpellsEvent, SpellsKms, SpellsPath, SpellsRestartKms, fields_of};
+ghost use Rattle.replay_text.specs.Events.{IsBad, IsPathEvent, IsPathVerb, IsQuiet, Spells, SpellsEvent, SpellsKms, SpellsPath, SpellsRestart, SpellsZones, fields_of};
 ghost use Rattle.world_run.specs.declared.event.Event.{Event};
 ghost use Rattle.world_run.specs.declared.event.Event.TheVariants as event;
 
@@ -54,7 +54,7 @@ fn read_spelled(alloc: Global, line: &[u8]) -> Result<Option<Event>, NoMemory>
         return Ok(read_restart(rest));
     }
     if first == b"nn".as_slice() {
-        return read_path_event(alloc, rest);
+        return read_name_event(alloc, rest);
     }
     if first == b"ask".as_slice() {
         return read_ask(alloc, rest);
@@ -85,9 +85,9 @@ fn read_kms_event(alloc: Global, fields: &[u8]) -> Result<Option<Event>, NoMemor
     Ok(Some(Event::Kms { user, call }))
 }
 
-/// `restart kms`, of which `restart` is read.
+/// `restart kms` or `restart nn`, of which `restart` is read.
 fn read_restart(fields: &[u8]) -> Option<Event>
-    ensures { MatchOption result (¬ SpellsRestartKms (codes "restart" ∷ fields_of fields.now)) (SpellsEvent (codes "restart" ∷ fields_of fields.now)) }
+    ensures { MatchOption result (¬ SpellsRestart (codes "kms") (codes "restart" ∷ fields_of fields.now) × ¬ SpellsRestart (codes "nn") (codes "restart" ∷ fields_of fields.now)) (SpellsEvent (codes "restart" ∷ fields_of fields.now)) }
 {
     let Some(service) = only_field(fields) else {
         return None;
@@ -95,41 +95,59 @@ fn read_restart(fields: &[u8]) -> Option<Event>
     if service == b"kms".as_slice() {
         return Some(Event::RestartKms);
     }
+    if service == b"nn".as_slice() {
+        return Some(Event::RestartName);
+    }
     None
 }
 
-/// The fields of `nn U VERB P`.
-#[derive(Clone, Copy)]
-struct PathFields<'a> {
-    user: &'a [u8],
-    verb: &'a [u8],
-    path: &'a [u8],
-}
-
-/// The fields behind `nn`.
-fn path_fields(fields: &[u8]) -> Option<PathFields<'_>>
-    ensures { MatchOption result ((user verb path : List ℕ) → ¬ (fields_of fields.now ≡ user ∷ verb ∷ path ∷ [])) (λ parts. fields_of fields.now ≡ parts.user.now ∷ parts.verb.now ∷ parts.path.now ∷ []) }
+/// `nn U`, a verb and what the verb takes, of which `nn` is read.
+fn read_name_event(alloc: Global, fields: &[u8]) -> Result<Option<Event>, NoMemory>
+    ensures { IfOk result (λ found. MatchOption found ((event : Event) → ¬ SpellsEvent (codes "nn" ∷ fields_of fields.now) event) (SpellsEvent (codes "nn" ∷ fields_of fields.now))) }
 {
     let (user, rest) = cut(fields);
-    let (verb, rest) = cut(rest?);
-    let path = only_field(rest?)?;
-    Some(PathFields { user, verb, path })
+    let Some(rest) = rest else {
+        return Ok(None);
+    };
+    let (verb, rest) = cut(rest);
+    match rest {
+        None => read_zones(alloc, user, verb),
+        Some(rest) => read_path_event(alloc, user, verb, rest),
+    }
 }
 
-/// `nn U`, a verb and a path, of which `nn` is read.
-fn read_path_event(alloc: Global, fields: &[u8]) -> Result<Option<Event>, NoMemory>
-    ensures { IfOk result (λ found. MatchOption found ((verb user path : List ℕ) → IsPathVerb verb → ¬ SpellsPath verb (codes "nn" ∷ fields_of fields.now) user path) (SpellsEvent (codes "nn" ∷ fields_of fields.now))) }
+/// `nn U zones`, of which all is cut into fields.
+fn read_zones(alloc: Global, user: &[u8], verb: &[u8]) -> Result<Option<Event>, NoMemory>
+    ensures { IfOk result (λ found. MatchOption found ((who : List ℕ) → ¬ SpellsZones (codes "nn" ∷ user.now ∷ verb.now ∷ []) who) (SpellsEvent (codes "nn" ∷ user.now ∷ verb.now ∷ []))) }
 {
-    let Some(parts) = path_fields(fields) else {
+    if verb != b"zones".as_slice() {
+        return Ok(None);
+    }
+    let Some(user) = read_user(alloc, user)? else {
         return Ok(None);
     };
-    let Some(user) = read_user(alloc, parts.user)? else {
+    Ok(Some(Event::Zones { user }))
+}
+
+/// `nn U`, a verb and a path, of which the verb and what stands before it are read.
+fn read_path_event(
+    alloc: Global,
+    user: &[u8],
+    verb: &[u8],
+    fields: &[u8],
+) -> Result<Option<Event>, NoMemory>
+    ensures { IfOk result (λ found. MatchOption found ((word who path : List ℕ) → IsPathVerb word → ¬ SpellsPath word (codes "nn" ∷ user.now ∷ verb.now ∷ fields_of fields.now) who path) (SpellsEvent (codes "nn" ∷ user.now ∷ verb.now ∷ fields_of fields.now))) }
+{
+    let Some(path) = only_field(fields) else {
         return Ok(None);
     };
-    let Some(path) = read_escaped(alloc, parts.path)? else {
+    let Some(user) = read_user(alloc, user)? else {
         return Ok(None);
     };
-    Ok(path_event(parts.verb, user, path))
+    let Some(path) = read_escaped(alloc, path)? else {
+        return Ok(None);
+    };
+    Ok(path_event(verb, user, path))
 }
 
 /// The event of a verb that goes with a path, or `None` where there is no such verb.
@@ -139,8 +157,25 @@ fn path_event(verb: &[u8], user: Text, path: ByteList) -> Option<Event>
     if verb == b"mkdir".as_slice() {
         return Some(Event::Mkdir { user, path });
     }
+    if verb == b"delete".as_slice() {
+        return Some(Event::Delete {
+            user,
+            path,
+            recursive: false,
+        });
+    }
+    if verb == b"rdelete".as_slice() {
+        return Some(Event::Delete {
+            user,
+            path,
+            recursive: true,
+        });
+    }
     if verb == b"info".as_slice() {
         return Some(Event::Info { user, path });
+    }
+    if verb == b"list".as_slice() {
+        return Some(Event::List { user, path });
     }
     None
 }

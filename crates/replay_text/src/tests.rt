@@ -1,6 +1,7 @@
 //! Lines that are read, and answers that are written.
 use crate::{LineFault, read_event, write_line};
 use hk_base::{ByteList, Dek, Edek, Iv, KeyName, NoMemory, Text, VersionName};
+use inode_tree::{Child, ChildList, NPath};
 use key_rows::{
     AclOp, AclTable, Description, KeyMeta, KeyVersion, KmsCall, KmsRefusal, KmsReply, MetaList,
     NameList, RawEdek, VersionList,
@@ -9,6 +10,7 @@ use name_core::{AskNote, NameRefusal, NameReply, Want};
 use std::alloc::Global;
 use std::test::Fail;
 use world_run::{Event, Line};
+use zone_table::{ZoneList, ZonePath};
 
 /// How a line is read: its event and the event's fields, with bars between them.
 fn read(alloc: Global, line: &[u8]) -> Result<ByteList, NoMemory> {
@@ -32,8 +34,19 @@ fn say_event(alloc: Global, event: &Event, out: &mut ByteList) -> Result<(), NoM
             say_call(alloc, call, out)
         }
         Event::RestartKms => out.append(b"restart|kms"),
+        Event::RestartName => out.append(b"restart|nn"),
         Event::Mkdir { user, path } => say_path(b"mkdir|", user, path, out),
+        Event::Delete {
+            user,
+            path,
+            recursive,
+        } => say_delete(user, path, *recursive, out),
         Event::Info { user, path } => say_path(b"info|", user, path, out),
+        Event::List { user, path } => say_path(b"list|", user, path, out),
+        Event::Zones { user } => {
+            out.append(b"zones|")?;
+            out.append(user.as_str().as_bytes())
+        }
         Event::AskCreate { user, path } => say_path(b"ask create|", user, path, out),
         Event::AskZone { user, path, key } => {
             say_path(b"ask zone|", user, path, out)?;
@@ -126,6 +139,18 @@ fn say_path(
     out.append(user.as_str().as_bytes())?;
     out.append(b"|")?;
     out.append(path.as_slice())
+}
+
+fn say_delete(
+    user: &Text,
+    path: &ByteList,
+    recursive: bool,
+    out: &mut ByteList,
+) -> Result<(), NoMemory> {
+    if recursive {
+        return say_path(b"delete with all below|", user, path, out);
+    }
+    say_path(b"delete|", user, path, out)
 }
 
 fn say_key(front: &[u8], key: &KeyName, out: &mut ByteList) -> Result<(), NoMemory> {
@@ -270,10 +295,62 @@ fn lines_of_paths_are_read_in_their_spellings(rt: HostRuntime) -> Result<(), Fai
         ("nn u mkdir /%zz", "bad"),
         ("nn u mkdir /ä", "bad"),
         ("nn u Mkdir /a", "bad"),
-        ("nn u list /a", "bad"),
         ("nn u metadata k", "bad"),
         ("kms u mkdir /a", "bad"),
         ("NN u mkdir /a", "bad"),
+    ];
+    for (line, wanted) in cases {
+        let found = read(rt.alloc(), line.as_bytes()).ok().ok_or("no memory")?;
+        assert_eq!(rt; found.as_slice(), wanted.as_bytes(), "{line}");
+    }
+    Ok(())
+}
+
+#[test]
+fn lines_that_delete_and_list_are_read_in_their_spellings(rt: HostRuntime) -> Result<(), Fail> {
+    let cases = [
+        ("nn a delete /d", "delete|a|/d"),
+        ("nn %61 delete %2Fd%20e", "delete|a|/d e"),
+        ("nn a rdelete /d", "delete with all below|a|/d"),
+        ("nn a delete ", "delete|a|"),
+        ("nn a delete", "bad"),
+        ("nn a rdelete", "bad"),
+        ("nn a delete /d r", "bad"),
+        ("nn a delete  /d", "bad"),
+        ("nn a Delete /d", "bad"),
+        ("nn a rDelete /d", "bad"),
+        ("nn a r delete /d", "bad"),
+        ("nn a delete /d:e", "bad"),
+        ("nn a list /", "list|a|/"),
+        ("nn a list /d%2c", "list|a|/d,"),
+        ("nn a list", "bad"),
+        ("nn a list /d /e", "bad"),
+        ("nn a lists /d", "bad"),
+    ];
+    for (line, wanted) in cases {
+        let found = read(rt.alloc(), line.as_bytes()).ok().ok_or("no memory")?;
+        assert_eq!(rt; found.as_slice(), wanted.as_bytes(), "{line}");
+    }
+    Ok(())
+}
+
+#[test]
+fn the_line_that_asks_for_the_zones_has_one_spelling(rt: HostRuntime) -> Result<(), Fail> {
+    let cases = [
+        ("nn a zones", "zones|a"),
+        ("nn h%64fs zones", "zones|hdfs"),
+        ("nn a zones x", "bad"),
+        ("nn a zones ", "bad"),
+        ("nn a zone", "bad"),
+        ("nn a Zones", "bad"),
+        ("nn zones", "bad"),
+        ("nn  zones", "bad"),
+        ("nn a  zones", "bad"),
+        ("nn a:b zones", "bad"),
+        ("nn %ff zones", "bad"),
+        ("nn a", "bad"),
+        ("nn", "bad"),
+        ("kms a zones", "bad"),
     ];
     for (line, wanted) in cases {
         let found = read(rt.alloc(), line.as_bytes()).ok().ok_or("no memory")?;
@@ -322,7 +399,12 @@ fn a_restart_has_one_spelling(rt: HostRuntime) -> Result<(), Fail> {
         ("restart  kms", "bad"),
         ("restart kms k", "bad"),
         ("restart km%73", "bad"),
-        ("restart nn", "bad"),
+        ("restart nn", "restart|nn"),
+        ("restart nn ", "bad"),
+        ("restart nn x", "bad"),
+        ("restart kms nn", "bad"),
+        ("restart Nn", "bad"),
+        ("restart n", "bad"),
         ("restartkms", "bad"),
         ("Restart kms", "bad"),
         (" restart kms", "bad"),
@@ -432,6 +514,62 @@ fn replied(reply: Option<KmsReply>) -> Line {
     Line::Replied { number: 3, reply }
 }
 
+/// Two files and two directories, of which some have bytes in their names that are escaped.
+fn children(alloc: Global) -> Result<ChildList, NoMemory> {
+    let mut children = ChildList::new(alloc);
+    for (name, directory) in [
+        ("a", false),
+        ("b", true),
+        ("c d,%", false),
+        ("\u{e9}\u{7f}", true),
+    ] {
+        let name = Text::from_utf8(Vec::from_slice(alloc, name.as_bytes())?);
+        if let Some(name) = name {
+            children.push(Child { name, directory })?;
+        }
+    }
+    Ok(children)
+}
+
+/// A zone in the root, and one in a directory.
+fn zones(alloc: Global) -> Result<ZoneList, NoMemory> {
+    let mut zones = ZoneList::new(alloc);
+    for (path, key) in [("/", "k"), ("/d/x y", "l.m")] {
+        let path = NPath::read(alloc, path.as_bytes()).ok();
+        let key = KeyName::read(key.as_bytes());
+        if let (Some(path), Some(key)) = (path, key) {
+            zones.push(ZonePath { path, key })?;
+        }
+    }
+    Ok(zones)
+}
+
+#[test]
+fn lists_of_children_and_of_zones_are_written(rt: HostRuntime) -> Result<(), Fail> {
+    let alloc = rt.alloc();
+    let cases = [
+        (NameReply::List(ChildList::new(alloc)), "7 list\n"),
+        (
+            NameReply::List(children(alloc).ok().ok_or("no memory")?),
+            "7 list a b/ c%20d%2C%25 %C3%A9%7F/\n",
+        ),
+        (NameReply::Zones(ZoneList::new(alloc)), "7 zones\n"),
+        (
+            NameReply::Zones(zones(alloc).ok().ok_or("no memory")?),
+            "7 zones /:k /d/x%20y:l.m\n",
+        ),
+        (
+            NameReply::Refused(NameRefusal::RootOrInside),
+            "7 refused N25 RootOrInside\n",
+        ),
+    ];
+    for (reply, wanted) in cases {
+        let found = written(alloc, &Line::Name(reply)).ok().ok_or("no memory")?;
+        assert_eq!(rt; found.as_slice(), wanted.as_bytes());
+    }
+    Ok(())
+}
+
 #[test]
 fn refusals_of_asks_are_written(rt: HostRuntime) -> Result<(), Fail> {
     let cases = [
@@ -451,6 +589,8 @@ fn refusals_of_asks_are_written(rt: HostRuntime) -> Result<(), Fail> {
             "7 refused N21 KeyRefused K4 NoSuchKey\n",
         ),
         (NameRefusal::NoMemory, "7 refused N22 NoMemory\n"),
+        (NameRefusal::StoreFault, "7 refused N23 StoreFault\n"),
+        (NameRefusal::RootOrInside, "7 refused N25 RootOrInside\n"),
     ];
     for (why, wanted) in cases {
         let found = written(rt.alloc(), &Line::Refused(why))

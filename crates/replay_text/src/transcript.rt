@@ -3,17 +3,20 @@ ghost use Rattle.std.specs.Prelude.{◌≡◌, ◌++◌, OnOk, codes};
 ghost use Rattle.std.specs.Fmt.{decimal};
 ghost use Rattle.std.specs.List.{flat_map};
 ghost use Rattle.hex.specs.Hex.{encode_lower};
+ghost use Rattle.percent_encoding.specs.Percent.{percent_encode};
+ghost use Rattle.replay_text.specs.declared.transcript.TheConstants.{ESCAPED};
 ghost use Rattle.key_rows.specs.Refusals.{refusal_text};
-ghost use Rattle.replay_text.specs.Transcript.{answer_text, edek_field, edek_part, edek_text, escaped_path, kept_text, key_text, line_text, material_text, meta_part, meta_text, name_part, name_refusal_text, name_text, row_front, shown_part, told_text, want_text, zone_text};
+ghost use Rattle.replay_text.specs.Transcript.{answer_text, child_part, edek_field, edek_part, edek_text, escaped_path, kept_text, key_text, line_text, material_text, meta_part, meta_text, name_part, name_refusal_text, name_text, row_front, shown_part, told_text, want_text, zone_part, zone_text};
 
 use hk_base::{ByteList, Dek, Edek, KeyName, NoMemory};
-use inode_tree::NPath;
+use inode_tree::{Child, NPath};
 use itoa::Buffer;
 use key_rows::{KeyMeta, KeyVersion, KmsRefusal, KmsReply};
 use name_core::{AskNote, NameRefusal, NameReply, Want};
 use percent_encoding::{AsciiSet, CONTROLS, percent_encode};
 use std::alloc::Global;
 use world_run::Line;
+use zone_table::ZonePath;
 
 /// The bytes of a path that may not stand for themselves, besides those that are not ASCII.
 pub const ESCAPED: AsciiSet = percent_encoding::ascii_set!(
@@ -131,6 +134,14 @@ fn write_name_reply(alloc: Global, reply: &NameReply, out: &mut ByteList) -> Res
             write_row(alloc, b"file ", *id, zone, out)?;
             write_edek_field(alloc, edek, out)
         }
+        NameReply::List(children) => {
+            out.append(b"list")?;
+            write_children(alloc, children.as_slice(), out)
+        }
+        NameReply::Zones(zones) => {
+            out.append(b"zones")?;
+            write_zones(alloc, zones.as_slice(), out)
+        }
         NameReply::Refused(why) => write_refused(why, out),
     }
 }
@@ -166,9 +177,56 @@ fn write_path(alloc: Global, path: &NPath, out: &mut ByteList) -> Result<(), NoM
 {
     let mut bytes = ByteList::new(alloc);
     path.write(&mut bytes)?;
+    write_escaped(alloc, bytes.as_slice(), out)
+}
+
+/// Bytes of a path, of which those are escaped that may not stand for themselves.
+fn write_escaped(alloc: Global, bytes: &[u8], out: &mut ByteList) -> Result<(), NoMemory>
+    ensures { OnOk result (out.new ≡ out.old ++ percent_encode ESCAPED bytes.now) }
+{
     let mut text = String::new(alloc);
-    percent_encode(bytes.as_slice(), ESCAPED).append_to(&mut text)?;
+    percent_encode(bytes, ESCAPED).append_to(&mut text)?;
     out.append(text.as_bytes())
+}
+
+fn write_children(alloc: Global, children: &[Child], out: &mut ByteList) -> Result<(), NoMemory>
+    ensures { OnOk result (out.new ≡ out.old ++ flat_map child_part children.now) }
+{
+    'children: for child in children {
+        write_child(alloc, child, out)?;
+    }
+    Ok(())
+}
+
+/// A child among others, with a slash behind a directory.
+fn write_child(alloc: Global, child: &Child, out: &mut ByteList) -> Result<(), NoMemory>
+    ensures { OnOk result (out.new ≡ out.old ++ child_part child.now) }
+{
+    out.push(b' ')?;
+    write_escaped(alloc, child.name.as_str().as_bytes(), out)?;
+    if child.directory {
+        return out.push(b'/');
+    }
+    Ok(())
+}
+
+fn write_zones(alloc: Global, zones: &[ZonePath], out: &mut ByteList) -> Result<(), NoMemory>
+    ensures { OnOk result (out.new ≡ out.old ++ flat_map zone_part zones.now) }
+{
+    'zones: for zone in zones {
+        write_zone_part(alloc, zone, out)?;
+    }
+    Ok(())
+}
+
+/// A zone among others: its path and its key.
+fn write_zone_part(alloc: Global, zone: &ZonePath, out: &mut ByteList) -> Result<(), NoMemory>
+    ensures { OnOk result (out.new ≡ out.old ++ zone_part zone.now) }
+{
+    out.push(b' ')?;
+    write_path(alloc, &zone.path, out)?;
+    out.push(b':')?;
+    out.append(zone.key.as_bytes())
 }
 
 fn write_key_name(key: &Option<KeyName>, out: &mut ByteList) -> Result<(), NoMemory>
@@ -205,6 +263,8 @@ fn write_name_refusal(why: &NameRefusal, out: &mut ByteList) -> Result<(), NoMem
         NameRefusal::TooManyInodes => out.append(b"N20 TooManyInodes"),
         NameRefusal::KeyRefused(refused) => write_key_refused(refused, out),
         NameRefusal::NoMemory => out.append(b"N22 NoMemory"),
+        NameRefusal::StoreFault => out.append(b"N23 StoreFault"),
+        NameRefusal::RootOrInside => out.append(b"N25 RootOrInside"),
     }
 }
 
