@@ -1,5 +1,5 @@
 -- A call that happens to the services.
-use Rattle.std.proofs.Common.{◌≡◌, ℕ, List, ◌++◌, Ok, Err, sym, ap, subst}
+use Rattle.std.proofs.Common.{◌≡◌, ℕ, List, Ok, Err, sym, ap, subst}
 use Rattle.std.specs.Prelude.{IsTrue, MatchResult, Result}
 use Rattle.hk_base.specs.Disk.{DiskState}
 use Rattle.key_rows.specs.declared.calls.KmsCall.{KmsCall}
@@ -10,21 +10,22 @@ use Rattle.world_run.specs.declared.event.Event.TheVariants as event
 use Rattle.world_run.specs.declared.event.Line.{Line}
 use Rattle.world_run.specs.declared.event.Line.TheVariants as line
 use Rattle.world_run.specs.declared.event.WorldFault.{WorldFault}
-use Rattle.world_run.specs.Keeps.{Fails, Steps}
+use Rattle.world_run.specs.Acknowledged.{RunBoth, also}
+use Rattle.world_run.specs.Keeps.{Begins, Fails, Steps}
 use Rattle.hk_serve.specs.Worlds.{Happens, IsReady, WorldView}
 
 -- what an event of a call is answered
 abbrev pub Told : {D W : Type 0} → (D → DiskState) → (W → ℕ → ℕ) → WorldView D W → ℕ → List ℕ → KmsCall → WorldView D W → Result Line WorldFault → Type 0
 Told state to_come v now user asked v' told = MatchResult told
     (λ (answer : Line). (lines : List PropLine) → ListsFor v.world.keys.acls lines → Steps lines (state v.disk) (state v'.disk) v.world (to_come v.words) now (event.Kms user asked) answer v'.world (to_come v'.words))
-    (λ (fault : WorldFault). (fault.file ≡ 0) × Fails (state v.disk) (state v'.disk) v.world (to_come v.words) (event.Kms user asked) fault.fault v'.world (to_come v'.words))
+    (λ (fault : WorldFault). Fails (state v.disk) (state v'.disk) v.world (to_come v.words) (event.Kms user asked) fault.file fault.fault v'.world (to_come v'.words))
 
 -- it is a reply
 pub told_reply : {D W : Type 0} (state : D → DiskState) (to_come : W → ℕ → ℕ) (v v' : WorldView D W) (now : ℕ) (user : List ℕ) (asked : KmsCall) (told : Result Line WorldFault) → IsReady state v → Told state to_come v now user asked v' told → (reply : KmsReply) × (told ≡ Ok (line.Kms reply))
 told_reply state to_come v v' now user asked (Ok answer) ready happened =
     let acts = (happened ready.lines ready.lists).step.step in
     (acts.reply, ap (λ (l : Line). Ok l) acts.told_is)
-told_reply state to_come v v' now user asked (Err fault) ready happened = let restart = happened.1.fails.is_restart in absurd cc
+told_reply state to_come v v' now user asked (Err fault) ready happened = absurd happened.restart
 
 pub happens : {D W : Type 0} (state : D → DiskState) (to_come : W → ℕ → ℕ) (v v' : WorldView D W) (now : ℕ) (user : List ℕ) (asked : KmsCall) (told : Result Line WorldFault) (reply : KmsReply) → Told state to_come v now user asked v' told → told ≡ Ok (line.Kms reply) → Happens state to_come v user asked reply v'
 happens state to_come v v' now user asked told reply happened is = record {
@@ -41,5 +42,13 @@ ready_after state to_come v v' user asked reply ready happened =
       stands = λ tells.
           let told_before = subst (λ b. IsTrue b) s.run.tells tells in
           let here = ready.stands told_before in
-          (here.0 ++ s.logged, s.stands told_before here.0 here.1);
+          (also here.0 s.logged, s.stands told_before here.0 here.1);
     }
+
+-- services that were started on a disk may be asked
+pub ready_at_start : {D W : Type 0} (state : D → DiskState) (old : DiskState) (v : WorldView D W) (lines : List PropLine) → RunBoth old (state v.disk) → ListsFor v.world.keys.acls lines → Begins old (state v.disk) v.world → IsReady state v
+ready_at_start state old v lines run lists began = record {
+  lines = lines;
+  lists = lists;
+  stands = λ tells. (_, (began.log (subst (λ b. IsTrue b) run.tells tells)).holds);
+}

@@ -3,12 +3,11 @@ use Rattle.std.specs.Prelude.{ℕ, List}
 use Rattle.hk_base.specs.Disk.{DiskState, Tells}
 use Rattle.key_rows.specs.declared.calls.KmsCall.{KmsCall}
 use Rattle.key_rows.specs.declared.calls.KmsReply.{KmsReply}
-use Rattle.key_rows.specs.declared.rows.KeyCommand.{KeyCommand}
 use Rattle.kms_acls.specs.StandsFor.{StandsFor as ListsFor}
-use Rattle.kms_store.specs.Store.{StandsFor}
 use Rattle.prop_text.specs.declared.lines.PropLine.{PropLine}
 use Rattle.world_run.specs.declared.event.Event.TheVariants as event
 use Rattle.world_run.specs.declared.event.Line.TheVariants as line
+use Rattle.world_run.specs.Acknowledged.{Acknowledged, HoldsLogs}
 use Rattle.world_run.specs.Keeps.{Steps}
 use Rattle.world_run.specs.World.{RunningWorld}
 
@@ -18,12 +17,12 @@ pub record WorldView (D W : Type 0) : Type 0 where
   pub world : RunningWorld
   pub words : W
 
--- The services may be asked: their lists are those of some lines, and where the disk tells, the key log stands for
--- some commands.
+-- The services may be asked: their lists are those of some lines, and where the disk tells, both files are their logs,
+-- of some acknowledged records.
 pub record IsReady {D W : Type 0} (state : D → DiskState) (v : WorldView D W) : Type 0 where
   pub lines : List PropLine
   pub lists : ListsFor v.world.keys.acls lines
-  pub stands : Tells (state v.disk) → (commands : List KeyCommand) × StandsFor (state v.disk) v.world.keys.store commands
+  pub stands : Tells (state v.disk) → (done : Acknowledged) × HoldsLogs (state v.disk) v.world done
 
 -- A call of a user happens to the services as an event, at some moment, under whatever lines their lists are of.
 pub record Happens {D W : Type 0} (state : D → DiskState) (to_come : W → ℕ → ℕ) (v : WorldView D W) (user : List ℕ) (asked : KmsCall) (reply : KmsReply) (v' : WorldView D W) : Type 0 where

@@ -358,8 +358,15 @@ fn serve_text(rt: &impl Abort, alloc: Global, text: &str) -> (Ended, Vec<u8>) {
     let mut clock = Noon;
     let mut source = source(rt, alloc, text.as_bytes(), 4096, &[]);
     let mut sink = sink(rt, alloc, 4096, &[]);
-    let mut desk = WorldDesk::new(&mut world, &mut disk, &mut words, &mut clock);
-    let ended = serve_conn(alloc, &mut source, &mut sink, &mut desk);
+    let ended = serve_world(
+        alloc,
+        &mut source,
+        &mut sink,
+        &mut world,
+        &mut disk,
+        &mut words,
+        &mut clock,
+    );
     (ended, sink.into_vec())
 }
 
