@@ -9,7 +9,7 @@ pub(crate) const PROGRAM: &str = "Hadoop key management server for HDFS encrypti
 /// What both commands have in common: their files and their statuses.
 pub(crate) const PROGRAM_NOTES: &str = "Both commands use these files of the current folder:
   keys.log             the keys; a change is written here before it is answered
-  names.log            the log of the namesystem
+  names.log            directories, files and zones, written in the same way
   kms-acls.properties  access control lists: who may do what with which key
 A log that is missing is made, for its owner alone to read. Where there is no
 kms-acls.properties, everybody may do everything. One process at a time can use

@@ -62,7 +62,7 @@ fn help_of_the_program_names_commands_files_and_statuses(rt: HostRuntime) {
         "  -h, --help     Print help",
         "  -V, --version  Print version",
         "  keys.log             the keys; a change is written here before it is answered",
-        "  names.log            the log of the namesystem",
+        "  names.log            directories, files and zones, written in the same way",
         "  kms-acls.properties  access control lists: who may do what with which key",
         "   2  the command line has a mistake; nothing was read, and no log was made",
     ];
