@@ -1,5 +1,5 @@
 -- How a replay stops.
-use Rattle.std.proofs.Common.{◌≡◌, inl, inr, ℕ, ◌+◌, ◌<◌, ◌≤◌, ◌^◌, Bool, true, false, List, [], ◌∷◌, ◌++◌, length, take, refl, ap, sym, ◌∙◌, subst, IsTrue, Option, None, Some, arith, append_assoc, append-nil, length-append}
+use Rattle.std.proofs.Common.{◌≡◌, ◌⊎◌, ⊎_elim, inl, inr, ℕ, zero, suc, ◌+◌, ◌<◌, ◌≤◌, ◌^◌, Bool, true, false, List, [], ◌∷◌, ◌++◌, length, take, refl, ap, sym, ◌∙◌, subst, IsTrue, Option, None, Some, arith, append_assoc, append-nil, length-append}
 use Rattle.std.specs.List.{list_all, count_by}
 use Rattle.std.specs.Io.KnownBytes.{Appends, Consumes, IsAtEnd, prepend_known}
 use Rattle.std.proofs.KnownBytes.{Appends-trans, Consumes-trans}
@@ -9,11 +9,13 @@ use Rattle.hk_base.specs.Faults.{Rose}
 use Rattle.hk_base.specs.Reading.{IsMore}
 use Rattle.frame_log.specs.declared.fault.StartFault.{StartFault}
 use Rattle.frame_log.specs.declared.fault.StartFault.TheVariants as start
-use Rattle.key_rows.specs.declared.rows.KeyCommand.{KeyCommand}
-use Rattle.kms_core.proofs.ServiceLemmas.{joined}
-use Rattle.kms_store.specs.Store.{StandsFor}
 use Rattle.prop_text.specs.declared.lines.PropLine.{PropLine}
 use Rattle.replay_text.specs.Events.{IsBad, longest_line}
+use Rattle.world_run.specs.declared.event.Event.{Event}
+use Rattle.world_run.specs.declared.event.Event.TheVariants as event
+use Rattle.world_run.specs.declared.event.WorldFault.{WorldFault}
+use Rattle.world_run.specs.Acknowledged.{Acknowledged, HoldsLogs, Survives, also}
+use Rattle.world_run.specs.Keeps.{is_restart, last_opening}
 use Rattle.world_run.specs.World.{WorldState, world_of}
 use Rattle.hkms_tool.specs.declared.lines.Got.{Got}
 use Rattle.hkms_tool.specs.declared.lines.Got.TheVariants as got
@@ -22,10 +24,11 @@ use Rattle.hkms_tool.specs.declared.replay.Ended.TheVariants as ended
 use Rattle.hkms_tool.specs.declared.stage.Play.{Play}
 use Rattle.hkms_tool.specs.declared.stage.Play.TheVariants.{Played, BadLine, Unread, Untold, Unwritten, Unopened}
 use Rattle.hkms_tool.specs.Lines.{is_line, is_lf, lines_of, text_of}
-use Rattle.hkms_tool.specs.Run.{Happened, History, IsRefused, events_in, events_of, lines_in, logged_in, told_of, transcript, world_after}
-use Rattle.hkms_tool.specs.Replay.{BadNext, HasProperties, IsTold, ReadsAs, ReadsAt, RestartStops, Starts, Stops, ended_by, longest_input}
+use Rattle.hkms_tool.specs.Run.{Happened, History, events_in, hidden_in, lines_in, logged_in, told_of, transcript, world_after}
+use Rattle.hkms_tool.specs.Replay.{BadNext, HasProperties, IsSpent, IsTold, NextSpells, ReadsAs, ReadsAt, RestartStops, Starts, Stops, ended_by, longest_input}
 use Rattle.hkms_tool.specs.Steps.{Caused, HasLists, LinePlayed, Next, NextSo, PlaysLine, PlaysSo, Ran, Read, Stand, StopsAtRestart, StopsReading, Untouched, View, counts, end_of_play}
-use Rattle.hkms_tool.proofs.HistoryLemmas.{Begin, Course, SoFar, course_line, course_line_is, course_untouched, course_untouched_is, has_lists, moments_on, so_far_line, tells_now}
+use Rattle.hkms_tool.proofs.HistoryLemmas.{Begin, Course, SoFar, course_line, course_line_is, course_untouched, course_untouched_is, so_far_line}
+use Rattle.hkms_tool.proofs.LivedLemmas.{Lived, has_lists, leaves_on, run_on, sound_last, survives_last, tells_now, weaker}
 use Rattle.hkms_tool.proofs.SplitLemmas.{split_text, split_last, split_on, split_ended, parts, count_lf}
 
 -- the lines of the input
@@ -78,18 +81,18 @@ too_long_is_bad (b ∷ bs) long = record {
   no_event = λ event spells. absurd (omega (arith, spells.short));
 }
 
-too_long : (left before ahead : Option (List ℕ)) (lines : List (List ℕ)) (line : List ℕ) (events : ℕ) → IsAhead left before lines → is_line line ≡ true → Consumes before ahead line → length line ≡ 1048577
-    → (all : List ℕ) → left ≡ Some all → BadNext all lines events
-too_long left before ahead lines line events so is consumed long all told =
+too_long : (left before ahead : Option (List ℕ)) (lines : List (List ℕ)) (line : List ℕ) → IsAhead left before lines → is_line line ≡ true → Consumes before ahead line → length line ≡ 1048577
+    → (all : List ℕ) → left ≡ Some all → BadNext all lines
+too_long left before ahead lines line so is consumed long all told =
     let rest = after_text left ahead _ (Consumes-trans left before ahead _ _ so.consumed consumed) all told in
     let more = parts rest.0 in
     let split : lines_of all ≡ lines ++ (line ++ more.0) ∷ more.1 =
     ap lines_of (rest.2 ∙ append_assoc (text_of lines) line rest.0) ∙ split_text lines (line ++ rest.0) so.whole ∙ ap (λ l. lines ++ l) (split_on line rest.0 more.0 more.1 is more.2) in
-    inl (line ++ more.0, more.1, split, inl (too_long_is_bad (line ++ more.0) (omega (arith, length-append line more.0))))
+    inl (line ++ more.0, more.1, split, too_long_is_bad (line ++ more.0) (omega (arith, length-append line more.0)))
 
-past : (left before ahead : Option (List ℕ)) (lines : List (List ℕ)) (line : List ℕ) (events used0 used : ℕ) → IsAhead left before lines → is_line line ≡ true → Consumes before ahead line → used0 ≡ length (text_of lines)
-    → used ≡ used0 + length line → used ≡ 2 ^ 40 → IsMore ahead → (all : List ℕ) → left ≡ Some all → BadNext all lines events
-past left before ahead lines line events used0 used so is consumed used0_is used_is long more all told =
+past : (left before ahead : Option (List ℕ)) (lines : List (List ℕ)) (line : List ℕ) (used0 used : ℕ) → IsAhead left before lines → is_line line ≡ true → Consumes before ahead line → used0 ≡ length (text_of lines)
+    → used ≡ used0 + length line → used ≡ 2 ^ 40 → IsMore ahead → (all : List ℕ) → left ≡ Some all → BadNext all lines
+past left before ahead lines line used0 used so is consumed used0_is used_is long more all told =
     let rest = after_text left ahead _ (Consumes-trans left before ahead _ _ so.consumed consumed) all told in
     let front = text_of lines ++ line in
     let some : 0 < length rest.0 = subst IsMore rest.1 more in
@@ -104,19 +107,20 @@ past left before ahead lines line events used0 used so is consumed used0_is used
 
 -- where the replay stops
 
-reads_at : (stop : Ended) (d : DiskState) (commands : List KeyCommand) (w : WorldState) → ReadsAs d commands w → ReadsAt stop d commands w
-reads_at ended.Done d commands w r = r
-reads_at (ended.AclRefused number) d commands w r = r
-reads_at (ended.AclRepeated number) d commands w r = r
-reads_at (ended.AclUnknown number) d commands w r = r
-reads_at ended.AclTooLong d commands w r = r
-reads_at ended.BadLine d commands w r = r
-reads_at (ended.Damaged at) d commands w r = tt
-reads_at ended.StoreFault d commands w r = tt
-reads_at ended.NoMemory d commands w r = tt
-reads_at ended.ReadFault d commands w r = r
-reads_at ended.WriteFault d commands w r = r
-reads_at ended.Spent d commands w r = tt
+reads_at : (stop : Ended) (d : DiskState) (done : Acknowledged) (w : WorldState) → ReadsAs d done w → ReadsAt stop d done w
+reads_at ended.Done d done w r = r
+reads_at (ended.AclRefused number) d done w r = r
+reads_at (ended.AclRepeated number) d done w r = r
+reads_at (ended.AclUnknown number) d done w r = r
+reads_at ended.AclTooLong d done w r = r
+reads_at ended.BadLine d done w r = r
+reads_at (ended.DamagedKeys at) d done w r = tt
+reads_at (ended.DamagedNames at) d done w r = tt
+reads_at ended.StoreFault d done w r = tt
+reads_at ended.NoMemory d done w r = tt
+reads_at ended.ReadFault d done w r = r
+reads_at ended.WriteFault d done w r = r
+reads_at ended.Spent d done w r = tt
 
 -- a front of the transcript that is all of it
 all_told : (stop : Ended) (text told : List ℕ) → text ≡ told → IsTold stop text told
@@ -126,7 +130,8 @@ all_told (ended.AclRepeated number) text told is = is
 all_told (ended.AclUnknown number) text told is = is
 all_told ended.AclTooLong text told is = is
 all_told ended.BadLine text told is = is
-all_told (ended.Damaged at) text told is = is
+all_told (ended.DamagedKeys at) text told is = is
+all_told (ended.DamagedNames at) text told is = is
 all_told ended.StoreFault text told is = is
 all_told ended.NoMemory text told is = ([], append-nil text ∙ is)
 all_told ended.ReadFault text told is = is
@@ -138,21 +143,24 @@ IsPlain : Ended → Type 0
 IsPlain stop = ((w : WorldState) → RestartStops stop w) × HasProperties stop
 
 ran : (props : List PropLine) (old new : DiskState) (b : Begin) (v : View) (count : ℕ) (stop : Ended) (so : Course props old new b v count) (h : History) → so.history ≡ h → (text : List ℕ) (now : Option (List ℕ)) → IsPlain stop
-    → Appends b.written now text → IsTold stop text (transcript h) → ((all : List ℕ) → b.left ≡ Some all → Stops stop all (lines_in h) (events_in h))
+    → Appends b.written now text → IsTold stop text (transcript h) → ((all : List ℕ) → b.left ≡ Some all → Stops stop all (lines_in h))
     → Ran props old new b.world b.words b.left b.written now stop count
 unfolding IsPlain
 ran props old new b v count stop so h is text now plain wrote told here = record {
   history = so.history;
   runs = so.runs;
-  files_open = so.files_open;
-  kept = λ tells commands stands. record {
-    moments = so.moments tells commands stands;
-    reads = reads_at stop new (commands ++ logged_in so.history) (world_after (world_of b.world) so.history) (v.world, so.world_is, so.stands tells commands stands);
+  kept = λ tells done holds. record {
+    moments = so.lived.survives tells done holds;
+    reads = reads_at stop new (also done (logged_in so.history)) (world_after (world_of b.world) so.history) (v.world, so.lived.world_is, so.lived.stands tells done holds);
   };
-  run = so.run;
+  promise = λ tells done holds before hidden. record {
+    files_open = so.lived.files_open tells before hidden;
+    sound = so.lived.sound tells done holds before hidden.linked;
+  };
+  run = so.lived.run;
   restart = λ tells. plain.0 (world_after (world_of b.world) so.history);
   has_properties = plain.1;
-  stops = λ all left. subst (λ (x : History). Stops stop all (lines_in x) (events_in x)) (sym is) (here all left);
+  stops = λ all left. subst (λ (x : History). Stops stop all (lines_in x)) (sym is) (here all left);
   text = text;
   wrote = wrote;
   told = subst (λ (x : History). IsTold stop text (transcript x)) (sym is) told;
@@ -161,7 +169,7 @@ ran props old new b v count stop so h is text now plain wrote told here = record
 
 -- before a line is played
 stops_before : (props : List PropLine) (old mid new : DiskState) (b : Begin) (s : Stand) (stop : Ended) (v : View) (so : SoFar props old mid b s) → Untouched mid new s.view v → IsPlain stop
-    → ((all : List ℕ) → b.left ≡ Some all → Stops stop all (lines_in so.course.history) (events_in so.course.history)) → Ran props old new b.world b.words b.left b.written v.written stop s.count
+    → ((all : List ℕ) → b.left ≡ Some all → Stops stop all (lines_in so.course.history)) → Ran props old new b.world b.words b.left b.written v.written stop s.count
 stops_before props old mid new b s stop v so u plain here =
     let told : List ℕ = transcript so.course.history in
     ran props old new b (record s.view { world = v.world }) s.count stop (course_untouched props old mid new b s.view v s.count so.course u) so.course.history
@@ -171,70 +179,118 @@ stops_before props old mid new b s stop v so u plain here =
 -- behind a line that was played, of whose answer this much was written
 stops_behind : (props : List PropLine) (old mid new : DiskState) (b : Begin) (s : Stand) (stop : Ended) (line : List ℕ) (event : Option Happened) (v : View) (text : List ℕ) (so : SoFar props old mid b s) → PlaysLine props mid new s.view line event v
     → is_line line ≡ true → IsPlain stop → Appends s.view.written v.written text → IsTold stop (transcript so.course.history ++ text) (transcript so.course.history ++ told_of (events_in so.course.history) event)
-    → ((all : List ℕ) → b.left ≡ Some all → Stops stop all (lines_in so.course.history ++ line ∷ []) (events_in so.course.history + events_of event))
+    → ((all : List ℕ) → b.left ≡ Some all → Stops stop all (lines_in so.course.history ++ line ∷ []))
     → Ran props old new b.world b.words b.left b.written v.written stop (s.count + 1)
 stops_behind props old mid new b s stop line event v text so plays is plain wrote told here =
     ran props old new b v (s.count + 1) stop (course_line props old mid new b s.view v s.count line event so.course plays is) (record { line = line; event = event } ∷ so.course.history)
     (course_line_is props old mid new b s.view v s.count line event so.course plays is) (transcript so.course.history ++ text) v.written plain
     (Appends-trans b.written s.view.written v.written _ _ so.wrote wrote) told here
 
--- at a restart that could not open the log
-stops_at_restart : (props : List PropLine) (old mid new : DiskState) (b : Begin) (s : Stand) (line : List ℕ) (fault : StartFault) (v : View) (so : SoFar props old mid b s) → StopsAtRestart mid new s.view line fault v
-    → Appends s.view.written v.written [] → IsNext b.left (lines_in so.course.history) line → Ran props old new b.world b.words b.left b.written v.written (ended_by fault) s.count
+-- at a restart that could not open its log
+
+-- which restart it was
+which_restart : (e : Event) (file : ℕ) → is_restart e file → ((e ≡ event.RestartKms) × (file ≡ 0)) ⊎ ((e ≡ event.RestartName) × (file ≡ 1))
+which_restart (event.Kms user c) file r = absurd r
+which_restart event.RestartKms file r = inl (refl, r)
+which_restart event.RestartName file r = inr (refl, r)
+which_restart (event.Mkdir user path) file r = absurd r
+which_restart (event.Delete user path recursive) file r = absurd r
+which_restart (event.Info user path) file r = absurd r
+which_restart (event.List user path) file r = absurd r
+which_restart (event.Zones user) file r = absurd r
+which_restart (event.AskCreate user path) file r = absurd r
+which_restart (event.AskZone user path key) file r = absurd r
+which_restart (event.Draw n) file r = absurd r
+which_restart (event.Finish n) file r = absurd r
+
+-- the last opening of its log is used
+spent_is : (e : Event) (file : ℕ) (w : WorldState) (kept : Bool) → is_restart e file → last_opening w e kept ≡ 4294967295 → IsSpent w
+spent_is e file w kept r is = ⊎_elim (λ keys. (kept, inl (ap (λ (x : Event). last_opening w x kept) (sym keys.0) ∙ is))) (λ names. (kept, inr (ap (λ (x : Event). last_opening w x kept) (sym names.0) ∙ is))) (which_restart e file r)
+
+-- what an end by a fault of a log is
+
+unread : (file : ℕ) (f : StartFault) (d : DiskState) (done : Acknowledged) (w : WorldState) → ReadsAt (ended_by file f) d done w
+unread zero (start.Damaged at) d done w = tt
+unread (suc n) (start.Damaged at) d done w = tt
+unread file start.StoreFault d done w = tt
+unread file start.NoMemory d done w = tt
+unread file start.Spent d done w = tt
+
+has : (file : ℕ) (f : StartFault) → HasProperties (ended_by file f)
+has zero (start.Damaged at) = tt
+has (suc n) (start.Damaged at) = tt
+has file start.StoreFault = tt
+has file start.NoMemory = tt
+has file start.Spent = tt
+
+why_stopped : (file : ℕ) (f : StartFault) (w : WorldState) → ((at : ℕ) → f ≡ start.Damaged at → ⊥) → (f ≡ start.Spent → IsSpent w) → RestartStops (ended_by file f) w
+why_stopped file (start.Damaged at) w never spent = absurd (never at refl)
+why_stopped file start.StoreFault w never spent = tt
+why_stopped file start.NoMemory w never spent = tt
+why_stopped file start.Spent w never spent = spent refl
+
+-- where the input stands at a restart of either service
+
+keys_next : (f : StartFault) (all : List ℕ) (lines : List (List ℕ)) → NextSpells all lines event.RestartKms → Stops (ended_by 0 f) all lines
+keys_next (start.Damaged at) all lines next = next
+keys_next start.StoreFault all lines next = inl next
+keys_next start.NoMemory all lines (line, more, is, spells) = (line ∷ more, is)
+keys_next start.Spent all lines next = inl next
+
+names_next : (f : StartFault) (all : List ℕ) (lines : List (List ℕ)) → NextSpells all lines event.RestartName → Stops (ended_by 1 f) all lines
+names_next (start.Damaged at) all lines next = next
+names_next start.StoreFault all lines next = inr next
+names_next start.NoMemory all lines (line, more, is, spells) = (line ∷ more, is)
+names_next start.Spent all lines next = inr next
+
+restart_next : (e : Event) (file : ℕ) (f : StartFault) (all : List ℕ) (lines : List (List ℕ)) → is_restart e file → NextSpells all lines e → Stops (ended_by file f) all lines
+restart_next e file f all lines r next =
+    ⊎_elim
+    (λ keys. subst (λ (n : ℕ). Stops (ended_by n f) all lines) (sym keys.1) (keys_next f all lines (subst (NextSpells all lines) keys.0 next)))
+    (λ names. subst (λ (n : ℕ). Stops (ended_by n f) all lines) (sym names.1) (names_next f all lines (subst (NextSpells all lines) names.0 next)))
+    (which_restart e file r)
+
+stops_at_restart : (props : List PropLine) (old mid new : DiskState) (b : Begin) (s : Stand) (line : List ℕ) (fault : WorldFault) (v : View) (so : SoFar props old mid b s) → StopsAtRestart mid new s.view line fault v
+    → Appends s.view.written v.written [] → IsNext b.left (lines_in so.course.history) line → Ran props old new b.world b.words b.left b.written v.written (ended_by fault.file fault.fault) s.count
 stops_at_restart props old mid new b s line fault v so at wrote next = record {
   history = h;
   runs = so.course.runs;
-  files_open = so.course.files_open;
-  kept = λ tells commands stands. record {
-    moments = moments_on props old mid new b s.view s.count so.course at.fails.fails.why.run at.fails.survives tells commands stands;
-    reads = unread fault new (commands ++ logged_in h) (world_after (world_of b.world) h);
+  kept = λ tells done holds. record {
+    moments = leaves_on lived.run (lived.survives tells done holds)
+        (weaker (λ image left. survives_last done (world_of b.world) h image (subst (λ (w : WorldState). Survives w (also done (logged_in h)) image) lived.world_is left))
+        (at.fails.survives (tells_now old mid lived.run tells) (also done (logged_in h)) (lived.stands tells done holds)));
+    reads = unread fault.file fault.fault new (also done (logged_in h)) (world_after (world_of b.world) h);
   };
-  run = joined old mid new so.course.run at.fails.fails.why.run;
-  restart = λ tells. why fault refl tells;
-  has_properties = has fault;
-  stops = λ all told. here fault all told;
+  promise = λ tells done holds before hidden. record {
+    files_open = lived.files_open tells before hidden;
+    sound = leaves_on lived.run (lived.sound tells done holds before hidden.linked)
+        (weaker (sound_last before (world_of b.world) b.words h)
+        (at.fails.sound (tells_now old mid lived.run tells) (hidden_in before (world_of b.world) b.words h) (lived.linked tells before hidden.linked) (also done (logged_in h)) (lived.stands tells done holds)));
+  };
+  run = run_on old mid new lived.run at.fails.run;
+  restart = λ tells. why_stopped fault.file fault.fault (world_after (world_of b.world) h) (at.fails.never_damaged (tells_now old mid lived.run tells))
+      (λ is.
+      let last = at.fails.spent is (tells_now old mid lived.run tells) in
+      subst IsSpent lived.world_is (spent_is at.restart fault.file (world_of s.view.world) last.0 at.fails.restart last.1));
+  has_properties = has fault.file fault.fault;
+  stops = λ all told. let n = next.next all told in restart_next at.restart fault.file fault.fault all (lines_in h) at.fails.restart (line, n.0, n.1, at.spells);
   text = transcript h;
   wrote = subst (Appends b.written v.written) (append-nil (transcript h)) (Appends-trans b.written s.view.written v.written _ _ so.wrote wrote);
-  told = all_told (ended_by fault) (transcript h) (transcript h) refl;
+  told = all_told (ended_by fault.file fault.fault) (transcript h) (transcript h) refl;
   counted = so.course.counted;
 }
   where
     h : History
     h = so.course.history
 
-    unread : (f : StartFault) (d : DiskState) (commands : List KeyCommand) (w : WorldState) → ReadsAt (ended_by f) d commands w
-    unread (start.Damaged at) d commands w = tt
-    unread start.StoreFault d commands w = tt
-    unread start.NoMemory d commands w = tt
-    unread start.Spent d commands w = tt
-
-    has : (f : StartFault) → HasProperties (ended_by f)
-    has (start.Damaged at) = tt
-    has start.StoreFault = tt
-    has start.NoMemory = tt
-    has start.Spent = tt
-
-    why : (f : StartFault) → fault ≡ f → Tells old → RestartStops (ended_by f) (world_after (world_of b.world) h)
-    why (start.Damaged place) is tells = at.fails.fails.why.never_damaged (tells_now old mid so.course.run tells) place is
-    why start.StoreFault is tells = tt
-    why start.NoMemory is tells = tt
-    why start.Spent is tells =
-        subst (λ (w : WorldState). RestartStops ended.Spent w) so.course.world_is (at.fails.fails.why.spent is (tells_now old mid so.course.run tells))
-
-    here : (f : StartFault) (all : List ℕ) → b.left ≡ Some all → Stops (ended_by f) all (lines_in h) (events_in h)
-    here (start.Damaged place) all told = let n = next.next all told in (line, n.0, n.1, at.spells)
-    here start.StoreFault all told = let n = next.next all told in (line, n.0, n.1, at.spells)
-    here start.NoMemory all told = let n = next.next all told in (line ∷ n.0, n.1)
-    here start.Spent all told = let n = next.next all told in (line, n.0, n.1, at.spells)
+    lived : Lived old mid b.world b.words s.view.world s.view.words h
+    lived = so.course.lived
 
 -- how the loop goes on and stops
 
 -- the end that is answered
 the_end : (a b : Ended) → Some a ≡ Some b → a ≡ b
 the_end a b is = cc
-
-refused_here : (events : ℕ) (history : History) (line : List ℕ) → events ≡ events_in history → IsRefused events line → IsRefused (events_in history) line
-refused_here events history line numbered bad = subst (λ (n : ℕ). IsRefused n line) numbered bad
 
 -- a line that was played, or not, ends the replay
 line_stops : (props : List PropLine) (old mid new : DiskState) (b : Begin) (s : Stand) (line : List ℕ) (last : Bool) (v : View) (count : ℕ) (stop : Ended) (so : SoFar props old mid b s) → LinePlayed props mid new s.view line last (Some stop) v s.count count
@@ -260,7 +316,7 @@ line_stops props old mid new b s line last v count stop so p is next whole = go 
         (stops_behind props old mid new b s ended.Done line event v (told_of s.view.events event) so plays is ((λ w. tt), tt) wrote (ap (λ (t : List ℕ). transcript h ++ t) (told_here event)) (whole refl)))
     go BadLine last (bad, u) is_end n whole =
         subst (λ (e : Ended). Goal count e) (sym (the_end stop ended.BadLine (is_end ∙ bad_end last))) (subst (λ (k : ℕ). Goal k ended.BadLine) (sym (n ∙ omega arith))
-        (stops_before props old mid new b s ended.BadLine v so u ((λ w. tt), tt) (λ all told. let at = next.next all told in inl (line, at.0, at.1, refused_here s.view.events h line so.course.numbered bad))))
+        (stops_before props old mid new b s ended.BadLine v so u ((λ w. tt), tt) (λ all told. let at = next.next all told in inl (line, at.0, at.1, bad))))
       where
         bad_end : (l : Bool) → end_of_play l BadLine ≡ Some ended.BadLine
         bad_end true = refl
@@ -290,10 +346,10 @@ line_stops props old mid new b s line last v count stop so p is next whole = go 
         no_end true = refl
         no_end false = refl
     go (Unopened fault) last (at, wrote) is_end n whole =
-        subst (λ (e : Ended). Goal count e) (sym (the_end stop (ended_by fault) (is_end ∙ no_end last))) (subst (λ (k : ℕ). Goal k (ended_by fault)) (sym (n ∙ omega arith))
+        subst (λ (e : Ended). Goal count e) (sym (the_end stop (ended_by fault.file fault.fault) (is_end ∙ no_end last))) (subst (λ (k : ℕ). Goal k (ended_by fault.file fault.fault)) (sym (n ∙ omega arith))
         (stops_at_restart props old mid new b s line fault v so at wrote next))
       where
-        no_end : (l : Bool) → end_of_play l (Unopened fault) ≡ Some (ended_by fault)
+        no_end : (l : Bool) → end_of_play l (Unopened fault) ≡ Some (ended_by fault.file fault.fault)
         no_end true = refl
         no_end false = refl
 
@@ -312,13 +368,13 @@ next_stops props old mid new b s s' stop so n = go n.how n.read n.next
     ahead = ahead_of props old mid b s so
 
     ends : (e : Ended) → IsPlain e → StopsReading mid new s.view s'.view s.count s'.count e (Some stop)
-        → ((all : List ℕ) → b.left ≡ Some all → Stops e all lines (events_in so.course.history)) → Ran props old new b.world b.words b.left b.written s'.view.written stop s'.count
+        → ((all : List ℕ) → b.left ≡ Some all → Stops e all lines) → Ran props old new b.world b.words b.left b.written s'.view.written stop s'.count
     ends e plain r here =
         subst (λ (x : Ended). Ran props old new b.world b.words b.left b.written s'.view.written x s'.count) (sym (the_end stop e r.result_is))
         (subst (λ (k : ℕ). Ran props old new b.world b.words b.left b.written s'.view.written e k) (sym r.counted) (before e plain r here))
       where
         before : (e : Ended) → IsPlain e → StopsReading mid new s.view s'.view s.count s'.count e (Some stop)
-            → ((all : List ℕ) → b.left ≡ Some all → Stops e all lines (events_in so.course.history)) → Ran props old new b.world b.words b.left b.written s'.view.written e s.count
+            → ((all : List ℕ) → b.left ≡ Some all → Stops e all lines) → Ran props old new b.world b.words b.left b.written s'.view.written e s.count
         before e plain r here = stops_before props old mid new b s e s'.view so r.untouched plain here
 
     go : (how : Got) → Read s how n.line s' → NextSo props mid new s how n.line (Some stop) s' → Ran props old new b.world b.words b.left b.written s'.view.written stop s'.count
@@ -328,9 +384,9 @@ next_stops props old mid new b s s' stop so n = go n.how n.read n.next
     go got.End read played =
         let whole = λ (all : List ℕ) (told : b.left ≡ Some all). last_is b.left s.ahead s'.ahead lines n.line ahead read.is_line (read.consumed (λ e. cc)) (read.end refl) all told in
         line_stops props old mid new b s n.line true s'.view s'.count stop so played read.is_line (record { next = λ all told. ([], whole all told) }) (λ e. whole)
-    go got.TooLong read r = ends ended.BadLine ((λ w. tt), tt) r (λ all told. too_long b.left s.ahead s'.ahead lines n.line _ ahead read.is_line (read.consumed (λ e. cc)) (read.long refl) all told)
+    go got.TooLong read r = ends ended.BadLine ((λ w. tt), tt) r (λ all told. too_long b.left s.ahead s'.ahead lines n.line ahead read.is_line (read.consumed (λ e. cc)) (read.long refl) all told)
     go got.Past read r =
-        ends ended.BadLine ((λ w. tt), tt) r (λ all told. past b.left s.ahead s'.ahead lines n.line _ s.used s'.used ahead read.is_line (read.consumed (λ e. cc)) so.used_is (read.used (λ e. cc)) (read.past refl).0 (read.past refl).1 all told)
+        ends ended.BadLine ((λ w. tt), tt) r (λ all told. past b.left s.ahead s'.ahead lines n.line s.used s'.used ahead read.is_line (read.consumed (λ e. cc)) so.used_is (read.used (λ e. cc)) (read.past refl).0 (read.past refl).1 all told)
     go got.Fault read r = ends ended.ReadFault ((λ w. tt), tt) r (λ all told. starts b.left s.ahead lines ahead all told)
     go got.NoMemory read r = ends ended.NoMemory ((λ w. tt), tt) r (λ all told. starts b.left s.ahead lines ahead all told)
 
@@ -381,27 +437,27 @@ abbrev pub SoFarUnder : DiskState → DiskState → Begin → Stand → Type 0
 SoFarUnder old new b s = (props : List PropLine) → HasLists b.world props → SoFar props old new b s
 
 pub stands_under : (old mid : DiskState) (b : Begin) (s : Stand) → SoFarUnder old mid b s → (props : List PropLine) × HasLists b.world props
-    → (Tells old → (commands : List KeyCommand) × StandsFor old b.world.keys.store commands) → Tells mid → (commands : List KeyCommand) × StandsFor mid s.view.world.keys.store commands
+    → (Tells old → (done : Acknowledged) × HoldsLogs old b.world done) → Tells mid → (done : Acknowledged) × HoldsLogs mid s.view.world done
 stands_under old mid b s so some stands tells =
     let course = (so some.0 some.1).course in
-    let told : Tells old = subst (λ (t : Bool). IsTrue t) course.run.tells tells in
+    let told : Tells old = subst (λ (t : Bool). IsTrue t) course.lived.run.tells tells in
     let before = stands told in
-    (before.0 ++ logged_in course.history, course.stands told before.0 before.1)
+    (also before.0 (logged_in course.history), course.lived.stands told before.0 before.1)
 
 pub lists_under : (old mid : DiskState) (b : Begin) (s : Stand) → SoFarUnder old mid b s → (props : List PropLine) × HasLists b.world props → (props : List PropLine) × HasLists s.view.world props
-lists_under old mid b s so some = (some.0, has_lists b.world s.view.world some.0 (so some.0 some.1).course.lists some.1)
+lists_under old mid b s so some = (some.0, has_lists b.world s.view.world some.0 (so some.0 some.1).course.lived.lists some.1)
 
 pub goes_on_under : (old mid new : DiskState) (b : Begin) (s s' : Stand) → SoFarUnder old mid b s → ((props : List PropLine) → HasLists s.view.world props → Next props mid new s None s')
     → (props : List PropLine) → HasLists b.world props → GoesFurther props old new b s s'
 goes_on_under old mid new b s s' so next props has =
     let here = so props has in
-    next_goes_on props old mid new b s s' here (next props (has_lists b.world s.view.world props here.course.lists has))
+    next_goes_on props old mid new b s s' here (next props (has_lists b.world s.view.world props here.course.lived.lists has))
 
 pub stops_under : (old mid new : DiskState) (b : Begin) (s s' : Stand) (stop : Ended) → SoFarUnder old mid b s → ((props : List PropLine) → HasLists s.view.world props → Next props mid new s (Some stop) s')
     → (props : List PropLine) → HasLists b.world props → Ran props old new b.world b.words b.left b.written s'.view.written stop s'.count
 stops_under old mid new b s s' stop so next props has =
     let here = so props has in
-    next_stops props old mid new b s s' stop here (next props (has_lists b.world s.view.world props here.course.lists has))
+    next_stops props old mid new b s s' stop here (next props (has_lists b.world s.view.world props here.course.lived.lists has))
 
 -- the causes of faults
 
@@ -425,19 +481,21 @@ disk_later props old new v v' line BadLine (bad, u) = u.goes_on.run.faults
 disk_later props old new v v' line Unread u = u.goes_on.run.faults
 disk_later props old new v v' line Untold (event, plays, wrote) = plays.goes_on.run.faults
 disk_later props old new v v' line Unwritten (event, plays, wrote) = plays.goes_on.run.faults
-disk_later props old new v v' line (Unopened fault) (at, wrote) = at.fails.fails.why.run.faults
+disk_later props old new v v' line (Unopened fault) (at, wrote) = at.fails.run.faults
 
-never_opened : (fault : StartFault) → Some (ended_by fault) ≡ Some ended.ReadFault → ⊥
-never_opened (start.Damaged at) e = absurd cc
-never_opened start.StoreFault e = absurd cc
-never_opened start.NoMemory e = absurd cc
-never_opened start.Spent e = absurd cc
+never_opened : (file : ℕ) (fault : StartFault) → Some (ended_by file fault) ≡ Some ended.ReadFault → ⊥
+never_opened zero (start.Damaged at) e = absurd cc
+never_opened (suc n) (start.Damaged at) e = absurd cc
+never_opened file start.StoreFault e = absurd cc
+never_opened file start.NoMemory e = absurd cc
+never_opened file start.Spent e = absurd cc
 
-is_store_fault : (fault : StartFault) → Some (ended_by fault) ≡ Some ended.StoreFault → fault ≡ start.StoreFault
-is_store_fault (start.Damaged at) e = absurd cc
-is_store_fault start.StoreFault e = refl
-is_store_fault start.NoMemory e = absurd cc
-is_store_fault start.Spent e = absurd cc
+is_store_fault : (file : ℕ) (fault : StartFault) → Some (ended_by file fault) ≡ Some ended.StoreFault → fault ≡ start.StoreFault
+is_store_fault zero (start.Damaged at) e = absurd cc
+is_store_fault (suc n) (start.Damaged at) e = absurd cc
+is_store_fault file start.StoreFault e = refl
+is_store_fault file start.NoMemory e = absurd cc
+is_store_fault file start.Spent e = absurd cc
 
 -- no line that was read is a fault of the input
 never_read : (last : Bool) (play : Play) → end_of_play last play ≡ Some ended.ReadFault → ⊥
@@ -451,8 +509,8 @@ never_read true Untold e = absurd cc
 never_read false Untold e = absurd cc
 never_read true Unwritten e = absurd cc
 never_read false Unwritten e = absurd cc
-never_read true (Unopened fault) e = never_opened fault e
-never_read false (Unopened fault) e = never_opened fault e
+never_read true (Unopened fault) e = never_opened fault.file fault.fault e
+never_read false (Unopened fault) e = never_opened fault.file fault.fault e
 
 -- a store fault comes where a restart failed
 store_rose : (props : List PropLine) (old new : DiskState) (v v' : View) (line : List ℕ) (last : Bool) (play : Play) → PlaysSo props old new v line play v' → end_of_play last play ≡ Some ended.StoreFault
@@ -467,8 +525,8 @@ store_rose props old new v v' line true Untold p e = absurd cc
 store_rose props old new v v' line false Untold p e = absurd cc
 store_rose props old new v v' line true Unwritten p e = absurd cc
 store_rose props old new v v' line false Unwritten p e = absurd cc
-store_rose props old new v v' line true (Unopened fault) (at, wrote) e = at.fails.fails.why.cause (is_store_fault fault e)
-store_rose props old new v v' line false (Unopened fault) (at, wrote) e = at.fails.fails.why.cause (is_store_fault fault e)
+store_rose props old new v v' line true (Unopened fault) (at, wrote) e = at.fails.cause (is_store_fault fault.file fault.fault e)
+store_rose props old new v v' line false (Unopened fault) (at, wrote) e = at.fails.cause (is_store_fault fault.file fault.fault e)
 
 pub line_caused : (props : List PropLine) (old new : DiskState) (v v' : View) (line : List ℕ) (last : Bool) (result : Option Ended) (count count' input input' out out' : ℕ)
     → LinePlayed props old new v line last result v' count count' → input ≤ input' → out ≤ out' → (result ≡ Some ended.WriteFault → Rose out out') → Caused input input' out out' old.faults new.faults result

@@ -1,30 +1,29 @@
 -- The last line, and a replay as a whole.
-use Rattle.std.proofs.Common.{◌≡◌, ◌⊎◌, inl, inr, ℕ, Bool, List, [], ◌∷◌, ◌++◌, length, refl, ap, sym, ◌∙◌, subst, IsTrue, Option, append_assoc}
+use Rattle.std.proofs.Common.{◌≡◌, ◌⊎◌, inl, inr, ℕ, zero, suc, Bool, List, [], ◌++◌, length, refl, ap, sym, ◌∙◌, subst, IsTrue, Option, append_assoc}
 use Rattle.std.specs.Io.KnownBytes.{Appends}
 use Rattle.std.proofs.KnownBytes.{Appends-trans, Appends-nil}
-use Rattle.hk_base.specs.Disk.{DiskState, LeavesOnly, RunOn, Tells}
+use Rattle.hk_base.specs.Disk.{DiskState, Tells}
 use Rattle.hk_base.specs.Writing.{WroteFront}
-use Rattle.hk_base.proofs.Runs.{compose, weaker}
 use Rattle.frame_log.specs.declared.fault.StartFault.{StartFault}
 use Rattle.frame_log.specs.declared.fault.StartFault.TheVariants as start
-use Rattle.key_rows.specs.declared.rows.KeyCommand.{KeyCommand}
-use Rattle.key_rows.specs.Table.{Table}
 use Rattle.prop_text.specs.declared.lines.PropLine.{PropLine}
 use Rattle.prop_text.specs.declared.faults.PropFault.{PropFault}
 use Rattle.prop_text.specs.declared.faults.PropFault.TheVariants as prop_fault
-use Rattle.kms_store.specs.Store.{IsDamagedAt, IsKeyLog, next_opening}
+use Rattle.world_run.specs.Acknowledged.{Acknowledged, LeavesBoth, RunBoth, also}
+use Rattle.world_run.specs.Keeps.{Begins, LeftByStarts}
+use Rattle.world_run.specs.Ledger.{Ledger}
+use Rattle.world_run.specs.Linked.{SoundFiles, StartsSound}
 use Rattle.world_run.specs.World.{RunningWorld, WorldState, first_world}
-use Rattle.world_run.specs.Keeps.{Begins}
-use Rattle.world_run.proofs.StartLemmas.{first-linked, first-open}
 use Rattle.hkms_tool.specs.declared.replay.Ended.{Ended}
 use Rattle.hkms_tool.specs.declared.replay.Ended.TheVariants as ended
 use Rattle.hkms_tool.specs.declared.props.PropsFault.{PropsFault}
 use Rattle.hkms_tool.specs.declared.props.PropsFault.TheVariants as props_fault
 use Rattle.hkms_tool.specs.Properties.{HasPropsFault, ReadsProperties}
-use Rattle.hkms_tool.specs.Run.{FilesOpen, History, Runs, SurvivesIn, lines_in, logged_in, transcript, world_after}
-use Rattle.hkms_tool.specs.Replay.{IsTold, LeavesStarted, OnDisk, Played, ReadsAt, Replay, ReplayUnder, RestartStops, Says, ended_by, ended_by_props, ended_by_text, last_line, status_of}
+use Rattle.hkms_tool.specs.Run.{History, Runs, lines_in, logged_in, transcript, world_after}
+use Rattle.hkms_tool.specs.Replay.{IsTold, NotOpened, OnDisk, Played, ReadsAt, Replay, ReplayUnder, RestartStops, Says, ended_by, ended_by_props, ended_by_text, last_line, opened_logs, status_of}
 use Rattle.hkms_tool.specs.Steps.{Closes, Ran}
-use Rattle.hkms_tool.proofs.HistoryLemmas.{IsFirst, tells_now}
+use Rattle.hkms_tool.proofs.BeganLemmas.{promise_kept, survives_kept}
+use Rattle.hkms_tool.proofs.LivedLemmas.{tells_now}
 
 -- what is written behind a body
 
@@ -55,21 +54,20 @@ closed stop how lines told body written mid now is wrote c = go c.writes
       };
     }
 
--- the log could not be opened
+-- a log could not be opened
 
-pub unopened : (lines : List PropLine) (old new : DiskState) (words : ℕ → ℕ) (left written now : Option (List ℕ)) (fault : StartFault) (how : Ended)
-    → ((at : ℕ) → fault ≡ start.Damaged at → Tells old → IsDamagedAt (old.reads 0) at)
-    → (fault ≡ start.Spent → Tells old → (commands : List KeyCommand) × (table : Table) × IsKeyLog (old.reads 0) commands table × (table.opening ≡ 4294967295))
-    → (Tells old → LeavesOnly 0 old new (LeavesStarted old)) → Closes (ended_by fault) 0 written now how → ReplayUnder lines old new words left written now how
-unopened lines old new words left written now fault how damaged spent moments c =
-    let w = closed (ended_by fault) how 0 [] [] written written now (nothing_told fault) (Appends-nil written) c in
-    inl (record { fault = fault; damaged = damaged; spent = spent; moments = moments; text = w.text; wrote = w.wrote; says = w.says })
-  where
-    nothing_told : (f : StartFault) → IsTold (ended_by f) [] []
-    nothing_told (start.Damaged at) = refl
-    nothing_told start.StoreFault = refl
-    nothing_told start.NoMemory = ([], refl)
-    nothing_told start.Spent = refl
+nothing_told : (file : ℕ) (f : StartFault) → IsTold (ended_by file f) [] []
+nothing_told zero (start.Damaged at) = refl
+nothing_told (suc n) (start.Damaged at) = refl
+nothing_told file start.StoreFault = refl
+nothing_told file start.NoMemory = ([], refl)
+nothing_told file start.Spent = refl
+
+pub unopened : (lines : List PropLine) (old new : DiskState) (words : ℕ → ℕ) (left written now : Option (List ℕ)) (file : ℕ) (fault : StartFault) (how : Ended) → NotOpened old new file fault → Closes (ended_by file fault) 0 written now how
+    → ReplayUnder lines old new words left written now how
+unopened lines old new words left written now file fault how not c =
+    let w = closed (ended_by file fault) how 0 [] [] written written now (nothing_told file fault) (Appends-nil written) c in
+    inl (record { file = file; fault = fault; not_opened = not; text = w.text; wrote = w.wrote; says = w.says })
 
 -- the properties could not be read
 
@@ -96,19 +94,19 @@ has_read same old new acls acls' words left written now how lines read replay = 
 
 -- lines were played
 
-pub is_first : (w : WorldState) (table : Table) → w ≡ first_world table → IsFirst w
-is_first w table is = subst IsFirst (sym is) (record { linked = first-linked table; files_open = first-open table })
+-- lines were played
 
 pub played : (lines : List PropLine) (old mid new : DiskState) (r : RunningWorld) (words : ℕ → ℕ) (left written told now : Option (List ℕ)) (stop how : Ended) (count : ℕ) → Begins old mid r
-    → (Tells old → LeavesOnly 0 old mid (LeavesStarted old)) → RunOn 0 old mid → Ran lines mid new r words left written told stop count → Closes stop count told now how → ReplayUnder lines old new words left written now how
-played lines old mid new r words left written told now stop how count b moments run ran c =
+    → (Tells old → LeavesBoth old mid (LeftByStarts old)) → (Tells old → (ledger : Ledger) (place : ℕ) → StartsSound old ledger place → LeavesBoth old mid (SoundFiles ledger place)) → RunBoth old mid
+    → Ran lines mid new r words left written told stop count → Closes stop count told now how → ReplayUnder lines old new words left written now how
+played lines old mid new r words left written told now stop how count b moments sound run ran c =
     inr (record { history = h; stop = stop; played = whole; text = w.text; wrote = w.wrote; says = w.says })
   where
     h : History
     h = ran.history
 
     first : WorldState
-    first = first_world b.table
+    first = first_world b.table b.names
 
     w : Wrote stop how (length (lines_in h)) (transcript h) written now
     w = subst (λ (n : ℕ). Wrote stop how n (transcript h) written now) ran.counted (closed stop how count (transcript h) ran.text written told now ran.told ran.wrote c)
@@ -116,30 +114,30 @@ played lines old mid new r words left written told now stop how count b moments 
     same_tells : Tells mid ≡ Tells old
     same_tells = ap (λ (t : Bool). IsTrue t) run.tells
 
-    disk : Tells old → OnDisk old new words b.table h
+    found : Tells old → Acknowledged
+    found tells = opened_logs (b.log tells).commands b.table (b.log tells).ops b.names
+
+    disk : Tells old → OnDisk old new b.table b.names h
     disk tells =
         let log = b.log tells in
-        let kept = ran.kept (tells_now old mid run tells) (log.0 ++ next_opening b.table ∷ []) log.2 in
         record {
-          commands = log.0;
-          found = log.1;
-          moments = (compose {file = 0} {P = λ bytes. LeavesStarted old bytes ⊎ SurvivesIn (log.0 ++ next_opening b.table ∷ []) first words h bytes}
-              (record { run = run; moments = weaker (λ bytes left. inl left) (moments tells) }) (record { run = ran.run; moments = kept.moments })
-              (λ bytes left. inr (subst (λ (v : WorldState). SurvivesIn (log.0 ++ next_opening b.table ∷ []) v words h bytes) b.first left))).moments;
+          commands = log.commands;
+          ops = log.ops;
+          used = log.used;
+          keys = log.keys;
+          edits = log.edits;
+          moments = survives_kept old mid new r h first (found tells) b.first (moments tells) run (ran.kept (tells_now old mid run tells) (found tells) log.holds).moments;
         }
 
     whole : Played lines old new words left stop h
     whole = record {
       table = b.table;
+      names = b.names;
       before = mid.faults;
       runs = subst (λ (T : Type 0). Runs lines T first words mid.faults h) same_tells (subst (λ (v : WorldState). Runs lines (Tells mid) v words mid.faults h) b.first ran.runs);
-      files_open = λ tells. subst (λ (v : WorldState). FilesOpen v words h) b.first (ran.files_open (tells_now old mid run tells));
       on_disk = disk;
-      reads = λ tells.
-          let log = b.log tells in
-          subst (λ (l : List KeyCommand). ReadsAt stop new l (world_after first h)) (append_assoc log.0 (next_opening b.table ∷ []) (logged_in h))
-          (subst (λ (v : WorldState). ReadsAt stop new ((log.0 ++ next_opening b.table ∷ []) ++ logged_in h) (world_after v h)) b.first
-          (ran.kept (tells_now old mid run tells) (log.0 ++ next_opening b.table ∷ []) log.2).reads);
+      promise = λ tells. promise_kept old mid new r words h b tells run (sound tells) (ran.promise (tells_now old mid run tells));
+      reads = λ tells. subst (λ (v : WorldState). ReadsAt stop new (also (found tells) (logged_in h)) (world_after v h)) b.first (ran.kept (tells_now old mid run tells) (found tells) (b.log tells).holds).reads;
       restart = λ tells. subst (λ (v : WorldState). RestartStops stop (world_after v h)) b.first (ran.restart (tells_now old mid run tells));
       stops = ran.stops;
       has_properties = ran.has_properties;
@@ -154,7 +152,8 @@ is_done (ended.AclRepeated number) h = absurd cc
 is_done (ended.AclUnknown number) h = absurd cc
 is_done ended.AclTooLong h = absurd cc
 is_done ended.BadLine h = absurd cc
-is_done (ended.Damaged at) h = absurd cc
+is_done (ended.DamagedKeys at) h = absurd cc
+is_done (ended.DamagedNames at) h = absurd cc
 is_done ended.StoreFault h = absurd cc
 is_done ended.NoMemory h = absurd cc
 is_done ended.ReadFault h = absurd cc
@@ -168,7 +167,8 @@ is_store (ended.AclRepeated number) h = absurd cc
 is_store (ended.AclUnknown number) h = absurd cc
 is_store ended.AclTooLong h = absurd cc
 is_store ended.BadLine h = absurd cc
-is_store (ended.Damaged at) h = absurd cc
+is_store (ended.DamagedKeys at) h = absurd cc
+is_store (ended.DamagedNames at) h = absurd cc
 is_store ended.StoreFault h = refl
 is_store ended.NoMemory h = absurd cc
 is_store ended.ReadFault h = absurd cc
@@ -182,7 +182,8 @@ is_read (ended.AclRepeated number) h = absurd cc
 is_read (ended.AclUnknown number) h = absurd cc
 is_read ended.AclTooLong h = absurd cc
 is_read ended.BadLine h = absurd cc
-is_read (ended.Damaged at) h = absurd cc
+is_read (ended.DamagedKeys at) h = absurd cc
+is_read (ended.DamagedNames at) h = absurd cc
 is_read ended.StoreFault h = absurd cc
 is_read ended.NoMemory h = absurd cc
 is_read ended.ReadFault h = refl
@@ -196,7 +197,8 @@ is_write (ended.AclRepeated number) h = absurd cc
 is_write (ended.AclUnknown number) h = absurd cc
 is_write ended.AclTooLong h = absurd cc
 is_write ended.BadLine h = absurd cc
-is_write (ended.Damaged at) h = absurd cc
+is_write (ended.DamagedKeys at) h = absurd cc
+is_write (ended.DamagedNames at) h = absurd cc
 is_write ended.StoreFault h = absurd cc
 is_write ended.NoMemory h = absurd cc
 is_write ended.ReadFault h = absurd cc

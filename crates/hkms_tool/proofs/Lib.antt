@@ -1,7 +1,10 @@
+mod BeganLemmas
 pub mod EndLemmas
+mod FirstLemmas
 mod FollowLemmas
 pub mod HistoryLemmas
 mod LastLemmas
+pub mod LivedLemmas
 mod OrderLemmas
 mod PipeLemmas
 mod PropsLemmas

@@ -1,27 +1,28 @@
 -- A connection to the key management service.
-use Rattle.std.specs.Prelude.{◌≡◌, ◌⊎◌, ◌≤◌, ℕ, List, [], ◌∷◌, ◌++◌, Option, Some}
-use Rattle.hk_base.specs.Disk.{DiskState, Tells, LeavesOnly}
+use Rattle.std.specs.Prelude.{◌≡◌, ◌⊎◌, ◌≤◌, ℕ, List, [], ◌∷◌, Option, Some}
+use Rattle.hk_base.specs.Disk.{DiskState, Tells}
 use Rattle.hk_base.specs.Faults.{Rose}
 use Rattle.frame_log.specs.declared.fault.StartFault.{StartFault}
-use Rattle.frame_log.specs.declared.fault.StartFault.TheVariants as start
 use Rattle.key_rows.specs.declared.calls.KmsCall.{KmsCall}
 use Rattle.key_rows.specs.declared.calls.KmsReply.{KmsReply}
-use Rattle.key_rows.specs.declared.rows.KeyCommand.{KeyCommand}
 use Rattle.key_rows.specs.Table.{Table}
-use Rattle.kms_store.specs.Store.{IsDamagedAt, IsKeyLog, next_opening}
+use Rattle.name_store.specs.Table.{NameTable}
 use Rattle.prop_text.specs.declared.lines.PropLine.{PropLine}
 use Rattle.world_run.specs.declared.event.Event.TheVariants as event
 use Rattle.world_run.specs.declared.event.Line.TheVariants as line
 use Rattle.world_run.specs.World.{WorldState, first_world}
+use Rattle.world_run.specs.Acknowledged.{also}
 use Rattle.world_run.specs.Keeps.{LinkedStep}
+use Rattle.world_run.specs.Ledger.{Ledger}
+use Rattle.world_run.specs.Linked.{StartsSound}
 use Rattle.http_wire.specs.Reading.{ahead}
 use Rattle.hk_serve.specs.declared.ended.Ended.{Ended}
 use Rattle.hk_serve.specs.declared.ended.Ended.TheVariants.{End, Closed, TooLong, Wire, ReadFault, WriteFault, NoMemory}
 use Rattle.hk_serve.specs.Served.{Served}
 use Rattle.hkms_tool.specs.declared.props.PropsFault.{PropsFault}
 use Rattle.hkms_tool.specs.Properties.{HasPropsFault, ReadsProperties}
-use Rattle.hkms_tool.specs.Replay.{LeavesStarted, OnDisk, ReadsAs, ended_by, ended_by_props, status_of}
-use Rattle.hkms_tool.specs.Run.{FilesOpen, Happened, History, behind, drawn_in, faults_after, logged_in, world_after}
+use Rattle.hkms_tool.specs.Replay.{NotOpened, OnDisk, Promised, ReadsAs, ended_by, ended_by_props, opened_logs, status_of}
+use Rattle.hkms_tool.specs.Run.{Happened, History, behind, drawn_in, faults_after, logged_in, world_after}
 
 -- Under properties of these lines, a call of a user happens in this world as an event, at some moment, with these words to come.
 -- A store fault comes only where the disk's count of faults rose in the event.
@@ -39,18 +40,19 @@ pub record Asks (lines : List PropLine) (tells : Type 0) (first : WorldState) (w
   pub grows : later ≡ record { line = []; event = Some happened } ∷ earlier
   pub runs : CallRuns lines tells (world_after first earlier) (behind (drawn_in earlier) words) (faults_after before earlier) user asked reply happened
 
--- Under properties of these lines, a connection was served from the world on that the key log was found to stand for: its requests are
+-- Under properties of these lines, a connection was served from the world on that the two logs were found to stand for: its requests are
 -- those of the bytes that were left of the input, each call happens behind those before it, and the responses were written behind
 -- the old output. Bytes that were read behind the last request are unused.
 pub record Converses (lines : List PropLine) (old new : DiskState) (words : ℕ → ℕ) (left left' written now : Option (List ℕ)) (how : Ended) : Type 0 where
   pub table : Table
+  pub names : NameTable
   pub before : ℕ
   pub history : History
   pub unused : List ℕ
-  pub served : Served (Asks lines (Tells old) (first_world table) words before) (record { ahead = left; desk = []; written = written }) (record { ahead = ahead unused left'; desk = history; written = now }) how
-  pub files_open : Tells old → FilesOpen (first_world table) words history
-  pub on_disk : Tells old → OnDisk old new words table history
-  pub reads : (told : Tells old) → ReadsAs new ((on_disk told).commands ++ next_opening table ∷ logged_in history) (world_after (first_world table) history)
+  pub served : Served (Asks lines (Tells old) (first_world table names) words before) (record { ahead = left; desk = []; written = written }) (record { ahead = ahead unused left'; desk = history; written = now }) how
+  pub on_disk : Tells old → OnDisk old new table names history
+  pub promise : Tells old → (ledger : Ledger) (place : ℕ) → StartsSound old ledger place → Promised old new words table names ledger place history
+  pub reads : (told : Tells old) → let found = on_disk told in ReadsAs new (also (opened_logs found.commands table found.ops names) (logged_in history)) (world_after (first_world table names) history)
 
 -- the status of a connection
 abbrev pub connection_status : Ended → ℕ
@@ -69,14 +71,13 @@ pub record RefusesProperties (same : Type 0) (acls : Option (List ℕ)) (status 
   pub untouched : same
   pub status_is : status ≡ status_of (ended_by_props fault)
 
--- The key log could not be opened, and nothing was read or written: `same` says that all but the disk is as it was.
+-- A log could not be opened, and nothing was read or written: `same` says that all but the disk is as it was.
 pub record CannotOpen (same : Type 0) (old new : DiskState) (status : ℕ) : Type 0 where
+  pub file : ℕ
   pub fault : StartFault
-  pub damaged : (at : ℕ) → fault ≡ start.Damaged at → Tells old → IsDamagedAt (old.reads 0) at
-  pub spent : fault ≡ start.Spent → Tells old → (commands : List KeyCommand) × (table : Table) × IsKeyLog (old.reads 0) commands table × (table.opening ≡ 4294967295)
-  pub moments : Tells old → LeavesOnly 0 old new (LeavesStarted old)
+  pub not_opened : NotOpened old new file fault
   pub untouched : same
-  pub status_is : status ≡ status_of (ended_by fault)
+  pub status_is : status ≡ status_of (ended_by file fault)
 
 -- The connection was served.
 pub record Connects (lines : List PropLine) (old new : DiskState) (words : ℕ → ℕ) (left left' written now : Option (List ℕ)) (status : ℕ) : Type 0 where
@@ -84,7 +85,7 @@ pub record Connects (lines : List PropLine) (old new : DiskState) (words : ℕ �
   pub converses : Converses lines old new words left left' written now how
   pub status_is : status ≡ connection_status how
 
--- Under properties of these lines, the key log was opened and the connection served, or the log could not be opened.
+-- Under properties of these lines, both logs were opened and the connection served, or a log could not be opened.
 abbrev pub PipeUnder : List PropLine → Type 0 → DiskState → DiskState → (ℕ → ℕ) → Option (List ℕ) → Option (List ℕ) → Option (List ℕ) → Option (List ℕ) → ℕ → Type 0
 PipeUnder lines same old new words left left' written now status = CannotOpen same old new status ⊎ Connects lines old new words left left' written now status
 
@@ -94,7 +95,7 @@ pub record PipesUnder (same : Type 0) (old new : DiskState) (acls acls' : Option
   pub read : ReadsProperties acls acls' lines
   pub pipe : PipeUnder lines same old new words left left' written now status
 
--- The properties were read first, then the key log was opened, and then the connection was served. What could not be done ends it,
+-- The properties were read first, then both logs were opened, and then the connection was served. What could not be done ends it,
 -- and nothing is written of that. `same_disk` says that the disk is as it was, and `same` that all else is, but for the properties.
 abbrev pub Pipe : Type 0 → Type 0 → DiskState → DiskState → Option (List ℕ) → Option (List ℕ) → (ℕ → ℕ) → Option (List ℕ) → Option (List ℕ) → Option (List ℕ) → Option (List ℕ) → ℕ → Type 0
 Pipe same_disk same old new acls acls' words left left' written now status =

@@ -1,27 +1,36 @@
 -- How a replay ends.
-use Rattle.std.specs.Prelude.{◌≡◌, ◌⊎◌, ℕ, ◌+◌, ◌<◌, ◌^◌, Bool, List, [], ◌∷◌, ◌++◌, length, count_by, take, codes, Option, Some}
+use Rattle.std.specs.Prelude.{◌≡◌, ◌⊎◌, ℕ, zero, suc, ◌+◌, ◌<◌, ◌^◌, Bool, List, [], ◌∷◌, ◌++◌, length, count_by, take, codes, Option, Some}
 use Rattle.std.specs.Fmt.{decimal}
 use Rattle.std.specs.Io.KnownBytes.{Appends}
-use Rattle.hk_base.specs.Disk.{DiskState, Tells, LeavesOnly}
+use Rattle.hk_base.specs.Disk.{DiskState, Tells}
 use Rattle.frame_log.specs.declared.fault.StartFault.{StartFault}
 use Rattle.frame_log.specs.declared.fault.StartFault.TheVariants as start
+use Rattle.edit_ops.specs.declared.ops.EditOp.{EditOp}
 use Rattle.key_rows.specs.declared.rows.KeyCommand.{KeyCommand}
 use Rattle.key_rows.specs.Table.{Table}
 use Rattle.prop_text.specs.declared.faults.PropFault.{PropFault}
 use Rattle.prop_text.specs.declared.faults.PropFault.TheVariants as prop_fault
 use Rattle.prop_text.specs.declared.lines.PropLine.{PropLine}
 use Rattle.kms_core.specs.State.{settled}
-use Rattle.kms_store.specs.Store.{IsDamagedAt, IsKeyLog, IsLeftByStart, StandsFor, next_opening}
-use Rattle.replay_text.specs.Events.{Spells}
-use Rattle.world_run.specs.declared.event.Event.TheVariants.{RestartKms}
+use Rattle.kms_store.specs.Store.{IsDamagedAt, IsKeyLog, next_opening}
+use Rattle.name_core.specs.State.{settled as settled_names}
+use Rattle.name_store.specs.Table.{NameTable, Replayed, next_opening as next_opening_of_names}
+use Rattle.name_store.specs.Store.{IsDamagedAt as IsDamagedName, IsNameLog}
+use Rattle.replay_text.specs.Events.{IsBad, Spells}
+use Rattle.world_run.specs.declared.event.Event.{Event}
+use Rattle.world_run.specs.declared.event.Event.TheVariants.{RestartKms, RestartName}
+use Rattle.world_run.specs.Acknowledged.{Acknowledged, HoldsLogs, LeavesBoth, also}
+use Rattle.world_run.specs.Keeps.{LeftByStarts}
+use Rattle.world_run.specs.Ledger.{Ledger, drawn_before}
+use Rattle.world_run.specs.Linked.{SoundFiles, StartsSound}
 use Rattle.world_run.specs.World.{RunningWorld, WorldState, first_world, world_of}
 use Rattle.hkms_tool.specs.declared.replay.Ended.{Ended}
-use Rattle.hkms_tool.specs.declared.replay.Ended.TheVariants.{Done, AclRefused, AclRepeated, AclUnknown, AclTooLong, BadLine, Damaged, StoreFault, NoMemory, ReadFault, WriteFault, Spent}
+use Rattle.hkms_tool.specs.declared.replay.Ended.TheVariants.{Done, AclRefused, AclRepeated, AclUnknown, AclTooLong, BadLine, DamagedKeys, DamagedNames, StoreFault, NoMemory, ReadFault, WriteFault, Spent}
 use Rattle.hkms_tool.specs.declared.props.PropsFault.{PropsFault}
 use Rattle.hkms_tool.specs.declared.props.PropsFault.TheVariants as props_fault
 use Rattle.hkms_tool.specs.Lines.{lines_of, is_lf}
 use Rattle.hkms_tool.specs.Properties.{HasPropsFault, ReadsProperties}
-use Rattle.hkms_tool.specs.Run.{FilesOpen, History, IsRefused, Runs, SurvivesIn, events_in, lines_in, logged_in, transcript, world_after}
+use Rattle.hkms_tool.specs.Run.{FilesOpen, History, Runs, SoundIn, SurvivesIn, lines_in, logged_in, transcript, world_after}
 
 -- an input has at most 2^40 bytes
 abbrev pub longest_input : ℕ
@@ -36,14 +45,18 @@ pub record IsPast (all : List ℕ) (lines : ℕ) : Type 0 where
 abbrev pub Starts : List ℕ → List (List ℕ) → Type 0
 Starts all lines = (after : List (List ℕ)) × (lines_of all ≡ lines ++ after)
 
--- after these lines and so many events the next line is refused, or the text is too long there
-abbrev pub BadNext : List ℕ → List (List ℕ) → ℕ → Type 0
-BadNext all lines events =
-    ((bad : List ℕ) × (more : List (List ℕ)) × (lines_of all ≡ lines ++ bad ∷ more) × IsRefused events bad) ⊎ (Starts all lines × IsPast all (length lines))
+-- after these lines the next line is a bad one, or the text is too long there
+abbrev pub BadNext : List ℕ → List (List ℕ) → Type 0
+BadNext all lines =
+    ((bad : List ℕ) × (more : List (List ℕ)) × (lines_of all ≡ lines ++ bad ∷ more) × IsBad bad) ⊎ (Starts all lines × IsPast all (length lines))
 
--- after these lines comes a restart
+-- after these lines comes one that spells this event
+abbrev pub NextSpells : List ℕ → List (List ℕ) → Event → Type 0
+NextSpells all lines e = (line : List ℕ) × (more : List (List ℕ)) × (lines_of all ≡ lines ++ line ∷ more) × Spells line e
+
+-- after these lines comes a restart of either service
 abbrev pub RestartNext : List ℕ → List (List ℕ) → Type 0
-RestartNext all lines = (line : List ℕ) × (more : List (List ℕ)) × (lines_of all ≡ lines ++ line ∷ more) × Spells line RestartKms
+RestartNext all lines = NextSpells all lines RestartKms ⊎ NextSpells all lines RestartName
 
 abbrev pub status_of : Ended → ℕ
 status_of Done = 0
@@ -52,7 +65,8 @@ status_of (AclRepeated number) = 3
 status_of (AclUnknown number) = 3
 status_of AclTooLong = 3
 status_of BadLine = 3
-status_of (Damaged at) = 4
+status_of (DamagedKeys at) = 4
+status_of (DamagedNames at) = 4
 status_of StoreFault = 5
 status_of NoMemory = 6
 status_of ReadFault = 7
@@ -67,21 +81,23 @@ last_line (AclRepeated number) lines = codes "acl line " ++ decimal number ++ co
 last_line (AclUnknown number) lines = codes "acl line " ++ decimal number ++ codes " unknown\n"
 last_line AclTooLong lines = codes "acl too long\n"
 last_line BadLine lines = codes "line " ++ decimal (lines + 1) ++ codes " refused\n"
-last_line (Damaged at) lines = codes "damaged keys " ++ decimal at ++ codes "\n"
+last_line (DamagedKeys at) lines = codes "damaged keys " ++ decimal at ++ codes "\n"
+last_line (DamagedNames at) lines = codes "damaged names " ++ decimal at ++ codes "\n"
 last_line StoreFault lines = codes "store fault\n"
 last_line NoMemory lines = codes "no memory\n"
 last_line ReadFault lines = codes "read fault\n"
 last_line WriteFault lines = []
 last_line Spent lines = codes "openings spent\n"
 
--- where the input stands at an end, after these lines and so many events
-abbrev pub Stops : Ended → List ℕ → List (List ℕ) → ℕ → Type 0
-Stops Done all lines events = lines_of all ≡ lines
-Stops BadLine all lines events = BadNext all lines events
-Stops (Damaged at) all lines events = RestartNext all lines
-Stops StoreFault all lines events = RestartNext all lines
-Stops Spent all lines events = RestartNext all lines
-Stops _ all lines events = Starts all lines
+-- where the input stands at an end, after these lines
+abbrev pub Stops : Ended → List ℕ → List (List ℕ) → Type 0
+Stops Done all lines = lines_of all ≡ lines
+Stops BadLine all lines = BadNext all lines
+Stops (DamagedKeys at) all lines = NextSpells all lines RestartKms
+Stops (DamagedNames at) all lines = NextSpells all lines RestartName
+Stops StoreFault all lines = RestartNext all lines
+Stops Spent all lines = RestartNext all lines
+Stops _ all lines = Starts all lines
 
 -- the text is a front of the other
 abbrev pub IsFront : List ℕ → List ℕ → Type 0
@@ -132,62 +148,94 @@ HasProperties (AclUnknown number) = ⊥
 HasProperties AclTooLong = ⊥
 HasProperties _ = Unit {0}
 
--- how a replay ends where the log could not be opened
-abbrev pub ended_by : StartFault → Ended
-ended_by (start.Damaged at) = Damaged at
-ended_by start.StoreFault = StoreFault
-ended_by start.NoMemory = NoMemory
-ended_by start.Spent = Spent
+-- the end that goes with damage in the log of a file
+abbrev pub damaged_in : ℕ → ℕ → Ended
+damaged_in zero at = DamagedKeys at
+damaged_in (suc n) at = DamagedNames at
 
--- what a start leaves of the log
-abbrev pub LeavesStarted : DiskState → List ℕ → Type 0
-LeavesStarted old bytes = old.leaves 0 bytes ⊎ IsLeftByStart (old.reads 0) bytes
+-- how a replay ends where the log of a file could not be opened
+abbrev pub ended_by : ℕ → StartFault → Ended
+ended_by file (start.Damaged at) = damaged_in file at
+ended_by file start.StoreFault = StoreFault
+ended_by file start.NoMemory = NoMemory
+ended_by file start.Spent = Spent
 
--- The key log could not be opened, and nothing was played.
+-- The log of a file could not be opened: the key log on file 0, or the edit log on file 1. A crash at any moment since left of each
+-- file what it may have left before, or what its opening leaves of the log found; and files that a run may start from, if it left
+-- such files before.
+pub record NotOpened (old new : DiskState) (file : ℕ) (fault : StartFault) : Type 0 where
+  pub which : (file ≡ 0) ⊎ (file ≡ 1)
+  pub damaged_keys : (at : ℕ) → file ≡ 0 → fault ≡ start.Damaged at → Tells old → IsDamagedAt (old.reads 0) at
+  pub damaged_names : (at : ℕ) → file ≡ 1 → fault ≡ start.Damaged at → Tells old → IsDamagedName (old.reads 1) at
+  pub spent_keys : file ≡ 0 → fault ≡ start.Spent → Tells old → (commands : List KeyCommand) × (table : Table) × IsKeyLog (old.reads 0) commands table × (table.opening ≡ 4294967295)
+  pub spent_names : file ≡ 1 → fault ≡ start.Spent → Tells old → (ops : List EditOp) × (made : Replayed) × IsNameLog (old.reads 1) ops made × (made.table.opening ≡ 4294967295)
+  pub moments : Tells old → LeavesBoth old new (LeftByStarts old)
+  pub sound : Tells old → (ledger : Ledger) (place : ℕ) → StartsSound old ledger place → LeavesBoth old new (SoundFiles ledger place)
+
+-- The logs could not be opened, and nothing was played.
 pub record Unopened (old new : DiskState) (written now : Option (List ℕ)) (how : Ended) : Type 0 where
+  pub file : ℕ
   pub fault : StartFault
-  pub damaged : (at : ℕ) → fault ≡ start.Damaged at → Tells old → IsDamagedAt (old.reads 0) at
-  pub spent : fault ≡ start.Spent → Tells old → (commands : List KeyCommand) × (table : Table) × IsKeyLog (old.reads 0) commands table × (table.opening ≡ 4294967295)
-  pub moments : Tells old → LeavesOnly 0 old new (LeavesStarted old)
+  pub not_opened : NotOpened old new file fault
   pub text : List ℕ
   pub wrote : Appends written now text
-  pub says : Says (ended_by fault) how 0 [] text
+  pub says : Says (ended_by file fault) how 0 [] text
 
--- The key log was found to be one of these commands. A crash at any moment since left of it what it may have left before; or what
--- the opening leaves of the log found; or a log of the commands acknowledged in a world on the way.
-pub record OnDisk (old new : DiskState) (words : ℕ → ℕ) (table : Table) (history : History) : Type 0 where
+-- what both logs hold once they are opened: what was found, and the next openings
+abbrev pub opened_logs : List KeyCommand → Table → List EditOp → NameTable → Acknowledged
+opened_logs commands table ops names = record { keys = commands ++ next_opening table ∷ []; names = ops ++ next_opening_of_names names ∷ [] }
+
+-- Both files were found to be logs, of these commands and operations. A crash at any moment since left of each file what it may have
+-- left before, or what its opening leaves of the log found; or both logs, with the records acknowledged in a world on the way.
+pub record OnDisk (old new : DiskState) (table : Table) (names : NameTable) (history : History) : Type 0 where
   pub commands : List KeyCommand
-  pub found : IsKeyLog (old.reads 0) commands table
-  pub moments : LeavesOnly 0 old new (λ bytes. LeavesStarted old bytes ⊎ SurvivesIn (commands ++ next_opening table ∷ []) (first_world table) words history bytes)
+  pub ops : List EditOp
+  pub used : List ℕ
+  pub keys : IsKeyLog (old.reads 0) commands table
+  pub edits : IsNameLog (old.reads 1) ops (record { table = names; used = used })
+  pub moments : LeavesBoth old new (λ image. LeftByStarts old image ⊎ SurvivesIn (opened_logs commands table ops names) (first_world table names) history image)
 
--- the disk holds the log of the commands acknowledged by now, beside the one that is pending in this world
-abbrev pub ReadsAs : DiskState → List KeyCommand → WorldState → Type 0
-ReadsAs new commands w = (r : RunningWorld) × (world_of r ≡ w) × StandsFor new r.keys.store commands
+-- The promise on zone files, with a ledger of draws among so many words that the files at the start allow: in each world on the way
+-- the zone files open, and a crash at any moment since left files that the next run may start from, with what was hidden on the way.
+pub record Promised (old new : DiskState) (words : ℕ → ℕ) (table : Table) (names : NameTable) (ledger : Ledger) (place : ℕ) (history : History) : Type 0 where
+  pub files_open : FilesOpen (drawn_before place ledger) (first_world table names) words history
+  pub sound : LeavesBoth old new (SoundIn (drawn_before place ledger) (first_world table names) words history)
+
+-- the disk holds both logs of the records acknowledged by now, beside those that are pending in this world
+abbrev pub ReadsAs : DiskState → Acknowledged → WorldState → Type 0
+ReadsAs new done w = (r : RunningWorld) × (world_of r ≡ w) × HoldsLogs new r done
 
 -- the same but where a restart may have been cut short
-abbrev pub ReadsAt : Ended → DiskState → List KeyCommand → WorldState → Type 0
-ReadsAt (Damaged at) new commands w = Unit {0}
-ReadsAt StoreFault new commands w = Unit {0}
-ReadsAt NoMemory new commands w = Unit {0}
-ReadsAt Spent new commands w = Unit {0}
-ReadsAt _ new commands w = ReadsAs new commands w
+abbrev pub ReadsAt : Ended → DiskState → Acknowledged → WorldState → Type 0
+ReadsAt (DamagedKeys at) new done w = Unit {0}
+ReadsAt (DamagedNames at) new done w = Unit {0}
+ReadsAt StoreFault new done w = Unit {0}
+ReadsAt NoMemory new done w = Unit {0}
+ReadsAt Spent new done w = Unit {0}
+ReadsAt _ new done w = ReadsAs new done w
+
+-- the last opening of a log is used, the record that was pending kept or not
+abbrev pub IsSpent : WorldState → Type 0
+IsSpent w = (kept : Bool) × (((settled kept w.keys).table.opening ≡ 4294967295) ⊎ ((settled_names kept w.names).table.opening ≡ 4294967295))
 
 -- why a restart could not open its log, where the disk tells what it holds: it is never damaged, and spent only with the last opening
 abbrev pub RestartStops : Ended → WorldState → Type 0
-RestartStops (Damaged at) w = ⊥
-RestartStops Spent w = (kept : Bool) × ((settled kept w.keys).table.opening ≡ 4294967295)
+RestartStops (DamagedKeys at) w = ⊥
+RestartStops (DamagedNames at) w = ⊥
+RestartStops Spent w = IsSpent w
 RestartStops _ w = Unit {0}
 
--- Under properties of these lines, lines of the input were played from the world on that the key log was found to stand for.
+-- Under properties of these lines, lines of the input were played from the world on that the two logs were found to stand for.
 pub record Played (lines : List PropLine) (old new : DiskState) (words : ℕ → ℕ) (left : Option (List ℕ)) (stop : Ended) (history : History) : Type 0 where
   pub table : Table
+  pub names : NameTable
   pub before : ℕ
-  pub runs : Runs lines (Tells old) (first_world table) words before history
-  pub files_open : Tells old → FilesOpen (first_world table) words history
-  pub on_disk : Tells old → OnDisk old new words table history
-  pub reads : (told : Tells old) → ReadsAt stop new ((on_disk told).commands ++ next_opening table ∷ logged_in history) (world_after (first_world table) history)
-  pub restart : Tells old → RestartStops stop (world_after (first_world table) history)
-  pub stops : (all : List ℕ) → left ≡ Some all → Stops stop all (lines_in history) (events_in history)
+  pub runs : Runs lines (Tells old) (first_world table names) words before history
+  pub on_disk : Tells old → OnDisk old new table names history
+  pub promise : Tells old → (ledger : Ledger) (place : ℕ) → StartsSound old ledger place → Promised old new words table names ledger place history
+  pub reads : (told : Tells old) → let found = on_disk told in ReadsAt stop new (also (opened_logs found.commands table found.ops names) (logged_in history)) (world_after (first_world table names) history)
+  pub restart : Tells old → RestartStops stop (world_after (first_world table names) history)
+  pub stops : (all : List ℕ) → left ≡ Some all → Stops stop all (lines_in history)
   pub has_properties : HasProperties stop
 
 pub record PlaysOn (lines : List PropLine) (old new : DiskState) (words : ℕ → ℕ) (left written now : Option (List ℕ)) (how : Ended) : Type 0 where

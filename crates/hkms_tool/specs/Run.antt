@@ -1,36 +1,30 @@
 -- A run of lines: what their events did, and what holds in each world on the way.
-use Rattle.std.specs.Prelude.{◌⊎◌, ◌≤◌, ◌<◌, ℕ, ◌+◌, List, [], ◌∷◌, ◌++◌, Option, None, Some}
+use Rattle.std.specs.Prelude.{◌⊎◌, ◌≤◌, ℕ, ◌+◌, List, [], ◌∷◌, ◌++◌, Option, None, Some}
+use Rattle.hk_base.specs.Disk.{Image}
 use Rattle.hk_base.specs.Faults.{Rose}
-use Rattle.key_rows.specs.declared.rows.KeyCommand.{KeyCommand}
 use Rattle.prop_text.specs.declared.lines.PropLine.{PropLine}
-use Rattle.replay_text.specs.Events.{IsBad, IsQuiet, Spells}
+use Rattle.replay_text.specs.Events.{IsQuiet, Spells}
 use Rattle.replay_text.specs.Transcript.{line_text}
 use Rattle.world_run.specs.declared.event.Event.{Event}
 use Rattle.world_run.specs.declared.event.Line.{Line}
 use Rattle.world_run.specs.World.{WorldState}
+use Rattle.world_run.specs.Acknowledged.{Acknowledged, Survives, also, nothing_acknowledged}
 use Rattle.world_run.specs.Keeps.{LinkedStep}
-use Rattle.world_run.specs.Ledger.{Hidden, hidden_after, nothing_drawn}
-use Rattle.world_run.specs.Promise.{Survives, ZoneFilesOpen}
-
--- an input has at most so many events
-abbrev pub most_events : ℕ
-most_events = 10000
-
--- after so many events the line is refused: it is bad, or one event too many
-abbrev pub IsRefused : ℕ → List ℕ → Type 0
-IsRefused events line = IsBad line ⊎ ((most_events ≤ events) × (event : Event) × Spells line event)
+use Rattle.world_run.specs.Ledger.{Hidden, hidden_after}
+use Rattle.world_run.specs.Linked.{SoundFiles}
+use Rattle.world_run.specs.Promise.{ZoneFilesOpen}
 
 -- the words behind the first n
 abbrev pub behind : ℕ → (ℕ → ℕ) → ℕ → ℕ
 behind n words k = words (n + k)
 
--- An event that happened: its answer, how many words it drew, the commands that it had acknowledged, the world after it, and the
+-- An event that happened: its answer, how many words it drew, the records that it had acknowledged, the world after it, and the
 -- disk's count of faults then.
 pub record Happened : Type 0 where
   pub event : Event
   pub reply : Line
   pub drawn : ℕ
-  pub logged : List KeyCommand
+  pub logged : Acknowledged
   pub world : WorldState
   pub faults : ℕ
 
@@ -53,8 +47,8 @@ abbrev pub drawn_of : Option Happened → ℕ
 drawn_of None = 0
 drawn_of (Some h) = h.drawn
 
-abbrev pub logged_of : Option Happened → List KeyCommand
-logged_of None = []
+abbrev pub logged_of : Option Happened → Acknowledged
+logged_of None = nothing_acknowledged
 logged_of (Some h) = h.logged
 
 abbrev pub world_of_line : WorldState → Option Happened → WorldState
@@ -72,7 +66,7 @@ told_of events (Some h) = line_text (events + 1) h.reply
 
 abbrev pub hidden_of : WorldState → (ℕ → ℕ) → Option Happened → Hidden → Hidden
 hidden_of w words None hidden = hidden
-hidden_of w words (Some h) hidden = hidden_after w words h.event h.reply h.drawn hidden
+hidden_of w words (Some h) hidden = hidden_after w words h.event h.reply h.drawn h.world hidden
 
 -- what a history comes to
 
@@ -89,10 +83,10 @@ abbrev pub drawn_in : History → ℕ
 drawn_in [] = 0
 drawn_in (x ∷ earlier) = drawn_in earlier + drawn_of x.event
 
--- the commands acknowledged in it
-abbrev pub logged_in : History → List KeyCommand
-logged_in [] = []
-logged_in (x ∷ earlier) = logged_in earlier ++ logged_of x.event
+-- the records acknowledged in it
+abbrev pub logged_in : History → Acknowledged
+logged_in [] = nothing_acknowledged
+logged_in (x ∷ earlier) = also (logged_in earlier) (logged_of x.event)
 
 -- the world behind it, from this one on
 abbrev pub world_after : WorldState → History → WorldState
@@ -108,16 +102,15 @@ abbrev pub transcript : History → List ℕ
 transcript [] = []
 transcript (x ∷ earlier) = transcript earlier ++ told_of (events_in earlier) x.event
 
--- what is hidden behind it
-abbrev pub hidden_in : WorldState → (ℕ → ℕ) → History → Hidden
-hidden_in first words [] = nothing_drawn
-hidden_in first words (x ∷ earlier) = hidden_of (world_after first earlier) (behind (drawn_in earlier) words) x.event (hidden_in first words earlier)
+-- what is hidden behind it, with this before it
+abbrev pub hidden_in : Hidden → WorldState → (ℕ → ℕ) → History → Hidden
+hidden_in before first words [] = before
+hidden_in before first words (x ∷ earlier) = hidden_of (world_after first earlier) (behind (drawn_in earlier) words) x.event (hidden_in before first words earlier)
 
 -- Under properties of these lines, the event of a line happens in this world, after so many events, with these words to come: the
 -- moment of an event is its number. A store fault comes only where the disk's count of faults rose in the event.
 pub record EventRuns (lines : List PropLine) (tells : Type 0) (w : WorldState) (words : ℕ → ℕ) (events faults : ℕ) (line : List ℕ) (h : Happened) : Type 0 where
   pub spells : Spells line h.event
-  pub few : events < most_events
   pub later : faults ≤ h.faults
   pub step : LinkedStep lines w words (events + 1) h.event (Rose faults h.faults) tells h.reply h.drawn h.logged h.world
 
@@ -134,14 +127,23 @@ Runs lines tells first words before (x ∷ earlier) =
     LineRuns lines tells (world_after first earlier) (behind (drawn_in earlier) words) (events_in earlier) (faults_after before earlier) x.line x.event
     × Runs lines tells first words before earlier
 
--- In each world on the way the zone files open.
-abbrev pub FilesOpen : WorldState → (ℕ → ℕ) → History → Type 0
-FilesOpen first words [] = ZoneFilesOpen first nothing_drawn
-FilesOpen first words (x ∷ earlier) = ZoneFilesOpen (world_after first (x ∷ earlier)) (hidden_in first words (x ∷ earlier)) × FilesOpen first words earlier
+-- In each world on the way the zone files open, with what is hidden by then.
+abbrev pub FilesOpen : Hidden → WorldState → (ℕ → ℕ) → History → Type 0
+FilesOpen before first words [] = ZoneFilesOpen first before
+FilesOpen before first words (x ∷ earlier) =
+    ZoneFilesOpen (world_after first (x ∷ earlier)) (hidden_in before first words (x ∷ earlier)) × FilesOpen before first words earlier
 
--- The file is one that a crash may have left in a world on the way: a log of the commands acknowledged by then, those before the
--- run first, with which the zone files open.
-abbrev pub SurvivesIn : List KeyCommand → WorldState → (ℕ → ℕ) → History → List ℕ → Type 0
-SurvivesIn before first words [] bytes = Survives first nothing_drawn before bytes
-SurvivesIn before first words (x ∷ earlier) bytes =
-    Survives (world_after first (x ∷ earlier)) (hidden_in first words (x ∷ earlier)) (before ++ logged_in (x ∷ earlier)) bytes ⊎ SurvivesIn before first words earlier bytes
+-- The two files are what a crash may leave in a world on the way: logs of the records acknowledged by then, those before the run
+-- first.
+abbrev pub SurvivesIn : Acknowledged → WorldState → History → Image → Type 0
+SurvivesIn before first [] image = Survives first before image
+SurvivesIn before first (x ∷ earlier) image = Survives (world_after first (x ∷ earlier)) (also before (logged_in (x ∷ earlier))) image ⊎ SurvivesIn before first earlier image
+
+-- files that a run may start from, with what is hidden by now
+abbrev pub SoundWith : Hidden → Image → Type 0
+SoundWith hidden image = SoundFiles hidden.ledger hidden.place image
+
+-- The two files are such as a run may start from, with what is hidden at a world on the way.
+abbrev pub SoundIn : Hidden → WorldState → (ℕ → ℕ) → History → Image → Type 0
+SoundIn before first words [] image = SoundWith before image
+SoundIn before first words (x ∷ earlier) image = SoundWith (hidden_in before first words (x ∷ earlier)) image ⊎ SoundIn before first words earlier image

@@ -1,21 +1,23 @@
 -- One line of a replay.
-use Rattle.std.specs.Prelude.{◌≡◌, ◌⊎◌, ◌≤◌, ◌≢◌, ℕ, ◌+◌, ◌^◌, Bool, true, false, List, [], ◌++◌, length, Option, None, Some, IsTrue}
+use Rattle.std.specs.Prelude.{◌≡◌, ◌⊎◌, ◌≤◌, ◌≢◌, ℕ, ◌+◌, ◌^◌, Bool, true, false, List, [], length, Option, None, Some, IsTrue}
 use Rattle.std.specs.Io.KnownBytes.{Appends, Consumes, IsAtEnd}
-use Rattle.hk_base.specs.Disk.{DiskState, Tells, RunOn, LeavesOnly}
+use Rattle.hk_base.specs.Disk.{DiskState, Tells}
 use Rattle.hk_base.specs.Faults.{Rose}
 use Rattle.hk_base.specs.Reading.{IsMore}
 use Rattle.hk_base.specs.Writing.{WroteFront}
-use Rattle.frame_log.specs.declared.fault.StartFault.{StartFault}
-use Rattle.key_rows.specs.declared.rows.KeyCommand.{KeyCommand}
 use Rattle.kms_acls.specs.StandsFor.{StandsFor as ListsFor}
-use Rattle.kms_store.specs.Store.{StandsFor}
 use Rattle.prop_text.specs.declared.lines.PropLine.{PropLine}
-use Rattle.replay_text.specs.Events.{Spells}
+use Rattle.replay_text.specs.Events.{IsBad, Spells}
 use Rattle.replay_text.specs.Transcript.{line_text}
+use Rattle.world_run.specs.declared.event.Event.{Event}
 use Rattle.world_run.specs.declared.event.Line.{Line}
-use Rattle.world_run.specs.declared.event.Event.TheVariants.{RestartKms}
+use Rattle.world_run.specs.declared.event.WorldFault.{WorldFault}
+use Rattle.world_run.specs.Acknowledged.{Acknowledged, HoldsLogs, LeavesBoth, RunBoth, also, nothing_acknowledged}
 use Rattle.world_run.specs.World.{RunningWorld, WorldState, world_of}
-use Rattle.world_run.specs.Keeps.{Fails, SurvivesThrough}
+use Rattle.world_run.specs.Keeps.{Fails, SoundThrough, SurvivesThrough}
+use Rattle.world_run.specs.Ledger.{Hidden}
+use Rattle.world_run.specs.Linked.{LinkedWorld}
+use Rattle.world_run.specs.Promise.{ZoneFilesOpen}
 use Rattle.hkms_tool.specs.declared.lines.Got.{Got}
 use Rattle.hkms_tool.specs.declared.lines.Got.TheVariants as got
 use Rattle.hkms_tool.specs.declared.replay.Ended.{Ended}
@@ -24,7 +26,7 @@ use Rattle.hkms_tool.specs.declared.stage.Play.{Play}
 use Rattle.hkms_tool.specs.declared.stage.Play.TheVariants.{Played, BadLine, Unread, Untold, Unwritten, Unopened}
 use Rattle.hkms_tool.specs.Lines.{is_line, line_used}
 use Rattle.hkms_tool.specs.Replay.{HasProperties, IsTold, ReadsAt, RestartStops, Stops, ended_by, last_line}
-use Rattle.hkms_tool.specs.Run.{FilesOpen, Happened, History, IsRefused, LineRuns, Runs, SurvivesIn, drawn_of, events_in, events_of, faults_of, lines_in, logged_in, logged_of, told_of, transcript, world_after, world_of_line}
+use Rattle.hkms_tool.specs.Run.{FilesOpen, Happened, History, LineRuns, Runs, SoundIn, SurvivesIn, drawn_of, events_of, faults_of, hidden_of, lines_in, logged_in, logged_of, told_of, transcript, world_after, world_of_line}
 
 -- the access control lists of the world stand for these lines
 abbrev pub HasLists : RunningWorld → List PropLine → Type 0
@@ -41,11 +43,13 @@ pub record View : Type 0 where
   pub events : ℕ
   pub written : Option (List ℕ)
 
--- what the layer above needs of the log: the commands acknowledged are behind those before, and what a crash may leave
-pub record GoesOn (old new : DiskState) (r r' : RunningWorld) (logged : List KeyCommand) : Type 0 where
-  pub stands : Tells old → (commands : List KeyCommand) → StandsFor old r.keys.store commands → StandsFor new r'.keys.store (commands ++ logged)
+-- What the layer above needs of the logs: the records acknowledged are behind those before, and what a crash may leave, with what
+-- is hidden before made into what is hidden after.
+pub record GoesOn (old new : DiskState) (r r' : RunningWorld) (logged : Acknowledged) (after : Hidden → Hidden) : Type 0 where
+  pub stands : Tells old → (done : Acknowledged) → HoldsLogs old r done → HoldsLogs new r' (also done logged)
   pub survives : SurvivesThrough old new r
-  pub run : RunOn 0 old new
+  pub sound : Tells old → (h : Hidden) → LinkedWorld (world_of r) h → SoundThrough old new r (after h)
+  pub run : RunBoth old new
 
 -- under properties of these lines a line was played, with its event if it has one
 pub record PlaysLine (lines : List PropLine) (old new : DiskState) (v : View) (line : List ℕ) (event : Option Happened) (v' : View) : Type 0 where
@@ -55,24 +59,25 @@ pub record PlaysLine (lines : List PropLine) (old new : DiskState) (v : View) (l
   pub faults_are : new.faults ≡ faults_of old.faults event
   pub rest : (k : ℕ) → v'.words k ≡ v.words (drawn_of event + k)
   pub counted : v'.events ≡ v.events + events_of event
-  pub goes_on : GoesOn old new v.world v'.world (logged_of event)
+  pub goes_on : GoesOn old new v.world v'.world (logged_of event) (hidden_of (world_of v.world) v.words event)
 
 -- a restart could not open its log
-pub record StopsAtRestart (old new : DiskState) (v : View) (line : List ℕ) (fault : StartFault) (v' : View) : Type 0 where
-  pub spells : Spells line RestartKms
-  pub fails : Fails old new v.world v.words RestartKms fault v'.world v'.words
+pub record StopsAtRestart (old new : DiskState) (v : View) (line : List ℕ) (fault : WorldFault) (v' : View) : Type 0 where
+  pub restart : Event
+  pub spells : Spells line restart
+  pub fails : Fails old new v.world v.words restart fault.file fault.fault v'.world v'.words
 
 -- nothing was done
 pub record Untouched (old new : DiskState) (v v' : View) : Type 0 where
   pub wrote : Appends v.written v'.written []
   pub world_is : v'.world ≡ v.world
-  pub goes_on : GoesOn old new v.world v'.world []
+  pub goes_on : GoesOn old new v.world v'.world nothing_acknowledged (λ h. h)
   pub faults_are : new.faults ≡ old.faults
 
 -- how a line came out
 abbrev pub PlaysSo : List PropLine → DiskState → DiskState → View → List ℕ → Play → View → Type 0
 PlaysSo lines old new v line Played v' = (event : Option Happened) × PlaysLine lines old new v line event v' × Appends v.written v'.written (told_of v.events event)
-PlaysSo lines old new v line BadLine v' = IsRefused v.events line × Untouched old new v v'
+PlaysSo lines old new v line BadLine v' = IsBad line × Untouched old new v v'
 PlaysSo lines old new v line Unread v' = Untouched old new v v'
 PlaysSo lines old new v line Untold v' = (event : Option Happened) × PlaysLine lines old new v line event v' × Appends v.written v'.written []
 PlaysSo lines old new v line Unwritten v' = (event : Option Happened) × PlaysLine lines old new v line event v' × WroteFront v.written v'.written (told_of v.events event)
@@ -86,7 +91,7 @@ end_of_play last BadLine = Some ended.BadLine
 end_of_play last Unread = Some ended.NoMemory
 end_of_play last Untold = Some ended.NoMemory
 end_of_play last Unwritten = Some ended.WriteFault
-end_of_play last (Unopened fault) = Some (ended_by fault)
+end_of_play last (Unopened fault) = Some (ended_by fault.file fault.fault)
 
 -- whether the line is counted as played
 abbrev pub counts : Play → ℕ
@@ -169,21 +174,31 @@ pub record Closes (stop : Ended) (lines : ℕ) (written now : Option (List ℕ))
 abbrev pub WritesLast : Option (List ℕ) → Option (List ℕ) → List ℕ → Ended → Ended → Type 0
 WritesLast written now last end how = ((how ≡ end) × Appends written now last) ⊎ ((how ≡ ended.WriteFault) × WroteFront written now last)
 
--- what is known of the log of commands that were acknowledged before the lines, once they were played
-pub record Kept (old new : DiskState) (first : WorldState) (words : ℕ → ℕ) (history : History) (stop : Ended) (commands : List KeyCommand) : Type 0 where
-  pub moments : LeavesOnly 0 old new (SurvivesIn commands first words history)
-  pub reads : ReadsAt stop new (commands ++ logged_in history) (world_after first history)
+-- what is known of the logs, which held these records before the lines, once they were played
+pub record Kept (old new : DiskState) (first : WorldState) (history : History) (stop : Ended) (done : Acknowledged) : Type 0 where
+  pub moments : LeavesBoth old new (SurvivesIn done first history)
+  pub reads : ReadsAt stop new (also done (logged_in history)) (world_after first history)
+
+-- what is hidden beside a world that is linked, and whose zone files open
+pub record IsHidden (w : WorldState) (h : Hidden) : Type 0 where
+  pub linked : LinkedWorld w h
+  pub files_open : ZoneFilesOpen w h
+
+-- what is known of zone files once the lines were played, with what was hidden before them
+pub record KeptOpen (old new : DiskState) (first : WorldState) (words : ℕ → ℕ) (history : History) (before : Hidden) : Type 0 where
+  pub files_open : FilesOpen before first words history
+  pub sound : LeavesBoth old new (SoundIn before first words history)
 
 -- Lines were played, until one of them ended the replay; nothing was written of a last line yet.
 pub record Ran (lines : List PropLine) (old new : DiskState) (r : RunningWorld) (words : ℕ → ℕ) (left written now : Option (List ℕ)) (stop : Ended) (count : ℕ) : Type 0 where
   pub history : History
   pub runs : Runs lines (Tells old) (world_of r) words old.faults history
-  pub files_open : Tells old → FilesOpen (world_of r) words history
-  pub kept : Tells old → (commands : List KeyCommand) → StandsFor old r.keys.store commands → Kept old new (world_of r) words history stop commands
-  pub run : RunOn 0 old new
+  pub kept : Tells old → (done : Acknowledged) → HoldsLogs old r done → Kept old new (world_of r) history stop done
+  pub promise : Tells old → (done : Acknowledged) → HoldsLogs old r done → (before : Hidden) → IsHidden (world_of r) before → KeptOpen old new (world_of r) words history before
+  pub run : RunBoth old new
   pub restart : Tells old → RestartStops stop (world_after (world_of r) history)
   pub has_properties : HasProperties stop
-  pub stops : (all : List ℕ) → left ≡ Some all → Stops stop all (lines_in history) (events_in history)
+  pub stops : (all : List ℕ) → left ≡ Some all → Stops stop all (lines_in history)
   pub text : List ℕ
   pub wrote : Appends written now text
   pub told : IsTold stop text (transcript history)

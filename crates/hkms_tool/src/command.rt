@@ -61,7 +61,7 @@ fn obey<A: Source, S: Source, K: Sink, D: Disk, W: Words, C: Clock>(
 
 /// Does what the words of the command line say, and answers the status. `replay` replays the event
 /// lines of the input, and `pipe` serves the input as a connection, both over the key log on file 0 of
-/// the disk and under the properties of `acls`. Help and version are shown, with status 0. Words that
+/// the disk and the edit log on file 1, and under the properties of `acls`. Help and version are shown, with status 0. Words that
 /// have a mistake are refused with status 2 and the line `usage refused`. Where there is no memory to
 /// read the words the status is 6, and the line is `no memory`. At each other order than the two
 /// commands nothing but the output is used.

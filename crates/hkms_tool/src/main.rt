@@ -5,6 +5,9 @@
 mod acl_tests;
 mod command;
 mod lines;
+#[cfg(test)]
+mod log_tests;
+mod opening;
 mod pipe;
 #[cfg(test)]
 mod pipe_tests;

@@ -1,6 +1,6 @@
 //! Connections over sources, sinks, disks and words in memory.
 use crate::command::hkms;
-use crate::tests::{HONEST, Noon, Outside, Played, disk_of, replay_over};
+use crate::tests::{HONEST, Noon, Outside, Played, disk_of, disk_with, replay_over};
 use disk_kinds::{ListWords, MemSink, MemSource, PlainDisk};
 use hk_base::{Disk, Text};
 use std::alloc::{AllocError, Global};
@@ -175,10 +175,16 @@ fn properties_that_are_refused_are_status_3_and_write_nothing(rt: HostRuntime) -
 
 #[test]
 fn a_damaged_log_is_status_4_and_writes_nothing(rt: HostRuntime) -> Result<(), Fail> {
-    let mut disk = disk_of(rt.alloc(), b"HKMSKEY2\0\0", &[])?;
-    let played = run_over(rt.alloc(), &mut disk, "pipe", NAMES, HONEST)?;
-    assert_eq!(rt; played.status, 4);
-    assert!(rt; played.text.is_empty());
+    let cases = [
+        (b"HKMSKEY2\0\0".as_slice(), b"".as_slice()),
+        (b"".as_slice(), b"HKMSNAM2\0\0".as_slice()),
+    ];
+    for (keys, names) in cases {
+        let mut disk = disk_with(rt.alloc(), keys, names, &[])?;
+        let played = run_over(rt.alloc(), &mut disk, "pipe", NAMES, HONEST)?;
+        assert_eq!(rt; played.status, 4);
+        assert!(rt; played.text.is_empty());
+    }
     Ok(())
 }
 

@@ -1,28 +1,24 @@
 //! Replays the event lines of an input.
-ghost use Rattle.std.specs.Prelude.{◌≡◌, ◌⊎◌, ◌+◌, ◌≤◌, ◌<◌, ◌^◌, List, ℕ, [], Some, length, codes, string_bytes, IfOk, IsErrOf, MatchResult};
+ghost use Rattle.std.specs.Prelude.{◌≡◌, ◌⊎◌, ◌≤◌, ◌<◌, ◌^◌, List, [], Some, length, codes, string_bytes, MatchResult};
 ghost use Rattle.std.specs.Io.KnownBytes.{IsAtEnd};
-ghost use Rattle.hk_base.specs.Disk.{LeavesOnly, RunOn, Tells};
+ghost use Rattle.hk_base.specs.Disk.{Tells};
 ghost use Rattle.hk_base.specs.Faults.{Rose};
 ghost use Rattle.hk_base.specs.Reading.{ahead};
-ghost use Rattle.frame_log.specs.declared.fault.StartFault.TheVariants as start;
-ghost use Rattle.key_rows.specs.declared.rows.KeyCommand.{KeyCommand};
-ghost use Rattle.key_rows.specs.Table.{Table};
-ghost use Rattle.kms_store.specs.Store.{IsDamagedAt, IsKeyLog, StandsFor};
 ghost use Rattle.prop_text.specs.declared.lines.PropLine.{PropLine};
-ghost use Rattle.world_run.specs.World.{first_world, world_of};
-ghost use Rattle.world_run.specs.Keeps.{Begins};
-ghost use Rattle.hkms_tool.specs.Replay.{LeavesStarted, Replay, ReplayUnder, ended_by, ended_by_props, ended_by_text, last_line, status_of};
+ghost use Rattle.world_run.specs.Acknowledged.{Acknowledged, HoldsLogs};
+ghost use Rattle.hkms_tool.specs.Replay.{Replay, ReplayUnder, damaged_in, ended_by, ended_by_props, ended_by_text, last_line, status_of};
 ghost use Rattle.hkms_tool.specs.Steps.{Caused, Closes, HasLists, LinePlayed, Next, Ran, WritesLast};
 ghost use Rattle.hkms_tool.specs.declared.replay.Ended.{Ended};
 
 use crate::lines::{Got, read_line};
+use crate::opening::open_logs;
 use crate::props::{PropsFault, read_properties};
 use crate::stage::{Play, Stage};
 use frame_log::StartFault;
 use hk_base::{ByteList, Disk, Reader, Sink, Source, Words, write_all};
 use prop_text::{PropFault, Props};
 use std::alloc::{AllocError, Global};
-use world_run::World;
+use world_run::{World, WorldFault};
 
 /// How a replay ended.
 #[derive(Clone, Copy, Debug, PartialEq, Eq)]
@@ -40,8 +36,10 @@ pub enum Ended {
     /// A line was refused.
     BadLine,
     /// The key log is damaged at this offset.
-    Damaged { at: u64 },
-    /// The disk failed when the key log was opened.
+    DamagedKeys { at: u64 },
+    /// The edit log is damaged at this offset.
+    DamagedNames { at: u64 },
+    /// The disk failed when a log was opened.
     StoreFault,
     /// Memory was wanting.
     NoMemory,
@@ -49,7 +47,7 @@ pub enum Ended {
     ReadFault,
     /// The output failed.
     WriteFault,
-    /// The last opening of the key log is used.
+    /// The last opening of a log is used.
     Spent,
 }
 
@@ -76,12 +74,22 @@ pub fn ended_by_props(fault: PropsFault) -> Ended
     }
 }
 
-/// How a replay ends where the key log could not be opened.
-pub fn ended_by(fault: StartFault) -> Ended
-    ensures { result ≡ ended_by fault }
+/// How a replay ends where the log on a file is damaged.
+fn damaged_in(file: u8, at: u64) -> Ended
+    ensures { result ≡ damaged_in file at }
 {
-    match fault {
-        StartFault::Damaged { at } => Ended::Damaged { at },
+    match file {
+        0 => Ended::DamagedKeys { at },
+        _ => Ended::DamagedNames { at },
+    }
+}
+
+/// How a replay ends where a log could not be opened.
+pub fn ended_by(why: WorldFault) -> Ended
+    ensures { result ≡ ended_by why.file why.fault }
+{
+    match why.fault {
+        StartFault::Damaged { at } => damaged_in(why.file, at),
         StartFault::StoreFault => Ended::StoreFault,
         StartFault::NoMemory => Ended::NoMemory,
         StartFault::Spent => Ended::Spent,
@@ -98,31 +106,21 @@ struct Replaying {
 }
 
 impl Replaying {
-    /// Opens the key log. Calls are judged by the properties.
-    fn start<D: Disk>(alloc: Global, disk: &mut D, props: &Props) -> Result<Replaying, StartFault>
-        ensures began { IfOk result (λ r. Begins (D.state disk.old) (D.state disk.new) r.stage.world) }
-        ensures lists { IfOk result (λ r. HasLists r.stage.world props.now.lines) }
-        ensures fresh { IfOk result (λ r. (r.stage.events ≡ 0) × (r.count ≡ 0) × (r.reader.used ≡ 0) × (r.reader.bytes ≡ [])) }
-        ensures damaged { (at : ℕ) → IsErrOf result (start.Damaged at) → Tells (D.state disk.old) → IsDamagedAt ((D.state disk.old).reads 0) at }
-        ensures spent { IsErrOf result start.Spent → Tells (D.state disk.old) → ((commands : List KeyCommand) × (table : Table)
-            × IsKeyLog ((D.state disk.old).reads 0) commands table × (table.opening ≡ 4294967295)) }
-        ensures moments { Tells (D.state disk.old) → LeavesOnly 0 (D.state disk.old) (D.state disk.new) (LeavesStarted (D.state disk.old)) }
-        ensures run { RunOn 0 (D.state disk.old) (D.state disk.new) }
-        ensures cause { IsErrOf result start.StoreFault → Rose (D.state disk.old).faults (D.state disk.new).faults }
+    /// Stands before the first line, over services that were started.
+    fn new(alloc: Global, world: World) -> Replaying
+        ensures world { result.stage.world ≡ world }
+        ensures fresh { (result.stage.events ≡ 0) × (result.count ≡ 0) × (result.reader.used ≡ 0) × (result.reader.bytes ≡ []) }
     {
-        match World::start(alloc, disk, props) {
-            Err(why) => Err(why.fault),
-            Ok(world) => Ok(Replaying {
-                reader: Reader::new(),
-                line: ByteList::new(alloc),
-                stage: Stage {
-                    alloc,
-                    world,
-                    events: 0,
-                    answer: ByteList::new(alloc),
-                },
-                count: 0,
-            }),
+        Replaying {
+            reader: Reader::new(),
+            line: ByteList::new(alloc),
+            stage: Stage {
+                alloc,
+                world,
+                events: 0,
+                answer: ByteList::new(alloc),
+            },
+            count: 0,
         }
     }
 
@@ -136,8 +134,7 @@ impl Replaying {
     ) -> Ended
         requires fresh { (self.old.stage.events ≡ 0) × (self.old.count ≡ 0) × (self.old.reader.used ≡ 0) × (self.old.reader.bytes ≡ []) }
         requires lists { (lines : List PropLine) × HasLists self.old.stage.world lines }
-        requires first { (table : Table) × (world_of self.old.stage.world ≡ first_world table) }
-        requires stands { Tells (D.state disk.old) → ((commands : List KeyCommand) × StandsFor (D.state disk.old) self.old.stage.world.keys.store commands) }
+        requires stands { Tells (D.state disk.old) → ((done : Acknowledged) × HoldsLogs (D.state disk.old) self.old.stage.world done) }
         ensures ran { (lines : List PropLine) → HasLists self.old.stage.world lines → Ran lines (D.state disk.old) (D.state disk.new) self.old.stage.world (W.to_come words.old) (S.left input.old) (K.written out.old) (K.written out.new) result self.new.count }
         ensures end { result ≡ Ended.Done → IsAtEnd (S.left input.new) }
         ensures count { self.new.count < 2 ^ 41 }
@@ -159,12 +156,12 @@ impl Replaying {
         out: &mut K,
         words: &mut W,
     ) -> Option<Ended>
-        requires few { self.old.stage.events ≤ 10000 }
+        requires few { self.old.stage.events ≤ self.old.count }
         requires count { self.old.count ≤ 2 ^ 40 }
         requires lists { (lines : List PropLine) × HasLists self.old.stage.world lines }
-        requires stands { Tells (D.state disk.old) → ((commands : List KeyCommand) × StandsFor (D.state disk.old) self.old.stage.world.keys.store commands) }
+        requires stands { Tells (D.state disk.old) → ((done : Acknowledged) × HoldsLogs (D.state disk.old) self.old.stage.world done) }
         ensures next { (lines : List PropLine) → HasLists self.old.stage.world lines → Next lines (D.state disk.old) (D.state disk.new) (record { view = record { world = self.old.stage.world; words = W.to_come words.old; events = self.old.stage.events; written = K.written out.old }; ahead = ahead self.old.reader (S.left input.old); used = self.old.reader.used; count = self.old.count }) result (record { view = record { world = self.new.stage.world; words = W.to_come words.new; events = self.new.stage.events; written = K.written out.new }; ahead = ahead self.new.reader (S.left input.new); used = self.new.reader.used; count = self.new.count }) }
-        ensures few { self.new.stage.events ≤ 10000 }
+        ensures few { self.new.stage.events ≤ self.new.count }
         ensures small { self.new.reader.used ≤ 2 ^ 40 }
         ensures caused { Caused (S.faults input.old) (S.faults input.new) (K.faults out.old) (K.faults out.new) (D.state disk.old).faults (D.state disk.new).faults result }
     {
@@ -187,12 +184,12 @@ impl Replaying {
         words: &mut W,
     ) -> Option<Ended>
         requires short { length self.old.line ≤ 1048576 }
-        requires few { self.old.stage.events ≤ 10000 }
+        requires few { self.old.stage.events ≤ self.old.count }
         requires count { self.old.count ≤ 2 ^ 40 }
-        requires stands { Tells (D.state disk.old) → ((commands : List KeyCommand) × StandsFor (D.state disk.old) self.old.stage.world.keys.store commands) }
+        requires stands { Tells (D.state disk.old) → ((done : Acknowledged) × HoldsLogs (D.state disk.old) self.old.stage.world done) }
         ensures played { (lines : List PropLine) → HasLists self.old.stage.world lines → LinePlayed lines (D.state disk.old) (D.state disk.new) (record { world = self.old.stage.world; words = W.to_come words.old; events = self.old.stage.events; written = K.written out.old }) self.old.line last result (record { world = self.new.stage.world; words = W.to_come words.new; events = self.new.stage.events; written = K.written out.new }) self.old.count self.new.count }
         ensures same { (self.new.reader ≡ self.old.reader) × (self.new.line ≡ self.old.line) }
-        ensures few { self.new.stage.events ≤ 10000 }
+        ensures few { self.new.stage.events ≤ self.new.count }
         ensures later { K.faults out.old ≤ K.faults out.new }
         ensures fault { result ≡ Some Ended.WriteFault → Rose (K.faults out.old) (K.faults out.new) }
     {
@@ -211,7 +208,7 @@ impl Replaying {
                 self.count += 1;
                 Some(Ended::WriteFault)
             }
-            Play::Unopened(fault) => Some(ended_by(fault)),
+            Play::Unopened(why) => Some(ended_by(why)),
         }
     }
 }
@@ -239,9 +236,13 @@ fn finish<K: Sink>(alloc: Global, out: &mut K, stop: Ended, count: u64) -> Ended
                 Ended::BadLine,
             )
         }
-        Ended::Damaged { at } => {
+        Ended::DamagedKeys { at } => {
             let line = format!(in alloc; "damaged keys {at}\n");
-            numbered(out, line, Ended::Damaged { at })
+            numbered(out, line, Ended::DamagedKeys { at })
+        }
+        Ended::DamagedNames { at } => {
+            let line = format!(in alloc; "damaged names {at}\n");
+            numbered(out, line, Ended::DamagedNames { at })
         }
         Ended::AclRefused { number } => {
             let line = format!(in alloc; "acl line {number} refused\n");
@@ -292,7 +293,8 @@ pub fn status_of(ended: Ended) -> u8
         Ended::AclUnknown { number: _ } => 3,
         Ended::AclTooLong => 3,
         Ended::BadLine => 3,
-        Ended::Damaged { at: _ } => 4,
+        Ended::DamagedKeys { at: _ } => 4,
+        Ended::DamagedNames { at: _ } => 4,
         Ended::StoreFault => 5,
         Ended::NoMemory => 6,
         Ended::ReadFault => 7,
@@ -301,7 +303,7 @@ pub fn status_of(ended: Ended) -> u8
     }
 }
 
-/// Opens the key log, and replays the input under properties that were read.
+/// Opens both logs, and replays the input under properties that were read.
 fn replay_under<S: Source, D: Disk, K: Sink, W: Words>(
     alloc: Global,
     props: &Props,
@@ -316,23 +318,25 @@ fn replay_under<S: Source, D: Disk, K: Sink, W: Words>(
     ensures write { result ≡ Ended.WriteFault → Rose (K.faults out.old) (K.faults out.new) }
     ensures store { result ≡ Ended.StoreFault → Rose (D.state disk.old).faults (D.state disk.new).faults }
 {
-    let mut replaying = match Replaying::start(alloc, disk, props) {
-        Err(fault) => return finish(alloc, out, ended_by(fault), 0),
-        Ok(replaying) => replaying,
+    let world = match open_logs(alloc, disk, props) {
+        Err(why) => return finish(alloc, out, ended_by(why), 0),
+        Ok(world) => world,
     };
+    let mut replaying = Replaying::new(alloc, world);
     let stop = replaying.run(input, disk, out, rand);
     finish(alloc, out, stop, replaying.count)
 }
 
-/// Replays the event lines of the input over the key log on file 0 of a disk. It reads the properties
-/// of the key management service first, to their end or to the byte past 1,048,576; then it opens the
-/// log, runs each event, writes the transcript of the answers and behind it the last line that the
-/// status has. Each call of the key management service is judged by the lines of the properties.
+/// Replays the event lines of the input over the key log on file 0 of a disk and the edit log on file
+/// 1. It reads the properties of the key management service first, to their end or to the byte past
+/// 1,048,576; then it opens both logs, runs each event, writes the transcript of the answers and
+/// behind it the last line that the status has. Each call of the key management service is judged by
+/// the lines of the properties.
 ///
 /// It answers the status: 0 where the input was read to its end; 3 where the properties are refused,
-/// and at a line of the input that is refused; 4 where the log is damaged; 5 where the disk failed
-/// when the log was opened, at the start or at a restart; 6 where memory is wanting; 7 where the
-/// properties or the input could not be read; 8 where the output failed; 10 where the last opening is
+/// and at a line of the input that is refused; 4 where a log is damaged; 5 where the disk failed when
+/// a log was opened, at the start or at a restart; 6 where memory is wanting; 7 where the properties
+/// or the input could not be read; 8 where the output failed; 10 where the last opening of a log is
 /// used.
 pub fn run_replay<A: Source, S: Source, D: Disk, K: Sink, W: Words>(
     alloc: Global,

@@ -1,28 +1,23 @@
 //! A replay between two lines, and how it plays one.
-ghost use Rattle.std.specs.Prelude.{◌≡◌, ◌+◌, ◌≤◌, ◌<◌, List, ℕ, length};
+ghost use Rattle.std.specs.Prelude.{◌≡◌, ◌+◌, ◌≤◌, ◌^◌, List, ℕ, length};
 ghost use Rattle.hk_base.specs.Disk.{Tells};
 ghost use Rattle.hk_base.specs.Faults.{Rose};
-ghost use Rattle.key_rows.specs.declared.rows.KeyCommand.{KeyCommand};
-ghost use Rattle.kms_store.specs.Store.{StandsFor};
 ghost use Rattle.prop_text.specs.declared.lines.PropLine.{PropLine};
 ghost use Rattle.replay_text.specs.Events.{Spells};
-ghost use Rattle.hkms_tool.specs.Steps.{HasLists, PlaysSo, TellsSo};
+ghost use Rattle.world_run.specs.Acknowledged.{Acknowledged, HoldsLogs};
+ghost use Rattle.hkms_tool.specs.Steps.{HasLists, PlaysSo, TellsSo, counts};
 
-use frame_log::StartFault;
 use hk_base::{ByteList, Disk, Sink, Words, write_all};
 use replay_text::{LineFault, read_event, write_line};
 use std::alloc::Global;
-use world_run::{Event, Line, World};
-
-/// How many events an input has at most.
-const MOST_EVENTS: u64 = 10000;
+use world_run::{Event, Line, World, WorldFault};
 
 /// How a line was played.
 #[derive(Clone, Copy, Debug, PartialEq, Eq)]
 pub enum Play {
     /// It is quiet, or its event is done and its answer written.
     Played,
-    /// It is a bad line, or an event too many.
+    /// It is a bad line.
     BadLine,
     /// There was no memory to read it.
     Unread,
@@ -31,7 +26,7 @@ pub enum Play {
     /// Its event is done, and the answer could not be written.
     Unwritten,
     /// It is a restart that could not open its log.
-    Unopened(StartFault),
+    Unopened(WorldFault),
 }
 
 /// Both services, and how many events they have answered.
@@ -53,10 +48,10 @@ impl Stage {
         words: &mut W,
     ) -> Play
         requires short { length line.now ≤ 1048576 }
-        requires few { self.old.events ≤ 10000 }
-        requires stands { Tells (D.state disk.old) → ((commands : List KeyCommand) × StandsFor (D.state disk.old) self.old.world.keys.store commands) }
+        requires few { self.old.events ≤ 2 ^ 40 }
+        requires stands { Tells (D.state disk.old) → ((done : Acknowledged) × HoldsLogs (D.state disk.old) self.old.world done) }
         ensures plays { (lines : List PropLine) → HasLists self.old.world lines → PlaysSo lines (D.state disk.old) (D.state disk.new) (record { world = self.old.world; words = W.to_come words.old; events = self.old.events; written = K.written out.old }) line.now result (record { world = self.new.world; words = W.to_come words.new; events = self.new.events; written = K.written out.new }) }
-        ensures few { self.new.events ≤ 10000 }
+        ensures few { self.new.events ≤ self.old.events + counts result }
         ensures later { K.faults out.old ≤ K.faults out.new }
         ensures fault { result ≡ Play.Unwritten → Rose (K.faults out.old) (K.faults out.new) }
     {
@@ -66,9 +61,6 @@ impl Stage {
             Ok(None) => return Play::Played,
             Ok(Some(event)) => event,
         };
-        if self.events >= MOST_EVENTS {
-            return Play::BadLine;
-        }
         self.play_event(event, disk, out, words)
     }
 
@@ -79,25 +71,26 @@ impl Stage {
         out: &mut K,
         words: &mut W,
     ) -> Play
-        requires few { self.old.events < 10000 }
-        requires stands { Tells (D.state disk.old) → ((commands : List KeyCommand) × StandsFor (D.state disk.old) self.old.world.keys.store commands) }
+        requires few { self.old.events ≤ 2 ^ 40 }
+        requires stands { Tells (D.state disk.old) → ((done : Acknowledged) × HoldsLogs (D.state disk.old) self.old.world done) }
         ensures plays { (lines : List PropLine) → HasLists self.old.world lines → (line : List ℕ) → Spells line event → PlaysSo lines (D.state disk.old) (D.state disk.new) (record { world = self.old.world; words = W.to_come words.old; events = self.old.events; written = K.written out.old }) line result (record { world = self.new.world; words = W.to_come words.new; events = self.new.events; written = K.written out.new }) }
-        ensures few { self.new.events ≤ 10000 }
+        ensures few { self.new.events ≤ self.old.events + counts result }
         ensures later { K.faults out.old ≤ K.faults out.new }
         ensures fault { result ≡ Play.Unwritten → Rose (K.faults out.old) (K.faults out.new) }
     {
         match self.world.step(disk, words, self.events + 1, event) {
-            Err(why) => Play::Unopened(why.fault),
+            Err(why) => Play::Unopened(why),
             Ok(told) => self.tell(&told, out),
         }
     }
 
     /// Counts an event that was done, and writes its answer.
     fn tell<K: Sink>(&mut self, told: &Line, out: &mut K) -> Play
-        requires few { self.old.events < 10000 }
+        requires few { self.old.events ≤ 2 ^ 40 }
         ensures tells { TellsSo (self.old.events + 1) told.now (K.written out.old) (K.written out.new) result }
         ensures world { self.new.world ≡ self.old.world }
         ensures counted { self.new.events ≡ self.old.events + 1 }
+        ensures counts { counts result ≡ 1 }
         ensures later { K.faults out.old ≤ K.faults out.new }
         ensures fault { result ≡ Play.Unwritten → Rose (K.faults out.old) (K.faults out.new) }
     {

@@ -1,5 +1,5 @@
 use Rattle.std.proofs.Common.{refl, string_bytes}
-use Rattle.hkms_tool.specs.declared.replay.Ended.TheVariants.{Done, AclRefused, AclRepeated, AclUnknown, BadLine, Damaged, WriteFault}
+use Rattle.hkms_tool.specs.declared.replay.Ended.TheVariants.{Done, AclRefused, AclRepeated, AclUnknown, BadLine, DamagedKeys, DamagedNames, WriteFault}
 use Rattle.hkms_tool.proofs.StageLemmas.{closes_numbered, closes_with_nothing}
 use Rattle.hkms_tool.proofs.replay.finish.Goals as goal
 
@@ -12,8 +12,12 @@ returns-in-WriteFault-clause-closes g c = closes_with_nothing c.args.stop WriteF
 pub returns-in-BadLine-clause-closes : goal.returns-in-BadLine-clause-closes
 returns-in-BadLine-clause-closes g c = closes_numbered string_bytes c.format.result c.args.stop BadLine _ c.args.count _ _ c.in-BadLine.is c.format.ensures.ok c.numbered.ensures.wrote
 
-pub returns-in-Damaged-clause-closes : goal.returns-in-Damaged-clause-closes
-returns-in-Damaged-clause-closes g c = closes_numbered string_bytes c.format-line.result c.args.stop (Damaged c.in-Damaged.at) _ c.args.count _ _ c.in-Damaged.is c.format-line.ensures.ok c.numbered-in-Damaged.ensures.wrote
+pub returns-in-DamagedKeys-clause-closes : goal.returns-in-DamagedKeys-clause-closes
+returns-in-DamagedKeys-clause-closes g c = closes_numbered string_bytes c.format-line.result c.args.stop (DamagedKeys c.in-DamagedKeys.at) _ c.args.count _ _ c.in-DamagedKeys.is c.format-line.ensures.ok c.numbered-in-DamagedKeys.ensures.wrote
+
+pub returns-in-DamagedNames-clause-closes : goal.returns-in-DamagedNames-clause-closes
+returns-in-DamagedNames-clause-closes g c =
+    closes_numbered string_bytes c.format-line-in-DamagedNames.result c.args.stop (DamagedNames c.in-DamagedNames.at) _ c.args.count _ _ c.in-DamagedNames.is c.format-line-in-DamagedNames.ensures.ok c.numbered-in-DamagedNames.ensures.wrote
 
 pub returns-in-AclRefused-clause-closes : goal.returns-in-AclRefused-clause-closes
 returns-in-AclRefused-clause-closes g c = closes_numbered string_bytes c.format-line-in-AclRefused.result c.args.stop (AclRefused c.in-AclRefused.number) _ c.args.count _ _ c.in-AclRefused.is c.format-line-in-AclRefused.ensures.ok c.numbered-in-AclRefused.ensures.wrote

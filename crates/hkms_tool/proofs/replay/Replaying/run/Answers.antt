@@ -2,16 +2,15 @@ use Rattle.std.proofs.Common.{refl, arith}
 use Rattle.std.proofs.KnownBytes.{Appends-nil}
 use Rattle.hkms_tool.proofs.EndLemmas.{first_ahead, goes_on_under, goes_on_untroubled, lists_under, stands_under, stops_under}
 use Rattle.hkms_tool.proofs.HistoryLemmas.{nothing_yet}
-use Rattle.hkms_tool.proofs.LastLemmas.{is_first}
 use Rattle.hkms_tool.proofs.replay.Replaying.run.Goals as goal
 
 pub lines-init : goal.lines-init
 lines-init g c =
     let fresh = c.requires.fresh in
     record {
-      so_far = λ props has. nothing_yet props (g.D.Disk.state c.args.disk.now) _ _ (is_first _ c.requires.first.0 c.requires.first.1) refl (λ k. refl) fresh.0 fresh.1 fresh.2
+      so_far = λ props has. nothing_yet props (g.D.Disk.state c.args.disk.now) _ _ refl (λ k. refl) fresh.0 fresh.1 fresh.2
           (first_ahead _ (g.S.Source.left c.args.input.now) fresh.3) (Appends-nil _);
-      few = omega (arith, fresh.0);
+      few = omega (arith, fresh.0, fresh.1);
       bounded = omega (arith, fresh.1);
       small = omega (arith, fresh.2);
       caused = goes_on_untroubled _ _ _ _ _ _ (omega arith) (omega arith) (omega arith);

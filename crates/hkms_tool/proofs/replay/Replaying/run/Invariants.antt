@@ -14,7 +14,7 @@ invariant-lines g l = record {
         used = l.self.reader.used;
         count = l.self.count;
       });
-  few : l.self.stage.events ≤ 10000;
+  few : l.self.stage.events ≤ l.self.count;
   bounded : l.self.count ≤ l.self.reader.used;
   small : l.self.reader.used ≤ 2 ^ 40;
   caused : Caused (g.S.Source.faults l.fn.input) (g.S.Source.faults l.input) (g.K.Sink.faults l.fn.out) (g.K.Sink.faults l.out) (g.D.Disk.state l.fn.disk).faults (g.D.Disk.state l.disk).faults None;
