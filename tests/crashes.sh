@@ -1,14 +1,16 @@
 #!/usr/bin/env bash
-# Keys outlive the process. Again and again the program is given creates, rolls and deletes, is killed at some moment,
-# and is started again on the same log. Then all that it had answered has to stand, with its material, and at most the
-# one command behind that. A killed process loses nothing that it wrote: what a loss of power leaves is not tried here.
+# Keys and files outlive the process. Again and again the program is given events, is killed at some moment, and is
+# started again on the same logs. Then all that it had answered has to stand, and at most the one event behind that: in
+# the first part keys, with their material; in the second part directories, zones and files, each of which opens to the
+# data encryption key that was told when it was made. A killed process loses nothing that it wrote: what a loss of power
+# leaves is not tried here.
 set -u
 cd "$(dirname "${BASH_SOURCE[0]}")/.." || exit 1
 folder=$(mktemp -d) || exit 1
 trap 'rm -rf "$folder"' EXIT
 
 rounds=40
-seconds=45
+seconds=30
 calls=60
 names=(a b c d e)
 
@@ -170,4 +172,179 @@ for ((round = 1; round <= rounds && SECONDS < seconds; round++)); do
         fail "opening $last stands behind opening $opening"
     opening=$last
     take_over "$found"
+done
+
+# ---- the second part: what stands, by the question that asks for it; and the data encryption keys of files
+
+declare -A rows=() deks=()
+asked=()
+zones=(z0 z1 z2 z3)
+zone_keys=(p q r)
+for key in "${zone_keys[@]}"; do asked+=("kms x metadata $key"); done
+for zone in "${zones[@]}"; do asked+=("nn x info /$zone"); done
+
+# The effects of events.
+stands() {
+    rows[$1]=$2
+}
+gone() {
+    local question
+    for question in "${!rows[@]}"; do
+        [[ $question != "$1" && $question != "$1"/* ]] || unset "rows[$question]"
+    done
+}
+dek_told() {
+    deks[$1]=${answer#key }
+}
+
+# What the questions are to be answered. The moment and the versions of a key, and the id of a directory, are left out.
+wanted_rows() {
+    local question
+    for question in "${asked[@]}"; do
+        case $question in
+        kms*) echo "${rows[$question]-refused K4 NoSuchKey}" ;;
+        *) echo "${rows[$question]-refused N2 NoSuchPath}" ;;
+        esac
+    done
+}
+found_rows() {
+    printf '%s\n' "${asked[@]}" | (cd "$folder/run" && "$program" replay) |
+        sed -E 's/^[0-9]+ //; s/^(meta [a-z]+) .*/\1/; s/^dir [0-9]+ /dir ID /'
+    return "${PIPESTATUS[1]}"
+}
+
+# Events so far, the event behind which the program is killed, and what is kept of asks and replies.
+number=0 last=0 asks=0 replies=0 effect=() answer=''
+
+# tell PATTERN LINE EFFECT: gives the program a line, whose answer has to match the pattern. An effect of an event that
+# was not answered, because the program is killed, is left in effect. Fails where the program is killed.
+tell() {
+    local pattern=$1 line=$2 turns
+    shift 2
+    effect=("$@")
+    number=$((number + 1))
+    echo "$line" >&3
+    if [ "$number" -ge "$last" ]; then
+        for ((turns = RANDOM % 4 * RANDOM / 16; turns > 0; turns--)); do :; done
+        kill -KILL "$pid"
+    fi
+    if ! IFS= read -r -t 10 answer <&4; then
+        [ "$number" -ge "$last" ] || fail "no answer to $line"
+        return 1
+    fi
+    answered=$number
+    # shellcheck disable=SC2053
+    [[ $answer == "$number "$pattern ]] || fail "the answer to $line is $answer"
+    answer=${answer#* }
+    [ "${#effect[@]}" -eq 0 ] || "${effect[@]}"
+    effect=()
+    [ "$number" -lt "$last" ]
+}
+
+# Asks for what PATTERN says, draws what that wants, and leaves the answer to the draw.
+ask_and_draw() {
+    tell "ask $((asks + 1)) $1" "$2" || return
+    asks=$((asks + 1)) note=$answer
+    tell "reply $((replies + 1)) $3" "draw $asks" || return
+    replies=$((replies + 1))
+}
+
+make_zone() {
+    local question="nn x info /$1"
+    [ -n "${rows[$question]-}" ] || tell 'done' "nn a mkdir /$1" stands "$question" 'dir ID - -' || return
+    ask_and_draw "* metadata $2" "ask hdfs zone /$1 $2" "meta $2 *" || return
+    tell 'done' "finish $replies" stands "$question" "dir ID /$1 $2"
+}
+
+make_file() {
+    local question edek id version iv sealed
+    files=$((files + 1))
+    question="nn x info /$1/f$files"
+    asked+=("$question")
+    ask_and_draw '* generate *' "ask a create /$1/f$files" 'ready *' || return
+    edek=${answer##* }
+    read -r _ _ id _ <<<"$note"
+    tell 'done' "finish $replies" stands "$question" "file $id /$1 $edek" || return
+    IFS=: read -r version iv sealed <<<"$edek"
+    tell 'key *' "kms hdfs decrypt $version $iv $sealed" dek_told "$question"
+}
+
+# Deletes a file of the zone, if there is one.
+remove_file() {
+    local question
+    for question in "${!rows[@]}"; do
+        [[ $question == "nn x info /$1/"* ]] || continue
+        tell 'done' "nn a delete ${question##* }" gone "$question"
+        return
+    done
+}
+
+# One thing more, at random.
+go_on() {
+    local zone=${zones[RANDOM % ${#zones[@]}]} key=${zone_keys[RANDOM % ${#zone_keys[@]}]} lengths=(128 192 256)
+    if [ -z "${rows[kms x metadata $key]-}" ]; then
+        tell "version $key@0 *" "kms a create $key ${lengths[RANDOM % 3]} -" stands "kms x metadata $key" "meta $key"
+        return
+    fi
+    case "${rows[nn x info /$zone]-} $((RANDOM % 10))" in
+    *' 0') tell "version $key@*" "kms a roll $key -" ;;
+    "dir ID /$zone "*' 1') tell 'done' "nn a rdelete /$zone" gone "nn x info /$zone" ;;
+    "dir ID /$zone "*' '[23]) remove_file "$zone" ;;
+    "dir ID /$zone "*) make_file "$zone" ;;
+    *) make_zone "$zone" "$key" ;;
+    esac
+}
+
+# Starts the program, goes on until it is killed behind its last event, and waits for its end.
+go_on_and_kill() {
+    local turns
+    (cd "$folder/run" && exec "$program" replay <"$folder/events" >"$folder/answers") &
+    pid=$!
+    exec 3<>"$folder/events" 4<"$folder/answers"
+    number=0 answered=0 asks=0 replies=0 effect=()
+    if [ "$last" -eq 0 ]; then
+        for ((turns = RANDOM % 4 * RANDOM / 16; turns > 0; turns--)); do :; done
+        kill -KILL "$pid"
+    else
+        while go_on; do :; done
+    fi
+    exec 3>&- 4<&-
+    wait "$pid"
+} 2>/dev/null
+
+# Opens each file that stands: its key has to be the one that was told, or is told now.
+open_files() {
+    local question edek version iv sealed told opened=()
+    for question in "${asked[@]}"; do
+        [[ ${rows[$question]-} == file* ]] || continue
+        edek=${rows[$question]##* }
+        IFS=: read -r version iv sealed <<<"$edek"
+        opened+=("$question")
+        echo "kms hdfs decrypt $version $iv $sealed"
+    done >"$folder/decrypts"
+    (cd "$folder/run" && "$program" replay <"$folder/decrypts" >"$folder/keys") || fail "it opens no files"
+    exec 5<"$folder/keys"
+    for question in "${opened[@]}"; do
+        read -r _ told <&5
+        [[ $told == "key ${deks[$question]-${told#key }}" ]] || fail "$question: ${rows[$question]} opens to $told, and not to ${deks[$question]-}"
+        deks[$question]=${told#key }
+    done
+    exec 5<&-
+}
+
+rm -rf "$folder/run"
+mkdir "$folder/run" || exit 1
+files=0
+for ((round = 1; round <= rounds && SECONDS < 2 * seconds; round++)); do
+    # Some are killed while they open the logs.
+    last=$((RANDOM % 8 ? 1 + RANDOM % 40 : 0))
+    go_on_and_kill
+    status=$?
+    [ "$status" -eq 137 ] || fail "it ended by itself, with status $status"
+    stand=$(found_rows) || fail "started again it ends with another status, and $stand"
+    if [ "$stand" != "$(wanted_rows)" ] && [ "${#effect[@]}" -gt 0 ]; then
+        "${effect[@]}"
+    fi
+    [ "$stand" = "$(wanted_rows)" ] || fail "$(printf 'found\n%s\nwanted\n%s' "$stand" "$(wanted_rows)")"
+    open_files
 done

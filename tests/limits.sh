@@ -1,5 +1,5 @@
 #!/usr/bin/env bash
-# Lines at their limits, as the built program reads them from a pipe.
+# Lines and logs at their limits, as the built program reads them.
 set -u
 # The last command of a pipe runs here, so that it counts the failures.
 shopt -s lastpipe
@@ -8,7 +8,7 @@ shopt -s lastpipe
 # expect NAME STATUS LAST: runs the program on standard input, in an empty folder, compares its status and last line.
 expect() {
     local room last status
-    room=$(mktemp -d -p "$folder") || exit 1
+    room=$(mktemp -d -p "$quick") || exit 1
     last=$(cd "$room" && "$hkms" replay | tail -n 1; exit "${PIPESTATUS[0]}")
     status=$?
     if [ "$status" != "$2" ] || [ "$last" != "$3" ]; then
@@ -26,8 +26,7 @@ repeat() {
 { printf '#'; repeat x 1048576; printf '\nkms a metadata k\n'; } | expect 'a line too long' 3 'line 1 refused'
 { printf 'kms '; repeat u 255; printf ' metadata k\n'; } | expect 'the longest user' 0 '1 refused K4 NoSuchKey'
 { printf 'kms '; repeat u 256; printf ' metadata k\n'; } | expect 'a user too long' 3 'line 1 refused'
-yes 'kms a metadata k' | head -n 10000 | expect 'the last event' 0 '10000 refused K4 NoSuchKey'
-yes 'kms a metadata k' | head -n 10001 | expect 'an event too many' 3 'line 10001 refused'
+yes 'kms a metadata k' | head -n 20000 | expect 'many events' 0 '20000 refused K4 NoSuchKey'
 yes '# nothing' | head -n 100000 | expect 'many quiet lines' 0 ''
 
 # repeat_name LENGTH COUNT: a path of so many names, each of so many letters
@@ -45,13 +44,95 @@ repeat_name() {
 { printf 'nn a mkdir '; repeat_name 79 100; printf a; } | expect 'a path too long' 0 '1 refused N1 BadPath'
 { printf 'nn a mkdir '; repeat_name 1 100; } | expect 'the deepest path' 0 '1 refused N2 NoSuchPath'
 { printf 'nn a mkdir '; repeat_name 1 101; } | expect 'a path too deep' 0 '1 refused N1 BadPath'
-for ((i = 1; i < 10000; i++)); do
+for ((i = 1; i < 20000; i++)); do
     printf 'nn a mkdir /%s\n' "$i"
-done | { cat; echo 'nn a info /9999'; } | expect 'many directories' 0 '10000 dir 4294977295 - -'
+done | { cat; echo 'nn a info /19999'; } | expect 'many directories' 0 '20000 dir 4294987295 - -'
 
 # Bytes that come one at a time are read as bytes that come together.
 while IFS= read -r -n 1 -d '' byte; do
     printf '%s' "$byte"
 done <examples/first-key.events | expect 'single bytes' 0 '5 refused K4 NoSuchKey'
+
+# ---- long logs
+
+# The time is that of the program, without the script that builds it.
+program=$PWD/crates/hkms_tool/out/hkms_tool
+
+# Writes a names.log of so many directories: the first thousand in the root, the others in those.
+write_log() {
+    python3 - "$1" <<'EOT'
+import struct
+import sys
+
+log = bytearray(b'HKMSNAM1')
+
+
+def record(payload):
+    log.extend(b'\x01' + struct.pack('>I', len(payload)) + payload)
+
+
+record(b'\x01' + struct.pack('>I', 1))
+for i in range(int(sys.argv[1])):
+    path = b'/d%d' % i if i < 1000 else b'/d%d/e%d' % (i % 1000, i // 1000)
+    record(b'\x02' + struct.pack('>QH', (1 << 32) + 1 + i, len(path)) + path)
+log.extend(b'\x00')
+sys.stdout.buffer.write(log)
+EOT
+}
+
+# opens COUNT LAST ID: opens a log of so many directories, of which the last is LAST, and leaves the least time of three
+# openings in seconds.
+opens() {
+    local room time output TIMEFORMAT=%R
+    room=$(mktemp -d -p "$quick") || exit 1
+    write_log "$1" >"$room/names.log"
+    seconds=
+    for _ in 1 2 3; do
+        time=$( { time (cd "$room" && "$program" replay <<<"nn a info $2" >"$folder/answer") ; } 2>&1 )
+        output=$(cat "$folder/answer")
+        [ "$output" = "1 dir $3 - -" ] || {
+            echo "tests/limits.sh: a log of $1 directories: $output"
+            failures=$((failures + 1))
+        }
+        seconds=$(printf '%s\n' "$time" ${seconds:+"$seconds"} | sort -g | head -n 1)
+    done
+    rm -rf "$room"
+}
+
+if command -v python3 >/dev/null; then
+    opens 100000 /d999/e99 4295067296
+    single=$seconds
+    opens 200000 /d999/e199 4295167296
+    awk -v one="$single" -v two="$seconds" 'BEGIN { exit !(two < 3 * one) }' || {
+        echo "tests/limits.sh: a log of 100000 directories opens in $single seconds, one of 200000 in $seconds"
+        failures=$((failures + 1))
+    }
+
+    # The root and 999,999 directories are all that may stand. What is deleted makes room.
+    room=$(mktemp -d -p "$quick") || exit 1
+    write_log 999999 >"$room/names.log"
+    status=0
+    answers=$(cd "$room" && "$hkms" replay <<'EOT'
+nn a mkdir /x
+ask a create /x
+nn a mkdir /d0
+nn a delete /d998/e999
+nn a mkdir /x
+nn a mkdir /y
+EOT
+    ) || status=$?
+    wanted='1 refused N20 TooManyInodes
+2 refused N20 TooManyInodes
+3 refused N3 Exists
+4 done
+5 done
+6 refused N20 TooManyInodes'
+    if [ "$status" -ne 0 ] || [ "$answers" != "$wanted" ]; then
+        printf 'tests/limits.sh: a full namesystem: status %s, answers:\n%s\nwanted:\n%s\n' "$status" "$answers" "$wanted"
+        failures=$((failures + 1))
+    fi
+else
+    echo 'tests/limits.sh: left out, since there is no python3: long logs'
+fi
 
 [ "$failures" -eq 0 ]

@@ -176,13 +176,13 @@ run replay </dev/null
 expect 'an empty input' 0 ''
 files
 expect 'the logs of an empty input' 0 'keys.log 19
-names.log 0
+names.log 19
 484b4d534b4559310100000005010000000100'
 output=$(cd "$room" && stat -c '%n %a' -- *)
 expect 'the logs are for their owner alone' 0 'keys.log 600
 names.log 600'
 
-# A run finds the keys of the one before. The namesystem begins anew.
+# A run finds the keys of the one before, and the directories.
 run replay <<'EOT'
 kms a create k 128 2b7e151628aed2a6abf7158809cf4f3c
 kms a create j 256 -
@@ -210,10 +210,10 @@ expect 'the keys of the run before' 0 "1 names j k
 5 key 6bc1bee22e409f96e93d7e117393172a
 6 refused K4 NoSuchKey
 7 refused K6 KeyExists
-8 refused N2 NoSuchPath
+8 dir 4294967297 - -
 9 opened 3"
 
-# A restart leaves the namesystem, and what is asked of it, as they were.
+# A restart of the key management service leaves the namesystem, and what is asked of it, as they were.
 run replay <<'EOT'
 kms a create k 128 -
 nn a mkdir /z
@@ -252,7 +252,7 @@ kms a roll k 000102030405060708090a0b0c0d0e0f
 EOT
 files
 expect 'the log of two versions' 0 'keys.log 95
-names.log 0
+names.log 19
 484b4d534b455931010000000501000000010100000027020000000100000001016b0080000000000000000000012b7e151628aed2a6abf7158809cf4f3c010000001b0300000001000000010001000102030405060708090a0b0c0d0e0f00'
 cp "$room/keys.log" "$folder/two"
 
