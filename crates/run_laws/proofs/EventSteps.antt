@@ -1,0 +1,133 @@
+-- What an event does to the namesystem, and that what is kept stays.
+use Rattle.std.proofs.Common.{◌≡◌, inl, inr, ℕ, zero, suc, ◌+◌, Bool, List, [], ◌∷◌, ◌++◌, length, Option, Some, None, Result, Ok, Err, refl, sym, ap, subst, arith}
+use Rattle.std.specs.Prelude.{slice_get}
+use Rattle.hk_base.specs.declared.texts.Text.{Text}
+use Rattle.inode_tree.specs.declared.paths.NPath.{NPath}
+use Rattle.inode_tree.specs.Paths.{read_path}
+use Rattle.prop_text.specs.declared.lines.PropLine.{PropLine}
+use Rattle.kms_core.specs.State.{opened}
+use Rattle.name_core.specs.declared.calls.Ask.{Ask}
+use Rattle.name_core.specs.declared.calls.Ask.TheVariants as ask
+use Rattle.name_core.specs.declared.calls.AskNote.{AskNote}
+use Rattle.name_core.specs.declared.calls.NameCall.{NameCall}
+use Rattle.name_core.specs.declared.calls.NameCall.TheVariants as call
+use Rattle.name_core.specs.declared.calls.NameRefusal.{NameRefusal}
+use Rattle.name_core.specs.Asks.{Asks}
+use Rattle.name_core.specs.Laws.{AnyFault, Asked, Called, Finished, IsStep}
+use Rattle.name_core.specs.State.{NameService, settled, started}
+use Rattle.world_run.specs.declared.event.Event.{Event}
+use Rattle.world_run.specs.declared.event.Event.TheVariants as event
+use Rattle.world_run.specs.declared.event.Line.{Line}
+use Rattle.world_run.specs.declared.kept.KeptReply.{KeptReply}
+use Rattle.world_run.specs.Acknowledged.{Acknowledged}
+use Rattle.world_run.specs.Step.{AskAt, DrawActs, FinishReply, NamesAct, PathActs, Step, after_ask, delete_with, kept_reply, zone_with}
+use Rattle.world_run.specs.World.{Kept, WorldState, numbered, with_names, with_reply}
+use Rattle.run_laws.specs.Runs.{DiskTells, Happens, Leads}
+
+-- what is kept under numbers
+
+got-stays : {X : Type 0} (xs : List X) (y : X) (n : ℕ) (x : X) → slice_get xs n ≡ Some x → slice_get (xs ++ y ∷ []) n ≡ Some x
+got-stays [] y n x h = absurd cc
+got-stays (z ∷ xs) y zero x h = h
+got-stays (z ∷ xs) y (suc n) x h = got-stays xs y n x h
+
+numbered-stays : {X : Type 0} (xs : List X) (y : X) (n : ℕ) (x : X) → numbered xs n ≡ Some x → numbered (xs ++ y ∷ []) n ≡ Some x
+numbered-stays xs y zero x h = absurd cc
+numbered-stays xs y (suc n) x h = got-stays xs y n x h
+
+got-last : {X : Type 0} (xs : List X) (y : X) → slice_get (xs ++ y ∷ []) (length xs) ≡ Some y
+got-last [] y = refl
+got-last (z ∷ xs) y = got-last xs y
+
+pub numbered-last : {X : Type 0} (xs : List X) (y : X) → numbered (xs ++ y ∷ []) (length xs + 1) ≡ Some y
+numbered-last xs y = let next : suc (length xs) ≡ length xs + 1 = omega arith in subst (λ (n : ℕ). numbered (xs ++ y ∷ []) n ≡ Some y) next (got-last xs y)
+
+-- what is kept stays under its number
+pub record StaysKept (k k' : Kept) : Type 0 where
+  pub notes : (n : ℕ) (note : AskNote) → numbered k.notes n ≡ Some note → numbered k'.notes n ≡ Some note
+  pub replies : (n : ℕ) (reply : KeptReply) → numbered k.replies n ≡ Some reply → numbered k'.replies n ≡ Some reply
+
+kept-same : (k : Kept) → StaysKept k k
+kept-same k = record { notes = λ n note h. h; replies = λ n reply h. h }
+
+-- the namesystem is as it was, or has taken a step, or was opened again from its log
+pub data Turns (s s' : NameService) : Type 0 where
+  Rests : s' ≡ s → Turns s s'
+  Stepped : IsStep s s' → Turns s s'
+  Reopened : (kept : Bool) → s' ≡ started (settled kept s).table → Turns s s'
+
+pub record Moves (w w' : WorldState) : Type 0 where
+  pub names : Turns w.names w'.names
+  pub kept : StaysKept w.kept w'.kept
+
+-- events
+
+at : (w v v' : WorldState) → v' ≡ v → Moves w v → Moves w v'
+at w v v' is m = subst (Moves w) (sym is) m
+
+rests : (w w' : WorldState) → w' ≡ w → Moves w w'
+rests w w' is = at w w w' is (record { names = Rests refl; kept = kept-same w.kept })
+
+turns : (w : WorldState) (names : NameService) → Turns w.names names → Moves w (record w { names = names })
+turns w names t = record { names = t; kept = kept-same w.kept }
+
+call-moves : (w : WorldState) (user : Text) (c : NameCall) (told : Line) (drawn : ℕ) (logged : Acknowledged) (w' : WorldState) → NamesAct w user c AnyFault told drawn logged w' → Moves w w'
+call-moves w user c told drawn logged w' a = at w (record w { names = a.names }) w' a.left (turns w a.names (Stepped (Called user c a.reply a.ops a.serves)))
+
+path-moves : (w : WorldState) (user : Text) (c : NPath → NameCall) (o : Option NPath) (told : Line) (drawn : ℕ) (logged : Acknowledged) (w' : WorldState) → PathActs w user c o AnyFault told drawn logged w' → Moves w w'
+path-moves w user c None told drawn logged w' u = rests w w' u.same
+path-moves w user c (Some p) told drawn logged w' (inl a) = call-moves w user (c p) told drawn logged w' a
+path-moves w user c (Some p) told drawn logged w' (inr u) = rests w w' u.same
+
+ask-moves : (w : WorldState) (user : Text) (k : NPath → Ask) (o : Option NPath) (told : Line) (w' : WorldState) → AskAt w user k o told w' → Moves w w'
+ask-moves w user k None told w' r = rests w w' r.same
+ask-moves w user k (Some p) told w' (inr r) = rests w w' r.same
+ask-moves w user k (Some p) told w' (inl a) = at w (after_ask a.result (with_names a.names w)) w' a.left (go a.result a.asks)
+  where
+    go : (result : Result AskNote NameRefusal) → Asks w.names.names user (k p) result a.names → Moves w (after_ask result (with_names a.names w))
+    go (Ok note) asks = record {
+      names = Stepped (Asked user (k p) (Ok note) asks refl);
+      kept = record { notes = λ n x h. numbered-stays w.kept.notes note n x h; replies = λ n x h. h };
+    }
+    go (Err why) asks = turns w (record w.names { names = a.names }) (Stepped (Asked user (k p) (Err why) asks refl))
+
+draw-moves : (lines : List PropLine) (w : WorldState) (words : ℕ → ℕ) (now : ℕ) (o : Option AskNote) (told : Line) (drawn : ℕ) (logged : Acknowledged) (w' : WorldState)
+    → DrawActs lines w words now o AnyFault told drawn logged w' → Moves w w'
+draw-moves lines w words now None told drawn logged w' u = rests w w' u.same
+draw-moves lines w words now (Some note) told drawn logged w' (inr full) = rests w w' full.same
+draw-moves lines w words now (Some note) told drawn logged w' (inl d) = at w (with_reply (kept_reply note d.reply) (record w { keys = d.keys })) w' d.left (record {
+  names = Rests refl;
+  kept = record { notes = λ n x h. h; replies = λ n x h. numbered-stays w.kept.replies (kept_reply note d.reply) n x h };
+})
+
+finish-moves : (w : WorldState) (o : Option KeptReply) (told : Line) (drawn : ℕ) (logged : Acknowledged) (w' : WorldState) → FinishReply w o AnyFault told drawn logged w' → Moves w w'
+finish-moves w None told drawn logged w' u = rests w w' u.same
+finish-moves w (Some kept) told drawn logged w' f = at w (record w { names = f.names }) w' f.left (turns w f.names (Stepped (Finished kept.id kept.answer f.result f.ops f.finishes)))
+
+step-moves : (lines : List PropLine) (w : WorldState) (words : ℕ → ℕ) (now : ℕ) (e : Event) (told : Line) (drawn : ℕ) (logged : Acknowledged) (w' : WorldState)
+    → Step lines w words now e AnyFault DiskTells told drawn logged w' → Moves w w'
+step-moves lines w words now (event.Kms user c) told drawn logged w' s = at w (record w { keys = s.keys }) w' s.left (record { names = Rests refl; kept = kept-same w.kept })
+step-moves lines w words now event.RestartKms told drawn logged w' s = at w (record w { keys = opened s.table }) w' s.left (record { names = Rests refl; kept = kept-same w.kept })
+step-moves lines w words now event.RestartName told drawn logged w' s =
+    at w (record w { names = started s.table }) w' s.left (turns w (started s.table) (Reopened (s.found tt).kept (ap started (s.found tt).table_is)))
+step-moves lines w words now (event.Mkdir user p) told drawn logged w' s = path-moves w user call.Mkdir (read_path p) told drawn logged w' s
+step-moves lines w words now (event.Delete user p recursive) told drawn logged w' s = path-moves w user (delete_with recursive) (read_path p) told drawn logged w' s
+step-moves lines w words now (event.Info user p) told drawn logged w' s = path-moves w user call.Info (read_path p) told drawn logged w' s
+step-moves lines w words now (event.List user p) told drawn logged w' s = path-moves w user call.List (read_path p) told drawn logged w' s
+step-moves lines w words now (event.Zones user) told drawn logged w' s = call-moves w user call.Zones told drawn logged w' s
+step-moves lines w words now (event.AskCreate user p) told drawn logged w' s = ask-moves w user ask.Create (read_path p) told w' s.1
+step-moves lines w words now (event.AskZone user p key) told drawn logged w' s = ask-moves w user (zone_with key) (read_path p) told w' s.1
+step-moves lines w words now (event.Draw number) told drawn logged w' s = draw-moves lines w words now (numbered w.kept.notes number) told drawn logged w' s
+step-moves lines w words now (event.Finish number) told drawn logged w' s = finish-moves w (numbered w.kept.replies number) told drawn logged w' s
+
+pub moves : (w : WorldState) (e : Event) (told : Line) (w' : WorldState) → Happens w e told w' → Moves w w'
+moves w e told w' h = step-moves h.lines w h.words h.now e told h.drawn h.logged w' h.step
+
+-- whole runs
+
+pub leads-keep : (w : WorldState) (between : List WorldState) (v : WorldState) → Leads w between v → StaysKept w.kept v.kept
+leads-keep w [] v is = subst (λ (x : WorldState). StaysKept w.kept x.kept) (sym is) (kept-same w.kept)
+leads-keep w (m ∷ ms) v leads =
+    let first = (moves w leads.0.event leads.0.told m leads.0.happens).kept in
+    let rest = leads-keep m ms v leads.1 in
+    record { notes = λ n note h. rest.notes n note (first.notes n note h); replies = λ n reply h. rest.replies n reply (first.replies n reply h) }

@@ -1,0 +1,6 @@
+pub mod AskSteps
+pub mod DrawnKeys
+pub mod EventSteps
+pub mod RefusalLaw
+pub mod RunLaw
+pub mod ZoneMarks

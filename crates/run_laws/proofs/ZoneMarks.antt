@@ -1,0 +1,90 @@
+-- Rows with the id of a zone keep its key while operations take effect.
+use Rattle.std.proofs.Common.{◌≡◌, ℕ, Bool, true, false, cond, ◌&&◌, is_some, nat_lt, List, [], ◌∷◌, length, get_or, Option, Some, None, IfSome, refl, sym, ap, ◌∙◌}
+use Rattle.std.specs.Prelude.{◌==◌, not}
+use Rattle.std.specs.Bool.{⊤}
+use Rattle.std.specs.List.{All}
+use Rattle.std.proofs.lemmas.Bool.{and_parts}
+use Rattle.std.proofs.lemmas.List.Elements.{All-filter, All-head, All-map, All-tail}
+use Rattle.hk_base.specs.declared.names.KeyName.{KeyName}
+use Rattle.inode_tree.specs.declared.rows.Kind.TheVariants.{Dir}
+use Rattle.inode_tree.specs.Paths.{is_prefix, same_path}
+use Rattle.inode_tree.specs.Rows.{Entry, is_dir_at, is_marked, is_zone_over, longer, mark_of, row_at, with_kind, zone_of}
+use Rattle.inode_tree.proofs.Seeks.{same-is}
+use Rattle.inode_tree.proofs.ZoneLemmas.{prefix-itself}
+use Rattle.edit_ops.specs.declared.ops.EditOp.{EditOp}
+use Rattle.edit_ops.specs.declared.ops.EditOp.TheVariants as op
+use Rattle.name_store.specs.Table.{NameTable, after_table, id_of, new_directory, new_file}
+use Rattle.name_core.proofs.RowLemmas.{all-put}
+
+-- what holds of each marked row holds of the row of a zone
+pub zone-holds : (P : Entry → Type 0) (p : List (List ℕ)) (rows : List Entry) → All (λ (e : Entry). is_marked e.row ≡ true → P e) rows → IfSome (zone_of rows p) P
+zone-holds P p [] h = tt
+zone-holds P p (x ∷ rows) h = go (is_zone_over p x) refl (zone_of rows p) (zone-holds P p rows (All-tail (λ (e : Entry). is_marked e.row ≡ true → P e) x rows h))
+  where
+    here : is_zone_over p x ≡ true → P x
+    here over = All-head (λ (e : Entry). is_marked e.row ≡ true → P e) x rows h (and_parts (is_marked x.row) (is_prefix x.path p) over).0
+
+    longest : (t : Bool) (f : Entry) → P x → P f → P (cond t f x)
+    longest true f h g = g
+    longest false f h g = h
+
+    go : (t : Bool) → is_zone_over p x ≡ t → (o : Option Entry) → IfSome o P → IfSome (cond t (Some (longer x o)) o) P
+    go false over o rest = rest
+    go true over None rest = here over
+    go true over (Some f) rest = longest (nat_lt (length x.path) (length f.path)) f (here over) rest
+
+-- a row that has the id of the zone has its key
+abbrev pub HasKey : Option ℕ → Option KeyName → Entry → Type 0
+HasKey under key e = under ≡ Some e.row.id → mark_of e.row.kind ≡ key
+
+-- an operation that makes no row with the id of the zone, and marks no other than a directory outside all zones
+abbrev pub LeavesZone : Option ℕ → List Entry → EditOp → Type 0
+LeavesZone under rows (op.Opened opening) = ⊤
+LeavesZone under rows (op.Mkdir id p) = under ≡ Some id → ⊥
+LeavesZone under rows (op.File id p edek) = under ≡ Some id → ⊥
+LeavesZone under rows (op.Remove p) = ⊤
+LeavesZone under rows (op.Zone p key) = (is_dir_at (row_at rows p) ≡ true) × (is_some (zone_of rows p) ≡ false)
+
+module _ (under : Option ℕ) (key : Option KeyName) (marked : (i : ℕ) → under ≡ Some i → is_some key ≡ true) where
+  outside : (x : Entry) (rows : List Entry) (p : List (List ℕ)) → is_some (zone_of (x ∷ rows) p) ≡ false → (is_zone_over p x ≡ false) × (is_some (zone_of rows p) ≡ false)
+  outside x rows p h = go (is_zone_over p x) h
+    where
+      go : (t : Bool) → is_some (cond t (Some (longer x (zone_of rows p))) (zone_of rows p)) ≡ false → (t ≡ false) × (is_some (zone_of rows p) ≡ false)
+      go true h = absurd cc
+      go false h = (refl, h)
+
+  -- a directory outside all zones is not the zone
+  not-the-zone : (rows : List Entry) (p : List (List ℕ)) → All (HasKey under key) rows → is_dir_at (row_at rows p) ≡ true → is_some (zone_of rows p) ≡ false → under ≡ Some (id_of (row_at rows p)) → ⊥
+  not-the-zone [] p h dir none = absurd cc
+  not-the-zone (x ∷ rows) p h dir none =
+      let o = outside x rows p none in
+      go (same_path x.path p) refl (λ d. not-the-zone rows p (All-tail (HasKey under key) x rows h) d o.1) dir
+    where
+      over : same_path x.path p ≡ true → under ≡ Some x.row.id → is_zone_over p x ≡ true
+      over here is =
+          ap (λ (k : Option KeyName). is_some k && is_prefix x.path p) (All-head (HasKey under key) x rows h is) ∙ ap (λ (b : Bool). b && is_prefix x.path p) (marked x.row.id is)
+          ∙ ap (λ (q : List (List ℕ)). is_prefix q p) (same-is x.path p here)
+          ∙ prefix-itself p
+
+      go : (t : Bool) → same_path x.path p ≡ t → (is_dir_at (row_at rows p) ≡ true → under ≡ Some (id_of (row_at rows p)) → ⊥) → is_dir_at (cond t (Some x.row) (row_at rows p)) ≡ true
+          → under ≡ Some (id_of (cond t (Some x.row) (row_at rows p))) → ⊥
+      go true here rest dir is = let f : true ≡ false = sym (over here is) ∙ (outside x rows p none).0 in absurd cc
+      go false here rest dir is = rest dir is
+
+  -- the rows keep the key of the zone behind such an operation
+  pub keys-stay : (t : NameTable) (o : EditOp) → LeavesZone under t.rows o → All (HasKey under key) t.rows → All (HasKey under key) (after_table t o).rows
+  keys-stay t (op.Opened opening) leaves h = h
+  keys-stay t (op.Mkdir id p) leaves h = all-put (HasKey under key) (new_directory id p) t.rows (λ is. absurd (leaves is)) h
+  keys-stay t (op.File id p edek) leaves h = all-put (HasKey under key) (new_file id p edek) t.rows (λ is. absurd (leaves is)) h
+  keys-stay t (op.Remove p) leaves h = All-filter (λ (e : Entry). not (is_prefix p e.path)) (HasKey under key) t.rows h
+  keys-stay t (op.Zone p k) leaves h = All-map (HasKey under key) (with_kind id (Dir (Some k))) t.rows (λ i d b. with-kind (get_or t.rows i d) (h i d b))
+    where
+      id : ℕ
+      id = id_of (row_at t.rows p)
+
+      with-kind : (e : Entry) → HasKey under key e → HasKey under key (with_kind id (Dir (Some k)) e)
+      with-kind e has = go (e.row.id == id)
+        where
+          go : (t : Bool) → HasKey under key (cond t (record e { row = record { id = id; kind = Dir (Some k) } }) e)
+          go true = λ is. absurd (not-the-zone t.rows p h leaves.0 leaves.1 is)
+          go false = has

@@ -1,0 +1,34 @@
+-- What follows in the namesystem for an ask, its finish and any steps between them.
+use Rattle.std.specs.Prelude.{◌≡◌, ⊤, true, List, Option, None, Some, Ok, Err}
+use Rattle.hk_base.specs.declared.names.Edek.{Edek}
+use Rattle.hk_base.specs.declared.texts.Text.{Text}
+use Rattle.edit_ops.specs.declared.ops.EditOp.{EditOp}
+use Rattle.name_core.specs.declared.calls.Ask.{Ask}
+use Rattle.name_core.specs.declared.calls.AskNote.{AskNote}
+use Rattle.name_core.specs.declared.calls.KeyAnswer.TheVariants as answer
+use Rattle.name_core.specs.declared.calls.NameRefusal.TheVariants as refusal
+use Rattle.name_core.specs.declared.calls.Want.{Want}
+use Rattle.name_core.specs.declared.calls.Want.TheVariants as want
+use Rattle.name_core.specs.State.{IsNames, NameService}
+use Rattle.name_core.specs.Asks.{Asks, is_other_zone, opened}
+use Rattle.name_core.specs.Service.{FinishServes}
+use Rattle.name_core.specs.Laws.{AnyFault, Reaches}
+
+-- The reply has what the ask wanted: an encrypted key of the key that was named where one was to be generated, and none where nothing
+-- was wanted. What is given to the ask for a zone is not looked at.
+abbrev pub Answers : Want → Option Edek → Type 0
+Answers want.Nothing None = ⊤
+Answers want.Nothing (Some e) = ⊥
+Answers (want.Generate key) None = ⊥
+Answers (want.Generate key) (Some e) = e.version.key ≡ key
+Answers (want.Metadata key) edek = ⊤
+
+-- A finish whose reply has what its ask wanted is refused as a zone that changed, after any steps behind the ask, only where the zone
+-- that its path lies in is another one than when it was asked for.
+abbrev pub RefusedForItsZone : Type 0
+RefusedForItsZone =
+    (s : NameService) (user : Text) (ask : Ask) (note : AskNote) (s' : NameService) (between : List NameService) (t : NameService)
+    (edek : Option Edek) (logged : List EditOp) (t' : NameService)
+    → IsNames s → Asks s.names user ask (Ok note) s'.names → s'.pending ≡ s.pending → Reaches s' between t
+    → Answers note.want edek → FinishServes t note.id (answer.Given edek) AnyFault (Err refusal.ZoneChanged) logged t'
+    → is_other_zone t'.names.table.rows (opened s.names ask) ≡ true

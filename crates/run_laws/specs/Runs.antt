@@ -1,0 +1,63 @@
+-- What follows in a run of events of both services.
+use Rattle.std.specs.Prelude.{◌≡◌, ℕ, true, List, [], ◌∷◌, Option, None, Some}
+use Rattle.std.specs.Option.{option_map}
+use Rattle.inode_tree.specs.Paths.{read_path}
+use Rattle.key_rows.specs.declared.calls.KmsReply.{KmsReply}
+use Rattle.prop_text.specs.declared.lines.PropLine.{PropLine}
+use Rattle.name_core.specs.declared.calls.Ask.{Ask}
+use Rattle.name_core.specs.declared.calls.Ask.TheVariants as ask
+use Rattle.name_core.specs.declared.calls.AskNote.{AskNote}
+use Rattle.name_core.specs.declared.calls.NameRefusal.TheVariants as refusal
+use Rattle.name_core.specs.State.{IsNames}
+use Rattle.name_core.specs.Asks.{is_other_zone, opened}
+use Rattle.name_core.specs.Laws.{AnyFault}
+use Rattle.world_run.specs.declared.event.Event.{Event}
+use Rattle.world_run.specs.declared.event.Event.TheVariants as event
+use Rattle.world_run.specs.declared.event.Line.{Line}
+use Rattle.world_run.specs.declared.event.Line.TheVariants as line
+use Rattle.world_run.specs.Acknowledged.{Acknowledged}
+use Rattle.world_run.specs.Step.{Step, zone_with}
+use Rattle.world_run.specs.World.{WorldState}
+
+-- a restart finds what the log is known to hold
+abbrev pub DiskTells : Type 0
+DiskTells = Unit {0}
+
+-- From w, an event may be answered so and leave w': under the properties of some lines, with some words to come, at some moment. A store
+-- fault may come at any time.
+pub record Happens (w : WorldState) (e : Event) (told : Line) (w' : WorldState) : Type 0 where
+  pub lines : List PropLine
+  pub words : ℕ → ℕ
+  pub now : ℕ
+  pub drawn : ℕ
+  pub logged : Acknowledged
+  pub step : Step lines w words now e AnyFault DiskTells told drawn logged w'
+
+-- from w, some event may leave w'
+pub record SomeHappens (w w' : WorldState) : Type 0 where
+  pub event : Event
+  pub told : Line
+  pub happens : Happens w event told w'
+
+-- from w, events that leave these worlds one after another lead to v
+abbrev pub Leads : WorldState → List WorldState → WorldState → Type 0
+Leads w [] v = v ≡ w
+Leads w (m ∷ ms) v = SomeHappens w m × Leads m ms v
+
+-- the ask that an event makes: for a file or for a zone, at a path inside the rule
+abbrev pub ask_of : Event → Option Ask
+ask_of (event.AskCreate user path) = option_map ask.Create (read_path path)
+ask_of (event.AskZone user path key) = option_map (zone_with key) (read_path path)
+ask_of _ = None
+
+-- An ask is accepted; after any events its draw is made, by the number of its note, and kept; and after any events that reply is taken
+-- for its finish. Where the finish is refused as a zone that changed, the zone that the path lies in is another one than when it was
+-- asked for.
+abbrev pub RunsRefuseForTheZone : Type 0
+RunsRefuseForTheZone =
+    (w : WorldState) (e : Event) (ask : Ask) (number : ℕ) (note : AskNote) (asked : WorldState) (before_draw : List WorldState) (ready : WorldState)
+    (reply_number : ℕ) (reply : Option KmsReply) (drawn : WorldState) (before_finish : List WorldState) (last refused : WorldState)
+    → IsNames w.names → ask_of e ≡ Some ask → Happens w e (line.Asked number note) asked → Leads asked before_draw ready
+    → Happens ready (event.Draw number) (line.Replied reply_number reply) drawn → Leads drawn before_finish last
+    → Happens last (event.Finish reply_number) (line.Refused refusal.ZoneChanged) refused
+    → is_other_zone refused.names.names.table.rows (opened w.names.names ask) ≡ true
