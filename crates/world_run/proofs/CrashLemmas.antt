@@ -7,6 +7,7 @@ use Rattle.hk_base.specs.Faults.{Rose}
 use Rattle.edit_ops.specs.declared.ops.EditOp.{EditOp}
 use Rattle.inode_tree.specs.declared.paths.NPath.{NPath}
 use Rattle.inode_tree.specs.Paths.{read_path}
+use Rattle.key_rows.specs.declared.rows.KeyCommand.{KeyCommand}
 use Rattle.prop_text.specs.declared.lines.PropLine.{PropLine}
 use Rattle.kms_acls.specs.StandsFor.{StandsFor as ListsFor}
 use Rattle.kms_core.specs.State.{settled}
@@ -25,7 +26,8 @@ use Rattle.world_run.specs.declared.event.Line.{Line}
 use Rattle.world_run.specs.declared.event.WorldFault.{WorldFault}
 use Rattle.world_run.specs.declared.kept.KeptReply.{KeptReply}
 use Rattle.world_run.specs.Acknowledged.{Acknowledged, HoldsLogs, Survives}
-use Rattle.world_run.specs.Does.{Happens, OwnOfEvent, OwnOfPath, OwnOfReply}
+use Rattle.world_run.specs.Does.{Happens}
+use Rattle.world_run.specs.Own.{NoCommand, OwnKeysOfEvent, OwnOfEvent, OwnOfPath, OwnOfReply}
 use Rattle.world_run.specs.Keeps.{Fails, KnowsWorld, SoundNow, SoundThrough, Steps, SurvivesNow, SurvivesThrough}
 use Rattle.world_run.specs.Ledger.{Hidden, Ledger, hidden_after}
 use Rattle.world_run.specs.Linked.{FilesLinked, LinkedWorld, ServicesFit, SoundFiles}
@@ -39,61 +41,62 @@ use Rattle.name_store.proofs.Layers.{sound_left as sound_names_left}
 
 -- the logs that are left
 
-keys-left : (d : DiskState) (r : RunningWorld) (own : Bool → EditOp → Type 0) (done : Acknowledged) (s : HoldsLogs d r done) → ServicesFit (world_of r) → (c : Image) → (left : IsLeftOfBoth r own done s.names.used c)
-    → IsSoundLog (c 0) (done.keys ++ settled_commands left.keys.kept r.keys.store.pending) left.keys.more (settled left.keys.kept (world_of r).keys).table
-keys-left d r own done s fit c left =
-    sound_left r.keys.store.table.keys r.keys.store.pending done.keys (c 0) s.keys.spelled s.keys.waits s.keys.makes (may-wait r.keys.store.pending (world_of r).keys.keys fit.keys.waits) left.keys
+keys-left : (d : DiskState) (r : RunningWorld) (own_keys : Bool → KeyCommand → Type 0) (own : Bool → EditOp → Type 0) (done : Acknowledged) (s : HoldsLogs d r done) → ServicesFit (world_of r) → (c : Image) → (left : IsLeftOfBoth r own_keys own done s.names.used c)
+    → IsSoundLog (c 0) (done.keys ++ settled_commands left.keys.left.kept r.keys.store.pending) left.keys.left.more (settled left.keys.left.kept (world_of r).keys).table
+keys-left d r own_keys own done s fit c left =
+    sound_left r.keys.store.table.keys r.keys.store.pending done.keys (c 0) s.keys.spelled s.keys.waits s.keys.makes (may-wait r.keys.store.pending (world_of r).keys.keys fit.keys.waits) left.keys.left
 
-names-left : (d : DiskState) (r : RunningWorld) (own : Bool → EditOp → Type 0) (done : Acknowledged) (s : HoldsLogs d r done) → (c : Image) → (left : IsLeftOfBoth r own done s.names.used c)
+names-left : (d : DiskState) (r : RunningWorld) (own_keys : Bool → KeyCommand → Type 0) (own : Bool → EditOp → Type 0) (done : Acknowledged) (s : HoldsLogs d r done) → (c : Image) → (left : IsLeftOfBoth r own_keys own done s.names.used c)
     → IsSoundNames (c 1) (done.names ++ settled_ops left.names.kept r.names.store.log.pending) left.names.more (settled_log left.names.kept r.names.store.log.pending (made_with r.names.store s.names.used))
-names-left d r own done s c left =
+names-left d r own_keys own done s c left =
     sound_names_left (made_with r.names.store s.names.used) r.names.store.log.pending own done.names (c 1) s.names.store.log.spelled s.names.store.log.waits s.names.store.makes s.names.store.waits left.names
 
-survives-left : (d : DiskState) (r : RunningWorld) (own : Bool → EditOp → Type 0) (done : Acknowledged) (s : HoldsLogs d r done) → ServicesFit (world_of r) → (c : Image) → IsLeftOfBoth r own done s.names.used c
-    → Survives (world_of r) done c
-survives-left d r own done s fit c left = record {
-  keys = record { kept = left.keys.kept; more = left.keys.more; log = keys-left d r own done s fit c left };
-  names = record { kept = left.names.kept; more = left.names.more; used = _; log = names-left d r own done s c left };
+survives-left : (d : DiskState) (r : RunningWorld) (own_keys : Bool → KeyCommand → Type 0) (own : Bool → EditOp → Type 0) (done : Acknowledged) (s : HoldsLogs d r done) → ServicesFit (world_of r) → (c : Image)
+    → IsLeftOfBoth r own_keys own done s.names.used c → Survives (world_of r) done own_keys own c
+survives-left d r own_keys own done s fit c left = record {
+  keys = record { kept = left.keys.left.kept; more = left.keys.left.more; more_is = left.keys.more_is; log = keys-left d r own_keys own done s fit c left };
+  names = record { kept = left.names.kept; more = left.names.more; more_is = left.names.more_is; used = _; log = names-left d r own_keys own done s c left };
 }
 
-pub survives-through : (old new : DiskState) (r : RunningWorld) (own : Bool → EditOp → Type 0) → ServicesFit (world_of r) → (Tells old → LeavesLogs old new r own) → SurvivesThrough old new r
-survives-through old new r own fit moments told done s =
-    leaves-weaker old new (IsLeftOfBoth r own done s.names.used) (Survives (world_of r) done) (λ c left. survives-left old r own done s fit c left) (moments told done s)
+pub survives-through : (old new : DiskState) (r : RunningWorld) (own_keys : Bool → KeyCommand → Type 0) (own : Bool → EditOp → Type 0) → ServicesFit (world_of r) → (Tells old → LeavesLogs old new r own_keys own)
+    → SurvivesThrough old new r (λ done. Survives (world_of r) done own_keys own)
+survives-through old new r own_keys own fit moments told done s =
+    leaves-weaker old new (IsLeftOfBoth r own_keys own done s.names.used) (Survives (world_of r) done own_keys own) (λ c left. survives-left old r own_keys own done s fit c left) (moments told done s)
 
 -- what is left now, while nothing is written
 left-now : (d : DiskState) (r : RunningWorld) (done : Acknowledged) → r.keys.store.log.file ≡ 0 → r.names.store.log.log.file ≡ 1 → ServicesFit (world_of r) → (s : HoldsLogs d r done) → (c : Image) → IsImage d c
-    → IsLeftOfBoth r NothingMore done s.names.used c
+    → IsLeftOfBoth r NoCommand NothingMore done s.names.used c
 left-now d r done keys_file names_file fit s c image =
-    record { keys = keys-now d r done keys_file fit s (c 0) (image 0 (omega arith)); names = names-now d r NothingMore done names_file s (c 1) (image 1 (omega arith)) }
+    record { keys = keys-now d r NoCommand done keys_file fit s (c 0) (image 0 (omega arith)); names = names-now d r NothingMore done names_file s (c 1) (image 1 (omega arith)) }
 
 pub survives-now : (d : DiskState) (r : RunningWorld) → r.keys.store.log.file ≡ 0 → r.names.store.log.log.file ≡ 1 → ServicesFit (world_of r) → SurvivesNow d r
-survives-now d r keys_file names_file fit done s c image = survives-left d r NothingMore done s fit c (left-now d r done keys_file names_file fit s c image)
+survives-now d r keys_file names_file fit done s c image = survives-left d r NoCommand NothingMore done s fit c (left-now d r done keys_file names_file fit s c image)
 
 -- and what is linked there
 
-sound-left : (d : DiskState) (r : RunningWorld) (ledger : Ledger) (place : ℕ) (own : Bool → EditOp → Type 0) → LinkedFiles (world_of r) ledger place → OwnLinks (world_of r) ledger own → (done : Acknowledged) (s : HoldsLogs d r done)
-    → ServicesFit (world_of r) → (c : Image) → IsLeftOfBoth r own done s.names.used c → SoundFiles ledger place c
-sound-left d r ledger place own files owns done s fit c left = record {
-  commands = done.keys ++ settled_commands left.keys.kept r.keys.store.pending;
-  more = left.keys.more;
-  table = (settled left.keys.kept (world_of r).keys).table;
+sound-left : (d : DiskState) (r : RunningWorld) (ledger : Ledger) (place : ℕ) (own_keys : Bool → KeyCommand → Type 0) (own : Bool → EditOp → Type 0) → LinkedFiles (world_of r) ledger place → OwnLinks (world_of r) ledger own → (done : Acknowledged) (s : HoldsLogs d r done)
+    → ServicesFit (world_of r) → (c : Image) → IsLeftOfBoth r own_keys own done s.names.used c → SoundFiles ledger place c
+sound-left d r ledger place own_keys own files owns done s fit c left = record {
+  commands = done.keys ++ settled_commands left.keys.left.kept r.keys.store.pending;
+  more = left.keys.left.more;
+  table = (settled left.keys.left.kept (world_of r).keys).table;
   ops = done.names ++ settled_ops left.names.kept r.names.store.log.pending;
   more_ops = left.names.more;
   made = settled_log left.names.kept r.names.store.log.pending (made_with r.names.store s.names.used);
-  keys = keys-left d r own done s fit c left;
-  names = names-left d r own done s c left;
+  keys = keys-left d r own_keys own done s fit c left;
+  names = names-left d r own_keys own done s c left;
   linked = λ found found_names.
-      tables-through (world_of r) ledger place own left.keys.kept found left.keys.more (made_with r.names.store s.names.used) done.names (c 1) fit left.keys.fits refl files owns left.names found_names;
+      tables-through (world_of r) ledger place own left.keys.left.kept found left.keys.left.more (made_with r.names.store s.names.used) done.names (c 1) fit left.keys.left.fits refl files owns left.names found_names;
 }
 
-pub sound-through : (old new : DiskState) (r : RunningWorld) (h : Hidden) (own : Bool → EditOp → Type 0) → ServicesFit (world_of r) → LinkedFiles (world_of r) h.ledger h.place → OwnLinks (world_of r) h.ledger own → LeavesLogs old new r own
+pub sound-through : (old new : DiskState) (r : RunningWorld) (h : Hidden) (own_keys : Bool → KeyCommand → Type 0) (own : Bool → EditOp → Type 0) → ServicesFit (world_of r) → LinkedFiles (world_of r) h.ledger h.place → OwnLinks (world_of r) h.ledger own → LeavesLogs old new r own_keys own
     → SoundThrough old new r h
-sound-through old new r h own fit files owns moments done s =
-    leaves-weaker old new (IsLeftOfBoth r own done s.names.used) (SoundFiles h.ledger h.place) (λ c left. sound-left old r h.ledger h.place own files owns done s fit c left) (moments done s)
+sound-through old new r h own_keys own fit files owns moments done s =
+    leaves-weaker old new (IsLeftOfBoth r own_keys own done s.names.used) (SoundFiles h.ledger h.place) (λ c left. sound-left old r h.ledger h.place own_keys own files owns done s fit c left) (moments done s)
 
 pub sound-now : (d : DiskState) (r : RunningWorld) (h : Hidden) → r.keys.store.log.file ≡ 0 → r.names.store.log.log.file ≡ 1 → ServicesFit (world_of r) → LinkedWorld (world_of r) h → SoundNow d r h
 sound-now d r h keys_file names_file fit l done s c image =
-    sound-left d r h.ledger h.place NothingMore (world-files (world_of r) h l) (own-of-nothing (world_of r) h) done s fit c (left-now d r done keys_file names_file fit s c image)
+    sound-left d r h.ledger h.place NoCommand NothingMore (world-files (world_of r) h l) (own-of-nothing (world_of r) h) done s fit c (left-now d r done keys_file names_file fit s c image)
 
 -- what an event may write keeps the files linked, with the ledger behind it
 
@@ -152,22 +155,25 @@ steps lines old new r words now e told r' words' keys_file names_file fit keys_f
     files_open = λ knows h l. linked-promise (world_of r') (hidden_after (world_of r) words e told does.drawn (world_of r') h) fit'.keys.table.names (linked knows h l);
   };
   rest = does.rest;
-  stands = one-holds old new r r' own does.logged keys_file names_file does.disk;
-  survives = survives-through old new r own fit moments;
+  stands = one-holds old new r r' own_keys own does.logged keys_file names_file does.disk;
+  survives = survives-through old new r own_keys own fit moments;
   survives_then = survives-now new r' keys_file' names_file' fit';
-  sound = λ tells h l. sound-through old new r (hidden_after (world_of r) words e told does.drawn (world_of r') h) own fit
+  sound = λ tells h l. sound-through old new r (hidden_after (world_of r) words e told does.drawn (world_of r') h) own_keys own fit
       (event-files lines (world_of r) words now e (Rose old.faults new.faults) (Tells old) told does.drawn does.logged (world_of r') h fit does.acts l)
       (event-owns lines (world_of r) words now e (Rose old.faults new.faults) (Tells old) told does.drawn does.logged (world_of r') h fit does.acts l) (moments tells);
   sound_then = λ knows h l. sound-now new r' (hidden_after (world_of r) words e told does.drawn (world_of r') h) keys_file' names_file' fit' (linked knows h l);
-  run = one-runs old new r r' own does.logged does.disk;
+  run = one-runs old new r r' own_keys own does.logged does.disk;
   lists = does.lists;
 }
   where
+    own_keys : Bool → KeyCommand → Type 0
+    own_keys = OwnKeysOfEvent e
+
     own : Bool → EditOp → Type 0
     own = OwnOfEvent (world_of r) e told (world_of r')
 
-    moments : Tells old → LeavesLogs old new r own
-    moments = one-leaves old new r r' own does.logged keys_file names_file fit does.disk
+    moments : Tells old → LeavesLogs old new r own_keys own
+    moments = one-leaves old new r r' own_keys own does.logged keys_file names_file fit does.disk
 
     linked : KnowsWorld e (Tells old) → (h : Hidden) → LinkedWorld (world_of r) h → LinkedWorld (world_of r') (hidden_after (world_of r) words e told does.drawn (world_of r') h)
     linked knows h l = keeps-linked lines (world_of r) words now e (Rose old.faults new.faults) (Tells old) told does.drawn does.logged (world_of r') h knows fit does.acts l

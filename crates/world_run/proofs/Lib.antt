@@ -4,6 +4,7 @@ pub mod CrashLemmas
 pub mod DrawLemmas
 pub mod FinishLemmas
 pub mod KeepLemmas
+pub mod KeyLemmas
 pub mod Laters
 pub mod LawLemmas
 pub mod Members

@@ -9,8 +9,8 @@ use Rattle.edit_ops.specs.declared.ops.EditOp.{EditOp}
 use Rattle.key_rows.specs.declared.rows.KeyCommand.{KeyCommand}
 use Rattle.key_rows.specs.Table.{Table}
 use Rattle.prop_text.specs.declared.lines.PropLine.{PropLine}
-use Rattle.kms_store.specs.Store.{Applies, IsDamagedAt, IsKeyLog, IsLeftByStart, IsLeftOf, IsSoundLog, StandsFor, next_opening, settled_commands}
-use Rattle.kms_store.proofs.Layers.{finds, left_by_start, left_by_store, not_damaged, sound_store, stands_once}
+use Rattle.kms_store.specs.Store.{Applies, IsDamagedAt, IsKeyLog, IsLeftByStart, IsSoundLog, StandsFor, next_opening, settled_commands}
+use Rattle.kms_store.proofs.Layers.{finds, not_damaged, sound_store, stands_once}
 use Rattle.kms_core.specs.Service.{Starts}
 use Rattle.kms_core.specs.Users.{RunningKms, running}
 use Rattle.name_store.specs.Store.{AnOpening, IsDamagedAt as IsDamagedName, IsLeftByStart as IsLeftByNameStart, IsLeftOf as IsLeftOfNames, IsNameLog, IsSoundLog as IsSoundNames, NothingMore, made_with}
@@ -23,10 +23,12 @@ use Rattle.world_run.specs.Acknowledged.{Acknowledged, HoldsLogs, of_keys, of_na
 use Rattle.world_run.specs.Does.{Happens}
 use Rattle.world_run.specs.Keeps.{Fails}
 use Rattle.world_run.specs.Linked.{ServicesFit}
+use Rattle.world_run.specs.Own.{AKeyOpening, IsLeftOfKeys, NoCommand}
 use Rattle.world_run.specs.Step.{Recovers, RecoversNames}
 use Rattle.world_run.specs.World.{RunningWorld, world_of}
 use Rattle.world_run.proofs.BothLemmas.{LeavesLogs, both-of, on-keys-leaves, on-names-leaves}
 use Rattle.world_run.proofs.CrashLemmas.{sound-through, survives-through}
+use Rattle.world_run.proofs.KeyLemmas.{keys-at-rest, keys-by-start, keys-weaker}
 use Rattle.world_run.proofs.Laters.{may-wait}
 use Rattle.world_run.proofs.SoundLemmas.{own-of-nothing, own-of-opening, world-files}
 use Rattle.world_run.proofs.StepLemmas.{own-weaker}
@@ -42,11 +44,12 @@ may-be-kept w fit = may-wait w.keys.store.pending (world_of w).keys.keys fit.key
 
 -- a start leaves of the log of a service what a crash may leave of it
 keys-left-by-restart : (old new : DiskState) (w : RunningWorld) → w.keys.store.log.file ≡ 0 → ServicesFit (world_of w) → (Tells old → LeavesOnly 0 old new (λ c. old.leaves 0 c ⊎ IsLeftByStart (old.reads 0) c))
-    → Tells old → (commands : List KeyCommand) → StandsFor old w.keys.store commands → LeavesOnly 0 old new (IsLeftOf w.keys.store.table.keys w.keys.store.pending commands)
+    → Tells old → (commands : List KeyCommand) → StandsFor old w.keys.store commands → LeavesOnly 0 old new (IsLeftOfKeys w.keys.store.table.keys w.keys.store.pending AKeyOpening commands)
 keys-left-by-restart old new w of_file fit moments told commands s =
     let sound = sound_store old w.keys.store commands of_file (may-be-kept w fit) s in
-    weaker (λ c left. ⊎_elim (λ before. left_by_store old w.keys.store commands of_file (may-be-kept w fit) s c before)
-    (λ found. left_by_start (old.reads 0) commands w.keys.store.pending w.keys.store.table.keys sound c found) left) (moments told)
+    weaker (λ c left. ⊎_elim
+    (λ before. keys-weaker NoCommand AKeyOpening w.keys.store.table.keys w.keys.store.pending commands c (λ k command none. absurd none) (keys-at-rest old w.keys.store commands of_file (may-be-kept w fit) s c before))
+    (λ found. keys-by-start (old.reads 0) commands w.keys.store.pending w.keys.store.table.keys sound c found) left) (moments told)
 
 -- what a start found beside the log of a service
 record KeysReopened (old new : DiskState) (w w' : RunningWorld) (table : Table) : Type 0 where
@@ -123,16 +126,16 @@ keys-fail old new w w' words fault same keys_file names_file fit held damaged sp
       let f = finds (old.reads 0) (held told).0.keys w.keys.store.pending w.keys.store.table.keys k.0 k.1 (sound told) k.2 in
       (f.kept, ap (λ (t : Table). t.opening) (sym f.table_is) ∙ k.3);
   cause = cause;
-  survives = survives-through old new w NothingMore fit left;
-  sound = λ told h l. sound-through old new w h NothingMore fit (world-files (world_of w) h l) (own-of-nothing (world_of w) h) (left told);
+  survives = survives-through old new w AKeyOpening NothingMore fit left;
+  sound = λ told h l. sound-through old new w h AKeyOpening NothingMore fit (world-files (world_of w) h l) (own-of-nothing (world_of w) h) (left told);
   run = both-of 0 old new run;
 }
   where
     sound : (told : Tells old) → IsSoundLog (old.reads 0) (held told).0.keys w.keys.store.pending w.keys.store.table.keys
     sound told = sound_store old w.keys.store (held told).0.keys keys_file (may-be-kept w fit) (held told).1.keys
 
-    left : Tells old → LeavesLogs old new w NothingMore
-    left told = on-keys-leaves old new w NothingMore names_file (keys-left-by-restart old new w keys_file fit moments told)
+    left : Tells old → LeavesLogs old new w AKeyOpening NothingMore
+    left told = on-keys-leaves old new w AKeyOpening NothingMore names_file (keys-left-by-restart old new w keys_file fit moments told)
 
 -- the namesystem
 
@@ -217,13 +220,13 @@ names-fail old new w w' words fault same keys_file names_file fit held damaged s
       let f = finds_names (old.reads 1) (held told).0.names w.names.store.log.pending (made_with w.names.store (held told).1.names.used) k.0 k.1 (sound told) k.2 in
       (f.kept, ap (λ (m : Replayed). m.table.opening) (sym f.made_is) ∙ k.3);
   cause = cause;
-  survives = survives-through old new w AnOpening fit left;
-  sound = λ told h l. sound-through old new w h AnOpening fit (world-files (world_of w) h l) (own-of-opening (world_of w) h fit l) (left told);
+  survives = survives-through old new w NoCommand AnOpening fit left;
+  sound = λ told h l. sound-through old new w h NoCommand AnOpening fit (world-files (world_of w) h l) (own-of-opening (world_of w) h fit l) (left told);
   run = both-of 1 old new run;
 }
   where
     sound : (told : Tells old) → IsSoundNames (old.reads 1) (held told).0.names w.names.store.log.pending (made_with w.names.store (held told).1.names.used)
     sound told = sound_names old w.names.store (held told).1.names.used (held told).0.names names_file (held told).1.names.store
 
-    left : Tells old → LeavesLogs old new w AnOpening
-    left told = on-names-leaves old new w AnOpening keys_file fit (names-left-by-restart old new w names_file moments told)
+    left : Tells old → LeavesLogs old new w NoCommand AnOpening
+    left told = on-names-leaves old new w NoCommand AnOpening keys_file fit (names-left-by-restart old new w names_file moments told)

@@ -1,6 +1,7 @@
 -- A start of both services: what it finds in the two logs, and what a crash leaves meanwhile.
-use Rattle.std.proofs.Common.{◌≡◌, ◌⊎◌, inl, inr, ℕ, zero, suc, ◌+◌, ◌*◌, ◌^◌, ◌<◌, ◌≤◌, ◌==◌, ◌∙◌, Bool, true, false, List, [], ◌++◌, Option, Some, None, Ok, Err, refl, sym, ap, subst, ⊎_elim, arith}
+use Rattle.std.proofs.Common.{◌≡◌, ◌⊎◌, inl, inr, ℕ, zero, suc, ◌+◌, ◌*◌, ◌^◌, ◌<◌, ◌≤◌, ◌==◌, ◌∙◌, Bool, true, false, List, [], ◌∷◌, ◌++◌, Option, Some, None, Ok, Err, refl, sym, ap, subst, ⊎_elim, arith}
 use Rattle.std.specs.Prelude.{⊤, ◌&&◌, IfSome}
+use Rattle.std.specs.List.{AllByRecursion}
 use Rattle.std.specs.declared.result.Result.{Result}
 use Rattle.std.proofs.lemmas.Bool.Decides.{nat_tests}
 use Rattle.hk_base.specs.Disk.{DiskState, Image, IsImage, LeavesOnly, RunOn, Tells}
@@ -11,13 +12,15 @@ use Rattle.frame_log.specs.declared.fault.StartFault.TheVariants as start
 use Rattle.edit_ops.specs.declared.ops.EditOp.{EditOp}
 use Rattle.edit_ops.specs.declared.ops.EditOp.TheVariants as op
 use Rattle.key_rows.specs.declared.rows.KeyCommand.{KeyCommand}
+use Rattle.key_rows.specs.Records.{HasSpelling}
 use Rattle.key_rows.specs.Table.{Table}
 use Rattle.key_rows.proofs.Births.{both}
 use Rattle.prop_text.specs.declared.lines.PropLine.{PropLine}
 use Rattle.kms_acls.specs.StandsFor.{StandsFor as ListsFor}
-use Rattle.kms_store.specs.Store.{IsDamagedAt, IsKeyLog, IsLeftByStart, settled_commands, settled_table}
+use Rattle.kms_store.specs.Store.{IsDamagedAt, IsKeyLog, IsLeftByStart, next_opening, settled_commands, settled_table}
 use Rattle.kms_store.proofs.Layers.{finds, left_by_start, sound_left}
 use Rattle.kms_core.specs.Service.{Starts}
+use Rattle.kms_core.specs.State.{Running}
 use Rattle.kms_core.specs.Users.{running}
 use Rattle.name_store.specs.Store.{AnOpening, IsDamagedAt as IsDamagedName, IsLeftByStart as IsLeftByNameStart, IsNameLog, is_opening}
 use Rattle.name_store.specs.Table.{NameTable, Replayed, after_table, allows, is_fresh, settled_log, settled_ops}
@@ -27,7 +30,7 @@ use Rattle.world_run.specs.Acknowledged.{LeavesBoth, RunBoth}
 use Rattle.world_run.specs.Keeps.{Begins, LeftByStarts}
 use Rattle.world_run.specs.Ledger.{Ledger, drawn_before}
 use Rattle.world_run.specs.Linked.{LinkedTables, LinkedWorld, ServicesFit, SoundFiles, StartsSound}
-use Rattle.world_run.specs.Starts.{StartHappens}
+use Rattle.world_run.specs.Starts.{MayOpenKeys, StartHappens}
 use Rattle.world_run.specs.World.{RunningWorld, WorldState, first_world, world_of}
 use Rattle.world_run.proofs.BothLemmas.{both-of, keys-beside, leaves-keys, leaves-weaker}
 use Rattle.world_run.proofs.CrashLemmas.{sound-now, survives-now}
@@ -248,6 +251,17 @@ both-runs old mid new a b = record {
   later = let f = a.later in let g = b.later in omega (arith, f, g);
 }
 
+-- a key log that was opened has room for its new opening
+last-has : (commands : List KeyCommand) (command : KeyCommand) → AllByRecursion HasSpelling (commands ++ command ∷ []) → HasSpelling command
+last-has [] command all = all.0
+last-has (x ∷ xs) command all = last-has xs command all.1
+
+pub may-open : (old new : DiskState) (r : Running) → Starts old new r → Tells old → MayOpenKeys (old.reads 0)
+may-open old new r s told =
+    let k = s.log told in
+    let fits : s.table.opening + 1 < 2 ^ 32 = last-has k.0 (next_opening s.table) k.2.spelled in
+    (k.0, s.table, k.1, omega (arith, fits))
+
 -- memory is wanting before a log is opened
 pub no-start : (old : DiskState) (lines : List PropLine) → StartHappens old old lines (Err (record { file = 0; fault = start.NoMemory }))
 no-start old lines = record {
@@ -258,12 +272,17 @@ no-start old lines = record {
   damaged_names = λ at is. absurd (no-damage at (ap (λ (f : WorldFault). f.fault) (one-fault _ _ is)));
   spent_keys = λ is. absurd (not-spent (ap (λ (f : WorldFault). f.fault) (one-fault _ _ is)));
   spent_names = λ is. absurd (not-spent (ap (λ (f : WorldFault). f.fault) (one-fault _ _ is)));
+  first_keys = λ fault is. absurd (other (ap (λ (f : WorldFault). f.file) (one-fault _ _ is)));
+  first_names = λ fault is. (begin 0 old (λ c. ⊤)).run;
   any_moment = λ told. record { before = λ t c le left. inl left };
   sound = λ told ledger place sound. record { before = λ t c le left. inl left };
   run = both-of 0 old old (begin 0 old (λ c. ⊤)).run;
   cause = λ file is. absurd (no-fault (ap (λ (f : WorldFault). f.fault) (one-fault _ _ is)));
 }
   where
+    other : zero ≡ 1 → ⊥
+    other is = absurd (omega (arith, is))
+
     no-damage : (at : ℕ) → start.NoMemory ≡ start.Damaged at → ⊥
     no-damage at is = absurd (cc is)
 
@@ -286,6 +305,8 @@ keys-not-started old new lines fault m damaged spent cause moments run = record 
   damaged_names = λ at is. absurd (other (ap (λ (f : WorldFault). f.file) (one-fault _ _ is)));
   spent_keys = λ is told. let s = spent (ap (λ (f : WorldFault). f.fault) (one-fault _ _ is)) told in record { commands = s.0; table = s.1; log = s.2; last = s.3 };
   spent_names = λ is. absurd (other (ap (λ (f : WorldFault). f.file) (one-fault _ _ is)));
+  first_keys = λ fault is. absurd (other (ap (λ (f : WorldFault). f.file) (one-fault _ _ is)));
+  first_names = λ fault is. run;
   any_moment = λ told. keys-opened old new (moments told);
   sound = λ told ledger place sound. all-sound old new ledger place m told (keys-opened old new (moments told)) sound;
   run = both-of 0 old new run;
@@ -299,8 +320,9 @@ pub names-not-started : (old mid new : DiskState) (lines : List PropLine) (fault
     → ((at : ℕ) → fault ≡ start.Damaged at → Tells mid → IsDamagedName (mid.reads 1) at)
     → (fault ≡ start.Spent → Tells mid → (ops : List EditOp) × (made : Replayed) × IsNameLog (mid.reads 1) ops made × (made.table.opening ≡ 4294967295))
     → (fault ≡ start.StoreFault → Rose mid.faults new.faults)
+    → (Tells old → MayOpenKeys (old.reads 0))
     → (Tells old → KeysMoments old mid) → RunOn 0 old mid → (Tells mid → NamesMoments mid new) → RunOn 1 mid new → StartHappens old new lines (Err (record { file = 1; fault = fault }))
-names-not-started old mid new lines fault m n damaged spent cause first run second other_run = record {
+names-not-started old mid new lines fault m n damaged spent cause good first run second other_run = record {
   began = tt;
   lists = tt;
   file = λ file f is. inr (sym (ap (λ (x : WorldFault). x.file) (one-fault _ _ is)));
@@ -310,6 +332,8 @@ names-not-started old mid new lines fault m n damaged spent cause first run seco
   spent_names = λ is told.
       let s = spent (ap (λ (f : WorldFault). f.fault) (one-fault _ _ is)) (tells-on 0 old mid run told) in
       record { ops = s.0; made = s.1; log = subst (λ (b : List ℕ). IsNameLog b s.0 s.1) (run.other_reads told) s.2; last = s.3 };
+  first_keys = λ fault is. good;
+  first_names = λ fault is. absurd (other (ap (λ (f : WorldFault). f.file) (one-fault _ _ is)));
   any_moment = moments;
   sound = λ told ledger place sound. all-sound old new ledger place m told (moments told) sound;
   run = both-runs old mid new run other_run;
@@ -333,6 +357,8 @@ started old mid new lines r m n keys_file names_file fit nothing lists ks ns fir
   damaged_names = λ at is. absurd (cc is);
   spent_keys = λ is. absurd (cc is);
   spent_names = λ is. absurd (cc is);
+  first_keys = λ fault is. absurd (cc is);
+  first_names = λ fault is. absurd (cc is);
   any_moment = moments;
   sound = λ told ledger place sound. all-sound old new ledger place m told (moments told) sound;
   run = both-runs old mid new run other_run;

@@ -19,6 +19,7 @@ use Rattle.key_rows.specs.declared.calls.KmsRefusal.TheVariants as key_refusal
 use Rattle.key_rows.specs.declared.calls.KmsReply.{KmsReply}
 use Rattle.key_rows.specs.declared.calls.KmsReply.TheVariants as key_reply
 use Rattle.prop_text.specs.declared.lines.PropLine.{PropLine}
+use Rattle.key_rows.specs.declared.rows.KeyCommand.{KeyCommand}
 use Rattle.kms_store.specs.Store.{IsLeftOf, StandsFor}
 use Rattle.kms_acls.specs.StandsFor.{StandsFor as ListsFor}
 use Rattle.kms_core.specs.Service.{Logs}
@@ -44,35 +45,38 @@ use Rattle.world_run.specs.declared.event.Line.TheVariants as line
 use Rattle.world_run.specs.declared.event.WorldFault.{WorldFault}
 use Rattle.world_run.specs.declared.kept.KeptReply.{KeptReply}
 use Rattle.world_run.specs.Acknowledged.{Acknowledged, nothing_acknowledged, of_keys, of_names}
-use Rattle.world_run.specs.Does.{CallHappens, Does, DrawHappens, FinishHappens, Happens, OwnOfReply, PathHappens, WantHappens}
+use Rattle.world_run.specs.Does.{CallHappens, Does, DrawHappens, FinishHappens, Happens, PathHappens, WantHappens}
+use Rattle.world_run.specs.Own.{IsLeftOfKeys, NoCommand, OwnOfReply}
 use Rattle.world_run.specs.Keeps.{Fails}
 use Rattle.world_run.specs.Step.{AskAt, PathActs, Step, after_ask, finish_line, kept_reply, unread_reply, zone_with}
 use Rattle.world_run.specs.World.{RunningWorld, WorldState, numbered, with_names, world_of}
 use Rattle.world_run.proofs.AskLemmas.{ask-stands}
+use Rattle.world_run.proofs.KeyLemmas.{any-logs}
 
 abbrev pub parts : RunningKms → RunningNames → List AskNote → List KeptReply → RunningWorld
 parts keys names notes replies = record { keys = keys; names = names; kept = record { notes = notes; replies = replies } }
 
 -- nothing is done to the disk
 
-no-log : (d : DiskState) (r : RunningKms) → Logs d d r.store r.store (IsLeftOf r.store.table.keys r.store.pending) []
-no-log d r = record {
+no-log : (d : DiskState) (r : RunningKms) (P : List KeyCommand → List ℕ → Type 0) → Logs d d r.store r.store P []
+no-log d r P = record {
   stands = λ told commands s. subst (StandsFor d r.store) (sym (append-nil commands)) s;
-  moments = λ told commands s. (begin 0 d (IsLeftOf r.store.table.keys r.store.pending commands)).moments;
-  run = (begin 0 d (IsLeftOf r.store.table.keys r.store.pending [])).run;
+  moments = λ told commands s. (begin 0 d (P commands)).moments;
+  run = (begin 0 d (P [])).run;
 }
 
-no-log-to : (d : DiskState) (r r' : RunningKms) → r' ≡ r → Logs d d r.store r'.store (IsLeftOf r.store.table.keys r.store.pending) []
-no-log-to d r r' same = subst (λ (q : RunningKms). Logs d d r.store q.store (IsLeftOf r.store.table.keys r.store.pending) []) (sym same) (no-log d r)
+no-log-to : (d : DiskState) (r r' : RunningKms) (P : List KeyCommand → List ℕ → Type 0) → r' ≡ r → Logs d d r.store r'.store P []
+no-log-to d r r' P same = subst (λ (q : RunningKms). Logs d d r.store q.store P []) (sym same) (no-log d r P)
 
 -- no word is drawn, the disk is not touched, and the world is as it was
-pub does-nothing : (d : DiskState) (r r' : RunningWorld) (words : ℕ → ℕ) (own : Bool → EditOp → Type 0) (P : ℕ → Acknowledged → Type 0) → r' ≡ r → P 0 nothing_acknowledged → Does d d r r' words words own P
-does-nothing d r r' words own P same p = record {
+pub does-nothing : (d : DiskState) (r r' : RunningWorld) (words : ℕ → ℕ) (own_keys : Bool → KeyCommand → Type 0) (own : Bool → EditOp → Type 0) (P : ℕ → Acknowledged → Type 0) → r' ≡ r → P 0 nothing_acknowledged
+    → Does d d r r' words words own_keys own P
+does-nothing d r r' words own_keys own P same p = record {
   drawn = 0;
   logged = nothing_acknowledged;
   acts = p;
   rest = λ k. ap words (omega arith);
-  disk = inl (record { commands = []; logged_is = refl; log = no-log-to d r.keys r'.keys (ap (λ (w : RunningWorld). w.keys) same); names = ap (λ (w : RunningWorld). w.names) same });
+  disk = inl (record { commands = []; logged_is = refl; log = no-log-to d r.keys r'.keys (IsLeftOfKeys r.keys.store.table.keys r.keys.store.pending own_keys) (ap (λ (w : RunningWorld). w.keys) same); names = ap (λ (w : RunningWorld). w.names) same });
   lists = ap (λ (w : RunningWorld). w.keys.acls) same;
 }
 
@@ -88,7 +92,7 @@ names-no-log d r r' own stands = record {
 }
 
 ask-does : (d : DiskState) (r r' : RunningWorld) (user : Text) (a : Ask) (result : Result AskNote NameRefusal) (words : ℕ → ℕ) (P : ℕ → Acknowledged → Type 0) → r'.keys ≡ r.keys → r'.names.store ≡ r.names.store
-    → Asks (names_of r.names) user a result (names_of r'.names) → P 0 nothing_acknowledged → Does d d r r' words words NothingMore P
+    → Asks (names_of r.names) user a result (names_of r'.names) → P 0 nothing_acknowledged → Does d d r r' words words NoCommand NothingMore P
 ask-does d r r' user a result words P keys store asks p = record {
   drawn = 0;
   logged = nothing_acknowledged;
@@ -100,7 +104,7 @@ ask-does d r r' user a result words P keys store asks p = record {
 
 -- an ask that changed nothing of the namesystem
 still-does : (d : DiskState) (r r' : RunningWorld) (words : ℕ → ℕ) (P : ℕ → Acknowledged → Type 0) → r'.keys ≡ r.keys → r'.names.store ≡ r.names.store → names_of r'.names ≡ names_of r.names
-    → P 0 nothing_acknowledged → Does d d r r' words words NothingMore P
+    → P 0 nothing_acknowledged → Does d d r r' words words NoCommand NothingMore P
 still-does d r r' words P keys store names p = record {
   drawn = 0;
   logged = nothing_acknowledged;
@@ -119,7 +123,7 @@ names-left (Ok note) w names = refl
 names-left (Err why) w names = refl
 
 ask-at : (d : DiskState) (r r' : RunningWorld) (user : Text) (c : NPath → Ask) (path : Option NPath) (told : Line) (words : ℕ → ℕ) (P : ℕ → Acknowledged → Type 0) → r'.keys ≡ r.keys → r'.names.store ≡ r.names.store
-    → AskAt (world_of r) user c path told (world_of r') → P 0 nothing_acknowledged → Does d d r r' words words NothingMore P
+    → AskAt (world_of r) user c path told (world_of r') → P 0 nothing_acknowledged → Does d d r r' words words NoCommand NothingMore P
 ask-at d r r' user c None told words P keys store refused p = still-does d r r' words P keys store (ap (λ (w : WorldState). w.names.names) refused.same) p
 ask-at d r r' user c (Some path) told words P keys store (inr refused) p = still-does d r r' words P keys store (ap (λ (w : WorldState). w.names.names) refused.same) p
 ask-at d r r' user c (Some path) told words P keys store (inl a) p =
@@ -184,7 +188,7 @@ path-called old new w w' user c read path told is happens =
 -- and at one that could not be read
 pub path-unread : (d : DiskState) (w w' : RunningWorld) (user : Text) (c : NPath → NameCall) (read : Option NPath) (fault : PathFault) (told : NameReply) → w' ≡ w → told ≡ unread_reply fault
     → (fault ≡ BadPath → read ≡ None) → (read ≡ None → fault ≡ BadPath) → PathHappens d d w user c read (line.Name told) w'
-path-unread d w w' user c read fault told same is bad only = λ words. does-nothing d w w' words _ _ same (go read fault bad only is)
+path-unread d w w' user c read fault told same is bad only = λ words. does-nothing d w w' words _ _ _ same (go read fault bad only is)
   where
     go : (o : Option NPath) (f : PathFault) → (f ≡ BadPath → o ≡ None) → (o ≡ None → f ≡ BadPath) → told ≡ unread_reply f
         → PathActs (world_of w) user c o (Rose d.faults d.faults) (line.Name told) 0 nothing_acknowledged (world_of w')
@@ -221,20 +225,20 @@ finished old new w keys names names' notes replies kept n result told view at ac
 pub finish-unknown : (d : DiskState) (w w' : RunningWorld) (read : Option KeptReply) → None ≡ read → w' ≡ w → FinishHappens d d w read line.Unknown w'
 finish-unknown d w w' read none same =
     subst (λ (o : Option KeptReply). FinishHappens d d w o line.Unknown w') none
-    (λ words. does-nothing d w w' words _ _ same (record { told_is = refl; quiet = (refl, refl); same = ap world_of same }))
+    (λ words. does-nothing d w w' words _ _ _ same (record { told_is = refl; quiet = (refl, refl); same = ap world_of same }))
 
 -- a draw
 
 pub draw-unknown : (lines : List PropLine) (d : DiskState) (w w' : RunningWorld) (words : ℕ → ℕ) (now : ℕ) (o : Option AskNote) → None ≡ o → w' ≡ w → DrawHappens lines d d w words now o line.Unknown w' words
 draw-unknown lines d w w' words now o none same =
     subst (λ (x : Option AskNote). DrawHappens lines d d w words now x line.Unknown w' words) none
-    (does-nothing d w w' words _ _ same (record { told_is = refl; quiet = (refl, refl); same = ap world_of same }))
+    (does-nothing d w w' words _ _ _ same (record { told_is = refl; quiet = (refl, refl); same = ap world_of same }))
 
 pub draw-no-room : (lines : List PropLine) (d : DiskState) (w w' : RunningWorld) (words : ℕ → ℕ) (now : ℕ) (o : Option AskNote) (note : AskNote) → Some note ≡ o → w' ≡ w
     → DrawHappens lines d d w words now o (line.Kms (key_reply.Refused key_refusal.NoMemory)) w' words
 draw-no-room lines d w w' words now o note is same =
     subst (λ (x : Option AskNote). DrawHappens lines d d w words now x (line.Kms (key_reply.Refused key_refusal.NoMemory)) w' words) is
-    (does-nothing d w w' words _ _ same (inr (record { told_is = refl; quiet = (refl, refl); same = ap world_of same })))
+    (does-nothing d w w' words _ _ _ same (inr (record { told_is = refl; quiet = (refl, refl); same = ap world_of same })))
 
 -- a call that was wanted, and its reply
 pub drew-note : (lines : List PropLine) (old new : DiskState) (w : RunningWorld) (words : ℕ → ℕ) (now : ℕ) (note : AskNote) (keys keys' : RunningKms) (names : RunningNames) (notes : List AskNote) (replies replies' : List KeptReply)
@@ -258,7 +262,7 @@ drew-note lines old new w words now note keys keys' names notes replies replies'
         left = ap (λ (l : List KeptReply). world_of (parts keys' names notes l)) more;
       });
       rest = does.rest;
-      disk = inl (record { commands = does.commands; logged_is = refl; log = does.log; names = refl });
+      disk = inl (record { commands = does.commands; logged_is = refl; log = any-logs old new keys.store keys'.store does.commands does.log; names = refl });
       lists = does.lists;
     }))
 
@@ -267,7 +271,7 @@ drew-note lines old new w words now note keys keys' names notes replies replies'
 pub nothing-wanted : (lines : List PropLine) (d : DiskState) (r : RunningKms) (words : ℕ → ℕ) (now : ℕ) (wanted : Want) → wanted ≡ want.Nothing → WantHappens lines d d r words now wanted None r words
 nothing-wanted lines d r words now wanted is =
     subst (λ (x : Want). WantHappens lines d d r words now x None r words) (sym is)
-    (record { drawn = 0; commands = []; acts = record { told_is = refl; none_drawn = refl; none_logged = refl; same = refl }; rest = λ k. ap words (omega arith); log = no-log d r; lists = refl })
+    (record { drawn = 0; commands = []; acts = record { told_is = refl; none_drawn = refl; none_logged = refl; same = refl }; rest = λ k. ap words (omega arith); log = no-log d r (IsLeftOf r.store.table.keys r.store.pending); lists = refl })
 
 pub generate-wanted : (lines : List PropLine) (old new : DiskState) (r r' : RunningKms) (words words' : ℕ → ℕ) (now : ℕ) (user : Text) (wanted : Want) (name : KeyName) (told : KmsReply) → user ≡ superuser → wanted ≡ want.Generate name
     → ActsFor lines user old new r words now (call.Generate name 1) told r' words' → WantHappens lines old new r words now wanted (Some told) r' words'
@@ -300,7 +304,7 @@ kms-happens lines old new w keys keys' names notes replies words words' now e us
       logged = of_keys acts.logged;
       acts = record { reply = reply; keys = service_of (running keys'); commands = acts.logged; serves = acts.serves; logged_is = refl; told_is = refl; left = refl };
       rest = acts.rest;
-      disk = inl (record { commands = acts.logged; logged_is = refl; log = acts.disk; names = refl });
+      disk = inl (record { commands = acts.logged; logged_is = refl; log = any-logs old new keys.store keys'.store acts.logged acts.disk; names = refl });
       lists = acts.lists;
     }))
 

@@ -1,5 +1,5 @@
 -- What is acknowledged of both logs, and what a disk holds of a running world.
-use Rattle.std.specs.Prelude.{◌≡◌, ◌⊎◌, ◌≤◌, ℕ, Bool, List, [], ◌++◌, Option}
+use Rattle.std.specs.Prelude.{◌≡◌, ◌⊎◌, ◌≤◌, ℕ, Bool, false, List, [], ◌++◌, Option, Some, IfSome}
 use Rattle.hk_base.specs.Disk.{DiskState, Image}
 use Rattle.edit_ops.specs.declared.ops.EditOp.{EditOp}
 use Rattle.key_rows.specs.declared.rows.KeyCommand.{KeyCommand}
@@ -33,24 +33,26 @@ pub record HoldsLogs (disk : DiskState) (r : RunningWorld) (done : Acknowledged)
   pub keys : StandsFor disk r.keys.store done.keys
   pub names : NamesStandFor disk r.names done.names
 
--- what a crash may leave of the key log of a service: its acknowledged commands, none left out, then the pending one if that was
--- kept, and at most one more, which applies
-pub record KeysSurvive (s : ServiceState) (commands : List KeyCommand) (bytes : List ℕ) : Type 0 where
+-- What a crash may leave of the key log of a service: its acknowledged commands, none left out, then the pending one if that was
+-- kept, and at most one more. That one is the pending command itself, or one of `own`, which says what is being written; it applies.
+pub record KeysSurvive (s : ServiceState) (own : Bool → KeyCommand → Type 0) (commands : List KeyCommand) (bytes : List ℕ) : Type 0 where
   pub kept : Bool
   pub more : Option KeyCommand
+  pub more_is : IfSome more (λ command. ((kept ≡ false) × (s.pending ≡ Some command)) ⊎ own kept command)
   pub log : IsSoundLog bytes (commands ++ settled_commands kept s.pending) more (settled kept s).table
 
 -- and of the edit log of a namesystem
-pub record NamesSurvive (s : NameService) (ops : List EditOp) (bytes : List ℕ) : Type 0 where
+pub record NamesSurvive (s : NameService) (own : Bool → EditOp → Type 0) (ops : List EditOp) (bytes : List ℕ) : Type 0 where
   pub kept : Bool
   pub more : Option EditOp
+  pub more_is : IfSome more (λ op. ((kept ≡ false) × (s.pending ≡ Some op)) ⊎ own kept op)
   pub used : List ℕ
   pub log : IsSoundNames bytes (ops ++ settled_ops kept s.pending) more (record { table = (settled_names kept s).table; used = used })
 
--- Both files are logs that a start takes, never damaged.
-pub record Survives (w : WorldState) (done : Acknowledged) (image : Image) : Type 0 where
-  pub keys : KeysSurvive w.keys done.keys (image 0)
-  pub names : NamesSurvive w.names done.names (image 1)
+-- Both files are logs that a start takes, never damaged. `own_keys` and `own_names` say what is being written to each.
+pub record Survives (w : WorldState) (done : Acknowledged) (own_keys : Bool → KeyCommand → Type 0) (own_names : Bool → EditOp → Type 0) (image : Image) : Type 0 where
+  pub keys : KeysSurvive w.keys own_keys done.keys (image 0)
+  pub names : NamesSurvive w.names own_names done.names (image 1)
 
 -- a crash at any moment since the old one leaves what it might have left before, or what has P
 pub record LeavesBoth (old new : DiskState) (P : Image → Type 0) : Type 0 where

@@ -1,10 +1,9 @@
 -- What an event, or a part of one, does to the world and to one of its two logs.
-use Rattle.std.specs.Prelude.{◌≡◌, ◌⊎◌, ℕ, ◌+◌, Bool, List, Option, None, Some, Result}
+use Rattle.std.specs.Prelude.{◌≡◌, ◌⊎◌, ℕ, ◌+◌, Bool, List, Option}
 use Rattle.hk_base.specs.Disk.{DiskState, Tells}
 use Rattle.hk_base.specs.Faults.{Rose}
 use Rattle.hk_base.specs.declared.texts.Text.{Text}
 use Rattle.inode_tree.specs.declared.paths.NPath.{NPath}
-use Rattle.inode_tree.specs.Paths.{read_path}
 use Rattle.edit_ops.specs.declared.ops.EditOp.{EditOp}
 use Rattle.key_rows.specs.declared.calls.KmsReply.{KmsReply}
 use Rattle.key_rows.specs.declared.rows.KeyCommand.{KeyCommand}
@@ -13,57 +12,24 @@ use Rattle.kms_store.specs.Store.{IsLeftOf}
 use Rattle.kms_core.specs.Service.{Logs}
 use Rattle.kms_core.specs.State.{service_of}
 use Rattle.kms_core.specs.Users.{RunningKms, running}
-use Rattle.name_store.specs.Store.{AnOpening, NothingMore}
+use Rattle.name_store.specs.Store.{NothingMore}
 use Rattle.name_core.specs.declared.calls.AskNote.{AskNote}
 use Rattle.name_core.specs.declared.calls.NameCall.{NameCall}
-use Rattle.name_core.specs.declared.calls.NameCall.TheVariants as call
-use Rattle.name_core.specs.declared.calls.NameRefusal.{NameRefusal}
 use Rattle.name_core.specs.declared.calls.Want.{Want}
-use Rattle.name_core.specs.Service.{Logs as NameLogs, OwnOf, OwnOfFinish}
-use Rattle.name_core.specs.State.{NameService}
+use Rattle.name_core.specs.Service.{Logs as NameLogs, OwnOf}
 use Rattle.world_run.specs.declared.event.Event.{Event}
-use Rattle.world_run.specs.declared.event.Event.TheVariants as event
 use Rattle.world_run.specs.declared.event.Line.{Line}
 use Rattle.world_run.specs.declared.kept.KeptReply.{KeptReply}
 use Rattle.world_run.specs.Acknowledged.{Acknowledged, of_keys, of_names}
-use Rattle.world_run.specs.Step.{DrawActs, FinishReply, NamesAct, PathActs, Step, WantActs, delete_with, finish_line}
-use Rattle.world_run.specs.World.{RunningWorld, WorldState, numbered, world_of}
-
--- what a call at a path as it was given may write behind the settled edit log
-abbrev pub OwnOfPath : NameService → (NPath → NameCall) → Option NPath → Bool → EditOp → Type 0
-OwnOfPath s c None kept op = ⊥
-OwnOfPath s c (Some path) kept op = OwnOf s (c path) kept op
-
--- what a finish by a kept reply may write there that was answered by this line
-pub record OwnOfKept (s : NameService) (reply : KeptReply) (told : Line) (s' : NameService) (kept : Bool) (op : EditOp) : Type 0 where
-  pub result : Result (Unit {0}) NameRefusal
-  pub told_is : told ≡ finish_line result
-  pub own : OwnOfFinish s reply.id reply.answer result s' kept op
-
-abbrev pub OwnOfReply : NameService → Option KeptReply → Line → NameService → Bool → EditOp → Type 0
-OwnOfReply s None told s' kept op = ⊥
-OwnOfReply s (Some reply) told s' kept op = OwnOfKept s reply told s' kept op
-
--- what an event may write there that was answered so and left this world
-abbrev pub OwnOfEvent : WorldState → Event → Line → WorldState → Bool → EditOp → Type 0
-OwnOfEvent w (event.Kms user c) told w' kept op = NothingMore kept op
-OwnOfEvent w event.RestartKms told w' kept op = NothingMore kept op
-OwnOfEvent w event.RestartName told w' kept op = AnOpening kept op
-OwnOfEvent w (event.Mkdir user path) told w' kept op = OwnOfPath w.names call.Mkdir (read_path path) kept op
-OwnOfEvent w (event.Delete user path recursive) told w' kept op = OwnOfPath w.names (delete_with recursive) (read_path path) kept op
-OwnOfEvent w (event.Info user path) told w' kept op = OwnOfPath w.names call.Info (read_path path) kept op
-OwnOfEvent w (event.List user path) told w' kept op = OwnOfPath w.names call.List (read_path path) kept op
-OwnOfEvent w (event.Zones user) told w' kept op = OwnOf w.names call.Zones kept op
-OwnOfEvent w (event.AskCreate user path) told w' kept op = NothingMore kept op
-OwnOfEvent w (event.AskZone user path key) told w' kept op = NothingMore kept op
-OwnOfEvent w (event.Draw number) told w' kept op = NothingMore kept op
-OwnOfEvent w (event.Finish number) told w' kept op = OwnOfReply w.names (numbered w.kept.replies number) told w'.names kept op
+use Rattle.world_run.specs.Step.{DrawActs, FinishReply, NamesAct, PathActs, Step, WantActs}
+use Rattle.world_run.specs.Own.{AnyCommand, IsLeftOfKeys, NoCommand, OwnKeysOfEvent, OwnOfEvent, OwnOfPath, OwnOfReply}
+use Rattle.world_run.specs.World.{RunningWorld, world_of}
 
 -- The key log grew by the commands acknowledged, and the namesystem is as it was.
-pub record OnKeys (old new : DiskState) (r r' : RunningWorld) (logged : Acknowledged) : Type 0 where
+pub record OnKeys (old new : DiskState) (r r' : RunningWorld) (own : Bool → KeyCommand → Type 0) (logged : Acknowledged) : Type 0 where
   pub commands : List KeyCommand
   pub logged_is : logged ≡ of_keys commands
-  pub log : Logs old new r.keys.store r'.keys.store (IsLeftOf r.keys.store.table.keys r.keys.store.pending) commands
+  pub log : Logs old new r.keys.store r'.keys.store (IsLeftOfKeys r.keys.store.table.keys r.keys.store.pending own) commands
   pub names : r'.names ≡ r.names
 
 -- The edit log grew by the operations acknowledged, and the key management service is as it was.
@@ -75,42 +41,42 @@ pub record OnNames (old new : DiskState) (r r' : RunningWorld) (own : Bool → E
 
 -- What a step, or a part of one, does beside what has P of the words drawn and of what is acknowledged. It works on one log, and the
 -- access control lists stay as they are.
-pub record Does (old new : DiskState) (r r' : RunningWorld) (words words' : ℕ → ℕ) (own : Bool → EditOp → Type 0) (P : ℕ → Acknowledged → Type 0) : Type 0 where
+pub record Does (old new : DiskState) (r r' : RunningWorld) (words words' : ℕ → ℕ) (own_keys : Bool → KeyCommand → Type 0) (own : Bool → EditOp → Type 0) (P : ℕ → Acknowledged → Type 0) : Type 0 where
   pub drawn : ℕ
   pub logged : Acknowledged
   pub acts : P drawn logged
   pub rest : (k : ℕ) → words' k ≡ words (drawn + k)
-  pub disk : OnKeys old new r r' logged ⊎ OnNames old new r r' own logged
+  pub disk : OnKeys old new r r' own_keys logged ⊎ OnNames old new r r' own logged
   pub lists : r'.keys.acls ≡ r.keys.acls
 
 -- an event that happens so
 abbrev pub Happens : List PropLine → DiskState → DiskState → RunningWorld → (ℕ → ℕ) → ℕ → Event → Line → RunningWorld → (ℕ → ℕ) → Type 0
 Happens lines old new r words now e told r' words' =
-    Does old new r r' words words' (OwnOfEvent (world_of r) e told (world_of r'))
+    Does old new r r' words words' (OwnKeysOfEvent e) (OwnOfEvent (world_of r) e told (world_of r'))
     (λ drawn logged. Step lines (world_of r) words now e (Rose old.faults new.faults) (Tells old) told drawn logged (world_of r'))
 
 -- calls of the namesystem
 
 abbrev pub CallHappens : DiskState → DiskState → RunningWorld → Text → NameCall → Line → RunningWorld → Type 0
 CallHappens old new r user c told r' =
-    (words : ℕ → ℕ) → Does old new r r' words words (OwnOf (world_of r).names c)
+    (words : ℕ → ℕ) → Does old new r r' words words NoCommand (OwnOf (world_of r).names c)
     (λ drawn logged. NamesAct (world_of r) user c (Rose old.faults new.faults) told drawn logged (world_of r'))
 
 abbrev pub PathHappens : DiskState → DiskState → RunningWorld → Text → (NPath → NameCall) → Option NPath → Line → RunningWorld → Type 0
 PathHappens old new r user c path told r' =
-    (words : ℕ → ℕ) → Does old new r r' words words (OwnOfPath (world_of r).names c path)
+    (words : ℕ → ℕ) → Does old new r r' words words NoCommand (OwnOfPath (world_of r).names c path)
     (λ drawn logged. PathActs (world_of r) user c path (Rose old.faults new.faults) told drawn logged (world_of r'))
 
 abbrev pub FinishHappens : DiskState → DiskState → RunningWorld → Option KeptReply → Line → RunningWorld → Type 0
 FinishHappens old new r reply told r' =
-    (words : ℕ → ℕ) → Does old new r r' words words (OwnOfReply (world_of r).names reply told (world_of r').names)
+    (words : ℕ → ℕ) → Does old new r r' words words NoCommand (OwnOfReply (world_of r).names reply told (world_of r').names)
     (λ drawn logged. FinishReply (world_of r) reply (Rose old.faults new.faults) told drawn logged (world_of r'))
 
 -- the parts of a draw
 
 abbrev pub DrawHappens : List PropLine → DiskState → DiskState → RunningWorld → (ℕ → ℕ) → ℕ → Option AskNote → Line → RunningWorld → (ℕ → ℕ) → Type 0
 DrawHappens lines old new r words now note told r' words' =
-    Does old new r r' words words' NothingMore (λ drawn logged. DrawActs lines (world_of r) words now note (Rose old.faults new.faults) told drawn logged (world_of r'))
+    Does old new r r' words words' AnyCommand NothingMore (λ drawn logged. DrawActs lines (world_of r) words now note (Rose old.faults new.faults) told drawn logged (world_of r'))
 
 -- the call that an ask wants is made on the key management service
 pub record WantHappens (lines : List PropLine) (old new : DiskState) (k : RunningKms) (words : ℕ → ℕ) (now : ℕ) (wanted : Want) (told : Option KmsReply) (k' : RunningKms) (words' : ℕ → ℕ) : Type 0 where

@@ -17,7 +17,8 @@ use Rattle.world_run.specs.declared.event.Event.{Event}
 use Rattle.world_run.specs.declared.event.Event.TheVariants as event
 use Rattle.world_run.specs.declared.event.Line.{Line}
 use Rattle.world_run.specs.World.{RunningWorld, WorldState, first_world, world_of}
-use Rattle.world_run.specs.Acknowledged.{Acknowledged, HoldsLogs, LeavesBoth, RunBoth, Survives, also}
+use Rattle.world_run.specs.Acknowledged.{Acknowledged, HoldsLogs, LeavesBoth, RunBoth, also}
+use Rattle.world_run.specs.Own.{SurvivesAtRest, SurvivesEvent, SurvivesRestart}
 use Rattle.world_run.specs.Step.{Step}
 use Rattle.world_run.specs.Ledger.{Hidden, Ledger, drawn_before, hidden_after}
 use Rattle.world_run.specs.Linked.{LinkedWorld, SoundFiles, StartsSound}
@@ -36,13 +37,13 @@ pub record LinkedStep (lines : List PropLine) (w : WorldState) (words : ℕ → 
   pub linked : KnowsWorld e tells → (h : Hidden) → LinkedWorld w h → LinkedWorld w' (hidden_after w words e told drawn w' h)
   pub files_open : KnowsWorld e tells → (h : Hidden) → LinkedWorld w h → ZoneFilesOpen w' (hidden_after w words e told drawn w' h)
 
--- a crash at any moment since leaves both logs, with what was acknowledged
-abbrev pub SurvivesThrough : DiskState → DiskState → RunningWorld → Type 0
-SurvivesThrough old new r = Tells old → (done : Acknowledged) → HoldsLogs old r done → LeavesBoth old new (Survives (world_of r) done)
+-- a crash at any moment since leaves what `left` says of what was acknowledged before
+abbrev pub SurvivesThrough : DiskState → DiskState → RunningWorld → (Acknowledged → Image → Type 0) → Type 0
+SurvivesThrough old new r left = Tells old → (done : Acknowledged) → HoldsLogs old r done → LeavesBoth old new (left done)
 
--- and so does a crash at this moment
+-- a crash at this moment, while nothing is written, leaves both logs, with what was acknowledged
 abbrev pub SurvivesNow : DiskState → RunningWorld → Type 0
-SurvivesNow disk r = (done : Acknowledged) → HoldsLogs disk r done → (c : Image) → IsImage disk c → Survives (world_of r) done c
+SurvivesNow disk r = (done : Acknowledged) → HoldsLogs disk r done → (c : Image) → IsImage disk c → SurvivesAtRest (world_of r) done c
 
 -- a crash leaves files that the next run may start from, with this ledger of draws
 abbrev pub SoundThrough : DiskState → DiskState → RunningWorld → Hidden → Type 0
@@ -59,7 +60,8 @@ pub record Steps (lines : List PropLine) (old new : DiskState) (r : RunningWorld
   pub step : LinkedStep lines (world_of r) words now e (Rose old.faults new.faults) (Tells old) told drawn logged (world_of r')
   pub rest : (k : ℕ) → words' k ≡ words (drawn + k)
   pub stands : Tells old → (done : Acknowledged) → HoldsLogs old r done → HoldsLogs new r' (also done logged)
-  pub survives : SurvivesThrough old new r
+  -- a crash in the event leaves both logs, with what was acknowledged before it, and at most one record more: its own, or the pending one
+  pub survives : SurvivesThrough old new r (SurvivesEvent (world_of r) e told (world_of r'))
   pub survives_then : SurvivesNow new r'
   -- whatever is hidden beside a linked world, the files that a crash leaves are sound, with what is hidden after the event
   pub sound : Tells old → (h : Hidden) → LinkedWorld (world_of r) h → SoundThrough old new r (hidden_after (world_of r) words e told drawn (world_of r') h)
@@ -86,7 +88,7 @@ pub record Fails (old new : DiskState) (r : RunningWorld) (words : ℕ → ℕ) 
   pub never_damaged : Tells old → (at : ℕ) → fault ≡ start.Damaged at → ⊥
   pub spent : fault ≡ start.Spent → Tells old → (kept : Bool) × (last_opening (world_of r) e kept ≡ 4294967295)
   pub cause : fault ≡ start.StoreFault → Rose old.faults new.faults
-  pub survives : SurvivesThrough old new r
+  pub survives : SurvivesThrough old new r (SurvivesRestart (world_of r) e)
   pub sound : Tells old → (h : Hidden) → LinkedWorld (world_of r) h → SoundThrough old new r h
   pub run : RunBoth old new
 

@@ -4,6 +4,7 @@ pub mod Keeps
 pub mod Ledger
 pub mod Laws
 pub mod Linked
+pub mod Own
 pub mod Promise
 pub mod Starts
 pub mod Step

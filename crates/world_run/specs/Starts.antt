@@ -1,6 +1,6 @@
 -- What a start of both services does, done or not.
-use Rattle.std.specs.Prelude.{◌≡◌, ◌⊎◌, ℕ, List, IfOk, IsErrOf, Result}
-use Rattle.hk_base.specs.Disk.{DiskState, Tells}
+use Rattle.std.specs.Prelude.{◌≡◌, ◌⊎◌, ◌<◌, ℕ, List, IfOk, IsErrOf, Result}
+use Rattle.hk_base.specs.Disk.{DiskState, RunOn, Tells}
 use Rattle.hk_base.specs.Faults.{Rose}
 use Rattle.frame_log.specs.declared.fault.StartFault.{StartFault}
 use Rattle.frame_log.specs.declared.fault.StartFault.TheVariants as start
@@ -33,7 +33,12 @@ pub record SpentNames (bytes : List ℕ) : Type 0 where
   pub log : IsNameLog bytes ops made
   pub last : made.table.opening ≡ 4294967295
 
--- A start under the properties of these lines came to this: a world, or the first file that has a fault, and the fault.
+-- the file is a key log, whose last opening is not recorded: a start may open it
+abbrev pub MayOpenKeys : List ℕ → Type 0
+MayOpenKeys bytes = (commands : List KeyCommand) × (table : Table) × IsKeyLog bytes commands table × (table.opening < 4294967295)
+
+-- A start under the properties of these lines came to this: a world, or the first file that has a fault, and the fault. Where that is
+-- the second file, the first was found to be a key log and opened; where it is the first, the second was not touched.
 pub record StartHappens (old new : DiskState) (lines : List PropLine) (result : Result RunningWorld WorldFault) : Type 0 where
   pub began : IfOk result (Begins old new)
   pub lists : IfOk result (λ (world : RunningWorld). ListsFor world.keys.acls lines)
@@ -42,6 +47,8 @@ pub record StartHappens (old new : DiskState) (lines : List PropLine) (result : 
   pub damaged_names : (at : ℕ) → IsErrOf result (record { file = 1; fault = start.Damaged at }) → Tells old → IsDamagedName (old.reads 1) at
   pub spent_keys : IsErrOf result (record { file = 0; fault = start.Spent }) → Tells old → SpentKeys (old.reads 0)
   pub spent_names : IsErrOf result (record { file = 1; fault = start.Spent }) → Tells old → SpentNames (old.reads 1)
+  pub first_keys : (fault : StartFault) → IsErrOf result (record { file = 1; fault = fault }) → Tells old → MayOpenKeys (old.reads 0)
+  pub first_names : (fault : StartFault) → IsErrOf result (record { file = 0; fault = fault }) → RunOn 0 old new
   pub any_moment : Tells old → LeavesBoth old new (LeftByStarts old)
   pub sound : Tells old → (ledger : Ledger) (place : ℕ) → StartsSound old ledger place → LeavesBoth old new (SoundFiles ledger place)
   pub run : RunBoth old new

@@ -1,5 +1,5 @@
 //! The world and its events.
-ghost use Rattle.std.specs.Prelude.{◌≡◌, ◌⊎◌, ℕ, List, IfOk, IsErrOf, MatchResult};
+ghost use Rattle.std.specs.Prelude.{◌≡◌, ◌⊎◌, ◌<◌, ℕ, List, IfOk, IsErrOf, MatchResult};
 ghost use Rattle.hk_base.specs.Disk.{LeavesOnly, RunOn, Tells};
 ghost use Rattle.hk_base.specs.Faults.{Rose};
 ghost use Rattle.frame_log.specs.declared.fault.StartFault.TheVariants as start;
@@ -133,7 +133,8 @@ impl World {
     ///
     /// `Damaged` comes exactly where the file is no log, or a record is none or doesn't apply, with the
     /// offset of its gate. `Spent` comes exactly where opening 4,294,967,295 is recorded. The first file
-    /// that has a fault counts.
+    /// that has a fault counts: where the fault is that of file 1, the key log was found good and opened,
+    /// and where it is that of file 0, file 1 was not touched.
     pub fn start<D: Disk>(alloc: Global, disk: &mut D, props: &Props) -> Result<World, WorldFault>
         ensures began { IfOk result (Begins (D.state disk.old) (D.state disk.new)) }
         ensures lists { IfOk result (λ world. ListsFor world.keys.acls props.now.lines) }
@@ -144,6 +145,11 @@ impl World {
             × IsKeyLog ((D.state disk.old).reads 0) commands table × (table.opening ≡ 4294967295)) }
         ensures spent_names { IsErrOf result (record { file = 1; fault = start.Spent }) → Tells (D.state disk.old) → ((ops : List EditOp) × (made : Replayed)
             × IsNameLog ((D.state disk.old).reads 1) ops made × (made.table.opening ≡ 4294967295)) }
+
+        // The first file that has a fault counts.
+        ensures first_keys { (fault : StartFault) → IsErrOf result (record { file = 1; fault = fault }) → Tells (D.state disk.old) → ((commands : List KeyCommand) × (table : Table)
+            × IsKeyLog ((D.state disk.old).reads 0) commands table × (table.opening < 4294967295)) }
+        ensures first_names { (fault : StartFault) → IsErrOf result (record { file = 0; fault = fault }) → RunOn 0 (D.state disk.old) (D.state disk.new) }
 
         // A crash at any moment leaves of each file what it might have left before, or the log found, now or
         // with its end gate read as 1, or its records with the new opening or without it.

@@ -1,5 +1,6 @@
 use Rattle.std.proofs.Common.{Err, ap}
-use Rattle.world_run.proofs.StartLemmas.{keys-not-started, names-not-started, no-start, started}
+use Rattle.kms_core.specs.Users.{running}
+use Rattle.world_run.proofs.StartLemmas.{keys-not-started, may-open, names-not-started, no-start, started}
 use Rattle.world_run.proofs.StepLemmas.{parts}
 use Rattle.world_run.proofs.world.World.open.Goals as goal
 
@@ -16,7 +17,8 @@ returns-in-Err-start g c =
     names-not-started (g.D.Disk.state c.args.disk.now) (g.D.Disk.state c.open_keys.new.disk) (g.D.Disk.state c.start.new.disk) c.args.props.now.lines c.in-Err-start.fault
     (record { counts = g.met.D.Disk.counts_now c.args.disk.now; only = g.met.D.Disk.only_now c.args.disk.now; is_one = λ told file lt. g.met.D.Disk.is_one c.args.disk.now file told lt })
     (record { counts = g.met.D.Disk.counts_now c.open_keys.new.disk; only = g.met.D.Disk.only_now c.open_keys.new.disk; is_one = λ told file lt. g.met.D.Disk.is_one c.open_keys.new.disk file told lt })
-    (λ at is. c.in-Err-start.ensures.damaged at (ap Err is)) (λ is. c.in-Err-start.ensures.spent (ap Err is)) (λ is. c.in-Err-start.ensures.cause (ap Err is)) c.open_keys.ensures.any_moment c.open_keys.ensures.run
+    (λ at is. c.in-Err-start.ensures.damaged at (ap Err is)) (λ is. c.in-Err-start.ensures.spent (ap Err is)) (λ is. c.in-Err-start.ensures.cause (ap Err is))
+    (may-open (g.D.Disk.state c.args.disk.now) (g.D.Disk.state c.open_keys.new.disk) (running c.in-Ok-open_keys.keys) c.in-Ok-open_keys.ensures.started) c.open_keys.ensures.any_moment c.open_keys.ensures.run
     c.start.ensures.any_moment c.start.ensures.run
 
 pub returns : goal.returns

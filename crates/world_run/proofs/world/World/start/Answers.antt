@@ -9,6 +9,8 @@ returns g c = record {
   damaged_names = c.open.ensures.damaged_names;
   spent_keys = λ is told. let s = c.open.ensures.spent_keys is told in (s.commands, s.table, s.log, s.last);
   spent_names = λ is told. let s = c.open.ensures.spent_names is told in (s.ops, s.made, s.log, s.last);
+  first_keys = c.open.ensures.first_keys;
+  first_names = c.open.ensures.first_names;
   any_moment = c.open.ensures.any_moment;
   sound = c.open.ensures.sound;
   run = c.open.ensures.run;

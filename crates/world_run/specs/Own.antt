@@ -1,0 +1,105 @@
+-- What may stand in a log behind the acknowledged records, and what a crash leaves then: at rest, and while an event happens.
+use Rattle.std.specs.Prelude.{◌≡◌, ◌⊎◌, ℕ, Bool, true, false, List, Option, None, Some, Result, IfSome}
+use Rattle.hk_base.specs.Disk.{Image}
+use Rattle.inode_tree.specs.declared.paths.NPath.{NPath}
+use Rattle.inode_tree.specs.Paths.{read_path}
+use Rattle.edit_ops.specs.declared.ops.EditOp.{EditOp}
+use Rattle.key_rows.specs.declared.rows.KeyCommand.{KeyCommand}
+use Rattle.key_rows.specs.declared.rows.KeyCommand.TheVariants.{Opened}
+use Rattle.key_rows.specs.Table.{Table}
+use Rattle.kms_store.specs.Store.{IsLeftOf}
+use Rattle.name_store.specs.Store.{AnOpening, NothingMore}
+use Rattle.name_core.specs.declared.calls.NameCall.{NameCall}
+use Rattle.name_core.specs.declared.calls.NameCall.TheVariants as call
+use Rattle.name_core.specs.declared.calls.NameRefusal.{NameRefusal}
+use Rattle.name_core.specs.Service.{OwnOf, OwnOfFinish}
+use Rattle.name_core.specs.State.{NameService}
+use Rattle.world_run.specs.declared.event.Event.{Event}
+use Rattle.world_run.specs.declared.event.Event.TheVariants as event
+use Rattle.world_run.specs.declared.event.Line.{Line}
+use Rattle.world_run.specs.declared.kept.KeptReply.{KeptReply}
+use Rattle.world_run.specs.Acknowledged.{Acknowledged, Survives}
+use Rattle.world_run.specs.Step.{delete_with, finish_line}
+use Rattle.world_run.specs.World.{WorldState, numbered}
+
+-- the key log
+
+-- what may be written: nothing, any command, and the record of an opening
+
+abbrev pub NoCommand : Bool → KeyCommand → Type 0
+NoCommand kept command = ⊥
+
+abbrev pub AnyCommand : Bool → KeyCommand → Type 0
+AnyCommand kept command = Unit {0}
+
+abbrev pub is_key_opening : KeyCommand → Bool
+is_key_opening (Opened opening) = true
+is_key_opening _ = false
+
+abbrev pub AKeyOpening : Bool → KeyCommand → Type 0
+AKeyOpening kept command = is_key_opening command ≡ true
+
+-- What a crash may leave of the log of these commands, which make a table, while one is pending. The one command more, if there is
+-- one, is the pending command itself, or one of `own`, which says what may be written behind the settled log.
+pub record IsLeftOfKeys (table : Table) (pending : Option KeyCommand) (own : Bool → KeyCommand → Type 0) (commands : List KeyCommand) (bytes : List ℕ) : Type 0 where
+  pub left : IsLeftOf table pending commands bytes
+  pub more_is : IfSome left.more (λ command. ((left.kept ≡ false) × (pending ≡ Some command)) ⊎ own left.kept command)
+
+-- What an event may write there: an opening, where it restarts the key management service, and a command, where it makes a call of
+-- it. Which command a call may write is not said here, but that it applies: the service's own clause says no more.
+abbrev pub OwnKeysOfEvent : Event → Bool → KeyCommand → Type 0
+OwnKeysOfEvent (event.Kms user c) kept command = AnyCommand kept command
+OwnKeysOfEvent event.RestartKms kept command = AKeyOpening kept command
+OwnKeysOfEvent (event.Draw number) kept command = AnyCommand kept command
+OwnKeysOfEvent _ kept command = NoCommand kept command
+
+-- the edit log
+
+-- what a call at a path as it was given may write behind the settled edit log
+abbrev pub OwnOfPath : NameService → (NPath → NameCall) → Option NPath → Bool → EditOp → Type 0
+OwnOfPath s c None kept op = ⊥
+OwnOfPath s c (Some path) kept op = OwnOf s (c path) kept op
+
+-- what a finish by a kept reply may write there that was answered by this line
+pub record OwnOfKept (s : NameService) (reply : KeptReply) (told : Line) (s' : NameService) (kept : Bool) (op : EditOp) : Type 0 where
+  pub result : Result (Unit {0}) NameRefusal
+  pub told_is : told ≡ finish_line result
+  pub own : OwnOfFinish s reply.id reply.answer result s' kept op
+
+abbrev pub OwnOfReply : NameService → Option KeptReply → Line → NameService → Bool → EditOp → Type 0
+OwnOfReply s None told s' kept op = ⊥
+OwnOfReply s (Some reply) told s' kept op = OwnOfKept s reply told s' kept op
+
+-- what an event may write there that was answered so and left this world
+abbrev pub OwnOfEvent : WorldState → Event → Line → WorldState → Bool → EditOp → Type 0
+OwnOfEvent w (event.Kms user c) told w' kept op = NothingMore kept op
+OwnOfEvent w event.RestartKms told w' kept op = NothingMore kept op
+OwnOfEvent w event.RestartName told w' kept op = AnOpening kept op
+OwnOfEvent w (event.Mkdir user path) told w' kept op = OwnOfPath w.names call.Mkdir (read_path path) kept op
+OwnOfEvent w (event.Delete user path recursive) told w' kept op = OwnOfPath w.names (delete_with recursive) (read_path path) kept op
+OwnOfEvent w (event.Info user path) told w' kept op = OwnOfPath w.names call.Info (read_path path) kept op
+OwnOfEvent w (event.List user path) told w' kept op = OwnOfPath w.names call.List (read_path path) kept op
+OwnOfEvent w (event.Zones user) told w' kept op = OwnOf w.names call.Zones kept op
+OwnOfEvent w (event.AskCreate user path) told w' kept op = NothingMore kept op
+OwnOfEvent w (event.AskZone user path key) told w' kept op = NothingMore kept op
+OwnOfEvent w (event.Draw number) told w' kept op = NothingMore kept op
+OwnOfEvent w (event.Finish number) told w' kept op = OwnOfReply w.names (numbered w.kept.replies number) told w'.names kept op
+
+-- and a restart that failed
+abbrev pub OwnOfRestart : Event → Bool → EditOp → Type 0
+OwnOfRestart event.RestartName kept op = AnOpening kept op
+OwnOfRestart _ kept op = NothingMore kept op
+
+-- what a crash leaves of both logs, these records being acknowledged
+
+-- between two events, while nothing is written
+abbrev pub SurvivesAtRest : WorldState → Acknowledged → Image → Type 0
+SurvivesAtRest w done image = Survives w done NoCommand NothingMore image
+
+-- during an event that begins in this world, is answered so, and leaves that world
+abbrev pub SurvivesEvent : WorldState → Event → Line → WorldState → Acknowledged → Image → Type 0
+SurvivesEvent w e told w' done image = Survives w done (OwnKeysOfEvent e) (OwnOfEvent w e told w') image
+
+-- during a restart that fails
+abbrev pub SurvivesRestart : WorldState → Event → Acknowledged → Image → Type 0
+SurvivesRestart w e done image = Survives w done (OwnKeysOfEvent e) (OwnOfRestart e) image
