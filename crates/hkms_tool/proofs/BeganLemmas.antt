@@ -6,17 +6,18 @@ use Rattle.world_run.specs.Keeps.{Begins, LeftByStarts}
 use Rattle.world_run.specs.Ledger.{Hidden, Ledger, drawn_before}
 use Rattle.world_run.specs.Linked.{SoundFiles, StartsSound}
 use Rattle.world_run.specs.World.{RunningWorld, WorldState, first_world, world_of}
-use Rattle.hkms_tool.specs.Replay.{Promised}
-use Rattle.hkms_tool.specs.Run.{FilesOpen, History, SoundIn, SurvivesIn}
+use Rattle.hkms_tool.specs.declared.replay.Ended.{Ended}
+use Rattle.hkms_tool.specs.Replay.{Promised, SurvivesUntil}
+use Rattle.hkms_tool.specs.Run.{FilesOpen, History, SoundIn}
 use Rattle.hkms_tool.specs.Steps.{IsHidden, KeptOpen}
 use Rattle.hkms_tool.proofs.FirstLemmas.{first_hidden}
 use Rattle.hkms_tool.proofs.LivedLemmas.{leaves_on, sound_from, weaker}
 
 -- what the start and the history left of both files, where this was acknowledged by the start
-pub survives_kept : (old mid new : DiskState) (r : RunningWorld) (h : History) (first : WorldState) (done : Acknowledged) → world_of r ≡ first → LeavesBoth old mid (LeftByStarts old) → RunBoth old mid
-    → LeavesBoth mid new (SurvivesIn done (world_of r) h) → LeavesBoth old new (λ image. LeftByStarts old image ⊎ SurvivesIn done first h image)
-survives_kept old mid new r h first done is moments run survives =
-    leaves_on run (weaker (λ image left. inl left) moments) (weaker (λ image left. inr (subst (λ (w : WorldState). SurvivesIn done w h image) is left)) survives)
+pub survives_kept : (old mid new : DiskState) (r : RunningWorld) (h : History) (stop : Ended) (first : WorldState) (done : Acknowledged) → world_of r ≡ first → LeavesBoth old mid (LeftByStarts old) → RunBoth old mid
+    → LeavesBoth mid new (SurvivesUntil stop done (world_of r) h) → LeavesBoth old new (λ image. LeftByStarts old image ⊎ SurvivesUntil stop done first h image)
+survives_kept old mid new r h stop first done is moments run survives =
+    leaves_on run (weaker (λ image left. inl left) moments) (weaker (λ image left. inr (subst (λ (w : WorldState). SurvivesUntil stop done w h image) is left)) survives)
 
 -- the promise on zone files, with a ledger that the files at the start allow
 pub promise_kept : (old mid new : DiskState) (r : RunningWorld) (words : ℕ → ℕ) (h : History) (b : Begins old mid r) → Tells old → RunBoth old mid

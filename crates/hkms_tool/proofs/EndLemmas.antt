@@ -4,18 +4,19 @@ use Rattle.std.specs.List.{list_all, count_by}
 use Rattle.std.specs.Io.KnownBytes.{Appends, Consumes, IsAtEnd, prepend_known}
 use Rattle.std.proofs.KnownBytes.{Appends-trans, Consumes-trans}
 use Rattle.std.proofs.Math.Seq.{take-append_seam}
-use Rattle.hk_base.specs.Disk.{DiskState, Tells}
+use Rattle.hk_base.specs.Disk.{DiskState, Image, Tells}
 use Rattle.hk_base.specs.Faults.{Rose}
 use Rattle.hk_base.specs.Reading.{IsMore}
 use Rattle.frame_log.specs.declared.fault.StartFault.{StartFault}
 use Rattle.frame_log.specs.declared.fault.StartFault.TheVariants as start
 use Rattle.prop_text.specs.declared.lines.PropLine.{PropLine}
-use Rattle.replay_text.specs.Events.{IsBad, longest_line}
+use Rattle.replay_text.specs.Events.{IsBad, Spells, longest_line}
 use Rattle.world_run.specs.declared.event.Event.{Event}
 use Rattle.world_run.specs.declared.event.Event.TheVariants as event
 use Rattle.world_run.specs.declared.event.WorldFault.{WorldFault}
-use Rattle.world_run.specs.Acknowledged.{Acknowledged, HoldsLogs, Survives, also}
+use Rattle.world_run.specs.Acknowledged.{Acknowledged, HoldsLogs, also}
 use Rattle.world_run.specs.Keeps.{is_restart, last_opening}
+use Rattle.world_run.specs.Own.{SurvivesRestart}
 use Rattle.world_run.specs.World.{WorldState, world_of}
 use Rattle.hkms_tool.specs.declared.lines.Got.{Got}
 use Rattle.hkms_tool.specs.declared.lines.Got.TheVariants as got
@@ -25,10 +26,10 @@ use Rattle.hkms_tool.specs.declared.stage.Play.{Play}
 use Rattle.hkms_tool.specs.declared.stage.Play.TheVariants.{Played, BadLine, Unread, Untold, Unwritten, Unopened}
 use Rattle.hkms_tool.specs.Lines.{is_line, is_lf, lines_of, text_of}
 use Rattle.hkms_tool.specs.Run.{Happened, History, events_in, hidden_in, lines_in, logged_in, told_of, transcript, world_after}
-use Rattle.hkms_tool.specs.Replay.{BadNext, HasProperties, IsSpent, IsTold, NextSpells, ReadsAs, ReadsAt, RestartStops, Starts, Stops, ended_by, longest_input}
+use Rattle.hkms_tool.specs.Replay.{BadNext, ComesNext, HasProperties, IsCut, IsSpent, IsTold, NextSpells, ReadsAs, ReadsAt, RestartStops, Starts, Stops, SurvivesStop, ended_by, longest_input}
 use Rattle.hkms_tool.specs.Steps.{Caused, HasLists, LinePlayed, Next, NextSo, PlaysLine, PlaysSo, Ran, Read, Stand, StopsAtRestart, StopsReading, Untouched, View, counts, end_of_play}
 use Rattle.hkms_tool.proofs.HistoryLemmas.{Begin, Course, SoFar, course_line, course_line_is, course_untouched, course_untouched_is, so_far_line}
-use Rattle.hkms_tool.proofs.LivedLemmas.{Lived, has_lists, leaves_on, run_on, sound_last, survives_last, tells_now, weaker}
+use Rattle.hkms_tool.proofs.LivedLemmas.{Lived, has_lists, leaves_on, run_on, sound_last, tells_now, weaker}
 use Rattle.hkms_tool.proofs.SplitLemmas.{split_text, split_last, split_on, split_ended, parts, count_lf}
 
 -- the lines of the input
@@ -107,20 +108,20 @@ past left before ahead lines line used0 used so is consumed used0_is used_is lon
 
 -- where the replay stops
 
-reads_at : (stop : Ended) (d : DiskState) (done : Acknowledged) (w : WorldState) → ReadsAs d done w → ReadsAt stop d done w
-reads_at ended.Done d done w r = r
-reads_at (ended.AclRefused number) d done w r = r
-reads_at (ended.AclRepeated number) d done w r = r
-reads_at (ended.AclUnknown number) d done w r = r
-reads_at ended.AclTooLong d done w r = r
-reads_at ended.BadLine d done w r = r
-reads_at (ended.DamagedKeys at) d done w r = tt
-reads_at (ended.DamagedNames at) d done w r = tt
-reads_at ended.StoreFault d done w r = tt
-reads_at ended.NoMemory d done w r = tt
-reads_at ended.ReadFault d done w r = r
-reads_at ended.WriteFault d done w r = r
-reads_at ended.Spent d done w r = tt
+reads_at : (stop : Ended) (left : Option (List ℕ)) (lines : List (List ℕ)) (d : DiskState) (done : Acknowledged) (w : WorldState) → ReadsAs d done w → ReadsAt stop left lines d done w
+reads_at ended.Done left lines d done w r = r
+reads_at (ended.AclRefused number) left lines d done w r = r
+reads_at (ended.AclRepeated number) left lines d done w r = r
+reads_at (ended.AclUnknown number) left lines d done w r = r
+reads_at ended.AclTooLong left lines d done w r = r
+reads_at ended.BadLine left lines d done w r = r
+reads_at (ended.DamagedKeys at) left lines d done w r = tt
+reads_at (ended.DamagedNames at) left lines d done w r = tt
+reads_at ended.StoreFault left lines d done w r = tt
+reads_at ended.NoMemory left lines d done w r = inl r
+reads_at ended.ReadFault left lines d done w r = r
+reads_at ended.WriteFault left lines d done w r = r
+reads_at ended.Spent left lines d done w r = tt
 
 -- a front of the transcript that is all of it
 all_told : (stop : Ended) (text told : List ℕ) → text ≡ told → IsTold stop text told
@@ -140,7 +141,7 @@ all_told ended.Spent text told is = is
 
 -- an end that neither a restart nor the properties bring about
 IsPlain : Ended → Type 0
-IsPlain stop = ((w : WorldState) → RestartStops stop w) × HasProperties stop
+IsPlain stop = ((left : Option (List ℕ)) (lines : List (List ℕ)) (w : WorldState) → RestartStops stop left lines w) × HasProperties stop
 
 ran : (props : List PropLine) (old new : DiskState) (b : Begin) (v : View) (count : ℕ) (stop : Ended) (so : Course props old new b v count) (h : History) → so.history ≡ h → (text : List ℕ) (now : Option (List ℕ)) → IsPlain stop
     → Appends b.written now text → IsTold stop text (transcript h) → ((all : List ℕ) → b.left ≡ Some all → Stops stop all (lines_in h))
@@ -150,15 +151,16 @@ ran props old new b v count stop so h is text now plain wrote told here = record
   history = so.history;
   runs = so.runs;
   kept = λ tells done holds. record {
-    moments = so.lived.survives tells done holds;
-    reads = reads_at stop new (also done (logged_in so.history)) (world_after (world_of b.world) so.history) (v.world, so.lived.world_is, so.lived.stands tells done holds);
+    moments = weaker (λ image left. inl left) (so.lived.survives tells done holds);
+    reads = reads_at stop b.left (lines_in so.history) new (also done (logged_in so.history)) (world_after (world_of b.world) so.history) (v.world, so.lived.world_is, so.lived.stands tells done holds);
   };
   promise = λ tells done holds before hidden. record {
     files_open = so.lived.files_open tells before hidden;
     sound = so.lived.sound tells done holds before hidden.linked;
   };
   run = so.lived.run;
-  restart = λ tells. plain.0 (world_after (world_of b.world) so.history);
+  counted_faults = omega (arith, so.lived.faults_are);
+  restart = λ tells. plain.0 b.left (lines_in so.history) (world_after (world_of b.world) so.history);
   has_properties = plain.1;
   stops = λ all left. subst (λ (x : History). Stops stop all (lines_in x)) (sym is) (here all left);
   text = text;
@@ -204,17 +206,21 @@ which_restart (event.Draw n) file r = absurd r
 which_restart (event.Finish n) file r = absurd r
 
 -- the last opening of its log is used
-spent_is : (e : Event) (file : ℕ) (w : WorldState) (kept : Bool) → is_restart e file → last_opening w e kept ≡ 4294967295 → IsSpent w
-spent_is e file w kept r is = ⊎_elim (λ keys. (kept, inl (ap (λ (x : Event). last_opening w x kept) (sym keys.0) ∙ is))) (λ names. (kept, inr (ap (λ (x : Event). last_opening w x kept) (sym names.0) ∙ is))) (which_restart e file r)
+spent_is : (left : Option (List ℕ)) (lines : List (List ℕ)) (e : Event) (file : ℕ) (w : WorldState) (kept : Bool) → is_restart e file → ComesNext left lines e → last_opening w e kept ≡ 4294967295 → IsSpent left lines w
+spent_is left lines e file w kept r next is =
+    ⊎_elim
+    (λ keys. inl ((kept, ap (λ (x : Event). last_opening w x kept) (sym keys.0) ∙ is), subst (ComesNext left lines) keys.0 next))
+    (λ names. inr ((kept, ap (λ (x : Event). last_opening w x kept) (sym names.0) ∙ is), subst (ComesNext left lines) names.0 next))
+    (which_restart e file r)
 
 -- what an end by a fault of a log is
 
-unread : (file : ℕ) (f : StartFault) (d : DiskState) (done : Acknowledged) (w : WorldState) → ReadsAt (ended_by file f) d done w
-unread zero (start.Damaged at) d done w = tt
-unread (suc n) (start.Damaged at) d done w = tt
-unread file start.StoreFault d done w = tt
-unread file start.NoMemory d done w = tt
-unread file start.Spent d done w = tt
+unread : (file : ℕ) (f : StartFault) (left : Option (List ℕ)) (lines : List (List ℕ)) (d : DiskState) (done : Acknowledged) (w : WorldState) → IsCut left lines → ReadsAt (ended_by file f) left lines d done w
+unread zero (start.Damaged at) left lines d done w cut = tt
+unread (suc n) (start.Damaged at) left lines d done w cut = tt
+unread file start.StoreFault left lines d done w cut = tt
+unread file start.NoMemory left lines d done w cut = inr cut
+unread file start.Spent left lines d done w cut = tt
 
 has : (file : ℕ) (f : StartFault) → HasProperties (ended_by file f)
 has zero (start.Damaged at) = tt
@@ -223,11 +229,24 @@ has file start.StoreFault = tt
 has file start.NoMemory = tt
 has file start.Spent = tt
 
-why_stopped : (file : ℕ) (f : StartFault) (w : WorldState) → ((at : ℕ) → f ≡ start.Damaged at → ⊥) → (f ≡ start.Spent → IsSpent w) → RestartStops (ended_by file f) w
-why_stopped file (start.Damaged at) w never spent = absurd (never at refl)
-why_stopped file start.StoreFault w never spent = tt
-why_stopped file start.NoMemory w never spent = tt
-why_stopped file start.Spent w never spent = spent refl
+why_stopped : (file : ℕ) (f : StartFault) (left : Option (List ℕ)) (lines : List (List ℕ)) (w : WorldState) → ((at : ℕ) → f ≡ start.Damaged at → ⊥) → (f ≡ start.Spent → IsSpent left lines w) → RestartStops (ended_by file f) left lines w
+why_stopped file (start.Damaged at) left lines w never spent = absurd (never at refl)
+why_stopped file start.StoreFault left lines w never spent = tt
+why_stopped file start.NoMemory left lines w never spent = tt
+why_stopped file start.Spent left lines w never spent = spent refl
+
+-- what a crash leaves in a restart that ends a replay
+
+either_restart : (e : Event) (file : ℕ) (w : WorldState) (done : Acknowledged) (image : Image) → is_restart e file → SurvivesRestart w e done image
+    → SurvivesRestart w event.RestartKms done image ⊎ SurvivesRestart w event.RestartName done image
+either_restart e file w done image r left =
+    ⊎_elim (λ keys. inl (subst (λ (x : Event). SurvivesRestart w x done image) keys.0 left)) (λ names. inr (subst (λ (x : Event). SurvivesRestart w x done image) names.0 left)) (which_restart e file r)
+
+stop_left : (e : Event) (file : ℕ) (f : StartFault) (w : WorldState) (done : Acknowledged) (image : Image) → is_restart e file → ((at : ℕ) → f ≡ start.Damaged at → ⊥) → SurvivesRestart w e done image → SurvivesStop (ended_by file f) w done image
+stop_left e file (start.Damaged at) w done image r never left = absurd (never at refl)
+stop_left e file start.StoreFault w done image r never left = either_restart e file w done image r left
+stop_left e file start.NoMemory w done image r never left = either_restart e file w done image r left
+stop_left e file start.Spent w done image r never left = either_restart e file w done image r left
 
 -- where the input stands at a restart of either service
 
@@ -250,16 +269,25 @@ restart_next e file f all lines r next =
     (λ names. subst (λ (n : ℕ). Stops (ended_by n f) all lines) (sym names.1) (names_next f all lines (subst (NextSpells all lines) names.0 next)))
     (which_restart e file r)
 
+-- the line that comes next spells this event
+spelled_next : (left : Option (List ℕ)) (lines : List (List ℕ)) (line : List ℕ) (e : Event) → IsNext left lines line → Spells line e → ComesNext left lines e
+spelled_next left lines line e next spells = λ all told. let n = next.next all told in (line, n.0, n.1, spells)
+
+-- it is a restart of either service
+cut_next : (left : Option (List ℕ)) (lines : List (List ℕ)) (e : Event) (file : ℕ) → is_restart e file → ComesNext left lines e → IsCut left lines
+cut_next left lines e file r next = ⊎_elim (λ keys. inl (subst (ComesNext left lines) keys.0 next)) (λ names. inr (subst (ComesNext left lines) names.0 next)) (which_restart e file r)
+
 stops_at_restart : (props : List PropLine) (old mid new : DiskState) (b : Begin) (s : Stand) (line : List ℕ) (fault : WorldFault) (v : View) (so : SoFar props old mid b s) → StopsAtRestart mid new s.view line fault v
     → Appends s.view.written v.written [] → IsNext b.left (lines_in so.course.history) line → Ran props old new b.world b.words b.left b.written v.written (ended_by fault.file fault.fault) s.count
 stops_at_restart props old mid new b s line fault v so at wrote next = record {
   history = h;
   runs = so.course.runs;
   kept = λ tells done holds. record {
-    moments = leaves_on lived.run (lived.survives tells done holds)
-        (weaker (λ image left. survives_last done (world_of b.world) h image (subst (λ (w : WorldState). Survives w (also done (logged_in h)) image) lived.world_is left))
+    moments = leaves_on lived.run (weaker (λ image left. inl left) (lived.survives tells done holds))
+        (weaker (λ image left. inr (stop_left at.restart fault.file fault.fault (world_after (world_of b.world) h) (also done (logged_in h)) image at.fails.restart (at.fails.never_damaged (tells_now old mid lived.run tells))
+        (subst (λ (w : WorldState). SurvivesRestart w at.restart (also done (logged_in h)) image) lived.world_is left)))
         (at.fails.survives (tells_now old mid lived.run tells) (also done (logged_in h)) (lived.stands tells done holds)));
-    reads = unread fault.file fault.fault new (also done (logged_in h)) (world_after (world_of b.world) h);
+    reads = unread fault.file fault.fault b.left (lines_in h) new (also done (logged_in h)) (world_after (world_of b.world) h) (cut_next b.left (lines_in h) at.restart fault.file at.fails.restart comes);
   };
   promise = λ tells done holds before hidden. record {
     files_open = lived.files_open tells before hidden;
@@ -268,12 +296,13 @@ stops_at_restart props old mid new b s line fault v so at wrote next = record {
         (at.fails.sound (tells_now old mid lived.run tells) (hidden_in before (world_of b.world) b.words h) (lived.linked tells before hidden.linked) (also done (logged_in h)) (lived.stands tells done holds)));
   };
   run = run_on old mid new lived.run at.fails.run;
-  restart = λ tells. why_stopped fault.file fault.fault (world_after (world_of b.world) h) (at.fails.never_damaged (tells_now old mid lived.run tells))
+  counted_faults = omega (arith, lived.faults_are, at.fails.run.faults);
+  restart = λ tells. why_stopped fault.file fault.fault b.left (lines_in h) (world_after (world_of b.world) h) (at.fails.never_damaged (tells_now old mid lived.run tells))
       (λ is.
       let last = at.fails.spent is (tells_now old mid lived.run tells) in
-      subst IsSpent lived.world_is (spent_is at.restart fault.file (world_of s.view.world) last.0 at.fails.restart last.1));
+      subst (IsSpent b.left (lines_in h)) lived.world_is (spent_is b.left (lines_in h) at.restart fault.file (world_of s.view.world) last.0 at.fails.restart comes last.1));
   has_properties = has fault.file fault.fault;
-  stops = λ all told. let n = next.next all told in restart_next at.restart fault.file fault.fault all (lines_in h) at.fails.restart (line, n.0, n.1, at.spells);
+  stops = λ all told. restart_next at.restart fault.file fault.fault all (lines_in h) at.fails.restart (comes all told);
   text = transcript h;
   wrote = subst (Appends b.written v.written) (append-nil (transcript h)) (Appends-trans b.written s.view.written v.written _ _ so.wrote wrote);
   told = all_told (ended_by fault.file fault.fault) (transcript h) (transcript h) refl;
@@ -285,6 +314,9 @@ stops_at_restart props old mid new b s line fault v so at wrote next = record {
 
     lived : Lived old mid b.world b.words s.view.world s.view.words h
     lived = so.course.lived
+
+    comes : ComesNext b.left (lines_in h) at.restart
+    comes = spelled_next b.left (lines_in h) line at.restart next at.spells
 
 -- how the loop goes on and stops
 
@@ -313,24 +345,24 @@ line_stops props old mid new b s line last v count stop so p is next whole = go 
     go Played false (event, plays, wrote) is_end n whole = absurd cc
     go Played true (event, plays, wrote) is_end n whole =
         subst (λ (e : Ended). Goal count e) (sym (the_end stop ended.Done is_end)) (subst (λ (k : ℕ). Goal k ended.Done) (sym n)
-        (stops_behind props old mid new b s ended.Done line event v (told_of s.view.events event) so plays is ((λ w. tt), tt) wrote (ap (λ (t : List ℕ). transcript h ++ t) (told_here event)) (whole refl)))
+        (stops_behind props old mid new b s ended.Done line event v (told_of s.view.events event) so plays is ((λ left lines w. tt), tt) wrote (ap (λ (t : List ℕ). transcript h ++ t) (told_here event)) (whole refl)))
     go BadLine last (bad, u) is_end n whole =
         subst (λ (e : Ended). Goal count e) (sym (the_end stop ended.BadLine (is_end ∙ bad_end last))) (subst (λ (k : ℕ). Goal k ended.BadLine) (sym (n ∙ omega arith))
-        (stops_before props old mid new b s ended.BadLine v so u ((λ w. tt), tt) (λ all told. let at = next.next all told in inl (line, at.0, at.1, bad))))
+        (stops_before props old mid new b s ended.BadLine v so u ((λ left lines w. tt), tt) (λ all told. let at = next.next all told in inl (line, at.0, at.1, bad))))
       where
         bad_end : (l : Bool) → end_of_play l BadLine ≡ Some ended.BadLine
         bad_end true = refl
         bad_end false = refl
     go Unread last u is_end n whole =
         subst (λ (e : Ended). Goal count e) (sym (the_end stop ended.NoMemory (is_end ∙ no_end last))) (subst (λ (k : ℕ). Goal k ended.NoMemory) (sym (n ∙ omega arith))
-        (stops_before props old mid new b s ended.NoMemory v so u ((λ w. tt), tt) (λ all told. let at = next.next all told in (line ∷ at.0, at.1))))
+        (stops_before props old mid new b s ended.NoMemory v so u ((λ left lines w. tt), tt) (λ all told. let at = next.next all told in (line ∷ at.0, at.1))))
       where
         no_end : (l : Bool) → end_of_play l Unread ≡ Some ended.NoMemory
         no_end true = refl
         no_end false = refl
     go Untold last (event, plays, wrote) is_end n whole =
         subst (λ (e : Ended). Goal count e) (sym (the_end stop ended.NoMemory (is_end ∙ no_end last))) (subst (λ (k : ℕ). Goal k ended.NoMemory) (sym n)
-        (stops_behind props old mid new b s ended.NoMemory line event v [] so plays is ((λ w. tt), tt) wrote (told_of (events_in h) event, ap (λ (t : List ℕ). t ++ told_of (events_in h) event) (append-nil (transcript h)))
+        (stops_behind props old mid new b s ended.NoMemory line event v [] so plays is ((λ left lines w. tt), tt) wrote (told_of (events_in h) event, ap (λ (t : List ℕ). t ++ told_of (events_in h) event) (append-nil (transcript h)))
         (λ all told. begins b.left (lines_in h) line next all told)))
       where
         no_end : (l : Bool) → end_of_play l Untold ≡ Some ended.NoMemory
@@ -338,7 +370,7 @@ line_stops props old mid new b s line last v count stop so p is next whole = go 
         no_end false = refl
     go Unwritten last (event, plays, wrote) is_end n whole =
         subst (λ (e : Ended). Goal count e) (sym (the_end stop ended.WriteFault (is_end ∙ no_end last))) (subst (λ (k : ℕ). Goal k ended.WriteFault) (sym n)
-        (stops_behind props old mid new b s ended.WriteFault line event v wrote.front so plays is ((λ w. tt), tt) wrote.wrote
+        (stops_behind props old mid new b s ended.WriteFault line event v wrote.front so plays is ((λ left lines w. tt), tt) wrote.wrote
         (wrote.more, append_assoc (transcript h) wrote.front wrote.more ∙ ap (λ (t : List ℕ). transcript h ++ t) (wrote.whole ∙ told_here event))
         (λ all told. begins b.left (lines_in h) line next all told)))
       where
@@ -384,11 +416,11 @@ next_stops props old mid new b s s' stop so n = go n.how n.read n.next
     go got.End read played =
         let whole = λ (all : List ℕ) (told : b.left ≡ Some all). last_is b.left s.ahead s'.ahead lines n.line ahead read.is_line (read.consumed (λ e. cc)) (read.end refl) all told in
         line_stops props old mid new b s n.line true s'.view s'.count stop so played read.is_line (record { next = λ all told. ([], whole all told) }) (λ e. whole)
-    go got.TooLong read r = ends ended.BadLine ((λ w. tt), tt) r (λ all told. too_long b.left s.ahead s'.ahead lines n.line ahead read.is_line (read.consumed (λ e. cc)) (read.long refl) all told)
+    go got.TooLong read r = ends ended.BadLine ((λ left lines w. tt), tt) r (λ all told. too_long b.left s.ahead s'.ahead lines n.line ahead read.is_line (read.consumed (λ e. cc)) (read.long refl) all told)
     go got.Past read r =
-        ends ended.BadLine ((λ w. tt), tt) r (λ all told. past b.left s.ahead s'.ahead lines n.line s.used s'.used ahead read.is_line (read.consumed (λ e. cc)) so.used_is (read.used (λ e. cc)) (read.past refl).0 (read.past refl).1 all told)
-    go got.Fault read r = ends ended.ReadFault ((λ w. tt), tt) r (λ all told. starts b.left s.ahead lines ahead all told)
-    go got.NoMemory read r = ends ended.NoMemory ((λ w. tt), tt) r (λ all told. starts b.left s.ahead lines ahead all told)
+        ends ended.BadLine ((λ left lines w. tt), tt) r (λ all told. past b.left s.ahead s'.ahead lines n.line s.used s'.used ahead read.is_line (read.consumed (λ e. cc)) so.used_is (read.used (λ e. cc)) (read.past refl).0 (read.past refl).1 all told)
+    go got.Fault read r = ends ended.ReadFault ((λ left lines w. tt), tt) r (λ all told. starts b.left s.ahead lines ahead all told)
+    go got.NoMemory read r = ends ended.NoMemory ((λ left lines w. tt), tt) r (λ all told. starts b.left s.ahead lines ahead all told)
 
 -- the next line was played, and the replay goes on
 pub record GoesFurther (props : List PropLine) (old new : DiskState) (b : Begin) (s s' : Stand) : Type 0 where

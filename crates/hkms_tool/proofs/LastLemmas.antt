@@ -117,7 +117,7 @@ played lines old mid new r words left written told now stop how count b moments 
     found : Tells old → Acknowledged
     found tells = opened_logs (b.log tells).commands b.table (b.log tells).ops b.names
 
-    disk : Tells old → OnDisk old new b.table b.names h
+    disk : Tells old → OnDisk old new b.table b.names h stop
     disk tells =
         let log = b.log tells in
         record {
@@ -126,7 +126,7 @@ played lines old mid new r words left written told now stop how count b moments 
           used = log.used;
           keys = log.keys;
           edits = log.edits;
-          moments = survives_kept old mid new r h first (found tells) b.first (moments tells) run (ran.kept (tells_now old mid run tells) (found tells) log.holds).moments;
+          moments = survives_kept old mid new r h stop first (found tells) b.first (moments tells) run (ran.kept (tells_now old mid run tells) (found tells) log.holds).moments;
         }
 
     whole : Played lines old new words left stop h
@@ -135,10 +135,12 @@ played lines old mid new r words left written told now stop how count b moments 
       names = b.names;
       before = mid.faults;
       runs = subst (λ (T : Type 0). Runs lines T first words mid.faults h) same_tells (subst (λ (v : WorldState). Runs lines (Tells mid) v words mid.faults h) b.first ran.runs);
+      began = run.faults;
+      ended = ran.counted_faults;
       on_disk = disk;
       promise = λ tells. promise_kept old mid new r words h b tells run (sound tells) (ran.promise (tells_now old mid run tells));
-      reads = λ tells. subst (λ (v : WorldState). ReadsAt stop new (also (found tells) (logged_in h)) (world_after v h)) b.first (ran.kept (tells_now old mid run tells) (found tells) (b.log tells).holds).reads;
-      restart = λ tells. subst (λ (v : WorldState). RestartStops stop (world_after v h)) b.first (ran.restart (tells_now old mid run tells));
+      reads = λ tells. subst (λ (v : WorldState). ReadsAt stop left (lines_in h) new (also (found tells) (logged_in h)) (world_after v h)) b.first (ran.kept (tells_now old mid run tells) (found tells) (b.log tells).holds).reads;
+      restart = λ tells. subst (λ (v : WorldState). RestartStops stop left (lines_in h) (world_after v h)) b.first (ran.restart (tells_now old mid run tells));
       stops = ran.stops;
       has_properties = ran.has_properties;
     }

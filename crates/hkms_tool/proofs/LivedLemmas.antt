@@ -4,12 +4,13 @@ use Rattle.hk_base.specs.Disk.{DiskState, Image, Tells}
 use Rattle.kms_acls.specs.Lists.{Lists}
 use Rattle.kms_acls.specs.StandsFor.{StandsFor as ListsFor}
 use Rattle.prop_text.specs.declared.lines.PropLine.{PropLine}
-use Rattle.world_run.specs.Acknowledged.{Acknowledged, HoldsLogs, LeavesBoth, RunBoth, Survives, also, nothing_acknowledged}
+use Rattle.world_run.specs.Acknowledged.{Acknowledged, HoldsLogs, LeavesBoth, RunBoth, also, nothing_acknowledged}
 use Rattle.world_run.specs.World.{RunningWorld, WorldState, world_of}
 use Rattle.world_run.specs.Ledger.{Hidden}
 use Rattle.world_run.specs.Linked.{LinkedWorld}
+use Rattle.world_run.specs.Own.{SurvivesAtRest}
 use Rattle.world_run.specs.Promise.{ZoneFilesOpen}
-use Rattle.hkms_tool.specs.Run.{FilesOpen, Happened, History, SoundIn, SoundWith, SurvivesIn, behind, drawn_in, drawn_of, faults_after, faults_of, hidden_in, hidden_of, logged_in, logged_of, world_after, world_of_line}
+use Rattle.hkms_tool.specs.Run.{FilesOpen, Happened, History, SoundIn, SoundWith, SurvivesIn, SurvivesLine, behind, drawn_in, drawn_of, faults_after, faults_of, hidden_in, hidden_of, logged_in, logged_of, world_after, world_of_line}
 use Rattle.hkms_tool.specs.Steps.{GoesOn, HasLists, IsHidden, SameLists}
 
 -- runs of calls on both files
@@ -65,8 +66,8 @@ pub open_last : (before : Hidden) (first : WorldState) (words : ℕ → ℕ) (hi
 open_last before first words [] f = f
 open_last before first words (x ∷ earlier) f = f.0
 
-pub survives_last : (done : Acknowledged) (first : WorldState) (history : History) (image : Image) → Survives (world_after first history) (also done (logged_in history)) image → SurvivesIn done first history image
-survives_last done first [] image s = subst (λ (a : Acknowledged). Survives first a image) (also_nothing done) s
+pub survives_last : (done : Acknowledged) (first : WorldState) (history : History) (image : Image) → SurvivesAtRest (world_after first history) (also done (logged_in history)) image → SurvivesIn done first history image
+survives_last done first [] image s = subst (λ (a : Acknowledged). SurvivesAtRest first a image) (also_nothing done) s
 survives_last done first (x ∷ earlier) image s = inl s
 
 pub sound_last : (before : Hidden) (first : WorldState) (words : ℕ → ℕ) (history : History) (image : Image) → SoundWith (hidden_in before first words history) image → SoundIn before first words history image
@@ -86,7 +87,7 @@ pub record Adds (old new : DiskState) (r : RunningWorld) (words : ℕ → ℕ) (
   pub lists : SameLists r r'
   pub faults_are : new.faults ≡ faults_of old.faults event
   pub rest : (k : ℕ) → words' k ≡ words (drawn_of event + k)
-  pub goes_on : GoesOn old new r r' (logged_of event) (hidden_of (world_of r) words event)
+  pub goes_on : GoesOn old new r r' (logged_of event) (hidden_of (world_of r) words event) (SurvivesLine (world_of r) event)
 
 -- From the first world, with these words to come, a history has led to another.
 pub record Lived (old new : DiskState) (first : RunningWorld) (words : ℕ → ℕ) (r : RunningWorld) (words' : ℕ → ℕ) (history : History) : Type 0 where
@@ -117,30 +118,29 @@ lived_nothing d r words words' same = record {
 }
 
 -- what a crash in further calls left, which began in the last world
-pub survives_on : (old mid new : DiskState) (first r r' : RunningWorld) (words words' : ℕ → ℕ) (history : History) (logged : Acknowledged) (after : Hidden → Hidden) → Lived old mid first words r words' history → GoesOn mid new r r' logged after
-    → Tells old → (done : Acknowledged) → HoldsLogs old first done → LeavesBoth old new (SurvivesIn done (world_of first) history)
-survives_on old mid new first r r' words words' history logged after so on told done holds =
-    leaves_on so.run (so.survives told done holds)
-    (weaker (λ image left. survives_last done (world_of first) history image (subst (λ (w : WorldState). Survives w (also done (logged_in history)) image) so.world_is left))
-    (on.survives (tells_now old mid so.run told) (also done (logged_in history)) (so.stands told done holds)))
+pub survives_on : (old mid new : DiskState) (first r r' : RunningWorld) (words words' : ℕ → ℕ) (history : History) (logged : Acknowledged) (after : Hidden → Hidden) (left : Acknowledged → Image → Type 0) → Lived old mid first words r words' history
+    → GoesOn mid new r r' logged after left → Tells old → (done : Acknowledged) → HoldsLogs old first done → LeavesBoth mid new (left (also done (logged_in history)))
+survives_on old mid new first r r' words words' history logged after left so on told done holds = on.survives (tells_now old mid so.run told) (also done (logged_in history)) (so.stands told done holds)
 
 -- the same of what the next run may start from, with what is hidden then
-pub sound_on : (old mid new : DiskState) (first r r' : RunningWorld) (words words' : ℕ → ℕ) (history : History) (logged : Acknowledged) (after : Hidden → Hidden) → Lived old mid first words r words' history → GoesOn mid new r r' logged after
+pub sound_on : (old mid new : DiskState) (first r r' : RunningWorld) (words words' : ℕ → ℕ) (history : History) (logged : Acknowledged) (after : Hidden → Hidden) (left : Acknowledged → Image → Type 0) → Lived old mid first words r words' history → GoesOn mid new r r' logged after left
     → Tells old → (done : Acknowledged) → HoldsLogs old first done → (h : Hidden) → LinkedWorld (world_of first) h → LeavesBoth mid new (SoundWith (after (hidden_in h (world_of first) words history)))
-sound_on old mid new first r r' words words' history logged after so on told done holds h linked =
+sound_on old mid new first r r' words words' history logged after left so on told done holds h linked =
     on.sound (tells_now old mid so.run told) (hidden_in h (world_of first) words history) (so.linked told h linked) (also done (logged_in history)) (so.stands told done holds)
 
 -- nothing happened, but calls may have been made
 pub lived_on : (old mid new : DiskState) (first r r' : RunningWorld) (words words' : ℕ → ℕ) (history : History) → Lived old mid first words r words' history → r' ≡ r → new.faults ≡ mid.faults
-    → GoesOn mid new r r' nothing_acknowledged (λ h. h) → Lived old new first words r' words' history
+    → GoesOn mid new r r' nothing_acknowledged (λ h. h) (SurvivesAtRest (world_of r)) → Lived old new first words r' words' history
 lived_on old mid new first r r' words words' history so same faults on = record {
   linked = λ told h linked. subst (λ (x : RunningWorld). LinkedWorld (world_of x) (hidden_in h (world_of first) words history)) (sym same) (so.linked told h linked);
   files_open = so.files_open;
   stands = λ told done holds. subst (λ (a : Acknowledged). HoldsLogs new r' a) (also_nothing (also done (logged_in history)))
       (on.stands (tells_now old mid so.run told) (also done (logged_in history)) (so.stands told done holds));
-  survives = survives_on old mid new first r r' words words' history nothing_acknowledged (λ h. h) so on;
+  survives = λ told done holds. leaves_on so.run (so.survives told done holds)
+      (weaker (λ image left. survives_last done (world_of first) history image (subst (λ (w : WorldState). SurvivesAtRest w (also done (logged_in history)) image) so.world_is left))
+      (survives_on old mid new first r r' words words' history nothing_acknowledged (λ h. h) (SurvivesAtRest (world_of r)) so on told done holds));
   sound = λ told done holds h linked. leaves_on so.run (so.sound told done holds h linked)
-      (weaker (sound_last h (world_of first) words history) (sound_on old mid new first r r' words words' history nothing_acknowledged (λ x. x) so on told done holds h linked));
+      (weaker (sound_last h (world_of first) words history) (sound_on old mid new first r r' words words' history nothing_acknowledged (λ x. x) (SurvivesAtRest (world_of r)) so on told done holds h linked));
   run = run_on old mid new so.run on.run;
   world_is = ap world_of same ∙ so.world_is;
   lists = lists_on first r r' so.lists (same_lists r r' same);
@@ -161,10 +161,12 @@ lived_more old mid new first r r' words words' words'' earlier line event so a =
   );
   stands = λ told done holds. subst (λ (l : Acknowledged). HoldsLogs new r' l) (also_also done (logged_in earlier) (logged_of event))
       (a.goes_on.stands (tells_now old mid so.run told) (also done (logged_in earlier)) (so.stands told done holds));
-  survives = λ told done holds. weaker (λ image left. inr left) (survives_on old mid new first r r' words words' earlier (logged_of event) (hidden_of (world_of r) words' event) so a.goes_on told done holds);
+  survives = λ told done holds. leaves_on so.run (weaker (λ image left. inr (inr left)) (so.survives told done holds))
+      (weaker (λ image left. inr (inl (subst (λ (w : WorldState). SurvivesLine w event (also done (logged_in earlier)) image) so.world_is left)))
+      (survives_on old mid new first r r' words words' earlier (logged_of event) (hidden_of (world_of r) words' event) (SurvivesLine (world_of r) event) so a.goes_on told done holds));
   sound = λ told done holds h linked. leaves_on so.run (weaker (λ image left. inr left) (so.sound told done holds h linked))
       (weaker (λ image left. inl (subst (λ (x : Hidden). SoundWith x image) (same_hidden (hidden_in h one words earlier)) left))
-      (sound_on old mid new first r r' words words' earlier (logged_of event) (hidden_of (world_of r) words' event) so a.goes_on told done holds h linked));
+      (sound_on old mid new first r r' words words' earlier (logged_of event) (hidden_of (world_of r) words' event) (SurvivesLine (world_of r) event) so a.goes_on told done holds h linked));
   run = run_on old mid new so.run a.goes_on.run;
   world_is = there;
   lists = lists_on first r r' so.lists a.lists;

@@ -1,5 +1,5 @@
 -- The calls of a connection, and a connection as a whole.
-use Rattle.std.proofs.Common.{◌≡◌, ◌≢◌, inl, inr, ◌≤◌, ℕ, List, [], ◌∷◌, refl, ap, sym, ◌∙◌, subst, IsTrue, Bool, Option, Some}
+use Rattle.std.proofs.Common.{◌≡◌, ◌≢◌, inl, inr, ◌≤◌, ℕ, List, [], ◌∷◌, refl, ap, sym, ◌∙◌, subst, IsTrue, Bool, Option, Some, arith}
 use Rattle.hk_base.specs.Disk.{DiskState, Tells}
 use Rattle.hk_base.specs.Faults.{Rose}
 use Rattle.key_rows.specs.declared.calls.KmsCall.{KmsCall}
@@ -28,7 +28,7 @@ use Rattle.hkms_tool.specs.Run.{Happened, History, behind, drawn_in, faults_afte
 use Rattle.hkms_tool.specs.Steps.{HasLists}
 use Rattle.hkms_tool.proofs.BeganLemmas.{promise_kept, survives_kept}
 use Rattle.hkms_tool.proofs.FollowLemmas.{ServedSo, served_so}
-use Rattle.hkms_tool.proofs.LivedLemmas.{Adds, Lived, has_lists, lived_more, lived_nothing, tells_now}
+use Rattle.hkms_tool.proofs.LivedLemmas.{Adds, Lived, has_lists, lived_more, lived_nothing, tells_now, weaker}
 
 -- where a connection began: what the disk was, the services, and the words to come
 pub record Opened : Type 1 where
@@ -108,6 +108,8 @@ converses {D} {W} state to_come props old v v' left left' written now unused how
   unused = unused;
   served = subst (λ (T : Type 0). Served (Asks props T (first_world b.table b.names) words mid.faults) begun ended_so how) (ap (λ (t : Bool). IsTrue t) run.tells)
       (subst (λ (w : WorldState). Served (Asks props (Tells mid) w words mid.faults) begun ended_so how) b.first so.served);
+  began = run.faults;
+  ended = omega (arith, talked.faults_are);
   on_disk = λ told.
       let log = b.log told in
       let found : Acknowledged = opened_logs log.commands b.table log.ops b.names in
@@ -117,7 +119,7 @@ converses {D} {W} state to_come props old v v' left left' written now unused how
         used = log.used;
         keys = log.keys;
         edits = log.edits;
-        moments = survives_kept old mid (state v'.disk) v.world h (first_world b.table b.names) found b.first (moments told) run (talked.survives (tells_now old mid run told) found log.holds);
+        moments = survives_kept old mid (state v'.disk) v.world h replayed.Done (first_world b.table b.names) found b.first (moments told) run (weaker (λ image left. inl left) (talked.survives (tells_now old mid run told) found log.holds));
       };
   promise = λ told. promise_kept old mid (state v'.disk) v.world words h b told run (sound told)
       (λ done holds before hidden. record {

@@ -8,9 +8,10 @@ use Rattle.prop_text.specs.declared.lines.PropLine.{PropLine}
 use Rattle.replay_text.specs.Events.{Spells}
 use Rattle.world_run.specs.declared.event.Event.{Event}
 use Rattle.world_run.specs.declared.event.Line.{Line}
-use Rattle.world_run.specs.Acknowledged.{Acknowledged, HoldsLogs, Survives}
+use Rattle.world_run.specs.Acknowledged.{Acknowledged, HoldsLogs}
 use Rattle.world_run.specs.World.{RunningWorld, world_of}
 use Rattle.world_run.specs.Keeps.{Steps}
+use Rattle.world_run.specs.Own.{SurvivesAtRest}
 use Rattle.hkms_tool.specs.declared.replay.Ended.{Ended}
 use Rattle.hkms_tool.specs.declared.replay.Ended.TheVariants as ended
 use Rattle.hkms_tool.specs.declared.stage.Play.{Play}
@@ -60,7 +61,7 @@ untouched d v = record {
   world_is = refl;
   goes_on = record {
     stands = λ told done holds. subst (λ (a : Acknowledged). HoldsLogs d v.world a) (sym (also_nothing done)) holds;
-    survives = λ told done holds. nothing_left d (Survives (world_of v.world) done);
+    survives = λ told done holds. nothing_left d (SurvivesAtRest (world_of v.world) done);
     sound = λ told h linked done holds. nothing_left d (SoundWith h);
     run = no_run d;
   };

@@ -20,6 +20,7 @@ use Rattle.hk_serve.specs.declared.ended.Ended.{Ended}
 use Rattle.hk_serve.specs.declared.ended.Ended.TheVariants.{End, Closed, TooLong, Wire, ReadFault, WriteFault, NoMemory}
 use Rattle.hk_serve.specs.Served.{Served}
 use Rattle.hkms_tool.specs.declared.props.PropsFault.{PropsFault}
+use Rattle.hkms_tool.specs.declared.replay.Ended.TheVariants.{Done}
 use Rattle.hkms_tool.specs.Properties.{HasPropsFault, ReadsProperties}
 use Rattle.hkms_tool.specs.Replay.{NotOpened, OnDisk, Promised, ReadsAs, ended_by, ended_by_props, opened_logs, status_of}
 use Rattle.hkms_tool.specs.Run.{Happened, History, behind, drawn_in, faults_after, logged_in, world_after}
@@ -50,7 +51,10 @@ pub record Converses (lines : List PropLine) (old new : DiskState) (words : ℕ 
   pub history : History
   pub unused : List ℕ
   pub served : Served (Asks lines (Tells old) (first_world table names) words before) (record { ahead = left; desk = []; written = written }) (record { ahead = ahead unused left'; desk = history; written = now }) how
-  pub on_disk : Tells old → OnDisk old new table names history
+  -- the count of faults in the calls is the disk's: it begins at no fewer than the disk had, and ends at no more than it has
+  pub began : old.faults ≤ before
+  pub ended : faults_after before history ≤ new.faults
+  pub on_disk : Tells old → OnDisk old new table names history Done
   pub promise : Tells old → (ledger : Ledger) (place : ℕ) → StartsSound old ledger place → Promised old new words table names ledger place history
   pub reads : (told : Tells old) → let found = on_disk told in ReadsAs new (also (opened_logs found.commands table found.ops names) (logged_in history)) (world_after (first_world table names) history)
 

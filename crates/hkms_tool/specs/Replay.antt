@@ -1,8 +1,8 @@
 -- How a replay ends.
-use Rattle.std.specs.Prelude.{◌≡◌, ◌⊎◌, ℕ, zero, suc, ◌+◌, ◌<◌, ◌^◌, Bool, List, [], ◌∷◌, ◌++◌, length, count_by, take, codes, Option, Some}
+use Rattle.std.specs.Prelude.{◌≡◌, ◌⊎◌, ℕ, zero, suc, ◌+◌, ◌<◌, ◌≤◌, ◌^◌, Bool, List, [], ◌∷◌, ◌++◌, length, count_by, take, codes, Option, Some}
 use Rattle.std.specs.Fmt.{decimal}
 use Rattle.std.specs.Io.KnownBytes.{Appends}
-use Rattle.hk_base.specs.Disk.{DiskState, Tells}
+use Rattle.hk_base.specs.Disk.{DiskState, Image, RunOn, Tells}
 use Rattle.frame_log.specs.declared.fault.StartFault.{StartFault}
 use Rattle.frame_log.specs.declared.fault.StartFault.TheVariants as start
 use Rattle.edit_ops.specs.declared.ops.EditOp.{EditOp}
@@ -23,6 +23,8 @@ use Rattle.world_run.specs.Acknowledged.{Acknowledged, HoldsLogs, LeavesBoth, al
 use Rattle.world_run.specs.Keeps.{LeftByStarts}
 use Rattle.world_run.specs.Ledger.{Ledger, drawn_before}
 use Rattle.world_run.specs.Linked.{SoundFiles, StartsSound}
+use Rattle.world_run.specs.Own.{SurvivesRestart}
+use Rattle.world_run.specs.Starts.{MayOpenKeys}
 use Rattle.world_run.specs.World.{RunningWorld, WorldState, first_world, world_of}
 use Rattle.hkms_tool.specs.declared.replay.Ended.{Ended}
 use Rattle.hkms_tool.specs.declared.replay.Ended.TheVariants.{Done, AclRefused, AclRepeated, AclUnknown, AclTooLong, BadLine, DamagedKeys, DamagedNames, StoreFault, NoMemory, ReadFault, WriteFault, Spent}
@@ -30,7 +32,7 @@ use Rattle.hkms_tool.specs.declared.props.PropsFault.{PropsFault}
 use Rattle.hkms_tool.specs.declared.props.PropsFault.TheVariants as props_fault
 use Rattle.hkms_tool.specs.Lines.{lines_of, is_lf}
 use Rattle.hkms_tool.specs.Properties.{HasPropsFault, ReadsProperties}
-use Rattle.hkms_tool.specs.Run.{FilesOpen, History, Runs, SoundIn, SurvivesIn, lines_in, logged_in, transcript, world_after}
+use Rattle.hkms_tool.specs.Run.{FilesOpen, History, Runs, SoundIn, SurvivesIn, faults_after, lines_in, logged_in, transcript, world_after}
 
 -- an input has at most 2^40 bytes
 abbrev pub longest_input : ℕ
@@ -169,6 +171,9 @@ pub record NotOpened (old new : DiskState) (file : ℕ) (fault : StartFault) : T
   pub damaged_names : (at : ℕ) → file ≡ 1 → fault ≡ start.Damaged at → Tells old → IsDamagedName (old.reads 1) at
   pub spent_keys : file ≡ 0 → fault ≡ start.Spent → Tells old → (commands : List KeyCommand) × (table : Table) × IsKeyLog (old.reads 0) commands table × (table.opening ≡ 4294967295)
   pub spent_names : file ≡ 1 → fault ≡ start.Spent → Tells old → (ops : List EditOp) × (made : Replayed) × IsNameLog (old.reads 1) ops made × (made.table.opening ≡ 4294967295)
+  -- the first file that has a fault counts: the key log was found good and opened, or the edit log was not touched
+  pub first_keys : file ≡ 1 → Tells old → MayOpenKeys (old.reads 0)
+  pub first_names : file ≡ 0 → RunOn 0 old new
   pub moments : Tells old → LeavesBoth old new (LeftByStarts old)
   pub sound : Tells old → (ledger : Ledger) (place : ℕ) → StartsSound old ledger place → LeavesBoth old new (SoundFiles ledger place)
 
@@ -185,15 +190,26 @@ pub record Unopened (old new : DiskState) (written now : Option (List ℕ)) (how
 abbrev pub opened_logs : List KeyCommand → Table → List EditOp → NameTable → Acknowledged
 opened_logs commands table ops names = record { keys = commands ++ next_opening table ∷ []; names = ops ++ next_opening_of_names names ∷ [] }
 
+-- what a crash may leave during the restart of either service in this world, where that ended the replay
+abbrev pub SurvivesStop : Ended → WorldState → Acknowledged → Image → Type 0
+SurvivesStop StoreFault w done image = SurvivesRestart w RestartKms done image ⊎ SurvivesRestart w RestartName done image
+SurvivesStop NoMemory w done image = SurvivesRestart w RestartKms done image ⊎ SurvivesRestart w RestartName done image
+SurvivesStop Spent w done image = SurvivesRestart w RestartKms done image ⊎ SurvivesRestart w RestartName done image
+SurvivesStop _ w done image = ⊥
+
+-- the two files are what a crash may leave on the way, or in the end
+abbrev pub SurvivesUntil : Ended → Acknowledged → WorldState → History → Image → Type 0
+SurvivesUntil stop before first history image = SurvivesIn before first history image ⊎ SurvivesStop stop (world_after first history) (also before (logged_in history)) image
+
 -- Both files were found to be logs, of these commands and operations. A crash at any moment since left of each file what it may have
 -- left before, or what its opening leaves of the log found; or both logs, with the records acknowledged in a world on the way.
-pub record OnDisk (old new : DiskState) (table : Table) (names : NameTable) (history : History) : Type 0 where
+pub record OnDisk (old new : DiskState) (table : Table) (names : NameTable) (history : History) (stop : Ended) : Type 0 where
   pub commands : List KeyCommand
   pub ops : List EditOp
   pub used : List ℕ
   pub keys : IsKeyLog (old.reads 0) commands table
   pub edits : IsNameLog (old.reads 1) ops (record { table = names; used = used })
-  pub moments : LeavesBoth old new (λ image. LeftByStarts old image ⊎ SurvivesIn (opened_logs commands table ops names) (first_world table names) history image)
+  pub moments : LeavesBoth old new (λ image. LeftByStarts old image ⊎ SurvivesUntil stop (opened_logs commands table ops names) (first_world table names) history image)
 
 -- The promise on zone files, with a ledger of draws among so many words that the files at the start allow: in each world on the way
 -- the zone files open, and a crash at any moment since left files that the next run may start from, with what was hidden on the way.
@@ -205,25 +221,43 @@ pub record Promised (old new : DiskState) (words : ℕ → ℕ) (table : Table) 
 abbrev pub ReadsAs : DiskState → Acknowledged → WorldState → Type 0
 ReadsAs new done w = (r : RunningWorld) × (world_of r ≡ w) × HoldsLogs new r done
 
--- the same but where a restart may have been cut short
-abbrev pub ReadsAt : Ended → DiskState → Acknowledged → WorldState → Type 0
-ReadsAt (DamagedKeys at) new done w = Unit {0}
-ReadsAt (DamagedNames at) new done w = Unit {0}
-ReadsAt StoreFault new done w = Unit {0}
-ReadsAt NoMemory new done w = Unit {0}
-ReadsAt Spent new done w = Unit {0}
-ReadsAt _ new done w = ReadsAs new done w
+-- after these lines of the input, where it is told, comes one that spells this event
+abbrev pub ComesNext : Option (List ℕ) → List (List ℕ) → Event → Type 0
+ComesNext left lines e = (all : List ℕ) → left ≡ Some all → NextSpells all lines e
 
--- the last opening of a log is used, the record that was pending kept or not
-abbrev pub IsSpent : WorldState → Type 0
-IsSpent w = (kept : Bool) × (((settled kept w.keys).table.opening ≡ 4294967295) ⊎ ((settled_names kept w.names).table.opening ≡ 4294967295))
+-- after these lines of the input comes a restart of either service, which may have been cut short
+abbrev pub IsCut : Option (List ℕ) → List (List ℕ) → Type 0
+IsCut left lines = ComesNext left lines RestartKms ⊎ ComesNext left lines RestartName
 
--- why a restart could not open its log, where the disk tells what it holds: it is never damaged, and spent only with the last opening
-abbrev pub RestartStops : Ended → WorldState → Type 0
-RestartStops (DamagedKeys at) w = ⊥
-RestartStops (DamagedNames at) w = ⊥
-RestartStops Spent w = IsSpent w
-RestartStops _ w = Unit {0}
+-- The same at an end behind these lines of the input, but where a restart may have been cut short. Want of memory leaves the logs too,
+-- unless a restart comes next.
+abbrev pub ReadsAt : Ended → Option (List ℕ) → List (List ℕ) → DiskState → Acknowledged → WorldState → Type 0
+ReadsAt (DamagedKeys at) left lines new done w = Unit {0}
+ReadsAt (DamagedNames at) left lines new done w = Unit {0}
+ReadsAt StoreFault left lines new done w = Unit {0}
+ReadsAt NoMemory left lines new done w = ReadsAs new done w ⊎ IsCut left lines
+ReadsAt Spent left lines new done w = Unit {0}
+ReadsAt _ left lines new done w = ReadsAs new done w
+
+-- the last opening of the key log is used, the record that was pending kept or not
+abbrev pub KeysSpent : WorldState → Type 0
+KeysSpent w = (kept : Bool) × ((settled kept w.keys).table.opening ≡ 4294967295)
+
+-- the same of the edit log
+abbrev pub NamesSpent : WorldState → Type 0
+NamesSpent w = (kept : Bool) × ((settled_names kept w.names).table.opening ≡ 4294967295)
+
+-- the last opening of a log is used, and after these lines of the input comes a restart of the service that this log is of
+abbrev pub IsSpent : Option (List ℕ) → List (List ℕ) → WorldState → Type 0
+IsSpent left lines w = (KeysSpent w × ComesNext left lines RestartKms) ⊎ (NamesSpent w × ComesNext left lines RestartName)
+
+-- why a restart behind these lines of the input could not open its log, where the disk tells what it holds: it is never damaged, and
+-- spent only with the last opening of that log
+abbrev pub RestartStops : Ended → Option (List ℕ) → List (List ℕ) → WorldState → Type 0
+RestartStops (DamagedKeys at) left lines w = ⊥
+RestartStops (DamagedNames at) left lines w = ⊥
+RestartStops Spent left lines w = IsSpent left lines w
+RestartStops _ left lines w = Unit {0}
 
 -- Under properties of these lines, lines of the input were played from the world on that the two logs were found to stand for.
 pub record Played (lines : List PropLine) (old new : DiskState) (words : ℕ → ℕ) (left : Option (List ℕ)) (stop : Ended) (history : History) : Type 0 where
@@ -231,10 +265,13 @@ pub record Played (lines : List PropLine) (old new : DiskState) (words : ℕ →
   pub names : NameTable
   pub before : ℕ
   pub runs : Runs lines (Tells old) (first_world table names) words before history
-  pub on_disk : Tells old → OnDisk old new table names history
+  -- the count of faults in the run is the disk's: it begins at no fewer than the disk had, and ends at no more than it has
+  pub began : old.faults ≤ before
+  pub ended : faults_after before history ≤ new.faults
+  pub on_disk : Tells old → OnDisk old new table names history stop
   pub promise : Tells old → (ledger : Ledger) (place : ℕ) → StartsSound old ledger place → Promised old new words table names ledger place history
-  pub reads : (told : Tells old) → let found = on_disk told in ReadsAt stop new (also (opened_logs found.commands table found.ops names) (logged_in history)) (world_after (first_world table names) history)
-  pub restart : Tells old → RestartStops stop (world_after (first_world table names) history)
+  pub reads : (told : Tells old) → let found = on_disk told in ReadsAt stop left (lines_in history) new (also (opened_logs found.commands table found.ops names) (logged_in history)) (world_after (first_world table names) history)
+  pub restart : Tells old → RestartStops stop left (lines_in history) (world_after (first_world table names) history)
   pub stops : (all : List ℕ) → left ≡ Some all → Stops stop all (lines_in history)
   pub has_properties : HasProperties stop
 

@@ -8,10 +8,11 @@ use Rattle.replay_text.specs.Transcript.{line_text}
 use Rattle.world_run.specs.declared.event.Event.{Event}
 use Rattle.world_run.specs.declared.event.Line.{Line}
 use Rattle.world_run.specs.World.{WorldState}
-use Rattle.world_run.specs.Acknowledged.{Acknowledged, Survives, also, nothing_acknowledged}
+use Rattle.world_run.specs.Acknowledged.{Acknowledged, also, nothing_acknowledged}
 use Rattle.world_run.specs.Keeps.{LinkedStep}
 use Rattle.world_run.specs.Ledger.{Hidden, hidden_after}
 use Rattle.world_run.specs.Linked.{SoundFiles}
+use Rattle.world_run.specs.Own.{SurvivesAtRest, SurvivesEvent}
 use Rattle.world_run.specs.Promise.{ZoneFilesOpen}
 
 -- the words behind the first n
@@ -133,11 +134,18 @@ FilesOpen before first words [] = ZoneFilesOpen first before
 FilesOpen before first words (x ∷ earlier) =
     ZoneFilesOpen (world_after first (x ∷ earlier)) (hidden_in before first words (x ∷ earlier)) × FilesOpen before first words earlier
 
--- The two files are what a crash may leave in a world on the way: logs of the records acknowledged by then, those before the run
--- first.
+-- what a crash may leave while a line is played in this world, these records being acknowledged before it; a quiet line writes nothing
+abbrev pub SurvivesLine : WorldState → Option Happened → Acknowledged → Image → Type 0
+SurvivesLine w None done image = ⊥
+SurvivesLine w (Some h) done image = SurvivesEvent w h.event h.reply h.world done image
+
+-- The two files are what a crash may leave in a world on the way, at rest, or during the event of a line on the way: logs of the
+-- records acknowledged by then, those before the run first.
 abbrev pub SurvivesIn : Acknowledged → WorldState → History → Image → Type 0
-SurvivesIn before first [] image = Survives first before image
-SurvivesIn before first (x ∷ earlier) image = Survives (world_after first (x ∷ earlier)) (also before (logged_in (x ∷ earlier))) image ⊎ SurvivesIn before first earlier image
+SurvivesIn before first [] image = SurvivesAtRest first before image
+SurvivesIn before first (x ∷ earlier) image =
+    SurvivesAtRest (world_after first (x ∷ earlier)) (also before (logged_in (x ∷ earlier))) image
+    ⊎ (SurvivesLine (world_after first earlier) x.event (also before (logged_in earlier)) image ⊎ SurvivesIn before first earlier image)
 
 -- files that a run may start from, with what is hidden by now
 abbrev pub SoundWith : Hidden → Image → Type 0

@@ -1,7 +1,7 @@
 -- One line of a replay.
 use Rattle.std.specs.Prelude.{◌≡◌, ◌⊎◌, ◌≤◌, ◌≢◌, ℕ, ◌+◌, ◌^◌, Bool, true, false, List, [], length, Option, None, Some, IsTrue}
 use Rattle.std.specs.Io.KnownBytes.{Appends, Consumes, IsAtEnd}
-use Rattle.hk_base.specs.Disk.{DiskState, Tells}
+use Rattle.hk_base.specs.Disk.{DiskState, Image, Tells}
 use Rattle.hk_base.specs.Faults.{Rose}
 use Rattle.hk_base.specs.Reading.{IsMore}
 use Rattle.hk_base.specs.Writing.{WroteFront}
@@ -17,6 +17,7 @@ use Rattle.world_run.specs.World.{RunningWorld, WorldState, world_of}
 use Rattle.world_run.specs.Keeps.{Fails, SoundThrough, SurvivesThrough}
 use Rattle.world_run.specs.Ledger.{Hidden}
 use Rattle.world_run.specs.Linked.{LinkedWorld}
+use Rattle.world_run.specs.Own.{SurvivesAtRest}
 use Rattle.world_run.specs.Promise.{ZoneFilesOpen}
 use Rattle.hkms_tool.specs.declared.lines.Got.{Got}
 use Rattle.hkms_tool.specs.declared.lines.Got.TheVariants as got
@@ -25,8 +26,8 @@ use Rattle.hkms_tool.specs.declared.replay.Ended.TheVariants as ended
 use Rattle.hkms_tool.specs.declared.stage.Play.{Play}
 use Rattle.hkms_tool.specs.declared.stage.Play.TheVariants.{Played, BadLine, Unread, Untold, Unwritten, Unopened}
 use Rattle.hkms_tool.specs.Lines.{is_line, line_used}
-use Rattle.hkms_tool.specs.Replay.{HasProperties, IsTold, ReadsAt, RestartStops, Stops, ended_by, last_line}
-use Rattle.hkms_tool.specs.Run.{FilesOpen, Happened, History, LineRuns, Runs, SoundIn, SurvivesIn, drawn_of, events_of, faults_of, hidden_of, lines_in, logged_in, logged_of, told_of, transcript, world_after, world_of_line}
+use Rattle.hkms_tool.specs.Replay.{HasProperties, IsTold, ReadsAt, RestartStops, Stops, SurvivesUntil, ended_by, last_line}
+use Rattle.hkms_tool.specs.Run.{FilesOpen, Happened, History, LineRuns, Runs, SoundIn, SurvivesLine, drawn_of, events_of, faults_after, faults_of, hidden_of, lines_in, logged_in, logged_of, told_of, transcript, world_after, world_of_line}
 
 -- the access control lists of the world stand for these lines
 abbrev pub HasLists : RunningWorld → List PropLine → Type 0
@@ -43,11 +44,11 @@ pub record View : Type 0 where
   pub events : ℕ
   pub written : Option (List ℕ)
 
--- What the layer above needs of the logs: the records acknowledged are behind those before, and what a crash may leave, with what
--- is hidden before made into what is hidden after.
-pub record GoesOn (old new : DiskState) (r r' : RunningWorld) (logged : Acknowledged) (after : Hidden → Hidden) : Type 0 where
+-- What the layer above needs of the logs: the records acknowledged are behind those before, and what a crash may leave, as `left`
+-- says of the records acknowledged before, with what is hidden before made into what is hidden after.
+pub record GoesOn (old new : DiskState) (r r' : RunningWorld) (logged : Acknowledged) (after : Hidden → Hidden) (left : Acknowledged → Image → Type 0) : Type 0 where
   pub stands : Tells old → (done : Acknowledged) → HoldsLogs old r done → HoldsLogs new r' (also done logged)
-  pub survives : SurvivesThrough old new r
+  pub survives : SurvivesThrough old new r left
   pub sound : Tells old → (h : Hidden) → LinkedWorld (world_of r) h → SoundThrough old new r (after h)
   pub run : RunBoth old new
 
@@ -59,7 +60,7 @@ pub record PlaysLine (lines : List PropLine) (old new : DiskState) (v : View) (l
   pub faults_are : new.faults ≡ faults_of old.faults event
   pub rest : (k : ℕ) → v'.words k ≡ v.words (drawn_of event + k)
   pub counted : v'.events ≡ v.events + events_of event
-  pub goes_on : GoesOn old new v.world v'.world (logged_of event) (hidden_of (world_of v.world) v.words event)
+  pub goes_on : GoesOn old new v.world v'.world (logged_of event) (hidden_of (world_of v.world) v.words event) (SurvivesLine (world_of v.world) event)
 
 -- a restart could not open its log
 pub record StopsAtRestart (old new : DiskState) (v : View) (line : List ℕ) (fault : WorldFault) (v' : View) : Type 0 where
@@ -71,7 +72,7 @@ pub record StopsAtRestart (old new : DiskState) (v : View) (line : List ℕ) (fa
 pub record Untouched (old new : DiskState) (v v' : View) : Type 0 where
   pub wrote : Appends v.written v'.written []
   pub world_is : v'.world ≡ v.world
-  pub goes_on : GoesOn old new v.world v'.world nothing_acknowledged (λ h. h)
+  pub goes_on : GoesOn old new v.world v'.world nothing_acknowledged (λ h. h) (SurvivesAtRest (world_of v.world))
   pub faults_are : new.faults ≡ old.faults
 
 -- how a line came out
@@ -174,10 +175,10 @@ pub record Closes (stop : Ended) (lines : ℕ) (written now : Option (List ℕ))
 abbrev pub WritesLast : Option (List ℕ) → Option (List ℕ) → List ℕ → Ended → Ended → Type 0
 WritesLast written now last end how = ((how ≡ end) × Appends written now last) ⊎ ((how ≡ ended.WriteFault) × WroteFront written now last)
 
--- what is known of the logs, which held these records before the lines, once they were played
-pub record Kept (old new : DiskState) (first : WorldState) (history : History) (stop : Ended) (done : Acknowledged) : Type 0 where
-  pub moments : LeavesBoth old new (SurvivesIn done first history)
-  pub reads : ReadsAt stop new (also done (logged_in history)) (world_after first history)
+-- what is known of the logs, which held these records before the lines of this input, once they were played
+pub record Kept (old new : DiskState) (first : WorldState) (left : Option (List ℕ)) (history : History) (stop : Ended) (done : Acknowledged) : Type 0 where
+  pub moments : LeavesBoth old new (SurvivesUntil stop done first history)
+  pub reads : ReadsAt stop left (lines_in history) new (also done (logged_in history)) (world_after first history)
 
 -- what is hidden beside a world that is linked, and whose zone files open
 pub record IsHidden (w : WorldState) (h : Hidden) : Type 0 where
@@ -193,10 +194,12 @@ pub record KeptOpen (old new : DiskState) (first : WorldState) (words : ℕ → 
 pub record Ran (lines : List PropLine) (old new : DiskState) (r : RunningWorld) (words : ℕ → ℕ) (left written now : Option (List ℕ)) (stop : Ended) (count : ℕ) : Type 0 where
   pub history : History
   pub runs : Runs lines (Tells old) (world_of r) words old.faults history
-  pub kept : Tells old → (done : Acknowledged) → HoldsLogs old r done → Kept old new (world_of r) history stop done
+  pub kept : Tells old → (done : Acknowledged) → HoldsLogs old r done → Kept old new (world_of r) left history stop done
   pub promise : Tells old → (done : Acknowledged) → HoldsLogs old r done → (before : Hidden) → IsHidden (world_of r) before → KeptOpen old new (world_of r) words history before
   pub run : RunBoth old new
-  pub restart : Tells old → RestartStops stop (world_after (world_of r) history)
+  -- the disk counts each fault of the history
+  pub counted_faults : faults_after old.faults history ≤ new.faults
+  pub restart : Tells old → RestartStops stop left (lines_in history) (world_after (world_of r) history)
   pub has_properties : HasProperties stop
   pub stops : (all : List ℕ) → left ≡ Some all → Stops stop all (lines_in history)
   pub text : List ℕ
