@@ -1,4 +1,5 @@
+pub mod Kept
 pub mod Listed
 pub mod Marks
-pub mod Places
 pub mod Sorts
+pub mod Tables

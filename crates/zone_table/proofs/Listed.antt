@@ -3,9 +3,10 @@ use Rattle.std.proofs.Common.{◌≡◌, ℕ, ◌+◌, ◌<◌, ◌≤◌, suc, 
 use Rattle.std.specs.Prelude.{nat_lt, slice_get, IsSome}
 use Rattle.std.specs.List.{All, flat_map}
 use Rattle.std.specs.List.Sorted.{IsNonDecreasingBy, IsPermutation}
+use Rattle.std.specs.Map.{keys_of}
 use Rattle.std.specs.Option.{option_map_or}
 use Rattle.std.proofs.lemmas.List.Elements.{All-cons, All-head, All-tail}
-use Rattle.std.proofs.lemmas.List.Sorted.{IsPermutation-cons, IsPermutation-map, IsPermutation-middle, IsPermutation-refl, IsPermutation-trans}
+use Rattle.std.proofs.lemmas.List.Sorted.{IsPermutation-cons, IsPermutation-map, IsPermutation-middle, IsPermutation-refl, IsPermutation-sym, IsPermutation-trans}
 use Rattle.hk_base.specs.declared.names.KeyName.{KeyName}
 use Rattle.inode_tree.specs.Arena.{rank}
 use Rattle.inode_tree.specs.Rows.{AllAfter, Entry, IsRising, IsRows, entry_of, mark_of}
@@ -13,7 +14,7 @@ use Rattle.inode_tree.proofs.Seeks.{not-before-itself}
 use Rattle.zone_table.specs.declared.list.ZonePath.{ZonePath}
 use Rattle.zone_table.specs.declared.zones.ZoneRow.{ZoneRow}
 use Rattle.zone_table.specs.Listings.{listed_at, place_of}
-use Rattle.zone_table.specs.Zones.{put_zone, listed, with_mark, zone_paths, zones_of}
+use Rattle.zone_table.specs.Zones.{by_directory, put_zone, listed, with_mark, zone_paths, zones_of}
 use Rattle.zone_table.proofs.Marks.{IsFound}
 use Rattle.zone_table.proofs.Sorts.{AllUpFrom, Climbs, sorted-back}
 
@@ -129,6 +130,17 @@ ranks-start rows (e ∷ es) = All-cons (RankIs rows 0 rows) e es (omega arith) (
 pub places-permute : (rows : List Entry) → IsRows rows → IsPermutation (marks_from 0 rows) (map (zone_place rows) (zones_of rows))
 places-permute rows r = marks-permute rows 0 rows r.once r.rising (ranks-start rows rows)
 
+-- the zones of a table's entries stand at the places of its keys
+entries-permute : (rows : List Entry) (es : List (ℕ × KeyName)) → IsPermutation (map (zone_place rows) (by_directory es)) (map (place_of rows) (keys_of es))
+entries-permute rows [] = IsPermutation-refl []
+entries-permute rows (e ∷ es) =
+    IsPermutation-trans (map (zone_place rows) (put_zone z (by_directory es))) (map (zone_place rows) (z ∷ by_directory es)) (map (place_of rows) (keys_of (e ∷ es)))
+    (IsPermutation-map (zone_place rows) (put_zone z (by_directory es)) (z ∷ by_directory es) (IsPermutation-sym (z ∷ by_directory es) (put_zone z (by_directory es)) (put-permutes z (by_directory es))))
+    (IsPermutation-cons (place_of rows e.0) (map (zone_place rows) (by_directory es)) (map (place_of rows) (keys_of es)) (entries-permute rows es))
+  where
+    z : ZoneRow
+    z = record { dir = e.0; key = e.1 }
+
 -- the directory of each zone stands in the tree
 found-put : (P : ZoneRow → Type 0) (z : ZoneRow) (xs : List ZoneRow) → P z → All P xs → All P (put_zone z xs)
 found-put P z [] p a = All-cons P z [] p a
@@ -151,11 +163,27 @@ zones-stand rows (e ∷ es) a =
     stands-mark rows (mark_of e.row.kind) e.row.id (zones_of es) (subst IsSome (sym (All-head (IsFound rows) e es a)) refl)
     (zones-stand rows es (All-tail (IsFound rows) e es a))
 
+put-parts : (P : ZoneRow → Type 0) (z : ZoneRow) (xs : List ZoneRow) → All P (put_zone z xs) → P z × All P xs
+put-parts P z [] a = (All-head P z [] a, All-tail P z [] a)
+put-parts P z (x ∷ xs) a = go (nat_lt z.dir x.dir) a (put-parts P z xs)
+  where
+    go : (t : Bool) → All P (cond t (z ∷ x ∷ xs) (x ∷ put_zone z xs)) → (All P (put_zone z xs) → P z × All P xs) → P z × All P (x ∷ xs)
+    go true a ih = (All-head P z (x ∷ xs) a, All-tail P z (x ∷ xs) a)
+    go false a ih = let parts = ih (All-tail P x (put_zone z xs) a) in (parts.0, All-cons P x xs (All-head P x (put_zone z xs) a) parts.1)
+
+keys-stand : (rows : List Entry) (es : List (ℕ × KeyName)) → All (Stands rows) (by_directory es) → All (λ dir. IsSome (entry_of rows dir)) (keys_of es)
+keys-stand rows [] a = search rules
+keys-stand rows (e ∷ es) a =
+    let parts = put-parts (Stands rows) (record { dir = e.0; key = e.1 }) (by_directory es) a in
+    All-cons (λ dir. IsSome (entry_of rows dir)) e.0 (keys_of es) parts.0 (keys-stand rows es parts.1)
+
 -- the places of the zones, sorted, are those of the marked rows
-pub places-sorted : (rows : List Entry) (zs : List ZoneRow) (ps ks : List ℕ) → IsRows rows → zs ≡ zones_of rows → ps ≡ map (zone_place rows) zs → IsPermutation ps ks → IsNonDecreasingBy (λ k. k) ks → ks ≡ marks_from 0 rows
-places-sorted rows zs ps ks r e f p s =
+pub places-sorted : (rows : List Entry) (es : List (ℕ × KeyName)) (ps ks : List ℕ) → IsRows rows → by_directory es ≡ zones_of rows → ps ≡ map (place_of rows) (keys_of es) → IsPermutation ps ks → IsNonDecreasingBy (λ k. k) ks → ks ≡ marks_from 0 rows
+places-sorted rows es ps ks r e f p s =
     sorted-back (marks_from 0 rows) ps ks (marks-climb 0 rows)
-    (subst (IsPermutation (marks_from 0 rows)) (sym (f ∙ ap (map (zone_place rows)) e)) (places-permute rows r)) p s
+    (subst (IsPermutation (marks_from 0 rows)) (sym f)
+    (IsPermutation-trans (marks_from 0 rows) (map (zone_place rows) (by_directory es)) (map (place_of rows) (keys_of es))
+    (subst (λ (zs : List ZoneRow). IsPermutation (marks_from 0 rows) (map (zone_place rows) zs)) (sym e) (places-permute rows r)) (entries-permute rows es))) p s
 
 pub places-within : (rows : List Entry) (ks : List ℕ) → ks ≡ marks_from 0 rows → All (λ k. k < length rows) ks
 places-within rows ks e = subst (All (λ k. k < length rows)) (sym e) (marks-within 0 rows (length rows) (omega arith))
@@ -166,5 +194,5 @@ places-listed rows ks e = ap (flat_map (listed_at rows)) e ∙ listed-marks rows
     plain : (k : ℕ) → 0 + k ≡ k
     plain k = omega arith
 
-pub rows-stand : (rows : List Entry) (zs : List ZoneRow) → IsRows rows → zs ≡ zones_of rows → All (Stands rows) zs
-rows-stand rows zs r e = subst (All (Stands rows)) (sym e) (zones-stand rows rows r.once)
+pub entries-stand : (rows : List Entry) (es : List (ℕ × KeyName)) → IsRows rows → by_directory es ≡ zones_of rows → All (λ dir. IsSome (entry_of rows dir)) (keys_of es)
+entries-stand rows es r e = keys-stand rows es (subst (All (Stands rows)) (sym e) (zones-stand rows rows r.once))

@@ -1,16 +1,15 @@
 -- The zones that the marks of a tree's rows make.
-use Rattle.std.proofs.Common.{◌≡◌, ℕ, Bool, true, false, cond, not, ◌&&◌, List, [], ◌∷◌, Option, Some, None, refl, sym, ap, ◌∙◌, subst, arith}
+use Rattle.std.proofs.Common.{◌≡◌, ℕ, Bool, true, false, cond, ◌&&◌, List, [], ◌∷◌, Option, Some, None, refl, sym, ap, ◌∙◌, subst, arith}
 use Rattle.std.specs.Prelude.{◌==◌, is_none, nat_lt, ⊤}
-use Rattle.std.specs.List.{All, filter}
+use Rattle.std.specs.List.{All}
 use Rattle.std.specs.Option.{option_map_or}
 use Rattle.std.proofs.lemmas.Bool.Decides.{nat_tests}
 use Rattle.std.proofs.lemmas.List.Elements.{All-head, All-tail}
 use Rattle.hk_base.specs.declared.names.KeyName.{KeyName}
 use Rattle.inode_tree.specs.declared.rows.Kind.{Kind}
 use Rattle.inode_tree.specs.declared.rows.Kind.TheVariants.{Dir}
-use Rattle.inode_tree.specs.Below.{at_or_below}
-use Rattle.inode_tree.specs.Paths.{is_before, is_prefix}
-use Rattle.inode_tree.specs.Rows.{AllAfter, Entry, IsRising, IsRows, entry_of, is_dir, mark_of, put, removed, set_kind}
+use Rattle.inode_tree.specs.Paths.{is_before}
+use Rattle.inode_tree.specs.Rows.{AllAfter, Entry, IsRising, IsRows, entry_of, is_dir, mark_of, put, set_kind}
 use Rattle.inode_tree.proofs.PathLemmas.{and-parts}
 use Rattle.inode_tree.proofs.Seeks.{not-before-itself}
 use Rattle.zone_table.specs.declared.zones.ZoneRow.{ZoneRow}
@@ -35,21 +34,21 @@ lt-not a b h = grind (arith, nat_tests)
 lt-other : (a b : ℕ) → (a == b) ≡ false → nat_lt a b ≡ false → nat_lt b a ≡ true
 lt-other a b d h = grind (arith, nat_tests)
 
-lt-trans : (a b c : ℕ) → nat_lt a b ≡ true → nat_lt b c ≡ true → nat_lt a c ≡ true
+pub lt-trans : (a b c : ℕ) → nat_lt a b ≡ true → nat_lt b c ≡ true → nat_lt a c ≡ true
 lt-trans a b c h k = grind (arith, nat_tests)
 
-eq-flip : (a b : ℕ) → (a == b) ≡ false → (b == a) ≡ false
+pub eq-flip : (a b : ℕ) → (a == b) ≡ false → (b == a) ≡ false
 eq-flip a b h = grind (arith, nat_tests)
 
-eq-yes : (a b : ℕ) → (a == b) ≡ true → a ≡ b
+pub eq-yes : (a b : ℕ) → (a == b) ≡ true → a ≡ b
 eq-yes a b h = grind (arith, nat_tests)
 
 -- in front of a zone that comes after it
-put-front : (a x : ZoneRow) (xs : List ZoneRow) → nat_lt a.dir x.dir ≡ true → put_zone a (x ∷ xs) ≡ a ∷ x ∷ xs
+pub put-front : (a x : ZoneRow) (xs : List ZoneRow) → nat_lt a.dir x.dir ≡ true → put_zone a (x ∷ xs) ≡ a ∷ x ∷ xs
 put-front a x xs h = ap (λ (t : Bool). cond t (a ∷ x ∷ xs) (x ∷ put_zone a xs)) h
 
 -- behind a zone that doesn't come after it
-put-behind : (a x : ZoneRow) (xs : List ZoneRow) → nat_lt a.dir x.dir ≡ false → put_zone a (x ∷ xs) ≡ x ∷ put_zone a xs
+pub put-behind : (a x : ZoneRow) (xs : List ZoneRow) → nat_lt a.dir x.dir ≡ false → put_zone a (x ∷ xs) ≡ x ∷ put_zone a xs
 put-behind a x xs h = ap (λ (t : Bool). cond t (a ∷ x ∷ xs) (x ∷ put_zone a xs)) h
 
 -- the first zone goes on in front of one that comes after both
@@ -92,7 +91,7 @@ row-put z (x ∷ xs) dir d = go (nat_lt z.dir x.dir) (row-put z xs dir d)
     go true ih = ap (λ (t : Bool). cond t (Some z) (zone_row (x ∷ xs) dir)) d
     go false ih = ap (λ (o : Option ZoneRow). cond (x.dir == dir) (Some x) o) ih
 
-row-mark : (m : Option KeyName) (id : ℕ) (xs : List ZoneRow) (dir : ℕ) → (id == dir) ≡ false → zone_row (with_mark m id xs) dir ≡ zone_row xs dir
+pub row-mark : (m : Option KeyName) (id : ℕ) (xs : List ZoneRow) (dir : ℕ) → (id == dir) ≡ false → zone_row (with_mark m id xs) dir ≡ zone_row xs dir
 row-mark None id xs dir d = refl
 row-mark (Some key) id xs dir d = row-put (record { dir = id; key = key }) xs dir d
 
@@ -182,7 +181,7 @@ marked-by-id rows id key r h = go (entry_of rows id) refl h
           parts.0,
         )
 
--- the zones that pass a test, where one more is put in: they stand in order of their directories' ids
+-- the zones stand in order of their directories' ids
 abbrev pub AllFrom : ℕ → List ZoneRow → Type 0
 AllFrom dir [] = ⊤
 AllFrom dir (x ∷ xs) = (nat_lt x.dir dir ≡ false) × AllFrom dir xs
@@ -191,7 +190,7 @@ abbrev pub IsOrdered : List ZoneRow → Type 0
 IsOrdered [] = ⊤
 IsOrdered (x ∷ xs) = AllFrom x.dir xs × IsOrdered xs
 
-lt-le-trans : (a b c : ℕ) → nat_lt a b ≡ true → nat_lt c b ≡ false → nat_lt a c ≡ true
+pub lt-le-trans : (a b c : ℕ) → nat_lt a b ≡ true → nat_lt c b ≡ false → nat_lt a c ≡ true
 lt-le-trans a b c h k = grind (arith, nat_tests)
 
 from-put : (dir : ℕ) (z : ZoneRow) (xs : List ZoneRow) → nat_lt z.dir dir ≡ false → AllFrom dir xs → AllFrom dir (put_zone z xs)
@@ -221,65 +220,3 @@ ordered-mark (Some key) id xs o = ordered-put (record { dir = id; key = key }) x
 pub zones-ordered : (es : List Entry) → IsOrdered (zones_of es)
 zones-ordered [] = tt
 zones-ordered (e ∷ es) = ordered-mark (mark_of e.row.kind) e.row.id (zones_of es) (zones-ordered es)
-
--- what comes before all others is put in first
-put-first : (z : ZoneRow) (xs : List ZoneRow) (keep : ZoneRow → Bool) (a : ℕ) → nat_lt z.dir a ≡ true → AllFrom a xs → put_zone z (filter keep xs) ≡ z ∷ filter keep xs
-put-first z [] keep a h f = refl
-put-first z (x ∷ xs) keep a h f = go (keep x) (put-first z xs keep a h f.1)
-  where
-    go : (t : Bool) → put_zone z (filter keep xs) ≡ z ∷ filter keep xs → put_zone z (cond t (x ∷ filter keep xs) (filter keep xs)) ≡ z ∷ cond t (x ∷ filter keep xs) (filter keep xs)
-    go true ih = put-front z x (filter keep xs) (lt-le-trans z.dir a x.dir h f.0)
-    go false ih = ih
-
-filter-put : (keep : ZoneRow → Bool) (z : ZoneRow) (xs : List ZoneRow) → IsOrdered xs → filter keep (put_zone z xs) ≡ cond (keep z) (put_zone z (filter keep xs)) (filter keep xs)
-filter-put keep z [] o = refl
-filter-put keep z (x ∷ xs) o = go (nat_lt z.dir x.dir) refl (keep x) refl (filter-put keep z xs o.1)
-  where
-    all : List ZoneRow
-    all = filter keep xs
-
-    go : (t : Bool) → nat_lt z.dir x.dir ≡ t → (u : Bool) → keep x ≡ u → filter keep (put_zone z xs) ≡ cond (keep z) (put_zone z (filter keep xs)) (filter keep xs)
-        → filter keep (cond t (z ∷ x ∷ xs) (x ∷ put_zone z xs)) ≡ cond (keep z) (put_zone z (cond u (x ∷ filter keep xs) (filter keep xs))) (cond u (x ∷ filter keep xs) (filter keep xs))
-    go true e u k ih =
-        ap (λ (v : Bool). cond (keep z) (z ∷ cond v (x ∷ filter keep xs) (filter keep xs)) (cond v (x ∷ filter keep xs) (filter keep xs))) k
-        ∙ ap (λ (l : List ZoneRow). cond (keep z) l (cond u (x ∷ filter keep xs) (filter keep xs))) (sym (first u))
-      where
-        first : (v : Bool) → put_zone z (cond v (x ∷ filter keep xs) (filter keep xs)) ≡ z ∷ cond v (x ∷ filter keep xs) (filter keep xs)
-        first true = put-front z x (filter keep xs) e
-        first false = put-first z xs keep x.dir e o.0
-    go false e true k ih =
-        ap (λ (v : Bool). cond v (x ∷ filter keep (put_zone z xs)) (filter keep (put_zone z xs))) k
-        ∙ ap (λ (l : List ZoneRow). x ∷ l) ih ∙ two (keep z)
-      where
-        two : (v : Bool) → x ∷ cond v (put_zone z (filter keep xs)) (filter keep xs) ≡ cond v (put_zone z (x ∷ filter keep xs)) (x ∷ filter keep xs)
-        two true = sym (put-behind z x (filter keep xs) e)
-        two false = refl
-    go false e false k ih = ap (λ (v : Bool). cond v (x ∷ filter keep (put_zone z xs)) (filter keep (put_zone z xs))) k ∙ ih
-
-filter-mark : (keep : ZoneRow → Bool) (m : Option KeyName) (id : ℕ) (b : Bool) (xs : List ZoneRow) → IsOrdered xs → ((key : KeyName) → keep (record { dir = id; key = key }) ≡ b)
-    → filter keep (with_mark m id xs) ≡ cond b (with_mark m id (filter keep xs)) (filter keep xs)
-filter-mark keep None id true xs o h = refl
-filter-mark keep None id false xs o h = refl
-filter-mark keep (Some key) id b xs o h =
-    filter-put keep (record { dir = id; key = key }) xs o
-    ∙ ap (λ (v : Bool). cond v (put_zone (record { dir = id; key = key }) (filter keep xs)) (filter keep xs)) (h key)
-
--- the zones of the directories that are neither at the path nor below it
-abbrev pub outside : List Entry → List (List ℕ) → ZoneRow → Bool
-outside rows p z = not (at_or_below rows z.dir p)
-
-removed-mark : (rows : List Entry) (p : List (List ℕ)) (e : Entry) (es : List Entry) (b : Bool) → not (is_prefix p e.path) ≡ b → zones_of (removed p es) ≡ filter (outside rows p) (zones_of es)
-    → zones_of (cond b (e ∷ removed p es) (removed p es)) ≡ cond b (with_mark (mark_of e.row.kind) e.row.id (filter (outside rows p) (zones_of es))) (filter (outside rows p) (zones_of es))
-removed-mark rows p e es true h ih = ap (with_mark (mark_of e.row.kind) e.row.id) ih
-removed-mark rows p e es false h ih = ih
-
-removed-from : (rows : List Entry) (p : List (List ℕ)) (es : List Entry) → All (IsFound rows) es → zones_of (removed p es) ≡ filter (outside rows p) (zones_of es)
-removed-from rows p [] a = refl
-removed-from rows p (e ∷ es) a =
-    removed-mark rows p e es (not (is_prefix p e.path)) refl (removed-from rows p es (All-tail (IsFound rows) e es a))
-    ∙ sym (filter-mark (outside rows p) (mark_of e.row.kind) e.row.id (not (is_prefix p e.path)) (zones_of es) (zones-ordered es)
-    (λ key. ap (λ (o : Option Entry). not (option_map_or (λ (f : Entry). is_prefix p f.path) o false)) (All-head (IsFound rows) e es a)))
-
--- without the rows at and below a path the zones are those outside it
-pub removed-zones : (rows : List Entry) (p : List (List ℕ)) → IsRows rows → filter (outside rows p) (zones_of rows) ≡ zones_of (removed p rows)
-removed-zones rows p r = sym (removed-from rows p rows r.once)

@@ -24,6 +24,11 @@ abbrev pub put_zone : ZoneRow → List ZoneRow → List ZoneRow
 put_zone z [] = z ∷ []
 put_zone z (x ∷ xs) = if nat_lt z.dir x.dir then z ∷ x ∷ xs else x ∷ put_zone z xs
 
+-- the zones of a table's entries, by the ids of their directories
+abbrev pub by_directory : List (ℕ × KeyName) → List ZoneRow
+by_directory [] = []
+by_directory (e ∷ es) = put_zone (record { dir = e.0; key = e.1 }) (by_directory es)
+
 -- the zones without that of this directory
 abbrev pub without_zone : List ZoneRow → ℕ → List ZoneRow
 without_zone [] dir = []

@@ -1,13 +1,14 @@
 //! The zones as they are listed.
 ghost use Rattle.std.specs.Prelude.{◌≡◌, ◌<◌, ◌++◌, ◌∷◌, [], length, map, IfOk, IsSome, OnOk, OnErr};
+ghost use Rattle.std.specs.HashMap.{keys};
 ghost use Rattle.std.specs.List.{All, flat_map};
 ghost use Rattle.inode_tree.specs.Rows.{entry_of, mark_of};
 ghost use Rattle.zone_table.specs.Listings.{listed_at, place_of};
 
-use crate::zones::ZoneRow;
 use hk_base::{KeyName, NoMemory};
 use inode_tree::{Kind, NPath, Row, Tree};
 use std::alloc::Global;
+use std::collections::HashMap;
 use std::marker::Model;
 
 /// An encryption zone as it is listed: the path of its directory, and the key of its files.
@@ -69,13 +70,17 @@ fn place_of(tree: &Tree, dir: u64) -> Result<u32, NoMemory>
 }
 
 /// The places in path order of the directories of zones.
-pub fn places_of(alloc: Global, rows: &Vec<ZoneRow>, tree: &Tree) -> Result<Vec<u32>, NoMemory>
-    requires { All (λ row. IsSome (entry_of tree.now.rows row.dir)) rows.now.items }
-    ensures { IfOk result (λ places. places.items ≡ map (λ row. place_of tree.now.rows row.dir) rows.now.items) }
+pub fn places_of(
+    alloc: Global,
+    zones: &HashMap<u64, KeyName>,
+    tree: &Tree,
+) -> Result<Vec<u32>, NoMemory>
+    requires { All (λ dir. IsSome (entry_of tree.now.rows dir)) (keys zones.now) }
+    ensures { IfOk result (λ places. places.items ≡ map (place_of tree.now.rows) (keys zones.now)) }
 {
-    let mut places = Vec::with_capacity(alloc, rows.len())?;
-    for row in rows {
-        places.push(place_of(tree, row.dir)?)?;
+    let mut places = Vec::with_capacity(alloc, zones.len())?;
+    for dir in zones.keys() {
+        places.push(place_of(tree, *dir)?)?;
     }
     Ok(places)
 }

@@ -141,6 +141,18 @@ fn mark(tree: &mut Tree, zones: &mut Zones, id: u64, key: KeyName) -> Result<boo
     Ok(true)
 }
 
+/// Removes what stands at and below a path, from the table and from the tree; the root is left.
+fn remove(tree: &mut Tree, zones: &mut Zones, path: &NPath)
+    requires { zones.old.rows ≡ zones_of tree.old.rows }
+    ensures { zones.new.rows ≡ zones_of tree.new.rows }
+{
+    if path.is_root() {
+        return;
+    }
+    zones.remove_below(tree, path);
+    tree.remove(path);
+}
+
 impl Marked {
     /// The root alone, and no zones.
     fn new(alloc: Global) -> Result<Marked, NoMemory> {
@@ -156,6 +168,10 @@ impl Marked {
 
     fn mark(&mut self, id: u64, key: KeyName) -> Result<bool, NoMemory> {
         mark(&mut self.tree, &mut self.zones, id, key)
+    }
+
+    fn remove(&mut self, path: &NPath) {
+        remove(&mut self.tree, &mut self.zones, path);
     }
 
     fn all(&self) -> Result<ZoneList, NoMemory> {
@@ -257,6 +273,46 @@ fn forgets_the_zones_at_and_below_a_path(rt: HostRuntime) -> Result<(), Fail> {
         let zones = five_zones(alloc)?.zones_outside(&path(alloc, text)?);
         for k in 0..5 {
             assert!(rt; zones.key(k as u64 + 1).is_some() == left[k], "{text} {k}");
+        }
+    }
+    Ok(())
+}
+
+fn numbered(alloc: Global, above: u64) -> Result<NPath, Fail> {
+    let text = format!(in alloc; "/d{above}")?;
+    path(alloc, text.as_str())
+}
+
+/// Twenty directories, and in each twenty zones.
+fn many_zones(alloc: Global) -> Result<Marked, Fail> {
+    let mut marked = Marked::new(alloc)?;
+    let key = key_name("key1")?;
+    for above in 0..20 {
+        let _ = marked.make(&numbered(alloc, above)?, 100 * above + 1)?;
+        for below in 2..22 {
+            let text = format!(in alloc; "/d{above}/e{below}")?;
+            let _ = marked.make(&path(alloc, text.as_str())?, 100 * above + below)?;
+            let _ = marked.mark(100 * above + below, key)?;
+        }
+    }
+    Ok(marked)
+}
+
+#[test]
+fn forgets_a_part_of_many_zones(rt: HostRuntime) -> Result<(), Fail> {
+    let alloc = rt.alloc();
+    let mut marked = many_zones(alloc)?;
+    assert!(rt; marked.all()?.as_slice().len() == 400);
+    for above in 0..20 {
+        if above % 3 == 0 {
+            marked.remove(&numbered(alloc, above)?);
+        }
+    }
+    assert!(rt; marked.all()?.as_slice().len() == 260);
+    for above in 0..20 {
+        for below in 2..22 {
+            let stands = marked.zones.key(100 * above + below).is_some();
+            assert!(rt; stands == (above % 3 != 0), "{above} {below}");
         }
     }
     Ok(())

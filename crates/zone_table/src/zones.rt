@@ -1,10 +1,6 @@
 //! The table of the zones.
-ghost use Rattle.std.specs.Prelude.{ℕ, ◌≡◌, ◌≤◌, [], None, length, nat_lt, not, true, false, IfOk, IsOk, OnOk, OnErr};
-ghost use Rattle.std.specs.List.{filter};
-ghost use Rattle.std.specs.List.Sorted.{IsNonDecreasingBy, IsPartitionPoint};
+ghost use Rattle.std.specs.Prelude.{ℕ, ◌≡◌, ◌≤◌, [], None, IfOk, IsOk, OnOk, OnErr};
 ghost use Rattle.std.specs.Option.{option_map};
-ghost use Rattle.hk_base.specs.declared.names.KeyName.{KeyName};
-ghost use Rattle.inode_tree.specs.Below.{at_or_below};
 ghost use Rattle.inode_tree.specs.Rows.{removed, zone_id};
 ghost use Rattle.zone_table.specs.Zones.{need_add, put_zone, without_zone, zone_paths, zone_row, zones_of};
 
@@ -12,6 +8,7 @@ use crate::list::{ZoneList, list_places, places_of};
 use hk_base::{KeyName, NoMemory};
 use inode_tree::{NPath, Tree};
 use std::alloc::Global;
+use std::collections::HashMap;
 use std::marker::Model;
 
 /// An encryption zone: the id of its directory, and the key of its files.
@@ -22,23 +19,23 @@ pub struct ZoneRow {
 }
 
 /// The encryption zones. Contracts see their rows in one list, by the ids of their directories, and
-/// for how many more there is room.
+/// for how many more there is room. Finding, adding and removing a zone take expected constant time.
 #[derive(Drop)]
 pub struct Zones {
     alloc: Global,
-    rows: Vec<ZoneRow>,
+    keys: HashMap<u64, KeyName>,
 }
 
 impl Model for Zones {
-    ghost use Rattle.std.specs.Prelude.{◌-◌, vec_capacity, vec_len};
-    ghost use Rattle.std.specs.List.Sorted.{IsNonDecreasingBy};
-    ghost use Rattle.zone_table.specs.Zones.{ZoneState};
+    ghost use Rattle.std.specs.Bool.{nat_eq};
+    ghost use Rattle.std.specs.HashMap.{IsUnique, spare};
+    ghost use Rattle.zone_table.specs.Zones.{ZoneState, by_directory};
 
     ghost Value = { ZoneState };
 
-    ghost view = { λ zones. record { rows = zones.rows.items; spare = vec_capacity zones.rows - vec_len zones.rows } };
+    ghost view = { λ zones. record { rows = by_directory zones.keys.entries; spare = spare zones.keys } };
 
-    ghost invariant = { λ zones. IsNonDecreasingBy (λ row. row.dir) zones.rows.items };
+    ghost invariant = { λ zones. IsUnique nat_eq zones.keys };
 }
 
 impl Zones {
@@ -48,7 +45,7 @@ impl Zones {
     {
         Zones {
             alloc,
-            rows: Vec::new(alloc),
+            keys: HashMap::new(alloc),
         }
     }
 
@@ -64,15 +61,10 @@ impl Zones {
     pub fn key(&self, dir: u64) -> Option<KeyName>
         ensures { result ≡ option_map (λ row. row.key) (zone_row self.now.rows dir) }
     {
-        let at = place(&self.rows, dir);
-        if at == self.rows.len() {
-            return None;
+        match self.keys.get(&dir) {
+            Some(key) => Some(*key),
+            None => None,
         }
-        let row = &self.rows[at];
-        if row.dir == dir {
-            return Some(row.key);
-        }
-        None
     }
 
     /// Takes the memory that one more zone will need. The zones stay as they are, also where memory
@@ -81,7 +73,7 @@ impl Zones {
         ensures same { self.new.rows ≡ self.old.rows }
         ensures ok { (dir : ℕ) (key : KeyName) → OnOk result (need_add dir key ≤ self.new.spare) }
     {
-        self.rows.reserve(1)?;
+        self.keys.reserve(1)?;
         Ok(())
     }
 
@@ -93,8 +85,7 @@ impl Zones {
         ensures err { OnErr result (self.new.rows ≡ self.old.rows) }
         ensures room { need_add dir key ≤ self.old.spare → IsOk result }
     {
-        let at = place(&self.rows, dir);
-        self.rows.insert(at, ZoneRow { dir, key })?;
+        self.keys.insert(dir, key)?;
         Ok(())
     }
 
@@ -103,18 +94,23 @@ impl Zones {
     pub fn remove(&mut self, dir: u64)
         ensures { self.new.rows ≡ without_zone self.old.rows dir }
     {
-        take_out(&mut self.rows, dir);
+        let _ = self.keys.remove(&dir);
     }
 
     /// Removes the zones at and below a path that is to be removed from the tree, so that the table
-    /// is that of the tree without them. It takes no memory.
+    /// is that of the tree without them. It takes no memory, and for each row that is removed the
+    /// time that finding one takes, however many zones there are.
     pub fn remove_below(&mut self, tree: &Tree, path: &NPath)
         requires { self.old.rows ≡ zones_of tree.now.rows }
         ensures { self.new.rows ≡ zones_of (removed path.now tree.now.rows) }
     {
-        // Each id is that of one row.
-        let _ = tree.rows();
-        keep_outside(&mut self.rows, tree, path);
+        // Each id is that of one row, and those at and below a path stand together.
+        let rows = tree.rows();
+        let mut at = tree.place(path);
+        while at < rows && tree.place_is_below(at, path) {
+            self.remove(tree.row_at_place(at).id);
+            at += 1;
+        }
     }
 
     /// The zones of the tree with their paths and keys, in path order. It is an `Err` only where
@@ -125,39 +121,8 @@ impl Zones {
     {
         // Each id is that of one row.
         let _ = tree.rows();
-        let mut places = places_of(self.alloc, &self.rows, tree)?;
+        let mut places = places_of(self.alloc, &self.keys, tree)?;
         places.sort_unstable();
         list_places(self.alloc, tree, &places)
     }
-}
-
-/// How many rows have a directory with a lower id.
-fn place(rows: &Vec<ZoneRow>, dir: u64) -> usize
-    requires { IsNonDecreasingBy (λ row. row.dir) rows.now.items }
-    ensures most { result ≤ length rows.now.items }
-    ensures parted { IsPartitionPoint (λ row. nat_lt row.dir dir ≡ true) (λ row. nat_lt row.dir dir ≡ false) rows.now.items result }
-{
-    rows.as_slice().partition_point(|row| row.dir < dir)
-}
-
-/// Takes the row of a directory out.
-fn take_out(rows: &mut Vec<ZoneRow>, dir: u64)
-    requires { IsNonDecreasingBy (λ row. row.dir) rows.old.items }
-    ensures rows { rows.new.items ≡ without_zone rows.old.items dir }
-    ensures order { IsNonDecreasingBy (λ row. row.dir) rows.new.items }
-{
-    let at = place(rows, dir);
-    if at == rows.len() {
-        return;
-    }
-    if rows[at].dir == dir {
-        let _ = rows.remove(at);
-    }
-}
-
-/// Keeps the rows of the directories that are neither at the path nor below it.
-fn keep_outside(rows: &mut Vec<ZoneRow>, tree: &Tree, path: &NPath)
-    ensures { rows.new.items ≡ filter (λ row. not (at_or_below tree.now.rows row.dir path.now)) rows.old.items }
-{
-    rows.retain(|row| !tree.at_or_below(row.dir, path));
 }
