@@ -1,9 +1,11 @@
--- Open asks in the order of their ids: where one stands, and what holds of those that stay.
-use Rattle.std.proofs.Common.{◌≡◌, ℕ, ◌<◌, ◌^◌, nat_le, zero, suc, Bool, true, false, cond, not, List, [], ◌∷◌, ◌++◌, length, get_or, Option, Some, None, is_none, is_some, refl, ap, sym, subst, ◌∙◌, arith}
-use Rattle.std.specs.Prelude.{◌==◌, nat_lt}
-use Rattle.std.specs.List.{All, AllByRecursion, remove}
+-- Open asks in the order of their ids: how they are kept under these, and what holds of those that stay.
+use Rattle.std.proofs.Common.{◌≡◌, ℕ, ◌<◌, ◌^◌, nat_le, Bool, true, false, cond, not, List, [], ◌∷◌, ◌++◌, Option, Some, None, is_none, is_some, Ordering, Greater, refl, ap, sym, subst, ◌∙◌, arith}
+use Rattle.std.specs.Prelude.{◌==◌}
+use Rattle.std.specs.BTreeMap.{insert_entry, is_at}
+use Rattle.std.specs.List.{All, AllByRecursion}
+use Rattle.std.specs.Map.{lookup, remove_entry, values_of}
 use Rattle.std.specs.Option.{option_map, option_and_then}
-use Rattle.std.specs.List.Sorted.{IsNonDecreasingBy, IsPartitionPoint}
+use Rattle.std.specs.Ordering.{is_eq, match_ordering, nat_cmp}
 use Rattle.std.proofs.lemmas.Bool.Decides.{nat_tests}
 use Rattle.std.proofs.lemmas.List.Elements.{All-head, All-tail, All-cons, All-nil}
 use Rattle.inode_tree.specs.declared.rows.Kind.{Kind}
@@ -18,6 +20,7 @@ use Rattle.name_store.specs.Table.{key_of_zone}
 use Rattle.name_core.specs.State.{IdsFit, IsRising, NameState}
 use Rattle.name_core.specs.Asks.{ask_causes, open_ask, without}
 use Rattle.name_core.specs.Calls.{first_cause, is_superuser, mkdir_causes}
+use Rattle.name_core.specs.Steps.{AreKeyed}
 use Rattle.name_core.proofs.RowLemmas.{BelowId, id-free, room-left, zone-row}
 
 -- what holds of each ask
@@ -42,11 +45,6 @@ pub each-without : (P : OpenAsk → Type 0) (asks : List OpenAsk) (id : ℕ) →
 each-without P [] id h = tt
 each-without P (a ∷ asks) id h = each-cond P (a.id == id) asks (a ∷ without asks id) h.1 (h.0, each-without P asks id h.1)
 
-each-at : (P : OpenAsk → Type 0) (asks : List OpenAsk) (k : ℕ) (d : OpenAsk) → AllByRecursion P asks → k < length asks → P (get_or asks k d)
-each-at P [] k d h b = absurd (omega (arith, b))
-each-at P (a ∷ asks) zero d h b = h.0
-each-at P (a ∷ asks) (suc k) d h b = each-at P asks k d h.1 (omega (arith, b))
-
 pub open-holds : (P : OpenAsk → Type 0) (asks : List OpenAsk) (id : ℕ) (q : OpenAsk) → AllByRecursion P asks → open_ask asks id ≡ Some q → P q
 open-holds P [] id q h e = absurd cc
 open-holds P (a ∷ asks) id q h e = go (a.id == id) (open-holds P asks id q h.1) e
@@ -55,76 +53,62 @@ open-holds P (a ∷ asks) id q h e = go (a.id == id) (open-holds P asks id q h.1
     go true rest e = let same : a ≡ q = cc in subst P same h.0
     go false rest e = rest e
 
--- where an ask stands
+-- asks kept under their ids
 
-abbrev pub Parted : List OpenAsk → ℕ → ℕ → Type 0
-Parted asks id i = IsPartitionPoint (λ a. nat_lt a.id id ≡ true) (λ a. nat_lt a.id id ≡ false) asks i
+same-number : (a b : ℕ) → is_eq (nat_cmp a b) ≡ (b == a)
+same-number a b = grind (arith, nat_tests)
 
-pub rising-apart : (asks : List OpenAsk) → IsRising asks → IsNonDecreasingBy (λ a. a.id) asks
-rising-apart [] r i j d low high = absurd (omega (arith, high))
-rising-apart (a ∷ asks) r zero zero d low high = omega arith
-rising-apart (a ∷ asks) r zero (suc j) d low high =
-    let h : a.id < (get_or asks j d).id = each-at (λ b. a.id < b.id) asks j d r.0 (omega (arith, high)) in omega (arith, h)
-rising-apart (a ∷ asks) r (suc i) zero d low high = absurd (omega (arith, low))
-rising-apart (a ∷ asks) r (suc i) (suc j) d low high = rising-apart asks r.1 i j d (omega (arith, low)) (omega (arith, high))
+higher : (a b c : ℕ) → c ≡ b → b < a → nat_cmp a c ≡ Greater
+higher a b c h k = grind (arith, nat_tests)
 
-parted-rest : (a : OpenAsk) (asks : List OpenAsk) (id i : ℕ) → Parted (a ∷ asks) id (suc i) → Parted asks id i
-parted-rest a asks id i h = (λ k d low high. h.0 (suc k) d (omega arith) (omega (arith, high)), λ k d low high. h.1 (suc k) d (omega (arith, low)) (omega (arith, high)))
+at-id : (e : ℕ × OpenAsk) (id : ℕ) → e.0 ≡ e.1.id → is_at (nat_cmp id) e.0 ≡ (e.1.id == id)
+at-id e id h = ap (λ (k : ℕ). is_eq (nat_cmp id k)) h ∙ same-number id e.1.id
 
-lower : (a b : ℕ) → nat_lt a b ≡ true → (a == b) ≡ false
-lower a b h = grind (arith, nat_tests)
+pub open-keyed : (es : List (ℕ × OpenAsk)) (id : ℕ) → AreKeyed es → lookup (is_at (nat_cmp id)) es ≡ open_ask (values_of es) id
+open-keyed [] id h = refl
+open-keyed (e ∷ es) id h =
+    ap (λ (t : Bool). cond t (Some e.1) (lookup (is_at (nat_cmp id)) es)) (at-id e id h.0)
+    ∙ ap (λ (o : Option OpenAsk). cond (e.1.id == id) (Some e.1) o) (open-keyed es id h.1)
 
-above : (a b c : ℕ) → nat_lt a b ≡ false → a < c → (c == b) ≡ false
-above a b c h k = grind (arith, nat_tests)
-
-none-above : (asks : List OpenAsk) (low id : ℕ) → nat_lt low id ≡ false → AllByRecursion (λ (b : OpenAsk). low < b.id) asks → open_ask asks id ≡ None
-none-above [] low id h k = refl
-none-above (a ∷ asks) low id h k = ap (λ (t : Bool). cond t (Some a) (open_ask asks id)) (above low id a.id h k.0) ∙ none-above asks low id h k.1
-
--- nothing is found past the last ask
-pub open-past : (asks : List OpenAsk) (id : ℕ) → Parted asks id (length asks) → open_ask asks id ≡ None
-open-past [] id h = refl
-open-past (a ∷ asks) id h =
-    ap (λ (t : Bool). cond t (Some a) (open_ask asks id)) (lower a.id id (h.0 0 a (omega arith) (omega arith))) ∙ open-past asks id (parted-rest a asks id (length asks) h)
-
--- what is found is the ask at the place, if it has the id
-pub open-place : (asks : List OpenAsk) (id i : ℕ) (d : OpenAsk) → IsRising asks → i < length asks → Parted asks id i
-    → open_ask asks id ≡ cond ((get_or asks i d).id == id) (Some (get_or asks i d)) None
-open-place [] id i d r b h = absurd (omega (arith, b))
-open-place (a ∷ asks) id zero d r b h =
-    ap (λ (o : Option OpenAsk). cond (a.id == id) (Some a) o) (none-above asks a.id id (h.1 0 a (omega arith) (omega arith)) r.0)
-open-place (a ∷ asks) id (suc i) d r b h =
-    ap (λ (t : Bool). cond t (Some a) (open_ask asks id)) (lower a.id id (h.0 0 a (omega arith) (omega arith)))
-    ∙ open-place asks id i d r.1 (omega (arith, b)) (parted-rest a asks id i h)
-
--- the ask at the place has another id
-pub open-not : (asks : List OpenAsk) (id i : ℕ) (d : OpenAsk) → IsRising asks → i < length asks → Parted asks id i → ((get_or asks i d).id == id) ≡ false → open_ask asks id ≡ None
-open-not asks id i d r b h e = open-place asks id i d r b h ∙ ap (λ (t : Bool). cond t (Some (get_or asks i d)) None) e
-
-pub open-here : (asks : List OpenAsk) (id i : ℕ) (d : OpenAsk) → IsRising asks → i < length asks → Parted asks id i → ((get_or asks i d).id == id) ≡ true → open_ask asks id ≡ Some (get_or asks i d)
-open-here asks id i d r b h e = open-place asks id i d r b h ∙ ap (λ (t : Bool). cond t (Some (get_or asks i d)) None) e
-
-pub same-at : (asks : List OpenAsk) (i : ℕ) (d e : OpenAsk) → i < length asks → get_or asks i d ≡ get_or asks i e
-same-at [] i d e b = absurd (omega (arith, b))
-same-at (a ∷ asks) zero d e b = refl
-same-at (a ∷ asks) (suc i) d e b = same-at asks i d e (omega (arith, b))
-
--- taking one away
-
-pub without-place : (asks : List OpenAsk) (id i : ℕ) (d : OpenAsk) → i < length asks → Parted asks id i → ((get_or asks i d).id == id) ≡ true → without asks id ≡ remove asks i
-without-place [] id i d b h e = absurd (omega (arith, b))
-without-place (a ∷ asks) id zero d b h e = ap (λ (t : Bool). cond t asks (a ∷ without asks id)) e
-without-place (a ∷ asks) id (suc i) d b h e =
-    ap (λ (t : Bool). cond t asks (a ∷ without asks id)) (lower a.id id (h.0 0 a (omega arith) (omega arith)))
-    ∙ ap (λ (rest : List OpenAsk). a ∷ rest) (without-place asks id i d (omega (arith, b)) (parted-rest a asks id i h) e)
-
-pub without-none : (asks : List OpenAsk) (id : ℕ) → open_ask asks id ≡ None → without asks id ≡ asks
-without-none [] id h = refl
-without-none (a ∷ asks) id h = go (a.id == id) (without-none asks id) h
+pub without-keyed : (es : List (ℕ × OpenAsk)) (id : ℕ) → AreKeyed es → values_of (remove_entry (is_at (nat_cmp id)) es) ≡ without (values_of es) id
+without-keyed [] id h = refl
+without-keyed (e ∷ es) id h = go (is_at (nat_cmp id) e.0) (without-keyed es id h.1) ∙ ap (λ (t : Bool). cond t (values_of es) (e.1 ∷ without (values_of es) id)) (at-id e id h.0)
   where
-    go : (t : Bool) → (open_ask asks id ≡ None → without asks id ≡ asks) → cond t (Some a) (open_ask asks id) ≡ None → cond t asks (a ∷ without asks id) ≡ a ∷ asks
-    go true rest e = absurd cc
-    go false rest e = ap (λ (others : List OpenAsk). a ∷ others) (rest e)
+    go : (t : Bool) → values_of (remove_entry (is_at (nat_cmp id)) es) ≡ without (values_of es) id
+        → values_of (cond t es (e ∷ remove_entry (is_at (nat_cmp id)) es)) ≡ cond t (values_of es) (e.1 ∷ without (values_of es) id)
+    go true rest = refl
+    go false rest = ap (λ (others : List OpenAsk). e.1 ∷ others) rest
+
+keyed-cond : (t : Bool) (xs ys : List (ℕ × OpenAsk)) → AreKeyed xs → AreKeyed ys → AreKeyed (cond t xs ys)
+keyed-cond true xs ys h k = h
+keyed-cond false xs ys h k = k
+
+pub keyed-without : (es : List (ℕ × OpenAsk)) (test : ℕ → Bool) → AreKeyed es → AreKeyed (remove_entry test es)
+keyed-without [] test h = tt
+keyed-without (e ∷ es) test h = keyed-cond (test e.0) es (e ∷ remove_entry test es) h.1 (h.0, keyed-without es test h.1)
+
+-- an ask whose id is above the others goes to the end
+insert-last : (es : List (ℕ × OpenAsk)) (q : OpenAsk) → AreKeyed es → AllByRecursion (λ (a : OpenAsk). a.id < q.id) (values_of es)
+    → insert_entry nat_cmp es q.id q ≡ es ++ (q.id, q) ∷ []
+insert-last [] q h k = refl
+insert-last (e ∷ es) q h k =
+    ap (λ (o : Ordering). match_ordering o ((q.id, q) ∷ e ∷ es) ((e.0, q) ∷ es) (e ∷ insert_entry nat_cmp es q.id q)) (higher q.id e.1.id e.0 h.0 k.0)
+    ∙ ap (λ (rest : List (ℕ × OpenAsk)). e ∷ rest) (insert-last es q h.1 k.1)
+
+values-append : (es : List (ℕ × OpenAsk)) (q : OpenAsk) → values_of (es ++ (q.id, q) ∷ []) ≡ values_of es ++ q ∷ []
+values-append [] q = refl
+values-append (e ∷ es) q = ap (λ (rest : List OpenAsk). e.1 ∷ rest) (values-append es q)
+
+keyed-append : (es : List (ℕ × OpenAsk)) (q : OpenAsk) → AreKeyed es → AreKeyed (es ++ (q.id, q) ∷ [])
+keyed-append [] q h = (refl, tt)
+keyed-append (e ∷ es) q h = (h.0, keyed-append es q h.1)
+
+pub values-insert : (es : List (ℕ × OpenAsk)) (q : OpenAsk) → AreKeyed es → AllByRecursion (λ (a : OpenAsk). a.id < q.id) (values_of es)
+    → values_of (insert_entry nat_cmp es q.id q) ≡ values_of es ++ q ∷ []
+values-insert es q h k = ap (λ (put : List (ℕ × OpenAsk)). values_of put) (insert-last es q h k) ∙ values-append es q
+
+pub keyed-insert : (es : List (ℕ × OpenAsk)) (q : OpenAsk) → AreKeyed es → AllByRecursion (λ (a : OpenAsk). a.id < q.id) (values_of es) → AreKeyed (insert_entry nat_cmp es q.id q)
+keyed-insert es q h k = subst (λ (put : List (ℕ × OpenAsk)). AreKeyed put) (sym (insert-last es q h k)) (keyed-append es q h)
 
 -- the order of those that stay
 

@@ -1,6 +1,6 @@
 -- The steps of a call that the namesystem takes one after another.
-use Rattle.std.specs.Prelude.{◌≡◌, ◌⊎◌, ◌<◌, ◌≤◌, ◌^◌, ℕ, Bool, true, false, List, [], ◌∷◌, ◌++◌, length, Option, None, Some, Result, Ok, Err, IfSome, is_some, slice_index_or}
-use Rattle.std.specs.List.{remove}
+use Rattle.std.specs.Prelude.{◌≡◌, ◌⊎◌, ◌≤◌, ◌^◌, ℕ, Bool, true, false, List, [], ◌∷◌, ◌++◌, Option, None, Some, Result, Ok, Err, IfSome, is_some}
+use Rattle.std.specs.List.{AllByRecursion}
 use Rattle.hk_base.specs.Disk.{DiskState, Tells, RunOn, LeavesOnly}
 use Rattle.hk_base.specs.Faults.{Rose}
 use Rattle.hk_base.specs.declared.names.Edek.{Edek}
@@ -20,7 +20,7 @@ use Rattle.name_core.specs.declared.calls.NameReply.TheVariants.{Done, Refused}
 use Rattle.name_core.specs.declared.calls.NameRefusal.{NameRefusal}
 use Rattle.name_core.specs.declared.calls.NameRefusal.TheVariants.{NoMemory, StoreFault}
 use Rattle.name_core.specs.State.{AreFree, AreRecent, IdsFit, NameService, NameState, RunningNames, StandsFor, names_of, next_id, service_of, settled}
-use Rattle.name_core.specs.Asks.{finish_causes, finish_op, open_ask, without}
+use Rattle.name_core.specs.Asks.{finish_causes, finish_op}
 use Rattle.name_core.specs.Calls.{causes, deed, done_with, first_cause, info_causes, info_reply, path_of_zone}
 use Rattle.name_core.specs.Service.{Changes, Concludes, OwnOf, ServesBy}
 
@@ -29,11 +29,9 @@ abbrev pub TellsOf : List Entry → NPath → NameReply → Type 0
 TellsOf rows p told =
     (told ≡ info_reply rows p) ⊎ ((told ≡ Refused NoMemory) × (is_some (path_of_zone rows p) ≡ true) × (first_cause (info_causes rows p) ≡ None))
 
--- the ask of this id stands at the place
-pub record StandsAt (asks : List OpenAsk) (id at : ℕ) : Type 0 where
-  pub within : at < length asks
-  pub stands : (d : OpenAsk) → open_ask asks id ≡ Some (slice_index_or asks at d)
-  pub removed : without asks id ≡ remove asks at
+-- each ask is kept under its id
+abbrev pub AreKeyed : List (ℕ × OpenAsk) → Type 0
+AreKeyed entries = AllByRecursion (λ (e : ℕ × OpenAsk). e.0 ≡ e.1.id) entries
 
 -- an operation that waits is no opening, its ids are taken, and no open ask has one
 pub record IsApart (s : NameState) (op : EditOp) : Type 0 where
