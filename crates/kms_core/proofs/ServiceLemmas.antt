@@ -1,5 +1,5 @@
 -- Calls over a store and its disk, from their steps.
-use Rattle.std.proofs.Common.{◌≡◌, inl, inr, ℕ, ◌+◌, ◌-◌, ◌*◌, ◌<◌, ◌≤◌, ◌^◌, Bool, cond, true, false, List, [], ◌∷◌, ◌++◌, Option, None, Some, refl, ap, sym, ◌∙◌, subst, arith}
+use Rattle.std.proofs.Common.{◌≡◌, ◌⊎◌, inl, inr, ℕ, ◌+◌, ◌-◌, ◌*◌, ◌<◌, ◌≤◌, ◌^◌, Bool, cond, true, false, List, [], ◌∷◌, ◌++◌, Option, None, Some, refl, ap, sym, ◌∙◌, subst, arith}
 use Rattle.std.specs.Prelude.{Result, Ok, Err, IsErr, MatchResult, IfSome, IsTrue, is_some}
 use Rattle.std.proofs.lemmas.List.{append-nil, append_assoc}
 use Rattle.hk_base.specs.Disk.{DiskState, LeavesOnly, RunOn, Tells}
@@ -16,11 +16,11 @@ use Rattle.std.proofs.lemmas.Bool.Decides.{Decides-eqb}
 use Rattle.key_rows.specs.Records.{HasSpelling}
 use Rattle.kms_store.specs.Replay.{key_replay}
 use Rattle.kms_store.proofs.Replays.{replay_more}
-use Rattle.kms_store.specs.Store.{Applies, IsKeyLog, IsLeftOf, next_opening, IsLogOf, IsWithOrWithout, IsWritten, Settles, StandsFor, StoreState, settled_commands, settled_table}
+use Rattle.kms_store.specs.Store.{Applies, IsKeyLog, IsLeftOf, next_opening, IsLogOf, IsWithOrWithout, IsWritten, NoCommand, Settles, StandsFor, StoreState, settled_commands, settled_table}
 use Rattle.kms_core.specs.State.{KmsState, Running, ServiceState, keys_of, service_of, settled}
 use Rattle.kms_core.specs.Calls.{CallActs, Deed, KmsActs, NoRoom, Plain, birth_of, bits_of, causes, deed, deleted, done_with, first_cause, is_misfit, rolled, row_of, shown, takes_memory, unless_refused, versions_of}
-use Rattle.kms_core.specs.Service.{Acts, Changes, IsGrowing, Logs, ServesBy, Starts, acknowledged, is_change, listed}
-use Rattle.kms_core.specs.Steps.{ActsSettled, Commits, EndsSo, IsUnsettled, Settling, StandsSo}
+use Rattle.kms_core.specs.Service.{Acts, Changes, IsGrowing, Logs, OwnOf, ServesBy, Starts, acknowledged, is_change, listed}
+use Rattle.kms_core.specs.Steps.{ActsSettled, Commits, EndsSo, IsUnsettled, OwnChange, Settling, StandsSo}
 use Rattle.kms_core.specs.declared.service.Standing.{Standing}
 use Rattle.kms_core.specs.Draws.{material_for, words_for}
 use Rattle.kms_core.proofs.StepLemmas.{may_be_rolled}
@@ -56,26 +56,72 @@ joined old mid new a b = record {
   other_leaves = λ c. (λ h. (a.other_leaves c).0 ((b.other_leaves c).0 h), λ h. (b.other_leaves c).1 ((a.other_leaves c).1 h));
 }
 
+if_some : (P Q : KeyCommand → Type 0) → ((command : KeyCommand) → P command → Q command) → (more : Option KeyCommand) → IfSome more P → IfSome more Q
+if_some P Q f None h = tt
+if_some P Q f (Some command) h = f command h
+
+-- what may be written is among what may be written in another way
+
+pub leaving_more : (table : Table) (pending : Option KeyCommand) (own own' : Bool → KeyCommand → Type 0) (commands : List KeyCommand) (bytes : List ℕ) → ((kept : Bool) (command : KeyCommand) → own kept command → own' kept command)
+    → IsLeftOf table pending own commands bytes → IsLeftOf table pending own' commands bytes
+leaving_more table pending own own' commands bytes f l = record {
+  kept = l.kept;
+  more = l.more;
+  more_is = if_some _ (λ (command : KeyCommand). ((l.kept ≡ false) × (pending ≡ Some command)) ⊎ own' l.kept command) either l.more l.more_is;
+  fits = l.fits;
+  spelled = l.spelled;
+  log = l.log;
+}
+  where
+    either : (command : KeyCommand) → ((l.kept ≡ false) × (pending ≡ Some command)) ⊎ own l.kept command → ((l.kept ≡ false) × (pending ≡ Some command)) ⊎ own' l.kept command
+    either command (inl h) = inl h
+    either command (inr h) = inr (f l.kept command h)
+
+-- the moments of a call leave what another clause says of them, too
+logs_weaker : (old new : DiskState) (store store' : StoreState) (P Q : List KeyCommand → List ℕ → Type 0) (logged : List KeyCommand) → ((commands : List KeyCommand) (bytes : List ℕ) → P commands bytes → Q commands bytes)
+    → Logs old new store store' P logged → Logs old new store store' Q logged
+logs_weaker old new store store' P Q logged f l = record { stands = l.stands; moments = λ told commands s. weaker (λ c left. f commands c left) (l.moments told commands s); run = l.run }
+
+pub logs_leaving : (old new : DiskState) (store store' : StoreState) (own own' : Bool → KeyCommand → Type 0) (logged : List KeyCommand) → ((kept : Bool) (command : KeyCommand) → own kept command → own' kept command)
+    → Logs old new store store' (IsLeftOf store.table.keys store.pending own) logged → Logs old new store store' (IsLeftOf store.table.keys store.pending own') logged
+logs_leaving old new store store' own own' logged f l =
+    logs_weaker old new store store' (IsLeftOf store.table.keys store.pending own) (IsLeftOf store.table.keys store.pending own') logged (λ commands c left. leaving_more store.table.keys store.pending own own' commands c f left) l
+
+logs_growing : (old new : DiskState) (store store' : StoreState) (own own' : KeyCommand → Type 0) (logged : List KeyCommand) → ((command : KeyCommand) → own command → own' command)
+    → Logs old new store store' (IsGrowing store.table.keys own) logged → Logs old new store store' (IsGrowing store.table.keys own') logged
+logs_growing old new store store' own own' logged f l =
+    logs_weaker old new store store' (IsGrowing store.table.keys own) (IsGrowing store.table.keys own') logged
+    (λ commands c g. record { more = g.more; more_is = if_some own own' f g.more g.more_is; fits = g.fits; spelled = g.spelled; log = g.log }) l
+
 -- what is left while a command waits, and behind its settling while another may be added
-pub left_growing : (table : Table) (pending : Option KeyCommand) (kept : Bool) (commands : List KeyCommand) (bytes : List ℕ)
-    → IsGrowing (settled_table kept pending table) (commands ++ settled_commands kept pending) bytes → IsLeftOf table pending commands bytes
-left_growing table pending kept commands bytes g = record { kept = kept; more = g.more; fits = g.fits; spelled = g.spelled; log = g.log }
+left_growing : (table : Table) (pending : Option KeyCommand) (kept : Bool) (own : Bool → KeyCommand → Type 0) (own' : KeyCommand → Type 0) (commands : List KeyCommand) (bytes : List ℕ)
+    → ((command : KeyCommand) → own' command → own kept command)
+    → IsGrowing (settled_table kept pending table) own' (commands ++ settled_commands kept pending) bytes → IsLeftOf table pending own commands bytes
+left_growing table pending kept own own' commands bytes f g = record {
+  kept = kept;
+  more = g.more;
+  more_is = if_some own' (λ (command : KeyCommand). ((kept ≡ false) × (pending ≡ Some command)) ⊎ own kept command) (λ command h. inr (f command h)) g.more g.more_is;
+  fits = g.fits;
+  spelled = g.spelled;
+  log = g.log;
+}
 
 -- settling, and then a change while nothing is pending
-pub behind_settling : (old mid new : DiskState) (r s t : Running) (kept : Bool) (logged : List KeyCommand)
+pub behind_settling : (old mid new : DiskState) (r s t : Running) (kept : Bool) (own : Bool → KeyCommand → Type 0) (own' : KeyCommand → Type 0) (logged : List KeyCommand)
+    → ((command : KeyCommand) → own' command → own kept command)
     → service_of s ≡ record { keys = settled kept (service_of r); pending = None }
-    → Logs old mid r.store s.store (IsLeftOf r.store.table.keys r.store.pending) (settled_commands kept r.store.pending)
-    → Logs mid new s.store t.store (IsGrowing s.store.table.keys) logged
-    → Logs old new r.store t.store (IsLeftOf r.store.table.keys r.store.pending) (settled_commands kept r.store.pending ++ logged)
-behind_settling old mid new r s t kept logged is a b = record {
+    → Logs old mid r.store s.store (IsLeftOf r.store.table.keys r.store.pending NoCommand) (settled_commands kept r.store.pending)
+    → Logs mid new s.store t.store (IsGrowing s.store.table.keys own') logged
+    → Logs old new r.store t.store (IsLeftOf r.store.table.keys r.store.pending own) (settled_commands kept r.store.pending ++ logged)
+behind_settling old mid new r s t kept own own' logged f is a b = record {
   stands = λ told commands stands.
       subst (StandsFor new t.store) (append_assoc commands (settled_commands kept r.store.pending) logged)
       (b.stands (tells_on old mid a.run told) (commands ++ settled_commands kept r.store.pending) (a.stands told commands stands));
-  moments = λ told commands stands. (compose {file = 0} {P = IsLeftOf r.store.table.keys r.store.pending commands}
-      (record { run = a.run; moments = a.moments told commands stands })
+  moments = λ told commands stands. (compose {file = 0} {P = IsLeftOf r.store.table.keys r.store.pending own commands}
+      (record { run = a.run; moments = weaker (λ c left. leaving_more r.store.table.keys r.store.pending NoCommand own commands c (λ k command never. absurd never) left) (a.moments told commands stands) })
       (record { run = b.run; moments = b.moments (tells_on old mid a.run told) (commands ++ settled_commands kept r.store.pending) (a.stands told commands stands) })
-      (λ c g. left_growing r.store.table.keys r.store.pending kept commands c
-      (subst (λ (x : Table). IsGrowing x (commands ++ settled_commands kept r.store.pending) c) (ap (λ (x : ServiceState). x.keys.table) is) g))).moments;
+      (λ c g. left_growing r.store.table.keys r.store.pending kept own own' commands c f
+      (subst (λ (x : Table). IsGrowing x own' (commands ++ settled_commands kept r.store.pending) c) (ap (λ (x : ServiceState). x.keys.table) is) g))).moments;
   run = joined old mid new a.run b.run;
 }
 
@@ -88,7 +134,8 @@ acts_settled old mid new r s t words now c told words' change a b = record {
   serves = subst (λ (x : Bool). ServesBy x (service_of r) words now c (Rose old.faults new.faults) told b.drawn (settled_commands a.kept r.store.pending ++ b.logged) (service_of t)) (sym change)
       (inr (a.kept, behind b.changes));
   rest = b.rest;
-  disk = behind_settling old mid new r s t a.kept b.logged a.service a.disk b.disk;
+  disk = behind_settling old mid new r s t a.kept (OwnOf (service_of r) words now c) (OwnChange (keys_of s) words now c) b.logged
+      (λ command own. subst (λ (k : KmsState). OwnChange k words now c command) keys_are own) a.service a.disk b.disk;
 }
   where
     before : List KeyCommand
@@ -123,7 +170,7 @@ acts_unsettled old new r t words now c change u = record {
   serves = subst (λ (x : Bool). ServesBy x (service_of r) words now c (Rose old.faults new.faults) (Refused StoreFault) 0 [] (service_of t)) (sym change)
       (inl (record { waits = u.waits; failed = u.failed; told_is = refl; none_drawn = refl; none_logged = refl; same = ap service_of u.same }));
   rest = λ k. ap words (omega arith);
-  disk = u.disk;
+  disk = logs_leaving old new r.store t.store NoCommand (OwnOf (service_of r) words now c) [] (λ kept command never. absurd never) u.disk;
 }
 
 -- a call that changes nothing
@@ -135,7 +182,7 @@ acts_reading d r words now c told words' change a = record {
   serves = subst (λ (x : Bool). ServesBy x (service_of r) words now c (Rose d.faults d.faults) told a.drawn [] (service_of r)) (sym change)
       (record { acts = a.acts; none_logged = refl; same = refl });
   rest = a.rest;
-  disk = unchanged d r.store (IsLeftOf r.store.table.keys r.store.pending);
+  disk = unchanged d r.store (IsLeftOf r.store.table.keys r.store.pending (OwnOf (service_of r) words now c));
 }
 
 -- a change that is refused while nothing is pending
@@ -146,7 +193,7 @@ settled_refused d r words now c why words' none a = record {
   logged = [];
   changes = inl (record { changed = keys_of r; acts = a.acts; logged_is = refl; left = λ i. record { keys = keys_of r; pending = none i } });
   rest = a.rest;
-  disk = unchanged d r.store (IsGrowing r.store.table.keys);
+  disk = unchanged d r.store (IsGrowing r.store.table.keys (OwnChange (keys_of r) words now c));
 }
 
 -- a change without a cause of refusal does its deed
@@ -160,7 +207,7 @@ settled_enacted old new r t words now c told words' takes free acks done rest = 
   logged = done.logged;
   changes = ends done.ends;
   rest = rest;
-  disk = done.disk;
+  disk = logs_growing old new r.store t.store (λ (command : KeyCommand). d.logs ≡ Some command) (OwnChange s words now c) done.logged (λ command is. (free, is)) done.disk;
 }
   where
     s : KmsState
@@ -186,7 +233,11 @@ settled_enacted old new r t words now c told words' takes free acks done rest = 
 
 -- a deed that says the same of answer, command and state ends alike
 pub same_commit : (old new : DiskState) (r t : Running) (d e : Deed) (told : KmsReply) → d.logs ≡ e.logs → d.answer ≡ e.answer → d.state ≡ e.state → Commits old new r d told t → Commits old new r e told t
-same_commit old new r t d e told logs answer state k = record { logged = k.logged; ends = same k.ends; disk = k.disk }
+same_commit old new r t d e told logs answer state k = record {
+  logged = k.logged;
+  ends = same k.ends;
+  disk = logs_growing old new r.store t.store (λ (command : KeyCommand). d.logs ≡ Some command) (λ (command : KeyCommand). e.logs ≡ Some command) k.logged (λ command is. sym logs ∙ is) k.disk;
+}
   where
     same : EndsSo (keys_of r) d (Rose old.faults new.faults) told k.logged (service_of t) → EndsSo (keys_of r) e (Rose old.faults new.faults) told k.logged (service_of t)
     same (inl (is, logged, left)) = inl (is ∙ answer, logged ∙ ap listed logs, left ∙ (λ i. record { keys = done_with (logs i) (state i); pending = None }))
@@ -196,8 +247,9 @@ same_commit old new r t d e told logs answer state k = record { logged = k.logge
 -- what a commit comes to
 
 -- a log of these commands with one more, or without it
-growing : (table : Table) (command : KeyCommand) (commands : List KeyCommand) (bytes : List ℕ) → applies table command ≡ true → IsWritten commands command bytes → IsGrowing table commands bytes
-growing table command commands bytes may is = record { more = Some command; fits = may; spelled = is.0; log = is.1 }
+growing : (table : Table) (own : KeyCommand → Type 0) (command : KeyCommand) (commands : List KeyCommand) (bytes : List ℕ) → own command → applies table command ≡ true → IsWritten commands command bytes
+    → IsGrowing table own commands bytes
+growing table own command commands bytes is_own may is = record { more = Some command; more_is = is_own; fits = may; spelled = is.0; log = is.1 }
 
 -- The clauses of a commit, together.
 pub record Committed (old new : DiskState) (store : StoreState) (command : KeyCommand) : Type 0 where
@@ -205,21 +257,21 @@ pub record Committed (old new : DiskState) (store : StoreState) (command : KeyCo
   pub moments : Tells old → (commands : List KeyCommand) → StandsFor old store commands → LeavesOnly 0 old new (IsWritten commands command)
   pub run : RunOn 0 old new
 
-wrote : (old new : DiskState) (store store' : StoreState) (command : KeyCommand) → Committed old new store command
+wrote : (old new : DiskState) (store store' : StoreState) (own : KeyCommand → Type 0) (command : KeyCommand) → own command → Committed old new store command
     → (Tells old → (commands : List KeyCommand) → StandsFor old store commands → StandsFor new store' (commands ++ command ∷ []))
-    → Logs old new store store' (IsGrowing store.table.keys) (command ∷ [])
-wrote old new store store' command k stands = record {
+    → Logs old new store store' (IsGrowing store.table.keys own) (command ∷ [])
+wrote old new store store' own command is_own k stands = record {
   stands = stands;
-  moments = λ told commands s. weaker (λ c is. growing store.table.keys command commands c k.may is) (k.moments told commands s);
+  moments = λ told commands s. weaker (λ c is. growing store.table.keys own command commands c is_own k.may is) (k.moments told commands s);
   run = k.run;
 }
 
-not_written : (old new : DiskState) (store store' : StoreState) (command : KeyCommand) → Committed old new store command
+not_written : (old new : DiskState) (store store' : StoreState) (own : KeyCommand → Type 0) (command : KeyCommand) → own command → Committed old new store command
     → (Tells old → (commands : List KeyCommand) → StandsFor old store commands → StandsFor new store' commands)
-    → Logs old new store store' (IsGrowing store.table.keys) []
-not_written old new store store' command k stands = record {
+    → Logs old new store store' (IsGrowing store.table.keys own) []
+not_written old new store store' own command is_own k stands = record {
   stands = λ told commands s. subst (StandsFor new store') (sym (append-nil commands)) (stands told commands s);
-  moments = λ told commands s. weaker (λ c is. growing store.table.keys command commands c k.may is) (k.moments told commands s);
+  moments = λ told commands s. weaker (λ c is. growing store.table.keys own command commands c is_own k.may is) (k.moments told commands s);
   run = k.run;
 }
 
@@ -234,7 +286,7 @@ pub commit_done : (old new : DiskState) (r t : Running) (d : Deed) (command : Ke
 commit_done old new r t d command told of_deed next told_is then_is none k stands = record {
   logged = command ∷ [];
   ends = inl (told_is, ap listed (sym of_deed.logs), done);
-  disk = wrote old new r.store t.store command k stands;
+  disk = wrote old new r.store t.store (λ (x : KeyCommand). d.logs ≡ Some x) command of_deed.logs k stands;
 }
   where
     there : t.store.table.keys ≡ after d.state.table command
@@ -244,13 +296,13 @@ commit_done old new r t d command told of_deed next told_is then_is none k stand
     done = subst (λ (o : Option KeyCommand). service_of t ≡ record { keys = done_with o d.state; pending = None }) (sym of_deed.logs)
         (λ i. record { keys = record { table = there i; next = next i }; pending = none i })
 
-pub commit_wanting : (old new : DiskState) (r t : Running) (d : Deed) (command : KeyCommand) (told : KmsReply) → t.next ≡ r.next → told ≡ Refused NoMemory
+pub commit_wanting : (old new : DiskState) (r t : Running) (d : Deed) (command : KeyCommand) (told : KmsReply) → IsDeedOf r d command → t.next ≡ r.next → told ≡ Refused NoMemory
     → t.store.table.keys ≡ r.store.table.keys → t.store.pending ≡ None → Committed old new r.store command
     → (Tells old → (commands : List KeyCommand) → StandsFor old r.store commands → StandsFor new t.store commands) → Commits old new r d told t
-commit_wanting old new r t d command told next told_is same none k stands = record {
+commit_wanting old new r t d command told of_deed next told_is same none k stands = record {
   logged = [];
   ends = inr (inl (told_is, refl, λ i. record { keys = record { table = same i; next = next i }; pending = none i }));
-  disk = not_written old new r.store t.store command k stands;
+  disk = not_written old new r.store t.store (λ (x : KeyCommand). d.logs ≡ Some x) command of_deed.logs k stands;
 }
 
 pub commit_failed : (old new : DiskState) (r t : Running) (d : Deed) (command : KeyCommand) (told : KmsReply) → IsDeedOf r d command → t.next ≡ d.state.next → told ≡ Refused StoreFault
@@ -259,7 +311,7 @@ pub commit_failed : (old new : DiskState) (r t : Running) (d : Deed) (command : 
 commit_failed old new r t d command told of_deed next told_is same waits failed k stands = record {
   logged = [];
   ends = inr (inr (failed, told_is, refl, λ i. record { keys = record { table = (same ∙ sym of_deed.same_table) i; next = next i }; pending = (waits ∙ sym of_deed.logs) i }));
-  disk = not_written old new r.store t.store command k stands;
+  disk = not_written old new r.store t.store (λ (x : KeyCommand). d.logs ≡ Some x) command of_deed.logs k stands;
 }
 
 pub err_only : {A B Q : Type 0} (P : Type 0) (result : Result A B) → IsErr result → Q → MatchResult result (λ _. P) (λ _. Q)
@@ -276,18 +328,18 @@ unsettled_table : (pending : Option KeyCommand) (t : Table) → settled_table fa
 unsettled_table None t = refl
 unsettled_table (Some command) t = refl
 
-pub left_waiting : (table : Table) (command : KeyCommand) (commands : List KeyCommand) (bytes : List ℕ) → applies table command ≡ true → HasSpelling command → IsWithOrWithout commands command bytes → IsLeftOf table (Some command) commands bytes
+pub left_waiting : (table : Table) (command : KeyCommand) (commands : List KeyCommand) (bytes : List ℕ) → applies table command ≡ true → HasSpelling command → IsWithOrWithout commands command bytes → IsLeftOf table (Some command) NoCommand commands bytes
 left_waiting table command commands bytes may spelled is =
-    record { kept = false; more = Some command; fits = may; spelled = spelled; log = subst (λ (l : List KeyCommand). IsLogOf l (Some command) bytes) (sym (append-nil commands)) is }
+    record { kept = false; more = Some command; more_is = inl (refl, refl); fits = may; spelled = spelled; log = subst (λ (l : List KeyCommand). IsLogOf l (Some command) bytes) (sym (append-nil commands)) is }
 
 -- a crash while the pending command is settled leaves what a crash may leave while it waits
 pub settling_moments : (old new : DiskState) (store : StoreState) → Applies store.table.keys store.pending → (store.pending ≡ None → new ≡ old)
     → (Tells old → (commands : List KeyCommand) (command : KeyCommand) → StandsFor old store commands → store.pending ≡ Some command → LeavesOnly 0 old new (IsWithOrWithout commands command))
-    → Tells old → (commands : List KeyCommand) → StandsFor old store commands → LeavesOnly 0 old new (IsLeftOf store.table.keys store.pending commands)
+    → Tells old → (commands : List KeyCommand) → StandsFor old store commands → LeavesOnly 0 old new (IsLeftOf store.table.keys store.pending NoCommand commands)
 settling_moments old new store applies nothing moments told commands s = go store.pending refl applies s.waits
   where
-    go : (o : Option KeyCommand) → store.pending ≡ o → Applies store.table.keys o → IfSome o HasSpelling → LeavesOnly 0 old new (IsLeftOf store.table.keys o commands)
-    go None is may spelled = subst (λ (d : DiskState). LeavesOnly 0 old d (IsLeftOf store.table.keys None commands)) (sym (nothing is)) (begin 0 old (IsLeftOf store.table.keys None commands)).moments
+    go : (o : Option KeyCommand) → store.pending ≡ o → Applies store.table.keys o → IfSome o HasSpelling → LeavesOnly 0 old new (IsLeftOf store.table.keys o NoCommand commands)
+    go None is may spelled = subst (λ (d : DiskState). LeavesOnly 0 old d (IsLeftOf store.table.keys None NoCommand commands)) (sym (nothing is)) (begin 0 old (IsLeftOf store.table.keys None NoCommand commands)).moments
     go (Some command) is may spelled = weaker (λ c left. left_waiting store.table.keys command commands c may spelled left) (moments told commands command s is)
 
 pub settles : (old new : DiskState) (r t : Running) → t.next ≡ r.next → Applies r.store.table.keys r.store.pending → (r.store.pending ≡ None → new ≡ old)

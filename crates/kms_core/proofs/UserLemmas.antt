@@ -14,7 +14,7 @@ use Rattle.kms_acls.specs.declared.answers.Denied.{Denied}
 use Rattle.kms_acls.specs.Verdict.{verdict}
 use Rattle.kms_store.specs.Store.{IsLeftOf}
 use Rattle.kms_core.specs.State.{ServiceState, service_of, settled}
-use Rattle.kms_core.specs.Service.{Acts, Serves}
+use Rattle.kms_core.specs.Service.{Acts, OwnOf, Serves}
 use Rattle.kms_core.specs.Users.{ActsFor, Permits, RunningKms, ServesUnder, hides, running, told_to, without_material}
 use Rattle.kms_core.specs.Calls.{birth_of, edek_of, row_of}
 use Rattle.kms_core.specs.Opening.{unseals}
@@ -33,7 +33,8 @@ is_denied d k lines user words now c denied told is told_is = record {
   serves = subst (λ (v : Result Shown Denied). ServesUnder v (service_of (running k)) words now c (Rose d.faults d.faults) told 0 [] (service_of (running k))) (sym is)
       (record { told_is = told_is; none_drawn = refl; none_logged = refl; same = refl });
   rest = λ n. ap words (omega arith);
-  disk = unchanged d k.store (IsLeftOf k.store.table.keys k.store.pending);
+  disk = unchanged d k.store (IsLeftOf k.store.table.keys k.store.pending (OwnOf (service_of (running k)) words now c));
+  untouched = λ why denied. record { reads = refl; faults = refl; moment = refl; leaves = λ file c left. left; left = λ t c left. left };
   lists = refl;
 }
 
@@ -56,6 +57,7 @@ is_permitted old new k k' lines user words now c shown served told words' is tol
       (record { reply = served; serves = a.serves; told_is = told_is });
   rest = a.rest;
   disk = a.disk;
+  untouched = λ why denied. absurd (cc (is, denied));
   lists = lists;
 }
 

@@ -86,9 +86,11 @@ ServesBy true s words now c fault told drawn logged s' =
 abbrev pub Serves : ServiceState → (ℕ → ℕ) → ℕ → KmsCall → Type 0 → KmsReply → ℕ → List KeyCommand → ServiceState → Type 0
 Serves s words now c fault told drawn logged s' = ServesBy (is_change c) s words now c fault told drawn logged s'
 
--- what a crash leaves of a log of these commands while a command may be added that applies to the table
-pub record IsGrowing (table : Table) (commands : List KeyCommand) (bytes : List ℕ) : Type 0 where
+-- What a crash leaves of a log of these commands while nothing is pending: that log, with one command more, which is its call's own
+-- and applies to the table, or without it.
+pub record IsGrowing (table : Table) (own : KeyCommand → Type 0) (commands : List KeyCommand) (bytes : List ℕ) : Type 0 where
   pub more : Option KeyCommand
+  pub more_is : IfSome more own
   pub fits : Applies table more
   pub spelled : IfSome more HasSpelling
   pub log : IsLogOf commands more bytes
@@ -100,13 +102,17 @@ pub record Logs (old new : DiskState) (store store' : StoreState) (P : List KeyC
   pub moments : Tells old → (commands : List KeyCommand) → StandsFor old store commands → LeavesOnly 0 old new (P commands)
   pub run : RunOn 0 old new
 
+-- what a call may write behind the settled log
+abbrev pub OwnOf : ServiceState → (ℕ → ℕ) → ℕ → KmsCall → Bool → KeyCommand → Type 0
+OwnOf s words now c kept command = (first_cause (causes (settled kept s) c) ≡ None) × ((deed (settled kept s) words now c).logs ≡ Some command)
+
 -- A call of a running service over its disk.
 pub record Acts (old new : DiskState) (r : Running) (words : ℕ → ℕ) (now : ℕ) (c : KmsCall) (told : KmsReply) (r' : Running) (words' : ℕ → ℕ) : Type 0 where
   pub drawn : ℕ
   pub logged : List KeyCommand
   pub serves : Serves (service_of r) words now c (Rose old.faults new.faults) told drawn logged (service_of r')
   pub rest : (k : ℕ) → words' k ≡ words (drawn + k)
-  pub disk : Logs old new r.store r'.store (IsLeftOf r.store.table.keys r.store.pending) logged
+  pub disk : Logs old new r.store r'.store (IsLeftOf r.store.table.keys r.store.pending (OwnOf (service_of r) words now c)) logged
 
 -- A start found a table in the log, and recorded the next opening behind its commands.
 pub record Starts (old new : DiskState) (r : Running) : Type 0 where

@@ -1,6 +1,6 @@
 -- The calls of users: the verdict of the access control lists comes first.
 use Rattle.std.specs.Prelude.{◌≡◌, ℕ, ◌+◌, Bool, false, not, List, [], None, Result, Ok, Err, if◌then◌else◌}
-use Rattle.hk_base.specs.Disk.{DiskState}
+use Rattle.hk_base.specs.Disk.{DiskState, Image}
 use Rattle.hk_base.specs.Faults.{Rose}
 use Rattle.hk_base.specs.declared.texts.Text.{Text}
 use Rattle.key_rows.specs.declared.rows.KeyCommand.{KeyCommand}
@@ -16,7 +16,7 @@ use Rattle.kms_acls.specs.Lists.{Lists}
 use Rattle.kms_acls.specs.Verdict.{verdict}
 use Rattle.kms_store.specs.Store.{IsLeftOf, StoreState}
 use Rattle.kms_core.specs.State.{Running, ServiceState, service_of}
-use Rattle.kms_core.specs.Service.{Logs, Serves}
+use Rattle.kms_core.specs.Service.{Logs, OwnOf, Serves}
 
 -- A service that runs for its users: the access control lists, the store, and the counter of the next birth.
 pub record RunningKms : Type 0 where
@@ -64,11 +64,21 @@ ServesUnder (Err denied) s words now c fault told drawn logged s' = Denies denie
 abbrev pub ServesUser : List PropLine → Text → ServiceState → (ℕ → ℕ) → ℕ → KmsCall → Type 0 → KmsReply → ℕ → List KeyCommand → ServiceState → Type 0
 ServesUser lines user s words now c fault told drawn logged s' = ServesUnder (verdict lines user c) s words now c fault told drawn logged s'
 
+-- The disk is as it was: it reads the same, and a crash leaves nothing that it might not have left before.
+pub record IsUntouched (old new : DiskState) : Type 0 where
+  pub reads : new.reads ≡ old.reads
+  pub faults : new.faults ≡ old.faults
+  pub moment : new.moment ≡ old.moment
+  pub leaves : (file : ℕ) (c : List ℕ) → new.leaves file c → old.leaves file c
+  pub left : (t : ℕ) (c : Image) → new.left_since t c → old.left_since t c
+
 -- A call of a user on a running service over its disk. The lists stay as they are.
 pub record ActsFor (lines : List PropLine) (user : Text) (old new : DiskState) (k : RunningKms) (words : ℕ → ℕ) (now : ℕ) (c : KmsCall) (told : KmsReply) (k' : RunningKms) (words' : ℕ → ℕ) : Type 0 where
   pub drawn : ℕ
   pub logged : List KeyCommand
   pub serves : ServesUser lines user (service_of (running k)) words now c (Rose old.faults new.faults) told drawn logged (service_of (running k'))
   pub rest : (n : ℕ) → words' n ≡ words (drawn + n)
-  pub disk : Logs old new k.store k'.store (IsLeftOf k.store.table.keys k.store.pending) logged
+  pub disk : Logs old new k.store k'.store (IsLeftOf k.store.table.keys k.store.pending (OwnOf (service_of (running k)) words now c)) logged
+  -- a call that is denied leaves the disk as it is
+  pub untouched : (denied : Denied) → verdict lines user c ≡ Err denied → IsUntouched old new
   pub lists : k'.acls ≡ k.acls

@@ -2,6 +2,7 @@
 ghost use Rattle.std.specs.Prelude.{◌≡◌, ◌⊎◌, ℕ, List, IfOk, IsErrOf, MatchResult, length};
 ghost use Rattle.hk_base.specs.Disk.{LeavesOnly, RunOn, Tells};
 ghost use Rattle.hk_base.specs.Faults.{Rose};
+ghost use Rattle.frame_log.specs.Stands.{LeavesFrom};
 ghost use Rattle.frame_log.specs.declared.fault.StartFault.TheVariants as start;
 ghost use Rattle.key_rows.specs.declared.rows.KeyCommand.{KeyCommand};
 ghost use Rattle.key_rows.specs.Table.{Table};
@@ -81,6 +82,12 @@ impl Kms {
         ensures any_moment { Tells (D.state disk.old) → LeavesOnly 0 (D.state disk.old) (D.state disk.new)
             (λ c. (D.state disk.old).leaves 0 c ⊎ IsLeftByStart ((D.state disk.old).reads 0) c) }
 
+        // Whatever the answer, since the first sync of the call it leaves the latter alone. Where that sync
+        // failed, nothing was written.
+        ensures since_sync { Tells (D.state disk.old) →
+            (IsErrOf result start.StoreFault × LeavesOnly 0 (D.state disk.old) (D.state disk.new) ((D.state disk.old).leaves 0))
+            ⊎ LeavesFrom 0 (D.state disk.old) (D.state disk.new) (IsLeftByStart ((D.state disk.old).reads 0)) }
+
         ensures run { RunOn 0 (D.state disk.old) (D.state disk.new) }
         ensures cause { IsErrOf result start.StoreFault → Rose (D.state disk.old).faults (D.state disk.new).faults }
     {
@@ -100,6 +107,9 @@ impl Kms {
             × IsKeyLog ((D.state disk.old).reads 0) commands table × (table.opening ≡ 4294967295)) }
         ensures any_moment { Tells (D.state disk.old) → LeavesOnly 0 (D.state disk.old) (D.state disk.new)
             (λ c. (D.state disk.old).leaves 0 c ⊎ IsLeftByStart ((D.state disk.old).reads 0) c) }
+        ensures since_sync { Tells (D.state disk.old) →
+            (IsErrOf result start.StoreFault × LeavesOnly 0 (D.state disk.old) (D.state disk.new) ((D.state disk.old).leaves 0))
+            ⊎ LeavesFrom 0 (D.state disk.old) (D.state disk.new) (IsLeftByStart ((D.state disk.old).reads 0)) }
         ensures run { RunOn 0 (D.state disk.old) (D.state disk.new) }
         ensures cause { IsErrOf result start.StoreFault → Rose (D.state disk.old).faults (D.state disk.new).faults }
     {

@@ -14,7 +14,7 @@ use Rattle.key_rows.specs.declared.rows.KeyCommand.{KeyCommand}
 use Rattle.key_rows.proofs.Births.{each_more}
 use Rattle.key_rows.proofs.RecordLemmas.{one_spelling}
 use Rattle.kms_store.specs.Replay.{key_replay}
-use Rattle.kms_store.specs.Store.{Applies, IsDamagedAt, IsKeyLog, IsLeftByStart, IsLeftOf, IsLogOf, IsSoundLog, IsWithOrWithout, Not_a_key_log, Not_a_log, Opening, Recovered, StandsFor, StoreState, next_opening, settled_commands, settled_table}
+use Rattle.kms_store.specs.Store.{AKeyOpening, Applies, IsDamagedAt, IsKeyLog, IsLeftByStart, IsLeftOf, IsLogOf, IsSoundLog, IsWithOrWithout, NoCommand, Not_a_key_log, Not_a_log, Opening, Recovered, StandsFor, StoreState, next_opening, settled_commands, settled_table}
 use Rattle.kms_store.proofs.Replays.{replay_more, spelled_more}
 
 -- what the file of a store may be is a log of its commands, with the pending one or without it
@@ -88,12 +88,13 @@ finds bytes commands more table found made s k =
 
 -- what a start leaves of a sound log
 pub left_by_start : (bytes : List ℕ) (commands : List KeyCommand) (more : Option KeyCommand) (table : Table) → IsSoundLog bytes commands more table
-    → (left : List ℕ) → IsLeftByStart bytes left → IsLeftOf table more commands left
+    → (left : List ℕ) → IsLeftByStart bytes left → IsLeftOf table more AKeyOpening commands left
 left_by_start bytes commands more table s left (Opening found made k written) =
     let f = finds bytes commands more table found made s k in
     record {
       kept = f.kept;
       more = Some (next_opening made);
+      more_is = inr refl;
       fits = (Decides-eqb (made.opening + 1) ((settled_table f.kept more table).opening + 1)).1 (ap (λ (t : Table). t.opening + 1) f.table_is);
       spelled = written.0;
       log = subst (λ (l : List KeyCommand). IsWithOrWithout l (next_opening made) left) f.commands_are written.1;
@@ -107,10 +108,10 @@ left_by_start bytes commands more table s left (Recovered (No_log at none same))
     none_found (Some command) (inr (inr half)) = let now = half.now in absurd (cc (none, now))
 left_by_start bytes commands more table s left (Recovered (Log_as_found (At_rest payloads gate found rest))) =
     let is = found_is bytes commands more table s payloads gate found in
-    record { kept = is.0; more = None; fits = tt; spelled = tt; log = subst (λ (l : List (List ℕ)). IsAtRest 0 l left) is.1 rest }
+    record { kept = is.0; more = None; more_is = tt; fits = tt; spelled = tt; log = subst (λ (l : List (List ℕ)). IsAtRest 0 l left) is.1 rest }
 left_by_start bytes commands more table s left (Recovered (Log_as_found (Half_open payloads gate other found now same))) = go more s.log s.fits s.spelled_more
   where
-    go : (o : Option KeyCommand) → IsLogOf commands o bytes → Applies table o → IfSome o HasSpelling → IsLeftOf table o commands left
+    go : (o : Option KeyCommand) → IsLogOf commands o bytes → Applies table o → IfSome o HasSpelling → IsLeftOf table o AKeyOpening commands left
     go None rest may spelled = let no_gate : suc gate ≡ 0 = cc (found, rest) in absurd (omega arith)
     go (Some command) (inl before) may spelled = let no_gate : suc gate ≡ 0 = cc (found, before) in absurd (omega arith)
     go (Some command) (inr (inl with)) may spelled = let no_gate : suc gate ≡ 0 = cc (found, with) in absurd (omega arith)
@@ -119,21 +120,21 @@ left_by_start bytes commands more table s left (Recovered (Log_as_found (Half_op
         let one : payloads ≡ map spelling commands = cc (found, half_now) in
         let half_left : IsHalfOpen 0 (map spelling commands) (map spelling commands ++ spelling command ∷ []) left =
         record { gate = suc other; not_shut = omega arith; now = now ∙ ap (λ (l : List (List ℕ)). Found l (suc other)) one; then_on = ap (log_of 0) same ∙ half.then_on } in
-        record { kept = false; more = Some command; fits = may; spelled = spelled; log = subst (λ (l : List KeyCommand). IsWithOrWithout l command left) (sym (append-nil commands)) (inr (inr half_left)) }
+        record { kept = false; more = Some command; more_is = inl (refl, refl); fits = may; spelled = spelled; log = subst (λ (l : List KeyCommand). IsWithOrWithout l command left) (sym (append-nil commands)) (inr (inr half_left)) }
 left_by_start bytes commands more table s left (Recovered (Log_as_found (Opened payloads gate found same))) = go more s.log s.fits s.spelled_more
   where
-    go : (o : Option KeyCommand) → IsLogOf commands o bytes → Applies table o → IfSome o HasSpelling → IsLeftOf table o commands left
+    go : (o : Option KeyCommand) → IsLogOf commands o bytes → Applies table o → IfSome o HasSpelling → IsLeftOf table o AKeyOpening commands left
     go None rest may spelled = let no_gate : suc gate ≡ 0 = cc (found, rest) in absurd (omega arith)
     go (Some command) (inl before) may spelled = let no_gate : suc gate ≡ 0 = cc (found, before) in absurd (omega arith)
     go (Some command) (inr (inl with)) may spelled = let no_gate : suc gate ≡ 0 = cc (found, with) in absurd (omega arith)
     go (Some command) (inr (inr half)) may spelled =
-        record { kept = false; more = Some command; fits = may; spelled = spelled; log = subst (λ (l : List KeyCommand). IsWithOrWithout l command left) (sym (append-nil commands)) (inr (inl (ap (log_of 0) same ∙ half.then_on))) }
+        record { kept = false; more = Some command; more_is = inl (refl, refl); fits = may; spelled = spelled; log = subst (λ (l : List KeyCommand). IsWithOrWithout l command left) (sym (append-nil commands)) (inr (inl (ap (log_of 0) same ∙ half.then_on))) }
 
 -- what a crash may leave of the log of these commands is a sound log, of them and of what was settled of the pending one
-pub sound_left : (table : Table) (pending : Option KeyCommand) (commands : List KeyCommand) (bytes : List ℕ) → AllByRecursion HasSpelling commands → IfSome pending HasSpelling
-    → key_replay no_keys commands ≡ Some table → Applies table pending → (l : IsLeftOf table pending commands bytes)
+pub sound_left : (table : Table) (pending : Option KeyCommand) (own : Bool → KeyCommand → Type 0) (commands : List KeyCommand) (bytes : List ℕ) → AllByRecursion HasSpelling commands → IfSome pending HasSpelling
+    → key_replay no_keys commands ≡ Some table → Applies table pending → (l : IsLeftOf table pending own commands bytes)
     → IsSoundLog bytes (commands ++ settled_commands l.kept pending) l.more (settled_table l.kept pending table)
-sound_left table pending commands bytes spelled waits makes applies l = record {
+sound_left table pending own commands bytes spelled waits makes applies l = record {
   spelled = spelled_behind commands pending spelled waits l.kept;
   spelled_more = l.spelled;
   makes = makes_behind commands pending table makes applies l.kept;
@@ -154,23 +155,14 @@ sound_store d store commands of_file may s = record {
 
 -- and a crash leaves such a log
 pub left_by_store : (d : DiskState) (store : StoreState) (commands : List KeyCommand) → store.log.file ≡ 0 → Applies store.table.keys store.pending → StandsFor d store commands
-    → (bytes : List ℕ) → d.leaves 0 bytes → IsLeftOf store.table.keys store.pending commands bytes
-left_by_store d store commands of_file may s bytes left = record {
-  kept = false;
-  more = store.pending;
-  fits = subst (λ (t : Table). Applies t store.pending) (sym (unsettled store.pending)) may;
-  spelled = s.waits;
-  log = subst (λ (l : List KeyCommand). IsLogOf l store.pending bytes) (sym (ap (λ (l : List KeyCommand). commands ++ l) (none store.pending) ∙ append-nil commands))
-      (log_of_store d store commands of_file s bytes (s.log.leaves bytes (subst (λ (k : ℕ). d.leaves k bytes) (sym of_file) left)));
-}
+    → (bytes : List ℕ) → d.leaves 0 bytes → IsLeftOf store.table.keys store.pending NoCommand commands bytes
+left_by_store d store commands of_file may s bytes left =
+    go store.pending may s.waits (log_of_store d store commands of_file s bytes (s.log.leaves bytes (subst (λ (k : ℕ). d.leaves k bytes) (sym of_file) left)))
   where
-    unsettled : (o : Option KeyCommand) → settled_table false o store.table.keys ≡ store.table.keys
-    unsettled None = refl
-    unsettled (Some command) = refl
-
-    none : (o : Option KeyCommand) → settled_commands false o ≡ []
-    none None = refl
-    none (Some command) = refl
+    go : (o : Option KeyCommand) → Applies store.table.keys o → IfSome o HasSpelling → IsLogOf commands o bytes → IsLeftOf store.table.keys o NoCommand commands bytes
+    go None fits spelled log = record { kept = false; more = None; more_is = tt; fits = tt; spelled = tt; log = subst (λ (l : List KeyCommand). IsLogOf l None bytes) (sym (append-nil commands)) log }
+    go (Some command) fits spelled log =
+        record { kept = false; more = Some command; more_is = inl (refl, refl); fits = fits; spelled = spelled; log = subst (λ (l : List KeyCommand). IsLogOf l (Some command) bytes) (sym (append-nil commands)) log }
 
 -- a list of commands that begins so, and goes on with this record
 split_at : (all front : List KeyCommand) (payload : List ℕ) (payloads : List (List ℕ)) → AllByRecursion HasSpelling all → AllByRecursion HasSpelling front → map spelling all ≡ map spelling front ++ payload ∷ payloads

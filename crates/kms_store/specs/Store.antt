@@ -1,5 +1,5 @@
 -- A store over a key log, and what it stands for.
-use Rattle.std.specs.Prelude.{◌≡◌, ℕ, ◌+◌, Bool, true, false, List, [], ◌∷◌, ◌++◌, map, Option, Some, None, option_map, IfSome}
+use Rattle.std.specs.Prelude.{◌≡◌, ◌⊎◌, ℕ, ◌+◌, Bool, true, false, List, [], ◌∷◌, ◌++◌, map, Option, Some, None, option_map, IfSome}
 use Rattle.std.specs.List.{AllByRecursion}
 use Rattle.hk_base.specs.Disk.{DiskState, Tells}
 use Rattle.frame_log.specs.Format.{log_of, Found, NoLog, end_of, IsAtRest, IsBeforeOrAfter, IsRecovered}
@@ -116,10 +116,24 @@ pub record IsSoundLog (bytes : List ℕ) (commands : List KeyCommand) (more : Op
   pub log : IsLogOf commands more bytes
 
 -- What a crash may leave of the log of these commands, which make a table, while one is pending: that log, or the one with
--- the pending command, with one more command, which applies, or without it.
-pub record IsLeftOf (table : Table) (pending : Option KeyCommand) (commands : List KeyCommand) (bytes : List ℕ) : Type 0 where
+-- the pending command; with one more command, which applies, or without it. That one is the pending command itself, or one of
+-- `own`, which says what may be written behind the settled log.
+pub record IsLeftOf (table : Table) (pending : Option KeyCommand) (own : Bool → KeyCommand → Type 0) (commands : List KeyCommand) (bytes : List ℕ) : Type 0 where
   pub kept : Bool
   pub more : Option KeyCommand
+  pub more_is : IfSome more (λ command. ((kept ≡ false) × (pending ≡ Some command)) ⊎ own kept command)
   pub fits : Applies (settled_table kept pending table) more
   pub spelled : IfSome more HasSpelling
   pub log : IsLogOf (commands ++ settled_commands kept pending) more bytes
+
+abbrev pub is_key_opening : KeyCommand → Bool
+is_key_opening (Opened opening) = true
+is_key_opening _ = false
+
+-- what may be written: nothing, and the record of an opening
+
+abbrev pub NoCommand : Bool → KeyCommand → Type 0
+NoCommand kept command = ⊥
+
+abbrev pub AKeyOpening : Bool → KeyCommand → Type 0
+AKeyOpening kept command = is_key_opening command ≡ true

@@ -2,6 +2,7 @@
 ghost use Rattle.std.specs.Prelude.{◌≡◌, ◌⊎◌, ◌+◌, ℕ, List, IfOk, IsErrOf, MatchResult, None, Option, Some, false, is_some, length, true};
 ghost use Rattle.hk_base.specs.Disk.{LeavesOnly, RunOn, Tells};
 ghost use Rattle.hk_base.specs.Faults.{Rose};
+ghost use Rattle.frame_log.specs.Stands.{LeavesFrom};
 ghost use Rattle.frame_log.specs.declared.fault.StartFault.TheVariants as start;
 ghost use Rattle.inode_tree.specs.Paths.{starts_reserved};
 ghost use Rattle.edit_ops.specs.declared.ops.EditOp.{EditOp};
@@ -72,6 +73,12 @@ impl Name {
         ensures any_moment { Tells (D.state disk.old) → LeavesOnly 1 (D.state disk.old) (D.state disk.new)
             (λ c. (D.state disk.old).leaves 1 c ⊎ IsLeftByStart ((D.state disk.old).reads 1) c) }
 
+        // Whatever the answer, since the first sync of the call it leaves the latter alone. Where that sync
+        // failed, nothing was written.
+        ensures since_sync { Tells (D.state disk.old) →
+            (IsErrOf result start.StoreFault × LeavesOnly 1 (D.state disk.old) (D.state disk.new) ((D.state disk.old).leaves 1))
+            ⊎ LeavesFrom 1 (D.state disk.old) (D.state disk.new) (IsLeftByStart ((D.state disk.old).reads 1)) }
+
         ensures run { RunOn 1 (D.state disk.old) (D.state disk.new) }
         ensures cause { IsErrOf result start.StoreFault → Rose (D.state disk.old).faults (D.state disk.new).faults }
     {
@@ -94,6 +101,9 @@ impl Name {
             × IsNameLog ((D.state disk.old).reads 1) ops made × (made.table.opening ≡ 4294967295)) }
         ensures any_moment { Tells (D.state disk.old) → LeavesOnly 1 (D.state disk.old) (D.state disk.new)
             (λ c. (D.state disk.old).leaves 1 c ⊎ IsLeftByStart ((D.state disk.old).reads 1) c) }
+        ensures since_sync { Tells (D.state disk.old) →
+            (IsErrOf result start.StoreFault × LeavesOnly 1 (D.state disk.old) (D.state disk.new) ((D.state disk.old).leaves 1))
+            ⊎ LeavesFrom 1 (D.state disk.old) (D.state disk.new) (IsLeftByStart ((D.state disk.old).reads 1)) }
         ensures run { RunOn 1 (D.state disk.old) (D.state disk.new) }
         ensures cause { IsErrOf result start.StoreFault → Rose (D.state disk.old).faults (D.state disk.new).faults }
     {

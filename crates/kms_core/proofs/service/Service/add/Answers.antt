@@ -21,7 +21,7 @@ returns-in-Err-NoMemory g c =
     let may : applies c.self.inside.store.table.keys command ≡ true = search rules in
     let k : Committed D0 D1 c.self.inside.store command = record { may = may; moments = c.commit.ensures.any_moment; run = c.commit.ensures.run } in
     subst (λ (x : Running). Commits D0 D1 x (created (keys_of x) c.args.now c.args.name c.args.bits c.args.description c.args.material 0) _ t) c.self.view_is
-    (commit_wanting D0 D1 r t _ command _ refl refl (c.commit.ensures.memory (c.in-Err-NoMemory.is ∙ ap Err c.in-Err-NoMemory.field-0-is)).0 (c.commit.ensures.memory (c.in-Err-NoMemory.is ∙ ap Err c.in-Err-NoMemory.field-0-is)).2 k (c.in-Err-NoMemory.ensures.refused))
+    (commit_wanting D0 D1 r t _ command _ of_deed refl refl (c.commit.ensures.memory (c.in-Err-NoMemory.is ∙ ap Err c.in-Err-NoMemory.field-0-is)).0 (c.commit.ensures.memory (c.in-Err-NoMemory.is ∙ ap Err c.in-Err-NoMemory.field-0-is)).2 k (c.in-Err-NoMemory.ensures.refused))
 
 pub returns-in-Err-StoreFault : goal.returns-in-Err-StoreFault
 returns-in-Err-StoreFault g c =

@@ -23,7 +23,7 @@ returns g c =
     let k : Committed D0 D1 c.self.inside.store command = record { may = may; moments = c.commit.ensures.any_moment; run = c.commit.ensures.run } in
     subst (λ (x : Running). Commits D0 D1 x (rolled (keys_of x) c.args.name (row_of (keys_of x) c.args.name) c.args.material 0) c.match-commit.result t) c.self.view_is
     (elim c.match-commit.branch [
-      | in-Err-NoMemory w ↦ commit_wanting D0 D1 r t _ command _ refl w.result-is (c.commit.ensures.memory (w.in-Err-NoMemory.is ∙ ap Err w.in-Err-NoMemory.field-0-is)).0 (c.commit.ensures.memory (w.in-Err-NoMemory.is ∙ ap Err w.in-Err-NoMemory.field-0-is)).2 k w.in-Err-NoMemory.ensures.refused
+      | in-Err-NoMemory w ↦ commit_wanting D0 D1 r t _ command _ of_deed refl w.result-is (c.commit.ensures.memory (w.in-Err-NoMemory.is ∙ ap Err w.in-Err-NoMemory.field-0-is)).0 (c.commit.ensures.memory (w.in-Err-NoMemory.is ∙ ap Err w.in-Err-NoMemory.field-0-is)).2 k w.in-Err-NoMemory.ensures.refused
       | in-Err-StoreFault w ↦
           commit_failed D0 D1 r t _ command _ of_deed refl w.result-is (c.commit.ensures.pending (w.in-Err-StoreFault.is ∙ ap Err w.in-Err-StoreFault.field-0-is)).0 (c.commit.ensures.pending (w.in-Err-StoreFault.is ∙ ap Err w.in-Err-StoreFault.field-0-is)).1
           (c.commit.ensures.cause (w.in-Err-StoreFault.is ∙ ap Err w.in-Err-StoreFault.field-0-is)) k w.in-Err-StoreFault.ensures.refused
