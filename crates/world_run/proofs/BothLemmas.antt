@@ -7,7 +7,7 @@ use Rattle.key_rows.specs.Records.{spelling}
 use Rattle.key_rows.specs.declared.rows.KeyCommand.{KeyCommand}
 use Rattle.edit_ops.specs.Records.{spelling as op_spelling}
 use Rattle.edit_ops.specs.declared.ops.EditOp.{EditOp}
-use Rattle.kms_store.specs.Store.{StandsFor, StoreState}
+use Rattle.kms_store.specs.Store.{IsLeftOf, NoCommand, StandsFor, StoreState}
 use Rattle.name_store.specs.Store.{IsLeftOf as IsLeftOfNames, NothingMore, made_with}
 use Rattle.name_core.specs.State.{RunningNames, StandsFor as NamesStandFor}
 use Rattle.world_run.specs.Acknowledged.{Acknowledged, HoldsLogs, LeavesBoth, RunBoth, also}
@@ -15,8 +15,8 @@ use Rattle.world_run.specs.Does.{OnKeys, OnNames}
 use Rattle.world_run.specs.Linked.{ServicesFit}
 use Rattle.world_run.specs.World.{RunningWorld, world_of}
 use Rattle.world_run.proofs.Laters.{may-wait}
-use Rattle.world_run.specs.Own.{IsLeftOfKeys, NoCommand}
-use Rattle.world_run.proofs.KeyLemmas.{keys-at-rest, keys-weaker}
+use Rattle.kms_store.proofs.Layers.{left_by_store}
+use Rattle.world_run.proofs.KeyLemmas.{keys-weaker}
 use Rattle.world_run.proofs.StepLemmas.{own-weaker}
 use Rattle.name_store.proofs.Layers.{left_by_store as left_by_names}
 
@@ -62,7 +62,7 @@ leaves-weaker old new P Q f moments = record { before = λ t c le left. ⊎_elim
 
 -- what a crash may leave of both logs, these being acknowledged; `own_keys` and `own` say what may be written behind each settled log
 pub record IsLeftOfBoth (r : RunningWorld) (own_keys : Bool → KeyCommand → Type 0) (own : Bool → EditOp → Type 0) (done : Acknowledged) (used : List ℕ) (c : Image) : Type 0 where
-  pub keys : IsLeftOfKeys r.keys.store.table.keys r.keys.store.pending own_keys done.keys (c 0)
+  pub keys : IsLeftOf r.keys.store.table.keys r.keys.store.pending own_keys done.keys (c 0)
   pub names : IsLeftOfNames (made_with r.names.store used) r.names.store.log.pending own done.names (c 1)
 
 abbrev pub LeavesLogs : DiskState → DiskState → RunningWorld → (Bool → KeyCommand → Type 0) → (Bool → EditOp → Type 0) → Type 0
@@ -71,19 +71,19 @@ LeavesLogs old new r own_keys own = (done : Acknowledged) (s : HoldsLogs old r d
 -- of the file that an event doesn't work on a crash leaves what it might have left before
 
 pub keys-now : (d : DiskState) (r : RunningWorld) (own_keys : Bool → KeyCommand → Type 0) (done : Acknowledged) → r.keys.store.log.file ≡ 0 → ServicesFit (world_of r) → HoldsLogs d r done → (bytes : List ℕ) → d.leaves 0 bytes
-    → IsLeftOfKeys r.keys.store.table.keys r.keys.store.pending own_keys done.keys bytes
+    → IsLeftOf r.keys.store.table.keys r.keys.store.pending own_keys done.keys bytes
 keys-now d r own_keys done of_file fit s bytes left =
     keys-weaker NoCommand own_keys r.keys.store.table.keys r.keys.store.pending done.keys bytes (λ k c none. absurd none)
-    (keys-at-rest d r.keys.store done.keys of_file (may-wait r.keys.store.pending (world_of r).keys.keys fit.keys.waits) s.keys bytes left)
+    (left_by_store d r.keys.store done.keys of_file (may-wait r.keys.store.pending (world_of r).keys.keys fit.keys.waits) s.keys bytes left)
 
 pub names-now : (d : DiskState) (r : RunningWorld) (own : Bool → EditOp → Type 0) (done : Acknowledged) → r.names.store.log.log.file ≡ 1 → (s : HoldsLogs d r done) → (bytes : List ℕ) → d.leaves 1 bytes
     → IsLeftOfNames (made_with r.names.store s.names.used) r.names.store.log.pending own done.names bytes
 names-now d r own done of_file s bytes left = own-weaker NothingMore own r.names s.names.used done.names bytes (λ k op none. absurd none) (left_by_names d r.names.store s.names.used done.names of_file s.names.store bytes left)
 
 pub on-keys-leaves : (old new : DiskState) (r : RunningWorld) (own_keys : Bool → KeyCommand → Type 0) (own : Bool → EditOp → Type 0) → r.names.store.log.log.file ≡ 1
-    → ((commands : List KeyCommand) → StandsFor old r.keys.store commands → LeavesOnly 0 old new (IsLeftOfKeys r.keys.store.table.keys r.keys.store.pending own_keys commands)) → LeavesLogs old new r own_keys own
+    → ((commands : List KeyCommand) → StandsFor old r.keys.store commands → LeavesOnly 0 old new (IsLeftOf r.keys.store.table.keys r.keys.store.pending own_keys commands)) → LeavesLogs old new r own_keys own
 on-keys-leaves old new r own_keys own of_file moments done s =
-    leaves-keys old new (IsLeftOfKeys r.keys.store.table.keys r.keys.store.pending own_keys done.keys) (IsLeftOfBoth r own_keys own done s.names.used)
+    leaves-keys old new (IsLeftOf r.keys.store.table.keys r.keys.store.pending own_keys done.keys) (IsLeftOfBoth r own_keys own done s.names.used)
     (λ c here other. record { keys = here; names = names-now old r own done of_file s (c 1) other }) (moments done.keys s.keys)
 
 pub on-names-leaves : (old new : DiskState) (r : RunningWorld) (own_keys : Bool → KeyCommand → Type 0) (own : Bool → EditOp → Type 0) → r.keys.store.log.file ≡ 0 → ServicesFit (world_of r)

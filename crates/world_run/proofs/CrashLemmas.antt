@@ -11,7 +11,8 @@ use Rattle.key_rows.specs.declared.rows.KeyCommand.{KeyCommand}
 use Rattle.prop_text.specs.declared.lines.PropLine.{PropLine}
 use Rattle.kms_acls.specs.StandsFor.{StandsFor as ListsFor}
 use Rattle.kms_core.specs.State.{settled}
-use Rattle.kms_store.specs.Store.{IsSoundLog, settled_commands}
+use Rattle.kms_store.specs.Replay.{HasRoomForBirths}
+use Rattle.kms_store.specs.Store.{IsSoundLog, NoCommand, settled_commands, settled_table}
 use Rattle.kms_store.proofs.Layers.{sound_left}
 use Rattle.name_store.specs.Store.{IsSoundLog as IsSoundNames, NothingMore, made_with}
 use Rattle.name_store.specs.Table.{after_table, settled_log, settled_ops}
@@ -27,7 +28,7 @@ use Rattle.world_run.specs.declared.event.WorldFault.{WorldFault}
 use Rattle.world_run.specs.declared.kept.KeptReply.{KeptReply}
 use Rattle.world_run.specs.Acknowledged.{Acknowledged, HoldsLogs, Survives}
 use Rattle.world_run.specs.Does.{Happens}
-use Rattle.world_run.specs.Own.{NoCommand, OwnKeysOfEvent, OwnOfEvent, OwnOfPath, OwnOfReply}
+use Rattle.world_run.specs.Own.{OwnKeysOfEvent, OwnOfEvent, OwnOfPath, OwnOfReply}
 use Rattle.world_run.specs.Keeps.{Fails, KnowsWorld, SoundNow, SoundThrough, Steps, SurvivesNow, SurvivesThrough}
 use Rattle.world_run.specs.Ledger.{Hidden, Ledger, hidden_after}
 use Rattle.world_run.specs.Linked.{FilesLinked, LinkedWorld, ServicesFit, SoundFiles}
@@ -35,16 +36,16 @@ use Rattle.world_run.specs.Step.{FinishReply, Step, delete_with, finish_line}
 use Rattle.world_run.specs.World.{RunningWorld, WorldState, numbered, world_of}
 use Rattle.world_run.proofs.BothLemmas.{IsLeftOfBoth, LeavesLogs, keys-now, leaves-weaker, names-now, one-holds, one-leaves, one-runs}
 use Rattle.world_run.proofs.KeepLemmas.{keeps-linked, linked-promise}
-use Rattle.world_run.proofs.Laters.{may-wait}
+use Rattle.world_run.proofs.Laters.{may-wait, room-found}
 use Rattle.world_run.proofs.SoundLemmas.{LinkedFiles, OwnLinks, event-files, own-of-call, own-of-finish, own-of-nothing, own-of-opening, tables-through, world-files}
 use Rattle.name_store.proofs.Layers.{sound_left as sound_names_left}
 
 -- the logs that are left
 
 keys-left : (d : DiskState) (r : RunningWorld) (own_keys : Bool → KeyCommand → Type 0) (own : Bool → EditOp → Type 0) (done : Acknowledged) (s : HoldsLogs d r done) → ServicesFit (world_of r) → (c : Image) → (left : IsLeftOfBoth r own_keys own done s.names.used c)
-    → IsSoundLog (c 0) (done.keys ++ settled_commands left.keys.left.kept r.keys.store.pending) left.keys.left.more (settled left.keys.left.kept (world_of r).keys).table
+    → IsSoundLog (c 0) (done.keys ++ settled_commands left.keys.kept r.keys.store.pending) left.keys.more (settled left.keys.kept (world_of r).keys).table
 keys-left d r own_keys own done s fit c left =
-    sound_left r.keys.store.table.keys r.keys.store.pending done.keys (c 0) s.keys.spelled s.keys.waits s.keys.makes (may-wait r.keys.store.pending (world_of r).keys.keys fit.keys.waits) left.keys.left
+    sound_left r.keys.store.table.keys r.keys.store.pending own_keys done.keys (c 0) s.keys.spelled s.keys.waits s.keys.makes (may-wait r.keys.store.pending (world_of r).keys.keys fit.keys.waits) left.keys
 
 names-left : (d : DiskState) (r : RunningWorld) (own_keys : Bool → KeyCommand → Type 0) (own : Bool → EditOp → Type 0) (done : Acknowledged) (s : HoldsLogs d r done) → (c : Image) → (left : IsLeftOfBoth r own_keys own done s.names.used c)
     → IsSoundNames (c 1) (done.names ++ settled_ops left.names.kept r.names.store.log.pending) left.names.more (settled_log left.names.kept r.names.store.log.pending (made_with r.names.store s.names.used))
@@ -54,7 +55,7 @@ names-left d r own_keys own done s c left =
 survives-left : (d : DiskState) (r : RunningWorld) (own_keys : Bool → KeyCommand → Type 0) (own : Bool → EditOp → Type 0) (done : Acknowledged) (s : HoldsLogs d r done) → ServicesFit (world_of r) → (c : Image)
     → IsLeftOfBoth r own_keys own done s.names.used c → Survives (world_of r) done own_keys own c
 survives-left d r own_keys own done s fit c left = record {
-  keys = record { kept = left.keys.left.kept; more = left.keys.left.more; more_is = left.keys.more_is; log = keys-left d r own_keys own done s fit c left };
+  keys = record { kept = left.keys.kept; more = left.keys.more; more_is = left.keys.more_is; log = keys-left d r own_keys own done s fit c left };
   names = record { kept = left.names.kept; more = left.names.more; more_is = left.names.more_is; used = _; log = names-left d r own_keys own done s c left };
 }
 
@@ -77,17 +78,22 @@ survives-now d r keys_file names_file fit done s c image = survives-left d r NoC
 sound-left : (d : DiskState) (r : RunningWorld) (ledger : Ledger) (place : ℕ) (own_keys : Bool → KeyCommand → Type 0) (own : Bool → EditOp → Type 0) → LinkedFiles (world_of r) ledger place → OwnLinks (world_of r) ledger own → (done : Acknowledged) (s : HoldsLogs d r done)
     → ServicesFit (world_of r) → (c : Image) → IsLeftOfBoth r own_keys own done s.names.used c → SoundFiles ledger place c
 sound-left d r ledger place own_keys own files owns done s fit c left = record {
-  commands = done.keys ++ settled_commands left.keys.left.kept r.keys.store.pending;
-  more = left.keys.left.more;
-  table = (settled left.keys.left.kept (world_of r).keys).table;
+  commands = done.keys ++ settled_commands left.keys.kept r.keys.store.pending;
+  more = left.keys.more;
+  table = (settled left.keys.kept (world_of r).keys).table;
   ops = done.names ++ settled_ops left.names.kept r.names.store.log.pending;
   more_ops = left.names.more;
   made = settled_log left.names.kept r.names.store.log.pending (made_with r.names.store s.names.used);
   keys = keys-left d r own_keys own done s fit c left;
   names = names-left d r own_keys own done s c left;
   linked = λ found found_names.
-      tables-through (world_of r) ledger place own left.keys.left.kept found left.keys.left.more (made_with r.names.store s.names.used) done.names (c 1) fit left.keys.left.fits refl files owns left.names found_names;
+      tables-through (world_of r) ledger place own left.keys.kept found left.keys.more (made_with r.names.store s.names.used) done.names (c 1) fit left.keys.fits (room found) refl files owns left.names found_names;
 }
+  where
+    room : (found : Bool) → HasRoomForBirths (settled_table found left.keys.more (settled left.keys.kept (world_of r).keys).table)
+    room found =
+        room-found (done.keys ++ settled_commands left.keys.kept r.keys.store.pending) found left.keys.more (settled left.keys.kept (world_of r).keys).table
+        (keys-left d r own_keys own done s fit c left).makes left.keys.fits
 
 pub sound-through : (old new : DiskState) (r : RunningWorld) (h : Hidden) (own_keys : Bool → KeyCommand → Type 0) (own : Bool → EditOp → Type 0) → ServicesFit (world_of r) → LinkedFiles (world_of r) h.ledger h.place → OwnLinks (world_of r) h.ledger own → LeavesLogs old new r own_keys own
     → SoundThrough old new r h
@@ -167,7 +173,7 @@ steps lines old new r words now e told r' words' keys_file names_file fit keys_f
 }
   where
     own_keys : Bool → KeyCommand → Type 0
-    own_keys = OwnKeysOfEvent e
+    own_keys = OwnKeysOfEvent (world_of r) words now e
 
     own : Bool → EditOp → Type 0
     own = OwnOfEvent (world_of r) e told (world_of r')

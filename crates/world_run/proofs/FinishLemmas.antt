@@ -18,11 +18,11 @@ use Rattle.name_core.specs.Asks.{finish_causes, finish_op, is_other_key, is_othe
 use Rattle.name_core.specs.Calls.{first_cause, path_causes, to_be_made}
 use Rattle.name_core.specs.State.{IsNames, IsRising, NameService, next_id, settled}
 use Rattle.world_run.specs.declared.kept.KeptReply.{KeptReply}
-use Rattle.world_run.specs.World.{WorldState}
+use Rattle.world_run.specs.World.{WorldState, numbered}
 use Rattle.world_run.specs.Ledger.{Draw, Hidden, Ledger, entered, entry_of, makes_file}
 use Rattle.world_run.specs.Promise.{In}
-use Rattle.world_run.specs.Linked.{DrawsFit, FilesLinked, HasDraw, IsDrawn, KeyLinked, LedgerFits, LinkedWorld, Replied, RepliesLinked}
-use Rattle.world_run.proofs.Members.{in-append, in-left, in-right, numbered-in}
+use Rattle.world_run.specs.Linked.{DrawsFit, FilesLinked, HasDraw, IsDrawn, IsOldBirth, KeyLinked, LedgerFits, LinkedWorld, Replied, RepliesLinked}
+use Rattle.world_run.proofs.Members.{in-append, in-left, in-right, numbered-in, some-is}
 use Rattle.world_run.proofs.RowsAfter.{OpFits, OpHasDraw}
 
 -- open asks
@@ -87,6 +87,10 @@ same-draw o d f h k = go (sym h ∙ k)
     go : Some d ≡ Some f → d ≡ f
     go e = cc
 
+-- a draw is of one kept reply
+one-kept : (keys : List KeyRow) (replies : List KeptReply) (replied : List (Option Draw)) (r q : KeptReply) (d : Draw) → RepliesLinked keys replies replied → Replied replies replied r (Some d) → Replied replies replied q (Some d) → r ≡ q
+one-kept keys replies replied r q d l at other = some-is r q (sym at.1 ∙ ap (numbered replies) (l.one_reply at.0 other.0 d at.2 other.2) ∙ other.1)
+
 pub entered-ledger : (enter : Bool) (ledger : Ledger) (keys : List KeyRow) (replies : List KeptReply) (replied : List (Option Draw)) (asks : List OpenAsk) (a : OpenAsk) (kept : KeptReply) (o : Option Draw) (next : ℕ)
     → In a asks → a.id ≡ kept.id → a.id < next → IsRising asks → Replied replies replied kept o → RepliesLinked keys replies replied
     → LedgerFits ledger replies replied asks next → LedgerFits (with_entry enter kept o ledger) replies replied (without asks a.id) next
@@ -119,16 +123,16 @@ entered-ledger enter ledger keys replies replied asks a kept o next member same 
       ];
       its_ask = λ id r d i r_at. elim (in-entry enter ledger kept o id d i) [
         | inl old ↦ g.its_ask id r d old r_at
-        | inr new ↦ l.one_ask r kept d r_at (replied-as new.1) ∙ sym new.0
+        | inr new ↦ ap (λ (x : KeptReply). x.id) (one-kept keys replies replied r kept d l r_at (replied-as new.1)) ∙ sym new.0
       ];
     }
   where
     replied-as : {d : Draw} → o ≡ Some d → Replied replies replied kept (Some d)
     replied-as {d = d} is = subst (λ (x : Option Draw). Replied replies replied kept x) is at
 
-entered-draws : (enter : Bool) (ledger : Ledger) (replies : List KeptReply) (replied : List (Option Draw)) (kept : KeptReply) (o : Option Draw) (place greatest : ℕ) → Replied replies replied kept o
-    → DrawsFit ledger replied place greatest → DrawsFit (with_entry enter kept o ledger) replied place greatest
-entered-draws enter ledger replies replied kept o place greatest at f =
+entered-draws : (enter : Bool) (ledger : Ledger) (replies : List KeptReply) (replied : List (Option Draw)) (kept : KeptReply) (o : Option Draw) (place : ℕ) (IsBirth : ℕ → Type 0) → Replied replies replied kept o
+    → DrawsFit ledger replied place IsBirth → DrawsFit (with_entry enter kept o ledger) replied place IsBirth
+entered-draws enter ledger replies replied kept o place IsBirth at f =
     record { taken = λ d i. f.taken d (was d i); born = λ d i. f.born d (was d i); apart = λ d g i j. f.apart d g (was d i) (was g j) }
   where
     was : (d : Draw) → IsDrawn (with_entry enter kept o ledger) replied d → IsDrawn ledger replied d
@@ -223,7 +227,7 @@ linked-finished w h enter a kept o names fit answered asks next files l =
     record {
       files = files;
       replies = l.replies;
-      draws = entered-draws enter h.ledger w.kept.replies h.replied kept o h.place w.keys.keys.table.greatest answered.at l.draws;
+      draws = entered-draws enter h.ledger w.kept.replies h.replied kept o h.place (IsOldBirth w.keys.keys.table) answered.at l.draws;
       ledger = subst (λ (open_asks : List OpenAsk). LedgerFits (with_entry enter kept o h.ledger) w.kept.replies h.replied open_asks (next_id names.names)) (sym asks)
           (subst (λ (n : ℕ). LedgerFits (with_entry enter kept o h.ledger) w.kept.replies h.replied (without w.names.names.asks a.id) n) (sym next)
           (entered-ledger enter h.ledger w.keys.keys.table.rows w.kept.replies h.replied w.names.names.asks a kept o (next_id w.names.names) member.0 member.1 low fit.ids.rising answered.at l.replies l.ledger));

@@ -55,7 +55,7 @@ use Rattle.world_run.specs.Step.{AskAt, DrawActs, FinishReply, PathActs, Step, W
 use Rattle.world_run.specs.Keeps.{KnowsWorld}
 use Rattle.world_run.specs.Ledger.{Draw, Hidden, Ledger, behind_words, draw_noted, draw_of, draw_told, entered, enters, entry_of, hidden_after, id_of_reply, makes_file}
 use Rattle.world_run.specs.Promise.{FilesOpen, In, ZoneFilesOpen}
-use Rattle.world_run.specs.Linked.{DrawsFit, FilesLinked, KeyLinked, LedgerFits, LinkedTables, LinkedWorld, ServicesFit, given}
+use Rattle.world_run.specs.Linked.{DrawsFit, FilesLinked, IsOldBirth, IsRecordedBirth, KeyLinked, LedgerFits, LinkedTables, LinkedWorld, ServicesFit, given}
 use Rattle.world_run.proofs.DrawLemmas.{OneDrawn, fresh-key, generate-one, meta-answers, opens-among, words-of-draw}
 use Rattle.world_run.proofs.FinishLemmas.{Answered, entered-files, entered_in, finish-drawn, finish-fits, linked-finished, linked-unentered, open-in, with_entry}
 use Rattle.world_run.proofs.Laters.{same-later, user-later}
@@ -388,9 +388,9 @@ keeps-linked lines w words now (event.Finish number) fault tells told drawn logg
 
 -- the promise
 
-files-open : (ledger : Ledger) (replied : List (Option Draw)) (place greatest : ℕ) (keys : List KeyRow) (rows : List Entry) (replies : List KeptReply) (asks : List OpenAsk) (next : ℕ) → NamesOnce keys → FilesLinked ledger keys rows
-    → DrawsFit ledger replied place greatest → LedgerFits ledger replies replied asks next → FilesOpen ledger keys rows
-files-open ledger replied place greatest keys rows replies asks next once f draws fits =
+files-open : (ledger : Ledger) (replied : List (Option Draw)) (place : ℕ) (IsBirth : ℕ → Type 0) (keys : List KeyRow) (rows : List Entry) (replies : List KeptReply) (asks : List OpenAsk) (next : ℕ) → NamesOnce keys → FilesLinked ledger keys rows
+    → DrawsFit ledger replied place IsBirth → LedgerFits ledger replies replied asks next → FilesOpen ledger keys rows
+files-open ledger replied place IsBirth keys rows replies asks next once f draws fits =
     record {
       open_up = λ x e i is.
           let d = f.files x e i is in
@@ -410,8 +410,8 @@ unsettled (Some waiting) t = refl
 
 pub linked-promise : (w : WorldState) (h : Hidden) → NamesOnce w.keys.keys.table.rows → LinkedWorld w h → ZoneFilesOpen w h
 linked-promise w h once l =
-    files-open h.ledger h.replied h.place w.keys.keys.table.greatest w.keys.keys.table.rows w.names.names.table.rows w.kept.replies w.names.names.asks (next_id w.names.names) once
+    files-open h.ledger h.replied h.place (IsOldBirth w.keys.keys.table) w.keys.keys.table.rows w.names.names.table.rows w.kept.replies w.names.names.asks (next_id w.names.names) once
     (subst (λ (t : NameTable). FilesLinked h.ledger w.keys.keys.table.rows t.rows) (unsettled w.names.pending w.names.names.table) (l.files false)) l.draws l.ledger
 
 pub tables-open : (ledger : Ledger) (place : ℕ) (keys : Table) (names : NameTable) → NamesOnce keys.rows → LinkedTables ledger place keys names → FilesOpen ledger keys.rows names.rows
-tables-open ledger place keys names once l = files-open ledger [] place keys.greatest keys.rows names.rows [] [] ((names.opening + 1) * 2 ^ 32) once l.files l.draws l.fits
+tables-open ledger place keys names once l = files-open ledger [] place (IsRecordedBirth keys) keys.rows names.rows [] [] ((names.opening + 1) * 2 ^ 32) once l.files l.draws l.fits

@@ -1,10 +1,10 @@
 -- What opens under a table of keys opens under a later one.
-use Rattle.std.proofs.Common.{◌≡◌, inl, inr, ℕ, zero, suc, ◌<◌, ◌≤◌, ◌/◌, ◌==◌, Bool, true, false, cond, List, [], ◌∷◌, ◌++◌, length, Option, Some, None, is_none, slice_get, refl, sym, ap, subst, ◌∙◌, arith}
+use Rattle.std.proofs.Common.{◌≡◌, ◌⊎◌, inl, inr, ℕ, zero, suc, ◌+◌, ◌*◌, ◌^◌, ◌<◌, ◌≤◌, ◌/◌, ◌==◌, Bool, true, false, cond, List, [], ◌∷◌, ◌++◌, length, Option, Some, None, is_none, slice_get, refl, sym, ap, subst, ◌∙◌, arith}
 use Rattle.std.specs.Prelude.{⊤, not, ◌&&◌, nat_lt, IfSome, Result, Ok, Err}
 use Rattle.std.specs.List.{filter}
 use Rattle.std.specs.Option.{option_map, option_and_then}
 use Rattle.std.specs.Str.{bytes_eq}
-use Rattle.std.proofs.lemmas.Bool.Decides.{nat_tests}
+use Rattle.std.proofs.lemmas.Bool.Decides.{Decides-eqb, nat_tests}
 use Rattle.hk_base.specs.declared.names.Dek.{Dek}
 use Rattle.hk_base.specs.declared.names.Edek.{Edek}
 use Rattle.hk_base.specs.declared.texts.Text.{Text}
@@ -16,14 +16,16 @@ use Rattle.key_rows.specs.declared.calls.KmsCall.TheVariants as call
 use Rattle.key_rows.specs.declared.calls.KmsRefusal.{KmsRefusal}
 use Rattle.key_rows.specs.declared.calls.KmsReply.{KmsReply}
 use Rattle.key_rows.specs.Sound.{IsTable, NamesOnce}
-use Rattle.key_rows.specs.Table.{Table, after, applies, find_name, is_born, is_length, material_of, opening_of, rolled, with_material}
+use Rattle.key_rows.specs.Table.{Table, after, applies, find_name, is_born, is_length, material_of, no_keys, opening_of, rolled, with_material}
 use Rattle.key_rows.proofs.Births.{both}
 use Rattle.key_rows.proofs.TableLemmas.{sound_create, sound_delete, sound_roll}
 use Rattle.prop_text.specs.declared.lines.PropLine.{PropLine}
 use Rattle.kms_acls.specs.declared.answers.Denied.{Denied}
 use Rattle.kms_acls.specs.declared.answers.Shown.{Shown}
 use Rattle.kms_acls.specs.Verdict.{verdict}
+use Rattle.kms_store.specs.Replay.{HasRoomForBirths, key_replay}
 use Rattle.kms_store.specs.Store.{Applies, next_opening, settled_table}
+use Rattle.kms_store.proofs.Replays.{births_after}
 use Rattle.kms_core.specs.Draws.{material_for}
 use Rattle.kms_core.specs.Calls.{KmsActs, NoRoom, Plain, birth_of, bits_of, causes, deed, done_with, first_cause, row_of, unless_refused, versions_of}
 use Rattle.kms_core.specs.Opening.{unseals}
@@ -32,7 +34,7 @@ use Rattle.kms_core.specs.Service.{Serves, ServesBy, is_change}
 use Rattle.kms_core.specs.State.{IsPending, IsService, KmsState, ServiceState, next_birth, opened, settled}
 use Rattle.kms_core.proofs.BirthLemmas.{below_settled, deed_keeps}
 use Rattle.world_run.specs.Ledger.{Draw}
-use Rattle.world_run.specs.Linked.{KeyLinked, OpensTo}
+use Rattle.world_run.specs.Linked.{IsOldBirth, IsRecordedBirth, KeyLinked, OpensTo}
 use Rattle.world_run.specs.Promise.{In}
 use Rattle.world_run.proofs.Members.{in-map, in-more}
 
@@ -110,45 +112,64 @@ later-still olds mids rows b first next row p h =
     let r = first q.0 q.1 q.2 in
     (r.0, r.1, r.2, λ e dek o. q.3 e dek (r.3 e dek o))
 
--- what opens under keys of births that were used opens alike under a later table
+-- what opens under keys of old births opens alike under a later table, and the births are old there too
 pub record KeysLater (t u : Table) : Type 0 where
-  pub rows : (b : ℕ) → b ≤ t.greatest → LaterAt t.rows u.rows b
-  pub births : t.greatest ≤ u.greatest
+  pub rows : (b : ℕ) → IsOldBirth t b → LaterAt t.rows u.rows b
+  pub births : (b : ℕ) → IsOldBirth t b → IsOldBirth u b
 
 pub same-later : (t : Table) → KeysLater t t
-same-later t = record { rows = λ b h. later-same t.rows b; births = omega arith }
+same-later t = record { rows = λ b h. later-same t.rows b; births = λ b h. h }
 
 pub then-later : (t u v : Table) → KeysLater t u → KeysLater u v → KeysLater t v
 then-later t u v a z = record {
-  rows = λ b h. later-still t.rows u.rows v.rows b (a.rows b h) (let g = a.births in z.rows b (omega (arith, h, g)));
-  births = let g = a.births in let k = z.births in omega (arith, g, k);
+  rows = λ b h. later-still t.rows u.rows v.rows b (a.rows b h) (z.rows b (a.births b h));
+  births = λ b h. z.births b (a.births b h);
 }
 
--- a command that makes no key, or one of a new birth
+-- a later opening, a key of a new birth of this opening, or a command that makes neither
 abbrev MakesNew : Table → KeyCommand → Type 0
-MakesNew t (Create birth name bits description created material) = t.greatest < birth
+MakesNew t (Opened opening) = t.opening ≤ opening
+MakesNew t (Create birth name bits description created material) = (t.opening * 2 ^ 32 ≤ birth) × (t.greatest < birth)
 MakesNew t _ = ⊤
 
-unlike : (a b greatest : ℕ) → greatest < a → b ≤ greatest → a ≡ b → ⊥
-unlike a b greatest new used e = absurd (omega (arith, new, used, e))
+old-before : (old opening b : ℕ) → old ≤ opening → b < old * 2 ^ 32 → b < opening * 2 ^ 32
+old-before old opening b over h = omega (arith, over, h)
+
+unlike : (opening greatest a b : ℕ) → opening * 2 ^ 32 ≤ a → greatest < a → (b < opening * 2 ^ 32) ⊎ (b ≤ greatest) → a ≡ b → ⊥
+unlike opening greatest a b here new (inl before) e = absurd (omega (arith, here, before, e))
+unlike opening greatest a b here new (inr used) e = absurd (omega (arith, new, used, e))
+
+old-after : (t : Table) (c : KeyCommand) → MakesNew t c → (b : ℕ) → IsOldBirth t b → IsOldBirth (after t c) b
+old-after t (Opened opening) new b (inl before) = inl (old-before t.opening opening b new before)
+old-after t (Opened opening) new b (inr used) = inr used
+old-after t (Create birth name bits description created material) new b (inl before) = inl before
+old-after t (Create birth name bits description created material) new b (inr used) = let over = new.1 in inr (omega (arith, over, used))
+old-after t (Roll birth number material) new b old = old
+old-after t (Delete birth) new b old = old
 
 later-by : (t : Table) (c : KeyCommand) → MakesNew t c → KeysLater t (after t c)
-later-by t (Opened opening) new = record { rows = λ b h. later-after t (Opened opening) b tt; births = omega arith }
+later-by t (Opened opening) new = record { rows = λ b h. later-after t (Opened opening) b tt; births = old-after t (Opened opening) new }
 later-by t (Create birth name bits description created material) new = record {
-  rows = λ b h. later-after t (Create birth name bits description created material) b (unlike birth b t.greatest new h);
-  births = omega (arith, new);
+  rows = λ b h. later-after t (Create birth name bits description created material) b (unlike t.opening t.greatest birth b new.0 new.1 h);
+  births = old-after t (Create birth name bits description created material) new;
 }
-later-by t (Roll birth number material) new = record { rows = λ b h. later-after t (Roll birth number material) b tt; births = omega arith }
-later-by t (Delete birth) new = record { rows = λ b h. later-after t (Delete birth) b tt; births = omega arith }
+later-by t (Roll birth number material) new = record { rows = λ b h. later-after t (Roll birth number material) b tt; births = λ b h. h }
+later-by t (Delete birth) new = record { rows = λ b h. later-after t (Delete birth) b tt; births = λ b h. h }
+
+-- an opening that applies is later
+pub next-rises : (old opening : ℕ) → (opening == old + 1) ≡ true → old ≤ opening
+next-rises old opening h = grind (arith, nat_tests)
 
 makes-new : (t : Table) (c : KeyCommand) → applies t c ≡ true → MakesNew t c
-makes-new t (Opened opening) may = tt
+makes-new t (Opened opening) may = next-rises t.opening opening may
 makes-new t (Create birth name bits description created material) may =
     let sized = both (nat_lt 0 t.opening && is_none (find_name t.rows name) && opening_of birth == t.opening && nat_lt t.greatest birth && nat_lt (length t.rows) 10000 && is_length bits) (length material == bits / 8) may in
     let long = both (nat_lt 0 t.opening && is_none (find_name t.rows name) && opening_of birth == t.opening && nat_lt t.greatest birth && nat_lt (length t.rows) 10000) (is_length bits) sized.0 in
     let few = both (nat_lt 0 t.opening && is_none (find_name t.rows name) && opening_of birth == t.opening && nat_lt t.greatest birth) (nat_lt (length t.rows) 10000) long.0 in
     let born = both (nat_lt 0 t.opening && is_none (find_name t.rows name) && opening_of birth == t.opening) (nat_lt t.greatest birth) few.0 in
-    let above = born.1 in grind (arith, nat_tests, above)
+    let here = both (nat_lt 0 t.opening && is_none (find_name t.rows name)) (opening_of birth == t.opening) born.0 in
+    let present : birth / 2 ^ 32 ≡ t.opening = (Decides-eqb (opening_of birth) t.opening).0 here.1 in
+    let above = born.1 in (omega (arith, present), grind (arith, nat_tests, above))
 makes-new t (Roll birth number material) may = tt
 makes-new t (Delete birth) may = tt
 
@@ -169,14 +190,41 @@ may-wait (Some c) s waits = waits.fits
 pub later-settled : (kept : Bool) (s : ServiceState) → IsService s → KeysLater s.keys.table (settled kept s).table
 later-settled kept s is = later-with kept s.pending s.keys.table (may-wait s.pending s.keys is.waits)
 
+-- births that the log of a table records
+
+pub recorded-more : (old opening b : ℕ) → old ≤ opening → b < (old + 1) * 2 ^ 32 → b < (opening + 1) * 2 ^ 32
+recorded-more old opening b over h = omega (arith, over, h)
+
+room-replayed : (t u : Table) (commands : List KeyCommand) → HasRoomForBirths t → key_replay t commands ≡ Some u → HasRoomForBirths u
+room-replayed t u [] room made = let same : t ≡ u = cc made in subst HasRoomForBirths same room
+room-replayed t u (c ∷ commands) room made = go (applies t c) refl (λ may. room-replayed (after t c) u commands (births_after t c may room)) made
+  where
+    go : (b : Bool) → applies t c ≡ b → (applies t c ≡ true → key_replay (after t c) commands ≡ Some u → HasRoomForBirths u) → cond b (key_replay (after t c) commands) None ≡ Some u → HasRoomForBirths u
+    go true may rest made = rest may made
+    go false may rest made = absurd (cc made)
+
+room-with : (found : Bool) (more : Option KeyCommand) (t : Table) → HasRoomForBirths t → Applies t more → HasRoomForBirths (settled_table found more t)
+room-with found None t room may = room
+room-with true (Some c) t room may = births_after t c may room
+room-with false (Some c) t room may = room
+
+-- the table of a log, with one command more or without it
+pub room-found : (commands : List KeyCommand) (found : Bool) (more : Option KeyCommand) (t : Table) → key_replay no_keys commands ≡ Some t → Applies t more → HasRoomForBirths (settled_table found more t)
+room-found commands found more t makes may = room-with found more t (room-replayed no_keys t commands (omega arith) makes) may
+
+-- old births are recorded there
+pub old-recorded : (t : Table) → HasRoomForBirths t → (b : ℕ) → IsOldBirth t b → IsRecordedBirth t b
+old-recorded t room b (inl before) = omega (arith, before)
+old-recorded t room b (inr used) = omega (arith, room, used)
+
 -- those that a start finds
 pub later-opened : (t : Table) → KeysLater t (opened t).keys.table
-later-opened t = later-by t (next_opening t) tt
+later-opened t = later-by t (next_opening t) (omega arith)
 
 -- what a call of the key management service leaves
 
 deed-later : (s : KmsState) (words : ℕ → ℕ) (now : ℕ) (c : KmsCall) → s.table.greatest < next_birth s → KeysLater s.table (done_with (deed s words now c).logs (deed s words now c).state).table
-deed-later s words now (call.Create name bits material description) below = later-by s.table (Create (next_birth s) name bits description now _) below
+deed-later s words now (call.Create name bits material description) below = later-by s.table (Create (next_birth s) name bits description now _) (omega arith, below)
 deed-later s words now (call.Roll name material) below = later-by s.table (Roll (birth_of (row_of s name)) (versions_of (row_of s name)) (material_for words (bits_of (row_of s name)) material)) tt
 deed-later s words now (call.Delete name) below = later-by s.table (Delete (birth_of (row_of s name))) tt
 deed-later s words now (call.Invalidate name) below = same-later s.table

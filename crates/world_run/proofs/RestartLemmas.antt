@@ -9,8 +9,8 @@ use Rattle.edit_ops.specs.declared.ops.EditOp.{EditOp}
 use Rattle.key_rows.specs.declared.rows.KeyCommand.{KeyCommand}
 use Rattle.key_rows.specs.Table.{Table}
 use Rattle.prop_text.specs.declared.lines.PropLine.{PropLine}
-use Rattle.kms_store.specs.Store.{Applies, IsDamagedAt, IsKeyLog, IsLeftByStart, IsSoundLog, StandsFor, next_opening, settled_commands}
-use Rattle.kms_store.proofs.Layers.{finds, not_damaged, sound_store, stands_once}
+use Rattle.kms_store.specs.Store.{AKeyOpening, Applies, IsDamagedAt, IsKeyLog, IsLeftByStart, IsLeftOf, IsSoundLog, NoCommand, StandsFor, next_opening, settled_commands}
+use Rattle.kms_store.proofs.Layers.{finds, left_by_start, left_by_store, not_damaged, sound_store, stands_once}
 use Rattle.kms_core.specs.Service.{Starts}
 use Rattle.kms_core.specs.Users.{RunningKms, running}
 use Rattle.name_store.specs.Store.{AnOpening, IsDamagedAt as IsDamagedName, IsLeftByStart as IsLeftByNameStart, IsLeftOf as IsLeftOfNames, IsNameLog, IsSoundLog as IsSoundNames, NothingMore, made_with}
@@ -23,12 +23,11 @@ use Rattle.world_run.specs.Acknowledged.{Acknowledged, HoldsLogs, of_keys, of_na
 use Rattle.world_run.specs.Does.{Happens}
 use Rattle.world_run.specs.Keeps.{Fails}
 use Rattle.world_run.specs.Linked.{ServicesFit}
-use Rattle.world_run.specs.Own.{AKeyOpening, IsLeftOfKeys, NoCommand}
 use Rattle.world_run.specs.Step.{Recovers, RecoversNames}
 use Rattle.world_run.specs.World.{RunningWorld, world_of}
 use Rattle.world_run.proofs.BothLemmas.{LeavesLogs, both-of, on-keys-leaves, on-names-leaves}
 use Rattle.world_run.proofs.CrashLemmas.{sound-through, survives-through}
-use Rattle.world_run.proofs.KeyLemmas.{keys-at-rest, keys-by-start, keys-weaker}
+use Rattle.world_run.proofs.KeyLemmas.{keys-weaker}
 use Rattle.world_run.proofs.Laters.{may-wait}
 use Rattle.world_run.proofs.SoundLemmas.{own-of-nothing, own-of-opening, world-files}
 use Rattle.world_run.proofs.StepLemmas.{own-weaker}
@@ -44,12 +43,12 @@ may-be-kept w fit = may-wait w.keys.store.pending (world_of w).keys.keys fit.key
 
 -- a start leaves of the log of a service what a crash may leave of it
 keys-left-by-restart : (old new : DiskState) (w : RunningWorld) → w.keys.store.log.file ≡ 0 → ServicesFit (world_of w) → (Tells old → LeavesOnly 0 old new (λ c. old.leaves 0 c ⊎ IsLeftByStart (old.reads 0) c))
-    → Tells old → (commands : List KeyCommand) → StandsFor old w.keys.store commands → LeavesOnly 0 old new (IsLeftOfKeys w.keys.store.table.keys w.keys.store.pending AKeyOpening commands)
+    → Tells old → (commands : List KeyCommand) → StandsFor old w.keys.store commands → LeavesOnly 0 old new (IsLeftOf w.keys.store.table.keys w.keys.store.pending AKeyOpening commands)
 keys-left-by-restart old new w of_file fit moments told commands s =
     let sound = sound_store old w.keys.store commands of_file (may-be-kept w fit) s in
     weaker (λ c left. ⊎_elim
-    (λ before. keys-weaker NoCommand AKeyOpening w.keys.store.table.keys w.keys.store.pending commands c (λ k command none. absurd none) (keys-at-rest old w.keys.store commands of_file (may-be-kept w fit) s c before))
-    (λ found. keys-by-start (old.reads 0) commands w.keys.store.pending w.keys.store.table.keys sound c found) left) (moments told)
+    (λ before. keys-weaker NoCommand AKeyOpening w.keys.store.table.keys w.keys.store.pending commands c (λ k command none. absurd none) (left_by_store old w.keys.store commands of_file (may-be-kept w fit) s c before))
+    (λ found. left_by_start (old.reads 0) commands w.keys.store.pending w.keys.store.table.keys sound c found) left) (moments told)
 
 -- what a start found beside the log of a service
 record KeysReopened (old new : DiskState) (w w' : RunningWorld) (table : Table) : Type 0 where

@@ -11,6 +11,7 @@ use Rattle.prop_text.specs.declared.lines.PropLine.{PropLine}
 use Rattle.edit_ops.specs.declared.ops.EditOp.{EditOp}
 use Rattle.edit_ops.specs.declared.ops.EditOp.TheVariants as op
 use Rattle.kms_core.specs.State.{settled}
+use Rattle.kms_store.specs.Replay.{HasRoomForBirths}
 use Rattle.kms_store.specs.Store.{Applies, settled_table}
 use Rattle.name_store.specs.Replay.{Applies as AppliesToNames}
 use Rattle.name_store.specs.Store.{AnOpening, IsLeftOf, NothingMore}
@@ -35,10 +36,10 @@ use Rattle.world_run.specs.Acknowledged.{Acknowledged}
 use Rattle.world_run.specs.World.{WorldState, numbered}
 use Rattle.world_run.specs.Step.{FinishReply, Step, finish_line}
 use Rattle.world_run.specs.Ledger.{Draw, Hidden, Ledger, enters, hidden_after, makes_file}
-use Rattle.world_run.specs.Linked.{DrawsFit, FilesLinked, IsDrawn, LedgerFits, LinkedTables, LinkedWorld, Replied, ServicesFit}
+use Rattle.world_run.specs.Linked.{DrawsFit, FilesLinked, IsDrawn, IsOldBirth, IsRecordedBirth, LedgerFits, LinkedTables, LinkedWorld, Replied, ServicesFit}
 use Rattle.world_run.proofs.FinishLemmas.{linked-unentered, with_entry}
 use Rattle.world_run.proofs.KeepLemmas.{closed-keeps, finish-files, finish-ledger}
-use Rattle.world_run.proofs.Laters.{KeysLater, later-settled, later-with}
+use Rattle.world_run.proofs.Laters.{KeysLater, later-settled, later-with, old-recorded, then-later}
 use Rattle.world_run.proofs.Members.{numbered-beside, some-is}
 use Rattle.world_run.proofs.RowsAfter.{files-after}
 use Rattle.world_run.proofs.WorldLemmas.{draws-later, files-later, opening-settled, rows-settled}
@@ -46,7 +47,7 @@ use Rattle.world_run.proofs.WorldLemmas.{draws-later, files-later, opening-settl
 -- what is linked with a ledger, whatever is kept: the files with and without the pending operation, and the ledger itself
 pub record LinkedFiles (w : WorldState) (ledger : Ledger) (place : ℕ) : Type 0 where
   pub files : (kept : Bool) → FilesLinked ledger w.keys.keys.table.rows (settled_names kept w.names).table.rows
-  pub draws : DrawsFit ledger [] place w.keys.keys.table.greatest
+  pub draws : DrawsFit ledger [] place (IsOldBirth w.keys.keys.table)
   pub fits : LedgerFits ledger [] [] [] (next_id w.names.names)
 
 pub none-replied : (r : KeptReply) (o : Option Draw) → Replied [] [] r o → ⊥
@@ -250,26 +251,13 @@ opening-left w own made ops bytes is fit left found =
 
 -- both tables
 
-later-tables : (ledger : Ledger) (place : ℕ) (keys later : Table) (names : NameTable) → KeysLater keys later → LinkedTables ledger place keys names → LinkedTables ledger place later names
-later-tables ledger place keys later names grew l = record {
-  files = files-later ledger [] place keys.greatest keys.rows later.rows names.rows l.draws grew.rows l.files;
-  draws = draws-later ledger [] place keys.greatest later.greatest grew.births l.draws;
-  fits = l.fits;
-}
-
--- the key log may have grown by a command that applies
-pub tables-later : (ledger : Ledger) (place : ℕ) (keys : Table) (names : NameTable) (found : Bool) (more : Option KeyCommand) → Applies keys more → LinkedTables ledger place keys names
-    → LinkedTables ledger place (settled_table found more keys) names
-tables-later ledger place keys names found more may l = later-tables ledger place keys (settled_table found more keys) names (later-with found more keys may) l
-
--- the keys with their pending command or without it, beside rows that are linked with the keys
-tables-of-files : (w : WorldState) (ledger : Ledger) (place : ℕ) (k : Bool) (names : NameTable) → ServicesFit w → LinkedFiles w ledger place → w.names.names.table.opening ≤ names.opening
-    → FilesLinked ledger w.keys.keys.table.rows names.rows → LinkedTables ledger place (settled k w.keys).table names
-tables-of-files w ledger place k names fit f rises files =
-    later-tables ledger place w.keys.keys.table (settled k w.keys).table names (later-settled k w.keys fit.keys) (
+-- the keys of a log, which grew from the world's, beside rows that are linked with the world's keys
+tables-of-files : (w : WorldState) (ledger : Ledger) (place : ℕ) (keys : Table) (names : NameTable) → ServicesFit w → KeysLater w.keys.keys.table keys → HasRoomForBirths keys
+    → LinkedFiles w ledger place → w.names.names.table.opening ≤ names.opening → FilesLinked ledger w.keys.keys.table.rows names.rows → LinkedTables ledger place keys names
+tables-of-files w ledger place keys names fit grew room f rises files =
     record {
-      files = files;
-      draws = f.draws;
+      files = files-later ledger [] place (IsOldBirth w.keys.keys.table) w.keys.keys.table.rows keys.rows names.rows f.draws grew.rows files;
+      draws = draws-later ledger [] place (IsOldBirth w.keys.keys.table) (IsRecordedBirth keys) (λ b old. old-recorded keys room b (grew.births b old)) f.draws;
       fits = record {
         one_draw = f.fits.one_draw;
         one_file = f.fits.one_file;
@@ -277,16 +265,16 @@ tables-of-files w ledger place k names fit f rises files =
         not_open = f.fits.not_open;
         its_ask = f.fits.its_ask;
       };
-    })
+    }
   where
     higher : (id old new next : ℕ) → id < old * 2 ^ 32 + next → next ≤ 2 ^ 32 → old ≤ new → id < (new + 1) * 2 ^ 32
     higher id old new next low few over = omega (arith, low, few, over)
 
 -- the tables that a start finds in what a crash leaves of both logs
 pub tables-through : (w : WorldState) (ledger : Ledger) (place : ℕ) (own : Bool → EditOp → Type 0) (k found : Bool) (more : Option KeyCommand) (made : Replayed) (ops : List EditOp) (bytes : List ℕ) → ServicesFit w → Applies (settled k w.keys).table more
-    → made.table ≡ w.names.names.table → LinkedFiles w ledger place → OwnLinks w ledger own → (left : IsLeftOf made w.names.pending own ops bytes) → (found_names : Bool)
+    → HasRoomForBirths (settled_table found more (settled k w.keys).table) → made.table ≡ w.names.names.table → LinkedFiles w ledger place → OwnLinks w ledger own → (left : IsLeftOf made w.names.pending own ops bytes) → (found_names : Bool)
     → LinkedTables ledger place (settled_table found more (settled k w.keys).table) (settled_log found_names left.more (settled_log left.kept w.names.pending made)).table
-tables-through w ledger place own k found more made ops bytes fit may is f links left found_names =
-    tables-later ledger place (settled k w.keys).table (settled_log found_names left.more (settled_log left.kept w.names.pending made)).table found more may
-    (tables-of-files w ledger place k (settled_log found_names left.more (settled_log left.kept w.names.pending made)).table fit f (opening-left w own made ops bytes is fit left found_names)
-    (files-left w ledger place own made ops bytes is f links left found_names))
+tables-through w ledger place own k found more made ops bytes fit may room is f links left found_names =
+    let grew = then-later w.keys.keys.table (settled k w.keys).table (settled_table found more (settled k w.keys).table) (later-settled k w.keys fit.keys) (later-with found more (settled k w.keys).table may) in
+    tables-of-files w ledger place (settled_table found more (settled k w.keys).table) (settled_log found_names left.more (settled_log left.kept w.names.pending made)).table fit grew room f
+    (opening-left w own made ops bytes is fit left found_names) (files-left w ledger place own made ops bytes is f links left found_names)

@@ -1,42 +1,47 @@
 -- A start of both services: what it finds in the two logs, and what a crash leaves meanwhile.
 use Rattle.std.proofs.Common.{◌≡◌, ◌⊎◌, inl, inr, ℕ, zero, suc, ◌+◌, ◌*◌, ◌^◌, ◌<◌, ◌≤◌, ◌==◌, ◌∙◌, Bool, true, false, List, [], ◌∷◌, ◌++◌, Option, Some, None, Ok, Err, refl, sym, ap, subst, ⊎_elim, arith}
-use Rattle.std.specs.Prelude.{⊤, ◌&&◌, IfSome}
+use Rattle.std.specs.Prelude.{⊤, ◌&&◌, IfSome, IsErrOf}
 use Rattle.std.specs.List.{AllByRecursion}
 use Rattle.std.specs.declared.result.Result.{Result}
 use Rattle.std.proofs.lemmas.Bool.Decides.{nat_tests}
 use Rattle.hk_base.specs.Disk.{DiskState, Image, IsImage, LeavesOnly, RunOn, Tells}
 use Rattle.hk_base.specs.Faults.{Rose}
 use Rattle.hk_base.proofs.Runs.{begin}
+use Rattle.frame_log.specs.Stands.{LeavesFrom}
 use Rattle.frame_log.specs.declared.fault.StartFault.{StartFault}
 use Rattle.frame_log.specs.declared.fault.StartFault.TheVariants as start
 use Rattle.edit_ops.specs.declared.ops.EditOp.{EditOp}
 use Rattle.edit_ops.specs.declared.ops.EditOp.TheVariants as op
 use Rattle.key_rows.specs.declared.rows.KeyCommand.{KeyCommand}
+use Rattle.key_rows.specs.declared.rows.KeyCommand.TheVariants.{Opened, Create, Roll, Delete}
 use Rattle.key_rows.specs.Records.{HasSpelling}
-use Rattle.key_rows.specs.Table.{Table}
+use Rattle.key_rows.specs.Table.{Table, after, applies}
 use Rattle.key_rows.proofs.Births.{both}
 use Rattle.prop_text.specs.declared.lines.PropLine.{PropLine}
 use Rattle.kms_acls.specs.StandsFor.{StandsFor as ListsFor}
-use Rattle.kms_store.specs.Store.{IsDamagedAt, IsKeyLog, IsLeftByStart, next_opening, settled_commands, settled_table}
+use Rattle.kms_store.specs.Store.{AKeyOpening, Applies, IsDamagedAt, IsKeyLog, IsLeftByStart, is_key_opening, next_opening, settled_commands, settled_table}
 use Rattle.kms_store.proofs.Layers.{finds, left_by_start, sound_left}
 use Rattle.kms_core.specs.Service.{Starts}
 use Rattle.kms_core.specs.State.{Running}
-use Rattle.kms_core.specs.Users.{running}
+use Rattle.kms_core.specs.Users.{RunningKms, running}
 use Rattle.name_store.specs.Store.{AnOpening, IsDamagedAt as IsDamagedName, IsLeftByStart as IsLeftByNameStart, IsNameLog, is_opening}
 use Rattle.name_store.specs.Table.{NameTable, Replayed, after_table, allows, is_fresh, settled_log, settled_ops}
 use Rattle.name_core.specs.Service.{Starts as NamesStart}
+use Rattle.name_core.specs.State.{RunningNames}
 use Rattle.world_run.specs.declared.event.WorldFault.{WorldFault}
 use Rattle.world_run.specs.Acknowledged.{LeavesBoth, RunBoth}
 use Rattle.world_run.specs.Keeps.{Begins, LeftByStarts}
 use Rattle.world_run.specs.Ledger.{Ledger, drawn_before}
-use Rattle.world_run.specs.Linked.{LinkedTables, LinkedWorld, ServicesFit, SoundFiles, StartsSound}
+use Rattle.world_run.specs.Linked.{IsOldBirth, IsRecordedBirth, LinkedTables, LinkedWorld, ServicesFit, SoundFiles, StartsSound}
 use Rattle.world_run.specs.Starts.{MayOpenKeys, StartHappens}
 use Rattle.world_run.specs.World.{RunningWorld, WorldState, first_world, world_of}
 use Rattle.world_run.proofs.BothLemmas.{both-of, keys-beside, leaves-keys, leaves-weaker}
 use Rattle.world_run.proofs.CrashLemmas.{sound-now, survives-now}
-use Rattle.world_run.proofs.SoundLemmas.{none-replied, tables-later}
+use Rattle.world_run.proofs.Laters.{next-rises, recorded-more}
+use Rattle.world_run.proofs.Members.{numbered-in}
+use Rattle.world_run.proofs.SoundLemmas.{none-replied}
 use Rattle.name_store.proofs.Layers.{finds as finds_names, left_by_start as names_left_by_start, sound_left as sound_names_left}
-use Rattle.world_run.proofs.WorldLemmas.{ledger-more}
+use Rattle.world_run.proofs.WorldLemmas.{draws-later, ledger-more}
 
 -- two files as an image
 
@@ -55,6 +60,33 @@ pair-sound ledger place c s = record { commands = s.commands; more = s.more; tab
 
 -- what a start leaves of one file, beside the other, is sound again
 
+-- a later opening of the key log
+key-opened-linked : (ledger : Ledger) (place : ℕ) (t : Table) (names : NameTable) (opening : ℕ) → t.opening ≤ opening → LinkedTables ledger place t names → LinkedTables ledger place (record t { opening = opening }) names
+key-opened-linked ledger place t names opening le l = record {
+  files = l.files;
+  draws = draws-later ledger [] place (IsRecordedBirth t) (IsRecordedBirth (record t { opening = opening })) (λ b h. recorded-more t.opening opening b le h) l.draws;
+  fits = l.fits;
+}
+
+next-key-linked : (ledger : Ledger) (place : ℕ) (t : Table) (names : NameTable) (c : KeyCommand) → is_key_opening c ≡ true → applies t c ≡ true → LinkedTables ledger place t names → LinkedTables ledger place (after t c) names
+next-key-linked ledger place t names (Opened opening) is may l = key-opened-linked ledger place t names opening (next-rises t.opening opening may) l
+next-key-linked ledger place t names (Create birth name bits description created material) is may l = absurd (cc is)
+next-key-linked ledger place t names (Roll birth number material) is may l = absurd (cc is)
+next-key-linked ledger place t names (Delete birth) is may l = absurd (cc is)
+
+-- the command that was pending, kept after all
+key-kept-after-all : (table : Table) (kept : Bool) (more : Option KeyCommand) (c : KeyCommand) → kept ≡ false → more ≡ Some c → after (settled_table kept more table) c ≡ settled_table true more table
+key-kept-after-all table kept more c dropped is =
+    (λ i. after (settled_table (dropped i) (is i) table) c) ∙ ap (λ (p : Option KeyCommand). settled_table true p table) (sym is)
+
+keys-linked : (ledger : Ledger) (place : ℕ) (names : NameTable) (more : Option KeyCommand) (table : Table) → ((found : Bool) → LinkedTables ledger place (settled_table found more table) names) → (kept found : Bool) (behind : Option KeyCommand)
+    → IfSome behind (λ c. ((kept ≡ false) × (more ≡ Some c)) ⊎ AKeyOpening kept c) → Applies (settled_table kept more table) behind
+    → LinkedTables ledger place (settled_table found behind (settled_table kept more table)) names
+keys-linked ledger place names more table linked kept found None is may = linked kept
+keys-linked ledger place names more table linked kept false (Some c) is may = linked kept
+keys-linked ledger place names more table linked kept true (Some c) (inl is) may = subst (λ (t : Table). LinkedTables ledger place t names) (sym (key-kept-after-all table kept more c is.0 is.1)) (linked true)
+keys-linked ledger place names more table linked kept true (Some c) (inr is) may = next-key-linked ledger place (settled_table kept more table) names c is may (linked kept)
+
 keys-started : (ledger : Ledger) (place : ℕ) (a b left : List ℕ) → SoundFiles ledger place (pair a b) → IsLeftByStart a left → SoundFiles ledger place (pair left b)
 keys-started ledger place a b left s l =
     let k = left_by_start a s.commands s.more s.table s.keys left l in
@@ -65,9 +97,9 @@ keys-started ledger place a b left s l =
       ops = s.ops;
       more_ops = s.more_ops;
       made = s.made;
-      keys = sound_left s.table s.more s.commands left s.keys.spelled s.keys.spelled_more s.keys.makes s.keys.fits k;
+      keys = sound_left s.table s.more AKeyOpening s.commands left s.keys.spelled s.keys.spelled_more s.keys.makes s.keys.fits k;
       names = s.names;
-      linked = λ found found_names. tables-later ledger place (settled_table k.kept s.more s.table) (settled_log found_names s.more_ops s.made).table found k.more k.fits (s.linked k.kept found_names);
+      linked = λ found found_names. keys-linked ledger place (settled_log found_names s.more_ops s.made).table s.more s.table (λ again. s.linked again found_names) k.kept found k.more k.more_is k.fits;
     }
 
 -- a later opening of the edit log
@@ -178,13 +210,72 @@ both-opened old mid new m n run told first second = record {
     names-then bytes (inl before) = inl ((run.other_leaves bytes).0 before)
     names-then bytes (inr found) = inr (subst (λ (b : List ℕ). IsLeftByNameStart b bytes) (run.other_reads told) found)
 
+-- what it leaves of each file since the first sync of its opening
+
+abbrev KeysSince : DiskState → DiskState → Result RunningKms StartFault → Type 0
+KeysSince old mid result =
+    ((IsErrOf result start.StoreFault ⊎ IsErrOf result start.NoMemory) × LeavesOnly 0 old mid (old.leaves 0)) ⊎ LeavesFrom 0 old mid (IsLeftByStart (old.reads 0))
+
+abbrev NamesSince : DiskState → DiskState → Result RunningNames StartFault → Type 0
+NamesSince mid new result = (IsErrOf result start.StoreFault × LeavesOnly 1 mid new (mid.leaves 1)) ⊎ LeavesFrom 1 mid new (IsLeftByNameStart (mid.reads 1))
+
+abbrev no-keys : StartFault → Result RunningKms StartFault
+no-keys fault = Err fault
+
+abbrev no-names : StartFault → Result RunningNames StartFault
+no-names fault = Err fault
+
+-- the first opening was done
+keys-synced : (old mid : DiskState) (keys : RunningKms) → KeysSince old mid (Ok keys) → LeavesFrom 0 old mid (IsLeftByStart (old.reads 0))
+keys-synced old mid keys (inl (inl is, only)) = absurd (cc is)
+keys-synced old mid keys (inl (inr is, only)) = absurd (cc is)
+keys-synced old mid keys (inr since) = since
+
+names-synced : (mid new : DiskState) (names : RunningNames) → NamesSince mid new (Ok names) → LeavesFrom 1 mid new (IsLeftByNameStart (mid.reads 1))
+names-synced mid new names (inl (is, only)) = absurd (cc is)
+names-synced mid new names (inr since) = since
+
+-- the second opening leaves file 0 alone
+keys-since : (old mid new : DiskState) → Moment mid → RunOn 0 old mid → Tells old → LeavesFrom 0 old mid (IsLeftByStart (old.reads 0)) → NamesMoments mid new → RunOn 1 mid new → LeavesFrom 0 old new (IsLeftByStart (old.reads 0))
+keys-since old mid new n run told since second other_run = record {
+  moment = since.moment;
+  begun = since.begun;
+  reached = omega (arith, since.reached, other_run.later);
+  only = λ c left. ⊎_elim (λ past. since.only c past)
+      (λ now.
+      let d = pair (c 0) (mid.reads 1) in
+      since.only d (n.counts since.moment d since.reached (pair-image mid (c 0) (mid.reads 1) now.1 (n.is_one (tells-on 0 old mid run told) 1 (omega arith)))))
+      (second.before since.moment c since.reached left);
+}
+
+-- and the first opening leaves file 1 alone
+
+names-since : (old mid new : DiskState) → RunOn 0 old mid → Tells old → LeavesFrom 1 mid new (IsLeftByNameStart (mid.reads 1)) → LeavesFrom 1 old new (IsLeftByNameStart (old.reads 1))
+names-since old mid new run told since = record {
+  moment = since.moment;
+  begun = omega (arith, run.later, since.begun);
+  reached = since.reached;
+  only = λ c left. subst (λ (b : List ℕ). IsLeftByNameStart b (c 1)) (run.other_reads told) (since.only c left);
+}
+
+names-beside-keys : (old new : DiskState) → KeysMoments old new → LeavesBoth old new (λ c. old.leaves 1 (c 1))
+names-beside-keys old new first = leaves-keys old new (λ c. old.leaves 0 c ⊎ IsLeftByStart (old.reads 0) c) (λ c. old.leaves 1 (c 1)) (λ c keys names. names) first
+
+names-as-before : (old mid new : DiskState) → RunOn 0 old mid → KeysMoments old mid → LeavesOnly 1 mid new (mid.leaves 1) → LeavesBoth old new (λ c. old.leaves 1 (c 1))
+names-as-before old mid new run first only = record {
+  before = λ t c le left. ⊎_elim
+      (λ past. ⊎_elim (λ before. inl before) (λ now. inr now.1) (first.before t c le past))
+      (λ now. inr ((run.other_leaves (c 1)).0 now.0))
+      (only.before t c (omega (arith, le, run.later)) left);
+}
+
 -- the first world
 
 first-linked : (ledger : Ledger) (place : ℕ) (table : Table) (names : NameTable) → LinkedTables ledger place table names → LinkedWorld (first_world table names) (drawn_before place ledger)
 first-linked ledger place table names l = record {
   files = λ kept. l.files;
-  replies = record { as_many = refl; keys_open = λ r o at. absurd (none-replied r o at); one_ask = λ r q d at other. absurd (none-replied r (Some d) at) };
-  draws = l.draws;
+  replies = record { as_many = refl; keys_open = λ r o at. absurd (none-replied r o at); one_reply = λ n m d at other. absurd (numbered-in [] n (Some d) at) };
+  draws = draws-later ledger [] place (IsRecordedBirth table) (IsOldBirth (first_world table names).keys.keys.table) (λ b h. inl h) l.draws;
   ledger = ledger-more ledger [] [] [] ((names.opening + 1) * 2 ^ 32) ((names.opening + 1) * 2 ^ 32 + 1) (omega arith) l.fits;
 }
 
@@ -275,6 +366,8 @@ no-start old lines = record {
   first_keys = λ fault is. absurd (other (ap (λ (f : WorldFault). f.file) (one-fault _ _ is)));
   first_names = λ fault is. (begin 0 old (λ c. ⊤)).run;
   any_moment = λ told. record { before = λ t c le left. inl left };
+  since_sync_keys = λ told. inl (inr refl, (begin 0 old (old.leaves 0)).moments);
+  since_sync_names = λ told. inl (inl (start.NoMemory, refl), record { before = λ t c le left. inl left });
   sound = λ told ledger place sound. record { before = λ t c le left. inl left };
   run = both-of 0 old old (begin 0 old (λ c. ⊤)).run;
   cause = λ file is. absurd (no-fault (ap (λ (f : WorldFault). f.fault) (one-fault _ _ is)));
@@ -296,8 +389,8 @@ pub keys-not-started : (old new : DiskState) (lines : List PropLine) (fault : St
     → ((at : ℕ) → fault ≡ start.Damaged at → Tells old → IsDamagedAt (old.reads 0) at)
     → (fault ≡ start.Spent → Tells old → (commands : List KeyCommand) × (table : Table) × IsKeyLog (old.reads 0) commands table × (table.opening ≡ 4294967295))
     → (fault ≡ start.StoreFault → Rose old.faults new.faults)
-    → (Tells old → KeysMoments old new) → RunOn 0 old new → StartHappens old new lines (Err (record { file = 0; fault = fault }))
-keys-not-started old new lines fault m damaged spent cause moments run = record {
+    → (Tells old → KeysMoments old new) → (Tells old → KeysSince old new (no-keys fault)) → RunOn 0 old new → StartHappens old new lines (Err (record { file = 0; fault = fault }))
+keys-not-started old new lines fault m damaged spent cause moments since run = record {
   began = tt;
   lists = tt;
   file = λ file other is. inl (sym (ap (λ (f : WorldFault). f.file) (one-fault _ _ is)));
@@ -308,6 +401,8 @@ keys-not-started old new lines fault m damaged spent cause moments run = record 
   first_keys = λ fault is. absurd (other (ap (λ (f : WorldFault). f.file) (one-fault _ _ is)));
   first_names = λ fault is. run;
   any_moment = λ told. keys-opened old new (moments told);
+  since_sync_keys = λ told. keys (since told);
+  since_sync_names = λ told. inl (inl (fault, refl), names-beside-keys old new (moments told));
   sound = λ told ledger place sound. all-sound old new ledger place m told (keys-opened old new (moments told)) sound;
   run = both-of 0 old new run;
   cause = λ file is. cause (ap (λ (f : WorldFault). f.fault) (one-fault _ _ is));
@@ -316,13 +411,24 @@ keys-not-started old new lines fault m damaged spent cause moments run = record 
     other : zero ≡ 1 → ⊥
     other is = absurd (omega (arith, is))
 
-pub names-not-started : (old mid new : DiskState) (lines : List PropLine) (fault : StartFault) → Moment old → Moment mid
+    in-file : (which : StartFault) → no-keys fault ≡ no-keys which → failed-by (record { file = 0; fault = fault }) ≡ failed-by (record { file = 0; fault = which })
+    in-file which is = ap (λ (f : StartFault). failed-by (record { file = 0; fault = f })) (cc is)
+
+    keys : KeysSince old new (no-keys fault)
+        → ((IsErrOf (failed-by (record { file = 0; fault = fault })) (record { file = 0; fault = start.StoreFault }) ⊎ IsErrOf (failed-by (record { file = 0; fault = fault })) (record { file = 0; fault = start.NoMemory })) × LeavesOnly 0 old new (old.leaves 0))
+        ⊎ LeavesFrom 0 old new (IsLeftByStart (old.reads 0))
+    keys (inl (inl is, only)) = inl (inl (in-file start.StoreFault is), only)
+    keys (inl (inr is, only)) = inl (inr (in-file start.NoMemory is), only)
+    keys (inr synced) = inr synced
+
+pub names-not-started : (old mid new : DiskState) (lines : List PropLine) (keys : RunningKms) (fault : StartFault) → Moment old → Moment mid
     → ((at : ℕ) → fault ≡ start.Damaged at → Tells mid → IsDamagedName (mid.reads 1) at)
     → (fault ≡ start.Spent → Tells mid → (ops : List EditOp) × (made : Replayed) × IsNameLog (mid.reads 1) ops made × (made.table.opening ≡ 4294967295))
     → (fault ≡ start.StoreFault → Rose mid.faults new.faults)
     → (Tells old → MayOpenKeys (old.reads 0))
-    → (Tells old → KeysMoments old mid) → RunOn 0 old mid → (Tells mid → NamesMoments mid new) → RunOn 1 mid new → StartHappens old new lines (Err (record { file = 1; fault = fault }))
-names-not-started old mid new lines fault m n damaged spent cause good first run second other_run = record {
+    → (Tells old → KeysMoments old mid) → (Tells old → KeysSince old mid (Ok keys)) → RunOn 0 old mid → (Tells mid → NamesMoments mid new) → (Tells mid → NamesSince mid new (no-names fault)) → RunOn 1 mid new
+    → StartHappens old new lines (Err (record { file = 1; fault = fault }))
+names-not-started old mid new lines keys fault m n damaged spent cause good first since run second then other_run = record {
   began = tt;
   lists = tt;
   file = λ file f is. inr (sym (ap (λ (x : WorldFault). x.file) (one-fault _ _ is)));
@@ -335,6 +441,8 @@ names-not-started old mid new lines fault m n damaged spent cause good first run
   first_keys = λ fault is. good;
   first_names = λ fault is. absurd (other (ap (λ (f : WorldFault). f.file) (one-fault _ _ is)));
   any_moment = moments;
+  since_sync_keys = λ told. inr (keys-since old mid new n run told (keys-synced old mid keys (since told)) (second (tells-on 0 old mid run told)) other_run);
+  since_sync_names = λ told. names told (then (tells-on 0 old mid run told));
   sound = λ told ledger place sound. all-sound old new ledger place m told (moments told) sound;
   run = both-runs old mid new run other_run;
   cause = λ file is. rose-since old.faults mid.faults new.faults run.faults (cause (ap (λ (f : WorldFault). f.fault) (one-fault _ _ is)));
@@ -343,13 +451,21 @@ names-not-started old mid new lines fault m n damaged spent cause good first run
     other : suc zero ≡ 0 → ⊥
     other is = absurd (omega (arith, is))
 
+    names : Tells old → NamesSince mid new (no-names fault)
+        → ((((f : StartFault) × IsErrOf (failed-by (record { file = 1; fault = fault })) (record { file = 0; fault = f })) ⊎ IsErrOf (failed-by (record { file = 1; fault = fault })) (record { file = 1; fault = start.StoreFault }))
+        × LeavesBoth old new (λ c. old.leaves 1 (c 1)))
+        ⊎ LeavesFrom 1 old new (IsLeftByNameStart (old.reads 1))
+    names told (inl (is, only)) = inl (inr (ap (λ (f : StartFault). failed-by (record { file = 1; fault = f })) (cc is)), names-as-before old mid new run (first told) only)
+    names told (inr synced) = inr (names-since old mid new run told synced)
+
     moments : Tells old → LeavesBoth old new (LeftByStarts old)
     moments told = both-opened old mid new m n run told (first told) (second (tells-on 0 old mid run told))
 
 pub started : (old mid new : DiskState) (lines : List PropLine) (r : RunningWorld) → Moment old → Moment mid → r.keys.store.log.file ≡ 0 → r.names.store.log.log.file ≡ 1 → ServicesFit (world_of r)
     → r.kept ≡ record { notes = []; replies = [] } → ListsFor r.keys.acls lines → Starts old mid (running r.keys) → NamesStart mid new r.names
-    → (Tells old → KeysMoments old mid) → RunOn 0 old mid → (Tells mid → NamesMoments mid new) → RunOn 1 mid new → StartHappens old new lines (Ok r)
-started old mid new lines r m n keys_file names_file fit nothing lists ks ns first run second other_run = record {
+    → (Tells old → KeysMoments old mid) → (Tells old → KeysSince old mid (Ok r.keys)) → RunOn 0 old mid → (Tells mid → NamesMoments mid new) → (Tells mid → NamesSince mid new (Ok r.names)) → RunOn 1 mid new
+    → StartHappens old new lines (Ok r)
+started old mid new lines r m n keys_file names_file fit nothing lists ks ns first since run second then other_run = record {
   began = begins old mid new r m keys_file names_file fit nothing run other_run ks ns;
   lists = lists;
   file = λ file fault is. absurd (cc is);
@@ -360,6 +476,8 @@ started old mid new lines r m n keys_file names_file fit nothing lists ks ns fir
   first_keys = λ fault is. absurd (cc is);
   first_names = λ fault is. absurd (cc is);
   any_moment = moments;
+  since_sync_keys = λ told. inr (keys-since old mid new n run told (keys-synced old mid r.keys (since told)) (second (tells-on 0 old mid run told)) other_run);
+  since_sync_names = λ told. inr (names-since old mid new run told (names-synced mid new r.names (then (tells-on 0 old mid run told))));
   sound = λ told ledger place sound. all-sound old new ledger place m told (moments told) sound;
   run = both-runs old mid new run other_run;
   cause = λ file is. absurd (cc is);

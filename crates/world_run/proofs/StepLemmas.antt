@@ -20,7 +20,7 @@ use Rattle.key_rows.specs.declared.calls.KmsReply.{KmsReply}
 use Rattle.key_rows.specs.declared.calls.KmsReply.TheVariants as key_reply
 use Rattle.prop_text.specs.declared.lines.PropLine.{PropLine}
 use Rattle.key_rows.specs.declared.rows.KeyCommand.{KeyCommand}
-use Rattle.kms_store.specs.Store.{IsLeftOf, StandsFor}
+use Rattle.kms_store.specs.Store.{IsLeftOf, NoCommand, StandsFor}
 use Rattle.kms_acls.specs.StandsFor.{StandsFor as ListsFor}
 use Rattle.kms_core.specs.Service.{Logs}
 use Rattle.kms_core.specs.State.{service_of}
@@ -46,12 +46,12 @@ use Rattle.world_run.specs.declared.event.WorldFault.{WorldFault}
 use Rattle.world_run.specs.declared.kept.KeptReply.{KeptReply}
 use Rattle.world_run.specs.Acknowledged.{Acknowledged, nothing_acknowledged, of_keys, of_names}
 use Rattle.world_run.specs.Does.{CallHappens, Does, DrawHappens, FinishHappens, Happens, PathHappens, WantHappens}
-use Rattle.world_run.specs.Own.{IsLeftOfKeys, NoCommand, OwnOfReply}
+use Rattle.world_run.specs.Own.{OwnOfReply}
 use Rattle.world_run.specs.Keeps.{Fails}
 use Rattle.world_run.specs.Step.{AskAt, PathActs, Step, after_ask, finish_line, kept_reply, unread_reply, zone_with}
 use Rattle.world_run.specs.World.{RunningWorld, WorldState, numbered, with_names, world_of}
 use Rattle.world_run.proofs.AskLemmas.{ask-stands}
-use Rattle.world_run.proofs.KeyLemmas.{any-logs}
+use Rattle.world_run.proofs.KeyLemmas.{generate-logs, metadata-logs}
 
 abbrev pub parts : RunningKms → RunningNames → List AskNote → List KeptReply → RunningWorld
 parts keys names notes replies = record { keys = keys; names = names; kept = record { notes = notes; replies = replies } }
@@ -76,7 +76,7 @@ does-nothing d r r' words own_keys own P same p = record {
   logged = nothing_acknowledged;
   acts = p;
   rest = λ k. ap words (omega arith);
-  disk = inl (record { commands = []; logged_is = refl; log = no-log-to d r.keys r'.keys (IsLeftOfKeys r.keys.store.table.keys r.keys.store.pending own_keys) (ap (λ (w : RunningWorld). w.keys) same); names = ap (λ (w : RunningWorld). w.names) same });
+  disk = inl (record { commands = []; logged_is = refl; log = no-log-to d r.keys r'.keys (IsLeftOf r.keys.store.table.keys r.keys.store.pending own_keys) (ap (λ (w : RunningWorld). w.keys) same); names = ap (λ (w : RunningWorld). w.names) same });
   lists = ap (λ (w : RunningWorld). w.keys.acls) same;
 }
 
@@ -262,7 +262,7 @@ drew-note lines old new w words now note keys keys' names notes replies replies'
         left = ap (λ (l : List KeptReply). world_of (parts keys' names notes l)) more;
       });
       rest = does.rest;
-      disk = inl (record { commands = does.commands; logged_is = refl; log = any-logs old new keys.store keys'.store does.commands does.log; names = refl });
+      disk = inl (record { commands = does.commands; logged_is = refl; log = does.log; names = refl });
       lists = does.lists;
     }))
 
@@ -271,7 +271,7 @@ drew-note lines old new w words now note keys keys' names notes replies replies'
 pub nothing-wanted : (lines : List PropLine) (d : DiskState) (r : RunningKms) (words : ℕ → ℕ) (now : ℕ) (wanted : Want) → wanted ≡ want.Nothing → WantHappens lines d d r words now wanted None r words
 nothing-wanted lines d r words now wanted is =
     subst (λ (x : Want). WantHappens lines d d r words now x None r words) (sym is)
-    (record { drawn = 0; commands = []; acts = record { told_is = refl; none_drawn = refl; none_logged = refl; same = refl }; rest = λ k. ap words (omega arith); log = no-log d r (IsLeftOf r.store.table.keys r.store.pending); lists = refl })
+    (record { drawn = 0; commands = []; acts = record { told_is = refl; none_drawn = refl; none_logged = refl; same = refl }; rest = λ k. ap words (omega arith); log = no-log d r (IsLeftOf r.store.table.keys r.store.pending NoCommand); lists = refl })
 
 pub generate-wanted : (lines : List PropLine) (old new : DiskState) (r r' : RunningKms) (words words' : ℕ → ℕ) (now : ℕ) (user : Text) (wanted : Want) (name : KeyName) (told : KmsReply) → user ≡ superuser → wanted ≡ want.Generate name
     → ActsFor lines user old new r words now (call.Generate name 1) told r' words' → WantHappens lines old new r words now wanted (Some told) r' words'
@@ -280,7 +280,7 @@ generate-wanted lines old new r r' words words' now user wanted name told as_sup
     (made (subst (λ (u : Text). ActsFor lines u old new r words now (call.Generate name 1) told r' words') as_superuser acts))
   where
     made : ActsFor lines superuser old new r words now (call.Generate name 1) told r' words' → WantHappens lines old new r words now (want.Generate name) (Some told) r' words'
-    made a = record { drawn = a.drawn; commands = a.logged; acts = record { reply = told; serves = a.serves; told_is = refl }; rest = a.rest; log = a.disk; lists = a.lists }
+    made a = record { drawn = a.drawn; commands = a.logged; acts = record { reply = told; serves = a.serves; told_is = refl }; rest = a.rest; log = generate-logs old new r.store r'.store (service_of (running r)) words now name a.logged a.disk; lists = a.lists }
 
 pub metadata-wanted : (lines : List PropLine) (old new : DiskState) (r r' : RunningKms) (words words' : ℕ → ℕ) (now : ℕ) (user : Text) (wanted : Want) (name : KeyName) (told : KmsReply) → user ≡ superuser → wanted ≡ want.Metadata name
     → ActsFor lines user old new r words now (call.Metadata name) told r' words' → WantHappens lines old new r words now wanted (Some told) r' words'
@@ -289,7 +289,7 @@ metadata-wanted lines old new r r' words words' now user wanted name told as_sup
     (made (subst (λ (u : Text). ActsFor lines u old new r words now (call.Metadata name) told r' words') as_superuser acts))
   where
     made : ActsFor lines superuser old new r words now (call.Metadata name) told r' words' → WantHappens lines old new r words now (want.Metadata name) (Some told) r' words'
-    made a = record { drawn = a.drawn; commands = a.logged; acts = record { reply = told; serves = a.serves; told_is = refl }; rest = a.rest; log = a.disk; lists = a.lists }
+    made a = record { drawn = a.drawn; commands = a.logged; acts = record { reply = told; serves = a.serves; told_is = refl }; rest = a.rest; log = metadata-logs old new r.store r'.store (service_of (running r)) words now name a.logged a.disk; lists = a.lists }
 
 -- an event, by what it was
 
@@ -304,7 +304,7 @@ kms-happens lines old new w keys keys' names notes replies words words' now e us
       logged = of_keys acts.logged;
       acts = record { reply = reply; keys = service_of (running keys'); commands = acts.logged; serves = acts.serves; logged_is = refl; told_is = refl; left = refl };
       rest = acts.rest;
-      disk = inl (record { commands = acts.logged; logged_is = refl; log = any-logs old new keys.store keys'.store acts.logged acts.disk; names = refl });
+      disk = inl (record { commands = acts.logged; logged_is = refl; log = acts.disk; names = refl });
       lists = acts.lists;
     }))
 

@@ -16,7 +16,7 @@ use Rattle.world_run.specs.declared.kept.KeptReply.{KeptReply}
 use Rattle.world_run.specs.World.{WorldState, with_note, with_reply}
 use Rattle.world_run.specs.Ledger.{Draw, Hidden, Ledger, behind_words}
 use Rattle.world_run.specs.Promise.{In}
-use Rattle.world_run.specs.Linked.{DrawsFit, FilesLinked, IsDrawn, KeyLinked, LedgerFits, LinkedWorld, RepliesLinked, Replied, given}
+use Rattle.world_run.specs.Linked.{DrawsFit, FilesLinked, IsDrawn, IsOldBirth, KeyLinked, LedgerFits, LinkedWorld, RepliesLinked, Replied, given}
 use Rattle.world_run.proofs.Laters.{KeysLater, LaterAt, draw-later, later-opened, later-settled, opens-later, then-later}
 use Rattle.world_run.proofs.Members.{in-more, numbered-in, numbered-more, numbered-within, some-is}
 use Rattle.world_run.proofs.RowLemmas.{InPlace, in-place}
@@ -24,9 +24,9 @@ use Rattle.world_run.proofs.RowsAfter.{rows-after}
 
 -- keys that change, and words that are drawn
 
-pub files-later : (ledger : Ledger) (replied : List (Option Draw)) (place greatest : ℕ) (olds keys : List KeyRow) (rows : List Entry) → DrawsFit ledger replied place greatest
-    → ((b : ℕ) → b ≤ greatest → LaterAt olds keys b) → FilesLinked ledger olds rows → FilesLinked ledger keys rows
-files-later ledger replied place greatest olds keys rows draws later f =
+pub files-later : (ledger : Ledger) (replied : List (Option Draw)) (place : ℕ) (IsBirth : ℕ → Type 0) (olds keys : List KeyRow) (rows : List Entry) → DrawsFit ledger replied place IsBirth
+    → ((b : ℕ) → IsBirth b → LaterAt olds keys b) → FilesLinked ledger olds rows → FilesLinked ledger keys rows
+files-later ledger replied place IsBirth olds keys rows draws later f =
     record {
       files = λ x e i h.
           let d = f.files x e i h in
@@ -39,25 +39,25 @@ files-later ledger replied place greatest olds keys rows draws later f =
       zones = f.zones;
     }
 
-replies-later : (ledger : Ledger) (replied : List (Option Draw)) (place greatest : ℕ) (olds keys : List KeyRow) (replies : List KeptReply) → DrawsFit ledger replied place greatest
-    → ((b : ℕ) → b ≤ greatest → LaterAt olds keys b) → RepliesLinked olds replies replied → RepliesLinked keys replies replied
-replies-later ledger replied place greatest olds keys replies draws later l =
+replies-later : (ledger : Ledger) (replied : List (Option Draw)) (place : ℕ) (IsBirth : ℕ → Type 0) (olds keys : List KeyRow) (replies : List KeptReply) → DrawsFit ledger replied place IsBirth
+    → ((b : ℕ) → IsBirth b → LaterAt olds keys b) → RepliesLinked olds replies replied → RepliesLinked keys replies replied
+replies-later ledger replied place IsBirth olds keys replies draws later l =
     record {
       as_many = l.as_many;
       keys_open = λ r o at. draw-later olds keys (given r.answer) o
           (λ d is. later d.birth (draws.born d (inr (subst (λ (q : Option Draw). In q replied) is (numbered-in replied at.0 o at.2))))) (l.keys_open r o at);
-      one_ask = l.one_ask;
+      one_reply = l.one_reply;
     }
 
-pub draws-later : (ledger : Ledger) (replied : List (Option Draw)) (place greatest born : ℕ) → greatest ≤ born → DrawsFit ledger replied place greatest → DrawsFit ledger replied place born
-draws-later ledger replied place greatest born over d = record { taken = d.taken; born = λ x i. let h = d.born x i in omega (arith, h, over); apart = d.apart }
+pub draws-later : (ledger : Ledger) (replied : List (Option Draw)) (place : ℕ) (IsBirth IsLater : ℕ → Type 0) → ((b : ℕ) → IsBirth b → IsLater b) → DrawsFit ledger replied place IsBirth → DrawsFit ledger replied place IsLater
+draws-later ledger replied place IsBirth IsLater later d = record { taken = d.taken; born = λ x i. later x.birth (d.born x i); apart = d.apart }
 
 pub linked-keys : (w : WorldState) (h : Hidden) (keys : ServiceState) → KeysLater w.keys.keys.table keys.keys.table → LinkedWorld w h → LinkedWorld (record w { keys = keys }) h
 linked-keys w h keys later l =
     record {
-      files = λ kept. files-later h.ledger h.replied h.place w.keys.keys.table.greatest w.keys.keys.table.rows keys.keys.table.rows (settled_names kept w.names).table.rows l.draws later.rows (l.files kept);
-      replies = replies-later h.ledger h.replied h.place w.keys.keys.table.greatest w.keys.keys.table.rows keys.keys.table.rows w.kept.replies l.draws later.rows l.replies;
-      draws = draws-later h.ledger h.replied h.place w.keys.keys.table.greatest keys.keys.table.greatest later.births l.draws;
+      files = λ kept. files-later h.ledger h.replied h.place (IsOldBirth w.keys.keys.table) w.keys.keys.table.rows keys.keys.table.rows (settled_names kept w.names).table.rows l.draws later.rows (l.files kept);
+      replies = replies-later h.ledger h.replied h.place (IsOldBirth w.keys.keys.table) w.keys.keys.table.rows keys.keys.table.rows w.kept.replies l.draws later.rows l.replies;
+      draws = draws-later h.ledger h.replied h.place (IsOldBirth w.keys.keys.table) (IsOldBirth keys.keys.table) later.births l.draws;
       ledger = l.ledger;
     }
 
@@ -179,15 +179,15 @@ drawn-before ledger replied o d (inl i) = inl (inl i)
 drawn-before ledger replied o d (inr i) = elim (in-more (Some d) o replied i) [ inl old ↦ inl (inr old) | inr is ↦ inr is ]
 
 -- a new draw is none of those before
-draw-new : (ledger : Ledger) (replied : List (Option Draw)) (place greatest : ℕ) (d : Draw) → DrawsFit ledger replied place greatest → IsDrawn ledger replied d → place ≤ d.place → ⊥
-draw-new ledger replied place greatest d f i over = let h = f.taken d i in absurd (omega (arith, h, over))
+draw-new : (ledger : Ledger) (replied : List (Option Draw)) (place : ℕ) (IsBirth : ℕ → Type 0) (d : Draw) → DrawsFit ledger replied place IsBirth → IsDrawn ledger replied d → place ≤ d.place → ⊥
+draw-new ledger replied place IsBirth d f i over = let h = f.taken d i in absurd (omega (arith, h, over))
 
-draws-reply : (w : WorldState) (h : Hidden) (keys : ServiceState) (drawn : ℕ) (r : KeptReply) (o : Option Draw) → w.keys.keys.table.greatest ≤ keys.keys.table.greatest → NewReply h keys drawn r o
-    → DrawsFit h.ledger h.replied h.place w.keys.keys.table.greatest → DrawsFit h.ledger (h.replied ++ o ∷ []) (h.place + drawn) keys.keys.table.greatest
+draws-reply : (w : WorldState) (h : Hidden) (keys : ServiceState) (drawn : ℕ) (r : KeptReply) (o : Option Draw) → ((b : ℕ) → IsOldBirth w.keys.keys.table b → IsOldBirth keys.keys.table b) → NewReply h keys drawn r o
+    → DrawsFit h.ledger h.replied h.place (IsOldBirth w.keys.keys.table) → DrawsFit h.ledger (h.replied ++ o ∷ []) (h.place + drawn) (IsOldBirth keys.keys.table)
 draws-reply w h keys drawn r o births n f =
     record {
       taken = λ d i. elim (drawn-before h.ledger h.replied o d i) [ inl old ↦ let t = f.taken d old in omega (arith, t) | inr is ↦ n.ends d (sym is) ];
-      born = λ d i. elim (drawn-before h.ledger h.replied o d i) [ inl old ↦ let t = f.born d old in omega (arith, t, births) | inr is ↦ n.born d (sym is) ];
+      born = λ d i. elim (drawn-before h.ledger h.replied o d i) [ inl old ↦ births d.birth (f.born d old) | inr is ↦ inr (n.born d (sym is)) ];
       apart = λ d g i j. elim (drawn-before h.ledger h.replied o d i) [
         | inl old ↦ elim (drawn-before h.ledger h.replied o g j) [
           | inl other ↦ f.apart d g old other
@@ -215,10 +215,7 @@ replied-before replies replied r o q p many at =
       ]
     ]
 
-replied-drawn : (ledger : Ledger) (replies : List KeptReply) (replied : List (Option Draw)) (q : KeptReply) (d : Draw) → Replied replies replied q (Some d) → IsDrawn ledger replied d
-replied-drawn ledger replies replied q d at = inr (numbered-in replied at.0 (Some d) at.2)
-
-replies-reply : (w : WorldState) (h : Hidden) (keys : ServiceState) (drawn : ℕ) (r : KeptReply) (o : Option Draw) → NewReply h keys drawn r o → DrawsFit h.ledger h.replied h.place w.keys.keys.table.greatest
+replies-reply : (w : WorldState) (h : Hidden) (keys : ServiceState) (drawn : ℕ) (r : KeptReply) (o : Option Draw) → NewReply h keys drawn r o → DrawsFit h.ledger h.replied h.place (IsOldBirth w.keys.keys.table)
     → RepliesLinked keys.keys.table.rows w.kept.replies h.replied → RepliesLinked keys.keys.table.rows (w.kept.replies ++ r ∷ []) (h.replied ++ o ∷ [])
 replies-reply w h keys drawn r o n f l =
     record {
@@ -227,19 +224,19 @@ replies-reply w h keys drawn r o n f l =
         | inl old ↦ l.keys_open q p old
         | inr is ↦ subst (λ (x : KeptReply). KeyLinked keys.keys.table.rows (given x.answer) p) (sym is.0) (subst (λ (x : Option Draw). KeyLinked keys.keys.table.rows (given r.answer) x) (sym is.1) n.opens)
       ];
-      one_ask = λ q s d at other_at. elim (replied-before w.kept.replies h.replied r o q (Some d) l.as_many at) [
-        | inl old ↦ elim (replied-before w.kept.replies h.replied r o s (Some d) l.as_many other_at) [
-          | inl other ↦ l.one_ask q s d old other
-          | inr is ↦ absurd (draw-new h.ledger h.replied h.place w.keys.keys.table.greatest d f (replied-drawn h.ledger w.kept.replies h.replied q d old) (n.begins d (sym is.1)))
+      one_reply = λ i j d at other_at. elim (numbered-more h.replied o i (Some d) at) [
+        | inl old ↦ elim (numbered-more h.replied o j (Some d) other_at) [
+          | inl other ↦ l.one_reply i j d old other
+          | inr is ↦ absurd (draw-new h.ledger h.replied h.place (IsOldBirth w.keys.keys.table) d f (inr (numbered-in h.replied i (Some d) old)) (n.begins d (sym is.1)))
         ]
-        | inr mine ↦ elim (replied-before w.kept.replies h.replied r o s (Some d) l.as_many other_at) [
-          | inl other ↦ absurd (draw-new h.ledger h.replied h.place w.keys.keys.table.greatest d f (replied-drawn h.ledger w.kept.replies h.replied s d other) (n.begins d (sym mine.1)))
-          | inr is ↦ ap (λ (x : KeptReply). x.id) (mine.0 ∙ sym is.0)
+        | inr mine ↦ elim (numbered-more h.replied o j (Some d) other_at) [
+          | inl other ↦ absurd (draw-new h.ledger h.replied h.place (IsOldBirth w.keys.keys.table) d f (inr (numbered-in h.replied j (Some d) other)) (n.begins d (sym mine.1)))
+          | inr is ↦ mine.0 ∙ sym is.0
         ]
       ];
     }
 
-ledger-reply : (w : WorldState) (h : Hidden) (keys : ServiceState) (drawn : ℕ) (r : KeptReply) (o : Option Draw) → NewReply h keys drawn r o → DrawsFit h.ledger h.replied h.place w.keys.keys.table.greatest
+ledger-reply : (w : WorldState) (h : Hidden) (keys : ServiceState) (drawn : ℕ) (r : KeptReply) (o : Option Draw) → NewReply h keys drawn r o → DrawsFit h.ledger h.replied h.place (IsOldBirth w.keys.keys.table)
     → RepliesLinked w.keys.keys.table.rows w.kept.replies h.replied → LedgerFits h.ledger w.kept.replies h.replied w.names.names.asks (next_id w.names.names)
     → LedgerFits h.ledger (w.kept.replies ++ r ∷ []) (h.replied ++ o ∷ []) w.names.names.asks (next_id w.names.names)
 ledger-reply w h keys drawn r o n f l g =
@@ -250,16 +247,16 @@ ledger-reply w h keys drawn r o n f l g =
       not_open = g.not_open;
       its_ask = λ id q d i at. elim (replied-before w.kept.replies h.replied r o q (Some d) l.as_many at) [
         | inl old ↦ g.its_ask id q d i old
-        | inr is ↦ absurd (draw-new h.ledger h.replied h.place w.keys.keys.table.greatest d f (inl (id, i)) (n.begins d (sym is.1)))
+        | inr is ↦ absurd (draw-new h.ledger h.replied h.place (IsOldBirth w.keys.keys.table) d f (inl (id, i)) (n.begins d (sym is.1)))
       ];
     }
 
 pub linked-reply : (w : WorldState) (h : Hidden) (keys : ServiceState) (drawn : ℕ) (r : KeptReply) (o : Option Draw) → KeysLater w.keys.keys.table keys.keys.table → NewReply h keys drawn r o → LinkedWorld w h
     → LinkedWorld (with_reply r (record w { keys = keys })) (record (behind_words drawn h) { replied = h.replied ++ o ∷ [] })
 linked-reply w h keys drawn r o later n l =
-    let replies = replies-later h.ledger h.replied h.place w.keys.keys.table.greatest w.keys.keys.table.rows keys.keys.table.rows w.kept.replies l.draws later.rows l.replies in
+    let replies = replies-later h.ledger h.replied h.place (IsOldBirth w.keys.keys.table) w.keys.keys.table.rows keys.keys.table.rows w.kept.replies l.draws later.rows l.replies in
     record {
-      files = λ kept. files-later h.ledger h.replied h.place w.keys.keys.table.greatest w.keys.keys.table.rows keys.keys.table.rows (settled_names kept w.names).table.rows l.draws later.rows (l.files kept);
+      files = λ kept. files-later h.ledger h.replied h.place (IsOldBirth w.keys.keys.table) w.keys.keys.table.rows keys.keys.table.rows (settled_names kept w.names).table.rows l.draws later.rows (l.files kept);
       replies = replies-reply w h keys drawn r o n l.draws replies;
       draws = draws-reply w h keys drawn r o later.births n l.draws;
       ledger = ledger-reply w h keys drawn r o n l.draws l.replies l.ledger;

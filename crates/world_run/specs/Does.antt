@@ -8,7 +8,7 @@ use Rattle.edit_ops.specs.declared.ops.EditOp.{EditOp}
 use Rattle.key_rows.specs.declared.calls.KmsReply.{KmsReply}
 use Rattle.key_rows.specs.declared.rows.KeyCommand.{KeyCommand}
 use Rattle.prop_text.specs.declared.lines.PropLine.{PropLine}
-use Rattle.kms_store.specs.Store.{IsLeftOf}
+use Rattle.kms_store.specs.Store.{IsLeftOf, NoCommand}
 use Rattle.kms_core.specs.Service.{Logs}
 use Rattle.kms_core.specs.State.{service_of}
 use Rattle.kms_core.specs.Users.{RunningKms, running}
@@ -22,14 +22,14 @@ use Rattle.world_run.specs.declared.event.Line.{Line}
 use Rattle.world_run.specs.declared.kept.KeptReply.{KeptReply}
 use Rattle.world_run.specs.Acknowledged.{Acknowledged, of_keys, of_names}
 use Rattle.world_run.specs.Step.{DrawActs, FinishReply, NamesAct, PathActs, Step, WantActs}
-use Rattle.world_run.specs.Own.{AnyCommand, IsLeftOfKeys, NoCommand, OwnKeysOfEvent, OwnOfEvent, OwnOfPath, OwnOfReply}
+use Rattle.world_run.specs.Own.{OwnKeysOfEvent, OwnOfEvent, OwnOfPath, OwnOfReply}
 use Rattle.world_run.specs.World.{RunningWorld, world_of}
 
 -- The key log grew by the commands acknowledged, and the namesystem is as it was.
 pub record OnKeys (old new : DiskState) (r r' : RunningWorld) (own : Bool → KeyCommand → Type 0) (logged : Acknowledged) : Type 0 where
   pub commands : List KeyCommand
   pub logged_is : logged ≡ of_keys commands
-  pub log : Logs old new r.keys.store r'.keys.store (IsLeftOfKeys r.keys.store.table.keys r.keys.store.pending own) commands
+  pub log : Logs old new r.keys.store r'.keys.store (IsLeftOf r.keys.store.table.keys r.keys.store.pending own) commands
   pub names : r'.names ≡ r.names
 
 -- The edit log grew by the operations acknowledged, and the key management service is as it was.
@@ -52,7 +52,7 @@ pub record Does (old new : DiskState) (r r' : RunningWorld) (words words' : ℕ 
 -- an event that happens so
 abbrev pub Happens : List PropLine → DiskState → DiskState → RunningWorld → (ℕ → ℕ) → ℕ → Event → Line → RunningWorld → (ℕ → ℕ) → Type 0
 Happens lines old new r words now e told r' words' =
-    Does old new r r' words words' (OwnKeysOfEvent e) (OwnOfEvent (world_of r) e told (world_of r'))
+    Does old new r r' words words' (OwnKeysOfEvent (world_of r) words now e) (OwnOfEvent (world_of r) e told (world_of r'))
     (λ drawn logged. Step lines (world_of r) words now e (Rose old.faults new.faults) (Tells old) told drawn logged (world_of r'))
 
 -- calls of the namesystem
@@ -76,13 +76,13 @@ FinishHappens old new r reply told r' =
 
 abbrev pub DrawHappens : List PropLine → DiskState → DiskState → RunningWorld → (ℕ → ℕ) → ℕ → Option AskNote → Line → RunningWorld → (ℕ → ℕ) → Type 0
 DrawHappens lines old new r words now note told r' words' =
-    Does old new r r' words words' AnyCommand NothingMore (λ drawn logged. DrawActs lines (world_of r) words now note (Rose old.faults new.faults) told drawn logged (world_of r'))
+    Does old new r r' words words' NoCommand NothingMore (λ drawn logged. DrawActs lines (world_of r) words now note (Rose old.faults new.faults) told drawn logged (world_of r'))
 
--- the call that an ask wants is made on the key management service
+-- the call that an ask wants is made on the key management service; it writes nothing of its own
 pub record WantHappens (lines : List PropLine) (old new : DiskState) (k : RunningKms) (words : ℕ → ℕ) (now : ℕ) (wanted : Want) (told : Option KmsReply) (k' : RunningKms) (words' : ℕ → ℕ) : Type 0 where
   pub drawn : ℕ
   pub commands : List KeyCommand
   pub acts : WantActs lines (service_of (running k)) words now wanted (Rose old.faults new.faults) told drawn commands (service_of (running k'))
   pub rest : (n : ℕ) → words' n ≡ words (drawn + n)
-  pub log : Logs old new k.store k'.store (IsLeftOf k.store.table.keys k.store.pending) commands
+  pub log : Logs old new k.store k'.store (IsLeftOf k.store.table.keys k.store.pending NoCommand) commands
   pub lists : k'.acls ≡ k.acls

@@ -61,7 +61,7 @@ pub record Steps (lines : List PropLine) (old new : DiskState) (r : RunningWorld
   pub rest : (k : ℕ) → words' k ≡ words (drawn + k)
   pub stands : Tells old → (done : Acknowledged) → HoldsLogs old r done → HoldsLogs new r' (also done logged)
   -- a crash in the event leaves both logs, with what was acknowledged before it, and at most one record more: its own, or the pending one
-  pub survives : SurvivesThrough old new r (SurvivesEvent (world_of r) e told (world_of r'))
+  pub survives : SurvivesThrough old new r (SurvivesEvent (world_of r) words now e told (world_of r'))
   pub survives_then : SurvivesNow new r'
   -- whatever is hidden beside a linked world, the files that a crash leaves are sound, with what is hidden after the event
   pub sound : Tells old → (h : Hidden) → LinkedWorld (world_of r) h → SoundThrough old new r (hidden_after (world_of r) words e told drawn (world_of r') h)

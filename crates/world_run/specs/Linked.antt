@@ -60,17 +60,25 @@ Replied replies replied r o = (n : ℕ) × (numbered replies n ≡ Some r) × (n
 pub record RepliesLinked (keys : List KeyRow) (replies : List KeptReply) (replied : List (Option Draw)) : Type 0 where
   pub as_many : length replied ≡ length replies
   pub keys_open : (r : KeptReply) (o : Option Draw) → Replied replies replied r o → KeyLinked keys (given r.answer) o
-  -- a draw is of one reply's ask
-  pub one_ask : (r q : KeptReply) (d : Draw) → Replied replies replied r (Some d) → Replied replies replied q (Some d) → r.id ≡ q.id
+  -- no two replies have one draw
+  pub one_reply : (n m : ℕ) (d : Draw) → numbered replied n ≡ Some (Some d) → numbered replied m ≡ Some (Some d) → n ≡ m
 
 -- a draw that a kept reply or an entry of the ledger has
 abbrev pub IsDrawn : Ledger → List (Option Draw) → Draw → Type 0
 IsDrawn ledger replied d = ((id : ℕ) × In (id, d) ledger) ⊎ In (Some d) replied
 
--- draws: each of words that were drawn, under a key whose birth is none above the greatest, and no two with a word in common
-pub record DrawsFit (ledger : Ledger) (replied : List (Option Draw)) (place greatest : ℕ) : Type 0 where
+-- the birth is of an opening before the table's, or none above its greatest
+abbrev pub IsOldBirth : Table → ℕ → Type 0
+IsOldBirth t birth = (birth < t.opening * 2 ^ 32) ⊎ (birth ≤ t.greatest)
+
+-- the birth is of an opening that the log of the table records
+abbrev pub IsRecordedBirth : Table → ℕ → Type 0
+IsRecordedBirth t birth = birth < (t.opening + 1) * 2 ^ 32
+
+-- draws: each of words that were drawn, under a key of such a birth, and no two with a word in common
+pub record DrawsFit (ledger : Ledger) (replied : List (Option Draw)) (place : ℕ) (IsBirth : ℕ → Type 0) : Type 0 where
   pub taken : (d : Draw) → IsDrawn ledger replied d → d.place + words_of_draw (length d.dek) ≤ place
-  pub born : (d : Draw) → IsDrawn ledger replied d → d.birth ≤ greatest
+  pub born : (d : Draw) → IsDrawn ledger replied d → IsBirth d.birth
   pub apart : (d f : Draw) → IsDrawn ledger replied d → IsDrawn ledger replied f → (d ≡ f) ⊎ Apart d f
 
 pub record LedgerFits (ledger : Ledger) (replies : List KeptReply) (replied : List (Option Draw)) (asks : List OpenAsk) (next : ℕ) : Type 0 where
@@ -86,14 +94,14 @@ pub record LedgerFits (ledger : Ledger) (replies : List KeptReply) (replied : Li
 pub record LinkedWorld (w : WorldState) (h : Hidden) : Type 0 where
   pub files : (kept : Bool) → FilesLinked h.ledger w.keys.keys.table.rows (settled_names kept w.names).table.rows
   pub replies : RepliesLinked w.keys.keys.table.rows w.kept.replies h.replied
-  pub draws : DrawsFit h.ledger h.replied h.place w.keys.keys.table.greatest
+  pub draws : DrawsFit h.ledger h.replied h.place (IsOldBirth w.keys.keys.table)
   pub ledger : LedgerFits h.ledger w.kept.replies h.replied w.names.names.asks (next_id w.names.names)
 
--- What holds of two tables that are found in the files, while nothing is kept: files are linked, and the ids of the ledger are of
--- openings that the table of the namesystem has seen.
+-- What holds of two tables that are found in the files, while nothing is kept: files are linked, the births of the ledger are of
+-- openings that the key log records, and its ids of openings that the edit log records.
 pub record LinkedTables (ledger : Ledger) (place : ℕ) (keys : Table) (names : NameTable) : Type 0 where
   pub files : FilesLinked ledger keys.rows names.rows
-  pub draws : DrawsFit ledger [] place keys.greatest
+  pub draws : DrawsFit ledger [] place (IsRecordedBirth keys)
   pub fits : LedgerFits ledger [] [] [] ((names.opening + 1) * 2 ^ 32)
 
 -- Files that a run may start from, with a ledger of draws among so many words: two logs, and one more record may be behind each,

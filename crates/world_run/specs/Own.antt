@@ -1,13 +1,12 @@
 -- What may stand in a log behind the acknowledged records, and what a crash leaves then: at rest, and while an event happens.
-use Rattle.std.specs.Prelude.{◌≡◌, ◌⊎◌, ℕ, Bool, true, false, List, Option, None, Some, Result, IfSome}
+use Rattle.std.specs.Prelude.{◌≡◌, ℕ, Bool, Option, None, Some, Result}
 use Rattle.hk_base.specs.Disk.{Image}
 use Rattle.inode_tree.specs.declared.paths.NPath.{NPath}
 use Rattle.inode_tree.specs.Paths.{read_path}
 use Rattle.edit_ops.specs.declared.ops.EditOp.{EditOp}
 use Rattle.key_rows.specs.declared.rows.KeyCommand.{KeyCommand}
-use Rattle.key_rows.specs.declared.rows.KeyCommand.TheVariants.{Opened}
-use Rattle.key_rows.specs.Table.{Table}
-use Rattle.kms_store.specs.Store.{IsLeftOf}
+use Rattle.kms_store.specs.Store.{AKeyOpening, NoCommand}
+use Rattle.kms_core.specs.Service.{OwnOf as OwnOfKeys}
 use Rattle.name_store.specs.Store.{AnOpening, NothingMore}
 use Rattle.name_core.specs.declared.calls.NameCall.{NameCall}
 use Rattle.name_core.specs.declared.calls.NameCall.TheVariants as call
@@ -24,34 +23,17 @@ use Rattle.world_run.specs.World.{WorldState, numbered}
 
 -- the key log
 
--- what may be written: nothing, any command, and the record of an opening
+-- What an event may write there: an opening, where it restarts the key management service, and the command of its own call, where it
+-- makes one of it. The call that a draw makes changes no key, and writes nothing.
+abbrev pub OwnKeysOfEvent : WorldState → (ℕ → ℕ) → ℕ → Event → Bool → KeyCommand → Type 0
+OwnKeysOfEvent w words now (event.Kms user c) kept command = OwnOfKeys w.keys words now c kept command
+OwnKeysOfEvent w words now event.RestartKms kept command = AKeyOpening kept command
+OwnKeysOfEvent w words now _ kept command = NoCommand kept command
 
-abbrev pub NoCommand : Bool → KeyCommand → Type 0
-NoCommand kept command = ⊥
-
-abbrev pub AnyCommand : Bool → KeyCommand → Type 0
-AnyCommand kept command = Unit {0}
-
-abbrev pub is_key_opening : KeyCommand → Bool
-is_key_opening (Opened opening) = true
-is_key_opening _ = false
-
-abbrev pub AKeyOpening : Bool → KeyCommand → Type 0
-AKeyOpening kept command = is_key_opening command ≡ true
-
--- What a crash may leave of the log of these commands, which make a table, while one is pending. The one command more, if there is
--- one, is the pending command itself, or one of `own`, which says what may be written behind the settled log.
-pub record IsLeftOfKeys (table : Table) (pending : Option KeyCommand) (own : Bool → KeyCommand → Type 0) (commands : List KeyCommand) (bytes : List ℕ) : Type 0 where
-  pub left : IsLeftOf table pending commands bytes
-  pub more_is : IfSome left.more (λ command. ((left.kept ≡ false) × (pending ≡ Some command)) ⊎ own left.kept command)
-
--- What an event may write there: an opening, where it restarts the key management service, and a command, where it makes a call of
--- it. Which command a call may write is not said here, but that it applies: the service's own clause says no more.
-abbrev pub OwnKeysOfEvent : Event → Bool → KeyCommand → Type 0
-OwnKeysOfEvent (event.Kms user c) kept command = AnyCommand kept command
-OwnKeysOfEvent event.RestartKms kept command = AKeyOpening kept command
-OwnKeysOfEvent (event.Draw number) kept command = AnyCommand kept command
-OwnKeysOfEvent _ kept command = NoCommand kept command
+-- and a restart that failed
+abbrev pub OwnKeysOfRestart : Event → Bool → KeyCommand → Type 0
+OwnKeysOfRestart event.RestartKms kept command = AKeyOpening kept command
+OwnKeysOfRestart _ kept command = NoCommand kept command
 
 -- the edit log
 
@@ -96,10 +78,10 @@ OwnOfRestart _ kept op = NothingMore kept op
 abbrev pub SurvivesAtRest : WorldState → Acknowledged → Image → Type 0
 SurvivesAtRest w done image = Survives w done NoCommand NothingMore image
 
--- during an event that begins in this world, is answered so, and leaves that world
-abbrev pub SurvivesEvent : WorldState → Event → Line → WorldState → Acknowledged → Image → Type 0
-SurvivesEvent w e told w' done image = Survives w done (OwnKeysOfEvent e) (OwnOfEvent w e told w') image
+-- during an event that begins in this world at this moment, with these words to come, is answered so, and leaves that world
+abbrev pub SurvivesEvent : WorldState → (ℕ → ℕ) → ℕ → Event → Line → WorldState → Acknowledged → Image → Type 0
+SurvivesEvent w words now e told w' done image = Survives w done (OwnKeysOfEvent w words now e) (OwnOfEvent w e told w') image
 
 -- during a restart that fails
 abbrev pub SurvivesRestart : WorldState → Event → Acknowledged → Image → Type 0
-SurvivesRestart w e done image = Survives w done (OwnKeysOfEvent e) (OwnOfRestart e) image
+SurvivesRestart w e done image = Survives w done (OwnKeysOfRestart e) (OwnOfRestart e) image

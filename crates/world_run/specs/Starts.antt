@@ -1,7 +1,8 @@
 -- What a start of both services does, done or not.
 use Rattle.std.specs.Prelude.{◌≡◌, ◌⊎◌, ◌<◌, ℕ, List, IfOk, IsErrOf, Result}
-use Rattle.hk_base.specs.Disk.{DiskState, RunOn, Tells}
+use Rattle.hk_base.specs.Disk.{DiskState, LeavesOnly, RunOn, Tells}
 use Rattle.hk_base.specs.Faults.{Rose}
+use Rattle.frame_log.specs.Stands.{LeavesFrom}
 use Rattle.frame_log.specs.declared.fault.StartFault.{StartFault}
 use Rattle.frame_log.specs.declared.fault.StartFault.TheVariants as start
 use Rattle.edit_ops.specs.declared.ops.EditOp.{EditOp}
@@ -9,9 +10,9 @@ use Rattle.key_rows.specs.declared.rows.KeyCommand.{KeyCommand}
 use Rattle.key_rows.specs.Table.{Table}
 use Rattle.prop_text.specs.declared.lines.PropLine.{PropLine}
 use Rattle.kms_acls.specs.StandsFor.{StandsFor as ListsFor}
-use Rattle.kms_store.specs.Store.{IsDamagedAt, IsKeyLog}
+use Rattle.kms_store.specs.Store.{IsDamagedAt, IsKeyLog, IsLeftByStart}
 use Rattle.name_store.specs.Table.{Replayed}
-use Rattle.name_store.specs.Store.{IsDamagedAt as IsDamagedName, IsNameLog}
+use Rattle.name_store.specs.Store.{IsDamagedAt as IsDamagedName, IsLeftByStart as IsLeftByNameStart, IsNameLog}
 use Rattle.world_run.specs.declared.event.WorldFault.{WorldFault}
 use Rattle.world_run.specs.Acknowledged.{LeavesBoth, RunBoth}
 use Rattle.world_run.specs.Ledger.{Ledger}
@@ -50,6 +51,14 @@ pub record StartHappens (old new : DiskState) (lines : List PropLine) (result : 
   pub first_keys : (fault : StartFault) → IsErrOf result (record { file = 1; fault = fault }) → Tells old → MayOpenKeys (old.reads 0)
   pub first_names : (fault : StartFault) → IsErrOf result (record { file = 0; fault = fault }) → RunOn 0 old new
   pub any_moment : Tells old → LeavesBoth old new (LeftByStarts old)
+  -- of each file a crash leaves only what its opening leaves of the log found, since its first sync; without that, what it might have
+  -- left before
+  pub since_sync_keys : Tells old →
+      ((IsErrOf result (record { file = 0; fault = start.StoreFault }) ⊎ IsErrOf result (record { file = 0; fault = start.NoMemory })) × LeavesOnly 0 old new (old.leaves 0))
+      ⊎ LeavesFrom 0 old new (IsLeftByStart (old.reads 0))
+  pub since_sync_names : Tells old →
+      ((((fault : StartFault) × IsErrOf result (record { file = 0; fault = fault })) ⊎ IsErrOf result (record { file = 1; fault = start.StoreFault })) × LeavesBoth old new (λ c. old.leaves 1 (c 1)))
+      ⊎ LeavesFrom 1 old new (IsLeftByNameStart (old.reads 1))
   pub sound : Tells old → (ledger : Ledger) (place : ℕ) → StartsSound old ledger place → LeavesBoth old new (SoundFiles ledger place)
   pub run : RunBoth old new
   pub cause : (file : ℕ) → IsErrOf result (record { file = file; fault = start.StoreFault }) → Rose old.faults new.faults

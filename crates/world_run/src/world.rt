@@ -2,6 +2,7 @@
 ghost use Rattle.std.specs.Prelude.{◌≡◌, ◌⊎◌, ◌<◌, ℕ, List, IfOk, IsErrOf, MatchResult};
 ghost use Rattle.hk_base.specs.Disk.{LeavesOnly, RunOn, Tells};
 ghost use Rattle.hk_base.specs.Faults.{Rose};
+ghost use Rattle.frame_log.specs.Stands.{LeavesFrom};
 ghost use Rattle.frame_log.specs.declared.fault.StartFault.TheVariants as start;
 ghost use Rattle.inode_tree.specs.Paths.{read_path};
 ghost use Rattle.edit_ops.specs.declared.ops.EditOp.{EditOp};
@@ -15,7 +16,7 @@ ghost use Rattle.name_core.specs.declared.calls.Ask.TheVariants as ask;
 ghost use Rattle.name_core.specs.declared.calls.NameCall.TheVariants as call;
 ghost use Rattle.name_core.specs.Calls.{superuser};
 ghost use Rattle.name_store.specs.Table.{Replayed};
-ghost use Rattle.name_store.specs.Store.{IsDamagedAt as IsDamagedName, IsNameLog};
+ghost use Rattle.name_store.specs.Store.{IsDamagedAt as IsDamagedName, IsLeftByStart as IsLeftByNameStart, IsNameLog};
 ghost use Rattle.prop_text.specs.declared.lines.PropLine.{PropLine};
 ghost use Rattle.world_run.specs.declared.event.Event.TheVariants as event;
 ghost use Rattle.world_run.specs.Acknowledged.{Acknowledged, HoldsLogs, LeavesBoth, RunBoth};
@@ -119,6 +120,9 @@ fn open_keys<D: Disk>(alloc: Global, disk: &mut D, props: &Props) -> Result<Kms,
         × IsKeyLog ((D.state disk.old).reads 0) commands table × (table.opening ≡ 4294967295)) }
     ensures any_moment { Tells (D.state disk.old) → LeavesOnly 0 (D.state disk.old) (D.state disk.new)
         (λ c. (D.state disk.old).leaves 0 c ⊎ IsLeftByStart ((D.state disk.old).reads 0) c) }
+    ensures since_sync { Tells (D.state disk.old) →
+        ((IsErrOf result start.StoreFault ⊎ IsErrOf result start.NoMemory) × LeavesOnly 0 (D.state disk.old) (D.state disk.new) ((D.state disk.old).leaves 0))
+        ⊎ LeavesFrom 0 (D.state disk.old) (D.state disk.new) (IsLeftByStart ((D.state disk.old).reads 0)) }
     ensures run { RunOn 0 (D.state disk.old) (D.state disk.new) }
     ensures cause { IsErrOf result start.StoreFault → Rose (D.state disk.old).faults (D.state disk.new).faults }
 {
@@ -154,6 +158,18 @@ impl World {
         // A crash at any moment leaves of each file what it might have left before, or the log found, now or
         // with its end gate read as 1, or its records with the new opening or without it.
         ensures any_moment { Tells (D.state disk.old) → LeavesBoth (D.state disk.old) (D.state disk.new) (LeftByStarts (D.state disk.old)) }
+
+        // Whatever the answer, since the first sync of its opening it leaves of each file the latter alone. Where
+        // that sync failed, or the opening wasn't reached, nothing was written to the file, and a crash leaves
+        // of it what it might have left before.
+        ensures since_sync_keys { Tells (D.state disk.old) →
+            ((IsErrOf result (record { file = 0; fault = start.StoreFault }) ⊎ IsErrOf result (record { file = 0; fault = start.NoMemory }))
+            × LeavesOnly 0 (D.state disk.old) (D.state disk.new) ((D.state disk.old).leaves 0))
+            ⊎ LeavesFrom 0 (D.state disk.old) (D.state disk.new) (IsLeftByStart ((D.state disk.old).reads 0)) }
+        ensures since_sync_names { Tells (D.state disk.old) →
+            ((((fault : StartFault) × IsErrOf result (record { file = 0; fault = fault })) ⊎ IsErrOf result (record { file = 1; fault = start.StoreFault }))
+            × LeavesBoth (D.state disk.old) (D.state disk.new) (λ c. (D.state disk.old).leaves 1 (c 1)))
+            ⊎ LeavesFrom 1 (D.state disk.old) (D.state disk.new) (IsLeftByNameStart ((D.state disk.old).reads 1)) }
 
         // Where every image was one that a run may start from, with a ledger, so is every image since.
         ensures sound { Tells (D.state disk.old) → (ledger : Ledger) (place : ℕ) → StartsSound (D.state disk.old) ledger place
