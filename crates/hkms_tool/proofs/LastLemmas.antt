@@ -6,6 +6,8 @@ use Rattle.hk_base.specs.Disk.{DiskState, Tells}
 use Rattle.hk_base.specs.Writing.{WroteFront}
 use Rattle.frame_log.specs.declared.fault.StartFault.{StartFault}
 use Rattle.frame_log.specs.declared.fault.StartFault.TheVariants as start
+use Rattle.kms_store.specs.Store.{IsLeftByStart}
+use Rattle.name_store.specs.Store.{IsLeftByStart as IsLeftByNameStart}
 use Rattle.prop_text.specs.declared.lines.PropLine.{PropLine}
 use Rattle.prop_text.specs.declared.faults.PropFault.{PropFault}
 use Rattle.prop_text.specs.declared.faults.PropFault.TheVariants as prop_fault
@@ -13,16 +15,16 @@ use Rattle.world_run.specs.Acknowledged.{Acknowledged, LeavesBoth, RunBoth, also
 use Rattle.world_run.specs.Keeps.{Begins, LeftByStarts}
 use Rattle.world_run.specs.Ledger.{Ledger}
 use Rattle.world_run.specs.Linked.{SoundFiles, StartsSound}
-use Rattle.world_run.specs.World.{RunningWorld, WorldState, first_world}
+use Rattle.world_run.specs.World.{RunningWorld, WorldState, first_world, world_of}
 use Rattle.hkms_tool.specs.declared.replay.Ended.{Ended}
 use Rattle.hkms_tool.specs.declared.replay.Ended.TheVariants as ended
 use Rattle.hkms_tool.specs.declared.props.PropsFault.{PropsFault}
 use Rattle.hkms_tool.specs.declared.props.PropsFault.TheVariants as props_fault
 use Rattle.hkms_tool.specs.Properties.{HasPropsFault, ReadsProperties}
 use Rattle.hkms_tool.specs.Run.{History, Runs, lines_in, logged_in, transcript, world_after}
-use Rattle.hkms_tool.specs.Replay.{IsTold, NotOpened, OnDisk, Played, ReadsAt, Replay, ReplayUnder, RestartStops, Says, ended_by, ended_by_props, ended_by_text, last_line, opened_logs, status_of}
+use Rattle.hkms_tool.specs.Replay.{IsTold, NotOpened, OnDisk, Played, ReadsAt, Replay, ReplayUnder, RestartStops, Says, SurvivesUntil, ended_by, ended_by_props, ended_by_text, last_line, opened_logs, status_of}
 use Rattle.hkms_tool.specs.Steps.{Closes, Ran}
-use Rattle.hkms_tool.proofs.BeganLemmas.{promise_kept, survives_kept}
+use Rattle.hkms_tool.proofs.BeganLemmas.{Synced, promise_kept, since_kept, survives_kept}
 use Rattle.hkms_tool.proofs.LivedLemmas.{tells_now}
 
 -- what is written behind a body
@@ -53,6 +55,18 @@ closed stop how lines told body written mid now is wrote c = go c.writes
         closes = inr (end, (front.more, append_assoc body front.front front.more ∙ ap (λ (l : List ℕ). body ++ l) front.whole));
       };
     }
+
+-- a replay that ends by another cause than want of memory or a fault of the output was stopped by it
+pub stopped_by : (stop : Ended) (lines : ℕ) (written now : Option (List ℕ)) (how fault : Ended) → Closes stop lines written now how → (fault ≡ ended.NoMemory → ⊥) → (fault ≡ ended.WriteFault → ⊥) → how ≡ fault → stop ≡ fault
+stopped_by stop lines written now how fault c no_memory no_write is = go c.writes
+  where
+    by_last : how ≡ c.last → (c.last ≡ stop) ⊎ (c.last ≡ ended.NoMemory) → stop ≡ fault
+    by_last e (inl m) = sym m ∙ sym e ∙ is
+    by_last e (inr m) = absurd (no_memory (sym is ∙ e ∙ m))
+
+    go : ((how ≡ c.last) × Appends written now (last_line c.last lines)) ⊎ ((how ≡ ended.WriteFault) × WroteFront written now (last_line c.last lines)) → stop ≡ fault
+    go (inl (e, more)) = by_last e c.last_is
+    go (inr (e, front)) = absurd (no_write (sym is ∙ e))
 
 -- a log could not be opened
 
@@ -97,9 +111,9 @@ has_read same old new acls acls' words left written now how lines read replay = 
 -- lines were played
 
 pub played : (lines : List PropLine) (old mid new : DiskState) (r : RunningWorld) (words : ℕ → ℕ) (left written told now : Option (List ℕ)) (stop how : Ended) (count : ℕ) → Begins old mid r
-    → (Tells old → LeavesBoth old mid (LeftByStarts old)) → (Tells old → (ledger : Ledger) (place : ℕ) → StartsSound old ledger place → LeavesBoth old mid (SoundFiles ledger place)) → RunBoth old mid
+    → (Tells old → LeavesBoth old mid (LeftByStarts old)) → (Tells old → Synced old mid) → (Tells old → (ledger : Ledger) (place : ℕ) → StartsSound old ledger place → LeavesBoth old mid (SoundFiles ledger place)) → RunBoth old mid
     → Ran lines mid new r words left written told stop count → Closes stop count told now how → ReplayUnder lines old new words left written now how
-played lines old mid new r words left written told now stop how count b moments sound run ran c =
+played lines old mid new r words left written told now stop how count b moments since sound run ran c =
     inr (record { history = h; stop = stop; played = whole; text = w.text; wrote = w.wrote; says = w.says })
   where
     h : History
@@ -117,16 +131,19 @@ played lines old mid new r words left written told now stop how count b moments 
     found : Tells old → Acknowledged
     found tells = opened_logs (b.log tells).commands b.table (b.log tells).ops b.names
 
-    disk : Tells old → OnDisk old new b.table b.names h stop
+    disk : Tells old → OnDisk old new words b.table b.names h stop
     disk tells =
         let log = b.log tells in
+        let later : LeavesBoth mid new (SurvivesUntil stop (found tells) (world_of r) words h) = (ran.kept (tells_now old mid run tells) (found tells) log.holds).moments in
         record {
           commands = log.commands;
           ops = log.ops;
           used = log.used;
           keys = log.keys;
           edits = log.edits;
-          moments = survives_kept old mid new r h stop first (found tells) b.first (moments tells) run (ran.kept (tells_now old mid run tells) (found tells) log.holds).moments;
+          moments = survives_kept old mid new r words h stop first (found tells) b.first (moments tells) run later;
+          since_sync_keys = since_kept 0 (IsLeftByStart (old.reads 0)) old mid new r words h stop first (found tells) b.first (since tells).0 ran.run later;
+          since_sync_names = since_kept 1 (IsLeftByNameStart (old.reads 1)) old mid new r words h stop first (found tells) b.first (since tells).1 ran.run later;
         }
 
     whole : Played lines old new words left stop h

@@ -66,9 +66,9 @@ pub open_last : (before : Hidden) (first : WorldState) (words : ℕ → ℕ) (hi
 open_last before first words [] f = f
 open_last before first words (x ∷ earlier) f = f.0
 
-pub survives_last : (done : Acknowledged) (first : WorldState) (history : History) (image : Image) → SurvivesAtRest (world_after first history) (also done (logged_in history)) image → SurvivesIn done first history image
-survives_last done first [] image s = subst (λ (a : Acknowledged). SurvivesAtRest first a image) (also_nothing done) s
-survives_last done first (x ∷ earlier) image s = inl s
+pub survives_last : (done : Acknowledged) (first : WorldState) (words : ℕ → ℕ) (history : History) (image : Image) → SurvivesAtRest (world_after first history) (also done (logged_in history)) image → SurvivesIn done first words history image
+survives_last done first words [] image s = subst (λ (a : Acknowledged). SurvivesAtRest first a image) (also_nothing done) s
+survives_last done first words (x ∷ earlier) image s = inl s
 
 pub sound_last : (before : Hidden) (first : WorldState) (words : ℕ → ℕ) (history : History) (image : Image) → SoundWith (hidden_in before first words history) image → SoundIn before first words history image
 sound_last before first words [] image s = s
@@ -87,14 +87,14 @@ pub record Adds (old new : DiskState) (r : RunningWorld) (words : ℕ → ℕ) (
   pub lists : SameLists r r'
   pub faults_are : new.faults ≡ faults_of old.faults event
   pub rest : (k : ℕ) → words' k ≡ words (drawn_of event + k)
-  pub goes_on : GoesOn old new r r' (logged_of event) (hidden_of (world_of r) words event) (SurvivesLine (world_of r) event)
+  pub goes_on : GoesOn old new r r' (logged_of event) (hidden_of (world_of r) words event) (SurvivesLine (world_of r) words event)
 
 -- From the first world, with these words to come, a history has led to another.
 pub record Lived (old new : DiskState) (first : RunningWorld) (words : ℕ → ℕ) (r : RunningWorld) (words' : ℕ → ℕ) (history : History) : Type 0 where
   pub linked : Tells old → (h : Hidden) → LinkedWorld (world_of first) h → LinkedWorld (world_of r) (hidden_in h (world_of first) words history)
   pub files_open : Tells old → (h : Hidden) → IsHidden (world_of first) h → FilesOpen h (world_of first) words history
   pub stands : Tells old → (done : Acknowledged) → HoldsLogs old first done → HoldsLogs new r (also done (logged_in history))
-  pub survives : Tells old → (done : Acknowledged) → HoldsLogs old first done → LeavesBoth old new (SurvivesIn done (world_of first) history)
+  pub survives : Tells old → (done : Acknowledged) → HoldsLogs old first done → LeavesBoth old new (SurvivesIn done (world_of first) words history)
   pub sound : Tells old → (done : Acknowledged) → HoldsLogs old first done → (h : Hidden) → LinkedWorld (world_of first) h → LeavesBoth old new (SoundIn h (world_of first) words history)
   pub run : RunBoth old new
   pub world_is : world_of r ≡ world_after (world_of first) history
@@ -108,7 +108,7 @@ lived_nothing d r words words' same = record {
   linked = λ told h linked. linked;
   files_open = λ told h hidden. hidden.files_open;
   stands = λ told done holds. subst (λ (a : Acknowledged). HoldsLogs d r a) (sym (also_nothing done)) holds;
-  survives = λ told done holds. nothing_left d (SurvivesIn done (world_of r) []);
+  survives = λ told done holds. nothing_left d (SurvivesIn done (world_of r) words []);
   sound = λ told done holds h linked. nothing_left d (SoundIn h (world_of r) words []);
   run = no_run d;
   world_is = refl;
@@ -137,7 +137,7 @@ lived_on old mid new first r r' words words' history so same faults on = record 
   stands = λ told done holds. subst (λ (a : Acknowledged). HoldsLogs new r' a) (also_nothing (also done (logged_in history)))
       (on.stands (tells_now old mid so.run told) (also done (logged_in history)) (so.stands told done holds));
   survives = λ told done holds. leaves_on so.run (so.survives told done holds)
-      (weaker (λ image left. survives_last done (world_of first) history image (subst (λ (w : WorldState). SurvivesAtRest w (also done (logged_in history)) image) so.world_is left))
+      (weaker (λ image left. survives_last done (world_of first) words history image (subst (λ (w : WorldState). SurvivesAtRest w (also done (logged_in history)) image) so.world_is left))
       (survives_on old mid new first r r' words words' history nothing_acknowledged (λ h. h) (SurvivesAtRest (world_of r)) so on told done holds));
   sound = λ told done holds h linked. leaves_on so.run (so.sound told done holds h linked)
       (weaker (sound_last h (world_of first) words history) (sound_on old mid new first r r' words words' history nothing_acknowledged (λ x. x) (SurvivesAtRest (world_of r)) so on told done holds h linked));
@@ -162,11 +162,11 @@ lived_more old mid new first r r' words words' words'' earlier line event so a =
   stands = λ told done holds. subst (λ (l : Acknowledged). HoldsLogs new r' l) (also_also done (logged_in earlier) (logged_of event))
       (a.goes_on.stands (tells_now old mid so.run told) (also done (logged_in earlier)) (so.stands told done holds));
   survives = λ told done holds. leaves_on so.run (weaker (λ image left. inr (inr left)) (so.survives told done holds))
-      (weaker (λ image left. inr (inl (subst (λ (w : WorldState). SurvivesLine w event (also done (logged_in earlier)) image) so.world_is left)))
-      (survives_on old mid new first r r' words words' earlier (logged_of event) (hidden_of (world_of r) words' event) (SurvivesLine (world_of r) event) so a.goes_on told done holds));
+      (weaker (λ image left. inr (inl (same_left (also done (logged_in earlier)) image left)))
+      (survives_on old mid new first r r' words words' earlier (logged_of event) (hidden_of (world_of r) words' event) (SurvivesLine (world_of r) words' event) so a.goes_on told done holds));
   sound = λ told done holds h linked. leaves_on so.run (weaker (λ image left. inr left) (so.sound told done holds h linked))
       (weaker (λ image left. inl (subst (λ (x : Hidden). SoundWith x image) (same_hidden (hidden_in h one words earlier)) left))
-      (sound_on old mid new first r r' words words' earlier (logged_of event) (hidden_of (world_of r) words' event) (SurvivesLine (world_of r) event) so a.goes_on told done holds h linked));
+      (sound_on old mid new first r r' words words' earlier (logged_of event) (hidden_of (world_of r) words' event) (SurvivesLine (world_of r) words' event) so a.goes_on told done holds h linked));
   run = run_on old mid new so.run a.goes_on.run;
   world_is = there;
   lists = lists_on first r r' so.lists a.lists;
@@ -182,6 +182,11 @@ lived_more old mid new first r r' words words' words'' earlier line event so a =
 
     same_hidden : (h : Hidden) → hidden_of (world_of r) words' event h ≡ hidden_of (world_after one earlier) (behind (drawn_in earlier) words) event h
     same_hidden h = λ i. hidden_of (so.world_is i) (λ k. so.rest k i) event h
+
+    same_left : (logs : Acknowledged) (image : Image) → SurvivesLine (world_of r) words' event logs image → SurvivesLine (world_after one earlier) (behind (drawn_in earlier) words) event logs image
+    same_left logs image left =
+        let words_path : words' ≡ behind (drawn_in earlier) words = λ i k. so.rest k i in
+        subst (λ (x : ℕ → ℕ). SurvivesLine (world_after one earlier) x event logs image) words_path (subst (λ (w : WorldState). SurvivesLine w words' event logs image) so.world_is left)
 
     linked_there : Tells old → (h : Hidden) → LinkedWorld one h → LinkedWorld (world_of r') (hidden_of (world_after one earlier) (behind (drawn_in earlier) words) event (hidden_in h one words earlier))
     linked_there told h linked =

@@ -4,6 +4,8 @@ use Rattle.hk_base.specs.Disk.{DiskState, Tells}
 use Rattle.hk_base.specs.Faults.{Rose}
 use Rattle.key_rows.specs.declared.calls.KmsCall.{KmsCall}
 use Rattle.key_rows.specs.declared.calls.KmsReply.{KmsReply}
+use Rattle.kms_store.specs.Store.{IsLeftByStart}
+use Rattle.name_store.specs.Store.{IsLeftByStart as IsLeftByNameStart}
 use Rattle.prop_text.specs.declared.lines.PropLine.{PropLine}
 use Rattle.world_run.specs.declared.event.Event.{Event}
 use Rattle.world_run.specs.declared.event.Event.TheVariants as event
@@ -23,10 +25,10 @@ use Rattle.http_wire.specs.Reading.{ahead}
 use Rattle.hkms_tool.specs.declared.replay.Ended.{Ended as Replayed}
 use Rattle.hkms_tool.specs.declared.replay.Ended.TheVariants as replayed
 use Rattle.hkms_tool.specs.Pipe.{Asks, Converses, Pipe, PipeUnder, connection_status}
-use Rattle.hkms_tool.specs.Replay.{ended_by, ended_by_props, opened_logs, status_of}
+use Rattle.hkms_tool.specs.Replay.{SurvivesUntil, ended_by, ended_by_props, opened_logs, status_of}
 use Rattle.hkms_tool.specs.Run.{Happened, History, behind, drawn_in, faults_after, world_after}
 use Rattle.hkms_tool.specs.Steps.{HasLists}
-use Rattle.hkms_tool.proofs.BeganLemmas.{promise_kept, survives_kept}
+use Rattle.hkms_tool.proofs.BeganLemmas.{Synced, promise_kept, since_kept, survives_kept}
 use Rattle.hkms_tool.proofs.FollowLemmas.{ServedSo, served_so}
 use Rattle.hkms_tool.proofs.LivedLemmas.{Adds, Lived, has_lists, lived_more, lived_nothing, tells_now, weaker}
 
@@ -65,7 +67,6 @@ call_more props o mid new r s words words' earlier now user asked reply so steps
     happened = h;
     grows = refl;
     runs = record {
-      now = now;
       event_is = refl;
       reply_is = refl;
       later = subst (λ (n : ℕ). n ≤ new.faults) so.faults_are steps.run.faults;
@@ -77,7 +78,7 @@ call_more props o mid new r s words words' earlier now user asked reply so steps
 }
   where
     h : Happened
-    h = record { event = event.Kms user asked; reply = line.Kms reply; drawn = steps.drawn; logged = steps.logged; world = world_of s; faults = new.faults }
+    h = record { event = event.Kms user asked; now = now; reply = line.Kms reply; drawn = steps.drawn; logged = steps.logged; world = world_of s; faults = new.faults }
 
     adds : Adds mid new r words (Some h) s words'
     adds = record {
@@ -96,11 +97,11 @@ TalksAs state to_come o v history = Talked o (state v.disk) v.world (to_come v.w
 
 -- a connection was served, once both logs were opened
 pub converses : {D W : Type 0} (state : D → DiskState) (to_come : W → ℕ → ℕ) (props : List PropLine) (old : DiskState) (v v' : WorldView D W) (left left' written now : Option (List ℕ)) (unused : List ℕ) (how : Ended)
-    → Begins old (state v.disk) v.world → (Tells old → LeavesBoth old (state v.disk) (LeftByStarts old))
+    → Begins old (state v.disk) v.world → (Tells old → LeavesBoth old (state v.disk) (LeftByStarts old)) → (Tells old → Synced old (state v.disk))
     → (Tells old → (ledger : Ledger) (place : ℕ) → StartsSound old ledger place → LeavesBoth old (state v.disk) (SoundFiles ledger place)) → RunBoth old (state v.disk) → HasLists v.world props
     → Served (Happens state to_come) (record { ahead = left; desk = v; written = written }) (record { ahead = ahead unused left'; desk = v'; written = now }) how
     → Converses props old (state v'.disk) (to_come v.words) left left' written now how
-converses {D} {W} state to_come props old v v' left left' written now unused how b moments sound run has served = record {
+converses {D} {W} state to_come props old v v' left left' written now unused how b moments since sound run has served = record {
   table = b.table;
   names = b.names;
   before = mid.faults;
@@ -113,13 +114,16 @@ converses {D} {W} state to_come props old v v' left left' written now unused how
   on_disk = λ told.
       let log = b.log told in
       let found : Acknowledged = opened_logs log.commands b.table log.ops b.names in
+      let later : LeavesBoth mid (state v'.disk) (SurvivesUntil replayed.Done found (world_of v.world) words h) = weaker (λ image left. inl left) (talked.survives (tells_now old mid run told) found log.holds) in
       record {
         commands = log.commands;
         ops = log.ops;
         used = log.used;
         keys = log.keys;
         edits = log.edits;
-        moments = survives_kept old mid (state v'.disk) v.world h replayed.Done (first_world b.table b.names) found b.first (moments told) run (weaker (λ image left. inl left) (talked.survives (tells_now old mid run told) found log.holds));
+        moments = survives_kept old mid (state v'.disk) v.world words h replayed.Done (first_world b.table b.names) found b.first (moments told) run later;
+        since_sync_keys = since_kept 0 (IsLeftByStart (old.reads 0)) old mid (state v'.disk) v.world words h replayed.Done (first_world b.table b.names) found b.first (since told).0 talked.run later;
+        since_sync_names = since_kept 1 (IsLeftByNameStart (old.reads 1)) old mid (state v'.disk) v.world words h replayed.Done (first_world b.table b.names) found b.first (since told).1 talked.run later;
       };
   promise = λ told. promise_kept old mid (state v'.disk) v.world words h b told run (sound told)
       (λ done holds before hidden. record {

@@ -24,10 +24,10 @@ use Rattle.hkms_tool.proofs.LivedLemmas.{also_nothing, no_run, nothing_left}
 event_played : (props : List PropLine) (old new : DiskState) (r r' : RunningWorld) (words words' : ℕ → ℕ) (events : ℕ) (written now : Option (List ℕ)) (event : Event) (told : Line) (line : List ℕ)
     → (s : Steps props old new r words (events + 1) event told r' words') → Spells line event
     → PlaysLine props old new (record { world = r; words = words; events = events; written = written }) line
-    (Some (record { event = event; reply = told; drawn = s.drawn; logged = s.logged; world = world_of r'; faults = new.faults }))
+    (Some (record { event = event; now = events + 1; reply = told; drawn = s.drawn; logged = s.logged; world = world_of r'; faults = new.faults }))
     (record { world = r'; words = words'; events = events + 1; written = now })
 event_played props old new r r' words words' events written now event told line s spells = record {
-  runs = record { spells = spells; later = s.run.faults; step = s.step };
+  runs = record { spells = spells; moment = refl; later = s.run.faults; step = s.step };
   world_is = refl;
   lists = s.lists;
   faults_are = refl;

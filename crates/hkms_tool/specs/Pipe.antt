@@ -28,11 +28,10 @@ use Rattle.hkms_tool.specs.Run.{Happened, History, behind, drawn_in, faults_afte
 -- Under properties of these lines, a call of a user happens in this world as an event, at some moment, with these words to come.
 -- A store fault comes only where the disk's count of faults rose in the event.
 pub record CallRuns (lines : List PropLine) (tells : Type 0) (w : WorldState) (words : ℕ → ℕ) (faults : ℕ) (user : List ℕ) (asked : KmsCall) (reply : KmsReply) (h : Happened) : Type 0 where
-  pub now : ℕ
   pub event_is : h.event ≡ event.Kms user asked
   pub reply_is : h.reply ≡ line.Kms reply
   pub later : faults ≤ h.faults
-  pub step : LinkedStep lines w words now h.event (Rose faults h.faults) tells h.reply h.drawn h.logged h.world
+  pub step : LinkedStep lines w words h.now h.event (Rose faults h.faults) tells h.reply h.drawn h.logged h.world
 
 -- Under properties of these lines, a call of a user happens behind those of a history, which run from this world on, with these words
 -- to come and this count of faults: then the history has one event more, which no line names.
@@ -54,7 +53,7 @@ pub record Converses (lines : List PropLine) (old new : DiskState) (words : ℕ 
   -- the count of faults in the calls is the disk's: it begins at no fewer than the disk had, and ends at no more than it has
   pub began : old.faults ≤ before
   pub ended : faults_after before history ≤ new.faults
-  pub on_disk : Tells old → OnDisk old new table names history Done
+  pub on_disk : Tells old → OnDisk old new words table names history Done
   pub promise : Tells old → (ledger : Ledger) (place : ℕ) → StartsSound old ledger place → Promised old new words table names ledger place history
   pub reads : (told : Tells old) → let found = on_disk told in ReadsAs new (also (opened_logs found.commands table found.ops names) (logged_in history)) (world_after (first_world table names) history)
 

@@ -2,7 +2,8 @@
 use Rattle.std.specs.Prelude.{◌≡◌, ◌⊎◌, ℕ, zero, suc, ◌+◌, ◌<◌, ◌≤◌, ◌^◌, Bool, List, [], ◌∷◌, ◌++◌, length, count_by, take, codes, Option, Some}
 use Rattle.std.specs.Fmt.{decimal}
 use Rattle.std.specs.Io.KnownBytes.{Appends}
-use Rattle.hk_base.specs.Disk.{DiskState, Image, RunOn, Tells}
+use Rattle.hk_base.specs.Disk.{DiskState, Image, LeavesOnly, RunOn, Tells}
+use Rattle.frame_log.specs.Stands.{LeavesFrom}
 use Rattle.frame_log.specs.declared.fault.StartFault.{StartFault}
 use Rattle.frame_log.specs.declared.fault.StartFault.TheVariants as start
 use Rattle.edit_ops.specs.declared.ops.EditOp.{EditOp}
@@ -12,10 +13,10 @@ use Rattle.prop_text.specs.declared.faults.PropFault.{PropFault}
 use Rattle.prop_text.specs.declared.faults.PropFault.TheVariants as prop_fault
 use Rattle.prop_text.specs.declared.lines.PropLine.{PropLine}
 use Rattle.kms_core.specs.State.{settled}
-use Rattle.kms_store.specs.Store.{IsDamagedAt, IsKeyLog, next_opening}
+use Rattle.kms_store.specs.Store.{IsDamagedAt, IsKeyLog, IsLeftByStart, next_opening}
 use Rattle.name_core.specs.State.{settled as settled_names}
 use Rattle.name_store.specs.Table.{NameTable, Replayed, next_opening as next_opening_of_names}
-use Rattle.name_store.specs.Store.{IsDamagedAt as IsDamagedName, IsNameLog}
+use Rattle.name_store.specs.Store.{IsDamagedAt as IsDamagedName, IsLeftByStart as IsLeftByNameStart, IsNameLog}
 use Rattle.replay_text.specs.Events.{IsBad, Spells}
 use Rattle.world_run.specs.declared.event.Event.{Event}
 use Rattle.world_run.specs.declared.event.Event.TheVariants.{RestartKms, RestartName}
@@ -175,6 +176,10 @@ pub record NotOpened (old new : DiskState) (file : ℕ) (fault : StartFault) : T
   pub first_keys : file ≡ 1 → Tells old → MayOpenKeys (old.reads 0)
   pub first_names : file ≡ 0 → RunOn 0 old new
   pub moments : Tells old → LeavesBoth old new (LeftByStarts old)
+  -- Since the first sync of its opening a crash left of each file the latter alone. Where that sync failed, or the opening wasn't
+  -- reached, it left what it may have left before.
+  pub since_sync_keys : Tells old → ((file ≡ 0) × ((fault ≡ start.StoreFault) ⊎ (fault ≡ start.NoMemory)) × LeavesOnly 0 old new (old.leaves 0)) ⊎ LeavesFrom 0 old new (IsLeftByStart (old.reads 0))
+  pub since_sync_names : Tells old → (((file ≡ 0) ⊎ ((file ≡ 1) × (fault ≡ start.StoreFault))) × LeavesBoth old new (λ c. old.leaves 1 (c 1))) ⊎ LeavesFrom 1 old new (IsLeftByNameStart (old.reads 1))
   pub sound : Tells old → (ledger : Ledger) (place : ℕ) → StartsSound old ledger place → LeavesBoth old new (SoundFiles ledger place)
 
 -- The logs could not be opened, and nothing was played.
@@ -198,18 +203,28 @@ SurvivesStop Spent w done image = SurvivesRestart w RestartKms done image ⊎ Su
 SurvivesStop _ w done image = ⊥
 
 -- the two files are what a crash may leave on the way, or in the end
-abbrev pub SurvivesUntil : Ended → Acknowledged → WorldState → History → Image → Type 0
-SurvivesUntil stop before first history image = SurvivesIn before first history image ⊎ SurvivesStop stop (world_after first history) (also before (logged_in history)) image
+abbrev pub SurvivesUntil : Ended → Acknowledged → WorldState → (ℕ → ℕ) → History → Image → Type 0
+SurvivesUntil stop before first words history image = SurvivesIn before first words history image ⊎ SurvivesStop stop (world_after first history) (also before (logged_in history)) image
+
+-- from some moment of a run on, a crash leaves of both files only what has P
+pub record LeavesBothFrom (old new : DiskState) (P : Image → Type 0) : Type 0 where
+  pub moment : ℕ
+  pub begun : old.moment ≤ moment
+  pub reached : moment ≤ new.moment
+  pub only : (c : Image) → new.left_since moment c → P c
 
 -- Both files were found to be logs, of these commands and operations. A crash at any moment since left of each file what it may have
 -- left before, or what its opening leaves of the log found; or both logs, with the records acknowledged in a world on the way.
-pub record OnDisk (old new : DiskState) (table : Table) (names : NameTable) (history : History) (stop : Ended) : Type 0 where
+pub record OnDisk (old new : DiskState) (words : ℕ → ℕ) (table : Table) (names : NameTable) (history : History) (stop : Ended) : Type 0 where
   pub commands : List KeyCommand
   pub ops : List EditOp
   pub used : List ℕ
   pub keys : IsKeyLog (old.reads 0) commands table
   pub edits : IsNameLog (old.reads 1) ops (record { table = names; used = used })
-  pub moments : LeavesBoth old new (λ image. LeftByStarts old image ⊎ SurvivesUntil stop (opened_logs commands table ops names) (first_world table names) history image)
+  pub moments : LeavesBoth old new (λ image. LeftByStarts old image ⊎ SurvivesUntil stop (opened_logs commands table ops names) (first_world table names) words history image)
+  -- since the first sync of its opening, no file is what it may have been before
+  pub since_sync_keys : LeavesBothFrom old new (λ image. IsLeftByStart (old.reads 0) (image 0) ⊎ SurvivesUntil stop (opened_logs commands table ops names) (first_world table names) words history image)
+  pub since_sync_names : LeavesBothFrom old new (λ image. IsLeftByNameStart (old.reads 1) (image 1) ⊎ SurvivesUntil stop (opened_logs commands table ops names) (first_world table names) words history image)
 
 -- The promise on zone files, with a ledger of draws among so many words that the files at the start allow: in each world on the way
 -- the zone files open, and a crash at any moment since left files that the next run may start from, with what was hidden on the way.
@@ -268,7 +283,7 @@ pub record Played (lines : List PropLine) (old new : DiskState) (words : ℕ →
   -- the count of faults in the run is the disk's: it begins at no fewer than the disk had, and ends at no more than it has
   pub began : old.faults ≤ before
   pub ended : faults_after before history ≤ new.faults
-  pub on_disk : Tells old → OnDisk old new table names history stop
+  pub on_disk : Tells old → OnDisk old new words table names history stop
   pub promise : Tells old → (ledger : Ledger) (place : ℕ) → StartsSound old ledger place → Promised old new words table names ledger place history
   pub reads : (told : Tells old) → let found = on_disk told in ReadsAt stop left (lines_in history) new (also (opened_logs found.commands table found.ops names) (logged_in history)) (world_after (first_world table names) history)
   pub restart : Tells old → RestartStops stop left (lines_in history) (world_after (first_world table names) history)

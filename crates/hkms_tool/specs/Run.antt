@@ -1,5 +1,5 @@
 -- A run of lines: what their events did, and what holds in each world on the way.
-use Rattle.std.specs.Prelude.{◌⊎◌, ◌≤◌, ℕ, ◌+◌, List, [], ◌∷◌, ◌++◌, Option, None, Some}
+use Rattle.std.specs.Prelude.{◌≡◌, ◌⊎◌, ◌≤◌, ℕ, ◌+◌, List, [], ◌∷◌, ◌++◌, Option, None, Some}
 use Rattle.hk_base.specs.Disk.{Image}
 use Rattle.hk_base.specs.Faults.{Rose}
 use Rattle.prop_text.specs.declared.lines.PropLine.{PropLine}
@@ -19,10 +19,11 @@ use Rattle.world_run.specs.Promise.{ZoneFilesOpen}
 abbrev pub behind : ℕ → (ℕ → ℕ) → ℕ → ℕ
 behind n words k = words (n + k)
 
--- An event that happened: its answer, how many words it drew, the records that it had acknowledged, the world after it, and the
--- disk's count of faults then.
+-- An event that happened: its moment, its answer, how many words it drew, the records that it had acknowledged, the world after it,
+-- and the disk's count of faults then.
 pub record Happened : Type 0 where
   pub event : Event
+  pub now : ℕ
   pub reply : Line
   pub drawn : ℕ
   pub logged : Acknowledged
@@ -112,6 +113,7 @@ hidden_in before first words (x ∷ earlier) = hidden_of (world_after first earl
 -- moment of an event is its number. A store fault comes only where the disk's count of faults rose in the event.
 pub record EventRuns (lines : List PropLine) (tells : Type 0) (w : WorldState) (words : ℕ → ℕ) (events faults : ℕ) (line : List ℕ) (h : Happened) : Type 0 where
   pub spells : Spells line h.event
+  pub moment : h.now ≡ events + 1
   pub later : faults ≤ h.faults
   pub step : LinkedStep lines w words (events + 1) h.event (Rose faults h.faults) tells h.reply h.drawn h.logged h.world
 
@@ -134,18 +136,19 @@ FilesOpen before first words [] = ZoneFilesOpen first before
 FilesOpen before first words (x ∷ earlier) =
     ZoneFilesOpen (world_after first (x ∷ earlier)) (hidden_in before first words (x ∷ earlier)) × FilesOpen before first words earlier
 
--- what a crash may leave while a line is played in this world, these records being acknowledged before it; a quiet line writes nothing
-abbrev pub SurvivesLine : WorldState → Option Happened → Acknowledged → Image → Type 0
-SurvivesLine w None done image = ⊥
-SurvivesLine w (Some h) done image = SurvivesEvent w h.event h.reply h.world done image
+-- what a crash may leave while a line is played in this world, with these words to come, these records being acknowledged before it;
+-- a quiet line writes nothing
+abbrev pub SurvivesLine : WorldState → (ℕ → ℕ) → Option Happened → Acknowledged → Image → Type 0
+SurvivesLine w words None done image = ⊥
+SurvivesLine w words (Some h) done image = SurvivesEvent w words h.now h.event h.reply h.world done image
 
 -- The two files are what a crash may leave in a world on the way, at rest, or during the event of a line on the way: logs of the
 -- records acknowledged by then, those before the run first.
-abbrev pub SurvivesIn : Acknowledged → WorldState → History → Image → Type 0
-SurvivesIn before first [] image = SurvivesAtRest first before image
-SurvivesIn before first (x ∷ earlier) image =
+abbrev pub SurvivesIn : Acknowledged → WorldState → (ℕ → ℕ) → History → Image → Type 0
+SurvivesIn before first words [] image = SurvivesAtRest first before image
+SurvivesIn before first words (x ∷ earlier) image =
     SurvivesAtRest (world_after first (x ∷ earlier)) (also before (logged_in (x ∷ earlier))) image
-    ⊎ (SurvivesLine (world_after first earlier) x.event (also before (logged_in earlier)) image ⊎ SurvivesIn before first earlier image)
+    ⊎ (SurvivesLine (world_after first earlier) (behind (drawn_in earlier) words) x.event (also before (logged_in earlier)) image ⊎ SurvivesIn before first words earlier image)
 
 -- files that a run may start from, with what is hidden by now
 abbrev pub SoundWith : Hidden → Image → Type 0

@@ -60,7 +60,7 @@ pub record PlaysLine (lines : List PropLine) (old new : DiskState) (v : View) (l
   pub faults_are : new.faults ≡ faults_of old.faults event
   pub rest : (k : ℕ) → v'.words k ≡ v.words (drawn_of event + k)
   pub counted : v'.events ≡ v.events + events_of event
-  pub goes_on : GoesOn old new v.world v'.world (logged_of event) (hidden_of (world_of v.world) v.words event) (SurvivesLine (world_of v.world) event)
+  pub goes_on : GoesOn old new v.world v'.world (logged_of event) (hidden_of (world_of v.world) v.words event) (SurvivesLine (world_of v.world) v.words event)
 
 -- a restart could not open its log
 pub record StopsAtRestart (old new : DiskState) (v : View) (line : List ℕ) (fault : WorldFault) (v' : View) : Type 0 where
@@ -176,8 +176,8 @@ abbrev pub WritesLast : Option (List ℕ) → Option (List ℕ) → List ℕ →
 WritesLast written now last end how = ((how ≡ end) × Appends written now last) ⊎ ((how ≡ ended.WriteFault) × WroteFront written now last)
 
 -- what is known of the logs, which held these records before the lines of this input, once they were played
-pub record Kept (old new : DiskState) (first : WorldState) (left : Option (List ℕ)) (history : History) (stop : Ended) (done : Acknowledged) : Type 0 where
-  pub moments : LeavesBoth old new (SurvivesUntil stop done first history)
+pub record Kept (old new : DiskState) (first : WorldState) (words : ℕ → ℕ) (left : Option (List ℕ)) (history : History) (stop : Ended) (done : Acknowledged) : Type 0 where
+  pub moments : LeavesBoth old new (SurvivesUntil stop done first words history)
   pub reads : ReadsAt stop left (lines_in history) new (also done (logged_in history)) (world_after first history)
 
 -- what is hidden beside a world that is linked, and whose zone files open
@@ -194,7 +194,7 @@ pub record KeptOpen (old new : DiskState) (first : WorldState) (words : ℕ → 
 pub record Ran (lines : List PropLine) (old new : DiskState) (r : RunningWorld) (words : ℕ → ℕ) (left written now : Option (List ℕ)) (stop : Ended) (count : ℕ) : Type 0 where
   pub history : History
   pub runs : Runs lines (Tells old) (world_of r) words old.faults history
-  pub kept : Tells old → (done : Acknowledged) → HoldsLogs old r done → Kept old new (world_of r) left history stop done
+  pub kept : Tells old → (done : Acknowledged) → HoldsLogs old r done → Kept old new (world_of r) words left history stop done
   pub promise : Tells old → (done : Acknowledged) → HoldsLogs old r done → (before : Hidden) → IsHidden (world_of r) before → KeptOpen old new (world_of r) words history before
   pub run : RunBoth old new
   -- the disk counts each fault of the history
