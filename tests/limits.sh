@@ -53,45 +53,85 @@ while IFS= read -r -n 1 -d '' byte; do
     printf '%s' "$byte"
 done <examples/first-key.events | expect 'single bytes' 0 '5 refused K4 NoSuchKey'
 
-# ---- long logs
+# ---- many asks
 
 # The time is that of the program, without the script that builds it.
 program=$PWD/crates/hkms_tool/out/hkms_tool
 
-# Writes a names.log of so many directories: the first thousand in the root, the others in those.
+# no_longer NAME: fails where twice as many took three times as long, or more: `single` and `seconds` are the two times.
+no_longer() {
+    awk -v one="$single" -v two="$seconds" 'BEGIN { exit !(two < 3 * one) }' || {
+        echo "tests/limits.sh: $1 take $single seconds, and twice as many $seconds"
+        failures=$((failures + 1))
+    }
+}
+
+# asks COUNT: asks for so many files, and makes them in the order in which they were asked for; leaves the seconds that it took.
+asks() {
+    local room last TIMEFORMAT=%R
+    room=$(mktemp -d -p "$quick") || exit 1
+    { seq -f 'ask a create /%.0f' "$1"; seq -f 'draw %.0f' "$1"; seq -f 'finish %.0f' "$1"; } >"$folder/asks"
+    seconds=$( { time (cd "$room" && "$program" replay <"$folder/asks" >"$folder/answer") ; } 2>&1 )
+    last=$(tail -n 1 "$folder/answer")
+    [ "$last" = "$((3 * $1)) done" ] || {
+        echo "tests/limits.sh: $1 asks: $last"
+        failures=$((failures + 1))
+    }
+    rm -rf "$room"
+}
+
+asks 40000
+single=$seconds
+asks 80000
+no_longer '40000 asks that are open together'
+
+# ---- long logs
+
+# Writes a names.log of so many directories: the first thousand in the root, the others in those. With `zones`, those others are
+# then made zones, and are removed in the order in which they were made, but for the last.
 write_log() {
-    python3 - "$1" <<'EOT'
+    python3 - "$@" <<'EOT'
 import struct
 import sys
 
 log = bytearray(b'HKMSNAM1')
+count = int(sys.argv[1])
+inner = [b'/d%d/e%d' % (i % 1000, i // 1000) for i in range(1000, count)]
 
 
 def record(payload):
     log.extend(b'\x01' + struct.pack('>I', len(payload)) + payload)
 
 
+def field(path):
+    return struct.pack('>H', len(path)) + path
+
+
 record(b'\x01' + struct.pack('>I', 1))
-for i in range(int(sys.argv[1])):
-    path = b'/d%d' % i if i < 1000 else b'/d%d/e%d' % (i % 1000, i // 1000)
-    record(b'\x02' + struct.pack('>QH', (1 << 32) + 1 + i, len(path)) + path)
+for i, path in enumerate([b'/d%d' % i for i in range(min(count, 1000))] + inner):
+    record(b'\x02' + struct.pack('>Q', (1 << 32) + 1 + i) + field(path))
+if 'zones' in sys.argv:
+    for path in inner:
+        record(b'\x06' + field(path) + b'\x01k')
+    for path in inner[:-1]:
+        record(b'\x04' + field(path))
 log.extend(b'\x00')
 sys.stdout.buffer.write(log)
 EOT
 }
 
-# opens COUNT LAST ID: opens a log of so many directories, of which the last is LAST, and leaves the least time of three
-# openings in seconds.
+# opens COUNT PATH ANSWER [zones]: opens a log of so many directories, asks for what stands at a path, and leaves the least
+# time of three openings in seconds.
 opens() {
     local room time output TIMEFORMAT=%R
     room=$(mktemp -d -p "$quick") || exit 1
-    write_log "$1" >"$room/names.log"
+    write_log "$1" "${@:4}" >"$room/names.log"
     seconds=
     for _ in 1 2 3; do
         time=$( { time (cd "$room" && "$program" replay <<<"nn a info $2" >"$folder/answer") ; } 2>&1 )
         output=$(cat "$folder/answer")
-        [ "$output" = "1 dir $3 - -" ] || {
-            echo "tests/limits.sh: a log of $1 directories: $output"
+        [ "$output" = "1 $3" ] || {
+            echo "tests/limits.sh: a log of $*: $output"
             failures=$((failures + 1))
         }
         seconds=$(printf '%s\n' "$time" ${seconds:+"$seconds"} | sort -g | head -n 1)
@@ -100,13 +140,16 @@ opens() {
 }
 
 if command -v python3 >/dev/null; then
-    opens 100000 /d999/e99 4295067296
+    opens 100000 /d999/e99 'dir 4295067296 - -'
     single=$seconds
-    opens 200000 /d999/e199 4295167296
-    awk -v one="$single" -v two="$seconds" 'BEGIN { exit !(two < 3 * one) }' || {
-        echo "tests/limits.sh: a log of 100000 directories opens in $single seconds, one of 200000 in $seconds"
-        failures=$((failures + 1))
-    }
+    opens 200000 /d999/e199 'dir 4295167296 - -'
+    no_longer 'openings of 100000 directories'
+
+    # A removal takes time by what it removes, however many zones there are.
+    opens 50000 /d999/e49 'dir 4295017296 /d999/e49 k' zones
+    single=$seconds
+    opens 100000 /d999/e99 'dir 4295067296 /d999/e99 k' zones
+    no_longer 'openings of 49000 zones and their removals'
 
     # The root and 999,999 directories are all that may stand. What is deleted makes room.
     room=$(mktemp -d -p "$quick") || exit 1
