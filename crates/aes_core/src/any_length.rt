@@ -1,4 +1,4 @@
-//! AES under a key of any of the three lengths.
+//! AES for keys of all three lengths.
 ghost use Rattle.std.specs.Prelude.{◌≡◌};
 ghost use Rattle.aes_core.specs.Aes.{cipher};
 ghost use Rattle.aes_core.specs.AnyAes.{key_of};
@@ -6,20 +6,20 @@ ghost use Rattle.aes_core.specs.AnyAes.{key_of};
 use crate::block_cipher::Aes;
 use hk_base::Dek;
 
-/// AES (FIPS 197) under a key whose length is known only when the program runs. Contracts see the
-/// key by `key_of`.
+/// AES (FIPS 197) with a key whose length is known only at run time. In contracts `key_of` is its
+/// key.
 #[derive(Drop)]
 pub enum AnyAes {
-    /// Under 16 bytes of key, in 10 rounds.
+    /// A key of 16 bytes, 10 rounds.
     A128(Aes<4, 44>),
-    /// Under 24 bytes of key, in 12 rounds.
+    /// A key of 24 bytes, 12 rounds.
     A192(Aes<6, 52>),
-    /// Under 32 bytes of key, in 14 rounds.
+    /// A key of 32 bytes, 14 rounds.
     A256(Aes<8, 60>),
 }
 
 impl AnyAes {
-    /// AES under the material, of 16, 24 or 32 bytes. It expands the key once, and takes no memory.
+    /// Expands the key, which has 16, 24 or 32 bytes.
     pub fn of(material: &Dek) -> AnyAes
         ensures { key_of result ≡ material.now }
     {
@@ -33,7 +33,7 @@ impl AnyAes {
         AnyAes::A256(Aes::new(key))
     }
 
-    /// The block encrypted, as FIPS 197's Cipher gives it.
+    /// Encrypts a block: the function Cipher of FIPS 197.
     pub fn encrypt_block(&self, block: &[u8; 16]) -> [u8; 16]
         ensures { result ≡ cipher (key_of self.now) block.now }
     {

@@ -1,4 +1,4 @@
-//! AES under a key of one length.
+//! AES for keys of one length.
 ghost use Rattle.std.specs.Prelude.{◌≡◌, ◌+◌, ◌*◌, List, ℕ, length};
 ghost use Rattle.aes_core.specs.Aes.{cipher, expanded_key, IsKeySize, key_bytes};
 
@@ -6,9 +6,9 @@ use crate::key_schedule::{key_term, xor_word};
 use crate::rounds::encrypted;
 use std::marker::Model;
 
-/// AES (FIPS 197) under one key of `NK` words, which are expanded to `W` words: `Aes<4, 44>` is
-/// AES-128, `Aes<6, 52>` is AES-192 and `Aes<8, 60>` is AES-256. Contracts see the key, a list of
-/// `4 * NK` bytes.
+/// AES (FIPS 197) with a key of `NK` words, expanded to `W` words: `Aes<4, 44>` is AES-128,
+/// `Aes<6, 52>` is AES-192 and `Aes<8, 60>` is AES-256. In contracts its value is the key, a list
+/// of `4 * NK` bytes.
 #[derive(Drop)]
 pub struct Aes<const NK: usize, const W: usize> {
     words: [[u8; 4]; W],
@@ -23,7 +23,7 @@ impl<const NK: usize, const W: usize> Model for Aes<NK, W> {
 }
 
 impl<const NK: usize, const W: usize> Aes<NK, W> {
-    /// AES under the key, which has `4 * NK` bytes. It expands the key once, and takes no memory.
+    /// Expands the key, which has `4 * NK` bytes.
     pub fn new(key: &[u8]) -> Self
         requires size { IsKeySize NK W }
         requires length { length key.now ≡ 4 * NK }
@@ -40,7 +40,7 @@ impl<const NK: usize, const W: usize> Aes<NK, W> {
         Aes { words }
     }
 
-    /// The block encrypted, as FIPS 197's Cipher gives it: 10, 12 or 14 rounds by the key's length.
+    /// Encrypts a block: the function Cipher of FIPS 197, in 10, 12 or 14 rounds by the key's length.
     pub fn encrypt_block(&self, block: &[u8; 16]) -> [u8; 16]
         ensures { result ≡ cipher self.now block.now }
     {

@@ -6,12 +6,12 @@ use crate::substitution::substituted;
 
 type Word = [u8; 4];
 
-/// The powers of x in the field, from x^0 at place 1.
+/// The powers of x in the field, from x^0 at index 1.
 const RCON: [u8; 11] = [
     0x00, 0x01, 0x02, 0x04, 0x08, 0x10, 0x20, 0x40, 0x80, 0x1b, 0x36,
 ];
 
-/// The sum of two words.
+/// Adds two words in the field.
 pub(crate) fn xor_word(a: Word, b: Word) -> Word
     ensures { result ≡ xor_word a b }
 {
@@ -35,8 +35,8 @@ fn rot_word(a: Word) -> Word
     [a[1], a[2], a[3], a[0]]
 }
 
-/// What is added to word `i - nk` to make word `i`, under a key of `nk` words. `last` is word
-/// `i - 1`.
+/// Returns the word that is added to word `i - nk` to get word `i`, for a key of `nk` words. `last`
+/// is word `i - 1`.
 #[tactic(auto, using(crate::proofs::Tables::rcon_is))]
 pub(crate) fn key_term(nk: usize, i: usize, last: Word) -> Word
     requires { (0 < nk) × (nk ≤ i) × (i / nk < 11) }

@@ -1,5 +1,5 @@
-//! The block cipher AES (FIPS 197) under keys of 128, 192 and 256 bits. Blocks are encrypted only,
-//! which is all that counter mode needs. No call takes memory.
+//! The block cipher AES (FIPS 197) for keys of 128, 192 and 256 bits. It only encrypts blocks, which
+//! is all that counter mode needs. Nothing here allocates.
 #![tactic(auto)]
 
 mod any_length;
@@ -12,6 +12,3 @@ mod words;
 
 pub use any_length::AnyAes;
 pub use block_cipher::Aes;
-
-#[cfg(test)]
-mod tests;

@@ -1,4 +1,4 @@
-//! The products of a round: four tables, one for each row.
+//! Tables of the products in a round, one for each row of the state.
 ghost use Rattle.std.specs.Prelude.{◌≡◌};
 ghost use Rattle.aes_core.specs.Aes.{xor_word};
 ghost use Rattle.aes_core.specs.Field.{s_box};
@@ -6,9 +6,9 @@ ghost use Rattle.aes_core.specs.Words.{byte_of, mixed_word, word_bytes};
 
 use crate::words::{byte_0, byte_1, byte_2, byte_3, word_of};
 
-/// A table for each row: for each byte, its S-box times the row's column of the matrix of MixColumns,
-/// which is what such a byte in this row adds to its column. The tables stand in one array, so that
-/// code needs one address for them.
+/// For each row and each byte: the byte's S-box value times the row's column of the MixColumns
+/// matrix. This is what such a byte in this row adds to its column. One array holds all four tables,
+/// so that code needs only one address.
 const PRODUCTS: [[u32; 256]; 4] = [
     // Row 0: times 2, 1, 1, 3.
     [
@@ -172,8 +172,9 @@ const PRODUCTS: [[u32; 256]; 4] = [
     ],
 ];
 
-/// A column of the state after a full round: `a`, `b`, `c` and `d` are the columns of the state before it
-/// whose bytes in row 0, 1, 2 and 3 come here, and `key` is the column's word of the round's key.
+/// Returns a column of the state after a full round. `a`, `b`, `c` and `d` are the columns before the
+/// round from which ShiftRows moves the bytes of rows 0, 1, 2 and 3 here. `key` is the column's word
+/// of the round key.
 #[inline(always)]
 pub(crate) fn full_column(a: u32, b: u32, c: u32, d: u32, key: &[u8; 4]) -> u32
     ensures { word_bytes result ≡ xor_word (mixed_word (s_box (byte_of a 0)) (s_box (byte_of b 1)) (s_box (byte_of c 2)) (s_box (byte_of d 3))) key.now }

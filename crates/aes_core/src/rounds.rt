@@ -10,8 +10,8 @@ use crate::words::{block_of, byte_0, byte_1, byte_2, byte_3, word_of};
 
 type Columns = [u32; 4];
 
-/// Writes a round: by ShiftRows a column takes its byte in row r from the column r places to its right,
-/// and each column takes its word of the round's key.
+/// Expands to a round. By ShiftRows a column takes its byte in row r from the column r places to its
+/// right. Each column takes its word of the round key.
 macro_rules! round {
     ($column:ident, $words:expr, $round:expr, $columns:expr) => {{
         let [a, b, c, d] = $columns;
@@ -25,7 +25,7 @@ macro_rules! round {
     }};
 }
 
-/// A column of the state after the last round, which has no MixColumns.
+/// Returns a column of the state after the last round, which has no MixColumns.
 #[inline(always)]
 fn last_column(a: u32, b: u32, c: u32, d: u32, key: &[u8; 4]) -> u32
     ensures { word_bytes result ≡ xor_word (s_box (byte_of a 0) ∷ s_box (byte_of b 1) ∷ s_box (byte_of c 2) ∷ s_box (byte_of d 3) ∷ []) key.now }
@@ -69,7 +69,7 @@ fn last_round(words: &[[u8; 4]], round: usize, columns: Columns) -> Columns
     round!(last_column, words, round, columns)
 }
 
-/// The block encrypted under the words of an expanded key, in as many rounds as the key's length has.
+/// Encrypts a block with the words of an expanded key, in `NK + 6` rounds.
 #[inline(always)]
 #[tactic(auto, unfolding(crate::specs::Aes::state_after, crate::specs::Aes::encrypted))]
 pub(crate) fn encrypted<const NK: usize, const W: usize>(

@@ -21,7 +21,7 @@ const S_BOX: [u8; 256] = [
     0x8c, 0xa1, 0x89, 0x0d, 0xbf, 0xe6, 0x42, 0x68, 0x41, 0x99, 0x2d, 0x0f, 0xb0, 0x54, 0xbb, 0x16,
 ];
 
-/// The S-box of a byte.
+/// Returns the S-box value of a byte.
 #[tactic(auto, using(crate::proofs::Tables::substituted_is))]
 pub(crate) fn substituted(byte: u8) -> u8
     ensures { result ≡ s_box byte }

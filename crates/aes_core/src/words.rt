@@ -1,9 +1,9 @@
-//! A column of the state as one number: its bytes from the lowest on are those of rows 0 to 3.
+//! A column of the state as one number. Its bytes, the lowest first, are those of rows 0 to 3.
 ghost use Rattle.std.specs.Prelude.{◌≡◌, slice_index};
 ghost use Rattle.aes_core.specs.Aes.{word};
 ghost use Rattle.aes_core.specs.Words.{byte_of, state_bytes, word_bytes};
 
-/// The byte in row 0 of a column.
+/// Returns the byte in row 0 of a column.
 #[inline(always)]
 pub(crate) fn byte_0(column: u32) -> u8
     ensures { result ≡ byte_of column 0 }
@@ -11,7 +11,7 @@ pub(crate) fn byte_0(column: u32) -> u8
     (column & 0xff) as u8
 }
 
-/// The byte in row 1 of a column.
+/// Returns the byte in row 1 of a column.
 #[inline(always)]
 pub(crate) fn byte_1(column: u32) -> u8
     ensures { result ≡ byte_of column 1 }
@@ -19,7 +19,7 @@ pub(crate) fn byte_1(column: u32) -> u8
     ((column >> 8) & 0xff) as u8
 }
 
-/// The byte in row 2 of a column.
+/// Returns the byte in row 2 of a column.
 #[inline(always)]
 pub(crate) fn byte_2(column: u32) -> u8
     ensures { result ≡ byte_of column 2 }
@@ -27,7 +27,7 @@ pub(crate) fn byte_2(column: u32) -> u8
     ((column >> 16) & 0xff) as u8
 }
 
-/// The byte in row 3 of a column.
+/// Returns the byte in row 3 of a column.
 #[inline(always)]
 pub(crate) fn byte_3(column: u32) -> u8
     ensures { result ≡ byte_of column 3 }
@@ -35,7 +35,7 @@ pub(crate) fn byte_3(column: u32) -> u8
     (column >> 24) as u8
 }
 
-/// The column of four bytes.
+/// Returns the column of four bytes.
 #[inline(always)]
 pub(crate) fn word_of(bytes: &[u8; 4]) -> u32
     ensures { word_bytes result ≡ word (λ r. slice_index bytes.now r) }
@@ -43,7 +43,7 @@ pub(crate) fn word_of(bytes: &[u8; 4]) -> u32
     u32::from_le_bytes(*bytes)
 }
 
-/// The block of four columns.
+/// Returns the block of four columns.
 #[inline(always)]
 #[tactic(auto, unfolding(crate::specs::Words::byte_of))]
 pub(crate) fn block_of(columns: [u32; 4]) -> [u8; 16]

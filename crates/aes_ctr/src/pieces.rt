@@ -1,5 +1,5 @@
-//! A message is encrypted in place from its front to its end: in eight blocks at a time, then in
-//! blocks, and byte by byte where a block is cut.
+//! Encryption of a message in place, from its start to its end: eight blocks at a time, then single
+//! blocks. Bytes of an incomplete block are encrypted one by one.
 ghost use Rattle.std.specs.Prelude.{◌≡◌, ◌+◌, ◌-◌, ◌%◌, ◌^◌, ◌<◌, ◌≤◌, bit_xor, length};
 ghost use Rattle.std.specs.Simd.Lanes.{chunk, put_chunk, zip2};
 ghost use Rattle.aes_core.specs.AnyAes.{key_of};
@@ -9,7 +9,7 @@ use crate::stream::{eight_stream_blocks, stream_block};
 use aes_core::AnyAes;
 use std::simd::prelude::*;
 
-/// Xors a block into the bytes from `at` on, by lanes.
+/// Xors the 16 bytes from `at` on with a block, by lanes.
 #[inline(always)]
 fn xor_lanes(bytes: &mut [u8], at: usize, block: [u8; 16])
     requires { at + 16 ≤ length bytes.old }
@@ -19,7 +19,7 @@ fn xor_lanes(bytes: &mut [u8], at: usize, block: [u8; 16])
     lanes.copy_to_slice(&mut bytes[at..]);
 }
 
-/// Encrypts the block at `at`, which stands at a border of the stream's blocks.
+/// Encrypts the block at `at`, which is the start of a block of the stream.
 #[inline(always)]
 fn xor_block(key: &AnyAes, counter: [u8; 16], offset: u64, bytes: &mut [u8], at: usize)
     requires border { (offset + at) % 16 ≡ 0 }
@@ -32,7 +32,7 @@ fn xor_block(key: &AnyAes, counter: [u8; 16], offset: u64, bytes: &mut [u8], at:
     xor_lanes(bytes, at, block);
 }
 
-/// Encrypts the eight blocks from `at` on, which stands at a border of the stream's blocks.
+/// Encrypts the eight blocks from `at` on, which is the start of a block of the stream.
 #[inline(always)]
 fn xor_eight_blocks(key: &AnyAes, counter: [u8; 16], offset: u64, bytes: &mut [u8], at: usize)
     requires border { (offset + at) % 16 ≡ 0 }
@@ -52,7 +52,7 @@ fn xor_eight_blocks(key: &AnyAes, counter: [u8; 16], offset: u64, bytes: &mut [u
     xor_lanes(bytes, at + 112, blocks[7]);
 }
 
-/// Encrypts as many times eight blocks as stand from `from` on, and returns where they end.
+/// Encrypts all complete groups of eight blocks from `from` on, and returns their end.
 pub(crate) fn xor_eights(
     key: &AnyAes,
     counter: [u8; 16],
@@ -75,7 +75,7 @@ pub(crate) fn xor_eights(
     from + 128 * eights
 }
 
-/// Encrypts as many blocks as stand from `from` on, and returns where they end.
+/// Encrypts all complete blocks from `from` on, and returns their end.
 pub(crate) fn xor_blocks(
     key: &AnyAes,
     counter: [u8; 16],
@@ -98,7 +98,7 @@ pub(crate) fn xor_blocks(
     from + 16 * blocks
 }
 
-/// Encrypts the bytes from `from` to `to`, which lie in one block of the stream.
+/// Encrypts the bytes from `from` to `to`, which are within one block of the stream.
 pub(crate) fn xor_bytes(
     key: &AnyAes,
     counter: [u8; 16],

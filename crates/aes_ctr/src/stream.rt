@@ -6,18 +6,18 @@ ghost use Rattle.aes_ctr.specs.Ctr.{counter_block};
 
 use aes_core::AnyAes;
 
-/// The counter block `j` blocks after the first.
+/// Returns the counter block `j` blocks after the first.
 #[inline(always)]
 #[tactic(auto, using(crate::proofs::Counters::swapped_bytes), unfolding(crate::specs::Ctr::counter_block))]
 fn counter_block(counter: [u8; 16], j: u64) -> [u8; 16]
     ensures { result ≡ counter_block counter j }
 {
     let first = u128::from_be_bytes(counter);
-    // Compiled code writes whole words here, where it would write byte after byte for to_be_bytes.
+    // This compiles to writes of whole words; to_be_bytes would compile to a write for each byte.
     first.wrapping_add(j as u128).swap_bytes().to_le_bytes()
 }
 
-/// The block of the key stream `j` blocks after the first.
+/// Returns the block of the key stream `j` blocks after the first.
 #[inline(always)]
 pub(crate) fn stream_block(key: &AnyAes, counter: [u8; 16], j: u64) -> [u8; 16]
     ensures { result ≡ cipher (key_of key.now) (counter_block counter j) }
@@ -25,7 +25,7 @@ pub(crate) fn stream_block(key: &AnyAes, counter: [u8; 16], j: u64) -> [u8; 16]
     key.encrypt_block(&counter_block(counter, j))
 }
 
-/// Eight blocks of the key stream, from block `j` on.
+/// Returns eight blocks of the key stream, from block `j` on.
 #[inline(always)]
 pub(crate) fn eight_stream_blocks(key: &AnyAes, counter: [u8; 16], j: u64) -> [[u8; 16]; 8]
     requires { j + 7 < 2 ^ 64 }

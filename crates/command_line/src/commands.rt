@@ -1,4 +1,4 @@
-//! The commands that the program has, as `clap` is told of them.
+//! The commands of the program, as declared to `clap`.
 ghost use Rattle.std.specs.Prelude.{◌≡◌, IfOk};
 ghost use Rattle.clap.specs.Words.{app_of};
 ghost use Rattle.command_line.specs.Line as line;
@@ -7,7 +7,7 @@ use crate::help;
 use clap::Command;
 use std::alloc::{AllocError, Global};
 
-/// The program without its commands. One of them has to be named, and `help` is none.
+/// Declares the program without its commands. A command is required, and `help` is not a command.
 fn top<'a>(alloc: Global) -> Result<Command<'a>, AllocError>
     ensures { IfOk result (λ r. app_of r ≡ line.top) }
 {
@@ -21,7 +21,7 @@ fn top<'a>(alloc: Global) -> Result<Command<'a>, AllocError>
         .bin_name("hkms")
 }
 
-/// The program with one more command, which has no option but help.
+/// Adds a command whose only option is help.
 fn with_plain<'a>(
     alloc: Global,
     program: Command<'a>,
@@ -35,7 +35,7 @@ fn with_plain<'a>(
     program.subcommand(command)
 }
 
-/// The program with its commands.
+/// Declares the program with its commands.
 pub(crate) fn hkms<'a>(alloc: Global) -> Result<Command<'a>, AllocError>
     ensures { IfOk result (λ r. app_of r ≡ line.hkms) }
 {

@@ -1,4 +1,4 @@
-//! The texts that the program shows of itself. `clap` adds the usage, the commands and the options.
+//! The help texts of the program. `clap` adds the usage, the commands and the options.
 
 /// The version that `--version` shows.
 pub(crate) const VERSION: &str = "0.1.0";
@@ -6,7 +6,7 @@ pub(crate) const VERSION: &str = "0.1.0";
 /// What the program is.
 pub(crate) const PROGRAM: &str = "Hadoop key management server for HDFS encryption zones";
 
-/// What both commands have in common: their files and their statuses.
+/// The files and the exit statuses of both commands.
 pub(crate) const PROGRAM_NOTES: &str = "Both commands use these files of the current folder:
   keys.log             the keys; a change is written here before it is answered
   names.log            directories, files and zones, written in the same way
@@ -28,10 +28,10 @@ Exit status:
 
 'hkms replay --help' and 'hkms pipe --help' say what a command reads and writes.";
 
-/// What `replay` does, in a line.
+/// The purpose of `replay`, in one line.
 pub(crate) const REPLAY: &str = "Runs the calls of an event text and writes their answers";
 
-/// What `replay` reads and writes, and what ends it.
+/// The input, the output and the exit statuses of `replay`.
 pub(crate) const REPLAY_NOTES: &str =
     "Standard input has a call on each line, with the user who makes it, such as
 
@@ -67,10 +67,10 @@ A call that is refused ends nothing. What ends a run:
 The calls before that were made, and their answers stand. docs/event-text.md has
 all calls. The files are those of the current folder: see 'hkms --help'.";
 
-/// What `pipe` does, in a line.
+/// The purpose of `pipe`, in one line.
 pub(crate) const PIPE: &str = "Answers the HTTP requests of one connection";
 
-/// What `pipe` reads and writes, and what ends it.
+/// The input, the output and the exit statuses of `pipe`.
 pub(crate) const PIPE_NOTES: &str =
     "Standard input has what a client sends on a connection of HTTP/1.1: requests of
 the Hadoop KMS REST API, version 1, such as

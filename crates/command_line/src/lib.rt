@@ -1,4 +1,4 @@
-//! The command line: what its words ask for, read by `clap`.
+//! The command line, parsed by `clap`.
 #![tactic(auto)]
 
 mod commands;
@@ -10,6 +10,3 @@ mod reading;
 pub use laws::commands_alone_are_named;
 pub use order::{Order, OrderFault};
 pub use reading::read_order;
-
-#[cfg(test)]
-mod tests;

@@ -1,7 +1,7 @@
-//! What the words of a command line ask for, and why they ask for nothing.
+//! What a command line asks for.
 use std::alloc::AllocError;
 
-/// What the words ask for.
+/// What a command line asks for.
 #[derive(Debug, PartialEq, Eq, Drop)]
 pub enum Order {
     /// Run the event lines of the input.
@@ -15,12 +15,12 @@ pub enum Order {
     Version(String),
 }
 
-/// Why the words ask for nothing.
+/// Why a command line asks for nothing.
 #[derive(Clone, Copy, Debug, PartialEq, Eq)]
 pub enum OrderFault {
-    /// The words are no command line of the program.
+    /// The words are not a command line of the program.
     Usage,
-    /// There is no memory to read the words or to make a text.
+    /// There is no memory to parse the words or to make a text.
     NoMemory,
 }
 

@@ -1,4 +1,4 @@
-//! The words of a command line, read.
+//! Parsing a command line.
 ghost use Rattle.std.specs.Prelude.{◌≡◌, ◌≢◌, ◌⊎◌, IfErr, IfOk, IsSome, Some, Ok, Err, map};
 ghost use Rattle.clap.specs.Words.{fault_of, kind_of, subcommand_rows_of};
 ghost use Rattle.command_line.specs.Line as line;
@@ -13,7 +13,7 @@ use hk_base::Text;
 use std::alloc::{AllocError, Global};
 use std::convert::AsStr;
 
-/// What the matches of the program ask for.
+/// Returns the order that the matches name.
 fn order_of(matches: &ArgMatches) -> Order
     requires { IsSome (order_at (subcommand_rows_of matches.now)) }
     ensures { order_at (subcommand_rows_of matches.now) ≡ Some result }
@@ -24,14 +24,14 @@ fn order_of(matches: &ArgMatches) -> Order
     }
 }
 
-/// The text that an error shows.
+/// Returns the text of an error.
 fn text_of(alloc: Global, error: &Error) -> Result<String, OrderFault>
     ensures { IfErr result (λ fault. fault ≡ OrderFault.NoMemory) }
 {
     Ok(format!(in alloc; "{error}")?)
 }
 
-/// What it comes to that there are no matches: a text to be shown, or a fault.
+/// Returns what to do if there are no matches: show a text, or report a fault.
 fn without_matches(alloc: Global, error: &Error) -> Result<Order, OrderFault>
     ensures shown { IfOk result (λ order. IsShown order (kind_of error.now)) }
     ensures usage { IfErr result (λ fault. fault ≡ OrderFault.Usage → (kind_of error.now ≢ ErrorKind.OutOfMemory) × (kind_of error.now ≢ ErrorKind.DisplayHelp) × (kind_of error.now ≢ ErrorKind.DisplayVersion)) }
@@ -44,7 +44,7 @@ fn without_matches(alloc: Global, error: &Error) -> Result<Order, OrderFault>
     }
 }
 
-/// What words of any type ask for, as `read_order` has it.
+/// Does what `read_order` does, for words of any type.
 fn read<'a, S: AsStr>(alloc: Global, words: &'a [S]) -> Result<Order, OrderFault>
     ensures ok { IfOk result (λ order. Answers order (map S.text words.entry.now)) }
     ensures usage { IfErr result (λ fault. fault ≡ OrderFault.Usage → HasMistake (fault_of line.hkms (map S.text words.entry.now))) }
@@ -56,19 +56,19 @@ fn read<'a, S: AsStr>(alloc: Global, words: &'a [S]) -> Result<Order, OrderFault
     }
 }
 
-/// The words as `clap` takes them.
+/// Returns the words as `clap` takes them.
 fn texts_of<'w>(alloc: Global, words: &'w [Text]) -> Result<Vec<&'w str>, AllocError>
     ensures { IfOk result (λ texts. map (λ text. text.now) texts.items ≡ words.entry.now) }
 {
     words.iter().map(Text::as_str).collect(alloc)
 }
 
-/// What the words of a command line ask for. The program's own name is not among them.
+/// Parses the words of a command line, without the program's own name.
 ///
-/// `replay` and `pipe` are commands, of one word each. `--help` or `-h`, alone or behind a command,
+/// `replay` and `pipe` are commands, of one word each. `--help` or `-h`, alone or after a command,
 /// asks for a help text, and `--version` or `-V` for the version. Other words are refused as
-/// `OrderFault::Usage`. What counts is `clap`'s reading of the words: its first fault, where it
-/// finds one. `OrderFault::NoMemory` may come in place of each other answer.
+/// `OrderFault::Usage`. The first fault that `clap` finds decides. `OrderFault::NoMemory` may come
+/// in place of any other answer.
 pub fn read_order(alloc: Global, words: &[Text]) -> Result<Order, OrderFault>
     ensures ok { IfOk result (λ order. Answers order words.now) }
     ensures usage { IfErr result (λ fault. fault ≡ OrderFault.Usage → IsMistake (fault_of line.hkms words.now)) }

@@ -1,4 +1,5 @@
-//! Queues of ready encrypted keys, one for each key, and the one to be filled next.
+//! Queues of ready encrypted data encryption keys, one queue for each key, and which queue to fill
+//! next.
 #![tactic(auto)]
 
 mod order;
@@ -6,6 +7,3 @@ mod queues;
 mod rings;
 
 pub use queues::Queues;
-
-#[cfg(test)]
-mod tests;

@@ -1,4 +1,4 @@
-//! The low queues, in the order in which they are to be filled.
+//! The low queues, in the order in which they should be filled.
 ghost use Rattle.std.specs.Prelude.{◌≡◌, ◌<◌, ◌≤◌, [], List, length, slice_get, true, false, vec_capacity, OnOk};
 ghost use Rattle.std.specs.List.Sorted.{IsPartitionPoint};
 ghost use Rattle.eek_queues.specs.Order.{InOrder, Stands, is_before, with_place};
@@ -6,7 +6,7 @@ ghost use Rattle.eek_queues.specs.Order.{InOrder, Stands, is_before, with_place}
 use hk_base::NoMemory;
 use std::alloc::Global;
 
-/// Where a queue stands in the order: how many ready keys it has, and the birth of its key.
+/// The place of a queue in the order: how many ready keys it has, and the birth of its key.
 #[derive(Clone, Copy)]
 pub struct Place {
     pub count: u16,
@@ -25,7 +25,7 @@ impl Place {
     }
 }
 
-/// The places of the low queues. A queue is low where it has fewer ready keys than `limit`.
+/// The places of the low queues. A queue is low if it has fewer ready keys than `limit`.
 #[derive(Drop)]
 pub struct Order {
     pub limit: u16,
@@ -33,7 +33,7 @@ pub struct Order {
 }
 
 impl Order {
-    /// No places. It takes no memory.
+    /// Creates an order without places. It does not allocate.
     pub fn new(alloc: Global, limit: u16) -> Order
         ensures limit { result.limit ≡ limit }
         ensures places { result.places.items ≡ [] }
@@ -44,7 +44,7 @@ impl Order {
         }
     }
 
-    /// Makes room for so many places in all.
+    /// Makes room for `queues` places in all.
     pub fn reserve(&mut self, queues: usize) -> Result<(), NoMemory>
         requires { length self.old.places.items ≤ queues }
         ensures room { OnOk result (queues ≤ vec_capacity self.new.places) }
@@ -57,14 +57,14 @@ impl Order {
         Ok(())
     }
 
-    /// The first place, `None` where no queue is low.
+    /// Returns the first place, or `None` if no queue is low.
     pub fn first(&self) -> Option<Place>
         ensures { result ≡ slice_get self.now.places.items 0 }
     {
         self.places.first().copied()
     }
 
-    /// A queue comes to this place. It gets into the order if it is low there. It takes no memory.
+    /// Adds a queue at its place in the order if it is low. It does not allocate.
     pub fn enter(&mut self, place: Place)
         requires order { InOrder self.old.places.items }
         requires room { length self.old.places.items < vec_capacity self.old.places }
@@ -78,7 +78,7 @@ impl Order {
         }
     }
 
-    /// A queue leaves this place, where it stands. It takes no memory.
+    /// Removes a queue from its place in the order if it is low. It does not allocate.
     pub fn leave(&mut self, place: Place)
         requires { Stands self.old.limit place self.old.places.items (vec_capacity self.old.places) }
         ensures places { (others : List Place) → self.old.places.items ≡ with_place self.old.limit place others → self.new.places.items ≡ others }
@@ -91,7 +91,7 @@ impl Order {
         }
     }
 
-    /// A queue goes from the place where it stands to another. It takes no memory.
+    /// Moves a queue from its place to another. It does not allocate.
     pub fn follow(&mut self, from: Place, to: Place)
         requires { Stands self.old.limit from self.old.places.items (vec_capacity self.old.places) }
         ensures places { (others : List Place) → self.old.places.items ≡ with_place self.old.limit from others → self.new.places.items ≡ with_place self.old.limit to others }
@@ -103,7 +103,7 @@ impl Order {
     }
 }
 
-/// How many places are before a place.
+/// Returns how many places are before a place.
 fn place_in(places: &Vec<Place>, place: Place) -> usize
     requires { InOrder places.now.items }
     ensures most { result ≤ length places.now.items }

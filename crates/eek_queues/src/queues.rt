@@ -10,12 +10,12 @@ use hk_base::{Edek, NoMemory};
 use std::alloc::Global;
 use std::marker::Model;
 
-/// Queues of encrypted keys that are ready to be handed out, at most one for each birth of a key.
-/// Contracts see how many ready keys a queue has room for, the watermark, and the queues in one list
-/// by birth, each with its ready keys, the front first.
+/// Queues of encrypted keys that are ready to be handed out, at most one for each birth of a key. In
+/// contracts their value is the size of a queue, the watermark, and the queues as a list ordered by
+/// birth. Each queue is the list of its ready keys, the oldest first.
 ///
-/// A queue is low where it has fewer ready keys than the watermark and the size. Only `make` takes
-/// memory.
+/// A queue is low if it has fewer ready keys than both the watermark and the size. Only `make`
+/// allocates.
 #[derive(Drop)]
 pub struct Queues {
     alloc: Global,
@@ -38,8 +38,8 @@ impl Model for Queues {
 }
 
 impl Queues {
-    /// No queues. Each one made will have room for `size` ready keys, and be low below `watermark`.
-    /// It takes no memory.
+    /// Creates an empty set of queues. Each queue will have room for `size` ready keys, and be low
+    /// below `watermark`.
     pub fn new(alloc: Global, size: u16, watermark: u16) -> Queues
         ensures { result ≡ record { size = size; watermark = watermark; queues = [] } }
     {
@@ -52,19 +52,19 @@ impl Queues {
         }
     }
 
-    /// Whether the key with this birth has a queue.
+    /// Returns whether the key with this birth has a queue.
     pub fn has(&self, birth: u64) -> bool
         ensures { result ≡ has_queue self.now.queues birth }
     {
         find(&self.rings, birth).is_some()
     }
 
-    /// How many ready keys the key with this birth has, 0 where it has no queue.
+    /// Returns how many ready keys the key with this birth has: 0 if it has no queue.
     pub fn length(&self, birth: u64) -> u16
         ensures length { result ≡ length (ready_in self.now.queues birth) }
         ensures within { result ≤ self.now.size }
     {
-        // no ring has room for more
+        // no ring holds more than `size` keys, so the cast below loses nothing
         let _size = self.size;
         match find(&self.rings, birth) {
             Some(at) => self.rings[at].ready.len() as u16,
@@ -72,8 +72,8 @@ impl Queues {
         }
     }
 
-    /// Gives a key its queue, which is empty. It has to have none. Where memory is wanting the queues
-    /// stay as they were.
+    /// Makes an empty queue for a key that has none. Returns `NoMemory` if allocation fails; the
+    /// queues are then unchanged.
     pub fn make(&mut self, birth: u64) -> Result<(), NoMemory>
         requires { has_queue self.old.queues birth ≡ false }
         ensures ok { OnOk result (self.new ≡ record self.old { queues = put_queue (record { birth = birth; ready = [] }) self.old.queues }) }
@@ -87,7 +87,7 @@ impl Queues {
         Ok(())
     }
 
-    /// Takes the front ready key of a birth. `None` where its queue is empty or it has no queue.
+    /// Takes the oldest ready key of a birth. Returns `None` if its queue is empty or it has none.
     pub fn take(&mut self, birth: u64) -> Option<Edek>
         ensures value { result ≡ slice_get (ready_in self.old.queues birth) 0 }
         ensures none { IsNone result ↔ (ready_in self.old.queues birth ≡ []) }
@@ -110,8 +110,8 @@ impl Queues {
         }
     }
 
-    /// Puts a ready key last in the queue of a birth, which has to have one. A full queue gives the key
-    /// back and stays as it was.
+    /// Appends a ready key to the queue of a birth, which must have a queue. If the queue is full,
+    /// returns the key and leaves the queue unchanged.
     pub fn put(&mut self, birth: u64, ready: Edek) -> Result<(), Edek>
         requires { has_queue self.old.queues birth ≡ true }
         ensures full { IsErr result ↔ (length (ready_in self.old.queues birth) ≡ self.old.size) }
@@ -135,7 +135,7 @@ impl Queues {
         }
     }
 
-    /// Empties the queue of a birth, which it keeps. Where it has none nothing changes.
+    /// Empties the queue of a birth, which keeps its queue. Does nothing if it has none.
     pub fn drain(&mut self, birth: u64)
         ensures { self.new ≡ record self.old { queues = set_ready self.old.queues birth [] } }
     {
@@ -151,7 +151,7 @@ impl Queues {
         }
     }
 
-    /// Drops the queue of a birth with its ready keys. Where it has none nothing changes.
+    /// Drops the queue of a birth with its ready keys. Does nothing if it has none.
     pub fn drop_queue(&mut self, birth: u64)
         ensures { self.new ≡ record self.old { queues = dropped self.old.queues birth } }
     {
@@ -165,8 +165,8 @@ impl Queues {
         }
     }
 
-    /// The birth of the low queue with the fewest ready keys, and the least birth among equals.
-    /// `None` where no queue is low.
+    /// Returns the birth of the low queue with the fewest ready keys, the least birth among equals.
+    /// Returns `None` if no queue is low.
     pub fn low(&self) -> Option<u64>
         ensures value { result ≡ option_map (λ q. q.birth) (lowest (limit self.now) self.now.queues) }
         ensures none { IsNone result ↔ All (λ q. limit self.now ≤ length q.ready) self.now.queues }

@@ -1,4 +1,4 @@
-//! The ring of each queue, by birth.
+//! The ring buffers of the queues, ordered by birth.
 ghost use Rattle.std.specs.Prelude.{◌≡◌, ◌<◌, ◌≤◌, length, slice_index_or, nat_lt, true, false, IfNone, IfSome};
 ghost use Rattle.std.specs.List.Sorted.{IsPartitionPoint};
 ghost use Rattle.eek_queues.specs.Queues.{has_queue};
@@ -14,7 +14,7 @@ pub struct Ring {
     pub ready: HeapCircularBuffer<Edek>,
 }
 
-/// How many rings are of lesser births.
+/// Returns how many rings have a smaller birth.
 pub fn place_of_birth(rings: &Vec<Ring>, birth: u64) -> usize
     requires { Rising (queues_of rings.now.items) }
     ensures most { result ≤ length rings.now.items }
@@ -23,7 +23,7 @@ pub fn place_of_birth(rings: &Vec<Ring>, birth: u64) -> usize
     rings.as_slice().partition_point(|ring| ring.birth < birth)
 }
 
-/// The index of the ring of this birth.
+/// Returns the index of the ring with this birth.
 pub fn find(rings: &Vec<Ring>, birth: u64) -> Option<usize>
     requires { Rising (queues_of rings.now.items) }
     ensures none { IfNone result (has_queue (queues_of rings.now.items) birth ≡ false) }

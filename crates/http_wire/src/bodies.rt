@@ -1,4 +1,4 @@
-//! The bytes of a body.
+//! Reading the bytes of a body.
 ghost use Rattle.std.specs.Prelude.{◌≡◌, ◌≤◌, length, IfOk, IfErr, Err};
 ghost use Rattle.hk_base.specs.Faults.{Rose};
 ghost use Rattle.http_wire.specs.Reading.{ahead};
@@ -9,7 +9,7 @@ use crate::scratch::{Filled, Scratch};
 use hk_base::{ByteList, Source};
 use std::alloc::Global;
 
-/// Reads a body of `size` bytes. Memory is taken for bytes that have come, not for those declared.
+/// Reads a body of `size` bytes. It allocates for bytes that have arrived, not for those declared.
 pub(crate) fn read_body<S: Source>(
     alloc: Global,
     source: &mut S,

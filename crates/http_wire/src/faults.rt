@@ -1,22 +1,22 @@
-//! Why no request was read, and why a response was not written.
+//! The faults of reading a request and of writing a response.
 use hk_base::NoMemory;
 
-/// Why no request was read. The connection ends after each of these.
+/// Why no request was read. Each of these ends the connection.
 #[derive(Clone, Copy, Debug, PartialEq, Eq)]
 pub enum WireFault {
-    /// The input ended, and no byte of a request had come.
+    /// The input ended before the first byte of a request.
     End,
     /// The head is not one of HTTP/1.0 or HTTP/1.1, or it has more than 64 fields.
     BadHead,
-    /// 16,384 bytes came, and no end of a head is among them.
+    /// The first 16,384 bytes have no end of a head.
     HeadTooLong,
-    /// A `Content-Length` is not 1 to 19 decimal digits, or two of them differ.
+    /// A `Content-Length` is not a number of 1 to 19 decimal digits, or two of them differ.
     BadLength,
     /// The body would have more than 4,194,304 bytes.
     BodyTooLong,
     /// There is a `Transfer-Encoding`.
     Chunked,
-    /// The input ended inside a head or a body.
+    /// The input ended within a head or a body.
     EndedEarly,
     /// The source failed.
     ReadFault,
@@ -35,7 +35,7 @@ impl From<NoMemory> for WireFault {
     }
 }
 
-/// Why a response was not written whole.
+/// Why a response was not completely written.
 #[derive(Clone, Copy, Debug, PartialEq, Eq)]
 pub enum SendFault {
     /// The sink failed.

@@ -1,4 +1,4 @@
-//! What the fields of a head say.
+//! The meaning of the fields of a head.
 ghost use Rattle.std.specs.Prelude.{◌≡◌, ◌≤◌, ◌<◌, List, ℕ, length, map, codes, All, IsTrue, SomeIff, false};
 ghost use Rattle.std.specs.Char.{is_ascii_digit};
 ghost use Rattle.std.specs.List.{list_any, list_all};
@@ -9,10 +9,10 @@ ghost use Rattle.http_wire.specs.Fields.{is_named, is_close, is_number, number_o
 use crate::faults::WireFault;
 use httparse::spans::HeaderSpan;
 
-/// How many bytes a body has at most: 4 MiB.
+/// The greatest length of a body: 4 MiB.
 const LONGEST_BODY: u64 = 4_194_304;
 
-/// How many digits a length has at most.
+/// The greatest number of digits of a length.
 const MOST_DIGITS: usize = 19;
 
 fn same_in_any_case(one: &[u8], other: &[u8]) -> bool
@@ -21,7 +21,7 @@ fn same_in_any_case(one: &[u8], other: &[u8]) -> bool
     one.eq_ignore_ascii_case(other)
 }
 
-/// Whether the field has this name, in any case.
+/// Returns whether the field has this name, in any case.
 #[tactic(auto, unfolding(crate::specs::Fields::is_named))]
 fn is_named(name: &[u8], buf: &[u8], header: &HeaderSpan) -> bool
     requires { IsHeaderWithin (length buf.now) header.now }
@@ -30,7 +30,7 @@ fn is_named(name: &[u8], buf: &[u8], header: &HeaderSpan) -> bool
     same_in_any_case(header.name.of(buf), name)
 }
 
-/// Whether some field has this name, in any case.
+/// Returns whether some field has this name, in any case.
 fn has(name: &[u8], buf: &[u8], headers: &[HeaderSpan]) -> bool
     requires { All (IsHeaderWithin (length buf.now)) headers.now }
     ensures { result ≡ list_any (λ header. is_named name.now (header_bytes buf.now header)) headers.now }
@@ -38,7 +38,7 @@ fn has(name: &[u8], buf: &[u8], headers: &[HeaderSpan]) -> bool
     headers.iter().any(|header| is_named(name, buf, header))
 }
 
-/// Whether the field says to close the connection.
+/// Returns whether the field asks to close the connection.
 #[tactic(auto, unfolding(crate::specs::Fields::is_close))]
 fn is_close(buf: &[u8], header: &HeaderSpan) -> bool
     requires { IsHeaderWithin (length buf.now) header.now }
@@ -49,7 +49,7 @@ fn is_close(buf: &[u8], header: &HeaderSpan) -> bool
     named && closes
 }
 
-/// Whether some field says to close the connection.
+/// Returns whether some field asks to close the connection.
 fn closes(buf: &[u8], headers: &[HeaderSpan]) -> bool
     requires { All (IsHeaderWithin (length buf.now)) headers.now }
     ensures { result ≡ list_any (λ header. is_close (header_bytes buf.now header)) headers.now }
@@ -57,7 +57,7 @@ fn closes(buf: &[u8], headers: &[HeaderSpan]) -> bool
     headers.iter().any(|header| is_close(buf, header))
 }
 
-/// Whether the connection is kept after a request of HTTP/1.`minor` with these fields.
+/// Returns whether the connection is kept after a request of HTTP/1.`minor` with these fields.
 pub(crate) fn keeps(minor: u8, buf: &[u8], headers: &[HeaderSpan]) -> bool
     requires { All (IsHeaderWithin (length buf.now)) headers.now }
     ensures { result ≡ keeps minor (map (header_bytes buf.now) headers.now) }
@@ -65,7 +65,7 @@ pub(crate) fn keeps(minor: u8, buf: &[u8], headers: &[HeaderSpan]) -> bool
     minor == 1 && !closes(buf, headers)
 }
 
-/// The number that the digits say.
+/// Returns the number that the decimal digits denote.
 fn number(digits: &[u8]) -> u64
     requires few { length digits.now ≤ MOST_DIGITS }
     requires digits { IsTrue (list_all is_ascii_digit digits.now) }
@@ -84,7 +84,7 @@ fn all_digits(value: &[u8]) -> bool
     value.iter().all(|byte| byte.is_ascii_digit())
 }
 
-/// The number that a value says, `None` where it is not 1 to 19 decimal digits.
+/// Reads a value as a number. Returns `None` if it is not 1 to 19 decimal digits.
 #[tactic(auto, unfolding(crate::specs::Fields::is_number))]
 fn read_number(value: &[u8]) -> Option<u64>
     ensures { SomeIff result (IsTrue (is_number value.now)) (number_of value.now) }
@@ -96,7 +96,8 @@ fn read_number(value: &[u8]) -> Option<u64>
     Some(number(value))
 }
 
-/// The number after one value more, `None` where the value says no number or another.
+/// Adds a value to the number known so far. Returns `None` if the value is no number or a different
+/// one.
 fn joined(known: Option<u64>, value: &[u8]) -> Option<u64>
     ensures { result ≡ joined known value.now }
 {
@@ -107,8 +108,8 @@ fn joined(known: Option<u64>, value: &[u8]) -> Option<u64>
     }
 }
 
-/// The number that all values of `Content-Length` say, 0 without any. `None` where one says no number,
-/// or two say different ones.
+/// Returns the number that all values of `Content-Length` denote, 0 if there are none. Returns
+/// `None` if one of them is no number or two differ.
 fn agreed_length(buf: &[u8], headers: &[HeaderSpan]) -> Option<u64>
     requires { All (IsHeaderWithin (length buf.now)) headers.now }
     ensures { result ≡ agreed (values (codes "content-length") (map (header_bytes buf.now) headers.now)) }
@@ -122,7 +123,7 @@ fn agreed_length(buf: &[u8], headers: &[HeaderSpan]) -> Option<u64>
     Some(known.unwrap_or(0))
 }
 
-/// How many bytes the body has, or why it is not read.
+/// Returns the length of the body, or why it is not read.
 fn sized(agreed: Option<u64>) -> Result<usize, WireFault>
     ensures { result ≡ sized agreed }
 {
@@ -133,7 +134,7 @@ fn sized(agreed: Option<u64>) -> Result<usize, WireFault>
     }
 }
 
-/// How many bytes the body has that the fields declare, or why it is not read.
+/// Returns the length of the body that the fields declare, or why it is not read.
 pub(crate) fn body_length(buf: &[u8], headers: &[HeaderSpan]) -> Result<usize, WireFault>
     requires { All (IsHeaderWithin (length buf.now)) headers.now }
     ensures { result ≡ body_length (map (header_bytes buf.now) headers.now) }

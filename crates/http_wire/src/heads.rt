@@ -1,4 +1,4 @@
-//! The bytes of a head.
+//! Reading the bytes of a head.
 ghost use Rattle.std.specs.Prelude.{◌≡◌, ◌≤◌, ◌↔◌, length, IfOk, IfErr, IsTrue, Err};
 ghost use Rattle.hk_base.specs.Faults.{Rose};
 ghost use Rattle.http_wire.specs.Reading.{ahead};
@@ -10,24 +10,24 @@ use crate::scratch::{Next, Scratch};
 use hk_base::{ByteList, Source};
 use std::alloc::Global;
 
-/// How many bytes a head has at most.
+/// The greatest length of a head.
 const LONGEST_HEAD: usize = 16_384;
 
-/// Whether these bytes stand at the end.
+/// Returns whether `bytes` ends with `tail`.
 fn ends_in(tail: &[u8], bytes: &[u8]) -> bool
     ensures { IsTrue result ↔ EndsIn tail.now bytes.now }
 {
     bytes.ends_with(tail)
 }
 
-/// Whether an empty line stands at the end.
+/// Returns whether the bytes end with an empty line.
 fn ends_head(bytes: &[u8]) -> bool
     ensures { IsTrue result ↔ EndsHead bytes.now }
 {
     ends_in(b"\n\n", bytes) || ends_in(b"\n\r\n", bytes)
 }
 
-/// Reads the bytes of a head, up to its first empty line. Each byte is looked at once.
+/// Reads the bytes of a head, up to and including its first empty line.
 pub(crate) fn read_head<S: Source>(
     alloc: Global,
     source: &mut S,

@@ -1,5 +1,5 @@
-//! The messages of HTTP/1.1 (RFC 9112): a request read from a source, whatever pieces it comes in, and
-//! a response written to a sink.
+//! The messages of HTTP/1.1 (RFC 9112). A request is read from a source, in whatever pieces it
+//! arrives. A response is written to a sink.
 #![tactic(auto)]
 
 mod bodies;
@@ -19,6 +19,3 @@ pub use request::Request;
 pub use requests::read_request;
 pub use responses::write_response;
 pub use scratch::Scratch;
-
-#[cfg(test)]
-mod tests;

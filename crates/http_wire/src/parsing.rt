@@ -1,4 +1,4 @@
-//! What a head says.
+//! Parsing a head.
 ghost use Rattle.std.specs.Prelude.{◌≡◌, ◌≤◌, List, ℕ, [], length, map, All, IfOk, IfErr, IfSome, IfNone, Err};
 ghost use Rattle.httparse.specs.Grammar.{RequestHead, ReadsRequest};
 ghost use Rattle.httparse.specs.Spans.{IsHeaderWithin, header_bytes};
@@ -11,21 +11,22 @@ use crate::fields::{body_length, keeps};
 use httparse::Status;
 use httparse::spans::{EMPTY_HEADER_SPAN, HeaderSpan, RequestSpans, Span, parse_request};
 
-/// How many fields a head has at most.
+/// The greatest number of fields of a head.
 const MOST_FIELDS: usize = 64;
 
-/// Where the parts of a request stand in its head, and what its fields say.
+/// The positions of the parts of a request in its head, and what its fields declare.
 #[derive(Clone, Copy, Debug, PartialEq, Eq)]
 pub(crate) struct Parts {
     pub method: Span,
     pub target: Span,
-    /// How many bytes the body has.
+    /// The length of the body in bytes.
     pub size: usize,
     /// Whether the connection is kept.
     pub keep: bool,
 }
 
-/// The spans of a head that all these bytes are, where its fields find room.
+/// Parses bytes that must be exactly one head. Returns `None` if they are not, or if `headers` is too
+/// small for the fields.
 fn find_head(bytes: &[u8], headers: &mut [HeaderSpan]) -> Option<RequestSpans>
     ensures some { IfSome result (λ spans. (h : RequestHead) × FoundHead bytes.now headers.new spans h) }
     ensures none { IfNone result ((h : RequestHead) → ReadsRequest bytes.now h [] → length h.fields ≤ length headers.old → ⊥) }
@@ -36,7 +37,7 @@ fn find_head(bytes: &[u8], headers: &mut [HeaderSpan]) -> Option<RequestSpans>
     }
 }
 
-/// The parts that the fields give, or why the head is refused.
+/// Returns the parts of a head with these fields, or why the head is refused.
 fn parts_of(bytes: &[u8], spans: RequestSpans, headers: &[HeaderSpan]) -> Result<Parts, WireFault>
     requires { All (IsHeaderWithin (length bytes.now)) headers.now }
     ensures ok { IfOk result (GivesParts (map (header_bytes bytes.now) headers.now) spans) }
@@ -51,7 +52,7 @@ fn parts_of(bytes: &[u8], spans: RequestSpans, headers: &[HeaderSpan]) -> Result
     })
 }
 
-/// The parts of a head, or why it is refused.
+/// Returns the parts of a head, or why it is refused.
 pub(crate) fn parse_head(bytes: &[u8]) -> Result<Parts, WireFault>
     ensures ok { IfOk result (λ parts. (h : RequestHead) × HasParts bytes.now h parts) }
     ensures err { IfErr result (Refuses bytes.now) }

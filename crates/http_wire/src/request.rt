@@ -11,7 +11,7 @@ pub struct Request {
     pub method: ByteList,
     pub target: ByteList,
     pub body: ByteList,
-    /// How many bytes the request has, head and body.
+    /// The length of the request in bytes, head and body together.
     pub size: u64,
     /// Whether the connection is kept for another request.
     pub keep: bool,
@@ -29,7 +29,7 @@ impl Model for Request {
 }
 
 impl Request {
-    /// The target as a text.
+    /// Returns the target as text.
     pub fn target_text(&self) -> &str
         ensures text { result.now ≡ self.now.target }
         ensures utf8 { IsUtf8 self.now.target }

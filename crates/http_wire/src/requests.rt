@@ -25,7 +25,7 @@ fn copy(alloc: Global, bytes: &[u8]) -> Result<ByteList, NoMemory>
     Ok(list)
 }
 
-/// The request of a head and a body.
+/// Makes a request of a head and a body.
 fn assemble(alloc: Global, head: &[u8], parts: Parts, body: ByteList) -> Result<Request, NoMemory>
     requires method { IsWithin (length head.now) parts.method }
     requires target { IsWithin (length head.now) parts.target }
@@ -60,14 +60,15 @@ fn read_message<S: Source>(
     Ok(request)
 }
 
-/// Reads one request, by RFC 9112. What comes is the scratch and then the source, and of that exactly
-/// the bytes of the request are used, however the source cuts them into reads; what was read past them
-/// stays in the scratch. A head has at most 16,384 bytes and 64 fields, a body at most 4,194,304 bytes,
-/// and no byte of a body is used before its length was accepted. Memory is taken as bytes come.
+/// Reads one request (RFC 9112), first from the scratch and then from the source. It uses exactly the
+/// bytes of the request, in whatever pieces the source gives them. Bytes that were read past the
+/// request stay in the scratch. A head has at most 16,384 bytes and 64 fields, a body at most
+/// 4,194,304 bytes. No byte of a body is used before its length is accepted. Memory is allocated as
+/// bytes arrive.
 ///
-/// The faults are those of the bytes, in the order that `docs/rest.md` gives; `ReadFault` only where
-/// the source failed, `NoMemory` for want of memory. After a fault the connection is of no more use:
-/// the bytes up to where it was seen are used.
+/// A fault depends only on the bytes, in the order that `docs/rest.md` gives, with two exceptions:
+/// `ReadFault` means that the source failed, and `NoMemory` that allocation failed. After a fault
+/// the connection can't be read further: the bytes up to the fault are used.
 pub fn read_request<S: Source>(
     alloc: Global,
     source: &mut S,

@@ -11,7 +11,7 @@ use http::StatusCode;
 use itoa::Buffer;
 use std::alloc::Global;
 
-/// The code of a status.
+/// Returns the code of a status.
 fn code(status: u16) -> StatusCode
     requires { IsStatus status }
     ensures { result ≡ status }
@@ -19,7 +19,7 @@ fn code(status: u16) -> StatusCode
     StatusCode::from_u16(status).unwrap()
 }
 
-/// The standard phrase of a status.
+/// Returns the standard phrase of a status.
 #[tactic(auto, unfolding(crate::specs::Responses::phrase))]
 fn phrase(code: &StatusCode) -> &'static str
     requires { IsStatus code.now }
@@ -42,7 +42,7 @@ fn append_status(out: &mut ByteList, status: u16) -> Result<(), NoMemory>
     out.append(b"\r\n")
 }
 
-/// Appends the type of a body that is not empty.
+/// Appends the type of a body unless it is empty.
 #[tactic(auto, unfolding(crate::specs::Responses::type_line))]
 fn append_type(out: &mut ByteList, body: &[u8]) -> Result<(), NoMemory>
     ensures { OnOk result (out.new ≡ out.old ++ type_line body.now) }
@@ -64,7 +64,7 @@ fn append_length(out: &mut ByteList, body: &[u8]) -> Result<(), NoMemory>
     out.append(b"\r\n")
 }
 
-/// The text of a response.
+/// Makes the text of a response.
 #[tactic(auto, unfolding(crate::specs::Responses::response_text))]
 fn response(alloc: Global, status: u16, body: &[u8]) -> Result<ByteList, NoMemory>
     requires { IsStatus status }
@@ -79,9 +79,9 @@ fn response(alloc: Global, status: u16, body: &[u8]) -> Result<ByteList, NoMemor
     Ok(text)
 }
 
-/// Writes the response with this status and this body, by RFC 9112: its one text whole, or where
-/// the sink fails a front of it; for want of memory nothing. The status is one that the services answer with.
-/// A body that is not empty is JSON.
+/// Writes the response with this status and this body (RFC 9112). If the sink fails, a prefix of the
+/// response is written. If allocation fails, nothing is written. The status must be one that the
+/// services answer with. A body is JSON unless it is empty.
 pub fn write_response<K: Sink>(
     alloc: Global,
     sink: &mut K,

@@ -1,4 +1,4 @@
-//! Bytes that were read past a request.
+//! The bytes that were read past a request.
 ghost use Rattle.std.specs.Prelude.{◌≡◌, ◌<◌, ◌≤◌, ◌++◌, ◌∷◌, [], length, take, drop, OnOk, OnErr};
 ghost use Rattle.std.specs.Io.KnownBytes.{Consumes, IsAtEnd};
 ghost use Rattle.hk_base.specs.Faults.{Rose};
@@ -7,11 +7,11 @@ ghost use Rattle.http_wire.specs.Reading.{ahead, byte_used};
 use hk_base::{ByteList, NoMemory, Source};
 use std::marker::Model;
 
-/// How many bytes are asked of the source at a time.
+/// The size of a read of the source.
 const PIECE: usize = 4096;
 
-/// Bytes that came with earlier ones and are still to be used: what a client sent behind a request.
-/// Contracts see those bytes. It takes no memory.
+/// The bytes that a read returned past the end of a request. They belong to the next one. In contracts
+/// its value is these bytes. It does not allocate.
 #[derive(Drop)]
 pub struct Scratch {
     piece: [u8; 4096],
@@ -29,7 +29,7 @@ impl Model for Scratch {
     ghost invariant = { λ s. (s.from ≤ s.to) × (s.to ≤ 4096) };
 }
 
-/// What comes next.
+/// The next byte, or why there is none.
 #[derive(Clone, Copy, Debug, PartialEq, Eq)]
 pub(crate) enum Next {
     Byte(u8),
@@ -39,10 +39,10 @@ pub(crate) enum Next {
     Fault,
 }
 
-/// Whether a byte is to come.
+/// Whether there is a next byte.
 #[derive(Clone, Copy, Debug, PartialEq, Eq)]
 pub(crate) enum Filled {
-    /// At least one byte is in the scratch.
+    /// The scratch has at least one byte.
     More,
     /// The source is at its end.
     End,
@@ -51,7 +51,7 @@ pub(crate) enum Filled {
 }
 
 impl Scratch {
-    /// No bytes.
+    /// Creates a scratch without bytes.
     pub fn new() -> Scratch
         ensures { result ≡ [] }
     {
@@ -62,7 +62,7 @@ impl Scratch {
         }
     }
 
-    /// Reads a piece where nothing is left of the last one.
+    /// Reads a piece from the source if the scratch is empty.
     pub(crate) fn fill<S: Source>(&mut self, source: &mut S) -> Filled
         ensures kept { Consumes (ahead self.old (S.left source.old)) (ahead self.new (S.left source.new)) [] }
         ensures more { result ≡ Filled.More → 0 < length self.new }
@@ -87,7 +87,7 @@ impl Scratch {
         }
     }
 
-    /// Uses the next byte.
+    /// Takes the next byte.
     pub(crate) fn next<S: Source>(&mut self, source: &mut S) -> Next
         ensures consumed { Consumes (ahead self.old (S.left source.old)) (ahead self.new (S.left source.new)) (byte_used result) }
         ensures end { result ≡ Next.End → IsAtEnd (ahead self.new (S.left source.new)) }
@@ -101,7 +101,7 @@ impl Scratch {
         }
     }
 
-    /// Uses the first byte of the scratch.
+    /// Takes the first byte of the scratch.
     fn first(&mut self) -> u8
         requires { 0 < length self.old }
         ensures { self.old ≡ result ∷ self.new }
@@ -111,7 +111,7 @@ impl Scratch {
         byte
     }
 
-    /// Moves up to `most` bytes to the end of `out`. Where memory is wanting both stay as they were.
+    /// Moves up to `most` bytes to the end of `out`. If allocation fails, both are unchanged.
     pub(crate) fn give(&mut self, most: usize, out: &mut ByteList) -> Result<(), NoMemory>
         ensures given { OnOk result (out.new ≡ out.old ++ take most self.old) }
         ensures left { OnOk result (self.new ≡ drop most self.old) }

@@ -1,5 +1,5 @@
-//! The targets of requests over REST: the routes of paths, the parameters of queries, and the user
-//! that a request names.
+//! The targets of REST requests: the routes of paths, the parameters of queries, and the user that a
+//! request names.
 #![tactic(auto)]
 
 mod query;
@@ -11,6 +11,3 @@ pub use query::{Given, Parameter, Query, decoded};
 pub use routes::add_route;
 pub use target::{path_of, query_of};
 pub use user::{UserFault, read_user};
-
-#[cfg(test)]
-mod tests;

@@ -10,26 +10,26 @@ use hk_base::{ByteList, NoMemory};
 use std::alloc::Global;
 use std::marker::Model;
 
-/// A parameter of a query: its name and its value, percent-decoded.
+/// A parameter of a query: its name and its value, both percent-decoded.
 #[derive(Drop)]
 pub struct Parameter {
     pub name: ByteList,
     pub value: ByteList,
 }
 
-/// How often a query gives a name a value.
+/// How often a name occurs in a query.
 #[derive(Clone, Copy)]
 pub enum Given<'q> {
-    /// The name does not stand in the query.
+    /// The name does not occur.
     Absent,
-    /// The name stands once, with this value.
+    /// The name occurs once, with this value.
     Once(&'q [u8]),
-    /// The name stands twice or more often.
+    /// The name occurs at least twice.
     Repeated,
 }
 
 impl<'q> Given<'q> {
-    /// The same after one value more.
+    /// Counts one more value.
     fn with(self, value: &'q [u8]) -> Given<'q>
         ensures { (found : List (List ℕ)) → spec.IsGiven found self.entry → spec.IsGiven (found ++ value.now ∷ []) result }
     {
@@ -41,7 +41,7 @@ impl<'q> Given<'q> {
     }
 }
 
-/// The parameters of a query in their order, which contracts see as a list.
+/// The parameters of a query in their order. In contracts its value is their list.
 #[derive(Drop)]
 pub struct Query {
     parameters: Vec<Parameter>,
@@ -57,9 +57,9 @@ impl Model for Query {
 }
 
 impl Query {
-    /// Reads the query of a target: its pieces between `&`, each with a name and a value that are
-    /// parted at the first `=`, both percent-decoded. A `+` stays, and a `%` without two hexadecimal
-    /// digits behind it stays too. A piece without `=` has an empty value.
+    /// Reads the query of a target. Its parameters are separated by `&`. A parameter is a name and a
+    /// value separated by its first `=`, both percent-decoded. A `+` stays, and so does a `%` that is
+    /// not followed by two hexadecimal digits. A parameter without `=` has an empty value.
     pub fn read(alloc: Global, query: &str) -> Result<Query, NoMemory>
         ensures { IfOk result (λ found. found ≡ spec.parameters query.now) }
     {
@@ -68,14 +68,14 @@ impl Query {
         Ok(Query { parameters })
     }
 
-    /// How often the query gives this name a value, and the only one.
+    /// Returns how often this name occurs, with its value if it occurs once.
     pub fn given(&self, name: &[u8]) -> Given<'_>
         ensures { spec.IsGiven (spec.values name.now self.now) result }
     {
         given_in(&self.parameters, name)
     }
 
-    /// The parameters in their order.
+    /// Returns the parameters in their order.
     pub fn as_slice(&self) -> &[Parameter]
         ensures { result.now ≡ self.now }
     {
@@ -83,7 +83,7 @@ impl Query {
     }
 }
 
-/// What stands between the `&`.
+/// Splits a query at each `&`.
 fn pieces<'q>(alloc: Global, query: &'q str) -> Result<Vec<&'q str>, NoMemory>
     ensures { IfOk result (λ pieces. map (λ piece. piece.now) pieces.items ≡ slice_split spec.is_ampersand query.now) }
 {
@@ -128,7 +128,7 @@ fn value_of(piece: &str) -> &str
     }
 }
 
-/// The bytes with each escape `%XX` replaced by its byte. Any other `%` stays.
+/// Replaces each escape `%XX` by its byte. Any other `%` stays.
 pub fn decoded(alloc: Global, bytes: &[u8]) -> Result<ByteList, NoMemory>
     ensures { IfOk result (λ found. found ≡ percent_decode bytes.now) }
 {
@@ -137,7 +137,7 @@ pub fn decoded(alloc: Global, bytes: &[u8]) -> Result<ByteList, NoMemory>
     Ok(ByteList::of(out))
 }
 
-/// How often the name has a value after one parameter more.
+/// Counts one more parameter if it has this name.
 fn after<'q>(found: Given<'q>, name: &[u8], parameter: &'q Parameter) -> Given<'q>
     ensures { (ps : List AParameter) → spec.IsGiven (spec.values name.now ps) found.entry → spec.IsGiven (spec.values name.now (ps ++ parameter.now ∷ [])) result }
 {

@@ -1,8 +1,8 @@
-//! The target of a request, cut in two.
+//! The two parts of the target of a request.
 ghost use Rattle.std.specs.Prelude.{◌≡◌};
 ghost use Rattle.path_routes.specs.Queries as spec;
 
-/// The path of a target: what stands before the first `?`. It stands as it came, with its escapes.
+/// Returns the path of a target: the part before the first `?`, not percent-decoded.
 pub fn path_of(target: &str) -> &str
     ensures { result.now ≡ spec.path_of target.now }
 {
@@ -12,7 +12,7 @@ pub fn path_of(target: &str) -> &str
     }
 }
 
-/// The query of a target: what stands behind the first `?`, nothing where there is none.
+/// Returns the query of a target: the part after the first `?`, empty if there is no `?`.
 pub fn query_of(target: &str) -> &str
     ensures { result.now ≡ spec.query_of target.now }
 {

@@ -6,7 +6,7 @@ use crate::query::{Given, Query};
 use hk_base::{NoMemory, Text};
 use std::alloc::Global;
 
-/// How many bytes a user's name has at most.
+/// The greatest length of a user's name in bytes.
 const LONGEST_USER: usize = 255;
 
 /// Why a query names no user.
@@ -14,15 +14,15 @@ const LONGEST_USER: usize = 255;
 pub enum UserFault {
     /// `user.name` is absent or empty.
     NoUser,
-    /// `user.name` stands more than once, isn't UTF-8 or has more than 255 bytes, or `doAs` is given.
+    /// `user.name` occurs more than once, isn't UTF-8 or has more than 255 bytes, or `doAs` is given.
     BadRequest,
     /// There is no memory for the name.
     NoMemory,
 }
 
-/// The user that a query names by `user.name`: 1 to 255 bytes of UTF-8, once. No user acts for
-/// another: where `doAs` is given the request is a bad one. A missing or empty name counts before
-/// everything else.
+/// Returns the user that a query names by `user.name`: 1 to 255 bytes of UTF-8, given once. No user
+/// acts for another: a request with `doAs` is refused. A missing or empty name is reported before
+/// any other fault.
 pub fn read_user(alloc: Global, query: &Query) -> Result<Text, UserFault>
     ensures { spec.SaysUser query.now result }
 {
@@ -44,7 +44,7 @@ pub fn read_user(alloc: Global, query: &Query) -> Result<Text, UserFault>
     }
 }
 
-/// A copy of the bytes as a user's name, or `None` where they are none.
+/// Copies the bytes as a user's name. Returns `None` if they are not one.
 fn read_text(alloc: Global, user: &[u8]) -> Result<Option<Text>, NoMemory>
     ensures { IfOk result (λ found. MatchOption found (¬ spec.IsUserText user.now) (λ text. (text ≡ user.now) × spec.IsUserText user.now)) }
 {
