@@ -10,8 +10,8 @@ use Rattle.world_run.specs.declared.event.Event.TheVariants as event
 use Rattle.world_run.specs.declared.event.Line.{Line}
 use Rattle.world_run.specs.declared.event.Line.TheVariants as line
 use Rattle.world_run.specs.declared.event.WorldFault.{WorldFault}
-use Rattle.world_run.specs.Acknowledged.{RunBoth, also}
-use Rattle.world_run.specs.Keeps.{Begins, Fails, Steps}
+use Rattle.world_run.specs.Acknowledged.{also}
+use Rattle.world_run.specs.Keeps.{Fails, Steps}
 use Rattle.hk_serve.specs.Worlds.{Happens, IsReady, WorldView}
 
 -- what an event of a call is answered
@@ -44,11 +44,3 @@ ready_after state to_come v v' user asked reply ready happened =
           let here = ready.stands told_before in
           (also here.0 s.logged, s.stands told_before here.0 here.1);
     }
-
--- services that were started on a disk may be asked
-pub ready_at_start : {D W : Type 0} (state : D → DiskState) (old : DiskState) (v : WorldView D W) (lines : List PropLine) → RunBoth old (state v.disk) → ListsFor v.world.keys.acls lines → Begins old (state v.disk) v.world → IsReady state v
-ready_at_start state old v lines run lists began = record {
-  lines = lines;
-  lists = lists;
-  stands = λ tells. (_, (began.log (subst (λ b. IsTrue b) run.tells tells)).holds);
-}

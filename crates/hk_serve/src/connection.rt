@@ -18,7 +18,7 @@ use key_rows::KmsCall;
 use kms_rest::{KeptRouter, Response, respond, respond_fault, to_call_with};
 use std::alloc::Global;
 
-/// How many bytes the requests of a connection have together when it ends: 2^40.
+/// The number of bytes at which a connection ends: 2^40 in all its requests.
 const LONGEST_CONNECTION: u64 = 1 << 40;
 
 /// A connection between two requests.
@@ -27,7 +27,7 @@ struct Connection {
     alloc: Global,
     scratch: Scratch,
     router: KeptRouter,
-    /// How many bytes its requests had.
+    /// The length of its requests so far.
     bytes: u64,
 }
 
@@ -37,7 +37,7 @@ fn creates(call: &KmsCall) -> bool
     matches!(call, KmsCall::Create { .. })
 }
 
-/// Asks the desk a call, and answers the response that its reply is.
+/// Passes a call to the desk, and returns the response of its reply.
 fn ask<E: Desk>(
     alloc: Global,
     desk: &mut E,
@@ -66,7 +66,7 @@ impl Connection {
         }
     }
 
-    /// The response to a request, for which the desk is asked its call if it is one.
+    /// Returns the response to a request. If the request is a call, it is passed to the desk.
     fn response_to<E: Desk>(
         &mut self,
         request: &Request,
@@ -83,7 +83,7 @@ impl Connection {
         }
     }
 
-    /// Counts the bytes of a request that was answered. `None` where the connection goes on.
+    /// Counts the bytes of a request that was answered. Returns `None` if the connection goes on.
     fn after(&mut self, request: &Request) -> Option<Ended>
         requires { self.old.bytes < 2 ^ 40 }
         ensures goes_on { GoesOnAfter request.now self.old.bytes self.new.bytes result }
@@ -99,7 +99,7 @@ impl Connection {
         None
     }
 
-    /// Answers a request. `None` where the connection goes on.
+    /// Answers a request. Returns `None` if the connection goes on.
     fn answer<K: Sink, E: Desk>(
         &mut self,
         request: &Request,
@@ -124,7 +124,7 @@ impl Connection {
         }
     }
 
-    /// Reads a request and answers it. `None` where the connection goes on.
+    /// Reads a request and answers it. Returns `None` if the connection goes on.
     fn turn<S: Source, K: Sink, E: Desk>(
         &mut self,
         source: &mut S,
@@ -175,16 +175,20 @@ impl Connection {
     }
 }
 
-/// Serves the requests of a connection in order, by RFC 9112. Each is read from the source, the desk is
-/// asked its call, and the response is written to the sink before the next request is read. The desk is
-/// asked nothing else. A request that is no call is answered by itself, one for which memory is wanting
-/// by K13 and the status 503.
+/// Serves the requests of a connection in order (RFC 9112). It reads a request from the source, passes
+/// its call to the desk, and writes the response to the sink before it reads the next request. The desk
+/// gets no other calls. A request that is not a call is answered without the desk. If there is no
+/// memory to read its call, the answer is K13 with status 503.
 ///
-/// The connection ends where the input does; behind the response to a request that does not keep it, or
-/// with which its requests had 2^40 bytes or more; where bytes are no request, which are answered as
-/// `docs/rest.md` says unless the input ended among them; where source or sink fails, then with a front
-/// of the response; and where memory is wanting for a request that is read or for a response, then with
-/// nothing more written. What the desk was asked stands also where its response was not written.
+/// The connection ends:
+/// - at the end of the input;
+/// - after the response to a request that closes it, or with which its requests have 2^40 bytes or more;
+/// - at bytes that are not a request. They are answered as `docs/rest.md` says, unless the input ended
+///   within them;
+/// - if the source or the sink fails. A prefix of the response may have been written;
+/// - if there is no memory for a request or for a response. Nothing more is written.
+///
+/// A call that the desk answered keeps its effect even if its response was not written.
 pub fn serve_conn<S: Source, K: Sink, E: Desk>(
     alloc: Global,
     source: &mut S,
@@ -192,7 +196,7 @@ pub fn serve_conn<S: Source, K: Sink, E: Desk>(
     desk: &mut E,
 ) -> Ended
     requires { E.ready desk.old }
-    // Bytes that were read behind the last request are unused.
+    // Bytes that were read past the last request are unused.
     ensures served { (unused : List ℕ) × Served E.answers
         (record { ahead = S.left source.old; desk = desk.old; written = K.written sink.old })
         (record { ahead = ahead unused (S.left source.new); desk = desk.new; written = K.written sink.new }) result }

@@ -1,4 +1,4 @@
-//! What a connection asks.
+//! The service behind a connection.
 ghost use Rattle.std.specs.Prelude.{ℕ, List};
 ghost use Rattle.key_rows.specs.declared.calls.KmsCall.{KmsCall};
 ghost use Rattle.key_rows.specs.declared.calls.KmsReply.{KmsReply};
@@ -6,15 +6,15 @@ ghost use Rattle.key_rows.specs.declared.calls.KmsReply.{KmsReply};
 use hk_base::Text;
 use key_rows::{KmsCall, KmsReply};
 
-/// Where the calls of a connection are answered.
+/// Answers the calls of a connection.
 pub trait Desk {
-    /// What holds of it whenever it is asked.
+    /// What holds of the desk before each call.
     ghost ready: { Self → Type 0 };
 
-    /// It may answer a call of a user so, and be this then.
+    /// The replies that it may give to a call of a user, and its states after them.
     ghost answers: { Self → List ℕ → KmsCall → KmsReply → Self → Type 0 };
 
-    /// Answers a call of a user. A refusal is a reply too.
+    /// Answers a call of a user. A refusal is also a reply.
     fn kms(&mut self, user: Text, call: KmsCall) -> KmsReply
         requires { ready self.old }
         ensures answers { answers self.old user call result self.new }

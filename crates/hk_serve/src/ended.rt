@@ -3,13 +3,13 @@
 /// How a connection ended.
 #[derive(Clone, Copy, Debug, PartialEq, Eq)]
 pub enum Ended {
-    /// The input ended, and no byte of a further request had come.
+    /// The input ended before the first byte of a further request.
     End,
-    /// The last request does not keep the connection.
+    /// The last request closed the connection.
     Closed,
-    /// The last request keeps the connection, and with it the requests had 2^40 bytes or more.
+    /// The last request keeps the connection, but the requests have 2^40 bytes or more in all.
     TooLong,
-    /// What came is not a request.
+    /// The input is not a request.
     Wire,
     /// The source failed.
     ReadFault,

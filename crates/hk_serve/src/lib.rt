@@ -1,5 +1,5 @@
-//! The key management service over a connection: requests of HTTP/1.1 are read, a desk is asked their
-//! calls, and the responses are written.
+//! The key management service over a connection. It reads requests of HTTP/1.1, passes their calls to
+//! a desk, and writes the responses.
 #![tactic(auto)]
 
 mod connection;
@@ -14,6 +14,3 @@ pub use desk::Desk;
 pub use ended::Ended;
 pub use laws::connections_are_those_of_the_bytes;
 pub use world_desk::{WorldDesk, serve_world};
-
-#[cfg(test)]
-mod tests;

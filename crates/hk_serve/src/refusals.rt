@@ -1,4 +1,4 @@
-//! The responses to bytes that are no request.
+//! The responses to bytes that are not a request.
 ghost use Rattle.std.specs.Prelude.{◌≡◌, ◌≤◌, Some};
 ghost use Rattle.hk_base.specs.Faults.{Rose};
 ghost use Rattle.http_wire.specs.Responses.{IsStatus, response_text};
@@ -23,7 +23,7 @@ const BODY_TOO_LONG: &str =
 
 const CHUNKED: &str = "{\"RemoteException\":{\"exception\":\"Chunked\",\"message\":\"Chunked\"}}";
 
-/// How a connection ends whose response was not written whole.
+/// Returns how a connection ends if a response was not completely written.
 pub(crate) fn ended_by(fault: SendFault) -> Ended
     ensures { result ≡ send_ended fault }
 {
@@ -33,7 +33,7 @@ pub(crate) fn ended_by(fault: SendFault) -> Ended
     }
 }
 
-/// Writes the response to bytes that are no request, after which the connection ends.
+/// Writes the response to bytes that are not a request. The connection then ends.
 fn refuse<K: Sink>(alloc: Global, sink: &mut K, status: u16, body: &str) -> Ended
     requires { IsStatus status }
     ensures sent { SentLast (response_text status body.now) (K.written sink.old) (K.written sink.new) result }
@@ -46,8 +46,8 @@ fn refuse<K: Sink>(alloc: Global, sink: &mut K, status: u16, body: &str) -> Ende
     }
 }
 
-/// Ends a connection on which no request came: bytes that are none are answered, unless the input
-/// ended among them.
+/// Ends a connection from which no request could be read. Bytes that are not a request are answered,
+/// unless the input ended within them.
 pub(crate) fn stop<K: Sink>(alloc: Global, sink: &mut K, fault: WireFault) -> Ended
     ensures ends { EndsFor fault (K.written sink.old) (K.written sink.new) result }
     ensures later { K.faults sink.old ≤ K.faults sink.new }

@@ -1,4 +1,4 @@
-//! Both services behind a connection.
+//! Both services as a desk.
 ghost use Rattle.std.specs.Prelude.{◌≡◌, ◌≤◌, ℕ, List, Ok};
 ghost use Rattle.hk_base.specs.Faults.{Rose};
 ghost use Rattle.key_rows.specs.declared.calls.KmsReply.{KmsReply};
@@ -14,8 +14,8 @@ use key_rows::{KmsCall, KmsReply};
 use std::alloc::Global;
 use world_run::{Event, Line, World, WorldFault};
 
-/// Both services as a desk: with the disk that they were started on, random words, and the clock whose
-/// time is the moment of each call.
+/// Both services as a desk, with the disk that they were started on, random words, and the clock that
+/// gives each call its time.
 #[derive(Drop)]
 pub struct WorldDesk<'a, D, W, C> {
     world: &'a mut World,
@@ -24,7 +24,7 @@ pub struct WorldDesk<'a, D, W, C> {
     clock: &'a mut C,
 }
 
-/// The reply in the answer to a call.
+/// Returns the reply in the answer to a call.
 fn reply_in(told: Result<Line, WorldFault>) -> KmsReply
     requires { (reply : KmsReply) × (told ≡ Ok (Line.Kms reply)) }
     ensures { told ≡ Ok (Line.Kms result) }
@@ -36,7 +36,7 @@ fn reply_in(told: Result<Line, WorldFault>) -> KmsReply
 }
 
 impl<'a, D, W, C> WorldDesk<'a, D, W, C> {
-    /// A desk over these.
+    /// Creates a desk over these.
     pub fn new(
         world: &'a mut World,
         disk: &'a mut D,
@@ -72,7 +72,7 @@ impl<'a, D: Disk, W: Words, C: Clock> Desk for WorldDesk<'a, D, W, C> {
     }
 }
 
-/// Serves a connection over both services, which the desk still holds then.
+/// Serves a connection with both services. The desk still holds them afterwards.
 fn serve_desk<'a, S: Source, K: Sink, D: Disk, W: Words, C: Clock>(
     alloc: Global,
     source: &mut S,
@@ -96,9 +96,8 @@ fn serve_desk<'a, S: Source, K: Sink, D: Disk, W: Words, C: Clock>(
     serve_conn(alloc, source, sink, desk)
 }
 
-/// Serves the requests of a connection by both services, as `serve_conn` does: each call happens to
-/// them as an event at the moment that the clock has. The services are those that were started on this
-/// disk.
+/// Serves the requests of a connection with both services, as `serve_conn` does. Each call is an event
+/// at the time of the clock. Always pass the disk that the services were started on.
 pub fn serve_world<S: Source, K: Sink, D: Disk, W: Words, C: Clock>(
     alloc: Global,
     source: &mut S,
@@ -109,7 +108,7 @@ pub fn serve_world<S: Source, K: Sink, D: Disk, W: Words, C: Clock>(
     clock: &mut C,
 ) -> Ended
     requires { IsReady D.state (record { disk = disk.old; world = world.old; words = words.old }) }
-    // Bytes that were read behind the last request are unused.
+    // Bytes that were read past the last request are unused.
     ensures served { (unused : List ℕ) × Served (Happens D.state W.to_come)
         (record { ahead = S.left source.old; desk = record { disk = disk.old; world = world.old; words = words.old }; written = K.written sink.old })
         (record { ahead = ahead unused (S.left source.new); desk = record { disk = disk.new; world = world.new; words = words.new }; written = K.written sink.new }) result }

@@ -8,14 +8,14 @@ use base64::engine::general_purpose::{STANDARD, STANDARD_NO_PAD, URL_SAFE, URL_S
 use hk_base::ByteList;
 use std::alloc::Global;
 
-/// Why a text gives no bytes.
+/// Why a text can't be decoded.
 #[derive(Clone, Copy, Debug, PartialEq, Eq)]
 pub(crate) enum TextFault {
     NotBase64,
     OutOfMemory,
 }
 
-/// The bytes that a text spells.
+/// Decodes a text in either alphabet, with or without padding.
 pub(crate) fn bytes_of(alloc: Global, text: &str) -> Result<ByteList, TextFault>
     ensures ok { IfOk result (λ bytes. base64_bytes text.now ≡ Some bytes) }
     ensures not_base64 { result ≡ Err fault.NotBase64 → base64_bytes text.now ≡ None }

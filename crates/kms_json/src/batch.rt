@@ -1,4 +1,4 @@
-//! The body of a call that encrypts many data encryption keys anew.
+//! The body of a call that re-encrypts many data encryption keys.
 ghost use Rattle.std.specs.Prelude.{◌≡◌, IfOk, IfErr};
 ghost use Rattle.serde_json.specs.View.{view, items_view};
 ghost use Rattle.kms_json.specs.Bodies as spec;
@@ -11,9 +11,9 @@ use key_rows::{KmsCall, RawEdek, RawEdekList};
 use serde_json::Value;
 use std::alloc::Global;
 
-/// Reads the body of a call that encrypts many data encryption keys anew: an array of objects with
-/// `versionName`, `iv` and `encryptedKeyVersion`, which is an object with `versionName`, the text
-/// `EEK`, and `material`. The elements are checked from the first on, and in each the members in
+/// Reads the body of a call that re-encrypts many data encryption keys: an array of objects with
+/// `versionName`, `iv` and `encryptedKeyVersion`. The last is an object with `versionName`, which is
+/// the text `EEK`, and `material`. The elements are checked in order, and in each the members in
 /// this order.
 pub fn read_batch(alloc: Global, name: KeyName, body: &[u8]) -> Result<KmsCall, JsonFault>
     ensures { spec.StandsFor (spec.batch_of name) body.now result }
@@ -82,7 +82,7 @@ fn version_named(text: &str) -> Option<VersionName>
     Some(version)
 }
 
-/// The sealed bytes inside an element.
+/// Returns the sealed bytes of an element.
 fn sealed_in(alloc: Global, element: &Value) -> Result<ByteList, JsonFault>
     ensures ok { IfOk result (λ sealed. spec.sealed_in (view element.now) ≡ Ok sealed) }
     ensures err { IfErr result (λ e. ¬ (e ≡ JsonFault.NoMemory) → spec.sealed_in (view element.now) ≡ Err e) }

@@ -10,9 +10,9 @@ use key_rows::{Description, KmsCall};
 use serde_json::Value;
 use std::alloc::Global;
 
-/// Reads the body of a call that creates a key: an object with `name` and perhaps `cipher`,
-/// `length` in bits, `material` and `description`, checked in this order. Without a length the key
-/// has 128 bits.
+/// Reads the body of a call that creates a key: an object with `name` and the optional members
+/// `cipher`, `length` in bits, `material` and `description`, checked in this order. The default
+/// length is 128 bits.
 pub fn read_create(alloc: Global, body: &[u8]) -> Result<KmsCall, JsonFault>
     ensures { spec.StandsFor spec.create_of body.now result }
 {
@@ -47,7 +47,7 @@ fn create_members(alloc: Global, object: &Value) -> Result<KmsCall, JsonFault>
     })
 }
 
-/// The name of the key.
+/// Returns the name of the key.
 pub(crate) fn name_in(object: &Value) -> Result<KeyName, JsonFault>
     ensures ok { IfOk result (λ name. spec.name_in (view object.now) ≡ Ok name) }
     ensures err { IfErr result (λ e. spec.name_in (view object.now) ≡ Err e) }
@@ -86,7 +86,7 @@ fn length_in(object: &Value) -> Result<u64, JsonFault>
     }
 }
 
-/// The material, where it is given.
+/// Returns the material if there is one.
 pub(crate) fn material_in(alloc: Global, object: &Value) -> Result<Option<ByteList>, JsonFault>
     ensures ok { IfOk result (λ material. spec.material_in (view object.now) ≡ Ok material) }
     ensures err { IfErr result (λ e. ¬ (e ≡ JsonFault.NoMemory) → spec.material_in (view object.now) ≡ Err e) }

@@ -1,4 +1,4 @@
-//! The body of a call on an encrypted data encryption key.
+//! The body of a call that decrypts or re-encrypts an encrypted data encryption key.
 ghost use Rattle.std.specs.Prelude.{◌≡◌, IfOk, IfErr};
 ghost use Rattle.serde_json.specs.View.{view};
 ghost use Rattle.kms_json.specs.Bodies as spec;
@@ -11,9 +11,9 @@ use hk_base::VersionName;
 use serde_json::Value;
 use std::alloc::Global;
 
-/// Reads the body of a call that opens an encrypted data encryption key or encrypts it anew: an
-/// object with `name`, `iv` and `material`, checked in this order. The version stands in the path
-/// of the request, and any version may go with any body.
+/// Reads the body of a call that decrypts or re-encrypts an encrypted data encryption key: an object
+/// with `name`, `iv` and `material`, checked in this order. The key version comes from the path of
+/// the request. The body does not depend on it.
 pub fn read_eek(alloc: Global, _version: VersionName, body: &[u8]) -> Result<EekBody, JsonFault>
     ensures { spec.StandsFor spec.eek_of body.now result }
 {

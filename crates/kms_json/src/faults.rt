@@ -1,8 +1,8 @@
-//! What a body can be at fault for.
+//! The faults of a body.
 use hk_base::NoMemory;
 use std::alloc::AllocError;
 
-/// The member of a body that a fault speaks of.
+/// The member of a body that is at fault.
 #[derive(Clone, Copy, Debug, PartialEq, Eq)]
 pub enum Member {
     /// `name`, the name of a key.
@@ -11,32 +11,31 @@ pub enum Member {
     Cipher,
     /// `length`, the length of a key in bits.
     Length,
-    /// `material`, bytes in base64, also inside an element of a batch.
+    /// `material`, bytes in base64, also within an element of a batch.
     Material,
-    /// `description`, what is said of a key.
+    /// `description`, the description of a key.
     Description,
     /// `iv`, an initialization vector in base64.
     Iv,
-    /// `versionName`, the name of a version, and inside an element of a batch the mark `EEK`.
+    /// `versionName`, the name of a version, and within an element of a batch the mark `EEK`.
     VersionName,
-    /// `encryptedKeyVersion`, the object inside an element of a batch.
+    /// `encryptedKeyVersion`, the object within an element of a batch.
     EncryptedKeyVersion,
     /// An element of a batch itself.
     Element,
 }
 
-/// Why a body stands for no call. The members are checked in a fixed order, and the first fault
-/// counts.
+/// Why a body is not a call. The members are checked in a fixed order, and the first fault is
+/// reported.
 #[derive(Clone, Copy, Debug, PartialEq, Eq)]
 pub enum JsonFault {
-    /// The body is no JSON text, or not of the kind that is wanted: an object, or of a batch an
-    /// array.
+    /// The body is not JSON, or it is not an object (for a batch: an array).
     NotJson,
-    /// A needed member is absent, or null.
+    /// A required member is absent or null.
     Missing(Member),
     /// The text is not base64, in the standard or the URL-safe alphabet, with or without padding.
     BadBase64(Member),
-    /// The value is of another type, or outside its rule.
+    /// The value has another type, or it breaks its rule.
     BadValue(Member),
     /// There is no memory to read the body.
     NoMemory,

@@ -1,5 +1,5 @@
-//! The JSON bodies of the key management service over REST: calls read from request bodies, and
-//! replies written as response bodies.
+//! The JSON bodies of the key management service over REST. Calls are read from request bodies, and
+//! replies are written as response bodies.
 #![tactic(auto)]
 
 mod base64_text;
@@ -25,8 +25,3 @@ pub use laws::{
 };
 pub use replies::write_reply;
 pub use roll::read_roll;
-
-#[cfg(test)]
-mod reply_tests;
-#[cfg(test)]
-mod tests;

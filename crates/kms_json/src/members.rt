@@ -1,4 +1,4 @@
-//! Members of a JSON object, and what their values give.
+//! The members of a JSON object and their values.
 ghost use Rattle.std.specs.Prelude.{◌≡◌, option_map, IfOk, IfErr};
 ghost use Rattle.serde_json.specs.Data.{Data};
 ghost use Rattle.serde_json.specs.View.{view};
@@ -11,7 +11,7 @@ use hk_base::ByteList;
 use serde_json::Value;
 use std::alloc::Global;
 
-/// The value that a body is.
+/// Parses a body.
 pub(crate) fn parse(alloc: Global, body: &[u8]) -> Result<Value, JsonFault>
     ensures ok { IfOk result (λ value. IsBody body.now (view value)) }
     ensures memory_or_json { IfErr result (λ e. ¬ (e ≡ JsonFault.NoMemory) → e ≡ JsonFault.NotJson) }
@@ -24,7 +24,7 @@ pub(crate) fn parse(alloc: Global, body: &[u8]) -> Result<Value, JsonFault>
     }
 }
 
-/// The member of this name. One that is null is as absent.
+/// Returns the member of this name. A null counts as absent.
 pub(crate) fn given<'v>(object: &'v Value, name: &str) -> Option<&'v Value>
     ensures { option_map (λ v. view v.now) result ≡ spec.given name.now (view object.now) }
 {
@@ -32,7 +32,7 @@ pub(crate) fn given<'v>(object: &'v Value, name: &str) -> Option<&'v Value>
     if value.is_null() { None } else { Some(value) }
 }
 
-/// The member of this name, which is needed.
+/// Returns the member of this name, or a fault if it is absent.
 pub(crate) fn needed<'v>(
     object: &'v Value,
     name: &str,
@@ -47,7 +47,7 @@ pub(crate) fn needed<'v>(
     }
 }
 
-/// The text that a member's value is.
+/// Returns a member's value, which must be a text.
 pub(crate) fn text_of(value: &Value, member: Member) -> Result<&str, JsonFault>
     ensures ok { IfOk result (λ text. spec.text_in member (view value.now) ≡ Ok text.now) }
     ensures err { IfErr result (λ e. spec.text_in member (view value.now) ≡ Err e) }
@@ -58,7 +58,7 @@ pub(crate) fn text_of(value: &Value, member: Member) -> Result<&str, JsonFault>
     }
 }
 
-/// The text that a needed member is.
+/// Returns the text of a required member.
 pub(crate) fn needed_text<'v>(
     object: &'v Value,
     name: &str,
@@ -71,7 +71,7 @@ pub(crate) fn needed_text<'v>(
     text_of(value, member)
 }
 
-/// The bytes that a member's value spells in base64.
+/// Decodes a member's value, which must be a text in base64.
 pub(crate) fn bytes_in(alloc: Global, value: &Value, member: Member) -> Result<ByteList, JsonFault>
     ensures ok { IfOk result (λ bytes. spec.bytes_in member (view value.now) ≡ Ok bytes) }
     ensures err { IfErr result (λ e. ¬ (e ≡ JsonFault.NoMemory) → spec.bytes_in member (view value.now) ≡ Err e) }
@@ -84,7 +84,7 @@ pub(crate) fn bytes_in(alloc: Global, value: &Value, member: Member) -> Result<B
     }
 }
 
-/// The bytes that a needed member spells in base64.
+/// Decodes a required member, which must be a text in base64.
 pub(crate) fn needed_bytes(
     alloc: Global,
     object: &Value,

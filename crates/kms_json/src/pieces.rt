@@ -1,4 +1,4 @@
-//! The parts of a reply's text: values, and members of objects.
+//! The parts of a reply's text: values and members of objects.
 ghost use Rattle.std.specs.Prelude.{[], ◌∷◌, OnOk};
 ghost use Rattle.std.specs.Str.{IsAscii};
 ghost use Rattle.json.specs.Token.{begin_array, begin_object, end_array, end_object, key};
@@ -41,7 +41,7 @@ pub(crate) fn close_array(out: &mut Writer) -> Result<(), NoMemory>
     Ok(())
 }
 
-/// The name of a member, behind which its value is written.
+/// Writes the name of a member. Its value must be written next.
 pub(crate) fn write_key(name: &str, out: &mut Writer) -> Result<(), NoMemory>
     ensures { OnOk result (Adds (key name.now ∷ []) out.old out.new) }
 {
@@ -87,7 +87,7 @@ pub(crate) fn write_name(name: &KeyName, out: &mut Writer) -> Result<(), NoMemor
 fn write_version(alloc: Global, version: &VersionName, out: &mut Writer) -> Result<(), NoMemory>
     ensures { OnOk result (AddsValue (spec.version_data version.now) out.old out.new) }
 {
-    // Looking at both shows that the name keeps its rule and that the number is below 65,536.
+    // Reading both makes their bounds known: the name is a key's name, and the number is below 65,536.
     let _key = version.key.as_bytes();
     let _number = version.number;
     let mut text = ByteList::new(alloc);

@@ -1,4 +1,4 @@
-//! Replies as JSON texts.
+//! Replies as JSON.
 ghost use Rattle.std.specs.Prelude.{◌≡◌, IfOk, OnOk};
 ghost use Rattle.kms_json.specs.Replies as spec;
 ghost use Rattle.kms_json.specs.Writing.{AddsReply};
@@ -12,9 +12,9 @@ use json::Writer;
 use key_rows::KmsReply;
 use std::alloc::Global;
 
-/// Writes the body of a response: the one JSON text of the reply, without blanks, with the members
-/// of each object in byte order of name and byte strings in URL-safe base64 without padding. The
-/// reply that says that a call is done has no bytes.
+/// Writes the body of a response, the JSON text of the reply. It has no blanks. The members of each
+/// object are in byte order of their names. Byte strings are in URL-safe base64 without padding. The
+/// body of `Done` is empty.
 pub fn write_reply(alloc: Global, reply: &KmsReply) -> Result<ByteList, NoMemory>
     ensures { IfOk result (λ text. text ≡ spec.reply_text reply.now) }
 {
@@ -23,7 +23,7 @@ pub fn write_reply(alloc: Global, reply: &KmsReply) -> Result<ByteList, NoMemory
     Ok(ByteList::of(out.into_inner()))
 }
 
-/// Writes the value that a reply is, if it is one.
+/// Writes the value of a reply, which is nothing for `Done`.
 fn write_value(alloc: Global, reply: &KmsReply, out: &mut Writer) -> Result<(), NoMemory>
     ensures { OnOk result (AddsReply (spec.reply_data reply.now) out.old out.new) }
 {

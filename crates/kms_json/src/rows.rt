@@ -1,4 +1,4 @@
-//! The objects of a reply, and arrays of them.
+//! The objects of a reply and arrays of them.
 ghost use Rattle.std.specs.Prelude.{◌≡◌, OnOk, codes};
 ghost use Rattle.serde_json.specs.Data.{string};
 ghost use Rattle.kms_json.specs.Replies as spec;

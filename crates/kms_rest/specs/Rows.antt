@@ -6,20 +6,29 @@ use Rattle.kms_rest.specs.Places.{before, after}
 use Rattle.kms_rest.specs.declared.place.Place.{Place}
 use Rattle.kms_rest.specs.declared.place.Place.TheVariants as at
 
-abbrev pub table : Table Place
-table =
+abbrev pub with_keys : Table Place → Table Place
+with_keys rows =
+    with_route (codes "/kms/v1/key/{k}/_metadata") at.KeyMetadata
+    (with_route (codes "/kms/v1/key/{k}/_invalidatecache") at.KeyInvalidate
+    (with_route (codes "/kms/v1/key/{k}") at.Key
+    (with_route (codes "/kms/v1/keys") at.Keys rows)))
+
+abbrev pub with_calls_of_a_key : Table Place → Table Place
+with_calls_of_a_key rows =
+    with_route (codes "/kms/v1/key/{k}/_reencryptbatch") at.KeyBatch
+    (with_route (codes "/kms/v1/key/{k}/_eek") at.KeyEek
+    (with_route (codes "/kms/v1/key/{k}/_versions") at.KeyVersions
+    (with_route (codes "/kms/v1/key/{k}/_currentversion") at.KeyCurrent rows)))
+
+abbrev pub with_versions_and_names : Table Place → Table Place
+with_versions_and_names rows =
     with_route (codes "/kms/v1/keys/metadata") at.Metadatas
     (with_route (codes "/kms/v1/keys/names") at.Names
     (with_route (codes "/kms/v1/keyversion/{v}/_eek") at.VersionEek
-    (with_route (codes "/kms/v1/keyversion/{v}") at.Version
-    (with_route (codes "/kms/v1/key/{k}/_reencryptbatch") at.KeyBatch
-    (with_route (codes "/kms/v1/key/{k}/_eek") at.KeyEek
-    (with_route (codes "/kms/v1/key/{k}/_versions") at.KeyVersions
-    (with_route (codes "/kms/v1/key/{k}/_currentversion") at.KeyCurrent
-    (with_route (codes "/kms/v1/key/{k}/_metadata") at.KeyMetadata
-    (with_route (codes "/kms/v1/key/{k}/_invalidatecache") at.KeyInvalidate
-    (with_route (codes "/kms/v1/key/{k}") at.Key
-    (with_route (codes "/kms/v1/keys") at.Keys [])))))))))))
+    (with_route (codes "/kms/v1/keyversion/{v}") at.Version rows)))
+
+abbrev pub table : Table Place
+table = with_versions_and_names (with_calls_of_a_key (with_keys []))
 
 -- a row with this pattern, of a route of this text
 abbrev pub row : List ℕ → List ℕ → List (ℕ × ℕ) → Place → List ℕ × RouteOf Place

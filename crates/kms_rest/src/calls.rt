@@ -1,4 +1,4 @@
-//! The call of an operation, by the open part of its path, its query and its body.
+//! The call of an operation, from the variable part of its path, its query and its body.
 ghost use Rattle.std.specs.Prelude.{◌≡◌, ◌≢◌, [], ℕ, List, Err, MatchOption};
 ghost use Rattle.key_rows.specs.declared.calls.KmsCall.TheVariants as call;
 ghost use Rattle.path_routes.specs.declared.query.Parameter.{Parameter};
@@ -14,7 +14,7 @@ use kms_json::{EekBody, JsonFault, read_batch, read_create, read_eek, read_roll}
 use path_routes::Query;
 use std::alloc::Global;
 
-/// The call of an operation. `name` is the open part of its path, decoded.
+/// Returns the call of an operation. `name` is the variable part of its path, percent-decoded.
 pub(crate) fn read_call(
     alloc: Global,
     operation: Operation,
@@ -41,7 +41,7 @@ pub(crate) fn read_call(
     }
 }
 
-/// The fault of a request whose body has a fault.
+/// Returns the fault of a request whose body has this fault.
 fn fault_of(why: JsonFault) -> RestFault
     ensures { result ≡ spec.fault_of why }
 {
@@ -144,7 +144,7 @@ fn version_named(text: &[u8]) -> Option<VersionName>
     let Some(version) = VersionName::read(text) else {
         return None;
     };
-    // Looking at it shows that the number is below 65,536.
+    // Reading the number makes its bound known: it is below 65,536.
     let _number = version.number;
     Some(version)
 }
@@ -164,7 +164,7 @@ fn generate(name: &[u8], query: &Query) -> Result<KmsCall, RestFault>
     }
 }
 
-/// What is to be done with an encrypted key.
+/// What to do with an encrypted key.
 #[derive(Clone, Copy, Debug, PartialEq, Eq)]
 enum EekOperation {
     Decrypt,
@@ -223,7 +223,7 @@ fn metadatas(alloc: Global, query: &Query) -> Result<KmsCall, RestFault>
     }
 }
 
-/// The call for these names, of which there is one at least.
+/// Returns the call for these names. At least one is required.
 fn some_metadatas(names: NameList) -> Result<KmsCall, RestFault>
     ensures { spec.SaysMetadatas names result }
 {

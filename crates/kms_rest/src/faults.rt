@@ -1,12 +1,12 @@
-//! Why a request is no call.
+//! The faults of a request.
 use hk_base::NoMemory;
 
-/// Why a request is no call. Where more than one holds, the first one of this order counts.
+/// Why a request is not a call. If more than one holds, the first one in this order is reported.
 #[derive(Clone, Copy, Debug, PartialEq, Eq)]
 pub enum RestFault {
-    /// No route of the service fits the path.
+    /// No route of the service matches the path.
     NoRoute,
-    /// A route fits the path, and none of its operations has the method.
+    /// A route matches the path, but it has no operation with this method.
     BadMethod,
     /// The parameter `user.name` is absent or empty.
     NoUser,

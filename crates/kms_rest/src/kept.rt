@@ -1,4 +1,4 @@
-//! The router, kept over the requests of a connection.
+//! A router that is kept for all requests of a connection.
 ghost use Rattle.std.specs.Prelude.{◌≡◌, IfOk};
 ghost use Rattle.std.specs.Option.{ForSome};
 ghost use Rattle.kms_rest.specs.Rows.{table};
@@ -9,8 +9,8 @@ use hk_base::NoMemory;
 use matchit::Router;
 use std::alloc::Global;
 
-/// The routes of the service, which are built when they are first wanted and kept from then on. A
-/// connection has one, so that its requests don't each build them.
+/// The routes of the service, which are built when they are first used and kept from then on. A
+/// connection has one, so that its requests don't each build the routes.
 #[derive(Drop)]
 pub struct KeptRouter {
     alloc: Global,
@@ -19,7 +19,7 @@ pub struct KeptRouter {
 }
 
 impl KeptRouter {
-    /// Nothing is built yet. It takes no memory.
+    /// Creates a router whose routes are not built yet. It does not allocate.
     pub fn new(alloc: Global) -> KeptRouter {
         KeptRouter {
             alloc,
@@ -27,7 +27,7 @@ impl KeptRouter {
         }
     }
 
-    /// The router, built now if it isn't yet.
+    /// Returns the router. It builds the routes at the first call.
     pub(crate) fn get(&mut self) -> Result<&Router<Place>, NoMemory>
         ensures { IfOk result (λ r. r.now ≡ table) }
     {

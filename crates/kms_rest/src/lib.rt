@@ -1,5 +1,5 @@
-//! The key management service over REST: the call that a request asks, and the response that a reply
-//! is. The bodies are of `kms_json`, the messages of `http_wire`.
+//! The key management service over REST: the call of a request, and the response of a reply. Bodies
+//! are read and written by `kms_json`, messages by `http_wire`.
 #![tactic(auto)]
 
 mod calls;
@@ -19,6 +19,3 @@ pub use laws::requests_have_one_answer;
 pub use operation::Operation;
 pub use requests::{to_call, to_call_with};
 pub use responses::{Response, respond, respond_fault};
-
-#[cfg(test)]
-mod tests;

@@ -1,7 +1,6 @@
 //! The places that the paths of the service name.
 
-/// What a path of the service names. More than one operation may stand at a place, under different
-/// methods.
+/// What a path of the service names. A place may have several operations, with different methods.
 #[derive(Clone, Copy, Debug, PartialEq, Eq)]
 pub enum Place {
     Keys,
@@ -18,7 +17,7 @@ pub enum Place {
     Metadatas,
 }
 
-/// The method of a request, as far as the service has operations under it.
+/// The method of a request, as far as the service has operations with it.
 #[derive(Clone, Copy, Debug, PartialEq, Eq)]
 pub enum Verb {
     Get,

@@ -1,4 +1,4 @@
-//! What the query of a request says to an operation.
+//! The parameters of an operation in the query of a request.
 ghost use Rattle.std.specs.Prelude.{◌≡◌, ◌<◌, ◌^◌, ◌∷◌, [], ℕ, List, length, codes, All, IfNone, IfOk, IfSome, MatchBool, MatchOption};
 ghost use Rattle.std.specs.Char.{is_ascii_digit};
 ghost use Rattle.std.specs.List.{list_all};
@@ -11,7 +11,7 @@ use key_rows::NameList;
 use path_routes::{Given, Parameter, Query};
 use std::alloc::Global;
 
-/// Whether `eek_op` and `num_keys` stand once at most.
+/// Returns whether `eek_op` and `num_keys` occur at most once.
 pub(crate) fn is_single(query: &Query) -> bool
     ensures { MatchBool result (spec.IsSingle query.now) (¬ spec.IsSingle query.now) }
 {
@@ -24,7 +24,7 @@ pub(crate) fn is_single(query: &Query) -> bool
     true
 }
 
-/// Whether `eek_op` has this value, and no other.
+/// Returns whether `eek_op` has this value and no other.
 pub(crate) fn has_operation(query: &Query, wanted: &[u8]) -> bool
     ensures { MatchBool result (spec.operation_values query.now ≡ wanted.now ∷ []) (¬ (spec.operation_values query.now ≡ wanted.now ∷ [])) }
 {
@@ -48,8 +48,8 @@ fn utf8(text: &[u8]) -> Option<&str>
     str::from_utf8(text).ok()
 }
 
-/// The number that decimal digits say, `None` where the bytes are none, or where it is not below
-/// 2^32. Zeros may stand in front.
+/// Reads a decimal number, which may begin with zeros. Returns `None` if the bytes are not one, or if
+/// it is not below 2^32.
 fn read_count(text: &[u8]) -> Option<u32>
     ensures { MatchOption result ((count : ℕ) → ¬ spec.IsCount text.now count) (spec.IsCount text.now) }
 {
@@ -62,7 +62,8 @@ fn read_count(text: &[u8]) -> Option<u32>
     text.parse::<u32>().ok()
 }
 
-/// How many keys are wanted by `num_keys`: one where it is absent, `None` where it says no number.
+/// Returns the number of keys that `num_keys` asks for: one if it is absent, `None` if it is not a
+/// number.
 pub(crate) fn count(query: &Query) -> Option<u32>
     ensures { MatchOption result ((count : ℕ) → ¬ spec.Counts (spec.count_values query.now) count) (spec.Counts (spec.count_values query.now)) }
 {
@@ -73,7 +74,7 @@ pub(crate) fn count(query: &Query) -> Option<u32>
     }
 }
 
-/// The names that the parameters `key` give, in their order, or `None` where one of them is no name.
+/// Returns the names in the parameters `key`, in their order, or `None` if one of them is not a name.
 pub(crate) fn key_names(alloc: Global, query: &Query) -> Result<Option<NameList>, NoMemory>
     ensures { IfOk result (λ found. MatchOption found (¬ All IsKeyName (spec.key_values query.now)) (λ names. (spec.key_values query.now ≡ names) × All IsKeyName names)) }
 {

@@ -1,4 +1,4 @@
-//! The call that a request asks.
+//! The call of a request.
 ghost use Rattle.std.specs.Prelude.{◌≡◌};
 ghost use Rattle.kms_rest.specs.Requests as spec;
 ghost use Rattle.kms_rest.specs.Operations.{Routes};
@@ -16,9 +16,9 @@ use key_rows::KmsCall;
 use path_routes::{Query, UserFault, decoded, path_of, query_of, read_user};
 use std::alloc::Global;
 
-/// The user and the call of a request to the key management service, by the REST API of the Hadoop
-/// KMS, or why it is none. It builds the routes for this request alone: where more requests come, as
-/// on a connection, `to_call_with` keeps them.
+/// Returns the user and the call of a request by the REST API of the Hadoop KMS, or why the request is
+/// not a call. It builds the routes for this request alone. For more than one request, as on a
+/// connection, use `to_call_with`, which keeps them.
 pub fn to_call(alloc: Global, request: &Request) -> Result<(Text, KmsCall), RestFault>
     ensures { spec.Says request.now result }
 {
@@ -26,7 +26,7 @@ pub fn to_call(alloc: Global, request: &Request) -> Result<(Text, KmsCall), Rest
     to_call_with(alloc, &mut router, request)
 }
 
-/// The user and the call of a request, as `to_call` gives them, by a router that is kept.
+/// Returns the user and the call of a request, as `to_call` does, with a router that is kept.
 pub fn to_call_with(
     alloc: Global,
     router: &mut KeptRouter,
@@ -44,7 +44,8 @@ pub fn to_call_with(
     }
 }
 
-/// The user and the call of a request that names this operation, with this open part of its path.
+/// Returns the user and the call of a request whose path names this operation. `part` is the variable
+/// part of the path.
 fn read_routed(
     alloc: Global,
     request: &Request,

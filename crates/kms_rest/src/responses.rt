@@ -15,15 +15,15 @@ const NO_ROUTE: &str = "{\"RemoteException\":{\"exception\":\"NoRoute\",\"messag
 const BAD_METHOD: &str =
     "{\"RemoteException\":{\"exception\":\"BadMethod\",\"message\":\"BadMethod\"}}";
 
-/// A response: its status, one of those that the services answer with, and its body, which is JSON
-/// where it is not empty.
+/// A response: its status, which is one of those that the services answer with, and its body, which
+/// is JSON unless it is empty.
 #[derive(Drop)]
 pub struct Response {
     pub status: u16,
     pub body: ByteList,
 }
 
-/// The status of a refusal, by RFC 9110.
+/// Returns the status of a refusal (RFC 9110).
 fn refusal_status(why: &KmsRefusal) -> u16
     ensures status { result ≡ spec.refusal_status why.now }
     ensures known { IsStatus result }
@@ -63,8 +63,8 @@ fn reply_status(reply: &KmsReply, created: bool) -> u16
     }
 }
 
-/// The response that a reply is. `created` says that the call was Create, which is answered by 201
-/// in place of 200 unless it is refused.
+/// Makes the response of a reply. `created` says that the call was Create, whose status is 201 instead
+/// of 200 unless it is refused.
 pub fn respond(alloc: Global, reply: &KmsReply, created: bool) -> Result<Response, NoMemory>
     ensures status { IfOk result (λ response. response.status ≡ spec.reply_status reply.now created) }
     ensures body { IfOk result (λ response. response.body ≡ reply_text reply.now) }
@@ -90,7 +90,7 @@ fn fault_status(fault: RestFault) -> u16
     }
 }
 
-/// A copy of the text.
+/// Copies the text.
 fn text(alloc: Global, text: &str) -> Result<ByteList, NoMemory>
     ensures { IfOk result (λ found. found ≡ text.now) }
 {
@@ -111,8 +111,8 @@ fn fault_text(alloc: Global, fault: RestFault) -> Result<ByteList, NoMemory>
     }
 }
 
-/// The response to a request that is no call. NoUser, BadRequest and NoMemory have the bodies of the
-/// refusals K2, K1 and K13; NoRoute and BadMethod have their own names there.
+/// Makes the response to a request that is not a call. The bodies of NoUser, BadRequest and NoMemory
+/// are those of the refusals K2, K1 and K13. NoRoute and BadMethod are named by themselves.
 pub fn respond_fault(alloc: Global, fault: RestFault) -> Result<Response, NoMemory>
     ensures status { IfOk result (λ response. response.status ≡ spec.fault_status fault) }
     ensures body { IfOk result (λ response. response.body ≡ spec.fault_text fault) }

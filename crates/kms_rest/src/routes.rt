@@ -1,8 +1,8 @@
-//! The routes of the service: the operation that a method and a path name.
-ghost use Rattle.std.specs.Prelude.{◌≡◌, ℕ, List, length, IfOk, IfErr};
+//! The routes of the service: which operation a method and a path name.
+ghost use Rattle.std.specs.Prelude.{◌≡◌, ℕ, List, length, IfOk, IfErr, OnOk};
 ghost use Rattle.kms_rest.specs.Operations.{Routes};
 ghost use Rattle.kms_rest.specs.Places as spec;
-ghost use Rattle.kms_rest.specs.Rows.{table};
+ghost use Rattle.kms_rest.specs.Rows.{table, with_calls_of_a_key, with_keys, with_versions_and_names};
 
 use crate::faults::RestFault;
 use crate::operation::Operation;
@@ -12,39 +12,51 @@ use matchit::Router;
 use path_routes::add_route;
 use std::alloc::Global;
 
-/// The routes of the service, each with the place that it names.
+/// Adds the routes of keys as a whole and of their metadata.
+fn add_routes_of_keys(router: &mut Router<Place>) -> Result<(), NoMemory>
+    ensures { OnOk result (router.new ≡ with_keys router.old) }
+{
+    add_route(router, "/kms/v1/keys", Place::Keys)?;
+    add_route(router, "/kms/v1/key/{k}", Place::Key)?;
+    add_route(
+        router,
+        "/kms/v1/key/{k}/_invalidatecache",
+        Place::KeyInvalidate,
+    )?;
+    add_route(router, "/kms/v1/key/{k}/_metadata", Place::KeyMetadata)?;
+    Ok(())
+}
+
+/// Adds the routes of a key's versions and of its encrypted keys.
+fn add_routes_of_a_key(router: &mut Router<Place>) -> Result<(), NoMemory>
+    ensures { OnOk result (router.new ≡ with_calls_of_a_key router.old) }
+{
+    add_route(router, "/kms/v1/key/{k}/_currentversion", Place::KeyCurrent)?;
+    add_route(router, "/kms/v1/key/{k}/_versions", Place::KeyVersions)?;
+    add_route(router, "/kms/v1/key/{k}/_eek", Place::KeyEek)?;
+    add_route(router, "/kms/v1/key/{k}/_reencryptbatch", Place::KeyBatch)?;
+    Ok(())
+}
+
+/// Adds the routes of single versions and of lists of keys.
+fn add_routes_of_versions_and_names(router: &mut Router<Place>) -> Result<(), NoMemory>
+    ensures { OnOk result (router.new ≡ with_versions_and_names router.old) }
+{
+    add_route(router, "/kms/v1/keyversion/{v}", Place::Version)?;
+    add_route(router, "/kms/v1/keyversion/{v}/_eek", Place::VersionEek)?;
+    add_route(router, "/kms/v1/keys/names", Place::Names)?;
+    add_route(router, "/kms/v1/keys/metadata", Place::Metadatas)?;
+    Ok(())
+}
+
+/// Builds the routes of the service, each with the place that it names.
 pub(crate) fn routes(alloc: Global) -> Result<Router<Place>, NoMemory>
     ensures { IfOk result (λ router. router ≡ table) }
 {
     let mut router = Router::new(alloc);
-    add_route(&mut router, "/kms/v1/keys", Place::Keys)?;
-    add_route(&mut router, "/kms/v1/key/{k}", Place::Key)?;
-    add_route(
-        &mut router,
-        "/kms/v1/key/{k}/_invalidatecache",
-        Place::KeyInvalidate,
-    )?;
-    add_route(&mut router, "/kms/v1/key/{k}/_metadata", Place::KeyMetadata)?;
-    add_route(
-        &mut router,
-        "/kms/v1/key/{k}/_currentversion",
-        Place::KeyCurrent,
-    )?;
-    add_route(&mut router, "/kms/v1/key/{k}/_versions", Place::KeyVersions)?;
-    add_route(&mut router, "/kms/v1/key/{k}/_eek", Place::KeyEek)?;
-    add_route(
-        &mut router,
-        "/kms/v1/key/{k}/_reencryptbatch",
-        Place::KeyBatch,
-    )?;
-    add_route(&mut router, "/kms/v1/keyversion/{v}", Place::Version)?;
-    add_route(
-        &mut router,
-        "/kms/v1/keyversion/{v}/_eek",
-        Place::VersionEek,
-    )?;
-    add_route(&mut router, "/kms/v1/keys/names", Place::Names)?;
-    add_route(&mut router, "/kms/v1/keys/metadata", Place::Metadatas)?;
+    add_routes_of_keys(&mut router)?;
+    add_routes_of_a_key(&mut router)?;
+    add_routes_of_versions_and_names(&mut router)?;
     Ok(router)
 }
 
@@ -62,7 +74,7 @@ fn read_verb(method: &[u8]) -> Verb
     }
 }
 
-/// The operation that stands at a place under a method.
+/// Returns the operation at a place with a method.
 fn operation_at(place: Place, verb: Verb) -> Option<Operation>
     ensures { result ≡ spec.operation_at place verb }
 {
@@ -84,7 +96,7 @@ fn operation_at(place: Place, verb: Verb) -> Option<Operation>
     }
 }
 
-/// How many bytes of a place's path stand before its open part.
+/// Returns the length of a place's path before its variable part.
 fn part_start(place: Place) -> usize
     ensures { result ≡ length (spec.before place) }
 {
@@ -103,7 +115,7 @@ fn part_start(place: Place) -> usize
     }
 }
 
-/// How many bytes stand behind it.
+/// Returns the length of a place's path after its variable part.
 fn part_rest(place: Place) -> usize
     ensures { result ≡ length (spec.after place) }
 {
@@ -118,7 +130,7 @@ fn part_rest(place: Place) -> usize
     }
 }
 
-/// The open part of a path that is one of a place.
+/// Returns the variable part of a path of a place.
 fn part(place: Place, path: &[u8]) -> &[u8]
     requires { (k : List ℕ) × spec.IsAt path.now place k }
     ensures { spec.IsAt path.now place result.now }
@@ -126,7 +138,8 @@ fn part(place: Place, path: &[u8]) -> &[u8]
     &path[part_start(place)..path.len() - part_rest(place)]
 }
 
-/// The operation that a method and a path name, and the open part of the path, as it stands there.
+/// Returns the operation that a method and a path name, and the variable part of the path, not
+/// percent-decoded.
 pub(crate) fn route<'p>(
     router: &Router<Place>,
     method: &[u8],

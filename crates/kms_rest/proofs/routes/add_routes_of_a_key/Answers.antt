@@ -1,0 +1,6 @@
+use Rattle.std.proofs.Common.{refl}
+use Rattle.kms_rest.proofs.routes.add_routes_of_a_key.Goals as goal
+
+pub returns : goal.returns
+returns c = rw (c.in_ok-add_route-4.ensures, c.in_ok-add_route-3.ensures, c.in_ok-add_route-2.ensures, c.in_ok-add_route.ensures)
+    refl
