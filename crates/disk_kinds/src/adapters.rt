@@ -1,4 +1,4 @@
-//! The real readers and writers, whose errors are counted.
+//! Adapters over the system's readers, writers and clock that count errors.
 ghost use Rattle.std.specs.Prelude.{◌≡◌, ◌≤◌, ◌+◌, ◌-◌, ◌^◌, min, IfOk};
 ghost use Rattle.std.specs.Io.{ReadsAtMost, WritesAtMost};
 ghost use Rattle.std.specs.Io.KnownBytes.{ReadConsumes, WriteAppends};
@@ -9,25 +9,25 @@ use std::io::{self, ErrorKind, Read, Write};
 use std::rt::Files;
 use std::time;
 
-/// How often a call that a signal interrupted is tried.
+/// How many times a call is tried if a signal interrupts it.
 const TRIES: u32 = 1000;
 
-/// A count of faults after one more.
+/// Returns the count of faults after one more fault.
 fn one_more(faults: u64) -> u64
     ensures { result ≡ min (faults + 1) (2 ^ 64 - 1) }
 {
     faults.saturating_add(1)
 }
 
-/// A reader whose errors are counted, up to 2^64 - 1. A read that a signal interrupted is tried again,
-/// up to 1,000 times. It tells the bytes that are left where the reader tells them.
+/// A source over a reader. It counts errors, up to 2^64 - 1. A read that a signal interrupts is tried
+/// again, up to 1,000 times in all. It promises the bytes still to come if the reader does.
 #[derive(Drop)]
 pub struct Reading<R: Read + Drop> {
     pub inner: R,
     pub faults: u64,
 }
 
-/// A file that is read in pieces.
+/// A source over a file.
 pub type FileSource = Reading<File>;
 
 impl<R: Read + Drop> Reading<R> {
@@ -39,7 +39,7 @@ impl<R: Read + Drop> Reading<R> {
     }
 }
 
-/// Opens a file to be read.
+/// Opens a file for reading.
 pub fn open_source<R: Files>(files: &R, path: &str) -> io::Result<Reading<R::File>>
     ensures { IfOk result (λ source. source.faults ≡ 0) }
 {
@@ -79,9 +79,9 @@ impl<R: Read + Drop> Source for Reading<R> {
     }
 }
 
-/// A writer whose errors are counted, up to 2^64 - 1. A write that a signal interrupted is tried
-/// again, up to 1,000 times, and one that takes nothing of a piece counts as a fault. It tells the
-/// bytes written where the writer tells them.
+/// A sink over a writer. It counts errors, up to 2^64 - 1. A write that a signal interrupts is tried
+/// again, up to 1,000 times in all. A write that takes nothing of a slice counts as a fault. It
+/// promises the bytes written if the writer does.
 #[derive(Drop)]
 pub struct Writing<W: Write + Drop> {
     pub inner: W,
@@ -135,7 +135,7 @@ impl<W: Write + Drop> Sink for Writing<W> {
     }
 }
 
-/// The clock of the system, whose errors are counted, up to 2^64 - 1. At an error it answers 0.
+/// A clock over the system's clock. It counts errors, up to 2^64 - 1, and reads 0 on an error.
 #[derive(Drop)]
 pub struct WallClock<C: time::Clock + Drop> {
     pub clock: C,
@@ -160,106 +160,5 @@ impl<C: time::Clock + Drop> Clock for WallClock<C> {
                 0
             }
         }
-    }
-}
-
-#[cfg(test)]
-mod tests {
-    use super::*;
-    use std::test::Fail;
-
-    /// Answers by a list of interruptions, errors, ends and bytes.
-    #[derive(Drop)]
-    struct Signals {
-        script: &'static [u8],
-        at: usize,
-    }
-
-    impl Signals {
-        fn next(&mut self) -> io::Result<usize>
-            ensures { IfOk result (λ n. n ≤ 1) }
-        {
-            let step = self.script.get(self.at).copied().unwrap_or(b'0');
-            self.at = self.at.saturating_add(1);
-            match step {
-                b'i' => Err(io::Error::from(ErrorKind::Interrupted)),
-                b'e' => Err(io::Error::from(ErrorKind::Other)),
-                b'1' => Ok(1),
-                _ => Ok(0),
-            }
-        }
-    }
-
-    impl Read for Signals {
-        fn read(&mut self, buf: &mut [u8]) -> io::Result<usize> {
-            let count = self.next()?;
-            Ok(count.min(buf.len()))
-        }
-    }
-
-    impl Write for Signals {
-        fn write(&mut self, buf: &[u8]) -> io::Result<usize> {
-            let count = self.next()?;
-            Ok(count.min(buf.len()))
-        }
-
-        fn flush(&mut self) -> io::Result<()> {
-            Ok(())
-        }
-    }
-
-    #[test]
-    fn counts_errors_of_a_reader(rt: HostRuntime) {
-        let signals = Signals {
-            script: b"ii1e0",
-            at: 0,
-        };
-        let mut source = Reading::new(signals);
-        let mut piece = [0u8; 4];
-        assert_eq!(rt; source.read(&mut piece), Ok(1));
-        assert_eq!(rt; source.faults, 0);
-        assert_eq!(rt; source.read(&mut piece), Err(Failed));
-        assert_eq!(rt; source.faults, 1);
-        assert_eq!(rt; source.read(&mut piece), Ok(0));
-        assert_eq!(rt; source.faults, 1);
-    }
-
-    #[test]
-    fn counts_errors_of_a_writer(rt: HostRuntime) {
-        let signals = Signals {
-            script: b"i1e00",
-            at: 0,
-        };
-        let mut sink = Writing::new(signals);
-        assert_eq!(rt; sink.write(b"ab"), Ok(1));
-        assert_eq!(rt; sink.faults, 0);
-        assert_eq!(rt; sink.write(b"b"), Err(Failed));
-        assert_eq!(rt; sink.faults, 1);
-        assert_eq!(rt; sink.write(b"b"), Ok(0));
-        assert_eq!(rt; sink.faults, 2);
-        assert_eq!(rt; sink.write(b""), Ok(0));
-        assert_eq!(rt; sink.faults, 2);
-    }
-
-    #[test]
-    fn reads_a_file_in_pieces(rt: HostRuntime) -> Result<(), Fail> {
-        fs::write(&rt, "source.txt", b"abcde")?;
-        let mut source = open_source(&rt, "source.txt")?;
-        let mut piece = [0u8; 4];
-        assert_eq!(rt; source.read(&mut piece), Ok(4));
-        assert_eq!(rt; piece, *b"abcd");
-        assert_eq!(rt; source.read(&mut piece), Ok(1));
-        assert_eq!(rt; source.read(&mut piece), Ok(0));
-        fs::remove_file(&rt, "source.txt")?;
-        assert_eq!(rt; open_source(&rt, "source.txt").is_err(), true);
-        Ok(())
-    }
-
-    #[test]
-    fn reads_the_clock(rt: HostRuntime) {
-        let mut clock = WallClock::new(rt);
-        // The year 2020 has begun.
-        assert!(rt; clock.now_ms() > 1_577_836_800_000);
-        assert_eq!(rt; clock.faults, 0);
     }
 }

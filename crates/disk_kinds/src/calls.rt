@@ -1,4 +1,4 @@
-//! Which calls of a fake fail.
+//! The calls of an object in memory that fail by plan.
 ghost use Rattle.std.specs.Prelude.{◌≡◌, ◌≤◌, ◌↔◌, Contains, IsErr};
 ghost use Rattle.hk_base.specs.Faults.{HasCause};
 ghost use Rattle.disk_kinds.specs.Fakes.{CallMade, counted};
@@ -6,7 +6,7 @@ ghost use Rattle.disk_kinds.specs.Fakes.{CallMade, counted};
 use hk_base::Failed;
 use std::marker::Model;
 
-/// The calls of a source, a sink or a disk in memory that are to fail, by their numbers from 1. It
+/// Which calls of a source, a sink or a disk in memory fail, by their numbers counted from 1. It
 /// counts the calls made and the faults, both up to 2^64 - 1.
 #[derive(Drop)]
 pub struct CallPlan {
@@ -24,7 +24,7 @@ impl Model for CallPlan {
 }
 
 impl CallPlan {
-    /// A plan before the first call.
+    /// Creates a plan with no call made yet.
     pub fn new(failing: Vec<u64>) -> CallPlan
         ensures failing { result.failing ≡ failing.items }
         ensures made { result.made ≡ 0 }
@@ -37,7 +37,7 @@ impl CallPlan {
         }
     }
 
-    /// Counts a call. It fails, and counts a fault, where the call's number is one of those given.
+    /// Counts a call. Returns `Failed` and counts a fault if the call's number is in the plan.
     pub fn call(&mut self) -> Result<(), Failed>
         ensures listed { IsErr result ↔ Contains self.old.failing (counted self.old.made) }
         ensures plan { CallMade self.old self.new result }
@@ -50,7 +50,7 @@ impl CallPlan {
         Ok(())
     }
 
-    /// Counts a fault that has another cause than the plan.
+    /// Counts a fault with a cause other than the plan.
     pub fn fault(&mut self) -> Failed
         ensures failing { self.new.failing ≡ self.old.failing }
         ensures made { self.new.made ≡ self.old.made }
@@ -61,14 +61,14 @@ impl CallPlan {
         Failed
     }
 
-    /// How many calls were made, up to 2^64 - 1.
+    /// Returns the number of calls made, up to 2^64 - 1.
     pub fn made(&self) -> u64
         ensures { result ≡ self.now.made }
     {
         self.made
     }
 
-    /// How many calls failed, up to 2^64 - 1.
+    /// Returns the number of calls that failed, up to 2^64 - 1.
     pub fn faults(&self) -> u64
         ensures { result ≡ self.now.faults }
     {

@@ -12,22 +12,23 @@ use std::io::{self, ErrorKind};
 use std::os::unix::fs::{FileExt, OpenOptionsExt};
 use std::rt::Files;
 
-/// How often a call that a signal interrupted is tried.
+/// How many times a call is tried if a signal interrupts it.
 const TRIES: u32 = 1000;
 
-/// How many bytes are read at a time.
+/// The most bytes read at a time.
 const PIECE: usize = 4096;
 
-/// The files `keys.log` and `names.log` of a folder. It counts errors, up to 2^64 - 1, tries a call
-/// that a signal interrupted again, up to 1,000 times, and tells nothing of what the files hold.
+/// The files `keys.log` and `names.log` of a folder. It counts errors, up to 2^64 - 1. It tries a call
+/// that a signal interrupts again, up to 1,000 times in all. Contracts promise nothing about what the
+/// files hold.
 ///
-/// The system may drop what a sync could not write. So once a sync of a file failed, each later one
-/// of it fails, until the file is opened again.
+/// The system may drop what a sync could not write. So once a sync of a file has failed, every later
+/// sync of that file fails, until the file is opened again.
 ///
-/// It holds an exclusive lock on each file for as long as it lives, so that no other process that
-/// locks them, as each `FileDisk` does, reads or writes them meanwhile. A process that asks for no
-/// lock is not kept off. The system lets the locks go when the process ends, however it ends, so
-/// nothing is left to be cleared after a crash.
+/// It holds an exclusive lock on each file for as long as it lives, so no other `FileDisk` can use the
+/// files, in this process or another. A process that takes no lock is not kept out. The system
+/// releases the locks when the process ends, in whatever way, so nothing needs cleaning up after a
+/// crash.
 #[derive(Drop)]
 pub struct FileDisk {
     keys: File,
@@ -37,8 +38,8 @@ pub struct FileDisk {
     pub faults: u64,
 }
 
-/// Opens a file to be read and written, and locks it without waiting. Where it is missing it is made,
-/// for its owner alone to read and write: the logs hold keys in the clear.
+/// Opens a file for reading and writing and locks it without waiting. Creates it if it is missing,
+/// readable and writable by its owner only, since the logs hold keys in the clear.
 fn open_log<R: Files<File = File>>(
     files: &R,
     alloc: Global,
@@ -122,7 +123,7 @@ fn sync_tried(file: &File) -> Result<(), Failed> {
     Err(Failed)
 }
 
-/// Reads from an offset until the buffer is full or the file is at its end.
+/// Reads from an offset until the buffer is full or the file ends. Returns the number of bytes read.
 fn read_all(file: &File, buf: &mut [u8], at: u64) -> Result<usize, Failed>
     ensures count { IfOk result (λ n. n ≤ length buf.new) }
     ensures rest { IfOk result (λ n. drop n buf.new ≡ drop n buf.old) }
@@ -139,7 +140,7 @@ fn read_all(file: &File, buf: &mut [u8], at: u64) -> Result<usize, Failed>
     Ok(done)
 }
 
-/// Reads up to 4,096 bytes, and leaves the rest of the buffer.
+/// Reads up to 4,096 bytes and leaves the rest of the buffer unchanged.
 fn read_piece(file: &File, buf: &mut [u8], at: u64) -> Result<usize, Failed>
     ensures count { IfOk result (λ n. n ≤ length buf.new) }
     ensures rest { IfOk result (λ n. drop n buf.new ≡ drop n buf.old) }
@@ -164,9 +165,9 @@ fn write_all(file: &File, bytes: &[u8], at: u64) -> Result<(), Failed> {
 }
 
 impl FileDisk {
-    /// Opens both files of a folder, as `.`, makes those that are missing, and locks them. Where
-    /// another process holds one of them, or another `FileDisk` of this one, it fails at once with
-    /// `ErrorKind::WouldBlock`, and holds neither. It changes nothing in a file that was there.
+    /// Opens and locks both files of a folder, such as `.`, and creates those that are missing. If
+    /// another process or another `FileDisk` of this one holds either file, it fails at once with
+    /// `ErrorKind::WouldBlock` and holds neither. It does not change an existing file.
     pub fn open<R: Files<File = File>>(
         files: &R,
         alloc: Global,
@@ -176,7 +177,8 @@ impl FileDisk {
     {
         let keys = open_log(files, alloc, folder, "keys.log")?;
         let names = open_log(files, alloc, folder, "names.log")?;
-        // A file that was just made, by this run or one that was stopped, stays only with its folder.
+        // A new file survives a crash only once its folder is synced. An earlier run that was stopped
+        // may have created it too.
         File::open(files, folder)?.sync_all()?;
         Ok(FileDisk {
             keys,
@@ -273,85 +275,5 @@ impl Disk for FileDisk {
                 Err(self.fault())
             }
         }
-    }
-}
-
-#[cfg(test)]
-mod tests {
-    use super::*;
-    use std::fs;
-    use std::test::Fail;
-
-    #[test]
-    fn keeps_both_files_in_a_folder(rt: HostRuntime) -> Result<(), Fail> {
-        fs::create_dir(&rt, "disk")?;
-        let mut disk = FileDisk::open(&rt, rt.alloc(), "disk")?;
-        assert_eq!(rt; disk.len(0), Ok(0));
-        assert_eq!(rt; disk.write_at(0, 0, b"abcdef"), Ok(()));
-        assert_eq!(rt; disk.write_at(1, 0, b"names"), Ok(()));
-        assert_eq!(rt; disk.write_at(0, 2, b"CD"), Ok(()));
-        assert_eq!(rt; disk.cut(1, 4), Ok(()));
-        assert_eq!(rt; disk.sync(0), Ok(()));
-        assert_eq!(rt; disk.sync(1), Ok(()));
-        let mut piece = [0u8; 10];
-        assert_eq!(rt; disk.read(0, 1, &mut piece), Ok(5));
-        assert_eq!(rt; piece.as_slice(), b"bCDef\0\0\0\0\0".as_slice());
-        assert_eq!(rt; disk.faults, 0);
-        assert_eq!(rt;
-            fs::read(&rt, "disk/keys.log")?.as_slice(),
-            b"abCDef".as_slice()
-        );
-        assert_eq!(rt;
-            fs::read(&rt, "disk/names.log")?.as_slice(),
-            b"name".as_slice()
-        );
-        drop(disk);
-        let mut again = FileDisk::open(&rt, rt.alloc(), "disk")?;
-        assert_eq!(rt; again.len(0), Ok(6));
-        assert_eq!(rt; again.write_at(0, LONGEST_FILE, b"a"), Err(Failed));
-        assert_eq!(rt; again.faults, 1);
-        fs::remove_dir_all(&rt, "disk")?;
-        Ok(())
-    }
-
-    fn is_held(rt: &HostRuntime, folder: &str) -> bool {
-        match FileDisk::open(rt, rt.alloc(), folder) {
-            Ok(_) => false,
-            Err(error) => error.kind() == ErrorKind::WouldBlock,
-        }
-    }
-
-    #[test]
-    fn is_held_while_it_lives(rt: HostRuntime) -> Result<(), Fail> {
-        fs::create_dir(&rt, "held")?;
-        let mut disk = FileDisk::open(&rt, rt.alloc(), "held")?;
-        assert_eq!(rt; disk.write_at(0, 0, b"abc"), Ok(()));
-        assert_eq!(rt; is_held(&rt, "held"), true);
-        assert_eq!(rt; is_held(&rt, "held"), true);
-        assert_eq!(rt; disk.len(0), Ok(3));
-        assert_eq!(rt; disk.faults, 0);
-        drop(disk);
-        assert_eq!(rt; is_held(&rt, "held"), false);
-        assert_eq!(rt;
-            fs::read(&rt, "held/keys.log")?.as_slice(),
-            b"abc".as_slice()
-        );
-        fs::remove_dir_all(&rt, "held")?;
-        Ok(())
-    }
-
-    #[test]
-    fn is_held_by_either_file(rt: HostRuntime) -> Result<(), Fail> {
-        fs::create_dir(&rt, "either")?;
-        let names = File::create(&rt, "either/names.log")?;
-        names.lock()?;
-        assert_eq!(rt; is_held(&rt, "either"), true);
-        names.unlock()?;
-        assert_eq!(rt; is_held(&rt, "either"), false);
-        let keys = File::open(&rt, "either/keys.log")?;
-        keys.lock()?;
-        assert_eq!(rt; is_held(&rt, "either"), true);
-        fs::remove_dir_all(&rt, "either")?;
-        Ok(())
     }
 }

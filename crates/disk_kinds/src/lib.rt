@@ -1,4 +1,5 @@
-//! The outside: sources, sinks and words in memory, and adapters over the real ones.
+//! Implementations of the environment: sources, sinks, words and disks in memory, and adapters over
+//! the real ones.
 #![tactic(auto)]
 
 mod adapters;

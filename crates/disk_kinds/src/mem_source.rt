@@ -10,7 +10,7 @@ use crate::pieces::copy_front;
 use hk_base::{Failed, Source};
 use std::marker::Model;
 
-/// Bytes in memory that are read from the front, with the calls that are to fail.
+/// A source of bytes in memory, with a plan of the calls that fail.
 #[derive(Drop)]
 pub struct MemSource {
     bytes: Vec<u8>,
@@ -31,8 +31,8 @@ impl Model for MemSource {
 }
 
 impl MemSource {
-    /// A source of these bytes. A read gives at most `most` of them, so that a test can have them in
-    /// pieces. The reads with these numbers, from 1, fail, and leave the bytes as they are.
+    /// Creates a source of these bytes. A read gives at most `most` of them, so that a caller can have
+    /// them in pieces. The reads whose numbers, counted from 1, are in `failing` fail and take no bytes.
     pub fn new(bytes: Vec<u8>, most: usize, failing: Vec<u64>) -> MemSource
         requires { 0 < most }
         ensures left { result.left ≡ bytes.items }
@@ -49,14 +49,14 @@ impl MemSource {
         }
     }
 
-    /// The bytes that are left.
+    /// Returns the bytes not yet read.
     pub fn as_slice(&self) -> &[u8]
         ensures { result.now ≡ self.now.left }
     {
         &self.bytes[self.at..]
     }
 
-    /// How many reads failed, up to 2^64 - 1.
+    /// Returns the number of reads that failed, up to 2^64 - 1.
     pub fn faults(&self) -> u64
         ensures { result ≡ self.now.plan.faults }
     {
@@ -84,39 +84,5 @@ impl Source for MemSource {
         let count = copy_front(&self.bytes[self.at..end], buf);
         self.at += count;
         Ok(count)
-    }
-}
-
-#[cfg(test)]
-mod tests {
-    use super::*;
-    use std::test::Fail;
-
-    #[test]
-    fn gives_pieces_and_the_end(rt: HostRuntime) -> Result<(), Fail> {
-        let bytes = Vec::from_slice(rt.alloc(), b"abcdefgh")?;
-        let mut source = MemSource::new(bytes, 7, Vec::new(rt.alloc()));
-        let mut piece = [0u8; 10];
-        assert_eq!(rt; source.read(&mut piece), Ok(7));
-        assert_eq!(rt; piece.as_slice(), b"abcdefg\0\0\0".as_slice());
-        assert_eq!(rt; source.as_slice(), b"h".as_slice());
-        assert_eq!(rt; source.read(&mut piece), Ok(1));
-        assert_eq!(rt; source.read(&mut piece), Ok(0));
-        assert_eq!(rt; source.faults(), 0);
-        Ok(())
-    }
-
-    #[test]
-    fn fails_at_the_calls_given(rt: HostRuntime) -> Result<(), Fail> {
-        let bytes = Vec::from_slice(rt.alloc(), b"ab")?;
-        let failing = Vec::from_slice(rt.alloc(), &[2u64])?;
-        let mut source = MemSource::new(bytes, 1, failing);
-        let mut piece = [0u8; 4];
-        assert_eq!(rt; source.read(&mut piece), Ok(1));
-        assert_eq!(rt; source.read(&mut piece), Err(Failed));
-        assert_eq!(rt; source.as_slice(), b"b".as_slice());
-        assert_eq!(rt; source.read(&mut piece), Ok(1));
-        assert_eq!(rt; source.faults(), 1);
-        Ok(())
     }
 }

@@ -1,8 +1,8 @@
-//! Reading into the front of a buffer.
+//! Copying into the start of a buffer.
 ghost use Rattle.std.specs.Prelude.{◌≡◌, min, length, take, drop};
 
-/// Copies the front of `from` to the front of the buffer, as much as the shorter of them has, and
-/// answers how much that is.
+/// Copies bytes from the start of `from` to the start of the buffer, up to the end of the shorter of
+/// them. Returns how many.
 pub(crate) fn copy_front(from: &[u8], buf: &mut [u8]) -> usize
     ensures count { result ≡ min (length buf.new) (length from.now) }
     ensures front { take result buf.new ≡ take result from.now }

@@ -1,10 +1,10 @@
-//! A disk in memory that keeps no record.
+//! A disk in memory that records nothing about crashes.
 ghost use Rattle.std.specs.Prelude.{◌≤◌, ◌^◌, length};
 
 mod calls;
 
-/// Two files in memory. A call fails only where a write finds no memory or a file would pass 2^62
-/// bytes, and nothing is kept of what a crash might have left.
+/// Two files in memory. A call fails only if a write can't allocate or would make a file longer than
+/// 2^62 bytes. It keeps no record of what a crash might leave.
 #[derive(Drop)]
 pub struct PlainDisk {
     first: Vec<u8>,

@@ -1,4 +1,4 @@
-//! Random words from a list and from a seed.
+//! Words from a list, and random words from a seed.
 ghost use Rattle.std.specs.Prelude.{◌≡◌, ◌+◌, ◌*◌, ◌<◌, ◌≤◌, ◌%◌, ◌^◌, ℕ, length, slice_index};
 ghost use Rattle.rand_core.specs.Steps.{u32_at};
 ghost use Rattle.rand_chacha.specs.ChaCha.{ChaCha, of_seed, word_at};
@@ -9,7 +9,7 @@ use rand_core::SeedableRng;
 use rand_core::utils::NextWord;
 use std::marker::Model;
 
-/// Words that are given, and 0 for ever after the last.
+/// The words of a list, then zeros without end.
 #[derive(Drop)]
 pub struct ListWords {
     words: Vec<u32>,
@@ -47,9 +47,9 @@ impl Words for ListWords {
     }
 }
 
-/// The words of the ChaCha generator with 20 rounds over a seed: the key stream of the cipher ChaCha20
-/// whose key is the seed, with a counter of 64 bits from 0 and a nonce of 64 zero bits. Each word is
-/// four bytes of the stream, least significant first.
+/// The words of the ChaCha generator with 20 rounds: the key stream of the cipher ChaCha20 whose key
+/// is the seed, with a 64-bit counter from 0 and a nonce of 64 zero bits. Each word is four bytes of
+/// the stream, least significant byte first.
 #[derive(Drop)]
 pub struct ChaWords {
     generator: ChaCha20Rng,
@@ -67,7 +67,7 @@ impl Model for ChaWords {
 }
 
 impl ChaWords {
-    /// The words over a seed of 32 bytes.
+    /// Creates the generator from a seed of 32 bytes.
     pub fn from_seed(seed: [u8; 32]) -> ChaWords
         ensures { result ≡ of_seed seed }
     {
@@ -76,7 +76,8 @@ impl ChaWords {
         }
     }
 
-    /// The words over the seed that eight words make, four bytes each, least significant first.
+    /// Creates the generator from a seed given as eight words, each four bytes with the least significant
+    /// byte first.
     pub fn from_words(words: [u32; 8]) -> ChaWords
         ensures { result ≡ record { key = words; stream = 0; word_pos = 0 } }
     {
@@ -88,7 +89,7 @@ impl ChaWords {
     }
 }
 
-/// Puts the four bytes of a word, least significant first, at the place of the `i`-th.
+/// Writes the four bytes of a word, least significant byte first, as word `i` of the seed.
 fn put_word(seed: &mut [u8], i: usize, word: u32)
     requires { 4 * i + 4 ≤ length seed.old }
     ensures word { u32_at seed.new i ≡ word }
@@ -104,41 +105,5 @@ impl Words for ChaWords {
 
     fn word(&mut self) -> u32 {
         self.generator.next_word()
-    }
-}
-
-#[cfg(test)]
-mod tests {
-    use super::*;
-    use std::test::Fail;
-
-    #[test]
-    fn gives_the_list_then_zeros(rt: HostRuntime) -> Result<(), Fail> {
-        let mut words = ListWords::new(Vec::from_slice(rt.alloc(), &[5u32, 7])?);
-        assert_eq!(rt; words.word(), 5);
-        assert_eq!(rt; words.word(), 7);
-        assert_eq!(rt; words.word(), 0);
-        assert_eq!(rt; words.word(), 0);
-        Ok(())
-    }
-
-    #[test]
-    fn gives_the_published_key_stream(rt: HostRuntime) {
-        // The key stream of a key of 32 zero bytes: 76b8e0ad a0f13d90 405d6ae5 5386bd28 ..
-        let mut words = ChaWords::from_seed([0; 32]);
-        assert_eq!(rt; words.word().to_le_bytes(), [0x76, 0xb8, 0xe0, 0xad]);
-        assert_eq!(rt; words.word().to_le_bytes(), [0xa0, 0xf1, 0x3d, 0x90]);
-        assert_eq!(rt; words.word().to_le_bytes(), [0x40, 0x5d, 0x6a, 0xe5]);
-        assert_eq!(rt; words.word().to_le_bytes(), [0x53, 0x86, 0xbd, 0x28]);
-    }
-
-    #[test]
-    fn makes_a_seed_of_words(rt: HostRuntime) {
-        let mut seed = [0u8; 32];
-        seed[4] = 1;
-        seed[7] = 2;
-        let mut of_seed = ChaWords::from_seed(seed);
-        let mut of_words = ChaWords::from_words([0, 0x0200_0001, 0, 0, 0, 0, 0, 0]);
-        assert_eq!(rt; of_words.word(), of_seed.word());
     }
 }

@@ -1,36 +1,37 @@
-//! Why a call of a log, or of a store over it, gave up.
+//! Errors of a log and of a store over a log.
 ghost use Rattle.std.specs.Prelude.{◌≡◌};
 ghost use Rattle.frame_log.specs.declared.fault.LogFault.TheVariants.{StoreFault, NoMemory};
 
 use hk_base::{Failed, NoMemory};
 use std::alloc::{AllocError, AllocFailed};
 
-/// Why a call of a log gave up.
+/// Why a call of a log failed.
 #[derive(Clone, Copy, Debug, PartialEq, Eq)]
 pub enum LogFault {
-    /// The file is no log: at this offset stands a gate byte 1 and no frame, or, at 0, another magic.
+    /// The file is not a log. At this offset is a gate byte 1 that no frame follows or, if the offset
+    /// is 0, the magic is wrong.
     Damaged { at: u64 },
-    /// The disk failed, and counted the fault.
+    /// The disk failed and counted the fault.
     StoreFault,
     NoMemory,
 }
 
-/// Why a store over a log doesn't start.
+/// Why a store over a log can't start.
 #[derive(Clone, Copy, Debug, PartialEq, Eq)]
 pub enum StartFault {
-    /// The file is no log, or the frame whose gate is at this offset is no record that applies.
+    /// The file is not a log, or the frame whose gate is at this offset holds no record that applies.
     Damaged { at: u64 },
-    /// The disk failed, and counted the fault.
+    /// The disk failed and counted the fault.
     StoreFault,
     NoMemory,
-    /// The last opening that can be numbered is used.
+    /// Every opening number has been used.
     Spent,
 }
 
-/// Why a store over a log refuses a change.
+/// Why a store over a log refused a change.
 #[derive(Clone, Copy, Debug, PartialEq, Eq)]
 pub enum StoreRefusal {
-    /// The disk failed, and counted the fault.
+    /// The disk failed and counted the fault.
     StoreFault,
     NoMemory,
 }

@@ -1,4 +1,4 @@
-//! Payloads with their places, and how they are read.
+//! Frames of a log, and reading them.
 ghost use Rattle.std.specs.Prelude.{◌≡◌, ◌≤◌, ◌<◌, ◌^◌, ◌+◌, ℕ, length, drop, IfOk, IsErrOf};
 ghost use Rattle.std.specs.Int.{w32, to_be_bytes};
 ghost use Rattle.hk_base.specs.Disk.{Tells, Reads, RunOn, LeavesOnly};
@@ -11,29 +11,29 @@ use crate::LogFault;
 use hk_base::Disk;
 use std::alloc::Global;
 
-/// How many bytes a payload has at most.
+/// The largest size of a payload, in bytes.
 pub const LONGEST_PAYLOAD: u32 = 1_048_576;
 
-/// The gate byte before a frame.
+/// The gate byte of a frame.
 pub(crate) const OPEN: u8 = 1;
 
-/// The gate byte behind the last frame, once it is written.
+/// The end gate: the byte after the last frame.
 pub(crate) const SHUT: u8 = 0;
 
-/// A payload, and its offset in the file.
+/// A payload and its offset in the file.
 #[derive(Drop)]
 pub struct Frame {
     pub at: u64,
     pub payload: Vec<u8>,
 }
 
-/// The payloads of a log in the order of the file.
+/// The payloads of a log, in file order.
 #[derive(Drop)]
 pub struct Frames {
     pub list: Vec<Frame>,
 }
 
-/// What stands from a gate on.
+/// What follows at a gate.
 #[derive(Drop)]
 pub(crate) enum Next {
     Payload { payload: Vec<u8> },
@@ -41,7 +41,7 @@ pub(crate) enum Next {
     Broken,
 }
 
-/// Frames, and the gate behind them.
+/// All frames of a log, and the gate after them.
 #[derive(Drop)]
 pub(crate) struct Scan {
     pub frames: Frames,
@@ -49,14 +49,14 @@ pub(crate) struct Scan {
     pub gate: u8,
 }
 
-/// The length that stands behind a gate byte.
+/// Decodes the length after a gate byte.
 fn count_of(head: &[u8; 5]) -> u32
     ensures { to_be_bytes w32 result ≡ drop 1 head.now }
 {
     u32::from_be_bytes([head[1], head[2], head[3], head[4]])
 }
 
-/// Reads what stands at a gate. It takes no memory for a length that the file doesn't hold.
+/// Reads the frame or the end at a gate. Allocates nothing for a length that the file can't hold.
 fn read_next<D: Disk>(
     alloc: Global,
     disk: &mut D,
@@ -91,7 +91,7 @@ fn read_next<D: Disk>(
     Ok(Next::Payload { payload })
 }
 
-/// Reads the frames behind the magic.
+/// Reads all frames after the magic.
 pub(crate) fn read_frames<D: Disk>(
     alloc: Global,
     disk: &mut D,

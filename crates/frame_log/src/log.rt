@@ -1,4 +1,4 @@
-//! The gated log. The gate that opens a frame is a write of its own, after a sync of all that it opens.
+//! The gated log. The gate of a frame is a write of its own, after a sync of the frame.
 ghost use Rattle.std.specs.Prelude.{◌≡◌, ◌≤◌, ◌<◌, ◌^◌, ◌++◌, [], ◌∷◌, IfSome};
 ghost use Rattle.frame_log.specs.Format.{magic, starts_with};
 
@@ -7,8 +7,8 @@ use crate::frames::{Frames, OPEN, SHUT, read_frames};
 use hk_base::{Disk, LONGEST_FILE};
 use std::alloc::Global;
 
-/// A log on one file of a disk: where its end gate lies, and how long the payload is that was being
-/// added when the disk failed.
+/// A log on one file of a disk: the offset of its end gate and, after a failure of the disk, the length
+/// of the payload that was being added.
 #[derive(Drop)]
 pub struct Log {
     pub file: u8,
@@ -19,7 +19,7 @@ pub struct Log {
     ghost unsettled_in: { ∥ IfSome unsettled (λ n. n ≤ 1048576) ∥₁ },
 }
 
-/// Whether a file of this number begins so.
+/// Returns whether the first eight bytes are the magic of this file.
 fn is_magic(file: u8, head: &[u8; 8]) -> bool
     ensures { result ≡ starts_with (magic file) head.now }
 {
@@ -36,7 +36,7 @@ fn magic_of(file: u8) -> [u8; 8]
     }
 }
 
-/// The bytes of a log without frames.
+/// Returns the bytes of a log without frames.
 fn fresh(file: u8) -> [u8; 9]
     ensures { result ≡ magic file ++ 0 ∷ [] }
 {
@@ -53,13 +53,13 @@ impl Log {
     ghost use Rattle.frame_log.specs.Scan.{view};
     ghost use Rattle.frame_log.specs.Stands.{Stands, LeavesFrom};
 
-    /// Reads the log of a file that a crash may have left, and shuts its end gate where that isn't 0.
-    /// A file of at most 9 bytes is made a log without frames. It may be stopped at any moment too.
-    /// Whatever it answers, once the file is synced a crash leaves the log that was found, with its end
-    /// gate as it was, or shut, or read as 1.
+    /// Reads the log of a file that a crash may have left, and sets its end gate to 0 if it isn't 0.
+    /// A file of at most 9 bytes becomes a log without frames. A crash may stop this call at any moment
+    /// too. Whatever it returns, once the file is synced a crash leaves the log that was found, with
+    /// its end gate unchanged, or 0, or 1.
     ///
-    /// `Damaged` comes exactly where the file is no log, with the offset of the gate byte 1 that no
-    /// frame follows, or 0 where the magic is another. Only the frames are kept in memory.
+    /// Returns `Damaged` exactly if the file is not a log, with the offset of the gate byte 1 that no
+    /// frame follows, or 0 if the magic is wrong. Only the frames are kept in memory.
     pub fn recover<D: Disk>(
         alloc: Global,
         disk: &mut D,
@@ -74,13 +74,14 @@ impl Log {
         ensures settled { IfOk result (λ r. (r.0.file ≡ file) × (r.0.unsettled ≡ None)) }
         ensures damaged { (at : ℕ) → IsErrOf result (Damaged at) → Tells (D.state disk.old) → log_of file ((D.state disk.old).reads file) ≡ NoLog at }
 
-        // A crash at any moment leaves what it might have left before, or the log found, or that with
-        // its end gate read as 1.
+        // A crash at any moment leaves what it might have left before, or the log found, or that log
+        // with its end gate read as 1.
         ensures any_moment { Tells (D.state disk.old) → LeavesOnly file (D.state disk.old) (D.state disk.new)
             (λ c. (D.state disk.old).leaves file c ⊎ IsAsFound file ((D.state disk.old).reads file) c) }
 
-        // Whatever the answer, since the first sync of the call it leaves the log found, or that with its end
-        // gate read as 1, and what is no log byte for byte. Where that sync failed, nothing was written.
+        // Whatever the result, after the first sync of the call a crash leaves the log found, or that log
+        // with its end gate read as 1. A file that is not a log stays byte for byte. If that sync failed,
+        // nothing was written.
         ensures since_sync { Tells (D.state disk.old) →
             (IsErrOf result StoreFault × LeavesOnly file (D.state disk.old) (D.state disk.new) ((D.state disk.old).leaves file))
             ⊎ LeavesFrom file (D.state disk.old) (D.state disk.new) (IsRecovered file ((D.state disk.old).reads file)) }
@@ -92,8 +93,8 @@ impl Log {
         Log::open_synced(alloc, disk, file)
     }
 
-    /// Reads the log of a file of which a crash leaves what a read gives, and shuts its end gate where
-    /// that isn't 0. What it writes is left as the log found, or as that with its end gate read as 1.
+    /// Reads the log of a file that is synced, and sets its end gate to 0 if it isn't 0. A crash leaves
+    /// the log found, or that log with its end gate read as 1.
     fn open_synced<D: Disk>(
         alloc: Global,
         disk: &mut D,
@@ -145,9 +146,9 @@ impl Log {
         Ok((log, scan.frames))
     }
 
-    /// Adds a payload of 1 to 1,048,576 bytes, and answers its offset in the file. Once it answers `Ok`
-    /// every crash leaves the payload. After `StoreFault` the payload is unsettled: it is kept or not,
-    /// as `settle` then tells. `NoMemory` comes before the first write, and changes nothing.
+    /// Appends a payload of 1 to 1,048,576 bytes and returns its offset in the file. After `Ok` every
+    /// crash leaves the payload. After `StoreFault` the payload is unsettled: call `settle` to find out
+    /// whether it is kept. `NoMemory` is returned before the first write; nothing is then changed.
     pub fn append<D: Disk>(
         &mut self,
         alloc: Global,
@@ -160,11 +161,11 @@ impl Log {
 
         ensures place { IfOk result (λ at. at ≡ self.old.end + 5) }
 
-        // From then on each crash leaves a file that has it.
+        // From then on every crash leaves a file with the payload.
         ensures added { OnOk result (Tells (D.state disk.old) → (payloads : List (List ℕ)) → Stands (D.state disk.old) self.old payloads None
             → Stands (D.state disk.new) self.new (payloads ++ payload.now ∷ []) None) }
 
-        // A crash at any moment of the call leaves the payloads from before it, with the new one or without.
+        // A crash at any moment of the call leaves the payloads from before it, with or without the new one.
         ensures any_moment { Tells (D.state disk.old) → (payloads : List (List ℕ)) → Stands (D.state disk.old) self.old payloads None
             → LeavesOnly self.old.file (D.state disk.old) (D.state disk.new) (IsBeforeOrAfter self.old.file payloads payload.now) }
 
@@ -194,8 +195,8 @@ impl Log {
         Ok(gate + 5)
     }
 
-    /// Tells whether the unsettled payload is kept: exactly where the gate byte before it reads 1 after
-    /// a sync. After `StoreFault`, the only error, it is still unsettled.
+    /// Finds out whether the unsettled payload is kept: it is exactly if its gate byte reads 1 after a
+    /// sync. After `StoreFault`, the only error, the payload is still unsettled.
     pub fn settle<D: Disk>(&mut self, disk: &mut D) -> Result<bool, LogFault>
         requires unsettled { IsSome self.old.unsettled }
         requires stands { Tells (D.state disk.old) → ((payloads : List (List ℕ)) × (payload : List ℕ) × Stands (D.state disk.old) self.old payloads (Some payload)) }

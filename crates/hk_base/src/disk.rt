@@ -1,24 +1,26 @@
-//! A disk of two files with one clock.
+//! A disk of two files, and what a crash may leave of them.
 ghost use Rattle.std.specs.Prelude.{◌≡◌, ◌≤◌, ◌<◌, ◌^◌, ◌+◌, ◌-◌, min, List, ℕ, length, take, drop, IfOk, OnOk, OnErr};
 ghost use Rattle.hk_base.specs.Disk.{DiskState, Image, Tells, IsImage, CallOn, Reads, piece, written, Torn, Cut, Follows, Only};
 ghost use Rattle.hk_base.specs.Faults.{Rose};
 
 use crate::outside::Failed;
 
-/// How many bytes a file of a disk has at most: 2^62.
+/// The largest size of a file of a disk, in bytes: 2^62.
 pub const LONGEST_FILE: u64 = 1 << 62;
 
-/// Two files, 0 and 1, with one clock. Between two syncs of a file a crash may leave any bytes in
-/// each range that was written and past the old end, and leaves the bytes outside as they were. After
-/// a sync that succeeds a crash leaves what a read gives. A call on one file leaves the other as it is.
+/// Two files, 0 and 1, that share one clock.
 ///
-/// A disk may tell nothing of its content, as a real one does. A call fails only where the count of
-/// faults rises.
+/// Between two syncs of a file, a crash may leave any bytes in each range that was written and past
+/// the old end; the bytes outside those ranges are unchanged. After a sync that succeeds, a crash
+/// leaves exactly what a read returns. A call on one file does not change the other.
+///
+/// A disk may promise nothing about its content, as a real one does. A call fails only if the count
+/// of faults rises.
 pub trait Disk {
-    /// The disk, as a proof sees it.
+    /// The state of the disk, as proofs see it.
     ghost state: { Self → DiskState };
 
-    /// How many bytes a file has.
+    /// Returns the size of a file in bytes.
     fn len(&mut self, file: u8) -> Result<u64, Failed>
         requires { file < 2 }
         ensures answer { IfOk result (λ n. Tells (state self.old) → n ≡ length ((state self.old).reads file)) }
@@ -27,7 +29,8 @@ pub trait Disk {
         ensures call { CallOn file (state self.old) (state self.new) }
         ensures cause { OnErr result (Rose (state self.old).faults (state self.new).faults) };
 
-    /// Reads from an offset into the front of the buffer, as much as it takes and the file has.
+    /// Reads from an offset into the start of the buffer, up to the end of the buffer or of the file.
+    /// Returns the number of bytes read.
     fn read(&mut self, file: u8, at: u64, buf: &mut [u8]) -> Result<usize, Failed>
         requires file { file < 2 }
         requires place { Tells (state self.old) → at ≤ length ((state self.old).reads file) }
@@ -39,9 +42,9 @@ pub trait Disk {
         ensures call { CallOn file (state self.old) (state self.new) }
         ensures cause { OnErr result (Rose (state self.old).faults (state self.new).faults) };
 
-    /// Writes over what is there, and past the end. Until a sync a crash may leave any bytes in the
-    /// range. After a failure a read of the range may give any bytes. A file that would pass 2^62
-    /// bytes is a fault.
+    /// Writes at an offset, over the bytes there and past the end. Until the next sync a crash may
+    /// leave any bytes in the range. After a failure a read of the range may return any bytes. A
+    /// write that would make the file longer than 2^62 bytes is a fault.
     fn write_at(&mut self, file: u8, at: u64, bytes: &[u8]) -> Result<(), Failed>
         requires file { file < 2 }
         requires place { Tells (state self.old) → at ≤ length ((state self.old).reads file) }
@@ -52,7 +55,7 @@ pub trait Disk {
         ensures call { CallOn file (state self.old) (state self.new) }
         ensures cause { OnErr result (Rose (state self.old).faults (state self.new).faults) };
 
-    /// Cuts a file to a length.
+    /// Shortens a file to a length.
     fn cut(&mut self, file: u8, len: u64) -> Result<(), Failed>
         requires file { file < 2 }
         requires place { Tells (state self.old) → len ≤ length ((state self.old).reads file) }
@@ -62,7 +65,8 @@ pub trait Disk {
         ensures call { CallOn file (state self.old) (state self.new) }
         ensures cause { OnErr result (Rose (state self.old).faults (state self.new).faults) };
 
-    /// After it a crash leaves what a read gives. Where it fails, what a read gives stays.
+    /// Makes a file durable: afterwards a crash leaves exactly what a read returns. If it fails, reads
+    /// return the same bytes as before.
     fn sync(&mut self, file: u8) -> Result<(), Failed>
         requires { file < 2 }
         ensures durable { OnOk result (Tells (state self.old) → Only ((state self.old).reads file) ((state self.new).leaves file)) }
@@ -70,15 +74,15 @@ pub trait Disk {
         ensures call { CallOn file (state self.old) (state self.new) }
         ensures cause { OnErr result (Rose (state self.old).faults (state self.new).faults) };
 
-    /// This moment is one of those since an earlier one.
+    /// The present moment counts among the moments since any earlier one.
     ghost counts_now: { (disk : Self) (t : ℕ) (c : Image) → t ≤ (state disk).moment → IsImage (state disk) c → (state disk).left_since t c };
 
-    /// Since this moment there is no other.
+    /// No moment follows the present one.
     ghost only_now: { (disk : Self) (c : Image) → (state disk).left_since (state disk).moment c → IsImage (state disk) c };
 
-    /// What the files read as is one of the images.
+    /// The current content of a file is one of the images that a crash may leave.
     ghost is_one: { (disk : Self) (f : ℕ) → Tells (state disk) → f < 2 → (state disk).leaves f ((state disk).reads f) };
 
-    /// No file passes 2^62 bytes.
+    /// No file is longer than 2^62 bytes.
     ghost bounded: { (disk : Self) (f : ℕ) → Tells (state disk) → f < 2 → length ((state disk).reads f) ≤ 2 ^ 62 };
 }

@@ -1,5 +1,5 @@
-//! What every layer speaks of: names and small values, lists of bytes, the traits of the outside,
-//! and the two loops over them that read a byte at a time and write a whole piece.
+//! The types that every layer shares: names and small values, byte lists, and the traits of the
+//! environment, with a reader that takes one byte at a time and a function that writes a whole slice.
 #![tactic(auto)]
 
 mod disk;

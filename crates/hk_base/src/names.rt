@@ -1,4 +1,4 @@
-//! Names of keys and of their versions, keys and encrypted keys.
+//! Names of keys and of key versions, data encryption keys and encrypted keys.
 ghost use Rattle.std.specs.Prelude.{◌≡◌, ◌<◌, ◌≤◌, ◌^◌, ◌++◌, ℕ, List, length, take, position, false, All, IfNone, IsTrue, SomeIff, MatchOption, OnOk, OnErr};
 ghost use Rattle.std.specs.List.{list_all};
 ghost use Rattle.std.specs.Str.{bytes_eq};
@@ -9,7 +9,7 @@ use crate::texts::{ByteList, NoMemory};
 use itoa::Buffer;
 use std::marker::Model;
 
-/// The name of a key: 1 to 64 letters, digits, dots, underscores and dashes. Contracts see its
+/// The name of a key: 1 to 64 letters, digits, dots, underscores and hyphens. Contracts see its
 /// bytes.
 #[derive(Clone, Copy, PartialEq, Eq)]
 pub struct KeyName {
@@ -68,7 +68,7 @@ fn with_zeros(bytes: &[u8]) -> [u8; 64]
 }
 
 impl KeyName {
-    /// The name that the bytes are, or `None` where they break the rule of names.
+    /// Parses a name. Returns `None` if the bytes break the rule for names.
     pub fn read(bytes: &[u8]) -> Option<KeyName>
         ensures { SomeIff result (IsKeyName bytes.now) bytes.now }
     {
@@ -88,7 +88,7 @@ impl KeyName {
         &self.bytes[..self.len as usize]
     }
 
-    /// Whether both are one name.
+    /// Returns whether both names are equal.
     pub fn is(&self, other: &KeyName) -> bool
         ensures { result ≡ bytes_eq self.now other.now }
     {
@@ -96,7 +96,8 @@ impl KeyName {
     }
 }
 
-/// A version of a key: the key's name, and the number from 0. It is spelled `key@number`.
+/// A version of a key: the key's name and the version's number, which starts at 0. Its text form is
+/// `key@number`.
 #[derive(Clone, Copy, PartialEq, Eq)]
 pub struct VersionName {
     pub key: KeyName,
@@ -113,7 +114,7 @@ impl Model for VersionName {
     ghost inverse = { λ v. record { key = v.key; number = v.number } };
 }
 
-/// An initialization vector of counter mode, 16 bytes, which contracts see.
+/// The initialization vector of counter mode: 16 bytes. Contracts see the bytes.
 #[derive(Clone, Copy, PartialEq, Eq)]
 pub struct Iv(pub [u8; 16]);
 
@@ -128,7 +129,7 @@ impl Model for Iv {
 }
 
 impl Iv {
-    /// The bytes as an initialization vector, or `None` where they are not 16.
+    /// Converts 16 bytes to an initialization vector. Returns `None` for any other number of bytes.
     pub fn read(bytes: &[u8]) -> Option<Iv>
         ensures { SomeIff result (length bytes.now ≡ 16) bytes.now }
     {
@@ -148,7 +149,8 @@ impl Iv {
     }
 }
 
-/// A data encryption key, or the material of a version: 16, 24 or 32 bytes, which contracts see.
+/// A data encryption key (DEK), or the material of a key version: 16, 24 or 32 bytes. Contracts see
+/// the bytes.
 #[derive(Clone, Copy, PartialEq, Eq)]
 pub struct Dek {
     len: u8,
@@ -171,7 +173,7 @@ impl Model for Dek {
 }
 
 impl Dek {
-    /// The bytes as a key, or `None` where their number is not that of a key.
+    /// Converts 16, 24 or 32 bytes to a key. Returns `None` for any other number of bytes.
     pub fn read(bytes: &[u8]) -> Option<Dek>
         ensures { SomeIff result (IsTrue (is_key_length (length bytes.now))) bytes.now }
     {
@@ -182,7 +184,7 @@ impl Dek {
         Some(Dek::of(bytes))
     }
 
-    /// The bytes as a key.
+    /// Converts 16, 24 or 32 bytes to a key.
     pub fn of(bytes: &[u8]) -> Dek
         requires { IsTrue (is_key_length (length bytes.now)) }
         ensures { result ≡ bytes.now }
@@ -205,8 +207,8 @@ impl Dek {
     }
 }
 
-/// An encrypted data encryption key: the version whose material sealed it, the initialization
-/// vector, and the sealed bytes.
+/// An encrypted data encryption key (EDEK): the key version whose material sealed it, the
+/// initialization vector, and the sealed bytes.
 #[derive(Clone, Copy, PartialEq, Eq)]
 pub struct Edek {
     pub version: VersionName,
@@ -232,8 +234,8 @@ fn at_sign(bytes: &[u8]) -> Option<usize>
 }
 
 impl VersionName {
-    /// The version whose one spelling the bytes are, or `None` where they are none. The number is
-    /// decimal, without leading zeros, at most 65,535.
+    /// Parses the text form of a version. Returns `None` if the bytes are not the text form of any
+    /// version. The number is decimal, without leading zeros, at most 65,535.
     pub fn read(bytes: &[u8]) -> Option<VersionName>
         ensures { MatchOption result ((key : List ℕ) (number : ℕ) → IsKeyName key → number < 2 ^ 16 → ¬ (bytes.now ≡ version_text key number)) (λ version. IsKeyName version.key × (bytes.now ≡ version_text version.key version.number)) }
     {
@@ -249,7 +251,7 @@ impl VersionName {
         })
     }
 
-    /// Appends the spelling. Where memory is wanting `out` stays as it was.
+    /// Appends the text form. Returns `NoMemory` if allocation fails; `out` is then unchanged.
     pub fn write(&self, out: &mut ByteList) -> Result<(), NoMemory>
         ensures ok { OnOk result (out.new ≡ out.old ++ version_text self.now.key self.now.number) }
         ensures err { OnErr result (out.new ≡ out.old) }
@@ -257,14 +259,14 @@ impl VersionName {
         let len = out.len();
         match self.append_to(out) {
             Ok(()) => Ok(()),
-            Err(wanting) => {
+            Err(error) => {
                 out.truncate(len);
-                Err(wanting)
+                Err(error)
             }
         }
     }
 
-    /// Appends the spelling, or a front of it where memory is wanting.
+    /// Appends the text form. If allocation fails, a prefix of it may have been appended.
     fn append_to(&self, out: &mut ByteList) -> Result<(), NoMemory>
         ensures ok { OnOk result (out.new ≡ out.old ++ version_text self.now.key self.now.number) }
         ensures err { OnErr result (take (length out.old) out.new ≡ out.old) }
@@ -273,72 +275,5 @@ impl VersionName {
         out.append(b"@")?;
         let mut digits = Buffer::new();
         out.append(digits.format(self.number).as_bytes())
-    }
-}
-
-#[cfg(test)]
-mod tests {
-    use super::*;
-    use std::alloc::Global;
-    use std::test::Fail;
-
-    #[test]
-    fn names_keep_their_rule(rt: HostRuntime) {
-        let longest = [b'k'; 64];
-        let too_long = [b'k'; 65];
-        assert!(rt; KeyName::read(&longest).is_some());
-        assert!(rt; KeyName::read(&too_long).is_none());
-        assert!(rt; KeyName::read(b"").is_none());
-        for (bytes, good) in [
-            (b"k".as_slice(), true),
-            (b"Key_1.a-b".as_slice(), true),
-            (b"a@b".as_slice(), false),
-            (b"a b".as_slice(), false),
-            (b"a/b".as_slice(), false),
-            (b"\xc3\xa4".as_slice(), false),
-        ] {
-            assert_eq!(rt; KeyName::read(bytes).is_some(), good, "{bytes:?}");
-        }
-    }
-
-    fn rewritten(alloc: Global, bytes: &[u8]) -> Option<ByteList> {
-        let version = VersionName::read(bytes)?;
-        let mut out = ByteList::new(alloc);
-        version.write(&mut out).ok()?;
-        Some(out)
-    }
-
-    #[test]
-    fn versions_are_written_as_they_are_read(rt: HostRuntime) -> Result<(), Fail> {
-        for bytes in [b"k@0".as_slice(), b"Key.1@65535".as_slice()] {
-            let out = rewritten(rt.alloc(), bytes).ok_or("no version")?;
-            assert_eq!(rt; out.as_slice(), bytes);
-        }
-        Ok(())
-    }
-
-    #[test]
-    fn other_spellings_of_versions_are_refused(rt: HostRuntime) {
-        for bytes in [
-            b"k@65536".as_slice(),
-            b"k@07".as_slice(),
-            b"k@+7".as_slice(),
-            b"k@".as_slice(),
-            b"@1".as_slice(),
-            b"k".as_slice(),
-            b"k@1@2".as_slice(),
-        ] {
-            assert!(rt; VersionName::read(bytes).is_none(), "{bytes:?}");
-        }
-    }
-
-    #[test]
-    fn keys_have_three_lengths(rt: HostRuntime) {
-        let bytes = [7u8; 40];
-        for len in 0..40usize {
-            let good = len == 16 || len == 24 || len == 32;
-            assert_eq!(rt; Dek::read(&bytes[..len]).is_some(), good, "{len} bytes");
-            assert_eq!(rt; Iv::read(&bytes[..len]).is_some(), len == 16, "{len} bytes");
-        }
     }
 }

@@ -1,4 +1,4 @@
-//! Reading a byte at a time.
+//! Reading one byte at a time.
 ghost use Rattle.std.specs.Prelude.{◌≡◌, ◌+◌, ◌≤◌, ◌^◌, [], length, true, false};
 ghost use Rattle.std.specs.Io.KnownBytes.{Consumes, IsAtEnd};
 ghost use Rattle.hk_base.specs.Faults.{Rose};
@@ -7,14 +7,14 @@ ghost use Rattle.hk_base.specs.Reading.{ahead, byte_used, IsMore};
 use crate::outside::Source;
 use std::marker::Model;
 
-/// How many bytes of an input are used at most: 2^40.
+/// The largest number of input bytes that are used: 2^40.
 pub const LONGEST_INPUT: u64 = 1 << 40;
 
-/// How many bytes are asked of the source at a time.
+/// How many bytes are requested from the source at a time.
 const PIECE: usize = 4096;
 
-/// Bytes that came in one piece, of which some are still to be used. It counts the bytes used, up
-/// to 2^40. It takes no memory.
+/// A buffer over a source that hands out one byte at a time and counts the bytes used, up to 2^40.
+/// It does not allocate.
 #[derive(Drop)]
 pub struct Reader {
     piece: [u8; 4096],
@@ -34,13 +34,13 @@ impl Model for Reader {
     ghost invariant = { λ r. (r.from ≤ r.to) × (r.to ≤ 4096) × (r.used ≤ 2 ^ 40) };
 }
 
-/// What comes next.
+/// The result of asking for the next byte.
 #[derive(Clone, Copy, Debug, PartialEq, Eq)]
 pub enum Next {
     Byte(u8),
-    /// The source is at its end.
+    /// The source has ended.
     End,
-    /// A byte comes, and 2^40 bytes are used already.
+    /// There is another byte, but 2^40 bytes have been used already.
     Past,
     /// The source failed.
     Fault,
@@ -59,7 +59,7 @@ impl Reader {
         }
     }
 
-    /// Reads a piece where nothing is left of the last one. Answers whether the source did not fail.
+    /// Refills the buffer if it is empty. Returns `false` if the source failed.
     fn fill<S: Source>(&mut self, source: &mut S) -> bool
         ensures kept { Consumes (ahead self.old (S.left source.old)) (ahead self.new (S.left source.new)) [] }
         ensures used { self.new.used ≡ self.old.used }
@@ -81,7 +81,7 @@ impl Reader {
         }
     }
 
-    /// Uses the next byte.
+    /// Uses the next byte and returns it.
     pub fn next<S: Source>(&mut self, source: &mut S) -> Next
         ensures consumed { Consumes (ahead self.old (S.left source.old)) (ahead self.new (S.left source.new)) (byte_used result) }
         ensures used { self.new.used ≡ self.old.used + length (byte_used result) }

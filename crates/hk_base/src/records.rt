@@ -1,12 +1,12 @@
-//! Why bytes are no record.
+//! Errors of decoding a log record.
 use crate::texts::NoMemory;
 
-/// Why bytes were not read as a record of a log.
+/// Why bytes could not be decoded as a log record.
 #[derive(Clone, Copy, Debug, PartialEq, Eq)]
 pub enum RecordFault {
-    /// The bytes are not the spelling of a record.
+    /// The bytes do not encode a record.
     NoRecord,
-    /// There is no memory for the record.
+    /// Allocating the record failed.
     NoMemory,
 }
 

@@ -1,4 +1,4 @@
-//! Lists of bytes and texts that grow.
+//! Growable byte lists, and texts.
 ghost use Rattle.std.specs.Prelude.{◌≡◌, ◌↔◌, ◌∷◌, ◌++◌, [], length, take, IsTrue, MatchOption, OnOk, OnErr};
 ghost use Rattle.std.specs.Str.{IsUtf8};
 ghost use Rattle.std.specs.String.{string_bytes};
@@ -7,7 +7,7 @@ use std::alloc::{AllocError, AllocFailed, Global};
 use std::fmt;
 use std::marker::Model;
 
-/// There is no memory for what was asked.
+/// An allocation failed.
 #[derive(Clone, Copy, Debug, PartialEq, Eq)]
 pub struct NoMemory;
 
@@ -29,7 +29,7 @@ impl<T: Drop> From<AllocFailed<T>> for NoMemory {
     }
 }
 
-/// Bytes, which contracts see as a list.
+/// A growable list of bytes. Contracts see it as a list.
 #[derive(Drop)]
 pub struct ByteList {
     bytes: Vec<u8>,
@@ -44,7 +44,7 @@ impl Model for ByteList {
 }
 
 impl ByteList {
-    /// No bytes. It takes no memory.
+    /// Creates an empty list. Does not allocate.
     pub fn new(alloc: Global) -> ByteList
         ensures { result ≡ [] }
     {
@@ -53,14 +53,14 @@ impl ByteList {
         }
     }
 
-    /// The bytes as they are. It takes no memory.
+    /// Wraps a vector. Does not allocate.
     pub fn of(bytes: Vec<u8>) -> ByteList
         ensures { result ≡ bytes.items }
     {
         ByteList { bytes }
     }
 
-    /// The bytes in a vector. It takes no memory.
+    /// Returns the bytes as a vector. Does not allocate.
     pub fn into_vec(self) -> Vec<u8>
         ensures { result.items ≡ self }
     {
@@ -85,7 +85,7 @@ impl ByteList {
         self.bytes.is_empty()
     }
 
-    /// Adds a byte at the end. Where memory is wanting the list stays as it was.
+    /// Appends a byte. Returns `NoMemory` if allocation fails; the list is then unchanged.
     pub fn push(&mut self, byte: u8) -> Result<(), NoMemory>
         ensures ok { OnOk result (self.new ≡ self.old ++ byte ∷ []) }
         ensures err { OnErr result (self.new ≡ self.old) }
@@ -94,7 +94,7 @@ impl ByteList {
         Ok(())
     }
 
-    /// Adds bytes at the end, all of them or, where memory is wanting, none.
+    /// Appends bytes. Returns `NoMemory` if allocation fails; the list is then unchanged.
     pub fn append(&mut self, bytes: &[u8]) -> Result<(), NoMemory>
         ensures ok { OnOk result (self.new ≡ self.old ++ bytes.now) }
         ensures err { OnErr result (self.new ≡ self.old) }
@@ -103,14 +103,14 @@ impl ByteList {
         Ok(())
     }
 
-    /// Keeps the first `len` bytes.
+    /// Keeps the first `len` bytes and drops the rest.
     pub fn truncate(&mut self, len: usize)
         ensures { self.new ≡ take len self.old }
     {
         self.bytes.truncate(len);
     }
 
-    /// Takes all bytes away, and keeps the room for them.
+    /// Removes all bytes and keeps the capacity.
     pub fn clear(&mut self)
         ensures { self.new ≡ [] }
     {
@@ -118,7 +118,7 @@ impl ByteList {
     }
 }
 
-/// A text, which contracts see as its UTF-8 bytes.
+/// A text. Contracts see its UTF-8 bytes.
 #[derive(Drop)]
 pub struct Text {
     text: String,
@@ -134,14 +134,14 @@ impl Model for Text {
 }
 
 impl Text {
-    /// The text as it is. It takes no memory.
+    /// Wraps a string. Does not allocate.
     pub fn of(text: String) -> Text
         ensures { result ≡ string_bytes text }
     {
         Text { text }
     }
 
-    /// The bytes as a text, or `None` where they are not UTF-8. It takes no memory.
+    /// Converts UTF-8 bytes to a text. Returns `None` if the bytes are not UTF-8. Does not allocate.
     pub fn from_utf8(bytes: Vec<u8>) -> Option<Text>
         ensures { MatchOption result (¬ IsUtf8 bytes.items) (λ text. (text ≡ bytes.items) × IsUtf8 bytes.items) }
     {
@@ -158,50 +158,5 @@ impl Text {
         ensures { result.now ≡ self.now }
     {
         self.text.as_str()
-    }
-}
-
-#[cfg(test)]
-mod tests {
-    use super::*;
-    use std::test::Fail;
-
-    fn filled(alloc: Global) -> Result<ByteList, NoMemory> {
-        let mut list = ByteList::new(alloc);
-        list.append(b"key")?;
-        list.push(b'@')?;
-        list.append(b"12")?;
-        Ok(list)
-    }
-
-    #[test]
-    fn a_list_grows_and_shrinks(rt: HostRuntime) -> Result<(), Fail> {
-        let mut list = filled(rt.alloc()).ok().ok_or("no memory")?;
-        assert_eq!(rt; list.as_slice(), b"key@12".as_slice());
-        list.truncate(3);
-        assert_eq!(rt; list.len(), 3);
-        let vec = list.into_vec();
-        let mut list = ByteList::of(vec);
-        assert_eq!(rt; list.as_slice(), b"key".as_slice());
-        list.clear();
-        assert!(rt; list.is_empty());
-        Ok(())
-    }
-
-    #[test]
-    fn a_text_is_utf8(rt: HostRuntime) -> Result<(), Fail> {
-        let good = b"\xc3\xa4".to_vec(rt.alloc())?;
-        assert_eq!(rt; Text::from_utf8(good).ok_or("a text")?.as_str().len(), 2);
-        let bad = b"\xc3".to_vec(rt.alloc())?;
-        assert!(rt; Text::from_utf8(bad).is_none());
-        let text = Text::of(String::from_str(rt.alloc(), "alice")?);
-        assert_eq!(rt; text.as_str(), "alice");
-        Ok(())
-    }
-
-    #[test]
-    fn wanting_memory_is_said(rt: HostRuntime) -> Result<(), Fail> {
-        assert_eq!(rt; NoMemory.to_string(rt.alloc())?.as_str(), "no memory");
-        Ok(())
     }
 }

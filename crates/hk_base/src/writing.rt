@@ -1,4 +1,4 @@
-//! Writing a whole piece.
+//! Writing a whole slice.
 ghost use Rattle.std.specs.Prelude.{MatchResult};
 ghost use Rattle.std.specs.Io.KnownBytes.{Appends};
 ghost use Rattle.hk_base.specs.Faults.{HasCause};
@@ -6,8 +6,8 @@ ghost use Rattle.hk_base.specs.Writing.{WroteFront};
 
 use crate::outside::{Failed, Sink};
 
-/// Writes all the bytes to a sink, which may take fewer at a time. On `Failed` a front of them was
-/// written.
+/// Writes all the bytes to a sink, which may take fewer at a time. After `Failed` a prefix of them
+/// has been written.
 pub fn write_all<K: Sink>(sink: &mut K, bytes: &[u8]) -> Result<(), Failed>
     ensures wrote { MatchResult result (λ _. Appends (K.written sink.old) (K.written sink.new) bytes.now) (λ _. WroteFront (K.written sink.old) (K.written sink.new) bytes.now) }
     ensures cause { HasCause (K.faults sink.old) (K.faults sink.new) result }

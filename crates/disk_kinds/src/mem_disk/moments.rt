@@ -12,7 +12,7 @@ use hk_base::{Disk, Failed, LONGEST_FILE};
 use std::alloc::{AllocError, Global};
 
 impl Kept {
-    /// A file that was synced.
+    /// Creates a file that is synced.
     fn fresh(alloc: Global, bytes: Vec<u8>) -> Result<Kept, AllocError>
         requires { length bytes.items ≤ 2 ^ 62 }
         ensures { IfOk result (λ k. file_at k ≡ fresh_file bytes.items) }
@@ -54,8 +54,8 @@ impl Moment {
 }
 
 impl MemDisk {
-    /// A disk with these files, synced. The calls with these numbers, from 1, fail, as does one that
-    /// finds no memory.
+    /// Creates a disk with these files, both synced. The calls whose numbers, counted from 1, are in
+    /// `failing` fail. So does a call whose allocation fails.
     pub fn new(
         alloc: Global,
         first: Vec<u8>,
@@ -79,7 +79,7 @@ impl MemDisk {
         })
     }
 
-    /// What a file reads as.
+    /// Returns the current content of a file.
     pub fn bytes(&self, file: u8) -> &[u8]
         requires { file < 2 }
         ensures { result.now ≡ (the_file (now_of self.now) file).reads }
@@ -87,7 +87,7 @@ impl MemDisk {
         self.current.file(file).reads.as_slice()
     }
 
-    /// What a file was at its last sync.
+    /// Returns the content of a file at its last sync.
     pub fn synced(&self, file: u8) -> &[u8]
         requires { file < 2 }
         ensures { result.now ≡ (the_file (now_of self.now) file).synced }
@@ -95,21 +95,21 @@ impl MemDisk {
         self.current.file(file).synced.as_slice()
     }
 
-    /// How many calls were made, up to 2^64 - 1.
+    /// Returns the number of calls made, up to 2^64 - 1.
     pub fn calls(&self) -> u64
         ensures { result ≡ (plan_of self.now).made }
     {
         self.plan.made()
     }
 
-    /// How many calls failed, up to 2^64 - 1.
+    /// Returns the number of calls that failed, up to 2^64 - 1.
     pub fn faults(&self) -> u64
         ensures { result ≡ (plan_of self.now).faults }
     {
         self.plan.faults()
     }
 
-    /// Puts a file in place of another, and keeps the moment before.
+    /// Replaces a file and records the moment before.
     fn put(&mut self, file: u8, next: Kept) -> Result<(), AllocError>
         requires { file < 2 }
         ensures ok { OnOk result (Put file (file_at next) (now_of self.old) (now_of self.new) (past_of self.old) (past_of self.new)) }
@@ -125,7 +125,7 @@ impl MemDisk {
         Ok(())
     }
 
-    /// Writes a part of what was to be written, `size` bytes. Where memory is wanting it writes nothing.
+    /// Writes a prefix of a write of `size` bytes. If allocation fails, nothing is written.
     fn write_part(&mut self, file: u8, at: u64, part: &[u8], size: u64) -> Result<(), AllocError>
         requires file { file < 2 }
         requires place { at ≤ length ((the_file (now_of self.old) file).reads) }
@@ -151,7 +151,7 @@ impl MemDisk {
         )
     }
 
-    /// Cuts a file. Where memory is wanting it stays.
+    /// Shortens a file. If allocation fails, the file is unchanged.
     fn cut_to(&mut self, file: u8, size: u64) -> Result<(), AllocError>
         requires file { file < 2 }
         requires place { size ≤ length ((the_file (now_of self.old) file).reads) }
@@ -175,7 +175,7 @@ impl MemDisk {
         )
     }
 
-    /// Makes what a file reads as what a crash leaves. Where memory is wanting nothing changes.
+    /// Marks the content of a file as synced. If allocation fails, nothing changes.
     fn make_synced(&mut self, file: u8) -> Result<(), AllocError>
         requires { file < 2 }
         ensures ok { OnOk result (Put file (fresh_file ((the_file (now_of self.old) file).reads)) (now_of self.old) (now_of self.new) (past_of self.old) (past_of self.new)) }
@@ -188,7 +188,7 @@ impl MemDisk {
     }
 }
 
-/// What a file reads as after a write.
+/// Returns the content of a file after a write.
 fn overwritten(alloc: Global, old: &[u8], at: u64, bytes: &[u8]) -> Result<Vec<u8>, AllocError>
     requires { at ≤ length old.now }
     ensures { IfOk result (λ v. v.items ≡ written at bytes.now old.now) }
@@ -254,45 +254,5 @@ impl Disk for MemDisk {
             Ok(()) => Ok(()),
             Err(_) => Err(self.plan.fault()),
         }
-    }
-}
-
-#[cfg(test)]
-mod tests {
-    use super::*;
-    use std::test::Fail;
-
-    #[test]
-    fn reads_what_was_written(rt: HostRuntime) -> Result<(), Fail> {
-        let first = Vec::from_slice(rt.alloc(), b"abc")?;
-        let none = Vec::new(rt.alloc());
-        let mut disk = MemDisk::new(rt.alloc(), first, Vec::new(rt.alloc()), none)?;
-        assert_eq!(rt; disk.write_at(0, 1, b"BCD"), Ok(()));
-        assert_eq!(rt; disk.len(0), Ok(4));
-        let mut piece = [0u8; 3];
-        assert_eq!(rt; disk.read(0, 2, &mut piece), Ok(2));
-        assert_eq!(rt; piece.as_slice(), b"CD\0".as_slice());
-        assert_eq!(rt; disk.cut(0, 2), Ok(()));
-        assert_eq!(rt; disk.bytes(0), b"aB".as_slice());
-        assert_eq!(rt; disk.synced(0), b"abc".as_slice());
-        assert_eq!(rt; disk.sync(0), Ok(()));
-        assert_eq!(rt; disk.synced(0), b"aB".as_slice());
-        assert_eq!(rt; disk.bytes(1), b"".as_slice());
-        assert_eq!(rt; disk.calls(), 5);
-        assert_eq!(rt; disk.faults(), 0);
-        Ok(())
-    }
-
-    #[test]
-    fn a_failing_write_writes_half(rt: HostRuntime) -> Result<(), Fail> {
-        let failing = Vec::from_slice(rt.alloc(), &[1u64, 2])?;
-        let none = Vec::new(rt.alloc());
-        let mut disk = MemDisk::new(rt.alloc(), none, Vec::new(rt.alloc()), failing)?;
-        assert_eq!(rt; disk.write_at(1, 0, b"abcd"), Err(Failed));
-        assert_eq!(rt; disk.sync(1), Err(Failed));
-        assert_eq!(rt; disk.bytes(1), b"ab".as_slice());
-        assert_eq!(rt; disk.synced(1), b"".as_slice());
-        assert_eq!(rt; disk.faults(), 2);
-        Ok(())
     }
 }

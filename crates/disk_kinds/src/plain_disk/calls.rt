@@ -1,4 +1,4 @@
-//! The calls of a disk that keeps no record.
+//! The calls of a disk that records nothing about crashes.
 ghost use Rattle.std.specs.Prelude.{◌≡◌, ◌≤◌, ◌<◌, ◌+◌, ◌-◌, ◌^◌, [], length, OnOk, OnErr};
 ghost use Rattle.std.proofs.Common.{refl};
 ghost use Rattle.hk_base.specs.Disk.{written};
@@ -11,7 +11,7 @@ use hk_base::{Disk, Failed, LONGEST_FILE};
 use std::alloc::{AllocError, Global};
 
 impl PlainDisk {
-    /// A disk of two empty files.
+    /// Creates a disk of two empty files.
     pub fn new(alloc: Global) -> PlainDisk
         ensures first { contents result 0 ≡ [] }
         ensures second { contents result 1 ≡ [] }
@@ -24,7 +24,7 @@ impl PlainDisk {
         }
     }
 
-    /// What a file reads as.
+    /// Returns the content of a file.
     pub fn bytes(&self, file: u8) -> &[u8]
         requires { file < 2 }
         ensures { result.now ≡ contents self.now file }
@@ -39,7 +39,7 @@ impl PlainDisk {
         if file == 0 { &self.first } else { &self.second }
     }
 
-    /// Writes into a file in place. Where memory is wanting nothing changes.
+    /// Writes into a file in place. If allocation fails, nothing changes.
     fn write_in_place(&mut self, file: u8, at: usize, bytes: &[u8]) -> Result<(), AllocError>
         requires file { file < 2 }
         requires place { at ≤ length (contents self.old file) }
@@ -66,7 +66,7 @@ impl PlainDisk {
     }
 }
 
-/// Writes over the bytes at an offset, and past the end. Where memory is wanting nothing changes.
+/// Writes at an offset, over the bytes there and past the end. If allocation fails, nothing changes.
 fn overwrite(file: &mut Vec<u8>, at: usize, bytes: &[u8]) -> Result<(), AllocError>
     requires { at ≤ length file.old.items }
     ensures written { OnOk result (file.new.items ≡ written at bytes.now file.old.items) }
@@ -120,39 +120,5 @@ impl Disk for PlainDisk {
 
     fn sync(&mut self, _file: u8) -> Result<(), Failed> {
         Ok(())
-    }
-}
-
-#[cfg(test)]
-mod tests {
-    use super::*;
-
-    #[test]
-    fn reads_what_was_written(rt: HostRuntime) {
-        let mut disk = PlainDisk::new(rt.alloc());
-        assert_eq!(rt; disk.write_at(1, 0, b"abcd"), Ok(()));
-        assert_eq!(rt; disk.write_at(1, 1, b"BC"), Ok(()));
-        assert_eq!(rt; disk.cut(1, 3), Ok(()));
-        assert_eq!(rt; disk.sync(1), Ok(()));
-        assert_eq!(rt; disk.len(1), Ok(3));
-        assert_eq!(rt; disk.bytes(1), b"aBC".as_slice());
-        let mut piece = [0u8; 2];
-        assert_eq!(rt; disk.read(1, 1, &mut piece), Ok(2));
-        assert_eq!(rt; piece, *b"BC");
-        assert_eq!(rt; disk.write_at(1, 2, b"cde"), Ok(()));
-        assert_eq!(rt; disk.bytes(1), b"aBcde".as_slice());
-        assert_eq!(rt; disk.bytes(0), b"".as_slice());
-    }
-
-    #[test]
-    fn a_long_log_is_written_in_place(rt: HostRuntime) {
-        let mut disk = PlainDisk::new(rt.alloc());
-        let frame = [7u8; 100];
-        for _ in 0..10_000 {
-            let end = disk.bytes(0).len() as u64;
-            assert_eq!(rt; disk.write_at(0, end, &frame), Ok(()));
-        }
-        assert_eq!(rt; disk.len(0), Ok(1_000_000));
-        assert_eq!(rt; disk.bytes(0).iter().all(|byte| *byte == 7), true);
     }
 }
