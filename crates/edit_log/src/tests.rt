@@ -8,7 +8,7 @@ use disk_kinds::MemDisk;
 use edit_ops::EditOp;
 use frame_log::StartFault;
 use hk_base::{ByteList, Disk};
-use inode_tree::NPath;
+use name_calls::NPath;
 use std::alloc::{AllocError, Global};
 use std::process::Abort;
 use std::test::Fail;

@@ -5,8 +5,8 @@ use Rattle.std.specs.List.{list_all, onto_first}
 use Rattle.std.proofs.lemmas.Bool.Decides.{nat_tests}
 use Rattle.std.proofs.lemmas.List.{take_more}
 use Rattle.std.proofs.lemmas.Option.{cond_some}
-use Rattle.inode_tree.specs.Paths.{is_component, is_plain_byte, is_short, is_relative, is_absolute, absolute, starts_reserved, names_text, path_text, read_path}
-use Rattle.inode_tree.proofs.PathLemmas.{parts_of, path-text-parts, and-parts, names-text-snoc}
+use Rattle.name_calls.specs.Paths.{is_component, is_plain_byte, is_short, is_relative, is_absolute, absolute, starts_reserved, names_text, path_text, read_path}
+use Rattle.name_calls.proofs.PathLemmas.{parts_of, path-text-parts, and-parts, names-text-snoc}
 
 -- a test that gave a value
 if_some : {A : Type 0} (b : Bool) (o : Option A) (y : A) → cond b o None ≡ Some y → (b ≡ true) × (o ≡ Some y)

@@ -9,8 +9,8 @@ use Rattle.std.proofs.lemmas.Option.{same_Some}
 use Rattle.hk_base.specs.Names.{Encrypted, IsKeyName, is_key_name, is_name_byte, is_key_length}
 use Rattle.hk_base.specs.declared.records.RecordFault.{RecordFault}
 use Rattle.hk_base.specs.declared.records.RecordFault.TheVariants.{NoRecord, NoMemory}
-use Rattle.inode_tree.specs.Paths.{is_absolute, is_relative, path_text, read_path, starts_reserved}
-use Rattle.inode_tree.proofs.PathLemmas.{and-parts}
+use Rattle.name_calls.specs.Paths.{is_absolute, is_relative, path_text, read_path, starts_reserved}
+use Rattle.name_calls.proofs.PathLemmas.{and-parts}
 use Rattle.key_rows.specs.Records.{name_field}
 use Rattle.key_rows.specs.Reading.{Gives, number_at}
 use Rattle.key_rows.proofs.Fields.{IsBytes, IsBytes-rest, bind_some, bind_is, wide16, wide32, wide64}

@@ -2,7 +2,7 @@
 use Rattle.std.specs.Prelude.{ℕ, List, [], ◌∷◌, length, Option, Some, None, ◌==◌, if◌then◌else◌}
 use Rattle.std.specs.Int.{w16, w32, w64}
 use Rattle.hk_base.specs.Names.{Encrypted}
-use Rattle.inode_tree.specs.Paths.{read_path}
+use Rattle.name_calls.specs.Paths.{read_path}
 use Rattle.key_rows.specs.Reading.{◌>>=◌, number_at, bytes_at, short_at, long_at, name_of, material_of}
 use Rattle.edit_ops.specs.declared.ops.EditOp.{EditOp}
 use Rattle.edit_ops.specs.declared.ops.EditOp.TheVariants.{Opened, Mkdir, File, Remove, Zone}

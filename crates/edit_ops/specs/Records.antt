@@ -2,7 +2,7 @@
 use Rattle.std.specs.Prelude.{◌≡◌, ℕ, ◌<◌, ◌^◌, Bool, true, not, List, [], ◌∷◌, ◌++◌, length, Option, Some, None, IsTrue}
 use Rattle.std.specs.Int.{w16, w32, w64, to_be_bytes}
 use Rattle.hk_base.specs.Names.{Encrypted, IsKeyName, is_key_length}
-use Rattle.inode_tree.specs.Paths.{is_absolute, path_text, starts_reserved}
+use Rattle.name_calls.specs.Paths.{is_absolute, path_text, starts_reserved}
 use Rattle.key_rows.specs.Records.{name_field, text_field}
 use Rattle.edit_ops.specs.declared.ops.EditOp.{EditOp}
 use Rattle.edit_ops.specs.declared.ops.EditOp.TheVariants.{Opened, Mkdir, File, Remove, Zone}

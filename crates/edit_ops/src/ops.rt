@@ -1,11 +1,11 @@
 //! What changes the namesystem.
 ghost use Rattle.std.specs.Prelude.{◌≡◌, not, length};
 ghost use Rattle.std.specs.Str.{bytes_eq};
-ghost use Rattle.inode_tree.specs.Paths.{is_relative, starts_reserved};
+ghost use Rattle.name_calls.specs.Paths.{is_relative, starts_reserved};
 ghost use Rattle.edit_ops.specs.Records.{fits};
 
 use hk_base::{Edek, KeyName};
-use inode_tree::NPath;
+use name_calls::NPath;
 
 /// An operation that changes the namesystem. An id is a number that no other operation uses.
 #[derive(Drop)]

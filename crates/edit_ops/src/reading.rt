@@ -2,14 +2,14 @@
 ghost use Rattle.std.specs.Prelude.{◌≡◌, IfOk, IsErrOf};
 ghost use Rattle.std.specs.Int.{w16, w32, w64};
 ghost use Rattle.hk_base.specs.declared.records.RecordFault.TheVariants as fault;
-ghost use Rattle.inode_tree.specs.Paths.{read_path};
+ghost use Rattle.name_calls.specs.Paths.{read_path};
 ghost use Rattle.key_rows.specs.Reading.{Gives, bytes_at, long_at, material_of, name_of, number_at, short_at};
 ghost use Rattle.edit_ops.specs.Records.{HasSpelling, spelling};
 ghost use Rattle.edit_ops.specs.Reading.{edek_of, file_of, iv_of, mkdir_of, op_of, opened_of, opt_edek_of, path_at, remove_of, zone_of};
 
 use crate::ops::EditOp;
 use hk_base::{Dek, Edek, Iv, KeyName, RecordFault, VersionName};
-use inode_tree::{NPath, PathFault};
+use name_calls::{NPath, PathFault};
 use std::alloc::Global;
 
 fn u16_at(bytes: &[u8]) -> Result<(u16, &[u8]), RecordFault>

@@ -1,7 +1,7 @@
 //! Records of the edit log, written out by hand from the format.
 use super::*;
 use hk_base::{ByteList, RecordFault};
-use inode_tree::NPath;
+use name_calls::NPath;
 use std::alloc::{AllocError, Global};
 use std::test::Fail;
 

@@ -2,13 +2,13 @@
 ghost use Rattle.std.specs.Prelude.{◌≡◌, ◌≤◌, ◌++◌, ◌∷◌, true, IsTrue, OnOk, OnErr, length, take};
 ghost use Rattle.std.specs.Int.{w16, w32, w64, to_be_bytes};
 ghost use Rattle.hk_base.specs.Names.{IsKeyName};
-ghost use Rattle.inode_tree.specs.Paths.{is_relative, names_text, path_text};
+ghost use Rattle.name_calls.specs.Paths.{is_relative, names_text, path_text};
 ghost use Rattle.key_rows.specs.Records.{name_field};
 ghost use Rattle.edit_ops.specs.Records.{HasSpelling, IsEdek, IsOpt, edek_field, fits, opt_field, path_field, spelling};
 
 use crate::ops::EditOp;
 use hk_base::{ByteList, Edek, KeyName, NoMemory};
-use inode_tree::NPath;
+use name_calls::NPath;
 
 /// Appends a name with its length, or a front of that where memory is wanting.
 fn append_name(out: &mut ByteList, name: &KeyName) -> Result<(), NoMemory>

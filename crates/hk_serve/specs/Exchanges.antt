@@ -2,9 +2,9 @@
 use Rattle.std.specs.Prelude.{◌≡◌, ℕ, ◌<◌, ◌^◌, Bool, true, false, List, [], ◌∷◌, Option, Ok, Err, sum_by, flat_map}
 use Rattle.std.specs.List.{AllByRecursion}
 use Rattle.std.specs.Io.KnownBytes.{Appends}
-use Rattle.key_rows.specs.declared.calls.KmsCall.{KmsCall}
-use Rattle.key_rows.specs.declared.calls.KmsCall.TheVariants as call
-use Rattle.key_rows.specs.declared.calls.KmsReply.{KmsReply}
+use Rattle.kms_calls.specs.declared.calls.KmsCall.{KmsCall}
+use Rattle.kms_calls.specs.declared.calls.KmsCall.TheVariants as call
+use Rattle.kms_calls.specs.declared.calls.KmsReply.{KmsReply}
 use Rattle.kms_json.specs.Replies.{reply_text}
 use Rattle.http_wire.specs.Message.{Message}
 use Rattle.http_wire.specs.Requests.{Takes}

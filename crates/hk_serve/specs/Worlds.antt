@@ -1,12 +1,12 @@
 -- Both services behind a connection.
 use Rattle.std.specs.Prelude.{ℕ, List}
 use Rattle.hk_base.specs.Disk.{DiskState, Tells}
-use Rattle.key_rows.specs.declared.calls.KmsCall.{KmsCall}
-use Rattle.key_rows.specs.declared.calls.KmsReply.{KmsReply}
+use Rattle.kms_calls.specs.declared.calls.KmsCall.{KmsCall}
+use Rattle.kms_calls.specs.declared.calls.KmsReply.{KmsReply}
 use Rattle.kms_acls.specs.StandsFor.{StandsFor as ListsFor}
 use Rattle.prop_text.specs.declared.lines.PropLine.{PropLine}
-use Rattle.world_run.specs.declared.event.Event.TheVariants as event
-use Rattle.world_run.specs.declared.event.Line.TheVariants as line
+use Rattle.hk_events.specs.declared.event.Event.TheVariants as event
+use Rattle.hk_events.specs.declared.event.Line.TheVariants as line
 use Rattle.world_run.specs.Acknowledged.{Acknowledged, HoldsLogs}
 use Rattle.world_run.specs.Keeps.{Steps}
 use Rattle.world_run.specs.World.{RunningWorld}

@@ -1,7 +1,7 @@
 //! Serving a connection.
 ghost use Rattle.std.specs.Prelude.{◌≡◌, ◌≤◌, ◌<◌, ◌^◌, ◌∷◌, [], ℕ, List, None, Some, IfOk};
 ghost use Rattle.hk_base.specs.Faults.{Rose};
-ghost use Rattle.key_rows.specs.declared.calls.KmsReply.{KmsReply};
+ghost use Rattle.kms_calls.specs.declared.calls.KmsReply.{KmsReply};
 ghost use Rattle.http_wire.specs.Reading.{ahead};
 ghost use Rattle.http_wire.specs.Responses.{IsStatus, response_text};
 ghost use Rattle.hk_serve.specs.Ends.{Ends};
@@ -14,7 +14,7 @@ use crate::ended::Ended;
 use crate::refusals::{ended_by, stop};
 use hk_base::{NoMemory, Sink, Source, Text};
 use http_wire::{Request, Scratch, read_request, write_response};
-use key_rows::KmsCall;
+use kms_calls::KmsCall;
 use kms_rest::{KeptRouter, Response, respond, respond_fault, to_call_with};
 use std::alloc::Global;
 

@@ -1,10 +1,10 @@
 //! The service behind a connection.
 ghost use Rattle.std.specs.Prelude.{ℕ, List};
-ghost use Rattle.key_rows.specs.declared.calls.KmsCall.{KmsCall};
-ghost use Rattle.key_rows.specs.declared.calls.KmsReply.{KmsReply};
+ghost use Rattle.kms_calls.specs.declared.calls.KmsCall.{KmsCall};
+ghost use Rattle.kms_calls.specs.declared.calls.KmsReply.{KmsReply};
 
 use hk_base::Text;
-use key_rows::{KmsCall, KmsReply};
+use kms_calls::{KmsCall, KmsReply};
 
 /// Answers the calls of a connection.
 pub trait Desk {

@@ -1,7 +1,7 @@
 //! Both services as a desk.
 ghost use Rattle.std.specs.Prelude.{◌≡◌, ◌≤◌, ℕ, List, Ok};
 ghost use Rattle.hk_base.specs.Faults.{Rose};
-ghost use Rattle.key_rows.specs.declared.calls.KmsReply.{KmsReply};
+ghost use Rattle.kms_calls.specs.declared.calls.KmsReply.{KmsReply};
 ghost use Rattle.http_wire.specs.Reading.{ahead};
 ghost use Rattle.hk_serve.specs.Served.{Served};
 ghost use Rattle.hk_serve.specs.Worlds.{Happens, IsReady, WorldView};
@@ -10,9 +10,10 @@ use crate::connection::serve_conn;
 use crate::desk::Desk;
 use crate::ended::Ended;
 use hk_base::{Clock, Disk, Sink, Source, Text, Words};
-use key_rows::{KmsCall, KmsReply};
+use kms_calls::{KmsCall, KmsReply};
 use std::alloc::Global;
-use world_run::{Event, Line, World, WorldFault};
+use hk_events::{Event, Line};
+use world_run::{World, WorldFault};
 
 /// Both services as a desk, with the disk that they were started on, random words, and the clock that
 /// gives each call its time.

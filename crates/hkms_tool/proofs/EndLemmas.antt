@@ -11,9 +11,9 @@ use Rattle.frame_log.specs.declared.fault.StartFault.{StartFault}
 use Rattle.frame_log.specs.declared.fault.StartFault.TheVariants as start
 use Rattle.prop_text.specs.declared.lines.PropLine.{PropLine}
 use Rattle.replay_text.specs.Events.{IsBad, Spells, longest_line}
-use Rattle.world_run.specs.declared.event.Event.{Event}
-use Rattle.world_run.specs.declared.event.Event.TheVariants as event
-use Rattle.world_run.specs.declared.event.WorldFault.{WorldFault}
+use Rattle.hk_events.specs.declared.event.Event.{Event}
+use Rattle.hk_events.specs.declared.event.Event.TheVariants as event
+use Rattle.world_run.specs.declared.fault.WorldFault.{WorldFault}
 use Rattle.world_run.specs.Acknowledged.{Acknowledged, HoldsLogs, also}
 use Rattle.world_run.specs.Keeps.{is_restart, last_opening}
 use Rattle.world_run.specs.Own.{SurvivesRestart}

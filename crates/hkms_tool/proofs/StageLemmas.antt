@@ -6,8 +6,8 @@ use Rattle.hk_base.specs.Disk.{DiskState}
 use Rattle.hk_base.specs.Writing.{WroteFront}
 use Rattle.prop_text.specs.declared.lines.PropLine.{PropLine}
 use Rattle.replay_text.specs.Events.{Spells}
-use Rattle.world_run.specs.declared.event.Event.{Event}
-use Rattle.world_run.specs.declared.event.Line.{Line}
+use Rattle.hk_events.specs.declared.event.Event.{Event}
+use Rattle.hk_events.specs.declared.event.Line.{Line}
 use Rattle.world_run.specs.Acknowledged.{Acknowledged, HoldsLogs}
 use Rattle.world_run.specs.World.{RunningWorld, world_of}
 use Rattle.world_run.specs.Keeps.{Steps}

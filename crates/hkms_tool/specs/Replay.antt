@@ -18,8 +18,8 @@ use Rattle.name_core.specs.State.{settled as settled_names}
 use Rattle.name_store.specs.Table.{NameTable, Replayed, next_opening as next_opening_of_names}
 use Rattle.name_store.specs.Store.{IsDamagedAt as IsDamagedName, IsLeftByStart as IsLeftByNameStart, IsNameLog}
 use Rattle.replay_text.specs.Events.{IsBad, Spells}
-use Rattle.world_run.specs.declared.event.Event.{Event}
-use Rattle.world_run.specs.declared.event.Event.TheVariants.{RestartKms, RestartName}
+use Rattle.hk_events.specs.declared.event.Event.{Event}
+use Rattle.hk_events.specs.declared.event.Event.TheVariants.{RestartKms, RestartName}
 use Rattle.world_run.specs.Acknowledged.{Acknowledged, HoldsLogs, LeavesBoth, also}
 use Rattle.world_run.specs.Keeps.{LeftByStarts}
 use Rattle.world_run.specs.Ledger.{Ledger, drawn_before}

@@ -5,8 +5,8 @@ use Rattle.hk_base.specs.Faults.{Rose}
 use Rattle.prop_text.specs.declared.lines.PropLine.{PropLine}
 use Rattle.replay_text.specs.Events.{IsQuiet, Spells}
 use Rattle.replay_text.specs.Transcript.{line_text}
-use Rattle.world_run.specs.declared.event.Event.{Event}
-use Rattle.world_run.specs.declared.event.Line.{Line}
+use Rattle.hk_events.specs.declared.event.Event.{Event}
+use Rattle.hk_events.specs.declared.event.Line.{Line}
 use Rattle.world_run.specs.World.{WorldState}
 use Rattle.world_run.specs.Acknowledged.{Acknowledged, also, nothing_acknowledged}
 use Rattle.world_run.specs.Keeps.{LinkedStep}

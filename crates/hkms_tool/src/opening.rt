@@ -6,7 +6,7 @@ ghost use Rattle.frame_log.specs.Stands.{LeavesFrom};
 ghost use Rattle.frame_log.specs.declared.fault.StartFault.TheVariants as start;
 ghost use Rattle.kms_store.specs.Store.{IsLeftByStart};
 ghost use Rattle.name_store.specs.Store.{IsLeftByStart as IsLeftByNameStart};
-ghost use Rattle.world_run.specs.declared.event.WorldFault.{WorldFault};
+ghost use Rattle.world_run.specs.declared.fault.WorldFault.{WorldFault};
 ghost use Rattle.world_run.specs.Acknowledged.{LeavesBoth, RunBoth};
 ghost use Rattle.world_run.specs.Keeps.{Begins, LeftByStarts};
 ghost use Rattle.world_run.specs.Ledger.{Ledger};

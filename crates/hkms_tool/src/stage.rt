@@ -10,7 +10,8 @@ ghost use Rattle.hkms_tool.specs.Steps.{HasLists, PlaysSo, TellsSo, counts};
 use hk_base::{ByteList, Disk, Sink, Words, write_all};
 use replay_text::{LineFault, read_event, write_line};
 use std::alloc::Global;
-use world_run::{Event, Line, World, WorldFault};
+use hk_events::{Event, Line};
+use world_run::{World, WorldFault};
 
 /// How a line was played.
 #[derive(Clone, Copy, Debug, PartialEq, Eq)]

@@ -1,7 +1,7 @@
 -- What is asked of rows, asked of the parts.
 use Rattle.std.proofs.Common.{◌≡◌, ℕ, ◌-◌, ◌<◌, zero, suc, Bool, true, false, cond, List, [], ◌∷◌, length, get_or, take, Option, Some, None, refl, sym, ap, ◌∙◌, subst, arith}
 use Rattle.std.specs.Option.{option_map}
-use Rattle.inode_tree.specs.Paths.{parent, same_path}
+use Rattle.name_calls.specs.Paths.{parent, same_path}
 use Rattle.inode_tree.specs.Rows.{Entry, row_at, entry_of, is_dir, is_dir_at}
 use Rattle.inode_tree.specs.declared.rows.Kind.{Kind}
 use Rattle.inode_tree.specs.declared.rows.Node.{Node}

@@ -7,8 +7,8 @@ use Rattle.std.specs.Str.{bytes_eq}
 use Rattle.std.proofs.lemmas.Slice.Eq.{bytes_eq-Decides}
 use Rattle.std.proofs.lemmas.Cmp.{nat_list_cmp_total, tied_itself}
 use Rattle.std.proofs.lemmas.Map.Lookups.{exact_bytes}
-use Rattle.inode_tree.specs.Paths.{is_before, is_prefix, path_cmp}
-use Rattle.inode_tree.proofs.PathLemmas.{and-parts}
+use Rattle.name_calls.specs.Paths.{is_before, is_prefix, path_cmp}
+use Rattle.name_calls.proofs.PathLemmas.{and-parts}
 
 cmp-self : (x : List ℕ) → slice_cmp nat_cmp x x ≡ Equal
 cmp-self x = tied_itself nat_list_cmp_total x

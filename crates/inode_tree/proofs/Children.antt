@@ -4,12 +4,12 @@ use Rattle.std.specs.Prelude.{◌==◌}
 use Rattle.std.proofs.lemmas.Bool.{cases_lt}
 use Rattle.std.proofs.lemmas.Bool.Decides.{nat_tests}
 use Rattle.inode_tree.specs.declared.rows.Node.{Node}
-use Rattle.inode_tree.specs.Paths.{is_before, is_child, is_prefix, same_path}
+use Rattle.name_calls.specs.Paths.{is_before, is_child, is_prefix, same_path}
 use Rattle.inode_tree.specs.Rows.{Entry, has_children}
 use Rattle.inode_tree.specs.Arena.{IsTree, IsRising, rank, rows_of, node_at, path_of, number_of}
 use Rattle.inode_tree.proofs.Asked.{none-at}
 use Rattle.inode_tree.proofs.Blocks.{between, prefix-not-before}
-use Rattle.inode_tree.proofs.PathLemmas.{and-parts}
+use Rattle.name_calls.proofs.PathLemmas.{and-parts}
 use Rattle.inode_tree.proofs.Puts.{not-both, same-turned}
 use Rattle.inode_tree.proofs.Ranks.{any_entry, rank-above, rank-below, rows-at, length-rows, within-at}
 use Rattle.inode_tree.proofs.Seeks.{same-is, same-itself, before-not-same, not-before-itself, other-before, number-live}

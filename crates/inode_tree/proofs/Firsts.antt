@@ -3,7 +3,7 @@ use Rattle.std.proofs.Common.{◌≡◌, ℕ, ◌<◌, Bool, true, false, cond, 
 use Rattle.std.specs.Bool.{nat_eq}
 use Rattle.std.proofs.lemmas.Bool.Decides.{nat_tests}
 use Rattle.inode_tree.specs.declared.rows.Kind.TheVariants.{Dir}
-use Rattle.inode_tree.specs.Paths.{is_relative}
+use Rattle.name_calls.specs.Paths.{is_relative}
 use Rattle.inode_tree.specs.Rows.{is_dir, root_only}
 use Rattle.inode_tree.specs.Arena.{IsFree, IsTree, blank, rows_of, path_of}
 use Rattle.inode_tree.proofs.Ups.{path-root}

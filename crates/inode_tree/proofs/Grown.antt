@@ -8,8 +8,8 @@ use Rattle.std.proofs.lemmas.List.Edits.{get_or-insert_below, get_or-insert_at, 
 use Rattle.std.specs.Option.{option_map}
 use Rattle.inode_tree.specs.Rows.{Entry}
 use Rattle.inode_tree.specs.declared.rows.Node.{Node}
-use Rattle.inode_tree.specs.Paths.{is_relative}
-use Rattle.inode_tree.proofs.PathLemmas.{relative-short}
+use Rattle.name_calls.specs.Paths.{is_relative}
+use Rattle.name_calls.proofs.PathLemmas.{relative-short}
 use Rattle.inode_tree.specs.Rows.{is_dir, row_at, put}
 use Rattle.inode_tree.specs.Arena.{IsTree, IsRising, rank, rows_of, entry_at, node_at, path_of, IsFree, IsLinked, IsLive, number_of, AllWithin}
 use Rattle.inode_tree.proofs.Ranks.{rank-most, length-rows, within-at}

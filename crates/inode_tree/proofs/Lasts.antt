@@ -1,7 +1,7 @@
 -- The last name of a path, a tree whose ids are found as before, and as many nodes.
 use Rattle.std.proofs.Common.{◌≡◌, ℕ, ◌+◌, ◌<◌, ◌≤◌, zero, suc, List, [], ◌∷◌, ◌++◌, length, get_or, take, Option, refl, sym, ◌∙◌, subst, arith, take_all}
 use Rattle.std.proofs.lemmas.List.{take_more}
-use Rattle.inode_tree.specs.Paths.{last_name}
+use Rattle.name_calls.specs.Paths.{last_name}
 use Rattle.inode_tree.specs.declared.rows.Node.{Node}
 use Rattle.inode_tree.specs.Arena.{IsFree, IsTree}
 

@@ -8,7 +8,6 @@ pub mod Lasts
 pub mod Listings
 pub mod Orders
 pub mod Pasts
-pub mod PathLemmas
 pub mod Pieces
 pub mod Places
 pub mod Prefixes

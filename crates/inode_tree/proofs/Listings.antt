@@ -5,13 +5,13 @@ use Rattle.std.specs.List.{filter}
 use Rattle.std.proofs.lemmas.Bool.{cases_lt}
 use Rattle.std.proofs.lemmas.Bool.Decides.{nat_tests}
 use Rattle.inode_tree.specs.declared.rows.Node.{Node}
-use Rattle.inode_tree.specs.declared.listing.Child.{Child}
-use Rattle.inode_tree.specs.Paths.{is_before, is_child, is_prefix, last_name}
+use Rattle.name_calls.specs.declared.listing.Child.{Child}
+use Rattle.name_calls.specs.Paths.{is_before, is_child, is_prefix, last_name}
 use Rattle.inode_tree.specs.Listing.{child_of, children}
 use Rattle.inode_tree.specs.Rows.{Entry, is_dir}
 use Rattle.inode_tree.specs.Arena.{IsRising, IsSkip, IsTree, node_at, path_of, rank, rank_past, rows_of}
 use Rattle.inode_tree.proofs.Blocks.{prefix-not-before}
-use Rattle.inode_tree.proofs.PathLemmas.{and-parts}
+use Rattle.name_calls.proofs.PathLemmas.{and-parts}
 use Rattle.inode_tree.proofs.Pasts.{block-at, past-above, past-most, past-on, rising-at}
 use Rattle.inode_tree.proofs.Ranks.{any_entry, length-rows, rank-below, rows-at, within-at}
 use Rattle.inode_tree.proofs.Seeks.{not-before-itself}

@@ -7,7 +7,7 @@ use Rattle.std.specs.List.{remove}
 use Rattle.std.proofs.lemmas.Bool.{cases_eq, cases_lt}
 use Rattle.std.proofs.lemmas.Bool.Decides.{nat_tests}
 use Rattle.inode_tree.specs.declared.rows.Node.{Node}
-use Rattle.inode_tree.specs.Paths.{is_before, is_prefix}
+use Rattle.name_calls.specs.Paths.{is_before, is_prefix}
 use Rattle.inode_tree.specs.Rows.{Entry, removed}
 use Rattle.inode_tree.specs.Arena.{AllAfter, IsLeaf, IsRising, IsTree, cmp_front, node_at, path_of, rank, rank_past, rows_of}
 use Rattle.inode_tree.proofs.Blocks.{between, prefix-not-before}

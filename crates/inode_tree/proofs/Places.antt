@@ -10,9 +10,9 @@ use Rattle.std.proofs.lemmas.Bool.Decides.{nat_tests}
 use Rattle.std.proofs.lemmas.Cmp.{nat_list_cmp_total}
 use Rattle.inode_tree.specs.declared.rows.Node.{Node}
 use Rattle.inode_tree.specs.Arena.{IsTree, cmp_front, entry_at, rows_of}
-use Rattle.inode_tree.specs.Paths.{is_component, is_prefix, is_relative, is_short, names_text, path_text}
+use Rattle.name_calls.specs.Paths.{is_component, is_prefix, is_relative, is_short, names_text, path_text}
 use Rattle.inode_tree.specs.Rows.{Entry, entry_of}
-use Rattle.inode_tree.proofs.PathLemmas.{and-parts}
+use Rattle.name_calls.proofs.PathLemmas.{and-parts}
 use Rattle.inode_tree.proofs.Prefixes.{prefix-front}
 use Rattle.inode_tree.proofs.Ranks.{length-rows}
 use Rattle.inode_tree.proofs.Trees.{entry-number}

@@ -2,7 +2,7 @@
 use Rattle.std.proofs.Common.{◌≡◌, ℕ, ◌+◌, ◌<◌, List, [], ◌∷◌, ◌++◌, length, get_or, Option, sym, ap, ◌∙◌, subst, arith, length-append, inl, inr}
 use Rattle.std.proofs.lemmas.Bool.{cases_lt}
 use Rattle.inode_tree.specs.declared.rows.Node.{Node}
-use Rattle.inode_tree.specs.Paths.{is_relative}
+use Rattle.name_calls.specs.Paths.{is_relative}
 use Rattle.inode_tree.specs.Rows.{is_dir}
 use Rattle.inode_tree.specs.Arena.{AllWithin, IsFree, IsRising, IsTree, blank, node_at, rows_of}
 use Rattle.inode_tree.proofs.Grows.{linked-grow, node-new, node-old, path-old, rows-old, within-more}

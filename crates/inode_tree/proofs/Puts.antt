@@ -3,7 +3,7 @@ use Rattle.std.proofs.Common.{◌≡◌, ℕ, zero, suc, Bool, true, false, cond
 use Rattle.std.specs.List.{insert}
 use Rattle.inode_tree.specs.Rows.{Entry}
 use Rattle.inode_tree.specs.declared.rows.Node.{Node}
-use Rattle.inode_tree.specs.Paths.{is_before, same_path}
+use Rattle.name_calls.specs.Paths.{is_before, same_path}
 use Rattle.inode_tree.specs.Rows.{row_at, put}
 use Rattle.inode_tree.specs.Arena.{AllAfter, IsRising, rank, rows_of, entry_at}
 use Rattle.inode_tree.proofs.Ranks.{before-trans}

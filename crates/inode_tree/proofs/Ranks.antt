@@ -7,7 +7,7 @@ use Rattle.std.proofs.lemmas.Cmp.{nat_list_cmp_total, lists_total}
 use Rattle.inode_tree.specs.Rows.{Entry}
 use Rattle.inode_tree.specs.declared.rows.Node.{Node}
 use Rattle.inode_tree.specs.declared.rows.Kind.TheVariants.{Dir}
-use Rattle.inode_tree.specs.Paths.{path_cmp, is_before}
+use Rattle.name_calls.specs.Paths.{path_cmp, is_before}
 use Rattle.inode_tree.specs.Arena.{AllAfter, IsRising, rank, rows_of, entry_at, AllWithin}
 use Rattle.std.specs.Prelude.{None}
 

@@ -2,7 +2,7 @@
 use Rattle.std.proofs.Common.{◌≡◌, ℕ, ◌+◌, ◌<◌, ◌≤◌, suc, Bool, true, false, cond, ◌&&◌, List, length, refl, arith}
 use Rattle.std.specs.Prelude.{nat_lt, Result, Ok, Err, OnOk}
 use Rattle.std.proofs.lemmas.Bool.Decides.{nat_tests}
-use Rattle.inode_tree.specs.Paths.{last_name}
+use Rattle.name_calls.specs.Paths.{last_name}
 use Rattle.inode_tree.specs.Rows.{need}
 
 lt-yes : (a b : ℕ) → nat_lt a b ≡ true → a < b

@@ -5,7 +5,7 @@ use Rattle.std.specs.List.{All}
 use Rattle.std.proofs.lemmas.Bool.{cases_eq}
 use Rattle.std.proofs.lemmas.List.Elements.{All-from_get_or}
 use Rattle.inode_tree.specs.declared.rows.Node.{Node}
-use Rattle.inode_tree.specs.Paths.{is_relative, parent}
+use Rattle.name_calls.specs.Paths.{is_relative, parent}
 use Rattle.inode_tree.specs.Rows.{Entry, IsRoot, IsRows, entry_of, is_dir, is_dir_at, row_at}
 use Rattle.inode_tree.specs.Arena.{IsTree, entry_at, node_at, number_of, path_of, rows_of}
 use Rattle.inode_tree.proofs.Asked.{none-at}

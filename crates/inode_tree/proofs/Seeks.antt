@@ -9,10 +9,10 @@ use Rattle.std.proofs.lemmas.Slice.Eq.{bytes_eq-Decides}
 use Rattle.std.proofs.lemmas.Map.Text.{is_eq-slice_cmp}
 use Rattle.std.proofs.lemmas.Cmp.{tied_itself}
 use Rattle.inode_tree.specs.declared.rows.Node.{Node}
-use Rattle.inode_tree.specs.Paths.{path_cmp, is_before, same_path}
+use Rattle.name_calls.specs.Paths.{path_cmp, is_before, same_path}
 use Rattle.inode_tree.specs.Rows.{row_at}
 use Rattle.inode_tree.specs.Arena.{AllAfter, IsRising, rank, rows_of, node_at, path_of, number_of}
-use Rattle.inode_tree.proofs.PathLemmas.{and-parts}
+use Rattle.name_calls.proofs.PathLemmas.{and-parts}
 use Rattle.inode_tree.proofs.Ranks.{path-total}
 
 pub same-is : (p q : List (List ℕ)) → same_path p q ≡ true → p ≡ q

@@ -3,7 +3,7 @@ use Rattle.std.proofs.Common.{◌≡◌, ℕ, ◌<◌, zero, suc, Bool, true, fa
 use Rattle.std.specs.Prelude.{◌==◌}
 use Rattle.std.proofs.lemmas.Bool.{cases_eq}
 use Rattle.std.proofs.lemmas.Bool.Decides.{nat_tests}
-use Rattle.inode_tree.specs.Paths.{is_before, is_relative}
+use Rattle.name_calls.specs.Paths.{is_before, is_relative}
 use Rattle.inode_tree.specs.Rows.{is_dir, set_kind, with_kind}
 use Rattle.inode_tree.specs.declared.rows.Node.{Node}
 use Rattle.inode_tree.specs.declared.rows.Kind.{Kind}

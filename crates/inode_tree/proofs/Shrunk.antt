@@ -7,7 +7,7 @@ use Rattle.std.proofs.lemmas.Bool.Decides.{nat_tests}
 use Rattle.std.proofs.lemmas.List.{get_or_append_left}
 use Rattle.std.proofs.lemmas.List.Edits.{get_or-remove_above, get_or-remove_below, length-remove}
 use Rattle.inode_tree.specs.declared.rows.Node.{Node}
-use Rattle.inode_tree.specs.Paths.{is_before, is_relative}
+use Rattle.name_calls.specs.Paths.{is_before, is_relative}
 use Rattle.inode_tree.specs.Rows.{Entry, is_dir}
 use Rattle.inode_tree.specs.Arena.{AllAfter, AllWithin, IsFree, IsLeaf, IsLive, IsRising, IsTree, blank, entry_at, node_at, path_of, rows_of}
 use Rattle.inode_tree.proofs.Ranks.{within-at}

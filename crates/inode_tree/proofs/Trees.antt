@@ -6,7 +6,7 @@ use Rattle.std.specs.Option.{option_map}
 use Rattle.std.proofs.lemmas.Bool.Decides.{nat_tests}
 use Rattle.inode_tree.specs.declared.rows.Node.{Node}
 use Rattle.inode_tree.specs.declared.rows.Row.{Row}
-use Rattle.inode_tree.specs.Paths.{path_cmp, same_path}
+use Rattle.name_calls.specs.Paths.{path_cmp, same_path}
 use Rattle.inode_tree.specs.Rows.{row_at, entry_of}
 use Rattle.inode_tree.specs.Arena.{IsTree, IsRising, rank, rows_of, entry_at, node_at, path_of, number_of}
 use Rattle.inode_tree.proofs.Ranks.{within-at}

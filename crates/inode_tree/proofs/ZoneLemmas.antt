@@ -5,7 +5,7 @@ use Rattle.std.specs.Str.{bytes_eq}
 use Rattle.std.proofs.lemmas.Slice.Eq.{bytes_eq-Decides}
 use Rattle.std.proofs.lemmas.List.{take_more}
 use Rattle.std.proofs.lemmas.Bool.Decides.{nat_tests}
-use Rattle.inode_tree.specs.Paths.{is_before, is_prefix, same_path}
+use Rattle.name_calls.specs.Paths.{is_before, is_prefix, same_path}
 use Rattle.inode_tree.specs.Rows.{zone_of, longer, is_marked}
 use Rattle.inode_tree.specs.declared.rows.Node.{Node}
 use Rattle.inode_tree.specs.Rows.{Entry}
@@ -13,7 +13,7 @@ use Rattle.inode_tree.specs.Arena.{IsTree, AllAfter, IsRising, node_at, rows_of,
 use Rattle.inode_tree.proofs.Asked.{none-at}
 use Rattle.inode_tree.proofs.Ups.{path-root}
 use Rattle.inode_tree.proofs.Ranks.{within-at}
-use Rattle.inode_tree.proofs.PathLemmas.{and-parts}
+use Rattle.name_calls.proofs.PathLemmas.{and-parts}
 use Rattle.inode_tree.proofs.Seeks.{same-is, not-before-itself}
 
 spread : (b u v : Bool) → (b && (u || v)) ≡ ((b && u) || (b && v))

@@ -15,7 +15,7 @@ use Rattle.std.specs.String.{string_capacity}
 use Rattle.inode_tree.specs.Listed.{Listed}
 use Rattle.inode_tree.specs.Rows.{Entry, is_dir}
 pub use Rattle.inode_tree.specs.Rows.{AllAfter, IsRising}
-use Rattle.inode_tree.specs.Paths.{is_before, is_prefix, is_relative, same_path}
+use Rattle.name_calls.specs.Paths.{is_before, is_prefix, is_relative, same_path}
 
 abbrev pub blank : Node
 blank = record { parent = 0; name = []; row = record { id = 0; kind = Dir None } }

@@ -2,7 +2,7 @@
 use Rattle.std.specs.Prelude.{ℕ, Bool, false, List, length, map, drop}
 use Rattle.std.specs.List.{filter}
 use Rattle.std.specs.Option.{option_map_or}
-use Rattle.inode_tree.specs.Paths.{is_prefix}
+use Rattle.name_calls.specs.Paths.{is_prefix}
 use Rattle.inode_tree.specs.Rows.{Entry, entry_of}
 
 -- the path of the row that has the id is the path or lies below it

@@ -2,5 +2,4 @@ pub mod Arena
 pub mod Below
 pub mod Listed
 pub mod Listing
-pub mod Paths
 pub mod Rows

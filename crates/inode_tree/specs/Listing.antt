@@ -1,8 +1,8 @@
 -- What lies in a directory.
 use Rattle.std.specs.Prelude.{ℕ, List, map}
 use Rattle.std.specs.List.{filter}
-use Rattle.inode_tree.specs.declared.listing.Child.{Child}
-use Rattle.inode_tree.specs.Paths.{is_child, last_name}
+use Rattle.name_calls.specs.declared.listing.Child.{Child}
+use Rattle.name_calls.specs.Paths.{is_child, last_name}
 use Rattle.inode_tree.specs.Rows.{Entry, is_dir}
 
 abbrev pub child_of : Entry → Child

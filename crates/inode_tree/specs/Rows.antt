@@ -5,7 +5,7 @@ use Rattle.hk_base.specs.declared.names.KeyName.{KeyName}
 use Rattle.inode_tree.specs.declared.rows.Row.{Row}
 use Rattle.inode_tree.specs.declared.rows.Kind.{Kind}
 use Rattle.inode_tree.specs.declared.rows.Kind.TheVariants.{Dir, File}
-use Rattle.inode_tree.specs.Paths.{is_before, is_relative, same_path, is_prefix, is_child, last_name, parent}
+use Rattle.name_calls.specs.Paths.{is_before, is_relative, same_path, is_prefix, is_child, last_name, parent}
 
 -- a row at its path
 pub record Entry : Type 0 where

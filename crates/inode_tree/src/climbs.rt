@@ -1,12 +1,12 @@
 //! Paths by climbing from a node to the root.
 ghost use Rattle.std.specs.Prelude.{◌≡◌, ◌<◌, ◌≤◌, ◌||◌, length, take};
 ghost use Rattle.inode_tree.specs.Arena.{IsLinked, path_of, cmp_front, nearer_of, rows_of, IsRising, AllWithin, rank, rank_past};
-ghost use Rattle.inode_tree.specs.Paths.{is_before, is_prefix, path_cmp};
+ghost use Rattle.name_calls.specs.Paths.{is_before, is_prefix, path_cmp};
 ghost use Rattle.std.specs.Cmp.Lexicographic.{slice_cmp};
 ghost use Rattle.std.specs.Ordering.{nat_cmp};
 
 use crate::order::Order;
-use crate::paths::NPath;
+use name_calls::NPath;
 use crate::rows::Node;
 use hk_base::Text;
 use std::cmp::Ordering;

@@ -4,7 +4,7 @@ ghost use Rattle.std.specs.HashMap.{get, spare};
 ghost use Rattle.std.specs.Bool.{nat_eq};
 ghost use Rattle.std.specs.List.{insert};
 ghost use Rattle.std.specs.Option.{option_map};
-ghost use Rattle.inode_tree.specs.Paths.{is_relative, last_name, parent};
+ghost use Rattle.name_calls.specs.Paths.{is_relative, last_name, parent};
 ghost use Rattle.inode_tree.specs.Arena.{HasRoom, IsFree, IsKept, IsLinked, IsTree, blank, number_of, path_of, rekind, rows_of};
 ghost use Rattle.inode_tree.specs.declared.rows.Kind.TheVariants.{Dir, File};
 ghost use Rattle.inode_tree.specs.Rows.{IsRows, entry_of, has_children, is_dir, is_dir_at, need, put, root_only, row_at, set_kind, zone_id};
@@ -15,7 +15,7 @@ mod removal;
 
 use crate::climbs::{below, compare, place};
 use crate::order::Order;
-use crate::paths::NPath;
+use name_calls::NPath;
 use crate::rows::{Kind, Node, Row};
 use crate::zones::zone_at;
 use hk_base::{Edek, KeyName, NoMemory, Text};

@@ -4,7 +4,7 @@ ghost use Rattle.inode_tree.specs.Arena.{IsTree, IsLive, rows_of, path_of};
 ghost use Rattle.inode_tree.specs.Rows.{zone_id, is_marked};
 
 use crate::order::Order;
-use crate::paths::NPath;
+use name_calls::NPath;
 use crate::rows::{Kind, Node};
 use crate::tree::seek;
 

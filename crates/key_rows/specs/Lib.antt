@@ -1,9 +1,6 @@
 pub mod Table
 pub mod Sound
 pub mod Names
-pub mod Acl
-pub mod Refusals
-pub mod Shown
 pub mod Records
 pub mod Reading
 pub mod Laws

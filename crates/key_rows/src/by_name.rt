@@ -7,8 +7,8 @@ ghost use Rattle.std.specs.declared.cmp.Ordering.TheVariants.{Less, Greater};
 ghost use Rattle.key_rows.specs.declared.by_name.NamedBirth.{NamedBirth};
 ghost use Rattle.key_rows.specs.Names.{InOrder, birth_in, name_cmp, names_of};
 
-use crate::name_list::NameList;
 use hk_base::{KeyName, NoMemory};
+use kms_calls::NameList;
 use std::alloc::Global;
 use std::cmp::Ordering;
 

@@ -1,35 +1,21 @@
-//! The table of keys, the commands that change it, and the calls and replies of the key management
-//! service.
+//! The table of keys, and the commands that change it.
 #![tactic(auto)]
 
-mod acl;
 mod applying;
 mod by_name;
-mod calls;
-mod description;
-mod edek_list;
 mod laws;
-mod meta_list;
-mod name_list;
-mod raw_edek_list;
 mod reading;
-mod refusals;
 mod rows;
 mod table;
-mod version_list;
 mod writing;
 
-pub use acl::{AclOp, AclTable};
-pub use calls::{KeyMeta, KmsCall, KmsRefusal, KmsReply, RawEdek};
-pub use description::Description;
-pub use edek_list::EdekList;
+pub use kms_calls::{
+    AclOp, AclTable, Description, EdekList, KeyMeta, KeyVersion, KmsCall, KmsRefusal, KmsReply,
+    MetaList, NameList, RawEdek, RawEdekList, VersionList,
+};
 pub use laws::commands_have_one_spelling;
-pub use meta_list::MetaList;
-pub use name_list::NameList;
-pub use raw_edek_list::RawEdekList;
 pub use rows::{DekList, KeyCommand, KeyRow};
 pub use table::KeyTable;
-pub use version_list::{KeyVersion, VersionList};
 
 #[cfg(test)]
 mod record_tests;

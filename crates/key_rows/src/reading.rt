@@ -6,9 +6,9 @@ ghost use Rattle.key_rows.specs.Records.{HasSpelling, fits_bits, spelling};
 ghost use Rattle.key_rows.specs.Table.{is_length};
 ghost use Rattle.key_rows.specs.Reading.{Gives, bytes_at, command_at, create_at, delete_at, long_at, material_of, material_of_bits, name_of, number_at, opened_at, roll_at, short_at, text_of};
 
-use crate::description::Description;
 use crate::rows::KeyCommand;
 use hk_base::{Dek, KeyName, RecordFault};
+use kms_calls::Description;
 use std::alloc::Global;
 
 fn u16_at(bytes: &[u8]) -> Result<(u16, &[u8]), RecordFault>

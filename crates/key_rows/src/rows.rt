@@ -2,8 +2,8 @@
 ghost use Rattle.std.specs.Prelude.{◌≡◌, ◌∷◌, [], ◌++◌, length, slice_get, OnOk, OnErr, IfOk, IsOk, ◌<◌, ◌≤◌};
 ghost use Rattle.std.specs.Vec.{vec_capacity};
 
-use crate::description::Description;
 use hk_base::{Dek, KeyName, NoMemory};
+use kms_calls::Description;
 use std::alloc::Global;
 use std::marker::Model;
 

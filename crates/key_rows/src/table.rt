@@ -9,9 +9,9 @@ ghost use Rattle.key_rows.specs.Sound.{IsRow, IsTable, Rising};
 
 use crate::applying::applies_to;
 use crate::by_name::{NamedBirth, birth_of, copy_names, put, take_out};
-use crate::name_list::NameList;
 use crate::rows::{DekList, KeyCommand, KeyRow};
 use hk_base::{Dek, KeyName, NoMemory, VersionName};
+use kms_calls::NameList;
 use std::alloc::Global;
 use std::marker::Model;
 use std::mem;

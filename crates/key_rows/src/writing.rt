@@ -5,9 +5,9 @@ ghost use Rattle.hk_base.specs.Names.{IsKeyName, is_key_length};
 ghost use Rattle.std.specs.Int.{w16, w32, w64, to_be_bytes};
 ghost use Rattle.key_rows.specs.Records.{HasSpelling, fits, name_field, spelling, text_field};
 
-use crate::description::Description;
 use crate::rows::KeyCommand;
 use hk_base::{ByteList, Dek, KeyName, NoMemory};
+use kms_calls::Description;
 
 /// Appends a name with its length, or a front of that where memory is wanting.
 fn append_name(out: &mut ByteList, name: &KeyName) -> Result<(), NoMemory>

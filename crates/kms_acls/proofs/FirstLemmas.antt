@@ -4,7 +4,7 @@ use Rattle.std.specs.Prelude.{find, option_map, if◌then◌else◌}
 use Rattle.std.specs.List.{list_any}
 use Rattle.std.specs.Option.{option_or}
 use Rattle.std.proofs.lemmas.List.Folds.{list_any-append}
-use Rattle.key_rows.specs.declared.acl.AclOp.{AclOp}
+use Rattle.kms_calls.specs.declared.acl.AclOp.{AclOp}
 use Rattle.prop_text.specs.declared.lines.PropLine.{PropLine}
 use Rattle.kms_acls.specs.declared.lists.OpList.{OpList}
 use Rattle.kms_acls.specs.Lists.{list_of}

@@ -3,7 +3,7 @@ use Rattle.std.proofs.Common.{◌≡◌, ℕ, List, [], ◌∷◌, ◌++◌, ref
 use Rattle.std.specs.Option.{option_and_then, option_or, unwrap_or}
 use Rattle.std.specs.Str.{bytes_eq}
 use Rattle.std.proofs.lemmas.Slice.Eq.{bytes_eq-Decides}
-use Rattle.key_rows.specs.declared.acl.AclOp.{AclOp}
+use Rattle.kms_calls.specs.declared.acl.AclOp.{AclOp}
 use Rattle.kms_acls.specs.declared.members.Members.{Members}
 use Rattle.kms_acls.specs.declared.lists.KeyLists.{KeyLists}
 use Rattle.kms_acls.specs.Lists.{all_of_key, list_of, list_of_key, lists_of_key, no_lists, users_of}

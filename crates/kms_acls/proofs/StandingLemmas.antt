@@ -3,9 +3,9 @@ use Rattle.std.proofs.Common.{◌≡◌, ℕ, ◌+◌, ◌<◌, ◌≤◌, List,
 use Rattle.std.specs.Prelude.{if◌then◌else◌, option_map}
 use Rattle.std.specs.Option.{option_or}
 use Rattle.std.proofs.lemmas.List.{drop_all, take_all, take_more}
-use Rattle.key_rows.specs.declared.acl.AclOp.{AclOp}
-use Rattle.key_rows.specs.declared.acl.AclOp.TheVariants as op
-use Rattle.key_rows.specs.declared.calls.KmsCall.{KmsCall}
+use Rattle.kms_calls.specs.declared.acl.AclOp.{AclOp}
+use Rattle.kms_calls.specs.declared.acl.AclOp.TheVariants as op
+use Rattle.kms_calls.specs.declared.calls.KmsCall.{KmsCall}
 use Rattle.kms_acls.specs.declared.answers.Shown.{Shown}
 use Rattle.kms_acls.specs.declared.answers.Denied.{Denied}
 use Rattle.kms_acls.proofs.FirstLemmas.{or_assoc}

@@ -3,7 +3,7 @@ use Rattle.std.specs.Prelude.{◌≡◌, List, is_some, option_map}
 use Rattle.std.specs.List.{list_any}
 use Rattle.hk_base.specs.declared.names.KeyName.{KeyName}
 use Rattle.hk_base.specs.declared.texts.Text.{Text}
-use Rattle.key_rows.specs.declared.acl.AclOp.{AclOp}
+use Rattle.kms_calls.specs.declared.acl.AclOp.{AclOp}
 use Rattle.prop_text.specs.declared.lines.PropLine.{PropLine}
 use Rattle.kms_acls.specs.Lists.{Lists, acl_meaning, all_of_key, list_of, list_of_key, lists_of_key, members_meaning, named_in, users_of}
 use Rattle.kms_acls.specs.Verdict.{blacklist, default_list, first_of, is_of_key, key_all_list, key_list, service_list, users_of_group, whitelist}

@@ -5,12 +5,12 @@ use Rattle.std.specs.Option.{option_or, unwrap_or}
 use Rattle.std.specs.Str.{bytes_eq}
 use Rattle.hk_base.specs.declared.names.KeyName.{KeyName}
 use Rattle.hk_base.specs.declared.texts.Text.{Text}
-use Rattle.key_rows.specs.declared.acl.AclOp.{AclOp}
-use Rattle.key_rows.specs.declared.acl.AclOp.TheVariants as op
-use Rattle.key_rows.specs.declared.acl.AclTable.{AclTable}
-use Rattle.key_rows.specs.declared.acl.AclTable.TheVariants as table
-use Rattle.key_rows.specs.declared.calls.KmsCall.{KmsCall}
-use Rattle.key_rows.specs.declared.calls.KmsCall.TheVariants as call
+use Rattle.kms_calls.specs.declared.acl.AclOp.{AclOp}
+use Rattle.kms_calls.specs.declared.acl.AclOp.TheVariants as op
+use Rattle.kms_calls.specs.declared.acl.AclTable.{AclTable}
+use Rattle.kms_calls.specs.declared.acl.AclTable.TheVariants as table
+use Rattle.kms_calls.specs.declared.calls.KmsCall.{KmsCall}
+use Rattle.kms_calls.specs.declared.calls.KmsCall.TheVariants as call
 use Rattle.prop_text.specs.declared.acls.Acl.{Acl}
 use Rattle.prop_text.specs.declared.lines.PropLine.{PropLine}
 use Rattle.prop_text.specs.declared.lines.PropLine.TheVariants as line

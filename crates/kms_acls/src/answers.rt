@@ -1,6 +1,6 @@
 //! What a verdict answers.
 
-use key_rows::{AclOp, AclTable};
+use kms_calls::{AclOp, AclTable};
 
 /// What is shown to a user whose call is allowed.
 #[derive(Clone, Copy, Debug, PartialEq, Eq)]

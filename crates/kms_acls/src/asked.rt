@@ -3,7 +3,7 @@ ghost use Rattle.std.specs.Prelude.{◌≡◌};
 ghost use Rattle.kms_acls.specs.Verdict.{asked};
 
 use hk_base::KeyName;
-use key_rows::{AclOp, KmsCall};
+use kms_calls::{AclOp, KmsCall};
 use std::slice::from_ref;
 
 /// The operations that a call asks for, and the keys that it asks them of.

@@ -4,12 +4,12 @@ ghost use Rattle.std.specs.Option.{option_copied, option_or, unwrap_or};
 ghost use Rattle.std.specs.Str.{bytes_eq};
 ghost use Rattle.kms_acls.specs.Lists.{all_of_key, list_of_key, lists_of_key, no_lists};
 ghost use Rattle.kms_acls.specs.Verdict.{given_if, same_op};
-ghost use Rattle.key_rows.specs.declared.acl.AclOp.{AclOp};
+ghost use Rattle.kms_calls.specs.declared.acl.AclOp.{AclOp};
 
 use crate::lists::{KeyLists, OpLists};
 use crate::members::Members;
 use hk_base::NoMemory;
-use key_rows::AclOp;
+use kms_calls::AclOp;
 use std::alloc::Global;
 use std::collections::BTreeMap;
 use std::marker::Model;

@@ -6,7 +6,7 @@ ghost use Rattle.kms_acls.specs.Verdict.{same_op};
 
 use crate::members::Members;
 use hk_base::NoMemory;
-use key_rows::AclOp;
+use kms_calls::AclOp;
 use std::alloc::Global;
 use std::marker::Model;
 

@@ -3,7 +3,7 @@ ghost use Rattle.std.specs.Prelude.{◌≡◌, true};
 
 use super::*;
 use hk_base::{ByteList, KeyName, Text, VersionName};
-use key_rows::{AclOp, AclTable, Description, KmsCall, NameList, RawEdek, RawEdekList};
+use kms_calls::{AclOp, AclTable, Description, KmsCall, NameList, RawEdek, RawEdekList};
 use prop_text::read_props;
 use std::alloc::{AllocError, AllocGlobal, Global};
 use std::process::Abort;

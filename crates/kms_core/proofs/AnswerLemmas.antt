@@ -8,15 +8,15 @@ use Rattle.std.proofs.lemmas.Option.{slice_get-get_or, slice_get_within}
 use Rattle.hk_base.specs.declared.names.Edek.{Edek}
 use Rattle.hk_base.specs.declared.names.VersionName.{VersionName}
 use Rattle.key_rows.specs.declared.rows.KeyRow.{KeyRow}
-use Rattle.key_rows.specs.declared.calls.KeyMeta.{KeyMeta}
-use Rattle.key_rows.specs.declared.calls.KmsCall.{KmsCall}
-use Rattle.key_rows.specs.declared.calls.KmsCall.TheVariants as call
-use Rattle.key_rows.specs.declared.calls.KmsReply.{KmsReply}
-use Rattle.key_rows.specs.declared.calls.KmsReply.TheVariants as reply
-use Rattle.key_rows.specs.declared.calls.KmsRefusal.{KmsRefusal}
-use Rattle.key_rows.specs.declared.calls.KmsRefusal.TheVariants as refusal
-use Rattle.key_rows.specs.declared.calls.RawEdek.{RawEdek}
-use Rattle.key_rows.specs.Shown.{Shown}
+use Rattle.kms_calls.specs.declared.calls.KeyMeta.{KeyMeta}
+use Rattle.kms_calls.specs.declared.calls.KmsCall.{KmsCall}
+use Rattle.kms_calls.specs.declared.calls.KmsCall.TheVariants as call
+use Rattle.kms_calls.specs.declared.calls.KmsReply.{KmsReply}
+use Rattle.kms_calls.specs.declared.calls.KmsReply.TheVariants as reply
+use Rattle.kms_calls.specs.declared.calls.KmsRefusal.{KmsRefusal}
+use Rattle.kms_calls.specs.declared.calls.KmsRefusal.TheVariants as refusal
+use Rattle.kms_calls.specs.declared.calls.RawEdek.{RawEdek}
+use Rattle.kms_calls.specs.Shown.{Shown}
 use Rattle.key_rows.specs.Table.{material_of}
 use Rattle.kms_core.specs.State.{KmsState}
 use Rattle.kms_core.specs.Calls.{all_versions, batch_causes, causes, current_material, current_version, first_cause, is_absent, meta_of, metas_of, opened, resealed, row_of, sent_causes, takes_memory, version_causes, versions_from}

@@ -5,8 +5,8 @@ use Rattle.std.specs.Option.{option_and_then}
 use Rattle.std.specs.Str.{bytes_eq}
 use Rattle.std.proofs.lemmas.Slice.Eq.{bytes_eq-Decides}
 use Rattle.key_rows.specs.declared.rows.KeyRow.{KeyRow}
-use Rattle.key_rows.specs.declared.calls.RawEdek.{RawEdek}
-use Rattle.key_rows.specs.declared.calls.KmsRefusal.TheVariants.{NoSuchKey, NoSuchVersion, WrongKey, BadMaterial}
+use Rattle.kms_calls.specs.declared.calls.RawEdek.{RawEdek}
+use Rattle.kms_calls.specs.declared.calls.KmsRefusal.TheVariants.{NoSuchKey, NoSuchVersion, WrongKey, BadMaterial}
 use Rattle.key_rows.specs.Table.{find_name, is_named, material_of}
 use Rattle.kms_core.specs.State.{KmsState}
 use Rattle.kms_core.specs.Calls.{first_cause, sent_causes, lacks_version, is_of_other_key, is_malformed, row_of, bits_of, current_version}

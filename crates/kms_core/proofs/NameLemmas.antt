@@ -11,8 +11,8 @@ use Rattle.std.proofs.lemmas.Slice.Eq.{bytes_eq-Decides}
 use Rattle.key_rows.specs.declared.rows.KeyRow.{KeyRow}
 use Rattle.key_rows.specs.Table.{find_name}
 use Rattle.key_rows.specs.Names.{AreNames, InOrder, is_among, name_cmp}
-use Rattle.key_rows.specs.declared.calls.KmsCall.TheVariants as call
-use Rattle.key_rows.specs.declared.calls.KmsReply.TheVariants as reply
+use Rattle.kms_calls.specs.declared.calls.KmsCall.TheVariants as call
+use Rattle.kms_calls.specs.declared.calls.KmsReply.TheVariants as reply
 use Rattle.kms_core.specs.State.{KmsState}
 use Rattle.kms_core.specs.Order.{in_order, names_in_order, put_by, put_name}
 use Rattle.kms_core.specs.Steps.{Answers}

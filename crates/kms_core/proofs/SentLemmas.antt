@@ -9,9 +9,9 @@ use Rattle.std.proofs.lemmas.Option.{slice_get-get_or}
 use Rattle.hk_base.specs.declared.names.Edek.{Edek}
 use Rattle.eek_seal.specs.Seal.{seal, unseal}
 use Rattle.key_rows.specs.declared.rows.KeyRow.{KeyRow}
-use Rattle.key_rows.specs.declared.calls.RawEdek.{RawEdek}
-use Rattle.key_rows.specs.declared.calls.KmsRefusal.{KmsRefusal}
-use Rattle.key_rows.specs.declared.calls.KmsRefusal.TheVariants as refusal
+use Rattle.kms_calls.specs.declared.calls.RawEdek.{RawEdek}
+use Rattle.kms_calls.specs.declared.calls.KmsRefusal.{KmsRefusal}
+use Rattle.kms_calls.specs.declared.calls.KmsRefusal.TheVariants as refusal
 use Rattle.key_rows.specs.Table.{find_name, material_of, current_of}
 use Rattle.kms_core.specs.State.{KmsState}
 use Rattle.kms_core.specs.Opening.{unseals}

@@ -6,11 +6,11 @@ use Rattle.hk_base.specs.Disk.{DiskState, LeavesOnly, RunOn, Tells}
 use Rattle.hk_base.specs.Faults.{Rose}
 use Rattle.hk_base.proofs.Runs.{begin, compose, weaker}
 use Rattle.key_rows.specs.declared.rows.KeyCommand.{KeyCommand}
-use Rattle.key_rows.specs.declared.calls.KmsCall.{KmsCall}
-use Rattle.key_rows.specs.declared.calls.KmsReply.{KmsReply}
-use Rattle.key_rows.specs.declared.calls.KmsReply.TheVariants.{Refused}
-use Rattle.key_rows.specs.declared.calls.KmsRefusal.{KmsRefusal}
-use Rattle.key_rows.specs.declared.calls.KmsRefusal.TheVariants.{NoMemory, StoreFault}
+use Rattle.kms_calls.specs.declared.calls.KmsCall.{KmsCall}
+use Rattle.kms_calls.specs.declared.calls.KmsReply.{KmsReply}
+use Rattle.kms_calls.specs.declared.calls.KmsReply.TheVariants.{Refused}
+use Rattle.kms_calls.specs.declared.calls.KmsRefusal.{KmsRefusal}
+use Rattle.kms_calls.specs.declared.calls.KmsRefusal.TheVariants.{NoMemory, StoreFault}
 use Rattle.key_rows.specs.Table.{Table, after, applies, no_keys}
 use Rattle.std.proofs.lemmas.Bool.Decides.{Decides-eqb}
 use Rattle.key_rows.specs.Records.{HasSpelling}
@@ -24,9 +24,9 @@ use Rattle.kms_core.specs.Steps.{ActsSettled, Commits, EndsSo, IsUnsettled, OwnC
 use Rattle.kms_core.specs.declared.service.Standing.{Standing}
 use Rattle.kms_core.specs.Draws.{material_for, words_for}
 use Rattle.kms_core.proofs.StepLemmas.{may_be_rolled}
-use Rattle.key_rows.specs.declared.calls.KmsCall.TheVariants as call
+use Rattle.kms_calls.specs.declared.calls.KmsCall.TheVariants as call
 use Rattle.key_rows.specs.declared.rows.KeyCommand.TheVariants as command
-use Rattle.key_rows.specs.declared.calls.KmsRefusal.TheVariants as refusal
+use Rattle.kms_calls.specs.declared.calls.KmsRefusal.TheVariants as refusal
 
 -- nothing was done to the disk
 pub unchanged : (d : DiskState) (store : StoreState) (P : List KeyCommand → List ℕ → Type 0) → Logs d d store store P []

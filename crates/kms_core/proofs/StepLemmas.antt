@@ -5,15 +5,15 @@ use Rattle.key_rows.specs.declared.rows.KeyRow.{KeyRow}
 use Rattle.key_rows.specs.declared.rows.KeyCommand.TheVariants.{Roll}
 use Rattle.key_rows.specs.Table.{applies, find_birth, material_of, may_roll}
 use Rattle.kms_core.specs.declared.service.Standing.{Standing}
-use Rattle.key_rows.specs.declared.calls.KmsCall.{KmsCall}
-use Rattle.key_rows.specs.declared.calls.KmsReply.{KmsReply}
-use Rattle.key_rows.specs.declared.calls.KmsReply.TheVariants.{Refused, Ready}
+use Rattle.kms_calls.specs.declared.calls.KmsCall.{KmsCall}
+use Rattle.kms_calls.specs.declared.calls.KmsReply.{KmsReply}
+use Rattle.kms_calls.specs.declared.calls.KmsReply.TheVariants.{Refused, Ready}
 use Rattle.hk_base.specs.declared.names.Edek.{Edek}
 use Rattle.std.specs.Option.{unwrap_or}
 use Rattle.kms_core.specs.declared.drawing.CurrentVersion.{CurrentVersion}
-use Rattle.key_rows.specs.declared.calls.KmsCall.TheVariants as call
-use Rattle.key_rows.specs.declared.calls.KmsRefusal.TheVariants.{NoSuchKey, BadMaterial, TooManyVersions, TooManyAsked, NoMemory}
-use Rattle.key_rows.specs.declared.calls.KmsRefusal.{KmsRefusal}
+use Rattle.kms_calls.specs.declared.calls.KmsCall.TheVariants as call
+use Rattle.kms_calls.specs.declared.calls.KmsRefusal.TheVariants.{NoSuchKey, BadMaterial, TooManyVersions, TooManyAsked, NoMemory}
+use Rattle.kms_calls.specs.declared.calls.KmsRefusal.{KmsRefusal}
 use Rattle.kms_core.specs.State.{KmsState}
 use Rattle.kms_core.specs.Calls.{CallActs, Plain, NoRoom, takes_memory, causes, deed, first_cause, unless_refused, row_of, bits_of, versions_of, is_misfit, roll_causes, only_answer, generate_causes, current_material}
 use Rattle.kms_core.specs.Draws.{drawn_edeks, place_of_draw}

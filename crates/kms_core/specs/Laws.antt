@@ -9,11 +9,11 @@ use Rattle.hk_base.specs.declared.texts.Text.{Text}
 use Rattle.prop_text.specs.declared.lines.PropLine.{PropLine}
 use Rattle.kms_acls.specs.declared.answers.Shown.{Shown}
 use Rattle.kms_acls.specs.Verdict.{verdict}
-use Rattle.key_rows.specs.declared.calls.KmsCall.{KmsCall}
-use Rattle.key_rows.specs.declared.calls.KmsCall.TheVariants as call
-use Rattle.key_rows.specs.declared.calls.KmsReply.{KmsReply}
-use Rattle.key_rows.specs.declared.calls.KmsReply.TheVariants as reply
-use Rattle.key_rows.specs.declared.calls.RawEdek.{RawEdek}
+use Rattle.kms_calls.specs.declared.calls.KmsCall.{KmsCall}
+use Rattle.kms_calls.specs.declared.calls.KmsCall.TheVariants as call
+use Rattle.kms_calls.specs.declared.calls.KmsReply.{KmsReply}
+use Rattle.kms_calls.specs.declared.calls.KmsReply.TheVariants as reply
+use Rattle.kms_calls.specs.declared.calls.RawEdek.{RawEdek}
 use Rattle.key_rows.specs.Table.{Table, find_birth}
 use Rattle.key_rows.specs.Sound.{IsTable}
 use Rattle.kms_core.specs.Draws.{drawn_dek, drawn_edek, place_of_draw, words_of_draw}

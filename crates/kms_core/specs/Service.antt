@@ -3,11 +3,11 @@ use Rattle.std.specs.Prelude.{◌≡◌, ◌⊎◌, ℕ, ◌+◌, Bool, true, fa
 use Rattle.hk_base.specs.Disk.{DiskState, Tells, RunOn, LeavesOnly}
 use Rattle.hk_base.specs.Faults.{Rose}
 use Rattle.key_rows.specs.declared.rows.KeyCommand.{KeyCommand}
-use Rattle.key_rows.specs.declared.calls.KmsCall.{KmsCall}
-use Rattle.key_rows.specs.declared.calls.KmsCall.TheVariants as call
-use Rattle.key_rows.specs.declared.calls.KmsReply.{KmsReply}
-use Rattle.key_rows.specs.declared.calls.KmsReply.TheVariants as reply
-use Rattle.key_rows.specs.declared.calls.KmsRefusal.TheVariants as refusal
+use Rattle.kms_calls.specs.declared.calls.KmsCall.{KmsCall}
+use Rattle.kms_calls.specs.declared.calls.KmsCall.TheVariants as call
+use Rattle.kms_calls.specs.declared.calls.KmsReply.{KmsReply}
+use Rattle.kms_calls.specs.declared.calls.KmsReply.TheVariants as reply
+use Rattle.kms_calls.specs.declared.calls.KmsRefusal.TheVariants as refusal
 use Rattle.key_rows.specs.Records.{HasSpelling}
 use Rattle.key_rows.specs.Table.{Table}
 use Rattle.kms_store.specs.Store.{Applies, IsKeyLog, IsLeftOf, IsLogOf, StandsFor, StoreState, next_opening, settled_commands}

@@ -6,12 +6,12 @@ use Rattle.hk_base.specs.declared.names.Edek.{Edek}
 use Rattle.eek_seal.specs.Seal.{seal, unseal}
 use Rattle.key_rows.specs.declared.rows.KeyRow.{KeyRow}
 use Rattle.key_rows.specs.Table.{find_birth, material_of, current_of}
-use Rattle.key_rows.specs.declared.calls.RawEdek.{RawEdek}
-use Rattle.key_rows.specs.declared.calls.KmsCall.{KmsCall}
-use Rattle.key_rows.specs.declared.calls.KmsReply.{KmsReply}
-use Rattle.key_rows.specs.declared.calls.KmsReply.TheVariants.{Refused}
-use Rattle.key_rows.specs.declared.calls.KmsRefusal.{KmsRefusal}
-use Rattle.key_rows.specs.declared.calls.KmsRefusal.TheVariants.{NoMemory, StoreFault}
+use Rattle.kms_calls.specs.declared.calls.RawEdek.{RawEdek}
+use Rattle.kms_calls.specs.declared.calls.KmsCall.{KmsCall}
+use Rattle.kms_calls.specs.declared.calls.KmsReply.{KmsReply}
+use Rattle.kms_calls.specs.declared.calls.KmsReply.TheVariants.{Refused}
+use Rattle.kms_calls.specs.declared.calls.KmsRefusal.{KmsRefusal}
+use Rattle.kms_calls.specs.declared.calls.KmsRefusal.TheVariants.{NoMemory, StoreFault}
 use Rattle.key_rows.specs.declared.rows.KeyCommand.{KeyCommand}
 use Rattle.hk_base.specs.Disk.{DiskState}
 use Rattle.hk_base.specs.Faults.{Rose}

@@ -4,11 +4,11 @@ use Rattle.hk_base.specs.Disk.{DiskState, Image}
 use Rattle.hk_base.specs.Faults.{Rose}
 use Rattle.hk_base.specs.declared.texts.Text.{Text}
 use Rattle.key_rows.specs.declared.rows.KeyCommand.{KeyCommand}
-use Rattle.key_rows.specs.declared.calls.KmsCall.{KmsCall}
-use Rattle.key_rows.specs.declared.calls.KmsCall.TheVariants as call
-use Rattle.key_rows.specs.declared.calls.KmsReply.{KmsReply}
-use Rattle.key_rows.specs.declared.calls.KmsReply.TheVariants as reply
-use Rattle.key_rows.specs.declared.calls.KmsRefusal.TheVariants as refusal
+use Rattle.kms_calls.specs.declared.calls.KmsCall.{KmsCall}
+use Rattle.kms_calls.specs.declared.calls.KmsCall.TheVariants as call
+use Rattle.kms_calls.specs.declared.calls.KmsReply.{KmsReply}
+use Rattle.kms_calls.specs.declared.calls.KmsReply.TheVariants as reply
+use Rattle.kms_calls.specs.declared.calls.KmsRefusal.TheVariants as refusal
 use Rattle.prop_text.specs.declared.lines.PropLine.{PropLine}
 use Rattle.kms_acls.specs.declared.answers.Shown.{Shown}
 use Rattle.kms_acls.specs.declared.answers.Denied.{Denied}

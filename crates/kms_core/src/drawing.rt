@@ -7,7 +7,7 @@ ghost use Rattle.kms_core.specs.Steps.{Drew, DrewKeys, DrewSome};
 
 use eek_seal::seal;
 use hk_base::{ByteList, Dek, Edek, Iv, NoMemory, VersionName, Words};
-use key_rows::EdekList;
+use kms_calls::EdekList;
 use std::alloc::Global;
 
 /// The current version of a key, with its material.

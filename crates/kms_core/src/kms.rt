@@ -16,8 +16,8 @@ ghost use Rattle.kms_core.specs.Users.{ActsFor, hides, running, told_to, without
 use crate::service::Service;
 use frame_log::StartFault;
 use hk_base::{Disk, Text, Words};
-use key_rows::{KmsCall, KmsRefusal, KmsReply};
 use kms_acls::{Acls, Denied, Shown};
+use kms_calls::{KmsCall, KmsRefusal, KmsReply};
 use std::alloc::Global;
 use std::marker::Model;
 

@@ -10,7 +10,8 @@ ghost use Rattle.kms_core.specs.Steps.{Checks, HasParts, IsNewest, OpensIn, Refu
 use crate::drawing::CurrentVersion;
 use eek_seal::{seal, unseal};
 use hk_base::{Dek, Edek, Iv, KeyName, VersionName};
-use key_rows::{EdekList, KeyRow, KmsRefusal, RawEdek};
+use key_rows::KeyRow;
+use kms_calls::{EdekList, KmsRefusal, RawEdek};
 use std::alloc::Global;
 
 /// How many data encryption keys may be asked for, or sent, in one call.

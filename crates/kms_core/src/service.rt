@@ -21,9 +21,9 @@ use crate::sent::{MOST_ASKED, newest, open, reseal, reseal_all};
 use crate::told::{meta, versions};
 use frame_log::{StartFault, StoreRefusal};
 use hk_base::{ByteList, Dek, Disk, KeyName, NoMemory, VersionName, Words};
-use key_rows::{
-    Description, KeyCommand, KeyMeta, KeyRow, KmsCall, KmsRefusal, KmsReply, MetaList, NameList,
-    RawEdek, RawEdekList,
+use key_rows::{KeyCommand, KeyRow};
+use kms_calls::{
+    Description, KeyMeta, KmsCall, KmsRefusal, KmsReply, MetaList, NameList, RawEdek, RawEdekList,
 };
 use kms_store::Store;
 use std::alloc::Global;

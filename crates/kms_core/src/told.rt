@@ -4,7 +4,8 @@ ghost use Rattle.key_rows.specs.Sound.{IsRow};
 ghost use Rattle.kms_core.specs.Calls.{meta_of, versions_from};
 
 use hk_base::{NoMemory, VersionName};
-use key_rows::{KeyMeta, KeyRow, KeyVersion, VersionList};
+use key_rows::KeyRow;
+use kms_calls::{KeyMeta, KeyVersion, VersionList};
 use std::alloc::Global;
 
 /// What is known of a key.

@@ -8,14 +8,14 @@ use Rattle.std.proofs.lemmas.Fmt.{IsAscii-decimal}
 use Rattle.std.proofs.lemmas.Str.{IsAscii-append}
 use Rattle.std.proofs.lemmas.Str.Ascii.{IsAscii-cons, IsAscii-nil}
 use Rattle.hk_base.specs.Names.{IsKeyName, is_name_byte, version_text}
-use Rattle.key_rows.specs.Acl.{op_text}
-use Rattle.key_rows.specs.declared.acl.AclOp.{AclOp}
-use Rattle.key_rows.specs.declared.acl.AclOp.TheVariants as op
-use Rattle.key_rows.specs.declared.acl.AclTable.{AclTable}
-use Rattle.key_rows.specs.declared.acl.AclTable.TheVariants as table
-use Rattle.key_rows.specs.declared.calls.KmsRefusal.{KmsRefusal}
-use Rattle.key_rows.specs.declared.calls.KmsRefusal.TheVariants as refusal
-use Rattle.key_rows.specs.Refusals.{refusal_text, table_text}
+use Rattle.kms_calls.specs.Acl.{op_text}
+use Rattle.kms_calls.specs.declared.acl.AclOp.{AclOp}
+use Rattle.kms_calls.specs.declared.acl.AclOp.TheVariants as op
+use Rattle.kms_calls.specs.declared.acl.AclTable.{AclTable}
+use Rattle.kms_calls.specs.declared.acl.AclTable.TheVariants as table
+use Rattle.kms_calls.specs.declared.calls.KmsRefusal.{KmsRefusal}
+use Rattle.kms_calls.specs.declared.calls.KmsRefusal.TheVariants as refusal
+use Rattle.kms_calls.specs.Refusals.{refusal_text, table_text}
 
 abbrev is_low : ℕ → Bool
 is_low b = nat_lt b 128

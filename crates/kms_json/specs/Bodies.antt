@@ -6,9 +6,9 @@ use Rattle.serde_json.specs.Data.{Data, Items, no_items, item}
 use Rattle.serde_json.specs.Read.{read}
 use Rattle.serde_json.specs.Find.{as_array, as_number, as_object, as_u64}
 use Rattle.hk_base.specs.Names.{Version, is_key_name}
-use Rattle.key_rows.specs.declared.calls.KmsCall.{KmsCall}
-use Rattle.key_rows.specs.declared.calls.KmsCall.TheVariants as call
-use Rattle.key_rows.specs.declared.calls.RawEdek.{RawEdek}
+use Rattle.kms_calls.specs.declared.calls.KmsCall.{KmsCall}
+use Rattle.kms_calls.specs.declared.calls.KmsCall.TheVariants as call
+use Rattle.kms_calls.specs.declared.calls.RawEdek.{RawEdek}
 use Rattle.kms_json.specs.declared.faults.JsonFault.{JsonFault}
 use Rattle.kms_json.specs.declared.faults.JsonFault.TheVariants as fault
 use Rattle.kms_json.specs.declared.faults.Member.{Member}

@@ -3,7 +3,7 @@ use Rattle.std.specs.Prelude.{◌≡◌, ◌<◌, ◌^◌, ℕ, List, None, Some
 use Rattle.serde_json.specs.Data.{Data}
 use Rattle.base64.specs.GeneralPurpose.{IsBytes}
 use Rattle.hk_base.specs.Names.{IsKeyName, Version, version_text}
-use Rattle.key_rows.specs.declared.calls.KmsCall.{KmsCall}
+use Rattle.kms_calls.specs.declared.calls.KmsCall.{KmsCall}
 use Rattle.kms_json.specs.declared.eek.EekBody.{EekBody}
 use Rattle.kms_json.specs.declared.faults.JsonFault.{JsonFault}
 use Rattle.kms_json.specs.declared.faults.JsonFault.TheVariants as fault

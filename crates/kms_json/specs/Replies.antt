@@ -6,13 +6,13 @@ use Rattle.serde_json.specs.Written.{compact_text}
 use Rattle.base64.specs.GeneralPurpose.{encode_of}
 use Rattle.base64.specs.Engines.{url_safe_no_pad}
 use Rattle.hk_base.specs.Names.{Encrypted, Version, version_text}
-use Rattle.key_rows.specs.Refusals.{refusal_text}
-use Rattle.key_rows.specs.Shown.{Shown}
-use Rattle.key_rows.specs.declared.calls.KeyMeta.{KeyMeta}
-use Rattle.key_rows.specs.declared.calls.KmsRefusal.{KmsRefusal}
-use Rattle.key_rows.specs.declared.calls.KmsRefusal.TheVariants as refusal
-use Rattle.key_rows.specs.declared.calls.KmsReply.{KmsReply}
-use Rattle.key_rows.specs.declared.calls.KmsReply.TheVariants as reply
+use Rattle.kms_calls.specs.Refusals.{refusal_text}
+use Rattle.kms_calls.specs.Shown.{Shown}
+use Rattle.kms_calls.specs.declared.calls.KeyMeta.{KeyMeta}
+use Rattle.kms_calls.specs.declared.calls.KmsRefusal.{KmsRefusal}
+use Rattle.kms_calls.specs.declared.calls.KmsRefusal.TheVariants as refusal
+use Rattle.kms_calls.specs.declared.calls.KmsReply.{KmsReply}
+use Rattle.kms_calls.specs.declared.calls.KmsReply.TheVariants as reply
 
 -- bytes in the URL-safe alphabet of RFC 4648, without padding
 abbrev pub bytes_data : List ℕ → Data

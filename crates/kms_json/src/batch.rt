@@ -7,7 +7,7 @@ ghost use Rattle.kms_json.specs.Versions as spec_version;
 use crate::faults::{JsonFault, Member};
 use crate::members::{needed, needed_bytes, needed_text, parse};
 use hk_base::{ByteList, KeyName, VersionName};
-use key_rows::{KmsCall, RawEdek, RawEdekList};
+use kms_calls::{KmsCall, RawEdek, RawEdekList};
 use serde_json::Value;
 use std::alloc::Global;
 

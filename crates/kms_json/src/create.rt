@@ -6,7 +6,7 @@ ghost use Rattle.kms_json.specs.Bodies as spec;
 use crate::faults::{JsonFault, Member};
 use crate::members::{bytes_in, given, needed_text, parse, text_of};
 use hk_base::{ByteList, KeyName, Text};
-use key_rows::{Description, KmsCall};
+use kms_calls::{Description, KmsCall};
 use serde_json::Value;
 use std::alloc::Global;
 

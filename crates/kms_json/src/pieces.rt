@@ -3,14 +3,14 @@ ghost use Rattle.std.specs.Prelude.{[], ◌∷◌, OnOk};
 ghost use Rattle.std.specs.Str.{IsAscii};
 ghost use Rattle.json.specs.Token.{begin_array, begin_object, end_array, end_object, key};
 ghost use Rattle.serde_json.specs.Data.{string};
-ghost use Rattle.key_rows.specs.Refusals.{refusal_text};
+ghost use Rattle.kms_calls.specs.Refusals.{refusal_text};
 ghost use Rattle.kms_json.specs.Replies as spec;
 ghost use Rattle.kms_json.specs.Writing.{Adds, AddsMember, AddsValue};
 
 use base64::engine::general_purpose::URL_SAFE_NO_PAD;
 use hk_base::{ByteList, KeyName, NoMemory, VersionName};
 use json::Writer;
-use key_rows::KmsRefusal;
+use kms_calls::KmsRefusal;
 use std::alloc::Global;
 
 pub(crate) fn open_object(out: &mut Writer) -> Result<(), NoMemory>

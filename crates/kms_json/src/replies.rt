@@ -9,7 +9,7 @@ use crate::rows::{
 };
 use hk_base::{ByteList, NoMemory};
 use json::Writer;
-use key_rows::KmsReply;
+use kms_calls::KmsReply;
 use std::alloc::Global;
 
 /// Writes the body of a response, the JSON text of the reply. It has no blanks. The members of each

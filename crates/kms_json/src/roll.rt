@@ -7,7 +7,7 @@ use crate::create::material_in;
 use crate::faults::JsonFault;
 use crate::members::parse;
 use hk_base::KeyName;
-use key_rows::KmsCall;
+use kms_calls::KmsCall;
 use serde_json::Value;
 use std::alloc::Global;
 

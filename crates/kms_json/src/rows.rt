@@ -10,7 +10,7 @@ use crate::pieces::{
 };
 use hk_base::{Dek, Edek, NoMemory, VersionName};
 use json::Writer;
-use key_rows::{EdekList, KeyMeta, KmsRefusal, MetaList, NameList, VersionList};
+use kms_calls::{EdekList, KeyMeta, KmsRefusal, MetaList, NameList, VersionList};
 use std::alloc::Global;
 
 fn write_bare(alloc: Global, version: &VersionName, out: &mut Writer) -> Result<(), NoMemory>

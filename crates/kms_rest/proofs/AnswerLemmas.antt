@@ -6,8 +6,8 @@ use Rattle.percent_encoding.specs.Percent.{percent_decode}
 use Rattle.serde_json.specs.Data.{Data}
 use Rattle.hk_base.specs.Names.{Version}
 use Rattle.http_wire.specs.Message.{Message}
-use Rattle.key_rows.specs.declared.calls.KmsCall.{KmsCall}
-use Rattle.key_rows.specs.declared.calls.KmsCall.TheVariants as call
+use Rattle.kms_calls.specs.declared.calls.KmsCall.{KmsCall}
+use Rattle.kms_calls.specs.declared.calls.KmsCall.TheVariants as call
 use Rattle.kms_json.specs.declared.eek.EekBody.{EekBody}
 use Rattle.kms_json.specs.declared.faults.JsonFault.{JsonFault}
 use Rattle.kms_json.specs.declared.faults.JsonFault.TheVariants as json

@@ -5,9 +5,9 @@ use Rattle.std.specs.List.{list_all}
 use Rattle.std.specs.Str.Parse.{digits_value}
 use Rattle.serde_json.specs.Data.{Data}
 use Rattle.hk_base.specs.Names.{IsKeyName, Version, version_text}
-use Rattle.key_rows.specs.declared.calls.KmsCall.{KmsCall}
-use Rattle.key_rows.specs.declared.calls.KmsCall.TheVariants as call
-use Rattle.key_rows.specs.declared.calls.RawEdek.{RawEdek}
+use Rattle.kms_calls.specs.declared.calls.KmsCall.{KmsCall}
+use Rattle.kms_calls.specs.declared.calls.KmsCall.TheVariants as call
+use Rattle.kms_calls.specs.declared.calls.RawEdek.{RawEdek}
 use Rattle.kms_json.specs.declared.eek.EekBody.{EekBody}
 use Rattle.kms_json.specs.declared.faults.JsonFault.{JsonFault}
 use Rattle.kms_json.specs.declared.faults.JsonFault.TheVariants as json

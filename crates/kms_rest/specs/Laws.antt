@@ -1,7 +1,7 @@
 -- What follows of requests.
 use Rattle.std.specs.Prelude.{◌≡◌, ℕ, List, Result, Err}
 use Rattle.http_wire.specs.Message.{Message}
-use Rattle.key_rows.specs.declared.calls.KmsCall.{KmsCall}
+use Rattle.kms_calls.specs.declared.calls.KmsCall.{KmsCall}
 use Rattle.kms_rest.specs.declared.faults.RestFault.{RestFault}
 use Rattle.kms_rest.specs.declared.faults.RestFault.TheVariants as fault
 use Rattle.kms_rest.specs.Requests.{Says}

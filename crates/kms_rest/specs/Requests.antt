@@ -2,7 +2,7 @@
 use Rattle.std.specs.Prelude.{◌≡◌, ◌⊎◌, ℕ, List, Result, Ok, Err, ⊤}
 use Rattle.percent_encoding.specs.Percent.{percent_decode}
 use Rattle.http_wire.specs.Message.{Message}
-use Rattle.key_rows.specs.declared.calls.KmsCall.{KmsCall}
+use Rattle.kms_calls.specs.declared.calls.KmsCall.{KmsCall}
 use Rattle.path_routes.specs.declared.query.Parameter.{Parameter}
 use Rattle.path_routes.specs.Queries.{parameters, path_of, query_of}
 use Rattle.path_routes.specs.Users.{NamesBadUser, NamesNoUser, NamesUser}

@@ -1,9 +1,9 @@
 -- The responses of the service: a status (RFC 9110, section 15) and a body.
 use Rattle.std.specs.Prelude.{ℕ, Bool, List, codes, if◌then◌else◌}
-use Rattle.key_rows.specs.declared.calls.KmsRefusal.{KmsRefusal}
-use Rattle.key_rows.specs.declared.calls.KmsRefusal.TheVariants as refusal
-use Rattle.key_rows.specs.declared.calls.KmsReply.{KmsReply}
-use Rattle.key_rows.specs.declared.calls.KmsReply.TheVariants as reply
+use Rattle.kms_calls.specs.declared.calls.KmsRefusal.{KmsRefusal}
+use Rattle.kms_calls.specs.declared.calls.KmsRefusal.TheVariants as refusal
+use Rattle.kms_calls.specs.declared.calls.KmsReply.{KmsReply}
+use Rattle.kms_calls.specs.declared.calls.KmsReply.TheVariants as reply
 use Rattle.kms_json.specs.Replies.{reply_text}
 use Rattle.kms_rest.specs.declared.faults.RestFault.{RestFault}
 use Rattle.kms_rest.specs.declared.faults.RestFault.TheVariants as fault

@@ -1,6 +1,6 @@
 //! The call of an operation, from the variable part of its path, its query and its body.
 ghost use Rattle.std.specs.Prelude.{◌≡◌, ◌≢◌, [], ℕ, List, Err, MatchOption};
-ghost use Rattle.key_rows.specs.declared.calls.KmsCall.TheVariants as call;
+ghost use Rattle.kms_calls.specs.declared.calls.KmsCall.TheVariants as call;
 ghost use Rattle.path_routes.specs.declared.query.Parameter.{Parameter};
 ghost use Rattle.kms_rest.specs.Calls as spec;
 ghost use Rattle.kms_rest.specs.declared.operation.Operation.TheVariants as op;
@@ -9,7 +9,7 @@ use crate::faults::RestFault;
 use crate::operation::Operation;
 use crate::query::{count, has_operation, key_names};
 use hk_base::{KeyName, NoMemory, VersionName};
-use key_rows::{KmsCall, NameList, RawEdek};
+use kms_calls::{KmsCall, NameList, RawEdek};
 use kms_json::{EekBody, JsonFault, read_batch, read_create, read_eek, read_roll};
 use path_routes::Query;
 use std::alloc::Global;

@@ -7,7 +7,7 @@ ghost use Rattle.hk_base.specs.Names.{IsKeyName};
 ghost use Rattle.kms_rest.specs.Calls as spec;
 
 use hk_base::{KeyName, NoMemory};
-use key_rows::NameList;
+use kms_calls::NameList;
 use path_routes::{Given, Parameter, Query};
 use std::alloc::Global;
 

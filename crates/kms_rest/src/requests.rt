@@ -12,7 +12,7 @@ use crate::query::is_single;
 use crate::routes::route;
 use hk_base::Text;
 use http_wire::Request;
-use key_rows::KmsCall;
+use kms_calls::KmsCall;
 use path_routes::{Query, UserFault, decoded, path_of, query_of, read_user};
 use std::alloc::Global;
 

@@ -6,7 +6,7 @@ ghost use Rattle.kms_rest.specs.Responses as spec;
 
 use crate::faults::RestFault;
 use hk_base::{ByteList, NoMemory};
-use key_rows::{KmsRefusal, KmsReply};
+use kms_calls::{KmsRefusal, KmsReply};
 use kms_json::write_reply;
 use std::alloc::Global;
 

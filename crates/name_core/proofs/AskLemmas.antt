@@ -10,12 +10,12 @@ use Rattle.std.proofs.lemmas.Bool.Decides.{nat_tests}
 use Rattle.std.proofs.lemmas.List.Elements.{All-head, All-tail, All-cons, All-nil}
 use Rattle.inode_tree.specs.declared.rows.Kind.{Kind}
 use Rattle.inode_tree.specs.declared.rows.Row.{Row}
-use Rattle.inode_tree.specs.Paths.{is_before, starts_reserved}
+use Rattle.name_calls.specs.Paths.{is_before, starts_reserved}
 use Rattle.inode_tree.specs.Rows.{Entry, IsRows, entry_of, has_children, is_dir_at, mark_of, put, row_at, set_kind, with_kind, zone_id, zone_of}
 use Rattle.name_core.specs.declared.asks.OpenAsk.{OpenAsk}
-use Rattle.name_core.specs.declared.calls.NameRefusal.TheVariants.{BadPath, NoSuchPath, NotADirectory, NotEmpty, NotSuperuser, AlreadyInZone, TooManyInodes}
-use Rattle.name_core.specs.declared.calls.Ask.{Ask}
-use Rattle.name_core.specs.declared.calls.Ask.TheVariants as ask
+use Rattle.name_calls.specs.declared.calls.NameRefusal.TheVariants.{BadPath, NoSuchPath, NotADirectory, NotEmpty, NotSuperuser, AlreadyInZone, TooManyInodes}
+use Rattle.name_calls.specs.declared.calls.Ask.{Ask}
+use Rattle.name_calls.specs.declared.calls.Ask.TheVariants as ask
 use Rattle.name_store.specs.Table.{key_of_zone}
 use Rattle.name_core.specs.State.{IdsFit, IsRising, NameState}
 use Rattle.name_core.specs.Asks.{ask_causes, open_ask, without}

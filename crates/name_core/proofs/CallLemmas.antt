@@ -9,18 +9,18 @@ use Rattle.frame_log.specs.declared.fault.StoreRefusal.{StoreRefusal}
 use Rattle.frame_log.specs.declared.fault.StoreRefusal.TheVariants as store
 use Rattle.edit_ops.specs.declared.ops.EditOp.{EditOp}
 use Rattle.edit_ops.specs.declared.ops.EditOp.TheVariants as op
-use Rattle.key_rows.specs.declared.calls.KmsRefusal.{KmsRefusal}
+use Rattle.kms_calls.specs.declared.calls.KmsRefusal.{KmsRefusal}
 use Rattle.name_store.specs.Store.{NothingMore}
 use Rattle.name_store.specs.Table.{settled_ops}
 use Rattle.name_core.specs.declared.asks.OpenAsk.{OpenAsk}
-use Rattle.name_core.specs.declared.calls.KeyAnswer.{KeyAnswer}
-use Rattle.name_core.specs.declared.calls.KeyAnswer.TheVariants as answer
-use Rattle.name_core.specs.declared.calls.NameCall.{NameCall}
-use Rattle.name_core.specs.declared.calls.NameCall.TheVariants as call
-use Rattle.name_core.specs.declared.calls.NameReply.{NameReply}
-use Rattle.name_core.specs.declared.calls.NameReply.TheVariants as reply
-use Rattle.name_core.specs.declared.calls.NameRefusal.{NameRefusal}
-use Rattle.name_core.specs.declared.calls.NameRefusal.TheVariants as refusal
+use Rattle.name_calls.specs.declared.calls.KeyAnswer.{KeyAnswer}
+use Rattle.name_calls.specs.declared.calls.KeyAnswer.TheVariants as answer
+use Rattle.name_calls.specs.declared.calls.NameCall.{NameCall}
+use Rattle.name_calls.specs.declared.calls.NameCall.TheVariants as call
+use Rattle.name_calls.specs.declared.calls.NameReply.{NameReply}
+use Rattle.name_calls.specs.declared.calls.NameReply.TheVariants as reply
+use Rattle.name_calls.specs.declared.calls.NameRefusal.{NameRefusal}
+use Rattle.name_calls.specs.declared.calls.NameRefusal.TheVariants as refusal
 use Rattle.name_core.specs.State.{NameService, NameState, RunningNames, names_of, service_of, settled}
 use Rattle.name_core.specs.Calls.{Deed, NameActs, NoRoom, Plain, causes, deed, done_with, early_causes, first_cause, takes_memory, unless_refused}
 use Rattle.name_core.specs.Asks.{Finishes, ask_gone, closed, finish_causes, finish_op, finished, open_ask, unless_stopped, without}

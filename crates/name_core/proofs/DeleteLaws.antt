@@ -6,17 +6,17 @@ use Rattle.std.specs.Option.{option_map}
 use Rattle.std.specs.Str.{bytes_eq}
 use Rattle.std.proofs.lemmas.Bool.Decides.{nat_tests}
 use Rattle.std.proofs.lemmas.Slice.Eq.{bytes_eq-Decides}
-use Rattle.inode_tree.specs.declared.listing.Child.{Child}
+use Rattle.name_calls.specs.declared.listing.Child.{Child}
 use Rattle.inode_tree.specs.declared.rows.Row.{Row}
 use Rattle.inode_tree.specs.Listing.{child_of, children}
-use Rattle.inode_tree.specs.Paths.{is_child, is_prefix, last_name, same_path}
+use Rattle.name_calls.specs.Paths.{is_child, is_prefix, last_name, same_path}
 use Rattle.inode_tree.specs.Rows.{Entry, is_marked, is_zone_over, longer, removed, row_at, zone_of}
 use Rattle.inode_tree.proofs.Seeks.{same-is}
 use Rattle.edit_ops.specs.declared.ops.EditOp.TheVariants as op
-use Rattle.name_core.specs.declared.calls.NameCall.TheVariants as call
-use Rattle.name_core.specs.declared.calls.NameReply.TheVariants as reply
-use Rattle.name_core.specs.declared.calls.NameRefusal.{NameRefusal}
-use Rattle.name_core.specs.declared.calls.NameRefusal.TheVariants as refusal
+use Rattle.name_calls.specs.declared.calls.NameCall.TheVariants as call
+use Rattle.name_calls.specs.declared.calls.NameReply.TheVariants as reply
+use Rattle.name_calls.specs.declared.calls.NameRefusal.{NameRefusal}
+use Rattle.name_calls.specs.declared.calls.NameRefusal.TheVariants as refusal
 use Rattle.name_core.specs.State.{NameState}
 use Rattle.name_core.specs.Calls.{NameActs, NoRoom, Plain, delete_causes, first_cause, info_reply, list_causes, path_of_zone, shown_at, unless_refused}
 use Rattle.name_core.specs.Laws.{DeletedIsGone, ListTellsChildren, OthersStayByDelete}

@@ -3,21 +3,21 @@ use Rattle.std.proofs.Common.{◌≡◌, ℕ, ◌<◌, ◌⊎◌, inl, inr, Bool
 use Rattle.std.specs.Option.{option_map}
 use Rattle.std.specs.Str.{bytes_eq}
 use Rattle.inode_tree.specs.declared.rows.Row.{Row}
-use Rattle.inode_tree.specs.Paths.{is_before, is_prefix, parent, same_path}
+use Rattle.name_calls.specs.Paths.{is_before, is_prefix, parent, same_path}
 use Rattle.inode_tree.specs.Rows.{Entry, is_dir_at, is_marked, is_zone_over, longer, put, row_at, zone_of}
 use Rattle.inode_tree.proofs.Seeks.{same-is, same-itself}
-use Rattle.name_core.specs.declared.calls.NameCall.TheVariants as call
-use Rattle.name_core.specs.declared.calls.NameReply.{NameReply}
-use Rattle.name_core.specs.declared.calls.NameReply.TheVariants.{Done, Refused}
-use Rattle.name_core.specs.declared.calls.NameRefusal.{NameRefusal}
-use Rattle.name_core.specs.declared.calls.NameRefusal.TheVariants.{NoSuchPath, NotADirectory, Exists, TooManyInodes, NoMemory}
+use Rattle.name_calls.specs.declared.calls.NameCall.TheVariants as call
+use Rattle.name_calls.specs.declared.calls.NameReply.{NameReply}
+use Rattle.name_calls.specs.declared.calls.NameReply.TheVariants.{Done, Refused}
+use Rattle.name_calls.specs.declared.calls.NameRefusal.{NameRefusal}
+use Rattle.name_calls.specs.declared.calls.NameRefusal.TheVariants.{NoSuchPath, NotADirectory, Exists, TooManyInodes, NoMemory}
 use Rattle.edit_ops.specs.declared.ops.EditOp.TheVariants as op
 use Rattle.name_store.specs.Table.{new_directory}
 use Rattle.name_core.specs.State.{NameState, is_full, next_id}
 use Rattle.name_core.specs.Calls.{NameActs, Plain, NoRoom, done_with, first_cause, info_reply, mkdir_causes, numbered, path_of_zone, shown_at, unless_refused}
 use Rattle.name_core.specs.Asks.{ask_causes, asked, note_of, opened, unless_not_asked}
 use Rattle.name_core.specs.Laws.{AskIdsRise, IdsRise, MadeIsTold, OthersStay}
-use Rattle.name_core.specs.declared.calls.AskNote.{AskNote}
+use Rattle.name_calls.specs.declared.calls.AskNote.{AskNote}
 
 -- what holds of a mkdir that was done
 

@@ -8,11 +8,11 @@ use Rattle.name_store.specs.Store.{StoreState, is_opening}
 use Rattle.name_store.specs.Store as store
 use Rattle.name_store.specs.Table.{allows, is_among}
 use Rattle.name_core.specs.declared.asks.OpenAsk.{OpenAsk}
-use Rattle.name_core.specs.declared.calls.Ask.{Ask}
-use Rattle.name_core.specs.declared.calls.AskNote.{AskNote}
-use Rattle.name_core.specs.declared.calls.KeyAnswer.{KeyAnswer}
-use Rattle.name_core.specs.declared.calls.NameCall.{NameCall}
-use Rattle.name_core.specs.declared.calls.NameRefusal.{NameRefusal}
+use Rattle.name_calls.specs.declared.calls.Ask.{Ask}
+use Rattle.name_calls.specs.declared.calls.AskNote.{AskNote}
+use Rattle.name_calls.specs.declared.calls.KeyAnswer.{KeyAnswer}
+use Rattle.name_calls.specs.declared.calls.NameCall.{NameCall}
+use Rattle.name_calls.specs.declared.calls.NameRefusal.{NameRefusal}
 use Rattle.name_core.specs.State.{AreFree, IsNames, NameService, NameState, RunningNames, StandsFor, names_of, next_id, settled}
 use Rattle.name_core.specs.Asks.{Asks, ask_causes, asked, opened, unless_not_asked}
 use Rattle.name_core.specs.Calls.{NoRoom, Plain, first_cause}

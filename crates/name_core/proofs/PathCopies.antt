@@ -1,8 +1,8 @@
 -- A path copied name by name.
 use Rattle.std.proofs.Common.{◌≡◌, ℕ, ◌+◌, ◌<◌, true, List, [], ◌∷◌, ◌++◌, length, get_or, take, drop, take-append-drop, sym, subst, ◌∙◌}
 use Rattle.std.proofs.lemmas.List.{append-nil, append_assoc, take_more}
-use Rattle.inode_tree.specs.Paths.{is_relative}
-use Rattle.inode_tree.proofs.PathLemmas.{relative-front}
+use Rattle.name_calls.specs.Paths.{is_relative}
+use Rattle.name_calls.proofs.PathLemmas.{relative-front}
 
 relative-part : (q r : List (List ℕ)) → is_relative (q ++ r) ≡ true → is_relative q ≡ true
 relative-part q [] h = subst (λ (p : List (List ℕ)). is_relative p ≡ true) (append-nil q) h

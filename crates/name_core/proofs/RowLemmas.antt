@@ -4,9 +4,9 @@ use Rattle.std.specs.Bool.{⊤}
 use Rattle.std.specs.Option.{option_map}
 use Rattle.std.specs.List.{All}
 use Rattle.std.proofs.lemmas.List.Elements.{All-head, All-tail, All-cons}
-use Rattle.inode_tree.specs.Paths.{is_before, parent}
+use Rattle.name_calls.specs.Paths.{is_before, parent}
 use Rattle.inode_tree.specs.Rows.{Entry, IsRows, entry_of, is_zone_over, row_at, longer, put, zone_id, zone_of, is_dir_at}
-use Rattle.name_core.specs.declared.calls.NameRefusal.TheVariants.{NoSuchPath, NotADirectory, Exists, TooManyInodes}
+use Rattle.name_calls.specs.declared.calls.NameRefusal.TheVariants.{NoSuchPath, NotADirectory, Exists, TooManyInodes}
 use Rattle.name_core.specs.State.{NameState}
 use Rattle.name_core.specs.Calls.{first_cause, mkdir_causes}
 

@@ -11,15 +11,15 @@ use Rattle.hk_base.specs.declared.names.KeyName.{KeyName}
 use Rattle.inode_tree.specs.declared.rows.Row.{Row}
 use Rattle.inode_tree.specs.declared.rows.Kind.{Kind}
 use Rattle.inode_tree.specs.declared.rows.Kind.TheVariants.{Dir}
-use Rattle.inode_tree.specs.Paths.{is_prefix, same_path, starts_reserved}
+use Rattle.name_calls.specs.Paths.{is_prefix, same_path, starts_reserved}
 use Rattle.inode_tree.specs.Rows.{Entry, IsRows, entry_of, has_children, is_dir_at, is_marked, is_zone_over, longer, row_at, set_kind, with_kind, zone_of}
 use Rattle.inode_tree.proofs.Seeks.{same-is}
 use Rattle.inode_tree.proofs.ZoneLemmas.{prefix-itself}
 use Rattle.name_core.specs.declared.asks.OpenAsk.{OpenAsk}
-use Rattle.name_core.specs.declared.calls.Ask.{Ask}
-use Rattle.name_core.specs.declared.calls.Ask.TheVariants as ask
-use Rattle.name_core.specs.declared.calls.NameReply.TheVariants.{Refused}
-use Rattle.name_core.specs.declared.calls.NameRefusal.TheVariants.{BadPath, NoSuchPath, NotADirectory, NotEmpty, AlreadyInZone, ZoneChanged, NoMemory}
+use Rattle.name_calls.specs.declared.calls.Ask.{Ask}
+use Rattle.name_calls.specs.declared.calls.Ask.TheVariants as ask
+use Rattle.name_calls.specs.declared.calls.NameReply.TheVariants.{Refused}
+use Rattle.name_calls.specs.declared.calls.NameRefusal.TheVariants.{BadPath, NoSuchPath, NotADirectory, NotEmpty, AlreadyInZone, ZoneChanged, NoMemory}
 use Rattle.name_core.specs.State.{NameState}
 use Rattle.name_store.specs.Table.{after_table, id_of}
 use Rattle.name_core.specs.Asks.{finish_causes, finish_op, finished, is_other_zone}

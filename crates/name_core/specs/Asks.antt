@@ -3,22 +3,22 @@ use Rattle.std.specs.Prelude.{◌≡◌, ℕ, ◌+◌, Bool, not, List, [], ◌�
 use Rattle.hk_base.specs.declared.names.Edek.{Edek}
 use Rattle.hk_base.specs.declared.names.KeyName.{KeyName}
 use Rattle.hk_base.specs.declared.texts.Text.{Text}
-use Rattle.key_rows.specs.declared.calls.KmsReply.{KmsReply}
-use Rattle.key_rows.specs.declared.calls.KmsReply.TheVariants as reply
-use Rattle.inode_tree.specs.declared.paths.NPath.{NPath}
+use Rattle.kms_calls.specs.declared.calls.KmsReply.{KmsReply}
+use Rattle.kms_calls.specs.declared.calls.KmsReply.TheVariants as reply
+use Rattle.name_calls.specs.declared.paths.NPath.{NPath}
 use Rattle.inode_tree.specs.Rows.{Entry, row_at, is_dir_at, has_children, same_id, zone_id, zone_of}
 use Rattle.edit_ops.specs.declared.ops.EditOp.{EditOp}
 use Rattle.edit_ops.specs.declared.ops.EditOp.TheVariants as op
 use Rattle.name_store.specs.Table.{after_table, fits_zone, key_of_zone}
-use Rattle.name_core.specs.declared.calls.Ask.{Ask}
-use Rattle.name_core.specs.declared.calls.Ask.TheVariants as ask
-use Rattle.name_core.specs.declared.calls.AskNote.{AskNote}
-use Rattle.name_core.specs.declared.calls.KeyAnswer.{KeyAnswer}
-use Rattle.name_core.specs.declared.calls.KeyAnswer.TheVariants as answer
-use Rattle.name_core.specs.declared.calls.NameRefusal.{NameRefusal}
-use Rattle.name_core.specs.declared.calls.NameRefusal.TheVariants as refusal
-use Rattle.name_core.specs.declared.calls.Want.{Want}
-use Rattle.name_core.specs.declared.calls.Want.TheVariants as want
+use Rattle.name_calls.specs.declared.calls.Ask.{Ask}
+use Rattle.name_calls.specs.declared.calls.Ask.TheVariants as ask
+use Rattle.name_calls.specs.declared.calls.AskNote.{AskNote}
+use Rattle.name_calls.specs.declared.calls.KeyAnswer.{KeyAnswer}
+use Rattle.name_calls.specs.declared.calls.KeyAnswer.TheVariants as answer
+use Rattle.name_calls.specs.declared.calls.NameRefusal.{NameRefusal}
+use Rattle.name_calls.specs.declared.calls.NameRefusal.TheVariants as refusal
+use Rattle.name_calls.specs.declared.calls.Want.{Want}
+use Rattle.name_calls.specs.declared.calls.Want.TheVariants as want
 use Rattle.name_core.specs.declared.asks.OpenAsk.{OpenAsk}
 use Rattle.name_core.specs.State.{NameState, next_id, is_full, is_spent}
 use Rattle.name_core.specs.Calls.{Ending, Plain, NoRoom, first_cause, is_superuser, path_causes, to_be_made}
@@ -95,17 +95,6 @@ abbrev pub Asks : NameState → Text → Ask → Result AskNote NameRefusal → 
 Asks s user a told s' = (e : Ending) × AskMayEnd s user a e × (record { told = told; state = s' } ≡ ask_outcome s user a e)
 
 -- finishing an ask
-
-abbrev pub first_of : List Edek → Option Edek
-first_of [] = None
-first_of (e ∷ edeks) = Some e
-
--- what a reply of the key management service says to the ask that wanted its call
-abbrev pub answer_of : Option KmsReply → KeyAnswer
-answer_of None = answer.Given None
-answer_of (Some (reply.Refused why)) = answer.Refused why
-answer_of (Some (reply.Ready edeks)) = answer.Given (first_of edeks)
-answer_of (Some _) = answer.Given None
 
 -- the zone that the path lies in is another one than when the ask was made
 abbrev pub is_other_zone : List Entry → OpenAsk → Bool

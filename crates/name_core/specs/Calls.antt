@@ -3,21 +3,21 @@ use Rattle.std.specs.Prelude.{◌≡◌, ℕ, ◌+◌, ◌==◌, ◌&&◌, Bool,
 use Rattle.hk_base.specs.declared.texts.Text.{Text}
 use Rattle.edit_ops.specs.declared.ops.EditOp.{EditOp}
 use Rattle.edit_ops.specs.declared.ops.EditOp.TheVariants as op
-use Rattle.inode_tree.specs.declared.paths.NPath.{NPath}
+use Rattle.name_calls.specs.declared.paths.NPath.{NPath}
 use Rattle.inode_tree.specs.declared.rows.Row.{Row}
 use Rattle.inode_tree.specs.declared.rows.Kind.{Kind}
 use Rattle.inode_tree.specs.declared.rows.Kind.TheVariants.{Dir, File}
 use Rattle.inode_tree.specs.Listing.{children}
-use Rattle.inode_tree.specs.Paths.{parent, starts_reserved}
+use Rattle.name_calls.specs.Paths.{parent, starts_reserved}
 use Rattle.inode_tree.specs.Rows.{Entry, has_children, row_at, is_dir_at, zone_of}
 use Rattle.zone_table.specs.Zones.{zone_paths}
 use Rattle.name_store.specs.Table.{after_table}
-use Rattle.name_core.specs.declared.calls.NameCall.{NameCall}
-use Rattle.name_core.specs.declared.calls.NameCall.TheVariants as call
-use Rattle.name_core.specs.declared.calls.NameReply.{NameReply}
-use Rattle.name_core.specs.declared.calls.NameReply.TheVariants as reply
-use Rattle.name_core.specs.declared.calls.NameRefusal.{NameRefusal}
-use Rattle.name_core.specs.declared.calls.NameRefusal.TheVariants as refusal
+use Rattle.name_calls.specs.declared.calls.NameCall.{NameCall}
+use Rattle.name_calls.specs.declared.calls.NameCall.TheVariants as call
+use Rattle.name_calls.specs.declared.calls.NameReply.{NameReply}
+use Rattle.name_calls.specs.declared.calls.NameReply.TheVariants as reply
+use Rattle.name_calls.specs.declared.calls.NameRefusal.{NameRefusal}
+use Rattle.name_calls.specs.declared.calls.NameRefusal.TheVariants as refusal
 use Rattle.name_core.specs.State.{NameState, next_id, is_full}
 
 -- causes of a refusal in the order of the rules; the first one that holds counts

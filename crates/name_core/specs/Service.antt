@@ -8,14 +8,14 @@ use Rattle.edit_ops.specs.declared.ops.EditOp.{EditOp}
 use Rattle.name_store.specs.Table.{NameTable, next_opening, settled_ops}
 use Rattle.name_store.specs.Store.{IsLeftOf, IsNameLog, made_with}
 use Rattle.name_core.specs.declared.asks.OpenAsk.{OpenAsk}
-use Rattle.name_core.specs.declared.calls.KeyAnswer.{KeyAnswer}
-use Rattle.name_core.specs.declared.calls.KeyAnswer.TheVariants as answer
-use Rattle.name_core.specs.declared.calls.NameCall.{NameCall}
-use Rattle.name_core.specs.declared.calls.NameCall.TheVariants as call
-use Rattle.name_core.specs.declared.calls.NameReply.{NameReply}
-use Rattle.name_core.specs.declared.calls.NameReply.TheVariants as reply
-use Rattle.name_core.specs.declared.calls.NameRefusal.{NameRefusal}
-use Rattle.name_core.specs.declared.calls.NameRefusal.TheVariants as refusal
+use Rattle.name_calls.specs.declared.calls.KeyAnswer.{KeyAnswer}
+use Rattle.name_calls.specs.declared.calls.KeyAnswer.TheVariants as answer
+use Rattle.name_calls.specs.declared.calls.NameCall.{NameCall}
+use Rattle.name_calls.specs.declared.calls.NameCall.TheVariants as call
+use Rattle.name_calls.specs.declared.calls.NameReply.{NameReply}
+use Rattle.name_calls.specs.declared.calls.NameReply.TheVariants as reply
+use Rattle.name_calls.specs.declared.calls.NameRefusal.{NameRefusal}
+use Rattle.name_calls.specs.declared.calls.NameRefusal.TheVariants as refusal
 use Rattle.name_core.specs.State.{NameService, NameState, RunningNames, StandsFor, service_of, settled, started}
 use Rattle.name_core.specs.Calls.{NameActs, causes, deed, early_causes, first_cause}
 use Rattle.name_core.specs.Asks.{Finishes, ask_gone, closed, finish_causes, finish_op, open_ask}

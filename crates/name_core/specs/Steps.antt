@@ -6,7 +6,7 @@ use Rattle.hk_base.specs.Faults.{Rose}
 use Rattle.hk_base.specs.declared.names.Edek.{Edek}
 use Rattle.frame_log.specs.declared.fault.StoreRefusal.{StoreRefusal}
 use Rattle.frame_log.specs.declared.fault.StoreRefusal.TheVariants as store
-use Rattle.inode_tree.specs.declared.paths.NPath.{NPath}
+use Rattle.name_calls.specs.declared.paths.NPath.{NPath}
 use Rattle.inode_tree.specs.Rows.{Entry}
 use Rattle.edit_ops.specs.Records.{HasSpelling, fits}
 use Rattle.edit_ops.specs.declared.ops.EditOp.{EditOp}
@@ -14,11 +14,11 @@ use Rattle.name_store.specs.Replay.{AllBelow, Applies}
 use Rattle.name_store.specs.Store.{IsLeftOf, IsLogOf, NothingMore, is_opening, made_with}
 use Rattle.name_store.specs.Table.{Replayed, allows, is_fresh, settled_ops, uses}
 use Rattle.name_core.specs.declared.asks.OpenAsk.{OpenAsk}
-use Rattle.name_core.specs.declared.calls.NameCall.{NameCall}
-use Rattle.name_core.specs.declared.calls.NameReply.{NameReply}
-use Rattle.name_core.specs.declared.calls.NameReply.TheVariants.{Done, Refused}
-use Rattle.name_core.specs.declared.calls.NameRefusal.{NameRefusal}
-use Rattle.name_core.specs.declared.calls.NameRefusal.TheVariants.{NoMemory, StoreFault}
+use Rattle.name_calls.specs.declared.calls.NameCall.{NameCall}
+use Rattle.name_calls.specs.declared.calls.NameReply.{NameReply}
+use Rattle.name_calls.specs.declared.calls.NameReply.TheVariants.{Done, Refused}
+use Rattle.name_calls.specs.declared.calls.NameRefusal.{NameRefusal}
+use Rattle.name_calls.specs.declared.calls.NameRefusal.TheVariants.{NoMemory, StoreFault}
 use Rattle.name_core.specs.State.{AreFree, AreRecent, IdsFit, NameService, NameState, RunningNames, StandsFor, names_of, next_id, service_of, settled}
 use Rattle.name_core.specs.Asks.{finish_causes, finish_op}
 use Rattle.name_core.specs.Calls.{causes, deed, done_with, first_cause, info_causes, info_reply, path_of_zone}

@@ -3,7 +3,7 @@ ghost use Rattle.std.specs.Prelude.{◌≡◌, ◌∷◌, ◌++◌, ◌<◌, [],
 ghost use Rattle.std.specs.List.{AllByRecursion};
 ghost use Rattle.name_core.specs.Asks.{note_of, open_ask, without};
 
-use crate::calls::{Ask, AskNote, Want};
+use name_calls::{Ask, AskNote, Want};
 use hk_base::NoMemory;
 use std::alloc::Global;
 use std::collections::BTreeMap;

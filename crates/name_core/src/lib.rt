@@ -1,17 +1,16 @@
-//! The namesystem: its calls, and its core over its edit log.
+//! The namesystem over its edit log.
 #![tactic(auto)]
 
 mod asks;
-mod calls;
 mod laws;
 mod namesystem;
 mod rules;
 
-pub use calls::{Answered, Ask, AskNote, KeyAnswer, NameCall, NameRefusal, NameReply, Want};
 pub use laws::{
     asks_are_finished_once, deleted_paths_are_gone, ids_rise, lists_tell_what_lies_in_a_directory,
     made_directories_are_told, made_files_are_told, made_zones_are_told,
 };
+pub use name_calls::{Answered, Ask, AskNote, KeyAnswer, NameCall, NameRefusal, NameReply, Want};
 pub use namesystem::Name;
 
 #[cfg(test)]

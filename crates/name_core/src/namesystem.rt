@@ -4,19 +4,20 @@ ghost use Rattle.hk_base.specs.Disk.{LeavesOnly, RunOn, Tells};
 ghost use Rattle.hk_base.specs.Faults.{Rose};
 ghost use Rattle.frame_log.specs.Stands.{LeavesFrom};
 ghost use Rattle.frame_log.specs.declared.fault.StartFault.TheVariants as start;
-ghost use Rattle.inode_tree.specs.Paths.{starts_reserved};
+ghost use Rattle.name_calls.specs.Paths.{starts_reserved};
 ghost use Rattle.edit_ops.specs.declared.ops.EditOp.{EditOp};
 ghost use Rattle.name_store.specs.Table.{Replayed};
 ghost use Rattle.name_store.specs.Store.{IsDamagedAt, IsLeftByStart, IsNameLog};
 ghost use Rattle.name_core.specs.State.{IsNames, StandsFor, is_full, is_spent, names_of, next_id, service_of};
-ghost use Rattle.name_core.specs.Asks.{Asks, answer_of, ask_causes, ask_gone, closed, finish_causes, finish_op, open_ask, opened, without};
+ghost use Rattle.name_calls.specs.Answers.{answer_of};
+ghost use Rattle.name_core.specs.Asks.{Asks, ask_causes, ask_gone, closed, finish_causes, finish_op, open_ask, opened, without};
 ghost use Rattle.name_core.specs.Calls.{NameActs, delete_causes, first_cause, mkdir_causes};
 ghost use Rattle.name_core.specs.Service.{Acts, FinishActs, Starts};
 ghost use Rattle.name_core.specs.declared.asks.OpenAsk.{OpenAsk};
 ghost use Rattle.name_core.specs.Steps.{ActsOn, ActsSettled, FinishesSettled, IsUnsettled, MayWrite, Settling, Writes, finish_told, refusal_of, told_of};
 
 use crate::asks::{OpenAsk, OpenAsks};
-use crate::calls::{Answered, Ask, AskNote, KeyAnswer, NameCall, NameRefusal, NameReply};
+use name_calls::{Answered, Ask, AskNote, KeyAnswer, NameCall, NameRefusal, NameReply};
 use crate::rules::{
     early_refusal, finish_op, info, is_superuser, path_asked, path_refusal, to_be_deleted,
     to_be_finished, to_be_listed, to_be_made, to_be_zone, wanted,
@@ -24,7 +25,8 @@ use crate::rules::{
 use edit_ops::EditOp;
 use frame_log::{StartFault, StoreRefusal};
 use hk_base::{Disk, Edek, KeyName, NoMemory, Text};
-use inode_tree::{MOST_ROWS, NPath};
+use inode_tree::MOST_ROWS;
+use name_calls::NPath;
 use name_store::NameStore;
 use std::alloc::Global;
 use std::marker::Model;

@@ -1,6 +1,6 @@
 //! What the rows of a tree say of a path.
 ghost use Rattle.std.specs.Prelude.{◌≡◌, ℕ, IfOk, IsTrue, MatchResult, Option, Some, is_some};
-ghost use Rattle.inode_tree.specs.Paths.{starts_reserved};
+ghost use Rattle.name_calls.specs.Paths.{starts_reserved};
 ghost use Rattle.inode_tree.specs.Rows.{mark_of};
 ghost use Rattle.name_store.specs.Table.{fits_zone, key_of_zone};
 ghost use Rattle.name_core.specs.Asks.{finish_causes, finish_op, is_other_key, is_other_zone, path_asked, wanted, zone_causes};
@@ -8,10 +8,10 @@ ghost use Rattle.name_core.specs.Calls.{delete_causes, early_causes, first_cause
 ghost use Rattle.name_core.specs.Steps.{TellsOf};
 
 use crate::asks::OpenAsk;
-use crate::calls::{Ask, NameCall, NameRefusal, NameReply, Want};
 use edit_ops::EditOp;
 use hk_base::{Edek, KeyName, NoMemory, Text};
-use inode_tree::{Kind, MOST_ROWS, NPath, Row, Tree};
+use inode_tree::{Kind, MOST_ROWS, Row, Tree};
+use name_calls::{Ask, NPath, NameCall, NameRefusal, NameReply, Want};
 use std::alloc::Global;
 
 /// Whether the first name of a path is `.reserved`.

@@ -7,8 +7,8 @@ mod untold;
 
 use super::*;
 use hk_base::{ByteList, Dek, Edek, Iv, KeyName, Text, VersionName};
-use inode_tree::NPath;
-use key_rows::{Description, EdekList, KeyMeta, KmsReply};
+use kms_calls::{Description, EdekList, KeyMeta, KmsReply};
+use name_calls::NPath;
 use std::alloc::Global;
 use std::process::Abort;
 use untold::Untold;

@@ -8,7 +8,7 @@ use Rattle.std.proofs.lemmas.List.Elements.{All-head, All-tail}
 use Rattle.hk_base.specs.declared.names.KeyName.{KeyName}
 use Rattle.inode_tree.specs.declared.rows.Row.{Row}
 use Rattle.inode_tree.specs.declared.rows.Kind.TheVariants.{Dir}
-use Rattle.inode_tree.specs.Paths.{is_prefix, same_path}
+use Rattle.name_calls.specs.Paths.{is_prefix, same_path}
 use Rattle.inode_tree.specs.Rows.{Entry, IsRows, entry_of, has_children, is_dir, is_dir_at, is_zone_over, longer, mark_of, row_at, set_kind, zone_id, zone_of}
 use Rattle.zone_table.specs.Laws.{MarkedIsAZone}
 use Rattle.zone_table.specs.Zones.{put_zone, zone_row, zones_of}

@@ -5,7 +5,8 @@ ghost use Rattle.zone_table.specs.Zones.{need_add, zones_of};
 ghost use Rattle.name_store.specs.Table.{id_of, marked, may_be_made, may_be_zone, new_directory, new_file};
 
 use hk_base::{Edek, KeyName, NoMemory};
-use inode_tree::{NPath, Tree};
+use inode_tree::Tree;
+use name_calls::NPath;
 use zone_table::{Zones, zones_are_the_marks};
 
 /// Makes a directory.

@@ -6,7 +6,8 @@ use hk_base::NoMemory;
 use inode_tree::Tree;
 use std::alloc::Global;
 use std::marker::Model;
-use zone_table::{ZoneList, Zones, zones_are_the_marks};
+use name_calls::ZoneList;
+use zone_table::{Zones, zones_are_the_marks};
 
 /// The number of the opening, the directories and files, and the encryption zones.
 #[derive(Drop)]

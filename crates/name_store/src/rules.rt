@@ -5,7 +5,8 @@ ghost use Rattle.name_store.specs.Table.{allows, fits_zone, is_of_opening, key_o
 
 use edit_ops::EditOp;
 use hk_base::{Edek, KeyName};
-use inode_tree::{Kind, MOST_ROWS, NPath, Row, Tree};
+use inode_tree::{Kind, MOST_ROWS, Row, Tree};
+use name_calls::NPath;
 
 /// How many ids an opening has.
 const IDS: u64 = 1 << 32;

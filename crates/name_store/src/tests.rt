@@ -9,7 +9,7 @@ use disk_kinds::MemDisk;
 use edit_ops::EditOp;
 use frame_log::StartFault;
 use hk_base::{ByteList, Dek, Disk, Edek, Iv, KeyName, VersionName};
-use inode_tree::NPath;
+use name_calls::NPath;
 use std::alloc::Global;
 use std::process::Abort;
 use std::test::Fail;

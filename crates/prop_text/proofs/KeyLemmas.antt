@@ -1,6 +1,6 @@
 -- The operation behind a key.
 use Rattle.std.proofs.Common.{◌≡◌, ℕ, List, refl, Some, None, codes}
-use Rattle.key_rows.specs.declared.acl.AclOp.TheVariants as op
+use Rattle.kms_calls.specs.declared.acl.AclOp.TheVariants as op
 use Rattle.prop_text.specs.declared.setting.AclPlace.{AclPlace}
 use Rattle.prop_text.specs.Names.{key_all, key_place, key_with}
 

@@ -5,8 +5,8 @@ use Rattle.std.specs.Option.{option_map, option_or}
 use Rattle.std.specs.Str.{bytes_eq}
 use Rattle.hk_base.specs.Names.{is_key_name}
 use Rattle.prop_text.specs.Acls.{is_plain}
-use Rattle.key_rows.specs.declared.acl.AclOp.{AclOp}
-use Rattle.key_rows.specs.declared.acl.AclOp.TheVariants as op
+use Rattle.kms_calls.specs.declared.acl.AclOp.{AclOp}
+use Rattle.kms_calls.specs.declared.acl.AclOp.TheVariants as op
 use Rattle.prop_text.specs.declared.setting.AclPlace.{AclPlace}
 use Rattle.prop_text.specs.declared.setting.AclPlace.TheVariants as place
 use Rattle.prop_text.specs.declared.setting.SizeName.{SizeName}

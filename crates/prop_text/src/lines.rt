@@ -3,7 +3,7 @@ ghost use Rattle.std.specs.Prelude.{◌≡◌, ◌∷◌, ◌++◌, [], OnOk, On
 
 use crate::acls::{Acl, TextList};
 use hk_base::{KeyName, NoMemory, Text};
-use key_rows::AclOp;
+use kms_calls::AclOp;
 use std::alloc::Global;
 use std::marker::Model;
 

@@ -7,7 +7,7 @@ ghost use Rattle.prop_text.specs.Names.{acl_name, blacklist_name, default_name, 
 use crate::cuts::{before, behind};
 use crate::setting::{AclPlace, Setting, SizeName};
 use hk_base::KeyName;
-use key_rows::AclOp;
+use kms_calls::AclOp;
 
 /// The operation of the service that has this name.
 #[tactic(auto, unfolding(crate::specs::Names::service_op))]

@@ -1,7 +1,7 @@
 //! What the name of a property sets.
 
 use hk_base::KeyName;
-use key_rows::AclOp;
+use kms_calls::AclOp;
 
 /// Which access control list a name sets.
 #[derive(Drop)]

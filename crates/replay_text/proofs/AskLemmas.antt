@@ -1,7 +1,7 @@
 -- From the fields behind the verb of an ask to those behind `ask`.
 use Rattle.std.proofs.Common.{◌≡◌, ℕ, List, ◌∷◌, codes, sym, subst, Option, None, Some, Result, Ok, Err, IfOk, MatchOption}
 use Rattle.hk_base.specs.declared.texts.NoMemory.{NoMemory}
-use Rattle.world_run.specs.declared.event.Event.{Event}
+use Rattle.hk_events.specs.declared.event.Event.{Event}
 use Rattle.replay_text.specs.Events.{SpellsAskCreate, SpellsAskZone, SpellsEvent}
 
 -- the fields of an ask spell none

@@ -4,9 +4,9 @@ use Rattle.std.proofs.lemmas.Slice.Eq.{bytes_eq-Decides}
 use Rattle.std.specs.Fmt.{decimal}
 use Rattle.hk_base.specs.Names.{Version, version_text}
 use Rattle.hk_base.specs.declared.texts.NoMemory.{NoMemory}
-use Rattle.key_rows.specs.declared.calls.RawEdek.{RawEdek}
-use Rattle.key_rows.specs.declared.calls.KmsCall.{KmsCall}
-use Rattle.key_rows.specs.declared.calls.KmsCall.TheVariants as call
+use Rattle.kms_calls.specs.declared.calls.RawEdek.{RawEdek}
+use Rattle.kms_calls.specs.declared.calls.KmsCall.{KmsCall}
+use Rattle.kms_calls.specs.declared.calls.KmsCall.TheVariants as call
 use Rattle.replay_text.specs.Events.{SpellsBatch, SpellsCall, SpellsCreate, SpellsGenerate, SpellsMetadatas, SpellsNamed, SpellsRoll, SpellsSent, SpellsVersion, fields_of, is_space, takes_edeks}
 use Rattle.replay_text.proofs.FieldLemmas.{never_empty}
 

@@ -4,7 +4,7 @@ use denote.Ref.{Bor}
 use Rattle.std.specs.List.{slice_split, All}
 use Rattle.std.proofs.lemmas.List.Elements.{All-head, All-tail, All-same}
 use Rattle.hk_base.specs.Names.{IsKeyName}
-use Rattle.key_rows.specs.declared.calls.RawEdek.{RawEdek}
+use Rattle.kms_calls.specs.declared.calls.RawEdek.{RawEdek}
 use Rattle.replay_text.specs.Events.{AreTriples, IsTriple, is_comma}
 
 here : (names : List (List ℕ)) (part : List ℕ) (more : List (List ℕ)) → All IsKeyName (names ++ part ∷ more) → IsKeyName part

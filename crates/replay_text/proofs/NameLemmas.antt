@@ -1,8 +1,8 @@
 -- From the fields of a line of the namesystem to the event that it spells.
 use Rattle.std.proofs.Common.{◌≡◌, ℕ, List, [], ◌∷◌, codes, inl, inr, subst, refl, true, false, Option, None, Some, Result, Ok, Err, IfOk, MatchOption}
 use Rattle.hk_base.specs.declared.texts.NoMemory.{NoMemory}
-use Rattle.world_run.specs.declared.event.Event.{Event}
-use Rattle.world_run.specs.declared.event.Event.TheVariants as event
+use Rattle.hk_events.specs.declared.event.Event.{Event}
+use Rattle.hk_events.specs.declared.event.Event.TheVariants as event
 use Rattle.replay_text.specs.Events.{IsPathVerb, SpellsEvent, SpellsPath, SpellsZones, fields_of, is_space}
 use Rattle.replay_text.proofs.CallLemmas.{apart, two_verbs}
 use Rattle.replay_text.proofs.FieldLemmas.{never_empty}

@@ -5,11 +5,11 @@ use Rattle.std.specs.Fmt.{decimal}
 use Rattle.percent_encoding.specs.Percent.{percent_decode}
 use Rattle.hk_base.specs.Names.{IsKeyName, Version, is_name_byte, version_text}
 use Rattle.hk_base.proofs.Versions.{decimal_once}
-use Rattle.key_rows.specs.declared.calls.RawEdek.{RawEdek}
-use Rattle.key_rows.specs.declared.calls.KmsCall.{KmsCall}
-use Rattle.key_rows.specs.declared.calls.KmsCall.TheVariants as call
-use Rattle.world_run.specs.declared.event.Event.{Event}
-use Rattle.world_run.specs.declared.event.Event.TheVariants as event
+use Rattle.kms_calls.specs.declared.calls.RawEdek.{RawEdek}
+use Rattle.kms_calls.specs.declared.calls.KmsCall.{KmsCall}
+use Rattle.kms_calls.specs.declared.calls.KmsCall.TheVariants as call
+use Rattle.hk_events.specs.declared.event.Event.{Event}
+use Rattle.hk_events.specs.declared.event.Event.TheVariants as event
 use Rattle.replay_text.specs.Events.{AreTriples, IsMaterial, IsPath, IsQuiet, IsTriple, IsUser, Spells, SpellsAskCreate, SpellsAskZone, SpellsBatch, SpellsCall, SpellsCreate, SpellsEdek, SpellsEvent, SpellsGenerate, SpellsKept, SpellsKms, SpellsMaterial, SpellsMetadatas, SpellsNamed, SpellsPath, SpellsRestart, SpellsRoll, SpellsSent, SpellsVersion, SpellsZones, delete_verb, fields_of, is_comma}
 use Rattle.replay_text.proofs.CallLemmas.{apart, two_verbs}
 

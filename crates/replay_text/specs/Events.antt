@@ -6,11 +6,11 @@ use Rattle.hex.specs.Hex.{decode_of, is_hex_digit}
 use Rattle.percent_encoding.specs.Percent.{percent_decode}
 use Rattle.std.specs.Fmt.{decimal}
 use Rattle.hk_base.specs.Names.{IsKeyName, Version, version_text}
-use Rattle.key_rows.specs.declared.calls.RawEdek.{RawEdek}
-use Rattle.key_rows.specs.declared.calls.KmsCall.{KmsCall}
-use Rattle.key_rows.specs.declared.calls.KmsCall.TheVariants as call
-use Rattle.world_run.specs.declared.event.Event.{Event}
-use Rattle.world_run.specs.declared.event.Event.TheVariants as event
+use Rattle.kms_calls.specs.declared.calls.RawEdek.{RawEdek}
+use Rattle.kms_calls.specs.declared.calls.KmsCall.{KmsCall}
+use Rattle.kms_calls.specs.declared.calls.KmsCall.TheVariants as call
+use Rattle.hk_events.specs.declared.event.Event.{Event}
+use Rattle.hk_events.specs.declared.event.Event.TheVariants as event
 
 -- a line has at most so many bytes
 abbrev pub longest_line : ℕ

@@ -7,24 +7,24 @@ use Rattle.hk_base.specs.declared.names.Edek.{Edek}
 use Rattle.percent_encoding.specs.Percent.{percent_encode}
 use Rattle.hk_base.specs.declared.names.KeyName.{KeyName}
 use Rattle.hk_base.specs.Names.{version_text}
-use Rattle.inode_tree.specs.declared.listing.Child.{Child}
-use Rattle.inode_tree.specs.declared.paths.NPath.{NPath}
-use Rattle.zone_table.specs.declared.list.ZonePath.{ZonePath}
-use Rattle.inode_tree.specs.Paths.{path_text}
-use Rattle.name_core.specs.declared.calls.NameReply.{NameReply}
-use Rattle.name_core.specs.declared.calls.NameReply.TheVariants as name
-use Rattle.name_core.specs.declared.calls.NameRefusal.{NameRefusal}
-use Rattle.name_core.specs.declared.calls.NameRefusal.TheVariants as why
-use Rattle.name_core.specs.declared.calls.Want.{Want}
-use Rattle.name_core.specs.declared.calls.Want.TheVariants as want
-use Rattle.world_run.specs.declared.event.Line.{Line}
-use Rattle.world_run.specs.declared.event.Line.TheVariants as line
+use Rattle.name_calls.specs.declared.listing.Child.{Child}
+use Rattle.name_calls.specs.declared.paths.NPath.{NPath}
+use Rattle.name_calls.specs.declared.zone_list.ZonePath.{ZonePath}
+use Rattle.name_calls.specs.Paths.{path_text}
+use Rattle.name_calls.specs.declared.calls.NameReply.{NameReply}
+use Rattle.name_calls.specs.declared.calls.NameReply.TheVariants as name
+use Rattle.name_calls.specs.declared.calls.NameRefusal.{NameRefusal}
+use Rattle.name_calls.specs.declared.calls.NameRefusal.TheVariants as why
+use Rattle.name_calls.specs.declared.calls.Want.{Want}
+use Rattle.name_calls.specs.declared.calls.Want.TheVariants as want
+use Rattle.hk_events.specs.declared.event.Line.{Line}
+use Rattle.hk_events.specs.declared.event.Line.TheVariants as line
 use Rattle.replay_text.specs.declared.transcript.TheConstants.{ESCAPED}
-use Rattle.key_rows.specs.declared.calls.KeyMeta.{KeyMeta}
-use Rattle.key_rows.specs.declared.calls.KmsReply.{KmsReply}
-use Rattle.key_rows.specs.declared.calls.KmsReply.TheVariants as reply
-use Rattle.key_rows.specs.Refusals.{refusal_text}
-use Rattle.key_rows.specs.Shown.{Shown}
+use Rattle.kms_calls.specs.declared.calls.KeyMeta.{KeyMeta}
+use Rattle.kms_calls.specs.declared.calls.KmsReply.{KmsReply}
+use Rattle.kms_calls.specs.declared.calls.KmsReply.TheVariants as reply
+use Rattle.kms_calls.specs.Refusals.{refusal_text}
+use Rattle.kms_calls.specs.Shown.{Shown}
 
 abbrev pub material_text : Option (List ℕ) → List ℕ
 material_text None = codes "-"

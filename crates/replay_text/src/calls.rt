@@ -2,15 +2,15 @@
 ghost use Rattle.std.specs.Prelude.{◌≡◌, ◌<◌, ◌^◌, ◌∷◌, [], ℕ, List, IfOk, MatchOption, Option, codes, false, true};
 ghost use Rattle.std.specs.Fmt.{decimal};
 ghost use Rattle.hk_base.specs.Names.{Version};
-ghost use Rattle.key_rows.specs.declared.calls.KmsCall.{KmsCall};
-ghost use Rattle.key_rows.specs.declared.calls.KmsCall.TheVariants as call;
+ghost use Rattle.kms_calls.specs.declared.calls.KmsCall.{KmsCall};
+ghost use Rattle.kms_calls.specs.declared.calls.KmsCall.TheVariants as call;
 ghost use Rattle.replay_text.specs.Events.{SpellsCall, SpellsCreate, SpellsMetadatas, SpellsNamed, SpellsRoll, SpellsVersion, fields_of, takes_edeks};
 
 use crate::edeks::read_edek_call;
 use crate::fields::{cut, only_field, only_name, read_material, read_small_number};
 use crate::lists::read_names;
 use hk_base::{KeyName, NoMemory, VersionName};
-use key_rows::{Description, KmsCall};
+use kms_calls::{Description, KmsCall};
 use std::alloc::Global;
 
 /// The call that the fields behind the user spell, or `None` where they spell none.

@@ -1,14 +1,14 @@
 //! The calls that make or take encrypted data encryption keys.
 ghost use Rattle.std.specs.Prelude.{◌≡◌, ◌<◌, ◌^◌, ◌∷◌, [], ℕ, List, IfOk, MatchOption, codes, true};
 ghost use Rattle.std.specs.Fmt.{decimal};
-ghost use Rattle.key_rows.specs.declared.calls.KmsCall.{KmsCall};
-ghost use Rattle.key_rows.specs.declared.calls.RawEdek.{RawEdek};
+ghost use Rattle.kms_calls.specs.declared.calls.KmsCall.{KmsCall};
+ghost use Rattle.kms_calls.specs.declared.calls.RawEdek.{RawEdek};
 ghost use Rattle.replay_text.specs.Events.{SpellsBatch, SpellsCall, SpellsGenerate, SpellsSent, fields_of, takes_edeks};
 
 use crate::fields::{cut, only_field, read_small_number};
 use crate::lists::{EdekFields, read_edek, read_edeks};
 use hk_base::{KeyName, NoMemory};
-use key_rows::{KmsCall, RawEdek};
+use kms_calls::{KmsCall, RawEdek};
 use std::alloc::Global;
 
 /// The call on encrypted keys that a verb and the fields behind it spell.

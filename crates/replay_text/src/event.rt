@@ -1,16 +1,16 @@
 //! Event lines.
 ghost use Rattle.std.specs.Prelude.{◌≡◌, ◌≢◌, ◌≤◌, ◌⊎◌, ◌∷◌, [], ℕ, List, length, codes, IfOk, MatchOption, MatchResult};
-ghost use Rattle.key_rows.specs.declared.calls.KmsCall.{KmsCall};
+ghost use Rattle.kms_calls.specs.declared.calls.KmsCall.{KmsCall};
 ghost use Rattle.replay_text.specs.Events.{IsBad, IsPathEvent, IsPathVerb, IsQuiet, Spells, SpellsEvent, SpellsKms, SpellsPath, SpellsRestart, SpellsZones, fields_of};
-ghost use Rattle.world_run.specs.declared.event.Event.{Event};
-ghost use Rattle.world_run.specs.declared.event.Event.TheVariants as event;
+ghost use Rattle.hk_events.specs.declared.event.Event.{Event};
+ghost use Rattle.hk_events.specs.declared.event.Event.TheVariants as event;
 
 use crate::asks::{read_ask, read_draw, read_finish};
 use crate::calls::read_call;
 use crate::fields::{cut, only_field, read_escaped, read_user};
 use hk_base::{ByteList, NoMemory, Text};
 use std::alloc::Global;
-use world_run::Event;
+use hk_events::Event;
 
 /// Why a line has no event to give.
 #[derive(Clone, Copy, Debug, PartialEq, Eq)]

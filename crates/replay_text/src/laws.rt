@@ -1,6 +1,6 @@
 //! What follows of the event text. The functions do nothing: their contracts are the laws.
 ghost use Rattle.std.specs.Prelude.{◌≡◌, ℕ, List};
-ghost use Rattle.world_run.specs.declared.event.Event.{Event};
+ghost use Rattle.hk_events.specs.declared.event.Event.{Event};
 ghost use Rattle.replay_text.specs.Events.{IsQuiet, Spells};
 
 /// A line spells one event at most, and a quiet line spells none.

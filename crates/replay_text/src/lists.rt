@@ -2,12 +2,12 @@
 ghost use Rattle.std.specs.Prelude.{◌≡◌, ◌<◌, ◌∷◌, [], ℕ, List, length, position, All, false, IfNone, IfOk, MatchOption};
 ghost use Rattle.std.specs.List.{slice_split};
 ghost use Rattle.hk_base.specs.Names.{IsKeyName};
-ghost use Rattle.key_rows.specs.declared.calls.RawEdek.{RawEdek};
+ghost use Rattle.kms_calls.specs.declared.calls.RawEdek.{RawEdek};
 ghost use Rattle.replay_text.specs.Events.{AreTriples, IsTriple, SpellsEdek, is_colon, is_comma};
 
 use crate::fields::read_bytes;
 use hk_base::{KeyName, NoMemory, VersionName};
-use key_rows::{NameList, RawEdek, RawEdekList};
+use kms_calls::{NameList, RawEdek, RawEdekList};
 use std::alloc::Global;
 
 fn comma_in(bytes: &[u8]) -> Option<usize>

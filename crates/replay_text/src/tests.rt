@@ -1,16 +1,15 @@
 //! Lines that are read, and answers that are written.
 use crate::{LineFault, read_event, write_line};
 use hk_base::{ByteList, Dek, Edek, Iv, KeyName, NoMemory, Text, VersionName};
-use inode_tree::{Child, ChildList, NPath};
-use key_rows::{
+use kms_calls::{
     AclOp, AclTable, Description, KeyMeta, KeyVersion, KmsCall, KmsRefusal, KmsReply, MetaList,
     NameList, RawEdek, VersionList,
 };
-use name_core::{AskNote, NameRefusal, NameReply, Want};
+use name_calls::{AskNote, Child, ChildList, NPath, NameRefusal, NameReply, Want};
 use std::alloc::Global;
 use std::test::Fail;
-use world_run::{Event, Line};
-use zone_table::{ZoneList, ZonePath};
+use hk_events::{Event, Line};
+use name_calls::{ZoneList, ZonePath};
 
 /// How a line is read: its event and the event's fields, with bars between them.
 fn read(alloc: Global, line: &[u8]) -> Result<ByteList, NoMemory> {

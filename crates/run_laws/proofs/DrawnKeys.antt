@@ -2,8 +2,8 @@
 use Rattle.std.proofs.Common.{◌≡◌, ℕ, false, inl, inr, List, Option, Some, None, Result, Ok, Err, is_none, refl, sym, ap, subst, ◌∙◌}
 use Rattle.hk_base.specs.declared.names.Edek.{Edek}
 use Rattle.hk_base.specs.declared.names.KeyName.{KeyName}
-use Rattle.key_rows.specs.declared.calls.KmsCall.TheVariants as key_call
-use Rattle.key_rows.specs.declared.calls.KmsReply.{KmsReply}
+use Rattle.kms_calls.specs.declared.calls.KmsCall.TheVariants as key_call
+use Rattle.kms_calls.specs.declared.calls.KmsReply.{KmsReply}
 use Rattle.key_rows.specs.declared.rows.KeyCommand.{KeyCommand}
 use Rattle.key_rows.specs.declared.rows.KeyRow.{KeyRow}
 use Rattle.prop_text.specs.declared.lines.PropLine.{PropLine}
@@ -14,11 +14,11 @@ use Rattle.kms_core.specs.Calls.{KmsActs, current_version, row_of}
 use Rattle.kms_core.specs.State.{KmsState, ServiceState}
 use Rattle.kms_core.specs.Users.{ServesUnder}
 use Rattle.kms_core.proofs.KeyLemmas.{named}
-use Rattle.name_core.specs.declared.calls.KeyAnswer.{KeyAnswer}
-use Rattle.name_core.specs.declared.calls.KeyAnswer.TheVariants as answer
-use Rattle.name_core.specs.declared.calls.Want.{Want}
-use Rattle.name_core.specs.declared.calls.Want.TheVariants as want
-use Rattle.name_core.specs.Asks.{answer_of}
+use Rattle.name_calls.specs.declared.calls.KeyAnswer.{KeyAnswer}
+use Rattle.name_calls.specs.declared.calls.KeyAnswer.TheVariants as answer
+use Rattle.name_calls.specs.declared.calls.Want.{Want}
+use Rattle.name_calls.specs.declared.calls.Want.TheVariants as want
+use Rattle.name_calls.specs.Answers.{answer_of}
 use Rattle.name_core.specs.Calls.{superuser}
 use Rattle.world_run.specs.Step.{WantActs}
 use Rattle.world_run.proofs.DrawLemmas.{OneDrawn, generate-one}

@@ -8,18 +8,18 @@ use Rattle.std.proofs.lemmas.Bool.Decides.{nat_tests}
 use Rattle.std.proofs.lemmas.Slice.Eq.{bytes_eq-Decides}
 use Rattle.hk_base.specs.declared.names.Edek.{Edek}
 use Rattle.hk_base.specs.declared.names.KeyName.{KeyName}
-use Rattle.inode_tree.specs.Paths.{parent, starts_reserved}
+use Rattle.name_calls.specs.Paths.{parent, starts_reserved}
 use Rattle.inode_tree.specs.Rows.{Entry, entry_of, has_children, is_dir_at, mark_of, row_at, same_id, zone_id, zone_of}
 use Rattle.edit_ops.specs.declared.ops.EditOp.{EditOp}
 use Rattle.edit_ops.specs.declared.ops.EditOp.TheVariants as op
 use Rattle.name_store.specs.Table.{fits_zone, is_of_opening, key_of_zone, may_be_made, may_be_zone, may_use, settled_table}
 use Rattle.name_core.specs.declared.asks.OpenAsk.{OpenAsk}
-use Rattle.name_core.specs.declared.calls.Ask.{Ask}
-use Rattle.name_core.specs.declared.calls.Ask.TheVariants as ask
-use Rattle.name_core.specs.declared.calls.AskNote.{AskNote}
-use Rattle.name_core.specs.declared.calls.KeyAnswer.TheVariants as answer
-use Rattle.name_core.specs.declared.calls.NameRefusal.{NameRefusal}
-use Rattle.name_core.specs.declared.calls.NameRefusal.TheVariants as refusal
+use Rattle.name_calls.specs.declared.calls.Ask.{Ask}
+use Rattle.name_calls.specs.declared.calls.Ask.TheVariants as ask
+use Rattle.name_calls.specs.declared.calls.AskNote.{AskNote}
+use Rattle.name_calls.specs.declared.calls.KeyAnswer.TheVariants as answer
+use Rattle.name_calls.specs.declared.calls.NameRefusal.{NameRefusal}
+use Rattle.name_calls.specs.declared.calls.NameRefusal.TheVariants as refusal
 use Rattle.name_core.specs.State.{IsNames, IsWaiting, NameService, NameState, next_id, settled}
 use Rattle.name_core.specs.Asks.{Asks, Finishes, ask_causes, asked, finish_causes, is_other_key, is_other_zone, note_of, open_ask, opened, path_asked, unless_not_asked, unless_stopped, wanted, wanted_under}
 use Rattle.name_core.specs.Calls.{NoRoom, Plain, first_cause}

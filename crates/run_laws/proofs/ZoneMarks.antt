@@ -7,7 +7,7 @@ use Rattle.std.proofs.lemmas.Bool.{and_parts}
 use Rattle.std.proofs.lemmas.List.Elements.{All-filter, All-head, All-map, All-tail}
 use Rattle.hk_base.specs.declared.names.KeyName.{KeyName}
 use Rattle.inode_tree.specs.declared.rows.Kind.TheVariants.{Dir}
-use Rattle.inode_tree.specs.Paths.{is_prefix, same_path}
+use Rattle.name_calls.specs.Paths.{is_prefix, same_path}
 use Rattle.inode_tree.specs.Rows.{Entry, is_dir_at, is_marked, is_zone_over, longer, mark_of, row_at, with_kind, zone_of}
 use Rattle.inode_tree.proofs.Seeks.{same-is}
 use Rattle.inode_tree.proofs.ZoneLemmas.{prefix-itself}

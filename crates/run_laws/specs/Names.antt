@@ -3,12 +3,12 @@ use Rattle.std.specs.Prelude.{◌≡◌, ⊤, true, List, Option, None, Some, Ok
 use Rattle.hk_base.specs.declared.names.Edek.{Edek}
 use Rattle.hk_base.specs.declared.texts.Text.{Text}
 use Rattle.edit_ops.specs.declared.ops.EditOp.{EditOp}
-use Rattle.name_core.specs.declared.calls.Ask.{Ask}
-use Rattle.name_core.specs.declared.calls.AskNote.{AskNote}
-use Rattle.name_core.specs.declared.calls.KeyAnswer.TheVariants as answer
-use Rattle.name_core.specs.declared.calls.NameRefusal.TheVariants as refusal
-use Rattle.name_core.specs.declared.calls.Want.{Want}
-use Rattle.name_core.specs.declared.calls.Want.TheVariants as want
+use Rattle.name_calls.specs.declared.calls.Ask.{Ask}
+use Rattle.name_calls.specs.declared.calls.AskNote.{AskNote}
+use Rattle.name_calls.specs.declared.calls.KeyAnswer.TheVariants as answer
+use Rattle.name_calls.specs.declared.calls.NameRefusal.TheVariants as refusal
+use Rattle.name_calls.specs.declared.calls.Want.{Want}
+use Rattle.name_calls.specs.declared.calls.Want.TheVariants as want
 use Rattle.name_core.specs.State.{IsNames, NameService}
 use Rattle.name_core.specs.Asks.{Asks, is_other_zone, opened}
 use Rattle.name_core.specs.Service.{FinishServes}

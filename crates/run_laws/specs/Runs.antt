@@ -1,20 +1,20 @@
 -- What follows in a run of events of both services.
 use Rattle.std.specs.Prelude.{◌≡◌, ℕ, true, List, [], ◌∷◌, Option, None, Some}
 use Rattle.std.specs.Option.{option_map}
-use Rattle.inode_tree.specs.Paths.{read_path}
-use Rattle.key_rows.specs.declared.calls.KmsReply.{KmsReply}
+use Rattle.name_calls.specs.Paths.{read_path}
+use Rattle.kms_calls.specs.declared.calls.KmsReply.{KmsReply}
 use Rattle.prop_text.specs.declared.lines.PropLine.{PropLine}
-use Rattle.name_core.specs.declared.calls.Ask.{Ask}
-use Rattle.name_core.specs.declared.calls.Ask.TheVariants as ask
-use Rattle.name_core.specs.declared.calls.AskNote.{AskNote}
-use Rattle.name_core.specs.declared.calls.NameRefusal.TheVariants as refusal
+use Rattle.name_calls.specs.declared.calls.Ask.{Ask}
+use Rattle.name_calls.specs.declared.calls.Ask.TheVariants as ask
+use Rattle.name_calls.specs.declared.calls.AskNote.{AskNote}
+use Rattle.name_calls.specs.declared.calls.NameRefusal.TheVariants as refusal
 use Rattle.name_core.specs.State.{IsNames}
 use Rattle.name_core.specs.Asks.{is_other_zone, opened}
 use Rattle.name_core.specs.Laws.{AnyFault}
-use Rattle.world_run.specs.declared.event.Event.{Event}
-use Rattle.world_run.specs.declared.event.Event.TheVariants as event
-use Rattle.world_run.specs.declared.event.Line.{Line}
-use Rattle.world_run.specs.declared.event.Line.TheVariants as line
+use Rattle.hk_events.specs.declared.event.Event.{Event}
+use Rattle.hk_events.specs.declared.event.Event.TheVariants as event
+use Rattle.hk_events.specs.declared.event.Line.{Line}
+use Rattle.hk_events.specs.declared.event.Line.TheVariants as line
 use Rattle.world_run.specs.Acknowledged.{Acknowledged}
 use Rattle.world_run.specs.Step.{Step, zone_with}
 use Rattle.world_run.specs.World.{WorldState}

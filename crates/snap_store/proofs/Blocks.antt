@@ -12,11 +12,11 @@ use Rattle.std.proofs.lemmas.Cmp.{nat_list_cmp_total, tied_itself}
 use Rattle.std.specs.declared.cmp.Ordering.TheVariants.{Equal}
 use Rattle.inode_tree.specs.Arena.{rank}
 use Rattle.inode_tree.specs.Below.{rows_below, seen_from}
-use Rattle.inode_tree.specs.Paths.{is_before, is_prefix, path_cmp, same_path}
+use Rattle.name_calls.specs.Paths.{is_before, is_prefix, path_cmp, same_path}
 use Rattle.inode_tree.specs.Rows.{AllAfter, Entry, IsRising, entry_of, row_at}
 use Rattle.snap_store.specs.Snapshots.{frozen}
 use Rattle.inode_tree.proofs.Blocks.{between, prefix-not-before}
-use Rattle.inode_tree.proofs.PathLemmas.{and-parts}
+use Rattle.name_calls.proofs.PathLemmas.{and-parts}
 use Rattle.inode_tree.proofs.Ranks.{before-trans}
 use Rattle.inode_tree.proofs.ZoneLemmas.{prefix-itself}
 

@@ -9,7 +9,7 @@ use Rattle.std.proofs.lemmas.Cmp.{nat_cmp_total}
 use Rattle.std.proofs.lemmas.Slice.Eq.{bytes_eq-Decides}
 use Rattle.std.specs.Option.{option_map, option_map_or}
 use Rattle.inode_tree.specs.Rows.{Entry, row_at}
-use Rattle.inode_tree.proofs.PathLemmas.{and-parts}
+use Rattle.name_calls.proofs.PathLemmas.{and-parts}
 use Rattle.snap_store.specs.Ordered.{IsRisingBy, put_by}
 use Rattle.snap_store.specs.Snapshots.{IsSnapshots, Snapshot, count_of, is_among, is_named, is_of, key_of, put_snapshot, rows_in, snapshot_cmp, snapshot_named, with_id, without_id, without_snapshot}
 use Rattle.snap_store.proofs.OrderLemmas.{Parted, put-insert, rising-filter, rising-put, seek}

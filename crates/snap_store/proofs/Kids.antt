@@ -8,9 +8,9 @@ use Rattle.std.specs.Cmp.Lexicographic.{slice_cmp}
 use Rattle.std.proofs.lemmas.Bool.Decides.{nat_tests}
 use Rattle.std.proofs.lemmas.List.{take_more}
 use Rattle.std.proofs.lemmas.Map.Text.{is_eq-slice_cmp}
-use Rattle.inode_tree.specs.declared.listing.Child.{Child}
+use Rattle.name_calls.specs.declared.listing.Child.{Child}
 use Rattle.inode_tree.specs.Listing.{child_of, children}
-use Rattle.inode_tree.specs.Paths.{is_child, is_prefix, last_name, path_cmp}
+use Rattle.name_calls.specs.Paths.{is_child, is_prefix, last_name, path_cmp}
 use Rattle.inode_tree.specs.Rows.{Entry}
 
 eq-then : (o r : Ordering) → is_eq (ordering_then o r) ≡ (is_eq o && is_eq r)

@@ -6,7 +6,7 @@ use Rattle.std.specs.Ordering.{is_eq, is_lt}
 use Rattle.std.specs.List.Sorted.{IsPartitionPoint}
 use Rattle.std.proofs.lemmas.Cmp.{on_total}
 use Rattle.inode_tree.specs.declared.rows.Kind.TheVariants.{Dir}
-use Rattle.inode_tree.specs.Paths.{path_cmp}
+use Rattle.name_calls.specs.Paths.{path_cmp}
 use Rattle.inode_tree.specs.Rows.{AllAfter, Entry, IsRising, row_at}
 use Rattle.inode_tree.proofs.Ranks.{path-total}
 use Rattle.inode_tree.proofs.Seeks.{same-cmp}

@@ -6,7 +6,7 @@ use Rattle.std.specs.Option.{option_map, option_map_or}
 use Rattle.inode_tree.specs.declared.rows.Row.{Row}
 use Rattle.inode_tree.specs.Arena.{rank}
 use Rattle.inode_tree.specs.Below.{at_or_above, at_or_below, seen_from}
-use Rattle.inode_tree.specs.Paths.{is_prefix}
+use Rattle.name_calls.specs.Paths.{is_prefix}
 use Rattle.inode_tree.specs.Rows.{Entry, IsRising, entry_of}
 use Rattle.inode_tree.proofs.ZoneLemmas.{prefix-itself, prefix-whole}
 use Rattle.snap_store.specs.Snapshots.{Copied, copied_for, frozen}

@@ -5,9 +5,9 @@ use Rattle.std.specs.Option.{option_map, option_map_or}
 use Rattle.std.specs.Str.{bytes_eq}
 use Rattle.std.proofs.lemmas.List.{take_more}
 use Rattle.std.proofs.lemmas.Bool.Decides.{nat_tests}
-use Rattle.inode_tree.specs.Paths.{is_prefix, same_path}
+use Rattle.name_calls.specs.Paths.{is_prefix, same_path}
 use Rattle.inode_tree.specs.Rows.{AllAfter, Entry, IsRising, is_marked, longer, row_at, zone_of}
-use Rattle.inode_tree.proofs.PathLemmas.{and-parts}
+use Rattle.name_calls.proofs.PathLemmas.{and-parts}
 use Rattle.inode_tree.proofs.Seeks.{before-not-same, same-is, same-itself}
 use Rattle.inode_tree.proofs.Puts.{same-turned}
 use Rattle.inode_tree.proofs.ZoneLemmas.{prefix-itself, prefix-snoc, prefix-whole}

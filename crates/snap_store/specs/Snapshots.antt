@@ -5,10 +5,10 @@ use Rattle.std.specs.List.{filter, find, list_all, list_any}
 use Rattle.std.specs.Option.{option_map, option_map_or}
 use Rattle.std.specs.Ordering.{nat_cmp, ordering_then}
 use Rattle.std.specs.Cmp.Lexicographic.{slice_cmp}
-use Rattle.inode_tree.specs.declared.listing.Child.{Child}
+use Rattle.name_calls.specs.declared.listing.Child.{Child}
 use Rattle.inode_tree.specs.Below.{at_or_above, at_or_below, rows_below}
 use Rattle.inode_tree.specs.Listing.{children}
-use Rattle.inode_tree.specs.Paths.{is_prefix}
+use Rattle.name_calls.specs.Paths.{is_prefix}
 use Rattle.inode_tree.specs.Rows.{Entry, entry_of, is_dir_at, row_at, zone_of}
 use Rattle.snap_store.specs.Ordered.{IsRisingBy, put_by}
 

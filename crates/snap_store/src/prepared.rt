@@ -3,13 +3,14 @@ ghost use Rattle.std.specs.Prelude.{◌≡◌, ◌↔◌, List, Some, length, ma
 ghost use Rattle.std.specs.List.{filter};
 ghost use Rattle.std.specs.Option.{option_map_or};
 ghost use Rattle.inode_tree.specs.Below.{seen_from};
-ghost use Rattle.inode_tree.specs.Paths.{is_prefix};
+ghost use Rattle.name_calls.specs.Paths.{is_prefix};
 ghost use Rattle.inode_tree.specs.Rows.{entry_of};
 ghost use Rattle.snap_store.specs.Snapshots.{copied_for, frozen};
 
 use crate::rows::{FrozenRow, FrozenRows, copy_rows};
 use hk_base::NoMemory;
-use inode_tree::{NPath, Tree};
+use inode_tree::Tree;
+use name_calls::NPath;
 use std::alloc::Global;
 use std::marker::Model;
 

@@ -7,13 +7,14 @@ ghost use Rattle.std.specs.Ordering.{is_lt, nat_cmp};
 ghost use Rattle.std.specs.Cmp.Lexicographic.{slice_cmp};
 ghost use Rattle.inode_tree.specs.Below.{seen_from};
 ghost use Rattle.inode_tree.specs.Listing.{child_of, children};
-ghost use Rattle.inode_tree.specs.Paths.{is_child, is_prefix, path_cmp};
+ghost use Rattle.name_calls.specs.Paths.{is_child, is_prefix, path_cmp};
 ghost use Rattle.inode_tree.specs.Rows.{IsRising, entry_of, is_marked, row_at};
 ghost use Rattle.snap_store.specs.Snapshots.{frozen, list_in, zone_depth};
 
 use crate::same::same_row;
 use hk_base::{NoMemory, Text};
-use inode_tree::{Child, ChildList, Kind, NPath, Row, Tree};
+use inode_tree::{Kind, Row, Tree};
+use name_calls::{Child, ChildList, NPath};
 use std::alloc::Global;
 use std::cmp::Ordering;
 use std::marker::Model;

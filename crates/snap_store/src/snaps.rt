@@ -12,7 +12,8 @@ ghost use Rattle.snap_store.specs.Snapshots.{IsReady, IsSnapshots, allowed_above
 use crate::prepared::{Prepared, prepare, rows_for};
 use crate::rows::{FrozenRows, compare_names};
 use hk_base::{NoMemory, Text};
-use inode_tree::{ChildList, NPath, Row, Tree};
+use inode_tree::{Row, Tree};
+use name_calls::{ChildList, NPath};
 use std::alloc::Global;
 use std::cmp::Ordering;
 use std::marker::Model;

@@ -1,7 +1,8 @@
 //! Snapshots that are taken, read and removed, and their limits.
 use super::*;
 use hk_base::{KeyName, NoMemory, Text};
-use inode_tree::{ChildList, Kind, NPath, Row, Tree};
+use inode_tree::{Kind, Row, Tree};
+use name_calls::{ChildList, NPath};
 use std::alloc::{AllocError, Global};
 use std::test::Fail;
 

@@ -11,9 +11,9 @@ use Rattle.name_store.specs.Store.{is_opening}
 use Rattle.name_store.specs.Store as store
 use Rattle.name_store.specs.Table.{is_among}
 use Rattle.name_core.specs.declared.asks.OpenAsk.{OpenAsk}
-use Rattle.name_core.specs.declared.calls.Ask.{Ask}
-use Rattle.name_core.specs.declared.calls.AskNote.{AskNote}
-use Rattle.name_core.specs.declared.calls.NameRefusal.{NameRefusal}
+use Rattle.name_calls.specs.declared.calls.Ask.{Ask}
+use Rattle.name_calls.specs.declared.calls.AskNote.{AskNote}
+use Rattle.name_calls.specs.declared.calls.NameRefusal.{NameRefusal}
 use Rattle.name_core.specs.Calls.{NoRoom, Plain, first_cause}
 use Rattle.name_core.specs.Asks.{Asks, ask_causes, unless_not_asked}
 use Rattle.name_core.specs.State.{AreFree, NameState, RunningNames, StandsFor, names_of, next_id}

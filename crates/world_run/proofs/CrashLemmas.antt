@@ -5,8 +5,8 @@ use Rattle.std.specs.declared.result.Result.{Result}
 use Rattle.hk_base.specs.Disk.{DiskState, Image, IsImage, Tells}
 use Rattle.hk_base.specs.Faults.{Rose}
 use Rattle.edit_ops.specs.declared.ops.EditOp.{EditOp}
-use Rattle.inode_tree.specs.declared.paths.NPath.{NPath}
-use Rattle.inode_tree.specs.Paths.{read_path}
+use Rattle.name_calls.specs.declared.paths.NPath.{NPath}
+use Rattle.name_calls.specs.Paths.{read_path}
 use Rattle.key_rows.specs.declared.rows.KeyCommand.{KeyCommand}
 use Rattle.prop_text.specs.declared.lines.PropLine.{PropLine}
 use Rattle.kms_acls.specs.StandsFor.{StandsFor as ListsFor}
@@ -16,15 +16,15 @@ use Rattle.kms_store.specs.Store.{IsSoundLog, NoCommand, settled_commands, settl
 use Rattle.kms_store.proofs.Layers.{sound_left}
 use Rattle.name_store.specs.Store.{IsSoundLog as IsSoundNames, NothingMore, made_with}
 use Rattle.name_store.specs.Table.{after_table, settled_log, settled_ops}
-use Rattle.name_core.specs.declared.calls.NameCall.{NameCall}
-use Rattle.name_core.specs.declared.calls.NameCall.TheVariants as call
-use Rattle.name_core.specs.declared.calls.NameRefusal.{NameRefusal}
+use Rattle.name_calls.specs.declared.calls.NameCall.{NameCall}
+use Rattle.name_calls.specs.declared.calls.NameCall.TheVariants as call
+use Rattle.name_calls.specs.declared.calls.NameRefusal.{NameRefusal}
 use Rattle.name_core.specs.Service.{OwnOfFinish}
 use Rattle.name_core.specs.State.{settled as settled_names}
-use Rattle.world_run.specs.declared.event.Event.{Event}
-use Rattle.world_run.specs.declared.event.Event.TheVariants as event
-use Rattle.world_run.specs.declared.event.Line.{Line}
-use Rattle.world_run.specs.declared.event.WorldFault.{WorldFault}
+use Rattle.hk_events.specs.declared.event.Event.{Event}
+use Rattle.hk_events.specs.declared.event.Event.TheVariants as event
+use Rattle.hk_events.specs.declared.event.Line.{Line}
+use Rattle.world_run.specs.declared.fault.WorldFault.{WorldFault}
 use Rattle.world_run.specs.declared.kept.KeptReply.{KeptReply}
 use Rattle.world_run.specs.Acknowledged.{Acknowledged, HoldsLogs, Survives}
 use Rattle.world_run.specs.Does.{Happens}

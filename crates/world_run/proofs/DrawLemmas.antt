@@ -9,11 +9,11 @@ use Rattle.hk_base.specs.declared.names.Dek.{Dek}
 use Rattle.hk_base.specs.declared.names.Edek.{Edek}
 use Rattle.hk_base.specs.declared.names.VersionName.{VersionName}
 use Rattle.key_rows.specs.declared.rows.KeyRow.{KeyRow}
-use Rattle.key_rows.specs.declared.calls.KmsCall.TheVariants as call
-use Rattle.key_rows.specs.declared.calls.KmsRefusal.{KmsRefusal}
-use Rattle.key_rows.specs.declared.calls.KmsRefusal.TheVariants.{NoSuchKey, TooManyAsked}
-use Rattle.key_rows.specs.declared.calls.KmsReply.{KmsReply}
-use Rattle.key_rows.specs.declared.calls.KmsReply.TheVariants as reply
+use Rattle.kms_calls.specs.declared.calls.KmsCall.TheVariants as call
+use Rattle.kms_calls.specs.declared.calls.KmsRefusal.{KmsRefusal}
+use Rattle.kms_calls.specs.declared.calls.KmsRefusal.TheVariants.{NoSuchKey, TooManyAsked}
+use Rattle.kms_calls.specs.declared.calls.KmsReply.{KmsReply}
+use Rattle.kms_calls.specs.declared.calls.KmsReply.TheVariants as reply
 use Rattle.key_rows.specs.Sound.{IsTable, NamesOnce, Rising}
 use Rattle.key_rows.specs.Table.{current_of, find_name, is_named, material_of}
 use Rattle.kms_core.specs.Calls.{KmsActs, NoRoom, Plain, birth_of, causes, current_material, current_version, deed, first_cause, generate_causes, generated, row_of, unless_refused}
@@ -24,7 +24,7 @@ use Rattle.kms_core.specs.State.{KmsState}
 use Rattle.kms_core.proofs.DrawLemmas.{length-drawn}
 use Rattle.kms_core.proofs.KeyLemmas.{found_passes}
 use Rattle.kms_core.proofs.LawLemmas.{generated_opens}
-use Rattle.name_core.specs.Asks.{answer_of}
+use Rattle.name_calls.specs.Answers.{answer_of}
 use Rattle.world_run.specs.Ledger.{draw_of}
 use Rattle.world_run.specs.Linked.{OpensTo, given}
 use Rattle.world_run.specs.Promise.{In}

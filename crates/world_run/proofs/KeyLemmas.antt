@@ -3,7 +3,7 @@ use Rattle.std.proofs.Common.{◌≡◌, ℕ, Bool, List, Option, None, Some}
 use Rattle.hk_base.specs.Disk.{DiskState}
 use Rattle.hk_base.specs.declared.names.KeyName.{KeyName}
 use Rattle.key_rows.specs.Table.{Table}
-use Rattle.key_rows.specs.declared.calls.KmsCall.TheVariants as call
+use Rattle.kms_calls.specs.declared.calls.KmsCall.TheVariants as call
 use Rattle.key_rows.specs.declared.rows.KeyCommand.{KeyCommand}
 use Rattle.kms_store.specs.Store.{IsLeftOf, NoCommand, StoreState}
 use Rattle.kms_core.specs.Service.{Logs, OwnOf}

@@ -17,8 +17,8 @@ use Rattle.name_store.specs.Store.{AnOpening, IsDamagedAt as IsDamagedName, IsLe
 use Rattle.name_store.specs.Table.{NameTable, Replayed, next_opening as next_opening_of_names, settled_ops}
 use Rattle.name_core.specs.Service.{Starts as NamesStart}
 use Rattle.name_core.specs.State.{StandsFor as NamesStandFor}
-use Rattle.world_run.specs.declared.event.Event.TheVariants as event
-use Rattle.world_run.specs.declared.event.Line.TheVariants as line
+use Rattle.hk_events.specs.declared.event.Event.TheVariants as event
+use Rattle.hk_events.specs.declared.event.Line.TheVariants as line
 use Rattle.world_run.specs.Acknowledged.{Acknowledged, HoldsLogs, of_keys, of_names}
 use Rattle.world_run.specs.Does.{Happens}
 use Rattle.world_run.specs.Keeps.{Fails}

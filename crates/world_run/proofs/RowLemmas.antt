@@ -10,7 +10,7 @@ use Rattle.std.proofs.lemmas.Slice.Eq.{bytes_eq-Decides}
 use Rattle.hk_base.specs.declared.names.KeyName.{KeyName}
 use Rattle.inode_tree.specs.declared.rows.Kind.TheVariants.{Dir}
 use Rattle.inode_tree.specs.declared.rows.Row.{Row}
-use Rattle.inode_tree.specs.Paths.{is_before, is_child, is_prefix, parent, same_path}
+use Rattle.name_calls.specs.Paths.{is_before, is_child, is_prefix, parent, same_path}
 use Rattle.inode_tree.specs.Rows.{AllAfter, Entry, IsRising, IsRows, entry_of, has_children, is_dir, is_dir_at, is_marked, is_zone_over, longer, mark_of, put, removed, row_at, set_kind, with_kind, zone_of}
 use Rattle.inode_tree.proofs.Seeks.{before-not-same, same-is, same-itself}
 use Rattle.inode_tree.proofs.ZoneLemmas.{prefix-itself}

@@ -12,7 +12,7 @@ use Rattle.key_rows.proofs.Births.{both}
 use Rattle.inode_tree.specs.declared.rows.Kind.{Kind}
 use Rattle.inode_tree.specs.declared.rows.Kind.TheVariants.{Dir, File as FileKind}
 use Rattle.inode_tree.specs.declared.rows.Row.{Row}
-use Rattle.inode_tree.specs.Paths.{is_before, is_prefix, parent, same_path}
+use Rattle.name_calls.specs.Paths.{is_before, is_prefix, parent, same_path}
 use Rattle.inode_tree.specs.Rows.{AllAfter, Entry, IsRising, entry_of, has_children, is_dir, is_dir_at, is_marked, put, removed, row_at, set_kind, with_kind, zone_of}
 use Rattle.inode_tree.proofs.Puts.{rising-put}
 use Rattle.inode_tree.proofs.Seeks.{same-is}

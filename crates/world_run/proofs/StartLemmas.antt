@@ -28,7 +28,7 @@ use Rattle.name_store.specs.Store.{AnOpening, IsDamagedAt as IsDamagedName, IsLe
 use Rattle.name_store.specs.Table.{NameTable, Replayed, after_table, allows, is_fresh, settled_log, settled_ops}
 use Rattle.name_core.specs.Service.{Starts as NamesStart}
 use Rattle.name_core.specs.State.{RunningNames}
-use Rattle.world_run.specs.declared.event.WorldFault.{WorldFault}
+use Rattle.world_run.specs.declared.fault.WorldFault.{WorldFault}
 use Rattle.world_run.specs.Acknowledged.{LeavesBoth, RunBoth}
 use Rattle.world_run.specs.Keeps.{Begins, LeftByStarts}
 use Rattle.world_run.specs.Ledger.{Ledger, drawn_before}

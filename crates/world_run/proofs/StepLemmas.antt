@@ -8,16 +8,16 @@ use Rattle.hk_base.specs.Faults.{Rose}
 use Rattle.hk_base.specs.declared.names.KeyName.{KeyName}
 use Rattle.hk_base.specs.declared.texts.Text.{Text}
 use Rattle.hk_base.proofs.Runs.{begin, weaker}
-use Rattle.inode_tree.specs.declared.paths.NPath.{NPath}
-use Rattle.inode_tree.specs.declared.paths.PathFault.{PathFault}
-use Rattle.inode_tree.specs.declared.paths.PathFault.TheVariants.{BadPath, NoMemory}
-use Rattle.inode_tree.specs.Paths.{read_path}
+use Rattle.name_calls.specs.declared.paths.NPath.{NPath}
+use Rattle.name_calls.specs.declared.paths.PathFault.{PathFault}
+use Rattle.name_calls.specs.declared.paths.PathFault.TheVariants.{BadPath, NoMemory}
+use Rattle.name_calls.specs.Paths.{read_path}
 use Rattle.edit_ops.specs.declared.ops.EditOp.{EditOp}
-use Rattle.key_rows.specs.declared.calls.KmsCall.{KmsCall}
-use Rattle.key_rows.specs.declared.calls.KmsCall.TheVariants as call
-use Rattle.key_rows.specs.declared.calls.KmsRefusal.TheVariants as key_refusal
-use Rattle.key_rows.specs.declared.calls.KmsReply.{KmsReply}
-use Rattle.key_rows.specs.declared.calls.KmsReply.TheVariants as key_reply
+use Rattle.kms_calls.specs.declared.calls.KmsCall.{KmsCall}
+use Rattle.kms_calls.specs.declared.calls.KmsCall.TheVariants as call
+use Rattle.kms_calls.specs.declared.calls.KmsRefusal.TheVariants as key_refusal
+use Rattle.kms_calls.specs.declared.calls.KmsReply.{KmsReply}
+use Rattle.kms_calls.specs.declared.calls.KmsReply.TheVariants as key_reply
 use Rattle.prop_text.specs.declared.lines.PropLine.{PropLine}
 use Rattle.key_rows.specs.declared.rows.KeyCommand.{KeyCommand}
 use Rattle.kms_store.specs.Store.{IsLeftOf, NoCommand, StandsFor}
@@ -26,23 +26,23 @@ use Rattle.kms_core.specs.Service.{Logs}
 use Rattle.kms_core.specs.State.{service_of}
 use Rattle.kms_core.specs.Users.{ActsFor, RunningKms, running}
 use Rattle.name_store.specs.Store.{IsLeftOf as IsLeftOfNames, NothingMore, made_with}
-use Rattle.name_core.specs.declared.calls.Ask.{Ask}
-use Rattle.name_core.specs.declared.calls.Ask.TheVariants as ask
-use Rattle.name_core.specs.declared.calls.AskNote.{AskNote}
-use Rattle.name_core.specs.declared.calls.NameCall.{NameCall}
-use Rattle.name_core.specs.declared.calls.NameRefusal.{NameRefusal}
-use Rattle.name_core.specs.declared.calls.NameReply.{NameReply}
-use Rattle.name_core.specs.declared.calls.Want.{Want}
-use Rattle.name_core.specs.declared.calls.Want.TheVariants as want
+use Rattle.name_calls.specs.declared.calls.Ask.{Ask}
+use Rattle.name_calls.specs.declared.calls.Ask.TheVariants as ask
+use Rattle.name_calls.specs.declared.calls.AskNote.{AskNote}
+use Rattle.name_calls.specs.declared.calls.NameCall.{NameCall}
+use Rattle.name_calls.specs.declared.calls.NameRefusal.{NameRefusal}
+use Rattle.name_calls.specs.declared.calls.NameReply.{NameReply}
+use Rattle.name_calls.specs.declared.calls.Want.{Want}
+use Rattle.name_calls.specs.declared.calls.Want.TheVariants as want
 use Rattle.name_core.specs.Asks.{Asks}
 use Rattle.name_core.specs.Calls.{superuser}
 use Rattle.name_core.specs.Service.{Acts, FinishActs, Logs as NameLogs}
 use Rattle.name_core.specs.State.{NameState, RunningNames, StandsFor as NamesStandFor, names_of, service_of as names_service}
-use Rattle.world_run.specs.declared.event.Event.{Event}
-use Rattle.world_run.specs.declared.event.Event.TheVariants as event
-use Rattle.world_run.specs.declared.event.Line.{Line}
-use Rattle.world_run.specs.declared.event.Line.TheVariants as line
-use Rattle.world_run.specs.declared.event.WorldFault.{WorldFault}
+use Rattle.hk_events.specs.declared.event.Event.{Event}
+use Rattle.hk_events.specs.declared.event.Event.TheVariants as event
+use Rattle.hk_events.specs.declared.event.Line.{Line}
+use Rattle.hk_events.specs.declared.event.Line.TheVariants as line
+use Rattle.world_run.specs.declared.fault.WorldFault.{WorldFault}
 use Rattle.world_run.specs.declared.kept.KeptReply.{KeptReply}
 use Rattle.world_run.specs.Acknowledged.{Acknowledged, nothing_acknowledged, of_keys, of_names}
 use Rattle.world_run.specs.Does.{CallHappens, Does, DrawHappens, FinishHappens, Happens, PathHappens, WantHappens}

@@ -13,9 +13,9 @@ use Rattle.kms_store.specs.Store.{IsKeyLog, IsLeftByStart, next_opening}
 use Rattle.name_core.specs.State.{settled as settled_names}
 use Rattle.name_store.specs.Table.{NameTable, next_opening as next_opening_of_names}
 use Rattle.name_store.specs.Store.{IsNameLog, IsLeftByStart as IsLeftByNameStart}
-use Rattle.world_run.specs.declared.event.Event.{Event}
-use Rattle.world_run.specs.declared.event.Event.TheVariants as event
-use Rattle.world_run.specs.declared.event.Line.{Line}
+use Rattle.hk_events.specs.declared.event.Event.{Event}
+use Rattle.hk_events.specs.declared.event.Event.TheVariants as event
+use Rattle.hk_events.specs.declared.event.Line.{Line}
 use Rattle.world_run.specs.World.{RunningWorld, WorldState, first_world, world_of}
 use Rattle.world_run.specs.Acknowledged.{Acknowledged, HoldsLogs, LeavesBoth, RunBoth, also}
 use Rattle.world_run.specs.Own.{SurvivesAtRest, SurvivesEvent, SurvivesRestart}

@@ -4,23 +4,23 @@ use Rattle.hk_base.specs.declared.names.Dek.{Dek}
 use Rattle.hk_base.specs.declared.names.Iv.{Iv}
 use Rattle.hk_base.specs.declared.names.KeyName.{KeyName}
 use Rattle.hk_base.specs.declared.names.VersionName.{VersionName}
-use Rattle.key_rows.specs.declared.calls.KmsReply.{KmsReply}
-use Rattle.key_rows.specs.declared.calls.KmsReply.TheVariants.{Ready}
+use Rattle.kms_calls.specs.declared.calls.KmsReply.{KmsReply}
+use Rattle.kms_calls.specs.declared.calls.KmsReply.TheVariants.{Ready}
 use Rattle.kms_core.specs.Draws.{drawn_dek, drawn_iv}
 use Rattle.kms_core.specs.State.{KmsState}
 use Rattle.kms_core.specs.Calls.{birth_of, current_material, current_version, row_of}
-use Rattle.name_core.specs.declared.calls.AskNote.{AskNote}
+use Rattle.name_calls.specs.declared.calls.AskNote.{AskNote}
 use Rattle.edit_ops.specs.declared.ops.EditOp.{EditOp}
 use Rattle.edit_ops.specs.declared.ops.EditOp.TheVariants.{File}
 use Rattle.name_core.specs.State.{NameService}
-use Rattle.name_core.specs.declared.calls.NameReply.TheVariants.{Done}
-use Rattle.name_core.specs.declared.calls.NameRefusal.TheVariants.{StoreFault}
-use Rattle.name_core.specs.declared.calls.Want.{Want}
-use Rattle.name_core.specs.declared.calls.Want.TheVariants.{Generate}
-use Rattle.world_run.specs.declared.event.Event.{Event}
-use Rattle.world_run.specs.declared.event.Event.TheVariants as event
-use Rattle.world_run.specs.declared.event.Line.{Line}
-use Rattle.world_run.specs.declared.event.Line.TheVariants as line
+use Rattle.name_calls.specs.declared.calls.NameReply.TheVariants.{Done}
+use Rattle.name_calls.specs.declared.calls.NameRefusal.TheVariants.{StoreFault}
+use Rattle.name_calls.specs.declared.calls.Want.{Want}
+use Rattle.name_calls.specs.declared.calls.Want.TheVariants.{Generate}
+use Rattle.hk_events.specs.declared.event.Event.{Event}
+use Rattle.hk_events.specs.declared.event.Event.TheVariants as event
+use Rattle.hk_events.specs.declared.event.Line.{Line}
+use Rattle.hk_events.specs.declared.event.Line.TheVariants as line
 use Rattle.world_run.specs.declared.kept.KeptReply.{KeptReply}
 use Rattle.world_run.specs.World.{WorldState, numbered}
 

@@ -14,8 +14,8 @@ use Rattle.kms_store.specs.Store.{IsSoundLog, settled_table}
 use Rattle.name_store.specs.Table.{NameTable, Replayed, key_of_zone, settled_log}
 use Rattle.name_store.specs.Store.{IsSoundLog as IsSoundNames}
 use Rattle.name_core.specs.declared.asks.OpenAsk.{OpenAsk}
-use Rattle.name_core.specs.declared.calls.KeyAnswer.{KeyAnswer}
-use Rattle.name_core.specs.declared.calls.KeyAnswer.TheVariants.{Given, Refused}
+use Rattle.name_calls.specs.declared.calls.KeyAnswer.{KeyAnswer}
+use Rattle.name_calls.specs.declared.calls.KeyAnswer.TheVariants.{Given, Refused}
 use Rattle.name_core.specs.State.{IsNames, next_id, settled as settled_names}
 use Rattle.world_run.specs.declared.kept.KeptReply.{KeptReply}
 use Rattle.world_run.specs.World.{WorldState, numbered}

@@ -1,21 +1,21 @@
 -- What may stand in a log behind the acknowledged records, and what a crash leaves then: at rest, and while an event happens.
 use Rattle.std.specs.Prelude.{◌≡◌, ℕ, Bool, Option, None, Some, Result}
 use Rattle.hk_base.specs.Disk.{Image}
-use Rattle.inode_tree.specs.declared.paths.NPath.{NPath}
-use Rattle.inode_tree.specs.Paths.{read_path}
+use Rattle.name_calls.specs.declared.paths.NPath.{NPath}
+use Rattle.name_calls.specs.Paths.{read_path}
 use Rattle.edit_ops.specs.declared.ops.EditOp.{EditOp}
 use Rattle.key_rows.specs.declared.rows.KeyCommand.{KeyCommand}
 use Rattle.kms_store.specs.Store.{AKeyOpening, NoCommand}
 use Rattle.kms_core.specs.Service.{OwnOf as OwnOfKeys}
 use Rattle.name_store.specs.Store.{AnOpening, NothingMore}
-use Rattle.name_core.specs.declared.calls.NameCall.{NameCall}
-use Rattle.name_core.specs.declared.calls.NameCall.TheVariants as call
-use Rattle.name_core.specs.declared.calls.NameRefusal.{NameRefusal}
+use Rattle.name_calls.specs.declared.calls.NameCall.{NameCall}
+use Rattle.name_calls.specs.declared.calls.NameCall.TheVariants as call
+use Rattle.name_calls.specs.declared.calls.NameRefusal.{NameRefusal}
 use Rattle.name_core.specs.Service.{OwnOf, OwnOfFinish}
 use Rattle.name_core.specs.State.{NameService}
-use Rattle.world_run.specs.declared.event.Event.{Event}
-use Rattle.world_run.specs.declared.event.Event.TheVariants as event
-use Rattle.world_run.specs.declared.event.Line.{Line}
+use Rattle.hk_events.specs.declared.event.Event.{Event}
+use Rattle.hk_events.specs.declared.event.Event.TheVariants as event
+use Rattle.hk_events.specs.declared.event.Line.{Line}
 use Rattle.world_run.specs.declared.kept.KeptReply.{KeptReply}
 use Rattle.world_run.specs.Acknowledged.{Acknowledged, Survives}
 use Rattle.world_run.specs.Step.{delete_with, finish_line}

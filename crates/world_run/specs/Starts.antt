@@ -13,7 +13,7 @@ use Rattle.kms_acls.specs.StandsFor.{StandsFor as ListsFor}
 use Rattle.kms_store.specs.Store.{IsDamagedAt, IsKeyLog, IsLeftByStart}
 use Rattle.name_store.specs.Table.{Replayed}
 use Rattle.name_store.specs.Store.{IsDamagedAt as IsDamagedName, IsLeftByStart as IsLeftByNameStart, IsNameLog}
-use Rattle.world_run.specs.declared.event.WorldFault.{WorldFault}
+use Rattle.world_run.specs.declared.fault.WorldFault.{WorldFault}
 use Rattle.world_run.specs.Acknowledged.{LeavesBoth, RunBoth}
 use Rattle.world_run.specs.Ledger.{Ledger}
 use Rattle.world_run.specs.Linked.{SoundFiles, StartsSound}

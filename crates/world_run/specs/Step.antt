@@ -1,17 +1,17 @@
 -- What an event does to the world.
 use Rattle.std.specs.Prelude.{◌≡◌, ◌⊎◌, ℕ, ◌+◌, Bool, List, [], ◌∷◌, ◌++◌, Option, None, Some, Result, Ok, Err}
-use Rattle.inode_tree.specs.declared.paths.NPath.{NPath}
-use Rattle.inode_tree.specs.declared.paths.PathFault.{PathFault}
-use Rattle.inode_tree.specs.declared.paths.PathFault.TheVariants.{BadPath, NoMemory}
-use Rattle.inode_tree.specs.Paths.{read_path}
+use Rattle.name_calls.specs.declared.paths.NPath.{NPath}
+use Rattle.name_calls.specs.declared.paths.PathFault.{PathFault}
+use Rattle.name_calls.specs.declared.paths.PathFault.TheVariants.{BadPath, NoMemory}
+use Rattle.name_calls.specs.Paths.{read_path}
 use Rattle.edit_ops.specs.declared.ops.EditOp.{EditOp}
-use Rattle.key_rows.specs.declared.calls.KmsCall.{KmsCall}
+use Rattle.kms_calls.specs.declared.calls.KmsCall.{KmsCall}
 use Rattle.hk_base.specs.declared.names.KeyName.{KeyName}
 use Rattle.hk_base.specs.declared.texts.Text.{Text}
-use Rattle.key_rows.specs.declared.calls.KmsCall.TheVariants as key_call
-use Rattle.key_rows.specs.declared.calls.KmsReply.{KmsReply}
-use Rattle.key_rows.specs.declared.calls.KmsReply.TheVariants as key_reply
-use Rattle.key_rows.specs.declared.calls.KmsRefusal.TheVariants as key_refusal
+use Rattle.kms_calls.specs.declared.calls.KmsCall.TheVariants as key_call
+use Rattle.kms_calls.specs.declared.calls.KmsReply.{KmsReply}
+use Rattle.kms_calls.specs.declared.calls.KmsReply.TheVariants as key_reply
+use Rattle.kms_calls.specs.declared.calls.KmsRefusal.TheVariants as key_refusal
 use Rattle.key_rows.specs.declared.rows.KeyCommand.{KeyCommand}
 use Rattle.key_rows.specs.Table.{Table}
 use Rattle.prop_text.specs.declared.lines.PropLine.{PropLine}
@@ -19,25 +19,26 @@ use Rattle.kms_store.specs.Store.{next_opening, settled_commands}
 use Rattle.kms_core.specs.State.{ServiceState, opened, settled}
 use Rattle.kms_core.specs.Users.{ServesUser}
 use Rattle.name_store.specs.Table.{NameTable, next_opening as next_opening_of_names, settled_ops}
-use Rattle.name_core.specs.declared.calls.NameCall.{NameCall}
-use Rattle.name_core.specs.declared.calls.NameCall.TheVariants as call
-use Rattle.name_core.specs.declared.calls.NameReply.{NameReply}
-use Rattle.name_core.specs.declared.calls.NameReply.TheVariants as reply
-use Rattle.name_core.specs.declared.calls.NameRefusal.{NameRefusal}
-use Rattle.name_core.specs.declared.calls.NameRefusal.TheVariants as refusal
-use Rattle.name_core.specs.declared.calls.Ask.{Ask}
-use Rattle.name_core.specs.declared.calls.Ask.TheVariants as ask
-use Rattle.name_core.specs.declared.calls.AskNote.{AskNote}
-use Rattle.name_core.specs.declared.calls.Want.{Want}
-use Rattle.name_core.specs.declared.calls.Want.TheVariants as want
-use Rattle.name_core.specs.Asks.{Asks, answer_of}
+use Rattle.name_calls.specs.declared.calls.NameCall.{NameCall}
+use Rattle.name_calls.specs.declared.calls.NameCall.TheVariants as call
+use Rattle.name_calls.specs.declared.calls.NameReply.{NameReply}
+use Rattle.name_calls.specs.declared.calls.NameReply.TheVariants as reply
+use Rattle.name_calls.specs.declared.calls.NameRefusal.{NameRefusal}
+use Rattle.name_calls.specs.declared.calls.NameRefusal.TheVariants as refusal
+use Rattle.name_calls.specs.declared.calls.Ask.{Ask}
+use Rattle.name_calls.specs.declared.calls.Ask.TheVariants as ask
+use Rattle.name_calls.specs.declared.calls.AskNote.{AskNote}
+use Rattle.name_calls.specs.declared.calls.Want.{Want}
+use Rattle.name_calls.specs.declared.calls.Want.TheVariants as want
+use Rattle.name_calls.specs.Answers.{answer_of}
+use Rattle.name_core.specs.Asks.{Asks}
 use Rattle.name_core.specs.Calls.{superuser}
 use Rattle.name_core.specs.Service.{FinishServes, Serves}
 use Rattle.name_core.specs.State.{NameService, NameState, settled as settled_names, started}
-use Rattle.world_run.specs.declared.event.Event.{Event}
-use Rattle.world_run.specs.declared.event.Event.TheVariants as event
-use Rattle.world_run.specs.declared.event.Line.{Line}
-use Rattle.world_run.specs.declared.event.Line.TheVariants as line
+use Rattle.hk_events.specs.declared.event.Event.{Event}
+use Rattle.hk_events.specs.declared.event.Event.TheVariants as event
+use Rattle.hk_events.specs.declared.event.Line.{Line}
+use Rattle.hk_events.specs.declared.event.Line.TheVariants as line
 use Rattle.world_run.specs.declared.kept.KeptReply.{KeptReply}
 use Rattle.world_run.specs.Acknowledged.{Acknowledged, nothing_acknowledged, of_keys, of_names}
 use Rattle.world_run.specs.World.{WorldState, next_note, next_reply, numbered, with_names, with_note, with_reply}

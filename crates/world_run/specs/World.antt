@@ -5,7 +5,7 @@ use Rattle.kms_core.specs.State.{ServiceState, opened, service_of}
 use Rattle.kms_core.specs.Users.{RunningKms, running}
 use Rattle.name_store.specs.Table.{NameTable}
 use Rattle.name_core.specs.State.{NameService, NameState, RunningNames, started, service_of as names_service}
-use Rattle.name_core.specs.declared.calls.AskNote.{AskNote}
+use Rattle.name_calls.specs.declared.calls.AskNote.{AskNote}
 use Rattle.world_run.specs.declared.kept.KeptReply.{KeptReply}
 
 -- the notes of asks and the replies that are kept: nothing is ever taken away

@@ -4,8 +4,8 @@ use crate::desk::props;
 use crate::quiet_disk::QuietDisk;
 use disk_kinds::ListWords;
 use hk_base::{ByteList, Edek, KeyName, Text};
-use key_rows::{Description, KmsCall, KmsRefusal, KmsReply};
-use name_core::{AskNote, NameRefusal, NameReply, Want};
+use kms_calls::{Description, KmsCall, KmsRefusal, KmsReply};
+use name_calls::{AskNote, NameRefusal, NameReply, Want};
 use std::alloc::Global;
 use std::process::Abort;
 

@@ -2,7 +2,7 @@
 ghost use Rattle.std.specs.Prelude.{◌≡◌, option_map};
 ghost use Rattle.world_run.specs.World.{numbered};
 
-use name_core::{AskNote, KeyAnswer};
+use name_calls::{AskNote, KeyAnswer};
 
 /// The reply to the call that an ask wanted, as far as a finish needs it: the id of the ask, and
 /// what the reply says to it.

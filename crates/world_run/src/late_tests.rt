@@ -3,8 +3,8 @@ use crate::desk::{
     Desk, assert_asked, assert_done, assert_finished, assert_refused, assert_version, drawn,
 };
 use hk_base::Edek;
-use key_rows::{KmsCall, KmsReply, RawEdek};
-use name_core::{NameRefusal, NameReply};
+use kms_calls::{KmsCall, KmsReply, RawEdek};
+use name_calls::{NameRefusal, NameReply};
 use std::alloc::Global;
 use std::process::Abort;
 

@@ -2,12 +2,13 @@
 //! disk, and the events that happen to them.
 #![tactic(auto)]
 
-mod event;
+mod fault;
 mod kept;
 mod laws;
 mod world;
 
-pub use event::{Event, Line, WorldFault};
+pub use fault::WorldFault;
+pub use hk_events::{Event, Line};
 pub use kept::KeptReply;
 pub use laws::sound_files_may_be_started_from;
 pub use world::World;

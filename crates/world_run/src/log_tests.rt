@@ -6,8 +6,8 @@ use crate::desk::{
 };
 use crate::quiet_disk::QuietDisk;
 use frame_log::StartFault;
-use key_rows::{KmsRefusal, KmsReply};
-use name_core::{NameRefusal, NameReply};
+use kms_calls::{KmsRefusal, KmsReply};
+use name_calls::{NameRefusal, NameReply};
 use std::alloc::Global;
 use std::process::Abort;
 

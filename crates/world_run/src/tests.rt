@@ -1,7 +1,7 @@
 //! Calls on both services in one world, and paths as they are given.
 use crate::desk::{Desk, assert_directory, assert_done, assert_known, assert_version};
 use hk_base::ByteList;
-use name_core::{NameRefusal, NameReply};
+use name_calls::{NameRefusal, NameReply};
 use std::alloc::Global;
 use std::process::Abort;
 

@@ -3,8 +3,8 @@ use crate::desk::{
     Desk, assert_asked, assert_done, assert_fault, assert_finished, assert_known, assert_refused,
     assert_version, drawn,
 };
-use key_rows::{AclOp, AclTable, KmsRefusal, KmsReply};
-use name_core::NameRefusal;
+use kms_calls::{AclOp, AclTable, KmsRefusal, KmsReply};
+use name_calls::NameRefusal;
 use std::process::Abort;
 
 /// The calls of the disk up to the last one of a roll behind a start and a create: its gate is

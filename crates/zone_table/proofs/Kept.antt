@@ -7,7 +7,7 @@ use Rattle.std.proofs.lemmas.List.Elements.{All-head, All-tail}
 use Rattle.hk_base.specs.declared.names.KeyName.{KeyName}
 use Rattle.inode_tree.specs.declared.rows.Row.{Row}
 use Rattle.inode_tree.specs.Arena.{rank, rank_past}
-use Rattle.inode_tree.specs.Paths.{is_before, is_prefix}
+use Rattle.name_calls.specs.Paths.{is_before, is_prefix}
 use Rattle.inode_tree.specs.Rows.{AllAfter, Entry, IsRising, IsRows, entry_of, mark_of, removed}
 use Rattle.inode_tree.proofs.Blocks.{prefix-not-before}
 use Rattle.inode_tree.proofs.Pasts.{removed-none}

@@ -11,7 +11,7 @@ use Rattle.hk_base.specs.declared.names.KeyName.{KeyName}
 use Rattle.inode_tree.specs.Arena.{rank}
 use Rattle.inode_tree.specs.Rows.{AllAfter, Entry, IsRising, IsRows, entry_of, mark_of}
 use Rattle.inode_tree.proofs.Seeks.{not-before-itself}
-use Rattle.zone_table.specs.declared.list.ZonePath.{ZonePath}
+use Rattle.name_calls.specs.declared.zone_list.ZonePath.{ZonePath}
 use Rattle.zone_table.specs.declared.zones.ZoneRow.{ZoneRow}
 use Rattle.zone_table.specs.Listings.{listed_at, place_of}
 use Rattle.zone_table.specs.Zones.{by_directory, put_zone, listed, with_mark, zone_paths, zones_of}

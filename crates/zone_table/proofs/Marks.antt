@@ -8,9 +8,9 @@ use Rattle.std.proofs.lemmas.List.Elements.{All-head, All-tail}
 use Rattle.hk_base.specs.declared.names.KeyName.{KeyName}
 use Rattle.inode_tree.specs.declared.rows.Kind.{Kind}
 use Rattle.inode_tree.specs.declared.rows.Kind.TheVariants.{Dir}
-use Rattle.inode_tree.specs.Paths.{is_before}
+use Rattle.name_calls.specs.Paths.{is_before}
 use Rattle.inode_tree.specs.Rows.{AllAfter, Entry, IsRising, IsRows, entry_of, is_dir, mark_of, put, set_kind}
-use Rattle.inode_tree.proofs.PathLemmas.{and-parts}
+use Rattle.name_calls.proofs.PathLemmas.{and-parts}
 use Rattle.inode_tree.proofs.Seeks.{not-before-itself}
 use Rattle.zone_table.specs.declared.zones.ZoneRow.{ZoneRow}
 use Rattle.zone_table.specs.Laws.{MarkedIsAZone, RootHasNoZones, UnmarkedChangesNothing}

@@ -3,7 +3,7 @@ use Rattle.std.specs.Prelude.{ℕ, List, [], slice_get, Option, Some, None}
 use Rattle.std.specs.Option.{option_map_or}
 use Rattle.inode_tree.specs.Arena.{rank}
 use Rattle.inode_tree.specs.Rows.{Entry, entry_of, mark_of}
-use Rattle.zone_table.specs.declared.list.ZonePath.{ZonePath}
+use Rattle.name_calls.specs.declared.zone_list.ZonePath.{ZonePath}
 use Rattle.zone_table.specs.Zones.{listed}
 
 -- how many rows come before that of an id

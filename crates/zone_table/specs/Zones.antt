@@ -3,7 +3,7 @@ use Rattle.std.specs.Prelude.{ℕ, nat_lt, ◌==◌, List, [], ◌∷◌, Option
 use Rattle.hk_base.specs.declared.names.KeyName.{KeyName}
 use Rattle.inode_tree.specs.Rows.{Entry, mark_of}
 use Rattle.zone_table.specs.declared.zones.ZoneRow.{ZoneRow}
-use Rattle.zone_table.specs.declared.list.ZonePath.{ZonePath}
+use Rattle.name_calls.specs.declared.zone_list.ZonePath.{ZonePath}
 
 -- the rows of the zones, and for how many more there is room
 pub record ZoneState : Type 0 where

@@ -6,7 +6,7 @@ mod list;
 mod zones;
 
 pub use laws::zones_are_the_marks;
-pub use list::{ZoneList, ZonePath};
+pub use name_calls::{ZoneList, ZonePath};
 pub use zones::{ZoneRow, Zones};
 
 #[cfg(test)]

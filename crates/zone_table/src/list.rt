@@ -1,64 +1,15 @@
 //! The zones as they are listed.
-ghost use Rattle.std.specs.Prelude.{◌≡◌, ◌<◌, ◌++◌, ◌∷◌, [], length, map, IfOk, IsSome, OnOk, OnErr};
+ghost use Rattle.std.specs.Prelude.{◌≡◌, ◌<◌, ◌++◌, ◌∷◌, length, map, IfOk, IsSome, OnOk};
 ghost use Rattle.std.specs.HashMap.{keys};
 ghost use Rattle.std.specs.List.{All, flat_map};
 ghost use Rattle.inode_tree.specs.Rows.{entry_of, mark_of};
 ghost use Rattle.zone_table.specs.Listings.{listed_at, place_of};
 
 use hk_base::{KeyName, NoMemory};
-use inode_tree::{Kind, NPath, Row, Tree};
+use inode_tree::{Kind, Row, Tree};
+use name_calls::{ZoneList, ZonePath};
 use std::alloc::Global;
 use std::collections::HashMap;
-use std::marker::Model;
-
-/// An encryption zone as it is listed: the path of its directory, and the key of its files.
-#[derive(Drop)]
-pub struct ZonePath {
-    pub path: NPath,
-    pub key: KeyName,
-}
-
-/// Zones as they are listed. Contracts see them in one list.
-#[derive(Drop)]
-pub struct ZoneList {
-    zones: Vec<ZonePath>,
-}
-
-impl Model for ZoneList {
-    ghost use Rattle.std.specs.Prelude.{List};
-    ghost use Rattle.zone_table.specs.declared.list.ZonePath.{ZonePath};
-
-    ghost Value = { List ZonePath };
-
-    ghost view = { λ list. list.zones.items };
-}
-
-impl ZoneList {
-    /// No zones. It takes no memory.
-    pub fn new(alloc: Global) -> ZoneList
-        ensures { result ≡ [] }
-    {
-        ZoneList {
-            zones: Vec::new(alloc),
-        }
-    }
-
-    /// The zones, in the order of the list.
-    pub fn as_slice(&self) -> &[ZonePath]
-        ensures { result.now ≡ self.now }
-    {
-        self.zones.as_slice()
-    }
-
-    /// Adds a zone at the end. Where memory is wanting the list stays as it was.
-    pub fn push(&mut self, zone: ZonePath) -> Result<(), NoMemory>
-        ensures ok { OnOk result (self.new ≡ self.old ++ zone ∷ []) }
-        ensures err { OnErr result (self.new ≡ self.old) }
-    {
-        self.zones.push(zone)?;
-        Ok(())
-    }
-}
 
 /// The place in path order of the directory that has an id.
 fn place_of(tree: &Tree, dir: u64) -> Result<u32, NoMemory>

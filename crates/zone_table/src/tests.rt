@@ -6,7 +6,8 @@ ghost use Rattle.zone_table.specs.Zones.{zones_of};
 
 use super::*;
 use hk_base::{ByteList, KeyName, NoMemory};
-use inode_tree::{Kind, NPath, Tree};
+use inode_tree::{Kind, Tree};
+use name_calls::NPath;
 use std::alloc::{AllocError, Global};
 use std::marker::Model;
 use std::test::Fail;

@@ -4,9 +4,10 @@ ghost use Rattle.std.specs.Option.{option_map};
 ghost use Rattle.inode_tree.specs.Rows.{removed, zone_id};
 ghost use Rattle.zone_table.specs.Zones.{need_add, put_zone, without_zone, zone_paths, zone_row, zones_of};
 
-use crate::list::{ZoneList, list_places, places_of};
+use crate::list::{list_places, places_of};
 use hk_base::{KeyName, NoMemory};
-use inode_tree::{NPath, Tree};
+use inode_tree::Tree;
+use name_calls::{NPath, ZoneList};
 use std::alloc::Global;
 use std::collections::HashMap;
 use std::marker::Model;

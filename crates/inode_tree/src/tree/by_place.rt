@@ -3,11 +3,11 @@ ghost use Rattle.std.specs.Prelude.{◌≡◌, ◌<◌, ◌≤◌, ◌-◌, Some
 ghost use Rattle.std.specs.Option.{option_map};
 ghost use Rattle.inode_tree.specs.Arena.{IsLinked, path_of, rank};
 ghost use Rattle.inode_tree.specs.Below.{at_or_above, at_or_below};
-ghost use Rattle.inode_tree.specs.Paths.{is_prefix, is_relative};
+ghost use Rattle.name_calls.specs.Paths.{is_prefix, is_relative};
 
 use super::{Tree, copy_of};
 use crate::climbs::{above, below, depth, place};
-use crate::paths::NPath;
+use name_calls::NPath;
 use crate::rows::{Node, Row};
 use hk_base::NoMemory;
 use std::alloc::Global;

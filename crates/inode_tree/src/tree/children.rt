@@ -6,9 +6,9 @@ ghost use Rattle.inode_tree.specs.Rows.{is_dir};
 
 use super::{Tree, build, copy_of};
 use crate::climbs::{depth, past, place};
-use crate::listing::{Child, ChildList};
+use name_calls::{Child, ChildList};
 use crate::order::Order;
-use crate::paths::NPath;
+use name_calls::NPath;
 use crate::rows::Node;
 use hk_base::NoMemory;
 use std::alloc::Global;

@@ -9,7 +9,7 @@ ghost use Rattle.inode_tree.specs.Rows.{removed};
 use super::{Tree, blank_node};
 use crate::climbs::{past, place};
 use crate::order::Order;
-use crate::paths::NPath;
+use name_calls::NPath;
 use crate::rows::Node;
 use std::alloc::Global;
 use std::collections::HashMap;

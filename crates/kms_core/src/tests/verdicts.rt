@@ -1,7 +1,7 @@
 //! Calls of users under access control lists.
 
 use super::*;
-use key_rows::{AclOp, AclTable};
+use kms_calls::{AclOp, AclTable};
 
 fn assert_denied(rt: &impl Abort, reply: KmsReply, table: AclTable, op: AclOp) {
     assert_refused(rt, reply, KmsRefusal::Denied { table, op });

@@ -1,6 +1,6 @@
 //! What finishes make, and what becomes of their asks.
 use super::*;
-use key_rows::KmsRefusal;
+use kms_calls::KmsRefusal;
 
 fn assert_made(rt: &impl Abort, told: Result<(), NameRefusal>) {
     assert!(rt; told.is_ok());

@@ -1,5 +1,5 @@
 use Rattle.std.proofs.Common.{◌≡◌, length, take}
-use Rattle.inode_tree.specs.Paths.{names_text}
+use Rattle.name_calls.specs.Paths.{names_text}
 use Rattle.edit_ops.proofs.writing.text_len.Given as goal
 
 abbrev pub invariant-loop-k : goal.invariant-loop-k

@@ -2,7 +2,7 @@ use Rattle.std.proofs.Common.{arith, ◌≡◌, length, take, ℕ, Bool, ◌&&�
 use Rattle.std.specs.Prelude.{nat_le}
 use Rattle.std.specs.Ordering.{is_eq}
 use Rattle.inode_tree.specs.Arena.{path_of, cmp_front}
-use Rattle.inode_tree.specs.Paths.{is_prefix}
+use Rattle.name_calls.specs.Paths.{is_prefix}
 use Rattle.inode_tree.proofs.Prefixes.{prefix-front}
 use Rattle.inode_tree.proofs.climbs.below.Goals as goal
 

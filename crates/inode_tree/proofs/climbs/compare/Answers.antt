@@ -1,6 +1,6 @@
 use Rattle.std.proofs.Common.{length-take-le, ◌≡◌, length, take, ℕ, List, sym, ap, ◌∙◌, Ordering, Less, Equal, Greater}
 use Rattle.inode_tree.specs.Arena.{path_of, cmp_front}
-use Rattle.inode_tree.specs.Paths.{path_cmp}
+use Rattle.name_calls.specs.Paths.{path_cmp}
 use Rattle.inode_tree.proofs.Orders.{path-cmp-is}
 use Rattle.std.specs.Ordering.{ordering_then, nat_cmp}
 use Rattle.inode_tree.proofs.climbs.compare.Goals as goal

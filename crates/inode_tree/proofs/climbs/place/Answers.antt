@@ -1,6 +1,6 @@
 use Rattle.std.proofs.Common.{arith, ◌≡◌, ◌<◌, length, take, ℕ, ◌+◌, ◌-◌, ◌/◌, false, List, refl, sym, ap, ◌∙◌, subst, Ordering, Equal, Greater}
 use Rattle.inode_tree.specs.Arena.{path_of, rows_of}
-use Rattle.inode_tree.specs.Paths.{path_cmp}
+use Rattle.name_calls.specs.Paths.{path_cmp}
 use Rattle.inode_tree.proofs.Ranks.{goes-on, stops, rank-most, length-rows, within-at}
 use Rattle.std.specs.Ordering.{is_lt}
 use Rattle.inode_tree.specs.declared.rows.Node.{Node}

@@ -1,6 +1,6 @@
 use Rattle.std.proofs.Common.{◌∙◌, ap, sym, arith}
-use Rattle.inode_tree.specs.Paths.{is_relative}
-use Rattle.inode_tree.proofs.PathLemmas.{relative-front}
+use Rattle.name_calls.specs.Paths.{is_relative}
+use Rattle.name_calls.proofs.PathLemmas.{relative-front}
 use Rattle.inode_tree.specs.Arena.{path_of}
 use Rattle.inode_tree.proofs.Ups.{path-root, step-from, below-from, full-from}
 use Rattle.inode_tree.proofs.tree.+build.Goals as goal

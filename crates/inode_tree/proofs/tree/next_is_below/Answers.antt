@@ -1,7 +1,7 @@
 use Rattle.std.proofs.Common.{◌≡◌, ◌∙◌, ◌+◌, ◌<◌, ◌≤◌, ℕ, List, Option, Some, None, ap, sym, subst, arith, take, take_all, length, refl, false, get_or}
 use Rattle.std.specs.Option.{IsSome}
 use Rattle.inode_tree.specs.Arena.{IsTree, number_of, path_of, rank, rows_of}
-use Rattle.inode_tree.specs.Paths.{is_prefix}
+use Rattle.name_calls.specs.Paths.{is_prefix}
 use Rattle.inode_tree.specs.Rows.{has_children}
 use Rattle.inode_tree.specs.declared.rows.Node.{Node}
 use Rattle.inode_tree.proofs.Children.{children-last, children-next, place-below}

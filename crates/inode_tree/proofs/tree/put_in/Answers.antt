@@ -4,7 +4,7 @@ use Rattle.std.specs.Bool.{nat_eq}
 use Rattle.std.specs.List.{insert}
 use Rattle.inode_tree.specs.Arena.{IsFree, IsTree, rows_of, rank, number_of}
 use Rattle.inode_tree.specs.Rows.{is_dir_at, put, row_at}
-use Rattle.inode_tree.specs.Paths.{is_relative, parent, last_name}
+use Rattle.name_calls.specs.Paths.{is_relative, parent, last_name}
 use Rattle.inode_tree.proofs.Asked.{absent-number, deep-number, directory-found, directory-number, parent-take}
 use Rattle.inode_tree.proofs.Ranks.{rank-most, length-rows}
 use Rattle.inode_tree.proofs.Grown.{HasGrown, free-grown, grown, rows-grown}

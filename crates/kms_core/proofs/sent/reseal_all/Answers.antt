@@ -1,6 +1,6 @@
 use Rattle.std.proofs.Common.{◌≡◌, Some, None, sym, ◌∙◌, ap, subst, map}
 use Rattle.std.proofs.lemmas.List.{take_all}
-use Rattle.key_rows.specs.declared.calls.RawEdek.{RawEdek}
+use Rattle.kms_calls.specs.declared.calls.RawEdek.{RawEdek}
 use Rattle.kms_core.specs.Steps.{Allowed, resealed_in}
 use Rattle.kms_core.proofs.SentLemmas.{each_allowed, one_more_sealed}
 use Rattle.kms_core.proofs.sent.reseal_all.Goals as goal

@@ -1,6 +1,6 @@
 use Rattle.std.proofs.Common.{◌≡◌, rules, sym, subst}
 use Rattle.std.specs.Str.{IsAscii}
-use Rattle.key_rows.specs.Refusals.{refusal_text}
+use Rattle.kms_calls.specs.Refusals.{refusal_text}
 use Rattle.kms_json.proofs.AsciiLemmas.{ascii_refusal}
 use Rattle.kms_json.proofs.pieces.write_message.Goals as goal
 

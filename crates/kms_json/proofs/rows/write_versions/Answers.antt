@@ -1,5 +1,5 @@
 use Rattle.std.proofs.Common.{subst}
-use Rattle.key_rows.specs.Shown.{Shown}
+use Rattle.kms_calls.specs.Shown.{Shown}
 use Rattle.kms_json.specs.Replies.{row_data}
 use Rattle.kms_json.specs.Writing.{AddsValue}
 use Rattle.kms_json.proofs.Adding.{adds_none, all_rows, one_more_row}

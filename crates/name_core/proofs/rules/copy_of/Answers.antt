@@ -1,6 +1,6 @@
 use Rattle.std.proofs.Common.{◌≡◌, ◌+◌, ◌<◌, ℕ, ◌∙◌, List, true, length, get_or, [], arith, sym, subst}
 use Rattle.std.proofs.lemmas.List.{take_all}
-use Rattle.inode_tree.specs.Paths.{is_relative}
+use Rattle.name_calls.specs.Paths.{is_relative}
 use Rattle.name_core.proofs.PathCopies.{copied-more, relative-take}
 use Rattle.name_core.proofs.rules.copy_of.Goals as goal
 

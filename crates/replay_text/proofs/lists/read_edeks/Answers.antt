@@ -1,6 +1,6 @@
 use Rattle.std.proofs.Common.{List, sym, subst}
 use Rattle.std.specs.List.{slice_split}
-use Rattle.key_rows.specs.declared.calls.RawEdek.{RawEdek}
+use Rattle.kms_calls.specs.declared.calls.RawEdek.{RawEdek}
 use Rattle.replay_text.specs.Events.{AreTriples, is_comma}
 use Rattle.replay_text.proofs.ListLemmas.{SentSoFar, bad_triple, sent_all, sent_more}
 use Rattle.replay_text.proofs.lists.read_edeks.Goals as goal

@@ -1,5 +1,5 @@
 use Rattle.std.proofs.Common.{◌≡◌, ◌≤◌, take}
-use Rattle.inode_tree.specs.Paths.{path_cmp}
+use Rattle.name_calls.specs.Paths.{path_cmp}
 use Rattle.snap_store.proofs.Compares.{from}
 use Rattle.snap_store.proofs.rows.compare.Given as goal
 

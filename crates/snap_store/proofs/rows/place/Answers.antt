@@ -2,7 +2,7 @@ use Rattle.std.proofs.Common.{rules, subst, List, sym, take}
 use Rattle.std.specs.Ordering.{is_lt}
 use Rattle.std.proofs.lemmas.List.Sorted.{IsPartitionPoint-from_clause}
 use Rattle.std.specs.List.Sorted.{IsPartitionedBy}
-use Rattle.inode_tree.specs.Paths.{path_cmp}
+use Rattle.name_calls.specs.Paths.{path_cmp}
 use Rattle.inode_tree.specs.Rows.{Entry}
 use Rattle.snap_store.proofs.OrderLemmas.{rising-parted}
 use Rattle.snap_store.proofs.Positions.{PlacedAt, entry_cmp, entry-total, key_at, rising-by}

@@ -2,7 +2,7 @@ use Rattle.std.proofs.Common.{◌≡◌, ◌∙◌, ◌≤◌, ℕ, false, Optio
 use Rattle.std.specs.Option.{option_map_or}
 use Rattle.inode_tree.specs.declared.rows.Row.{Row}
 use Rattle.inode_tree.specs.Rows.{is_marked}
-use Rattle.inode_tree.proofs.PathLemmas.{relative-short}
+use Rattle.name_calls.proofs.PathLemmas.{relative-short}
 use Rattle.snap_store.specs.Snapshots.{zone_depth}
 use Rattle.snap_store.proofs.Zones.{front-marked, front-none, front-shorter}
 use Rattle.snap_store.proofs.rows.zone.Goals as goal

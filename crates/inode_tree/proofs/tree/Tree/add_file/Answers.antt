@@ -2,7 +2,7 @@ use Rattle.std.proofs.Common.{◌≤◌, ap, arith, length, string_capacity, sub
 use Rattle.std.specs.HashMap.{get, spare}
 use Rattle.std.specs.Bool.{nat_eq}
 use Rattle.inode_tree.specs.Rows.{TreeState, entry_of, is_dir_at, need, row_at}
-use Rattle.inode_tree.specs.Paths.{parent}
+use Rattle.name_calls.specs.Paths.{parent}
 use Rattle.inode_tree.proofs.Asked.{fresh-number}
 use Rattle.inode_tree.proofs.Ranks.{length-rows}
 use Rattle.inode_tree.proofs.Rooms.{room-parts}

@@ -2,7 +2,7 @@ use Rattle.std.proofs.Common.{◌∙◌, List, Some, None, ap, sym}
 use Rattle.std.specs.HashMap.{get}
 use Rattle.std.specs.Bool.{nat_eq}
 use Rattle.inode_tree.specs.Below.{at_or_below}
-use Rattle.inode_tree.specs.Paths.{is_prefix}
+use Rattle.name_calls.specs.Paths.{is_prefix}
 use Rattle.inode_tree.specs.Rows.{Entry}
 use Rattle.inode_tree.proofs.Places.{of-id}
 use Rattle.inode_tree.proofs.Trees.{id-below}

@@ -1,6 +1,6 @@
 use Rattle.std.proofs.Common.{◌∙◌, ◌-◌, ℕ, List, ap, sym, take}
 use Rattle.inode_tree.specs.Arena.{rows_of}
-use Rattle.inode_tree.specs.Paths.{parent}
+use Rattle.name_calls.specs.Paths.{parent}
 use Rattle.inode_tree.specs.Rows.{Entry, row_at}
 use Rattle.inode_tree.proofs.Asked.{parent-take}
 use Rattle.inode_tree.specs.Rows.{TreeState}

@@ -4,7 +4,7 @@ use Rattle.std.specs.HashMap.{get}
 use Rattle.std.specs.Bool.{nat_eq}
 use Rattle.std.specs.Option.{option_map, IsSome}
 use Rattle.inode_tree.specs.Arena.{IsTree, path_of, entry_at, rows_of}
-use Rattle.inode_tree.specs.Paths.{is_relative}
+use Rattle.name_calls.specs.Paths.{is_relative}
 use Rattle.inode_tree.specs.Rows.{Entry, entry_of}
 use Rattle.inode_tree.specs.declared.rows.Node.{Node}
 use Rattle.inode_tree.proofs.Trees.{entry-number, id-below}

@@ -1,9 +1,9 @@
 use Rattle.std.proofs.Common.{get_or, ◌≡◌, ◌∙◌, ◌<◌, ◌≤◌, ◌-◌, ◌++◌, ◌∷◌, [], ℕ, List, ap, sym, arith, length, drop}
 use Rattle.inode_tree.specs.Arena.{path_of}
-use Rattle.inode_tree.specs.Paths.{is_relative}
+use Rattle.name_calls.specs.Paths.{is_relative}
 use Rattle.inode_tree.specs.declared.rows.Node.{Node}
 use Rattle.inode_tree.specs.Arena.{IsLinked}
-use Rattle.inode_tree.proofs.PathLemmas.{relative-front}
+use Rattle.name_calls.proofs.PathLemmas.{relative-front}
 use Rattle.inode_tree.proofs.Places.{last-names, relative-drop}
 use Rattle.inode_tree.proofs.Ups.{below-from, full-from, length-root, step-from}
 use Rattle.inode_tree.proofs.tree.by_place.+build_last.Goals as goal

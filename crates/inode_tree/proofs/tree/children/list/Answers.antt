@@ -1,7 +1,7 @@
 use Rattle.std.proofs.Common.{arith, ◌≡◌, ◌∙◌, ◌<◌, ◌+◌, ◌++◌, ◌∷◌, [], ℕ, List, length, get_or, sym, ap, subst, take_all, drop, append_assoc}
 use Rattle.std.proofs.lemmas.List.{append-nil}
 use Rattle.inode_tree.specs.declared.rows.Node.{Node}
-use Rattle.inode_tree.specs.declared.listing.Child.{Child}
+use Rattle.name_calls.specs.declared.listing.Child.{Child}
 use Rattle.inode_tree.specs.Arena.{IsSkip, node_at, path_of, rank, rank_past, rows_of}
 use Rattle.inode_tree.specs.Listing.{children}
 use Rattle.inode_tree.specs.Rows.{is_dir}

@@ -1,5 +1,5 @@
 use Rattle.std.proofs.Common.{List, sym, subst}
-use Rattle.key_rows.specs.declared.calls.RawEdek.{RawEdek}
+use Rattle.kms_calls.specs.declared.calls.RawEdek.{RawEdek}
 use Rattle.kms_core.specs.Steps.{RefusesBatch, ResealsAll}
 use Rattle.kms_core.specs.State.{keys_of}
 use Rattle.kms_core.proofs.AnswerLemmas.{reencrypts_all, reencrypts_none}

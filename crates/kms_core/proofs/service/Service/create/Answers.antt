@@ -1,5 +1,5 @@
 use Rattle.std.proofs.Common.{refl}
-use Rattle.key_rows.specs.declared.calls.KmsCall.TheVariants.{Create}
+use Rattle.kms_calls.specs.declared.calls.KmsCall.TheVariants.{Create}
 use Rattle.kms_core.proofs.ServiceLemmas.{acts_settled, acts_unsettled}
 use Rattle.kms_core.proofs.service.Service.create.Goals as goal
 

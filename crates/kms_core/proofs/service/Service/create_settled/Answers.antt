@@ -1,5 +1,5 @@
 use Rattle.std.proofs.Common.{refl, sym, ◌∙◌}
-use Rattle.key_rows.specs.declared.calls.KmsCall.TheVariants.{Create}
+use Rattle.kms_calls.specs.declared.calls.KmsCall.TheVariants.{Create}
 use Rattle.kms_core.specs.State.{keys_of}
 use Rattle.kms_core.specs.Calls.{deed}
 use Rattle.kms_core.proofs.StepLemmas.{refuses}

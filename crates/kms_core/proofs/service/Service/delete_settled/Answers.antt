@@ -1,6 +1,6 @@
 use Rattle.std.proofs.Common.{◌≡◌, true, cond, Some, None, refl, ap, rules}
-use Rattle.key_rows.specs.declared.calls.KmsCall.TheVariants.{Delete}
-use Rattle.key_rows.specs.declared.calls.KmsRefusal.TheVariants.{NoSuchKey}
+use Rattle.kms_calls.specs.declared.calls.KmsCall.TheVariants.{Delete}
+use Rattle.kms_calls.specs.declared.calls.KmsRefusal.TheVariants.{NoSuchKey}
 use Rattle.kms_core.specs.State.{keys_of}
 use Rattle.std.specs.Option.{is_none}
 use Rattle.kms_core.specs.Calls.{row_of}

@@ -1,6 +1,6 @@
 use Rattle.std.proofs.Common.{◌≡◌, sym, ◌∙◌, ap, rules}
 use Rattle.std.proofs.lemmas.List.{take_all}
-use Rattle.key_rows.specs.declared.calls.KmsRefusal.TheVariants.{NoMemory}
+use Rattle.kms_calls.specs.declared.calls.KmsRefusal.TheVariants.{NoMemory}
 use Rattle.kms_core.specs.Calls.{metas_of}
 use Rattle.kms_core.specs.State.{keys_of}
 use Rattle.kms_core.proofs.AnswerLemmas.{one_more_known, only_wanting}

@@ -1,6 +1,6 @@
 use Rattle.std.proofs.Common.{◌≡◌, Some, refl, sym, arith, rules}
-use Rattle.key_rows.specs.declared.calls.KmsCall.TheVariants.{Roll}
-use Rattle.key_rows.specs.declared.calls.KmsRefusal.TheVariants.{NoSuchKey, BadMaterial, TooManyVersions}
+use Rattle.kms_calls.specs.declared.calls.KmsCall.TheVariants.{Roll}
+use Rattle.kms_calls.specs.declared.calls.KmsRefusal.TheVariants.{NoSuchKey, BadMaterial, TooManyVersions}
 use Rattle.kms_core.specs.Calls.{first_cause, roll_causes, row_of}
 use Rattle.kms_core.proofs.StepLemmas.{refuses}
 use Rattle.kms_core.specs.State.{keys_of}

@@ -1,6 +1,6 @@
 use Rattle.std.proofs.Common.{◌≡◌, ◌∙◌, None, refl, sym, subst}
-use Rattle.name_core.specs.declared.calls.NameCall.{NameCall}
-use Rattle.name_core.specs.declared.calls.NameCall.TheVariants.{Mkdir, Delete, Info, List, Zones}
+use Rattle.name_calls.specs.declared.calls.NameCall.{NameCall}
+use Rattle.name_calls.specs.declared.calls.NameCall.TheVariants.{Mkdir, Delete, Info, List, Zones}
 use Rattle.name_core.specs.Calls.{early_causes, first_cause}
 use Rattle.name_core.proofs.AllowedLemmas.{not-reserved}
 use Rattle.name_core.proofs.CallLemmas.{acts-changing, acts-early, acts-reading}

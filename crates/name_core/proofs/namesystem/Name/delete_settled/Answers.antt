@@ -1,6 +1,6 @@
 use Rattle.std.proofs.Common.{◌+◌, ◌∙◌, refl, sym}
 use Rattle.edit_ops.specs.declared.ops.EditOp.TheVariants as op
-use Rattle.name_core.specs.declared.calls.NameCall.TheVariants.{Delete}
+use Rattle.name_calls.specs.declared.calls.NameCall.TheVariants.{Delete}
 use Rattle.name_core.specs.State.{names_of}
 use Rattle.name_core.proofs.AllowedLemmas.{may-remove}
 use Rattle.name_core.proofs.CallLemmas.{same-counter, settled-refused, settled-written}

@@ -1,7 +1,7 @@
 use Rattle.std.proofs.Common.{ap}
 use Rattle.name_core.specs.State.{NameService}
 use Rattle.name_core.proofs.LoggingLemmas.{stands-on}
-use Rattle.name_core.specs.declared.calls.NameCall.TheVariants.{Mkdir}
+use Rattle.name_calls.specs.declared.calls.NameCall.TheVariants.{Mkdir}
 use Rattle.name_core.proofs.CallLemmas.{acts-settled, acts-unsettled}
 use Rattle.name_core.proofs.namesystem.Name.mkdir.Goals as goal
 

@@ -1,6 +1,6 @@
 use Rattle.std.proofs.Common.{◌≡◌, ◌+◌, ℕ, ◌∙◌, refl, sym, subst, ap}
 use Rattle.edit_ops.specs.declared.ops.EditOp.TheVariants as op
-use Rattle.name_core.specs.declared.calls.NameCall.TheVariants.{Mkdir}
+use Rattle.name_calls.specs.declared.calls.NameCall.TheVariants.{Mkdir}
 use Rattle.name_core.specs.State.{NameState, names_of}
 use Rattle.name_core.specs.Calls.{deed}
 use Rattle.name_core.specs.Steps.{MayWrite}

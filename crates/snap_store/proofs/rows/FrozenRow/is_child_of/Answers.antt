@@ -1,5 +1,5 @@
 use Rattle.std.proofs.Common.{◌∙◌, ℕ, sym, ap, arith, take, Less, Equal, Greater}
-use Rattle.inode_tree.specs.Paths.{is_child, path_cmp}
+use Rattle.name_calls.specs.Paths.{is_child, path_cmp}
 use Rattle.inode_tree.specs.Rows.{Entry}
 use Rattle.snap_store.proofs.Kids.{child-by, child-not}
 use Rattle.snap_store.proofs.rows.FrozenRow.is_child_of.Goals as goal

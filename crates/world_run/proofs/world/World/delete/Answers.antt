@@ -1,5 +1,5 @@
 use Rattle.std.proofs.Common.{◌∙◌, Err, ap, refl, sym}
-use Rattle.inode_tree.specs.Paths.{read_path}
+use Rattle.name_calls.specs.Paths.{read_path}
 use Rattle.world_run.specs.Step.{delete_with}
 use Rattle.world_run.proofs.StepLemmas.{path-called, path-unread}
 use Rattle.world_run.proofs.world.World.delete.Goals as goal

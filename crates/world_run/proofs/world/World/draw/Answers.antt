@@ -1,5 +1,5 @@
 use Rattle.std.proofs.Common.{◌∙◌, ap, refl, ◌∷◌, ◌++◌, [], List, length, Some}
-use Rattle.name_core.specs.declared.calls.KeyAnswer.{KeyAnswer}
+use Rattle.name_calls.specs.declared.calls.KeyAnswer.{KeyAnswer}
 use Rattle.world_run.specs.declared.kept.KeptReply.{KeptReply}
 use Rattle.world_run.specs.World.{RunningWorld, numbered}
 use Rattle.world_run.proofs.StepLemmas.{draw-no-room, draw-unknown, drew-note, parts}

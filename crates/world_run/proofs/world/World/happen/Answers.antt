@@ -1,4 +1,4 @@
-use Rattle.world_run.specs.declared.event.Event.TheVariants as event
+use Rattle.hk_events.specs.declared.event.Event.TheVariants as event
 use Rattle.world_run.proofs.StepLemmas.{ask-happens, kms-happens, restart-happens, so-happens, zone-happens}
 use Rattle.world_run.proofs.world.World.happen.Goals as goal
 

@@ -1,6 +1,6 @@
 use Rattle.std.proofs.Common.{◌∙◌, Err, ap, refl, sym}
-use Rattle.inode_tree.specs.Paths.{read_path}
-use Rattle.name_core.specs.declared.calls.NameCall.TheVariants as call
+use Rattle.name_calls.specs.Paths.{read_path}
+use Rattle.name_calls.specs.declared.calls.NameCall.TheVariants as call
 use Rattle.world_run.proofs.StepLemmas.{path-called, path-unread}
 use Rattle.world_run.proofs.world.World.mkdir.Goals as goal
 

@@ -1,0 +1,93 @@
+//! What may happen to the services, and how it is answered.
+use hk_base::{ByteList, KeyName, Text};
+use kms_calls::{KmsCall, KmsReply};
+use name_calls::{AskNote, NameRefusal, NameReply};
+
+/// An event: one call on one service. A path stands as the bytes that were given. Asks and replies
+/// that are kept are numbered from 1, each kind by itself, and stay: each may be used late, again
+/// or never.
+#[derive(Drop)]
+pub enum Event {
+    /// A call of the key management service.
+    Kms {
+        user: Text,
+        call: KmsCall,
+    },
+    /// Drops the key management service, and opens it again from its log.
+    RestartKms,
+    /// Drops the namesystem, and opens it again from its log. The asks that were open are gone.
+    RestartName,
+    /// Makes a directory of the namesystem.
+    Mkdir {
+        user: Text,
+        path: ByteList,
+    },
+    /// Deletes what stands at a path of the namesystem, with all below it where it is recursive.
+    Delete {
+        user: Text,
+        path: ByteList,
+        recursive: bool,
+    },
+    /// Asks what stands at a path of the namesystem.
+    Info {
+        user: Text,
+        path: ByteList,
+    },
+    /// Asks what lies in a directory of the namesystem.
+    List {
+        user: Text,
+        path: ByteList,
+    },
+    /// Asks for the encryption zones.
+    Zones {
+        user: Text,
+    },
+    /// Asks the namesystem to make a file. Where the ask is accepted its note is kept.
+    AskCreate {
+        user: Text,
+        path: ByteList,
+    },
+    /// Asks the namesystem to make a directory a zone with this key. Where the ask is accepted its
+    /// note is kept.
+    AskZone {
+        user: Text,
+        path: ByteList,
+        key: KeyName,
+    },
+    /// Makes the call of the key management service that the kept ask of this number wants, as the
+    /// user `hdfs`, and keeps the reply.
+    Draw {
+        ask: u32,
+    },
+    /// Finishes the ask that the kept reply of this number answers.
+    Finish {
+        reply: u32,
+    },
+}
+
+/// The answer to an event, which is a line of the transcript.
+#[derive(Drop)]
+pub enum Line {
+    /// The reply of the key management service.
+    Kms(KmsReply),
+    /// A service was opened again, and this is the number of the opening.
+    Opened {
+        opening: u32,
+    },
+    /// The reply of the namesystem. A finish that was done is answered so too.
+    Name(NameReply),
+    /// An ask was accepted, and its note is kept under this number.
+    Asked {
+        number: u64,
+        note: AskNote,
+    },
+    /// A reply is kept under this number, `None` where nothing was wanted.
+    Replied {
+        number: u64,
+        reply: Option<KmsReply>,
+    },
+    /// An ask or a finish was refused.
+    Refused(NameRefusal),
+    /// Nothing is kept under the number that was given.
+    Unknown,
+}

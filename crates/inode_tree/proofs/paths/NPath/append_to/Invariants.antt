@@ -1,6 +1,0 @@
-use Rattle.std.proofs.Common.{◌≡◌, ◌++◌, take}
-use Rattle.inode_tree.specs.Paths.{names_text}
-use Rattle.inode_tree.proofs.paths.NPath.append_to.Given as goal
-
-abbrev pub invariant-loop-name : goal.invariant-loop-name
-invariant-loop-name l = l.out ≡ l.initial.out ++ names_text (take l.name-index l.name-items)

@@ -1,0 +1,3 @@
+pub mod Acl
+pub mod Refusals
+pub mod Shown

@@ -1,0 +1,170 @@
+//! The calls of the key management service and its replies, as in the Hadoop KMS guide (REST API
+//! v1).
+use crate::acl::{AclOp, AclTable};
+use crate::description::Description;
+use crate::edek_list::EdekList;
+use crate::meta_list::MetaList;
+use crate::name_list::NameList;
+use crate::raw_edek_list::RawEdekList;
+use crate::version_list::VersionList;
+use hk_base::{ByteList, Dek, Edek, KeyName, NoMemory, VersionName};
+
+/// An encrypted data encryption key as it is sent: the version that is said to have sealed it, and
+/// an initialization vector and sealed bytes of any length.
+#[derive(Drop)]
+pub struct RawEdek {
+    pub version: VersionName,
+    pub iv: ByteList,
+    pub sealed: ByteList,
+}
+
+/// A call of the key management service.
+#[derive(Drop)]
+pub enum KmsCall {
+    /// Creates a key of `bits` bits with its first version. Where no material is given it is drawn.
+    Create {
+        name: KeyName,
+        bits: u64,
+        material: Option<ByteList>,
+        description: Description,
+    },
+    /// Gives a key its next version. Where no material is given it is drawn.
+    Roll {
+        name: KeyName,
+        material: Option<ByteList>,
+    },
+    /// Deletes a key with all its versions.
+    Delete {
+        name: KeyName,
+    },
+    /// Lets go of what the service holds ready for a key. The key stays as it is.
+    Invalidate {
+        name: KeyName,
+    },
+    /// Asks what is known of a key.
+    Metadata {
+        name: KeyName,
+    },
+    /// Asks what is known of some keys.
+    Metadatas {
+        names: NameList,
+    },
+    /// Asks for the names of all keys.
+    Names,
+    /// Asks for the current version of a key, its newest one.
+    Current {
+        name: KeyName,
+    },
+    /// Asks for all versions of a key.
+    Versions {
+        name: KeyName,
+    },
+    /// Asks for a version.
+    Version {
+        version: VersionName,
+    },
+    /// Asks for `count` new data encryption keys, encrypted under the current version of a key.
+    Generate {
+        name: KeyName,
+        count: u32,
+    },
+    /// Asks what an encrypted data encryption key opens to under a version of a key.
+    Decrypt {
+        name: KeyName,
+        sent: RawEdek,
+    },
+    /// Asks for the same data encryption key, encrypted under the current version of a key.
+    Reencrypt {
+        name: KeyName,
+        sent: RawEdek,
+    },
+    /// Asks for the same data encryption keys, encrypted under the current version of a key.
+    Batch {
+        name: KeyName,
+        sent: RawEdekList,
+    },
+}
+
+/// Why a call is refused. Where more than one holds the order is NoUser, BadRequest, Denied,
+/// KeyExists or NoSuchKey, NoSuchVersion, WrongKey, BadLength, BadMaterial, TooManyKeys,
+/// TooManyVersions, TooManyAsked, NoMemory, StoreFault.
+#[derive(Clone, Copy, Debug, PartialEq, Eq)]
+pub enum KmsRefusal {
+    /// The request is not one of the service's, or its body is at fault.
+    BadRequest,
+    /// No user is named.
+    NoUser,
+    /// The access rules deny the user the operation.
+    Denied { table: AclTable, op: AclOp },
+    /// No key has the name.
+    NoSuchKey,
+    /// The key has no version of the number.
+    NoSuchVersion,
+    /// A key of the name stands already.
+    KeyExists,
+    /// The version that is said to have sealed is one of another key.
+    WrongKey,
+    /// Material that is given, or what is sealed, is not as long as the key, or an initialization
+    /// vector does not have 16 bytes.
+    BadMaterial,
+    /// The length is not 128, 192 or 256 bits.
+    BadLength,
+    /// 10,000 keys stand, or the numbers of this start are used up.
+    TooManyKeys,
+    /// The key has 65,535 versions.
+    TooManyVersions,
+    /// More than 1,000 data encryption keys are asked for, or sent at once.
+    TooManyAsked,
+    /// There is no memory for the call.
+    NoMemory,
+    /// The disk failed, so that the change is not known to be kept.
+    StoreFault,
+}
+
+impl From<NoMemory> for KmsRefusal {
+    ghost use Rattle.std.specs.Prelude.{◌≡◌};
+    ghost use Rattle.kms_calls.specs.declared.calls.KmsRefusal.TheVariants as refusal;
+
+    ghost from_gives = { λ _ given. given ≡ refusal.NoMemory };
+
+    fn from(_: NoMemory) -> Self {
+        KmsRefusal::NoMemory
+    }
+}
+
+/// What is known of a key. `versions` counts its versions.
+#[derive(Drop)]
+pub struct KeyMeta {
+    pub name: KeyName,
+    pub bits: u16,
+    pub description: Description,
+    pub created: u64,
+    pub versions: u32,
+}
+
+/// The reply to a call. Each call is answered by Refused where it is refused, and else as said.
+#[derive(Drop)]
+pub enum KmsReply {
+    /// To Create, Roll, Current and Version. The material is `None` where it is hidden.
+    Version {
+        version: VersionName,
+        material: Option<Dek>,
+    },
+    /// To Delete and Invalidate.
+    Done,
+    /// To Metadata.
+    Metadata(KeyMeta),
+    /// To Metadatas, in the order asked; a key that is asked twice is answered twice.
+    Metadatas(MetaList),
+    /// To Names, in byte order.
+    Names(NameList),
+    /// To Versions, in order of number.
+    Versions(VersionList),
+    /// To Generate and Batch.
+    Ready(EdekList),
+    /// To Reencrypt.
+    Resealed(Edek),
+    /// To Decrypt.
+    Key(Dek),
+    Refused(KmsRefusal),
+}

@@ -1,0 +1,70 @@
+//! Descriptions of keys.
+ghost use Rattle.std.specs.Prelude.{◌≡◌, ◌≤◌, [], length, IfOk, SomeIff};
+
+use hk_base::{NoMemory, Text};
+use std::alloc::Global;
+use std::marker::Model;
+
+/// What is said of a key: a text of at most 65,535 bytes, which contracts see as its bytes.
+#[derive(Drop)]
+pub struct Description {
+    text: Text,
+}
+
+impl Model for Description {
+    ghost use Rattle.std.specs.Prelude.{ℕ, List, length, ◌≤◌};
+
+    ghost Value = { List ℕ };
+
+    ghost view = { λ a. a.text };
+
+    ghost invariant = { λ a. length a.text ≤ 65535 };
+}
+
+impl Description {
+    /// A description that says nothing. It takes no memory.
+    pub fn empty(alloc: Global) -> Description
+        ensures { result ≡ [] }
+    {
+        Description {
+            text: Text::of(String::new(alloc)),
+        }
+    }
+
+    /// The text as a description, or `None` where it has more than 65,535 bytes.
+    pub fn of(text: Text) -> Option<Description>
+        ensures { SomeIff result (length text ≤ 65535) text }
+    {
+        if text.as_str().len() <= 65535 {
+            Some(Description { text })
+        } else {
+            None
+        }
+    }
+
+    /// A copy of the text as a description.
+    pub fn from_str(alloc: Global, text: &str) -> Result<Description, NoMemory>
+        requires { length text.now ≤ 65535 }
+        ensures { IfOk result (λ description. description ≡ text.now) }
+    {
+        let text = String::from_str(alloc, text)?;
+        Ok(Description {
+            text: Text::of(text),
+        })
+    }
+
+    /// The same description once more.
+    pub fn copy(&self, alloc: Global) -> Result<Description, NoMemory>
+        ensures { IfOk result (λ copy. copy ≡ self.now) }
+    {
+        let _ = &self.text;
+        Description::from_str(alloc, self.text.as_str())
+    }
+
+    pub fn as_text(&self) -> &Text
+        ensures text { result.now ≡ self.now }
+        ensures short { length self.now ≤ 65535 }
+    {
+        &self.text
+    }
+}

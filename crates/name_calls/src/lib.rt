@@ -1,0 +1,12 @@
+//! The calls and replies of the namesystem, and its paths.
+#![tactic(auto)]
+
+mod calls;
+mod listing;
+mod paths;
+mod zone_list;
+
+pub use calls::{Answered, Ask, AskNote, KeyAnswer, NameCall, NameRefusal, NameReply, Want};
+pub use listing::{Child, ChildList};
+pub use paths::{MOST_BYTES, MOST_NAMES, NPath, PathFault};
+pub use zone_list::{ZoneList, ZonePath};

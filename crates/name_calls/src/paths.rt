@@ -1,0 +1,282 @@
+//! Paths and their rule.
+ghost use Rattle.std.specs.Prelude.{◌≡◌, ◌<◌, ◌≤◌, ◌++◌, ◌∷◌, ◌↔◌, ◌==◌, ◌&&◌, ◌||◌, [], nat_lt, not, None, Some, Err, length, drop, take, slice_index_or, is_some, true, map, count_by, position, codes, IsTrue, IfOk, OnOk, OnErr};
+ghost use Rattle.std.specs.List.{before_first, list_all, slice_split};
+ghost use Rattle.std.specs.Str.{bytes_eq, is_utf8};
+ghost use Rattle.name_calls.specs.Paths.{is_component, is_plain_byte, is_relative, path_text, read_path};
+
+use hk_base::{ByteList, NoMemory, Text};
+use std::alloc::{AllocError, Global};
+use std::marker::Model;
+
+/// A path: its names from the root on, or from a directory on to what lies below it. Each name has
+/// 1 to 255 bytes of UTF-8, has no `/`, `:` or byte 0, and is not `.`, `..` or `.snapshot`. There
+/// are at most 100 names, and 8,000 bytes as it is written. Contracts see the list of the names,
+/// each as its bytes.
+#[derive(Drop)]
+pub struct NPath {
+    names: Vec<Text>,
+}
+
+impl Model for NPath {
+    ghost use Rattle.std.specs.Prelude.{◌≡◌, List, ℕ, true};
+    ghost use Rattle.name_calls.specs.Paths.{is_relative};
+
+    ghost Value = { List (List ℕ) };
+
+    ghost view = { λ path. path.names.items };
+
+    ghost invariant = { λ path. is_relative path.names.items ≡ true };
+}
+
+/// Why bytes were not read as a path.
+#[derive(Clone, Copy, Debug, PartialEq, Eq)]
+pub enum PathFault {
+    /// They are outside the rule of paths.
+    BadPath,
+    NoMemory,
+}
+
+/// The most bytes of a path as it is written.
+pub const MOST_BYTES: usize = 8000;
+
+/// The most names of a path.
+pub const MOST_NAMES: usize = 100;
+
+/// The most bytes of a name.
+const LONGEST_NAME: usize = 255;
+
+fn is_plain(name: &[u8]) -> bool
+    ensures { result ≡ list_all is_plain_byte name.now }
+{
+    name.iter()
+        .all(|byte| *byte != b'/' && *byte != b':' && *byte != 0)
+}
+
+fn is_text(bytes: &[u8]) -> bool
+    ensures { result ≡ is_utf8 bytes.now }
+{
+    match str::from_utf8(bytes) {
+        Ok(_) => true,
+        Err(_) => false,
+    }
+}
+
+fn is_special(name: &[u8]) -> bool
+    ensures { result ≡ (bytes_eq name.now (codes ".") || bytes_eq name.now (codes "..") || bytes_eq name.now (codes ".snapshot")) }
+{
+    name == b".".as_slice() || name == b"..".as_slice() || name == b".snapshot".as_slice()
+}
+
+fn can_be_a_name(name: &[u8]) -> bool
+    ensures { result ≡ is_component name.now }
+{
+    let len = name.len();
+    let text = is_text(name);
+    let plain = is_plain(name);
+    let special = is_special(name);
+    1 <= len && len <= LONGEST_NAME && text && plain && !special
+}
+
+/// Whether each part between slashes can be a name.
+fn each_can_be_a_name(bytes: &[u8]) -> bool
+    ensures { result ≡ list_all is_component (slice_split (λ b. b == 47) bytes.now) }
+{
+    bytes
+        .split(|byte| *byte == b'/')
+        .all(|name| can_be_a_name(name))
+}
+
+/// The parts between slashes.
+fn parts(alloc: Global, bytes: &[u8]) -> Result<Vec<&[u8]>, AllocError>
+    ensures { IfOk result (λ parts. map (λ x. x.now) parts.items ≡ slice_split (λ b. b == 47) bytes.now) }
+{
+    bytes.split(|byte| *byte == b'/').collect(alloc)
+}
+
+fn slashes(bytes: &[u8]) -> usize
+    ensures { result ≡ count_by (λ b. b == 47) bytes.now }
+{
+    bytes.iter().filter(|byte| **byte == b'/').count()
+}
+
+fn first_slash(bytes: &[u8]) -> Option<usize>
+    ensures { result ≡ position (λ b. b == 47) bytes.now }
+{
+    bytes.iter().position(|byte| *byte == b'/')
+}
+
+/// What stands before the first slash, or all where there is none.
+fn first_part(bytes: &[u8]) -> &[u8]
+    ensures { result.now ≡ before_first (λ b. b == 47) bytes.now }
+{
+    match first_slash(bytes) {
+        Some(at) => &bytes[..at],
+        None => bytes,
+    }
+}
+
+/// Whether the bytes are names parted by slashes, within the rule.
+fn are_names(bytes: &[u8]) -> bool
+    ensures { result ≡ (list_all is_component (slice_split (λ b. b == 47) bytes.now) && nat_lt (length bytes.now) 8000 && nat_lt (count_by (λ b. b == 47) bytes.now) 100 && not (bytes_eq (before_first (λ b. b == 47) bytes.now) (codes ".reserved"))) }
+{
+    let each = each_can_be_a_name(bytes);
+    let short = bytes.len() < MOST_BYTES;
+    let few = slashes(bytes) < MOST_NAMES;
+    let reserved = first_part(bytes) == b".reserved".as_slice();
+    each && short && few && !reserved
+}
+
+/// All but the first byte.
+fn after_first_byte(bytes: &[u8]) -> &[u8]
+    requires { 1 ≤ length bytes.now }
+    ensures { result.now ≡ drop 1 bytes.now }
+{
+    &bytes[1..]
+}
+
+/// Whether the bytes are a path as it is written.
+fn is_path(bytes: &[u8]) -> bool
+    ensures { result ≡ is_some (read_path bytes.now) }
+{
+    if bytes.len() == 0 || bytes[0] != b'/' {
+        return false;
+    }
+    if bytes.len() == 1 {
+        return true;
+    }
+    are_names(after_first_byte(bytes))
+}
+
+fn text_of(alloc: Global, name: &[u8]) -> Result<Text, NoMemory>
+    requires { is_component name.now ≡ true }
+    ensures { IfOk result (λ text. text ≡ name.now) }
+{
+    match Text::from_utf8(Vec::from_slice(alloc, name)?) {
+        Some(text) => Ok(text),
+        None => unreachable!(),
+    }
+}
+
+fn texts_of(alloc: Global, names: &[&[u8]]) -> Result<Vec<Text>, NoMemory>
+    requires { list_all is_component (map (λ x. x.now) names.now) ≡ true }
+    ensures { IfOk result (λ texts. texts.items ≡ map (λ x. x.now) names.now) }
+{
+    let mut texts = Vec::new(alloc);
+    for name in names {
+        texts.push(text_of(alloc, name)?)?;
+    }
+    Ok(texts)
+}
+
+/// The names that stand parted by slashes.
+fn names_of(alloc: Global, bytes: &[u8]) -> Result<Vec<Text>, NoMemory>
+    requires { list_all is_component (slice_split (λ b. b == 47) bytes.now) ≡ true }
+    ensures { IfOk result (λ names. names.items ≡ slice_split (λ b. b == 47) bytes.now) }
+{
+    let parts = parts(alloc, bytes)?;
+    texts_of(alloc, parts.as_slice())
+}
+
+impl From<NoMemory> for PathFault {
+    ghost use Rattle.std.specs.Prelude.{◌≡◌};
+    ghost use Rattle.name_calls.specs.declared.paths.PathFault.TheVariants as fault;
+
+    ghost from_gives = { λ _ given. given ≡ fault.NoMemory };
+
+    fn from(_: NoMemory) -> Self {
+        PathFault::NoMemory
+    }
+}
+
+impl NPath {
+    /// The root. It takes no memory.
+    pub fn root(alloc: Global) -> NPath
+        ensures { result ≡ [] }
+    {
+        NPath {
+            names: Vec::new(alloc),
+        }
+    }
+
+    /// The absolute path that is written so: `/`, or a `/` before each name. `BadPath` comes
+    /// exactly where the bytes are outside the rule of paths, or the first name is `.reserved`.
+    pub fn read(alloc: Global, bytes: &[u8]) -> Result<NPath, PathFault>
+        ensures ok { IfOk result (λ path. read_path bytes.now ≡ Some path) }
+        ensures bad { (result ≡ Err PathFault.BadPath) ↔ (read_path bytes.now ≡ None) }
+    {
+        if !is_path(bytes) {
+            return Err(PathFault::BadPath);
+        }
+        if bytes.len() == 1 {
+            return Ok(NPath::root(alloc));
+        }
+        match names_of(alloc, after_first_byte(bytes)) {
+            Ok(names) => Ok(NPath { names }),
+            Err(_) => Err(PathFault::NoMemory),
+        }
+    }
+
+    /// How many names it has.
+    pub fn len(&self) -> usize
+        ensures len { result ≡ length self.now }
+        ensures rule { is_relative self.now ≡ true }
+    {
+        self.names.len()
+    }
+
+    /// Whether it is the root.
+    pub fn is_root(&self) -> bool
+        ensures { IsTrue result ↔ (self.now ≡ []) }
+    {
+        self.names.is_empty()
+    }
+
+    /// The `k`-th name, from 0.
+    pub fn name(&self, k: usize) -> &Text
+        requires { k < length self.now }
+        ensures { result.now ≡ slice_index_or self.now k [] }
+    {
+        &self.names[k]
+    }
+
+    /// Adds a name at the end. Where memory is wanting the path stays as it was.
+    pub fn push(&mut self, name: Text) -> Result<(), NoMemory>
+        requires { is_relative (self.old ++ name ∷ []) ≡ true }
+        ensures ok { OnOk result (self.new ≡ self.old ++ name ∷ []) }
+        ensures err { OnErr result (self.new ≡ self.old) }
+    {
+        self.names.push(name)?;
+        Ok(())
+    }
+
+    /// Appends the path as it is written: `/`, or a `/` before each name. Where memory is wanting
+    /// `out` stays as it was.
+    pub fn write(&self, out: &mut ByteList) -> Result<(), NoMemory>
+        ensures ok { OnOk result (out.new ≡ out.old ++ path_text self.now) }
+        ensures err { OnErr result (out.new ≡ out.old) }
+    {
+        let len = out.len();
+        match self.append_to(out) {
+            Ok(()) => Ok(()),
+            Err(wanting) => {
+                out.truncate(len);
+                Err(wanting)
+            }
+        }
+    }
+
+    /// Appends the path as it is written, or a front of it where memory is wanting.
+    fn append_to(&self, out: &mut ByteList) -> Result<(), NoMemory>
+        ensures ok { OnOk result (out.new ≡ out.old ++ path_text self.now) }
+        ensures err { OnErr result (take (length out.old) out.new ≡ out.old) }
+    {
+        if self.names.is_empty() {
+            return out.push(b'/');
+        }
+        for name in &self.names {
+            out.push(b'/')?;
+            out.append(name.as_str().as_bytes())?;
+        }
+        Ok(())
+    }
+}
