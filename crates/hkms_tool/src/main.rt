@@ -1,25 +1,10 @@
 //! hkms: the Hadoop key management server.
 #![tactic(auto)]
 
-#[cfg(test)]
-mod acl_tests;
-mod command;
-mod lines;
-#[cfg(test)]
-mod log_tests;
-mod opening;
-mod pipe;
-#[cfg(test)]
-mod pipe_tests;
-mod props;
-mod replay;
-mod stage;
-#[cfg(test)]
-mod tests;
-
 use command_line::{Order, OrderFault, read_order};
 use disk_kinds::{ChaWords, FileDisk, PlainDisk, Reading, WallClock, Writing, open_source};
 use hk_base::{Disk, Source, Text, write_all};
+use hkms_commands::hkms;
 use std::alloc::Global;
 use std::env;
 use std::fs::File;
@@ -78,7 +63,7 @@ fn run_over<A: Source, D: Disk>(
     let mut out = Writing::new(rt.stdout());
     let mut rand = ChaWords::from_seed(seed);
     let mut clock = WallClock::new(rt);
-    command::hkms(
+    hkms(
         rt.alloc(),
         words,
         acls,

@@ -1,0 +1,580 @@
+-- How a replay stops.
+use Rattle.std.proofs.Common.{◌≡◌, ◌⊎◌, ⊎_elim, inl, inr, ℕ, zero, suc, ◌+◌, ◌<◌, ◌≤◌, ◌^◌, Bool, true, false, List, [], ◌∷◌, ◌++◌, length, take, refl, ap, sym, ◌∙◌, subst, IsTrue, Option, None, Some, arith, append_assoc, append-nil, length-append}
+use Rattle.std.specs.List.{list_all, count_by}
+use Rattle.std.specs.Io.KnownBytes.{Appends, Consumes, IsAtEnd, prepend_known}
+use Rattle.std.proofs.KnownBytes.{Appends-trans, Consumes-trans}
+use Rattle.std.proofs.Math.Seq.{take-append_seam}
+use Rattle.hk_base.specs.Disk.{DiskState, Image, Tells}
+use Rattle.hk_base.specs.Faults.{Rose}
+use Rattle.hk_base.specs.Reading.{IsMore}
+use Rattle.frame_log.specs.declared.fault.StartFault.{StartFault}
+use Rattle.frame_log.specs.declared.fault.StartFault.TheVariants as start
+use Rattle.prop_text.specs.declared.lines.PropLine.{PropLine}
+use Rattle.replay_text.specs.Events.{IsBad, Spells, longest_line}
+use Rattle.hk_events.specs.declared.event.Event.{Event}
+use Rattle.hk_events.specs.declared.event.Event.TheVariants as event
+use Rattle.world_run.specs.declared.fault.WorldFault.{WorldFault}
+use Rattle.world_run.specs.Acknowledged.{Acknowledged, HoldsLogs, also}
+use Rattle.world_run.specs.Keeps.{is_restart, last_opening}
+use Rattle.world_run.specs.Own.{SurvivesRestart}
+use Rattle.world_run.specs.World.{WorldState, world_of}
+use Rattle.hkms_commands.specs.declared.lines.Got.{Got}
+use Rattle.hkms_commands.specs.declared.lines.Got.TheVariants as got
+use Rattle.hkms_commands.specs.declared.replay.Ended.{Ended}
+use Rattle.hkms_commands.specs.declared.replay.Ended.TheVariants as ended
+use Rattle.hkms_commands.specs.declared.stage.Play.{Play}
+use Rattle.hkms_commands.specs.declared.stage.Play.TheVariants.{Played, BadLine, Unread, Untold, Unwritten, Unopened}
+use Rattle.hkms_commands.specs.Lines.{is_line, is_lf, lines_of, text_of}
+use Rattle.hkms_commands.specs.Run.{Happened, History, events_in, hidden_in, lines_in, logged_in, told_of, transcript, world_after}
+use Rattle.hkms_commands.specs.Replay.{BadNext, ComesNext, HasProperties, IsCut, IsSpent, IsTold, NextSpells, ReadsAs, ReadsAt, RestartStops, Starts, Stops, SurvivesStop, ended_by, longest_input}
+use Rattle.hkms_commands.specs.Steps.{Caused, HasLists, LinePlayed, Next, NextSo, PlaysLine, PlaysSo, Ran, Read, Stand, StopsAtRestart, StopsReading, Untouched, View, counts, end_of_play}
+use Rattle.hkms_commands.proofs.HistoryLemmas.{Begin, Course, SoFar, course_line, course_line_is, course_untouched, course_untouched_is, so_far_line}
+use Rattle.hkms_commands.proofs.LivedLemmas.{Lived, has_lists, leaves_on, run_on, sound_last, tells_now, weaker}
+use Rattle.hkms_commands.proofs.SplitLemmas.{split_text, split_last, split_on, split_ended, parts, count_lf}
+
+-- the lines of the input
+
+-- what is left behind what was used
+after_text : (left ahead : Option (List ℕ)) (bytes : List ℕ) → Consumes left ahead bytes → (all : List ℕ) → left ≡ Some all → (rest : List ℕ) × (ahead ≡ Some rest) × (all ≡ bytes ++ rest)
+after_text None ahead bytes consumed all is = absurd cc
+after_text (Some xs) None bytes consumed all is = absurd consumed
+after_text (Some xs) (Some ys) bytes consumed all is = let same : all ≡ xs = cc in (ys, refl, same ∙ consumed)
+
+-- the lines that were read, and what is ahead
+record IsAhead (left ahead : Option (List ℕ)) (lines : List (List ℕ)) : Type 0 where
+  whole : IsTrue (list_all is_line lines)
+  consumed : Consumes left ahead (text_of lines)
+
+starts : (left ahead : Option (List ℕ)) (lines : List (List ℕ)) → IsAhead left ahead lines → (all : List ℕ) → left ≡ Some all → Starts all lines
+starts left ahead lines so all is =
+    let rest = after_text left ahead (text_of lines) so.consumed all is in
+    (lines_of rest.0, ap lines_of rest.2 ∙ split_text lines rest.0 so.whole)
+
+-- the next line is this one, and is ended
+next_is : (left before ahead : Option (List ℕ)) (lines : List (List ℕ)) (line : List ℕ) → IsAhead left before lines → is_line line ≡ true → Consumes before ahead (line ++ 10 ∷ [])
+    → (all : List ℕ) → left ≡ Some all → (more : List (List ℕ)) × (lines_of all ≡ lines ++ line ∷ more)
+next_is left before ahead lines line so is consumed all told =
+    let rest = after_text left ahead _ (Consumes-trans left before ahead _ _ so.consumed consumed) all told in (
+      lines_of rest.0,
+      ap lines_of (rest.2 ∙ append_assoc (text_of lines) (line ++ 10 ∷ []) rest.0) ∙ split_text lines ((line ++ 10 ∷ []) ++ rest.0) so.whole
+          ∙ ap (λ l. lines ++ l) (ap lines_of (append_assoc line (10 ∷ []) rest.0) ∙ split_ended line rest.0 is),
+    )
+
+-- the same of the last line
+last_is : (left before ahead : Option (List ℕ)) (lines : List (List ℕ)) (line : List ℕ) → IsAhead left before lines → is_line line ≡ true → Consumes before ahead line → IsAtEnd ahead
+    → (all : List ℕ) → left ≡ Some all → lines_of all ≡ lines ++ line ∷ []
+last_is left before ahead lines line so is consumed end all told =
+    let rest = after_text left ahead _ (Consumes-trans left before ahead _ _ so.consumed consumed) all told in
+    let none : rest.0 ≡ [] = subst IsAtEnd rest.1 end in
+    ap lines_of (rest.2 ∙ ap (λ r. (text_of lines ++ line) ++ r) none ∙ append-nil (text_of lines ++ line)) ∙ split_text lines line so.whole ∙ ap (λ l. lines ++ l) (split_last line is)
+
+-- the next line, ended or the last one
+record IsNext (left : Option (List ℕ)) (lines : List (List ℕ)) (line : List ℕ) : Type 0 where
+  next : (all : List ℕ) → left ≡ Some all → (more : List (List ℕ)) × (lines_of all ≡ lines ++ line ∷ more)
+
+begins : (left : Option (List ℕ)) (lines : List (List ℕ)) (line : List ℕ) → IsNext left lines line → (all : List ℕ) → left ≡ Some all → Starts all (lines ++ line ∷ [])
+begins left lines line n all told = let next = n.next all told in (next.0, next.1 ∙ sym (append_assoc lines (line ∷ []) next.0))
+
+too_long_is_bad : (line : List ℕ) → longest_line < length line → IsBad line
+too_long_is_bad [] long = absurd (omega arith)
+too_long_is_bad (b ∷ bs) long = record {
+  not_quiet = λ quiet. absurd (omega (arith, quiet.1));
+  no_event = λ event spells. absurd (omega (arith, spells.short));
+}
+
+too_long : (left before ahead : Option (List ℕ)) (lines : List (List ℕ)) (line : List ℕ) → IsAhead left before lines → is_line line ≡ true → Consumes before ahead line → length line ≡ 1048577
+    → (all : List ℕ) → left ≡ Some all → BadNext all lines
+too_long left before ahead lines line so is consumed long all told =
+    let rest = after_text left ahead _ (Consumes-trans left before ahead _ _ so.consumed consumed) all told in
+    let more = parts rest.0 in
+    let split : lines_of all ≡ lines ++ (line ++ more.0) ∷ more.1 =
+    ap lines_of (rest.2 ∙ append_assoc (text_of lines) line rest.0) ∙ split_text lines (line ++ rest.0) so.whole ∙ ap (λ l. lines ++ l) (split_on line rest.0 more.0 more.1 is more.2) in
+    inl (line ++ more.0, more.1, split, too_long_is_bad (line ++ more.0) (omega (arith, length-append line more.0)))
+
+past : (left before ahead : Option (List ℕ)) (lines : List (List ℕ)) (line : List ℕ) (used0 used : ℕ) → IsAhead left before lines → is_line line ≡ true → Consumes before ahead line → used0 ≡ length (text_of lines)
+    → used ≡ used0 + length line → used ≡ 2 ^ 40 → IsMore ahead → (all : List ℕ) → left ≡ Some all → BadNext all lines
+past left before ahead lines line used0 used so is consumed used0_is used_is long more all told =
+    let rest = after_text left ahead _ (Consumes-trans left before ahead _ _ so.consumed consumed) all told in
+    let front = text_of lines ++ line in
+    let some : 0 < length rest.0 = subst IsMore rest.1 more in
+    let whole : length front ≡ longest_input = omega (arith, length-append (text_of lines) line, used0_is, used_is, long) in
+    inr (
+      starts left before lines so all told,
+      record {
+        long = omega (arith, ap length rest.2, length-append front rest.0, some, whole);
+        place = ap (count_by is_lf) (ap (take longest_input) rest.2 ∙ ap (λ n. take n (front ++ rest.0)) (sym whole) ∙ take-append_seam front rest.0) ∙ count_lf lines line so.whole is;
+      },
+    )
+
+-- where the replay stops
+
+reads_at : (stop : Ended) (left : Option (List ℕ)) (lines : List (List ℕ)) (d : DiskState) (done : Acknowledged) (w : WorldState) → ReadsAs d done w → ReadsAt stop left lines d done w
+reads_at ended.Done left lines d done w r = r
+reads_at (ended.AclRefused number) left lines d done w r = r
+reads_at (ended.AclRepeated number) left lines d done w r = r
+reads_at (ended.AclUnknown number) left lines d done w r = r
+reads_at ended.AclTooLong left lines d done w r = r
+reads_at ended.BadLine left lines d done w r = r
+reads_at (ended.DamagedKeys at) left lines d done w r = tt
+reads_at (ended.DamagedNames at) left lines d done w r = tt
+reads_at ended.StoreFault left lines d done w r = tt
+reads_at ended.NoMemory left lines d done w r = inl r
+reads_at ended.ReadFault left lines d done w r = r
+reads_at ended.WriteFault left lines d done w r = r
+reads_at ended.Spent left lines d done w r = tt
+
+-- a front of the transcript that is all of it
+all_told : (stop : Ended) (text told : List ℕ) → text ≡ told → IsTold stop text told
+all_told ended.Done text told is = is
+all_told (ended.AclRefused number) text told is = is
+all_told (ended.AclRepeated number) text told is = is
+all_told (ended.AclUnknown number) text told is = is
+all_told ended.AclTooLong text told is = is
+all_told ended.BadLine text told is = is
+all_told (ended.DamagedKeys at) text told is = is
+all_told (ended.DamagedNames at) text told is = is
+all_told ended.StoreFault text told is = is
+all_told ended.NoMemory text told is = ([], append-nil text ∙ is)
+all_told ended.ReadFault text told is = is
+all_told ended.WriteFault text told is = ([], append-nil text ∙ is)
+all_told ended.Spent text told is = is
+
+-- an end that neither a restart nor the properties bring about
+IsPlain : Ended → Type 0
+IsPlain stop = ((left : Option (List ℕ)) (lines : List (List ℕ)) (w : WorldState) → RestartStops stop left lines w) × HasProperties stop
+
+ran : (props : List PropLine) (old new : DiskState) (b : Begin) (v : View) (count : ℕ) (stop : Ended) (so : Course props old new b v count) (h : History) → so.history ≡ h → (text : List ℕ) (now : Option (List ℕ)) → IsPlain stop
+    → Appends b.written now text → IsTold stop text (transcript h) → ((all : List ℕ) → b.left ≡ Some all → Stops stop all (lines_in h))
+    → Ran props old new b.world b.words b.left b.written now stop count
+unfolding IsPlain
+ran props old new b v count stop so h is text now plain wrote told here = record {
+  history = so.history;
+  runs = so.runs;
+  kept = λ tells done holds. record {
+    moments = weaker (λ image left. inl left) (so.lived.survives tells done holds);
+    reads = reads_at stop b.left (lines_in so.history) new (also done (logged_in so.history)) (world_after (world_of b.world) so.history) (v.world, so.lived.world_is, so.lived.stands tells done holds);
+  };
+  promise = λ tells done holds before hidden. record {
+    files_open = so.lived.files_open tells before hidden;
+    sound = so.lived.sound tells done holds before hidden.linked;
+  };
+  run = so.lived.run;
+  counted_faults = omega (arith, so.lived.faults_are);
+  restart = λ tells. plain.0 b.left (lines_in so.history) (world_after (world_of b.world) so.history);
+  has_properties = plain.1;
+  stops = λ all left. subst (λ (x : History). Stops stop all (lines_in x)) (sym is) (here all left);
+  text = text;
+  wrote = wrote;
+  told = subst (λ (x : History). IsTold stop text (transcript x)) (sym is) told;
+  counted = so.counted;
+}
+
+-- before a line is played
+stops_before : (props : List PropLine) (old mid new : DiskState) (b : Begin) (s : Stand) (stop : Ended) (v : View) (so : SoFar props old mid b s) → Untouched mid new s.view v → IsPlain stop
+    → ((all : List ℕ) → b.left ≡ Some all → Stops stop all (lines_in so.course.history)) → Ran props old new b.world b.words b.left b.written v.written stop s.count
+stops_before props old mid new b s stop v so u plain here =
+    let told : List ℕ = transcript so.course.history in
+    ran props old new b (record s.view { world = v.world }) s.count stop (course_untouched props old mid new b s.view v s.count so.course u) so.course.history
+    (course_untouched_is props old mid new b s.view v s.count so.course u) told v.written plain
+    (subst (Appends b.written v.written) (append-nil told) (Appends-trans b.written s.view.written v.written _ _ so.wrote u.wrote)) (all_told stop told told refl) here
+
+-- behind a line that was played, of whose answer this much was written
+stops_behind : (props : List PropLine) (old mid new : DiskState) (b : Begin) (s : Stand) (stop : Ended) (line : List ℕ) (event : Option Happened) (v : View) (text : List ℕ) (so : SoFar props old mid b s) → PlaysLine props mid new s.view line event v
+    → is_line line ≡ true → IsPlain stop → Appends s.view.written v.written text → IsTold stop (transcript so.course.history ++ text) (transcript so.course.history ++ told_of (events_in so.course.history) event)
+    → ((all : List ℕ) → b.left ≡ Some all → Stops stop all (lines_in so.course.history ++ line ∷ []))
+    → Ran props old new b.world b.words b.left b.written v.written stop (s.count + 1)
+stops_behind props old mid new b s stop line event v text so plays is plain wrote told here =
+    ran props old new b v (s.count + 1) stop (course_line props old mid new b s.view v s.count line event so.course plays is) (record { line = line; event = event } ∷ so.course.history)
+    (course_line_is props old mid new b s.view v s.count line event so.course plays is) (transcript so.course.history ++ text) v.written plain
+    (Appends-trans b.written s.view.written v.written _ _ so.wrote wrote) told here
+
+-- at a restart that could not open its log
+
+-- which restart it was
+which_restart : (e : Event) (file : ℕ) → is_restart e file → ((e ≡ event.RestartKms) × (file ≡ 0)) ⊎ ((e ≡ event.RestartName) × (file ≡ 1))
+which_restart (event.Kms user c) file r = absurd r
+which_restart event.RestartKms file r = inl (refl, r)
+which_restart event.RestartName file r = inr (refl, r)
+which_restart (event.Mkdir user path) file r = absurd r
+which_restart (event.Delete user path recursive) file r = absurd r
+which_restart (event.Info user path) file r = absurd r
+which_restart (event.List user path) file r = absurd r
+which_restart (event.Zones user) file r = absurd r
+which_restart (event.AskCreate user path) file r = absurd r
+which_restart (event.AskZone user path key) file r = absurd r
+which_restart (event.Draw n) file r = absurd r
+which_restart (event.Finish n) file r = absurd r
+
+-- the last opening of its log is used
+spent_is : (left : Option (List ℕ)) (lines : List (List ℕ)) (e : Event) (file : ℕ) (w : WorldState) (kept : Bool) → is_restart e file → ComesNext left lines e → last_opening w e kept ≡ 4294967295 → IsSpent left lines w
+spent_is left lines e file w kept r next is =
+    ⊎_elim
+    (λ keys. inl ((kept, ap (λ (x : Event). last_opening w x kept) (sym keys.0) ∙ is), subst (ComesNext left lines) keys.0 next))
+    (λ names. inr ((kept, ap (λ (x : Event). last_opening w x kept) (sym names.0) ∙ is), subst (ComesNext left lines) names.0 next))
+    (which_restart e file r)
+
+-- what an end by a fault of a log is
+
+unread : (file : ℕ) (f : StartFault) (left : Option (List ℕ)) (lines : List (List ℕ)) (d : DiskState) (done : Acknowledged) (w : WorldState) → IsCut left lines → ReadsAt (ended_by file f) left lines d done w
+unread zero (start.Damaged at) left lines d done w cut = tt
+unread (suc n) (start.Damaged at) left lines d done w cut = tt
+unread file start.StoreFault left lines d done w cut = tt
+unread file start.NoMemory left lines d done w cut = inr cut
+unread file start.Spent left lines d done w cut = tt
+
+has : (file : ℕ) (f : StartFault) → HasProperties (ended_by file f)
+has zero (start.Damaged at) = tt
+has (suc n) (start.Damaged at) = tt
+has file start.StoreFault = tt
+has file start.NoMemory = tt
+has file start.Spent = tt
+
+why_stopped : (file : ℕ) (f : StartFault) (left : Option (List ℕ)) (lines : List (List ℕ)) (w : WorldState) → ((at : ℕ) → f ≡ start.Damaged at → ⊥) → (f ≡ start.Spent → IsSpent left lines w) → RestartStops (ended_by file f) left lines w
+why_stopped file (start.Damaged at) left lines w never spent = absurd (never at refl)
+why_stopped file start.StoreFault left lines w never spent = tt
+why_stopped file start.NoMemory left lines w never spent = tt
+why_stopped file start.Spent left lines w never spent = spent refl
+
+-- what a crash leaves in a restart that ends a replay
+
+either_restart : (e : Event) (file : ℕ) (w : WorldState) (done : Acknowledged) (image : Image) → is_restart e file → SurvivesRestart w e done image
+    → SurvivesRestart w event.RestartKms done image ⊎ SurvivesRestart w event.RestartName done image
+either_restart e file w done image r left =
+    ⊎_elim (λ keys. inl (subst (λ (x : Event). SurvivesRestart w x done image) keys.0 left)) (λ names. inr (subst (λ (x : Event). SurvivesRestart w x done image) names.0 left)) (which_restart e file r)
+
+stop_left : (e : Event) (file : ℕ) (f : StartFault) (w : WorldState) (done : Acknowledged) (image : Image) → is_restart e file → ((at : ℕ) → f ≡ start.Damaged at → ⊥) → SurvivesRestart w e done image → SurvivesStop (ended_by file f) w done image
+stop_left e file (start.Damaged at) w done image r never left = absurd (never at refl)
+stop_left e file start.StoreFault w done image r never left = either_restart e file w done image r left
+stop_left e file start.NoMemory w done image r never left = either_restart e file w done image r left
+stop_left e file start.Spent w done image r never left = either_restart e file w done image r left
+
+-- where the input stands at a restart of either service
+
+keys_next : (f : StartFault) (all : List ℕ) (lines : List (List ℕ)) → NextSpells all lines event.RestartKms → Stops (ended_by 0 f) all lines
+keys_next (start.Damaged at) all lines next = next
+keys_next start.StoreFault all lines next = inl next
+keys_next start.NoMemory all lines (line, more, is, spells) = (line ∷ more, is)
+keys_next start.Spent all lines next = inl next
+
+names_next : (f : StartFault) (all : List ℕ) (lines : List (List ℕ)) → NextSpells all lines event.RestartName → Stops (ended_by 1 f) all lines
+names_next (start.Damaged at) all lines next = next
+names_next start.StoreFault all lines next = inr next
+names_next start.NoMemory all lines (line, more, is, spells) = (line ∷ more, is)
+names_next start.Spent all lines next = inr next
+
+restart_next : (e : Event) (file : ℕ) (f : StartFault) (all : List ℕ) (lines : List (List ℕ)) → is_restart e file → NextSpells all lines e → Stops (ended_by file f) all lines
+restart_next e file f all lines r next =
+    ⊎_elim
+    (λ keys. subst (λ (n : ℕ). Stops (ended_by n f) all lines) (sym keys.1) (keys_next f all lines (subst (NextSpells all lines) keys.0 next)))
+    (λ names. subst (λ (n : ℕ). Stops (ended_by n f) all lines) (sym names.1) (names_next f all lines (subst (NextSpells all lines) names.0 next)))
+    (which_restart e file r)
+
+-- the line that comes next spells this event
+spelled_next : (left : Option (List ℕ)) (lines : List (List ℕ)) (line : List ℕ) (e : Event) → IsNext left lines line → Spells line e → ComesNext left lines e
+spelled_next left lines line e next spells = λ all told. let n = next.next all told in (line, n.0, n.1, spells)
+
+-- it is a restart of either service
+cut_next : (left : Option (List ℕ)) (lines : List (List ℕ)) (e : Event) (file : ℕ) → is_restart e file → ComesNext left lines e → IsCut left lines
+cut_next left lines e file r next = ⊎_elim (λ keys. inl (subst (ComesNext left lines) keys.0 next)) (λ names. inr (subst (ComesNext left lines) names.0 next)) (which_restart e file r)
+
+stops_at_restart : (props : List PropLine) (old mid new : DiskState) (b : Begin) (s : Stand) (line : List ℕ) (fault : WorldFault) (v : View) (so : SoFar props old mid b s) → StopsAtRestart mid new s.view line fault v
+    → Appends s.view.written v.written [] → IsNext b.left (lines_in so.course.history) line → Ran props old new b.world b.words b.left b.written v.written (ended_by fault.file fault.fault) s.count
+stops_at_restart props old mid new b s line fault v so at wrote next = record {
+  history = h;
+  runs = so.course.runs;
+  kept = λ tells done holds. record {
+    moments = leaves_on lived.run (weaker (λ image left. inl left) (lived.survives tells done holds))
+        (weaker (λ image left. inr (stop_left at.restart fault.file fault.fault (world_after (world_of b.world) h) (also done (logged_in h)) image at.fails.restart (at.fails.never_damaged (tells_now old mid lived.run tells))
+        (subst (λ (w : WorldState). SurvivesRestart w at.restart (also done (logged_in h)) image) lived.world_is left)))
+        (at.fails.survives (tells_now old mid lived.run tells) (also done (logged_in h)) (lived.stands tells done holds)));
+    reads = unread fault.file fault.fault b.left (lines_in h) new (also done (logged_in h)) (world_after (world_of b.world) h) (cut_next b.left (lines_in h) at.restart fault.file at.fails.restart comes);
+  };
+  promise = λ tells done holds before hidden. record {
+    files_open = lived.files_open tells before hidden;
+    sound = leaves_on lived.run (lived.sound tells done holds before hidden.linked)
+        (weaker (sound_last before (world_of b.world) b.words h)
+        (at.fails.sound (tells_now old mid lived.run tells) (hidden_in before (world_of b.world) b.words h) (lived.linked tells before hidden.linked) (also done (logged_in h)) (lived.stands tells done holds)));
+  };
+  run = run_on old mid new lived.run at.fails.run;
+  counted_faults = omega (arith, lived.faults_are, at.fails.run.faults);
+  restart = λ tells. why_stopped fault.file fault.fault b.left (lines_in h) (world_after (world_of b.world) h) (at.fails.never_damaged (tells_now old mid lived.run tells))
+      (λ is.
+      let last = at.fails.spent is (tells_now old mid lived.run tells) in
+      subst (IsSpent b.left (lines_in h)) lived.world_is (spent_is b.left (lines_in h) at.restart fault.file (world_of s.view.world) last.0 at.fails.restart comes last.1));
+  has_properties = has fault.file fault.fault;
+  stops = λ all told. restart_next at.restart fault.file fault.fault all (lines_in h) at.fails.restart (comes all told);
+  text = transcript h;
+  wrote = subst (Appends b.written v.written) (append-nil (transcript h)) (Appends-trans b.written s.view.written v.written _ _ so.wrote wrote);
+  told = all_told (ended_by fault.file fault.fault) (transcript h) (transcript h) refl;
+  counted = so.course.counted;
+}
+  where
+    h : History
+    h = so.course.history
+
+    lived : Lived old mid b.world b.words s.view.world s.view.words h
+    lived = so.course.lived
+
+    comes : ComesNext b.left (lines_in h) at.restart
+    comes = spelled_next b.left (lines_in h) line at.restart next at.spells
+
+-- how the loop goes on and stops
+
+-- the end that is answered
+the_end : (a b : Ended) → Some a ≡ Some b → a ≡ b
+the_end a b is = cc
+
+-- a line that was played, or not, ends the replay
+line_stops : (props : List PropLine) (old mid new : DiskState) (b : Begin) (s : Stand) (line : List ℕ) (last : Bool) (v : View) (count : ℕ) (stop : Ended) (so : SoFar props old mid b s) → LinePlayed props mid new s.view line last (Some stop) v s.count count
+    → is_line line ≡ true → IsNext b.left (lines_in so.course.history) line → (last ≡ true → (all : List ℕ) → b.left ≡ Some all → lines_of all ≡ lines_in so.course.history ++ line ∷ [])
+    → Ran props old new b.world b.words b.left b.written v.written stop count
+unfolding IsPlain
+line_stops props old mid new b s line last v count stop so p is next whole = go p.play last p.plays p.result_is p.counted whole
+  where
+    h : History
+    h = so.course.history
+
+    told_here : (event : Option Happened) → told_of s.view.events event ≡ told_of (events_in h) event
+    told_here event = ap (λ (n : ℕ). told_of n event) so.course.numbered
+
+    Goal : ℕ → Ended → Type 0
+    Goal n e = Ran props old new b.world b.words b.left b.written v.written e n
+
+    go : (play : Play) (last : Bool) → PlaysSo props mid new s.view line play v → Some stop ≡ end_of_play last play → count ≡ s.count + counts play
+        → (last ≡ true → (all : List ℕ) → b.left ≡ Some all → lines_of all ≡ lines_in h ++ line ∷ []) → Ran props old new b.world b.words b.left b.written v.written stop count
+    go Played false (event, plays, wrote) is_end n whole = absurd cc
+    go Played true (event, plays, wrote) is_end n whole =
+        subst (λ (e : Ended). Goal count e) (sym (the_end stop ended.Done is_end)) (subst (λ (k : ℕ). Goal k ended.Done) (sym n)
+        (stops_behind props old mid new b s ended.Done line event v (told_of s.view.events event) so plays is ((λ left lines w. tt), tt) wrote (ap (λ (t : List ℕ). transcript h ++ t) (told_here event)) (whole refl)))
+    go BadLine last (bad, u) is_end n whole =
+        subst (λ (e : Ended). Goal count e) (sym (the_end stop ended.BadLine (is_end ∙ bad_end last))) (subst (λ (k : ℕ). Goal k ended.BadLine) (sym (n ∙ omega arith))
+        (stops_before props old mid new b s ended.BadLine v so u ((λ left lines w. tt), tt) (λ all told. let at = next.next all told in inl (line, at.0, at.1, bad))))
+      where
+        bad_end : (l : Bool) → end_of_play l BadLine ≡ Some ended.BadLine
+        bad_end true = refl
+        bad_end false = refl
+    go Unread last u is_end n whole =
+        subst (λ (e : Ended). Goal count e) (sym (the_end stop ended.NoMemory (is_end ∙ no_end last))) (subst (λ (k : ℕ). Goal k ended.NoMemory) (sym (n ∙ omega arith))
+        (stops_before props old mid new b s ended.NoMemory v so u ((λ left lines w. tt), tt) (λ all told. let at = next.next all told in (line ∷ at.0, at.1))))
+      where
+        no_end : (l : Bool) → end_of_play l Unread ≡ Some ended.NoMemory
+        no_end true = refl
+        no_end false = refl
+    go Untold last (event, plays, wrote) is_end n whole =
+        subst (λ (e : Ended). Goal count e) (sym (the_end stop ended.NoMemory (is_end ∙ no_end last))) (subst (λ (k : ℕ). Goal k ended.NoMemory) (sym n)
+        (stops_behind props old mid new b s ended.NoMemory line event v [] so plays is ((λ left lines w. tt), tt) wrote (told_of (events_in h) event, ap (λ (t : List ℕ). t ++ told_of (events_in h) event) (append-nil (transcript h)))
+        (λ all told. begins b.left (lines_in h) line next all told)))
+      where
+        no_end : (l : Bool) → end_of_play l Untold ≡ Some ended.NoMemory
+        no_end true = refl
+        no_end false = refl
+    go Unwritten last (event, plays, wrote) is_end n whole =
+        subst (λ (e : Ended). Goal count e) (sym (the_end stop ended.WriteFault (is_end ∙ no_end last))) (subst (λ (k : ℕ). Goal k ended.WriteFault) (sym n)
+        (stops_behind props old mid new b s ended.WriteFault line event v wrote.front so plays is ((λ left lines w. tt), tt) wrote.wrote
+        (wrote.more, append_assoc (transcript h) wrote.front wrote.more ∙ ap (λ (t : List ℕ). transcript h ++ t) (wrote.whole ∙ told_here event))
+        (λ all told. begins b.left (lines_in h) line next all told)))
+      where
+        no_end : (l : Bool) → end_of_play l Unwritten ≡ Some ended.WriteFault
+        no_end true = refl
+        no_end false = refl
+    go (Unopened fault) last (at, wrote) is_end n whole =
+        subst (λ (e : Ended). Goal count e) (sym (the_end stop (ended_by fault.file fault.fault) (is_end ∙ no_end last))) (subst (λ (k : ℕ). Goal k (ended_by fault.file fault.fault)) (sym (n ∙ omega arith))
+        (stops_at_restart props old mid new b s line fault v so at wrote next))
+      where
+        no_end : (l : Bool) → end_of_play l (Unopened fault) ≡ Some (ended_by fault.file fault.fault)
+        no_end true = refl
+        no_end false = refl
+
+ahead_of : (props : List PropLine) (old mid : DiskState) (b : Begin) (s : Stand) (so : SoFar props old mid b s) → IsAhead b.left s.ahead (lines_in so.course.history)
+ahead_of props old mid b s so = record { whole = so.course.whole; consumed = so.consumed }
+
+-- the next line ends the replay
+pub next_stops : (props : List PropLine) (old mid new : DiskState) (b : Begin) (s s' : Stand) (stop : Ended) → SoFar props old mid b s → Next props mid new s (Some stop) s' → Ran props old new b.world b.words b.left b.written s'.view.written stop s'.count
+unfolding IsPlain
+next_stops props old mid new b s s' stop so n = go n.how n.read n.next
+  where
+    lines : List (List ℕ)
+    lines = lines_in so.course.history
+
+    ahead : IsAhead b.left s.ahead lines
+    ahead = ahead_of props old mid b s so
+
+    ends : (e : Ended) → IsPlain e → StopsReading mid new s.view s'.view s.count s'.count e (Some stop)
+        → ((all : List ℕ) → b.left ≡ Some all → Stops e all lines) → Ran props old new b.world b.words b.left b.written s'.view.written stop s'.count
+    ends e plain r here =
+        subst (λ (x : Ended). Ran props old new b.world b.words b.left b.written s'.view.written x s'.count) (sym (the_end stop e r.result_is))
+        (subst (λ (k : ℕ). Ran props old new b.world b.words b.left b.written s'.view.written e k) (sym r.counted) (before e plain r here))
+      where
+        before : (e : Ended) → IsPlain e → StopsReading mid new s.view s'.view s.count s'.count e (Some stop)
+            → ((all : List ℕ) → b.left ≡ Some all → Stops e all lines) → Ran props old new b.world b.words b.left b.written s'.view.written e s.count
+        before e plain r here = stops_before props old mid new b s e s'.view so r.untouched plain here
+
+    go : (how : Got) → Read s how n.line s' → NextSo props mid new s how n.line (Some stop) s' → Ran props old new b.world b.words b.left b.written s'.view.written stop s'.count
+    go got.Line read played =
+        line_stops props old mid new b s n.line false s'.view s'.count stop so played read.is_line
+        (record { next = λ all told. next_is b.left s.ahead s'.ahead lines n.line ahead read.is_line (read.consumed (λ e. cc)) all told }) (λ e. absurd cc)
+    go got.End read played =
+        let whole = λ (all : List ℕ) (told : b.left ≡ Some all). last_is b.left s.ahead s'.ahead lines n.line ahead read.is_line (read.consumed (λ e. cc)) (read.end refl) all told in
+        line_stops props old mid new b s n.line true s'.view s'.count stop so played read.is_line (record { next = λ all told. ([], whole all told) }) (λ e. whole)
+    go got.TooLong read r = ends ended.BadLine ((λ left lines w. tt), tt) r (λ all told. too_long b.left s.ahead s'.ahead lines n.line ahead read.is_line (read.consumed (λ e. cc)) (read.long refl) all told)
+    go got.Past read r =
+        ends ended.BadLine ((λ left lines w. tt), tt) r (λ all told. past b.left s.ahead s'.ahead lines n.line s.used s'.used ahead read.is_line (read.consumed (λ e. cc)) so.used_is (read.used (λ e. cc)) (read.past refl).0 (read.past refl).1 all told)
+    go got.Fault read r = ends ended.ReadFault ((λ left lines w. tt), tt) r (λ all told. starts b.left s.ahead lines ahead all told)
+    go got.NoMemory read r = ends ended.NoMemory ((λ left lines w. tt), tt) r (λ all told. starts b.left s.ahead lines ahead all told)
+
+-- the next line was played, and the replay goes on
+pub record GoesFurther (props : List PropLine) (old new : DiskState) (b : Begin) (s s' : Stand) : Type 0 where
+  pub so_far : SoFar props old new b s'
+  pub further : s.used < s'.used
+  pub counted : s'.count ≡ s.count + 1
+
+pub next_goes_on : (props : List PropLine) (old mid new : DiskState) (b : Begin) (s s' : Stand) → SoFar props old mid b s → Next props mid new s None s' → GoesFurther props old new b s s'
+next_goes_on props old mid new b s s' so n = go n.how n.read n.next
+  where
+    played : (play : Play) → PlaysSo props mid new s.view n.line play s'.view → None ≡ end_of_play false play → s'.count ≡ s.count + counts play → Read s got.Line n.line s' → GoesFurther props old new b s s'
+    played Played (event, plays, wrote) is_end count read =
+        let used = read.used (λ e. cc) in
+        record {
+          so_far = subst (λ (k : ℕ). SoFar props old new b (record { view = s'.view; ahead = s'.ahead; used = s'.used; count = k })) (sym count)
+              (so_far_line props old mid new b s n.line event s'.view s'.ahead s'.used so plays wrote read.is_line (read.consumed (λ e. cc)) used);
+          further = omega (arith, used, length-append n.line (10 ∷ []));
+          counted = count;
+        }
+    played BadLine p is_end count read = absurd cc
+    played Unread p is_end count read = absurd cc
+    played Untold p is_end count read = absurd cc
+    played Unwritten p is_end count read = absurd cc
+    played (Unopened fault) p is_end count read = absurd cc
+
+    not_last : (play : Play) → None ≡ end_of_play true play → ⊥
+    not_last Played e = absurd cc
+    not_last BadLine e = absurd cc
+    not_last Unread e = absurd cc
+    not_last Untold e = absurd cc
+    not_last Unwritten e = absurd cc
+    not_last (Unopened fault) e = absurd cc
+
+    go : (how : Got) → Read s how n.line s' → NextSo props mid new s how n.line None s' → GoesFurther props old new b s s'
+    go got.Line read p = played p.play p.plays p.result_is p.counted read
+    go got.End read p = absurd (not_last p.play p.result_is)
+    go got.TooLong read r = let no = r.result_is in absurd cc
+    go got.Past read r = let no = r.result_is in absurd cc
+    go got.Fault read r = let no = r.result_is in absurd cc
+    go got.NoMemory read r = let no = r.result_is in absurd cc
+
+-- under properties that the lists stand for
+
+-- the same for all of them
+abbrev pub SoFarUnder : DiskState → DiskState → Begin → Stand → Type 0
+SoFarUnder old new b s = (props : List PropLine) → HasLists b.world props → SoFar props old new b s
+
+pub stands_under : (old mid : DiskState) (b : Begin) (s : Stand) → SoFarUnder old mid b s → (props : List PropLine) × HasLists b.world props
+    → (Tells old → (done : Acknowledged) × HoldsLogs old b.world done) → Tells mid → (done : Acknowledged) × HoldsLogs mid s.view.world done
+stands_under old mid b s so some stands tells =
+    let course = (so some.0 some.1).course in
+    let told : Tells old = subst (λ (t : Bool). IsTrue t) course.lived.run.tells tells in
+    let before = stands told in
+    (also before.0 (logged_in course.history), course.lived.stands told before.0 before.1)
+
+pub lists_under : (old mid : DiskState) (b : Begin) (s : Stand) → SoFarUnder old mid b s → (props : List PropLine) × HasLists b.world props → (props : List PropLine) × HasLists s.view.world props
+lists_under old mid b s so some = (some.0, has_lists b.world s.view.world some.0 (so some.0 some.1).course.lived.lists some.1)
+
+pub goes_on_under : (old mid new : DiskState) (b : Begin) (s s' : Stand) → SoFarUnder old mid b s → ((props : List PropLine) → HasLists s.view.world props → Next props mid new s None s')
+    → (props : List PropLine) → HasLists b.world props → GoesFurther props old new b s s'
+goes_on_under old mid new b s s' so next props has =
+    let here = so props has in
+    next_goes_on props old mid new b s s' here (next props (has_lists b.world s.view.world props here.course.lived.lists has))
+
+pub stops_under : (old mid new : DiskState) (b : Begin) (s s' : Stand) (stop : Ended) → SoFarUnder old mid b s → ((props : List PropLine) → HasLists s.view.world props → Next props mid new s (Some stop) s')
+    → (props : List PropLine) → HasLists b.world props → Ran props old new b.world b.words b.left b.written s'.view.written stop s'.count
+stops_under old mid new b s s' stop so next props has =
+    let here = so props has in
+    next_stops props old mid new b s s' stop here (next props (has_lists b.world s.view.world props here.course.lived.lists has))
+
+-- the causes of faults
+
+no_end : (e : Ended) → None ≡ Some e → ⊥
+no_end e is = absurd cc
+
+pub goes_on_untroubled : (input input' out out' disk disk' : ℕ) → input ≤ input' → out ≤ out' → disk ≤ disk' → Caused input input' out out' disk disk' None
+goes_on_untroubled input input' out out' disk disk' read write store = record {
+  read_later = read;
+  write_later = write;
+  disk_later = store;
+  read = λ e. absurd (no_end ended.ReadFault e);
+  write = λ e. absurd (no_end ended.WriteFault e);
+  store = λ e. absurd (no_end ended.StoreFault e);
+}
+
+-- the count of the disk's faults never falls
+disk_later : (props : List PropLine) (old new : DiskState) (v v' : View) (line : List ℕ) (play : Play) → PlaysSo props old new v line play v' → old.faults ≤ new.faults
+disk_later props old new v v' line Played (event, plays, wrote) = plays.goes_on.run.faults
+disk_later props old new v v' line BadLine (bad, u) = u.goes_on.run.faults
+disk_later props old new v v' line Unread u = u.goes_on.run.faults
+disk_later props old new v v' line Untold (event, plays, wrote) = plays.goes_on.run.faults
+disk_later props old new v v' line Unwritten (event, plays, wrote) = plays.goes_on.run.faults
+disk_later props old new v v' line (Unopened fault) (at, wrote) = at.fails.run.faults
+
+never_opened : (file : ℕ) (fault : StartFault) → Some (ended_by file fault) ≡ Some ended.ReadFault → ⊥
+never_opened zero (start.Damaged at) e = absurd cc
+never_opened (suc n) (start.Damaged at) e = absurd cc
+never_opened file start.StoreFault e = absurd cc
+never_opened file start.NoMemory e = absurd cc
+never_opened file start.Spent e = absurd cc
+
+is_store_fault : (file : ℕ) (fault : StartFault) → Some (ended_by file fault) ≡ Some ended.StoreFault → fault ≡ start.StoreFault
+is_store_fault zero (start.Damaged at) e = absurd cc
+is_store_fault (suc n) (start.Damaged at) e = absurd cc
+is_store_fault file start.StoreFault e = refl
+is_store_fault file start.NoMemory e = absurd cc
+is_store_fault file start.Spent e = absurd cc
+
+-- no line that was read is a fault of the input
+never_read : (last : Bool) (play : Play) → end_of_play last play ≡ Some ended.ReadFault → ⊥
+never_read true Played e = absurd cc
+never_read false Played e = absurd cc
+never_read true BadLine e = absurd cc
+never_read false BadLine e = absurd cc
+never_read true Unread e = absurd cc
+never_read false Unread e = absurd cc
+never_read true Untold e = absurd cc
+never_read false Untold e = absurd cc
+never_read true Unwritten e = absurd cc
+never_read false Unwritten e = absurd cc
+never_read true (Unopened fault) e = never_opened fault.file fault.fault e
+never_read false (Unopened fault) e = never_opened fault.file fault.fault e
+
+-- a store fault comes where a restart failed
+store_rose : (props : List PropLine) (old new : DiskState) (v v' : View) (line : List ℕ) (last : Bool) (play : Play) → PlaysSo props old new v line play v' → end_of_play last play ≡ Some ended.StoreFault
+    → Rose old.faults new.faults
+store_rose props old new v v' line true Played p e = absurd cc
+store_rose props old new v v' line false Played p e = absurd cc
+store_rose props old new v v' line true BadLine p e = absurd cc
+store_rose props old new v v' line false BadLine p e = absurd cc
+store_rose props old new v v' line true Unread p e = absurd cc
+store_rose props old new v v' line false Unread p e = absurd cc
+store_rose props old new v v' line true Untold p e = absurd cc
+store_rose props old new v v' line false Untold p e = absurd cc
+store_rose props old new v v' line true Unwritten p e = absurd cc
+store_rose props old new v v' line false Unwritten p e = absurd cc
+store_rose props old new v v' line true (Unopened fault) (at, wrote) e = at.fails.cause (is_store_fault fault.file fault.fault e)
+store_rose props old new v v' line false (Unopened fault) (at, wrote) e = at.fails.cause (is_store_fault fault.file fault.fault e)
+
+pub line_caused : (props : List PropLine) (old new : DiskState) (v v' : View) (line : List ℕ) (last : Bool) (result : Option Ended) (count count' input input' out out' : ℕ)
+    → LinePlayed props old new v line last result v' count count' → input ≤ input' → out ≤ out' → (result ≡ Some ended.WriteFault → Rose out out') → Caused input input' out out' old.faults new.faults result
+line_caused props old new v v' line last result count count' input input' out out' p read write wrote = record {
+  read_later = read;
+  write_later = write;
+  disk_later = disk_later props old new v v' line p.play p.plays;
+  read = λ e. absurd (never_read last p.play (sym p.result_is ∙ e));
+  write = wrote;
+  store = λ e. store_rose props old new v v' line last p.play p.plays (sym p.result_is ∙ e);
+}
+
+-- nothing was read yet
+pub first_ahead : (bytes : List ℕ) (left : Option (List ℕ)) → bytes ≡ [] → Consumes left (prepend_known bytes left) []
+first_ahead bytes left none = subst (λ (l : List ℕ). Consumes left (prepend_known l left) []) (sym none) (at_start left)
+  where
+    at_start : (o : Option (List ℕ)) → Consumes o (prepend_known [] o) []
+    at_start None = tt
+    at_start (Some xs) = refl

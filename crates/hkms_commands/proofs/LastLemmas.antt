@@ -1,0 +1,234 @@
+-- The last line, and a replay as a whole.
+use Rattle.std.proofs.Common.{◌≡◌, ◌⊎◌, inl, inr, ℕ, zero, suc, Bool, List, [], ◌++◌, length, refl, ap, sym, ◌∙◌, subst, IsTrue, Option, append_assoc}
+use Rattle.std.specs.Io.KnownBytes.{Appends}
+use Rattle.std.proofs.KnownBytes.{Appends-trans, Appends-nil}
+use Rattle.hk_base.specs.Disk.{DiskState, Tells}
+use Rattle.hk_base.specs.Writing.{WroteFront}
+use Rattle.frame_log.specs.declared.fault.StartFault.{StartFault}
+use Rattle.frame_log.specs.declared.fault.StartFault.TheVariants as start
+use Rattle.kms_store.specs.Store.{IsLeftByStart}
+use Rattle.name_store.specs.Store.{IsLeftByStart as IsLeftByNameStart}
+use Rattle.prop_text.specs.declared.lines.PropLine.{PropLine}
+use Rattle.prop_text.specs.declared.faults.PropFault.{PropFault}
+use Rattle.prop_text.specs.declared.faults.PropFault.TheVariants as prop_fault
+use Rattle.world_run.specs.Acknowledged.{Acknowledged, LeavesBoth, RunBoth, also}
+use Rattle.world_run.specs.Keeps.{Begins, LeftByStarts}
+use Rattle.world_run.specs.Ledger.{Ledger}
+use Rattle.world_run.specs.Linked.{SoundFiles, StartsSound}
+use Rattle.world_run.specs.World.{RunningWorld, WorldState, first_world, world_of}
+use Rattle.hkms_commands.specs.declared.replay.Ended.{Ended}
+use Rattle.hkms_commands.specs.declared.replay.Ended.TheVariants as ended
+use Rattle.hkms_commands.specs.declared.props.PropsFault.{PropsFault}
+use Rattle.hkms_commands.specs.declared.props.PropsFault.TheVariants as props_fault
+use Rattle.hkms_commands.specs.Properties.{HasPropsFault, ReadsProperties}
+use Rattle.hkms_commands.specs.Run.{History, Runs, lines_in, logged_in, transcript, world_after}
+use Rattle.hkms_commands.specs.Replay.{IsTold, NotOpened, OnDisk, Played, ReadsAt, Replay, ReplayUnder, RestartStops, Says, SurvivesUntil, ended_by, ended_by_props, ended_by_text, last_line, opened_logs, status_of}
+use Rattle.hkms_commands.specs.Steps.{Closes, Ran}
+use Rattle.hkms_commands.proofs.BeganLemmas.{Synced, promise_kept, since_kept, survives_kept}
+use Rattle.hkms_commands.proofs.LivedLemmas.{tells_now}
+
+-- what is written behind a body
+
+-- all that is written in a replay
+record Wrote (stop how : Ended) (lines : ℕ) (told : List ℕ) (written now : Option (List ℕ)) : Type 0 where
+  text : List ℕ
+  wrote : Appends written now text
+  says : Says stop how lines told text
+
+closed : (stop how : Ended) (lines : ℕ) (told body : List ℕ) (written mid now : Option (List ℕ)) → IsTold stop body told → Appends written mid body → Closes stop lines mid now how → Wrote stop how lines told written now
+closed stop how lines told body written mid now is wrote c = go c.writes
+  where
+    go : ((how ≡ c.last) × Appends mid now (last_line c.last lines)) ⊎ ((how ≡ ended.WriteFault) × WroteFront mid now (last_line c.last lines)) → Wrote stop how lines told written now
+    go (inl (end, more)) = record {
+      text = body ++ last_line c.last lines;
+      wrote = Appends-trans written mid now _ _ wrote more;
+      says = record { body = body; is_told = is; last = c.last; last_is = c.last_is; closes = inl (end, refl) };
+    }
+    go (inr (end, front)) = record {
+      text = body ++ front.front;
+      wrote = Appends-trans written mid now _ _ wrote front.wrote;
+      says = record {
+        body = body;
+        is_told = is;
+        last = c.last;
+        last_is = c.last_is;
+        closes = inr (end, (front.more, append_assoc body front.front front.more ∙ ap (λ (l : List ℕ). body ++ l) front.whole));
+      };
+    }
+
+-- a replay that ends by another cause than want of memory or a fault of the output was stopped by it
+pub stopped_by : (stop : Ended) (lines : ℕ) (written now : Option (List ℕ)) (how fault : Ended) → Closes stop lines written now how → (fault ≡ ended.NoMemory → ⊥) → (fault ≡ ended.WriteFault → ⊥) → how ≡ fault → stop ≡ fault
+stopped_by stop lines written now how fault c no_memory no_write is = go c.writes
+  where
+    by_last : how ≡ c.last → (c.last ≡ stop) ⊎ (c.last ≡ ended.NoMemory) → stop ≡ fault
+    by_last e (inl m) = sym m ∙ sym e ∙ is
+    by_last e (inr m) = absurd (no_memory (sym is ∙ e ∙ m))
+
+    go : ((how ≡ c.last) × Appends written now (last_line c.last lines)) ⊎ ((how ≡ ended.WriteFault) × WroteFront written now (last_line c.last lines)) → stop ≡ fault
+    go (inl (e, more)) = by_last e c.last_is
+    go (inr (e, front)) = absurd (no_write (sym is ∙ e))
+
+-- a log could not be opened
+
+nothing_told : (file : ℕ) (f : StartFault) → IsTold (ended_by file f) [] []
+nothing_told zero (start.Damaged at) = refl
+nothing_told (suc n) (start.Damaged at) = refl
+nothing_told file start.StoreFault = refl
+nothing_told file start.NoMemory = ([], refl)
+nothing_told file start.Spent = refl
+
+pub unopened : (lines : List PropLine) (old new : DiskState) (words : ℕ → ℕ) (left written now : Option (List ℕ)) (file : ℕ) (fault : StartFault) (how : Ended) → NotOpened old new file fault → Closes (ended_by file fault) 0 written now how
+    → ReplayUnder lines old new words left written now how
+unopened lines old new words left written now file fault how not c =
+    let w = closed (ended_by file fault) how 0 [] [] written written now (nothing_told file fault) (Appends-nil written) c in
+    inl (record { file = file; fault = fault; not_opened = not; text = w.text; wrote = w.wrote; says = w.says })
+
+-- the properties could not be read
+
+nothing_told_of_text : (f : PropFault) → IsTold (ended_by_text f) [] []
+nothing_told_of_text (prop_fault.BadLine number) = refl
+nothing_told_of_text (prop_fault.Repeated number) = refl
+nothing_told_of_text (prop_fault.UnknownName number) = refl
+nothing_told_of_text prop_fault.TooLong = refl
+nothing_told_of_text prop_fault.NoMemory = ([], refl)
+
+nothing_told_of_props : (f : PropsFault) → IsTold (ended_by_props f) [] []
+nothing_told_of_props props_fault.ReadFault = refl
+nothing_told_of_props (props_fault.TextFault f) = nothing_told_of_text f
+
+pub bad_properties : (same : Type 0) (old new : DiskState) (acls acls' : Option (List ℕ)) (words : ℕ → ℕ) (left written now : Option (List ℕ)) (fault : PropsFault) (how : Ended)
+    → HasPropsFault acls fault → same → Closes (ended_by_props fault) 0 written now how → Replay same old new acls acls' words left written now how
+bad_properties same old new acls acls' words left written now fault how has untouched c =
+    let w = closed (ended_by_props fault) how 0 [] [] written written now (nothing_told_of_props fault) (Appends-nil written) c in
+    inl (record { fault = fault; has_fault = has; untouched = untouched; text = w.text; wrote = w.wrote; says = w.says })
+
+pub has_read : (same : Type 0) (old new : DiskState) (acls acls' : Option (List ℕ)) (words : ℕ → ℕ) (left written now : Option (List ℕ)) (how : Ended) (lines : List PropLine)
+    → ReadsProperties acls acls' lines → ReplayUnder lines old new words left written now how → Replay same old new acls acls' words left written now how
+has_read same old new acls acls' words left written now how lines read replay = inr (record { lines = lines; read = read; replay = replay })
+
+-- lines were played
+
+-- lines were played
+
+pub played : (lines : List PropLine) (old mid new : DiskState) (r : RunningWorld) (words : ℕ → ℕ) (left written told now : Option (List ℕ)) (stop how : Ended) (count : ℕ) → Begins old mid r
+    → (Tells old → LeavesBoth old mid (LeftByStarts old)) → (Tells old → Synced old mid) → (Tells old → (ledger : Ledger) (place : ℕ) → StartsSound old ledger place → LeavesBoth old mid (SoundFiles ledger place)) → RunBoth old mid
+    → Ran lines mid new r words left written told stop count → Closes stop count told now how → ReplayUnder lines old new words left written now how
+played lines old mid new r words left written told now stop how count b moments since sound run ran c =
+    inr (record { history = h; stop = stop; played = whole; text = w.text; wrote = w.wrote; says = w.says })
+  where
+    h : History
+    h = ran.history
+
+    first : WorldState
+    first = first_world b.table b.names
+
+    w : Wrote stop how (length (lines_in h)) (transcript h) written now
+    w = subst (λ (n : ℕ). Wrote stop how n (transcript h) written now) ran.counted (closed stop how count (transcript h) ran.text written told now ran.told ran.wrote c)
+
+    same_tells : Tells mid ≡ Tells old
+    same_tells = ap (λ (t : Bool). IsTrue t) run.tells
+
+    found : Tells old → Acknowledged
+    found tells = opened_logs (b.log tells).commands b.table (b.log tells).ops b.names
+
+    disk : Tells old → OnDisk old new words b.table b.names h stop
+    disk tells =
+        let log = b.log tells in
+        let later : LeavesBoth mid new (SurvivesUntil stop (found tells) (world_of r) words h) = (ran.kept (tells_now old mid run tells) (found tells) log.holds).moments in
+        record {
+          commands = log.commands;
+          ops = log.ops;
+          used = log.used;
+          keys = log.keys;
+          edits = log.edits;
+          moments = survives_kept old mid new r words h stop first (found tells) b.first (moments tells) run later;
+          since_sync_keys = since_kept 0 (IsLeftByStart (old.reads 0)) old mid new r words h stop first (found tells) b.first (since tells).0 ran.run later;
+          since_sync_names = since_kept 1 (IsLeftByNameStart (old.reads 1)) old mid new r words h stop first (found tells) b.first (since tells).1 ran.run later;
+        }
+
+    whole : Played lines old new words left stop h
+    whole = record {
+      table = b.table;
+      names = b.names;
+      before = mid.faults;
+      runs = subst (λ (T : Type 0). Runs lines T first words mid.faults h) same_tells (subst (λ (v : WorldState). Runs lines (Tells mid) v words mid.faults h) b.first ran.runs);
+      began = run.faults;
+      ended = ran.counted_faults;
+      on_disk = disk;
+      promise = λ tells. promise_kept old mid new r words h b tells run (sound tells) (ran.promise (tells_now old mid run tells));
+      reads = λ tells. subst (λ (v : WorldState). ReadsAt stop left (lines_in h) new (also (found tells) (logged_in h)) (world_after v h)) b.first (ran.kept (tells_now old mid run tells) (found tells) (b.log tells).holds).reads;
+      restart = λ tells. subst (λ (v : WorldState). RestartStops stop left (lines_in h) (world_after v h)) b.first (ran.restart (tells_now old mid run tells));
+      stops = ran.stops;
+      has_properties = ran.has_properties;
+    }
+
+-- statuses and their causes
+
+pub is_done : (how : Ended) → status_of how ≡ 0 → how ≡ ended.Done
+is_done ended.Done h = refl
+is_done (ended.AclRefused number) h = absurd cc
+is_done (ended.AclRepeated number) h = absurd cc
+is_done (ended.AclUnknown number) h = absurd cc
+is_done ended.AclTooLong h = absurd cc
+is_done ended.BadLine h = absurd cc
+is_done (ended.DamagedKeys at) h = absurd cc
+is_done (ended.DamagedNames at) h = absurd cc
+is_done ended.StoreFault h = absurd cc
+is_done ended.NoMemory h = absurd cc
+is_done ended.ReadFault h = absurd cc
+is_done ended.WriteFault h = absurd cc
+is_done ended.Spent h = absurd cc
+
+pub is_store : (how : Ended) → status_of how ≡ 5 → how ≡ ended.StoreFault
+is_store ended.Done h = absurd cc
+is_store (ended.AclRefused number) h = absurd cc
+is_store (ended.AclRepeated number) h = absurd cc
+is_store (ended.AclUnknown number) h = absurd cc
+is_store ended.AclTooLong h = absurd cc
+is_store ended.BadLine h = absurd cc
+is_store (ended.DamagedKeys at) h = absurd cc
+is_store (ended.DamagedNames at) h = absurd cc
+is_store ended.StoreFault h = refl
+is_store ended.NoMemory h = absurd cc
+is_store ended.ReadFault h = absurd cc
+is_store ended.WriteFault h = absurd cc
+is_store ended.Spent h = absurd cc
+
+pub is_read : (how : Ended) → status_of how ≡ 7 → how ≡ ended.ReadFault
+is_read ended.Done h = absurd cc
+is_read (ended.AclRefused number) h = absurd cc
+is_read (ended.AclRepeated number) h = absurd cc
+is_read (ended.AclUnknown number) h = absurd cc
+is_read ended.AclTooLong h = absurd cc
+is_read ended.BadLine h = absurd cc
+is_read (ended.DamagedKeys at) h = absurd cc
+is_read (ended.DamagedNames at) h = absurd cc
+is_read ended.StoreFault h = absurd cc
+is_read ended.NoMemory h = absurd cc
+is_read ended.ReadFault h = refl
+is_read ended.WriteFault h = absurd cc
+is_read ended.Spent h = absurd cc
+
+pub is_write : (how : Ended) → status_of how ≡ 8 → how ≡ ended.WriteFault
+is_write ended.Done h = absurd cc
+is_write (ended.AclRefused number) h = absurd cc
+is_write (ended.AclRepeated number) h = absurd cc
+is_write (ended.AclUnknown number) h = absurd cc
+is_write ended.AclTooLong h = absurd cc
+is_write ended.BadLine h = absurd cc
+is_write (ended.DamagedKeys at) h = absurd cc
+is_write (ended.DamagedNames at) h = absurd cc
+is_write ended.StoreFault h = absurd cc
+is_write ended.NoMemory h = absurd cc
+is_write ended.ReadFault h = absurd cc
+is_write ended.WriteFault h = refl
+is_write ended.Spent h = absurd cc
+
+-- an end that is neither want of memory nor a fault of the output is the one for which the replay stopped
+pub stopped : (stop how : Ended) (lines : ℕ) (written now : Option (List ℕ)) → Closes stop lines written now how → (how ≡ ended.NoMemory → ⊥) → (how ≡ ended.WriteFault → ⊥) → stop ≡ how
+stopped stop how lines written now c no_memory no_write = go c.last_is c.writes
+  where
+    go : (c.last ≡ stop) ⊎ (c.last ≡ ended.NoMemory) → ((how ≡ c.last) × Appends written now (last_line c.last lines)) ⊎ ((how ≡ ended.WriteFault) × WroteFront written now (last_line c.last lines)) → stop ≡ how
+    go o (inr (end, front)) = absurd (no_write end)
+    go (inl is) (inl (end, more)) = sym is ∙ sym end
+    go (inr is) (inl (end, more)) = absurd (no_memory (end ∙ is))

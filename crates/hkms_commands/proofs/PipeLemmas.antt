@@ -1,0 +1,206 @@
+-- The calls of a connection, and a connection as a whole.
+use Rattle.std.proofs.Common.{◌≡◌, ◌≢◌, inl, inr, ◌≤◌, ℕ, List, [], ◌∷◌, refl, ap, sym, ◌∙◌, subst, IsTrue, Bool, Option, Some, arith}
+use Rattle.hk_base.specs.Disk.{DiskState, Tells}
+use Rattle.hk_base.specs.Faults.{Rose}
+use Rattle.kms_calls.specs.declared.calls.KmsCall.{KmsCall}
+use Rattle.kms_calls.specs.declared.calls.KmsReply.{KmsReply}
+use Rattle.kms_store.specs.Store.{IsLeftByStart}
+use Rattle.name_store.specs.Store.{IsLeftByStart as IsLeftByNameStart}
+use Rattle.prop_text.specs.declared.lines.PropLine.{PropLine}
+use Rattle.hk_events.specs.declared.event.Event.{Event}
+use Rattle.hk_events.specs.declared.event.Event.TheVariants as event
+use Rattle.hk_events.specs.declared.event.Line.{Line}
+use Rattle.hk_events.specs.declared.event.Line.TheVariants as line
+use Rattle.world_run.specs.Acknowledged.{Acknowledged, LeavesBoth, RunBoth}
+use Rattle.world_run.specs.World.{RunningWorld, WorldState, first_world, world_of}
+use Rattle.world_run.specs.Keeps.{Begins, LeftByStarts, LinkedStep, Steps}
+use Rattle.world_run.specs.Ledger.{Ledger}
+use Rattle.world_run.specs.Linked.{SoundFiles, StartsSound}
+use Rattle.hk_serve.specs.declared.ended.Ended.{Ended}
+use Rattle.hk_serve.specs.declared.ended.Ended.TheVariants as ended
+use Rattle.hk_serve.specs.Exchanges.{Stand}
+use Rattle.hk_serve.specs.Served.{Served}
+use Rattle.hk_serve.specs.Worlds.{Happens, WorldView}
+use Rattle.http_wire.specs.Reading.{ahead}
+use Rattle.hkms_commands.specs.declared.replay.Ended.{Ended as Replayed}
+use Rattle.hkms_commands.specs.declared.replay.Ended.TheVariants as replayed
+use Rattle.hkms_commands.specs.Pipe.{Asks, Converses, Pipe, PipeUnder, connection_status}
+use Rattle.hkms_commands.specs.Replay.{SurvivesUntil, ended_by, ended_by_props, opened_logs, status_of}
+use Rattle.hkms_commands.specs.Run.{Happened, History, behind, drawn_in, faults_after, world_after}
+use Rattle.hkms_commands.specs.Steps.{HasLists}
+use Rattle.hkms_commands.proofs.BeganLemmas.{Synced, promise_kept, since_kept, survives_kept}
+use Rattle.hkms_commands.proofs.FollowLemmas.{ServedSo, served_so}
+use Rattle.hkms_commands.proofs.LivedLemmas.{Adds, Lived, has_lists, lived_more, lived_nothing, tells_now, weaker}
+
+-- where a connection began: what the disk was, the services, and the words to come
+pub record Opened : Type 1 where
+  pub disk : DiskState
+  pub services : RunningWorld
+  pub words : ℕ → ℕ
+
+-- the calls so far, and where they have led
+abbrev Talked : Opened → DiskState → RunningWorld → (ℕ → ℕ) → History → Type 0
+Talked o now r words history = Lived o.disk now o.services o.words r words history
+
+-- a step is alike beside the same values
+same_step : (props : List PropLine) (T U : Type 0) (w v : WorldState) (words others : ℕ → ℕ) (f g after now drawn : ℕ) (e : Event) (told : Line) (logged : Acknowledged) (w' : WorldState)
+    → T ≡ U → w ≡ v → ((k : ℕ) → words k ≡ others k) → f ≡ g
+    → LinkedStep props w words now e (Rose f after) T told drawn logged w' → LinkedStep props v others now e (Rose g after) U told drawn logged w'
+same_step props T U w v words others f g after now drawn e told logged w' t p q r step =
+    let words_path : words ≡ others = λ i k. q k i in
+    subst (λ (X : Type 0). LinkedStep props v others now e (Rose g after) X told drawn logged w') t
+    (subst (λ (x : ℕ). LinkedStep props v others now e (Rose x after) T told drawn logged w') r
+    (subst (λ (x : ℕ → ℕ). LinkedStep props v x now e (Rose f after) T told drawn logged w') words_path
+    (subst (λ (x : WorldState). LinkedStep props x words now e (Rose f after) T told drawn logged w') p step)))
+
+-- one call more: what it adds to the history
+pub record CallMore (props : List PropLine) (o : Opened) (new : DiskState) (r : RunningWorld) (words : ℕ → ℕ) (earlier : History) (user : List ℕ) (asked : KmsCall) (reply : KmsReply) : Type 0 where
+  pub later : History
+  pub asks : Asks props (Tells o.disk) (world_of o.services) o.words o.disk.faults earlier user asked reply later
+  pub talked : Talked o new r words later
+
+call_more : (props : List PropLine) (o : Opened) (mid new : DiskState) (r s : RunningWorld) (words words' : ℕ → ℕ) (earlier : History) (now : ℕ) (user : List ℕ) (asked : KmsCall) (reply : KmsReply)
+    → Talked o mid r words earlier → Steps props mid new r words now (event.Kms user asked) (line.Kms reply) s words' → CallMore props o new s words' earlier user asked reply
+call_more props o mid new r s words words' earlier now user asked reply so steps = record {
+  later = record { line = []; event = Some h } ∷ earlier;
+  asks = record {
+    happened = h;
+    grows = refl;
+    runs = record {
+      event_is = refl;
+      reply_is = refl;
+      later = subst (λ (n : ℕ). n ≤ new.faults) so.faults_are steps.run.faults;
+      step = same_step props (Tells mid) (Tells o.disk) (world_of r) (world_after (world_of o.services) earlier) words (behind (drawn_in earlier) o.words) mid.faults (faults_after o.disk.faults earlier) new.faults now steps.drawn
+          (event.Kms user asked) (line.Kms reply) steps.logged (world_of s) (ap (λ (t : Bool). IsTrue t) so.run.tells) so.world_is so.rest so.faults_are steps.step;
+    };
+  };
+  talked = lived_more o.disk mid new o.services r s o.words words words' earlier [] (Some h) so adds;
+}
+  where
+    h : Happened
+    h = record { event = event.Kms user asked; now = now; reply = line.Kms reply; drawn = steps.drawn; logged = steps.logged; world = world_of s; faults = new.faults }
+
+    adds : Adds mid new r words (Some h) s words'
+    adds = record {
+      linked = λ told hidden linked. steps.step.linked tt hidden linked;
+      files_open = λ told hidden is. steps.step.files_open tt hidden is.linked;
+      world_is = refl;
+      lists = steps.lists;
+      faults_are = refl;
+      rest = steps.rest;
+      goes_on = record { stands = steps.stands; survives = steps.survives; sound = steps.sound; run = steps.run };
+    }
+
+-- the services talk as their history says
+abbrev TalksAs : {D W : Type 0} → (D → DiskState) → (W → ℕ → ℕ) → Opened → WorldView D W → History → Type 0
+TalksAs state to_come o v history = Talked o (state v.disk) v.world (to_come v.words) history
+
+-- a connection was served, once both logs were opened
+pub converses : {D W : Type 0} (state : D → DiskState) (to_come : W → ℕ → ℕ) (props : List PropLine) (old : DiskState) (v v' : WorldView D W) (left left' written now : Option (List ℕ)) (unused : List ℕ) (how : Ended)
+    → Begins old (state v.disk) v.world → (Tells old → LeavesBoth old (state v.disk) (LeftByStarts old)) → (Tells old → Synced old (state v.disk))
+    → (Tells old → (ledger : Ledger) (place : ℕ) → StartsSound old ledger place → LeavesBoth old (state v.disk) (SoundFiles ledger place)) → RunBoth old (state v.disk) → HasLists v.world props
+    → Served (Happens state to_come) (record { ahead = left; desk = v; written = written }) (record { ahead = ahead unused left'; desk = v'; written = now }) how
+    → Converses props old (state v'.disk) (to_come v.words) left left' written now how
+converses {D} {W} state to_come props old v v' left left' written now unused how b moments since sound run has served = record {
+  table = b.table;
+  names = b.names;
+  before = mid.faults;
+  history = h;
+  unused = unused;
+  served = subst (λ (T : Type 0). Served (Asks props T (first_world b.table b.names) words mid.faults) begun ended_so how) (ap (λ (t : Bool). IsTrue t) run.tells)
+      (subst (λ (w : WorldState). Served (Asks props (Tells mid) w words mid.faults) begun ended_so how) b.first so.served);
+  began = run.faults;
+  ended = omega (arith, talked.faults_are);
+  on_disk = λ told.
+      let log = b.log told in
+      let found : Acknowledged = opened_logs log.commands b.table log.ops b.names in
+      let later : LeavesBoth mid (state v'.disk) (SurvivesUntil replayed.Done found (world_of v.world) words h) = weaker (λ image left. inl left) (talked.survives (tells_now old mid run told) found log.holds) in
+      record {
+        commands = log.commands;
+        ops = log.ops;
+        used = log.used;
+        keys = log.keys;
+        edits = log.edits;
+        moments = survives_kept old mid (state v'.disk) v.world words h replayed.Done (first_world b.table b.names) found b.first (moments told) run later;
+        since_sync_keys = since_kept 0 (IsLeftByStart (old.reads 0)) old mid (state v'.disk) v.world words h replayed.Done (first_world b.table b.names) found b.first (since told).0 talked.run later;
+        since_sync_names = since_kept 1 (IsLeftByNameStart (old.reads 1)) old mid (state v'.disk) v.world words h replayed.Done (first_world b.table b.names) found b.first (since told).1 talked.run later;
+      };
+  promise = λ told. promise_kept old mid (state v'.disk) v.world words h b told run (sound told)
+      (λ done holds before hidden. record {
+        files_open = talked.files_open (tells_now old mid run told) before hidden;
+        sound = talked.sound (tells_now old mid run told) done holds before hidden.linked;
+      });
+  reads = λ told.
+      let log = b.log told in (
+        v'.world,
+        subst (λ (w : WorldState). world_of v'.world ≡ world_after w h) b.first talked.world_is,
+        talked.stands (tells_now old mid run told) (opened_logs log.commands b.table log.ops b.names) log.holds,
+      );
+}
+  where
+    mid : DiskState
+    mid = state v.disk
+
+    words : ℕ → ℕ
+    words = to_come v.words
+
+    o : Opened
+    o = record { disk = mid; services = v.world; words = words }
+
+    so : ServedSo (Asks props (Tells mid) (world_of v.world) words mid.faults) (TalksAs state to_come o) (record { ahead = left; desk = v; written = written }) (record { ahead = ahead unused left'; desk = v'; written = now }) how []
+    so = served_so (Happens state to_come) (Asks props (Tells mid) (world_of v.world) words mid.faults) (TalksAs state to_come o)
+        (λ d e user asked reply next r happens.
+        let steps = happens.steps props (has_lists v.world d.world props r.lists has) in
+        let more = call_more props o (state d.disk) (state next.disk) d.world next.world (to_come d.words) (to_come next.words) e happens.now user asked reply r steps in
+        (more.later, (more.asks, more.talked)))
+        (record { ahead = left; desk = v; written = written }) (record { ahead = ahead unused left'; desk = v'; written = now }) how [] (lived_nothing mid v.world words words (λ k. refl)) served
+
+    h : History
+    h = so.then
+
+    begun : Stand History
+    begun = record { ahead = left; desk = []; written = written }
+
+    ended_so : Stand History
+    ended_so = record { ahead = ahead unused left'; desk = h; written = now }
+
+    talked : Talked o (state v'.disk) v'.world (to_come v'.words) h
+    talked = so.follows
+
+-- no replay and no connection has the status of refused words
+
+connection_usage : (how : Ended) → connection_status how ≡ 2 → ⊥
+connection_usage ended.End h = absurd cc
+connection_usage ended.Closed h = absurd cc
+connection_usage ended.TooLong h = absurd cc
+connection_usage ended.Wire h = absurd cc
+connection_usage ended.ReadFault h = absurd cc
+connection_usage ended.WriteFault h = absurd cc
+connection_usage ended.NoMemory h = absurd cc
+
+replay_usage : (how : Replayed) → status_of how ≡ 2 → ⊥
+replay_usage replayed.Done h = absurd cc
+replay_usage (replayed.AclRefused number) h = absurd cc
+replay_usage (replayed.AclRepeated number) h = absurd cc
+replay_usage (replayed.AclUnknown number) h = absurd cc
+replay_usage replayed.AclTooLong h = absurd cc
+replay_usage replayed.BadLine h = absurd cc
+replay_usage (replayed.DamagedKeys at) h = absurd cc
+replay_usage (replayed.DamagedNames at) h = absurd cc
+replay_usage replayed.StoreFault h = absurd cc
+replay_usage replayed.NoMemory h = absurd cc
+replay_usage replayed.ReadFault h = absurd cc
+replay_usage replayed.WriteFault h = absurd cc
+replay_usage replayed.Spent h = absurd cc
+
+pub replay_is_no_usage : (status : ℕ) (how : Replayed) → status ≡ status_of how → status ≢ 2
+replay_is_no_usage status how is two = replay_usage how (sym is ∙ two)
+
+pub pipe_is_no_usage : (same_disk same : Type 0) (old new : DiskState) (acls acls' : Option (List ℕ)) (words : ℕ → ℕ) (left left' written now : Option (List ℕ)) (status : ℕ)
+    → Pipe same_disk same old new acls acls' words left left' written now status → status ≢ 2
+pipe_is_no_usage same_disk same old new acls acls' words left left' written now status (inl refused) two = replay_usage (ended_by_props refused.fault) (sym refused.status_is ∙ two)
+pipe_is_no_usage same_disk same old new acls acls' words left left' written now status (inr pipes) two = go pipes.pipe
+  where
+    go : PipeUnder pipes.lines same old new words left left' written now status → ⊥
+    go (inl cannot) = replay_usage (ended_by cannot.file cannot.fault) (sym cannot.status_is ∙ two)
+    go (inr connects) = connection_usage connects.how (sym connects.status_is ∙ two)

@@ -1,0 +1,315 @@
+-- How a replay ends.
+use Rattle.std.specs.Prelude.{◌≡◌, ◌⊎◌, ℕ, zero, suc, ◌+◌, ◌<◌, ◌≤◌, ◌^◌, Bool, List, [], ◌∷◌, ◌++◌, length, count_by, take, codes, Option, Some}
+use Rattle.std.specs.Fmt.{decimal}
+use Rattle.std.specs.Io.KnownBytes.{Appends}
+use Rattle.hk_base.specs.Disk.{DiskState, Image, LeavesOnly, RunOn, Tells}
+use Rattle.frame_log.specs.Stands.{LeavesFrom}
+use Rattle.frame_log.specs.declared.fault.StartFault.{StartFault}
+use Rattle.frame_log.specs.declared.fault.StartFault.TheVariants as start
+use Rattle.edit_ops.specs.declared.ops.EditOp.{EditOp}
+use Rattle.key_rows.specs.declared.rows.KeyCommand.{KeyCommand}
+use Rattle.key_rows.specs.Table.{Table}
+use Rattle.prop_text.specs.declared.faults.PropFault.{PropFault}
+use Rattle.prop_text.specs.declared.faults.PropFault.TheVariants as prop_fault
+use Rattle.prop_text.specs.declared.lines.PropLine.{PropLine}
+use Rattle.kms_core.specs.State.{settled}
+use Rattle.kms_store.specs.Store.{IsDamagedAt, IsKeyLog, IsLeftByStart, next_opening}
+use Rattle.name_core.specs.State.{settled as settled_names}
+use Rattle.name_store.specs.Table.{NameTable, Replayed, next_opening as next_opening_of_names}
+use Rattle.name_store.specs.Store.{IsDamagedAt as IsDamagedName, IsLeftByStart as IsLeftByNameStart, IsNameLog}
+use Rattle.replay_text.specs.Events.{IsBad, Spells}
+use Rattle.hk_events.specs.declared.event.Event.{Event}
+use Rattle.hk_events.specs.declared.event.Event.TheVariants.{RestartKms, RestartName}
+use Rattle.world_run.specs.Acknowledged.{Acknowledged, HoldsLogs, LeavesBoth, also}
+use Rattle.world_run.specs.Keeps.{LeftByStarts}
+use Rattle.world_run.specs.Ledger.{Ledger, drawn_before}
+use Rattle.world_run.specs.Linked.{SoundFiles, StartsSound}
+use Rattle.world_run.specs.Own.{SurvivesRestart}
+use Rattle.world_run.specs.Starts.{MayOpenKeys}
+use Rattle.world_run.specs.World.{RunningWorld, WorldState, first_world, world_of}
+use Rattle.hkms_commands.specs.declared.replay.Ended.{Ended}
+use Rattle.hkms_commands.specs.declared.replay.Ended.TheVariants.{Done, AclRefused, AclRepeated, AclUnknown, AclTooLong, BadLine, DamagedKeys, DamagedNames, StoreFault, NoMemory, ReadFault, WriteFault, Spent}
+use Rattle.hkms_commands.specs.declared.props.PropsFault.{PropsFault}
+use Rattle.hkms_commands.specs.declared.props.PropsFault.TheVariants as props_fault
+use Rattle.hkms_commands.specs.Lines.{lines_of, is_lf}
+use Rattle.hkms_commands.specs.Properties.{HasPropsFault, ReadsProperties}
+use Rattle.hkms_commands.specs.Run.{FilesOpen, History, Runs, SoundIn, SurvivesIn, faults_after, lines_in, logged_in, transcript, world_after}
+
+-- an input has at most 2^40 bytes
+abbrev pub longest_input : ℕ
+longest_input = 2 ^ 40
+
+-- the first byte past the longest input stands behind so many LF
+pub record IsPast (all : List ℕ) (lines : ℕ) : Type 0 where
+  pub long : longest_input < length all
+  pub place : count_by is_lf (take longest_input all) ≡ lines
+
+-- the text has these lines first
+abbrev pub Starts : List ℕ → List (List ℕ) → Type 0
+Starts all lines = (after : List (List ℕ)) × (lines_of all ≡ lines ++ after)
+
+-- after these lines the next line is a bad one, or the text is too long there
+abbrev pub BadNext : List ℕ → List (List ℕ) → Type 0
+BadNext all lines =
+    ((bad : List ℕ) × (more : List (List ℕ)) × (lines_of all ≡ lines ++ bad ∷ more) × IsBad bad) ⊎ (Starts all lines × IsPast all (length lines))
+
+-- after these lines comes one that spells this event
+abbrev pub NextSpells : List ℕ → List (List ℕ) → Event → Type 0
+NextSpells all lines e = (line : List ℕ) × (more : List (List ℕ)) × (lines_of all ≡ lines ++ line ∷ more) × Spells line e
+
+-- after these lines comes a restart of either service
+abbrev pub RestartNext : List ℕ → List (List ℕ) → Type 0
+RestartNext all lines = NextSpells all lines RestartKms ⊎ NextSpells all lines RestartName
+
+abbrev pub status_of : Ended → ℕ
+status_of Done = 0
+status_of (AclRefused number) = 3
+status_of (AclRepeated number) = 3
+status_of (AclUnknown number) = 3
+status_of AclTooLong = 3
+status_of BadLine = 3
+status_of (DamagedKeys at) = 4
+status_of (DamagedNames at) = 4
+status_of StoreFault = 5
+status_of NoMemory = 6
+status_of ReadFault = 7
+status_of WriteFault = 8
+status_of Spent = 10
+
+-- the last line, after so many lines
+abbrev pub last_line : Ended → ℕ → List ℕ
+last_line Done lines = []
+last_line (AclRefused number) lines = codes "acl line " ++ decimal number ++ codes " refused\n"
+last_line (AclRepeated number) lines = codes "acl line " ++ decimal number ++ codes " repeated\n"
+last_line (AclUnknown number) lines = codes "acl line " ++ decimal number ++ codes " unknown\n"
+last_line AclTooLong lines = codes "acl too long\n"
+last_line BadLine lines = codes "line " ++ decimal (lines + 1) ++ codes " refused\n"
+last_line (DamagedKeys at) lines = codes "damaged keys " ++ decimal at ++ codes "\n"
+last_line (DamagedNames at) lines = codes "damaged names " ++ decimal at ++ codes "\n"
+last_line StoreFault lines = codes "store fault\n"
+last_line NoMemory lines = codes "no memory\n"
+last_line ReadFault lines = codes "read fault\n"
+last_line WriteFault lines = []
+last_line Spent lines = codes "openings spent\n"
+
+-- where the input stands at an end, after these lines
+abbrev pub Stops : Ended → List ℕ → List (List ℕ) → Type 0
+Stops Done all lines = lines_of all ≡ lines
+Stops BadLine all lines = BadNext all lines
+Stops (DamagedKeys at) all lines = NextSpells all lines RestartKms
+Stops (DamagedNames at) all lines = NextSpells all lines RestartName
+Stops StoreFault all lines = RestartNext all lines
+Stops Spent all lines = RestartNext all lines
+Stops _ all lines = Starts all lines
+
+-- the text is a front of the other
+abbrev pub IsFront : List ℕ → List ℕ → Type 0
+IsFront text whole = (more : List ℕ) × (text ++ more ≡ whole)
+
+-- What is written of a transcript at an end: all of it, but where memory was wanting for an answer or the output failed.
+abbrev pub IsTold : Ended → List ℕ → List ℕ → Type 0
+IsTold NoMemory text told = IsFront text told
+IsTold WriteFault text told = IsFront text told
+IsTold _ text told = text ≡ told
+
+-- The replay stopped for the one cause, after so many lines, and ended so. Behind what was told stands the last line of that
+-- cause, or the one of want of memory, where there was none for it; or a front of this, and the output failed.
+pub record Says (stop how : Ended) (lines : ℕ) (told text : List ℕ) : Type 0 where
+  pub body : List ℕ
+  pub is_told : IsTold stop body told
+  pub last : Ended
+  pub last_is : (last ≡ stop) ⊎ (last ≡ NoMemory)
+  pub closes : ((how ≡ last) × (text ≡ body ++ last_line last lines)) ⊎ ((how ≡ WriteFault) × IsFront text (body ++ last_line last lines))
+
+-- how a replay ends where the text has a fault
+abbrev pub ended_by_text : PropFault → Ended
+ended_by_text (prop_fault.BadLine number) = AclRefused number
+ended_by_text (prop_fault.Repeated number) = AclRepeated number
+ended_by_text (prop_fault.UnknownName number) = AclUnknown number
+ended_by_text prop_fault.TooLong = AclTooLong
+ended_by_text prop_fault.NoMemory = NoMemory
+
+-- how a replay ends where the properties could not be read
+abbrev pub ended_by_props : PropsFault → Ended
+ended_by_props props_fault.ReadFault = ReadFault
+ended_by_props (props_fault.TextFault fault) = ended_by_text fault
+
+-- The properties could not be read, and nothing else was done: `same` says that all else is as it was.
+pub record BadProperties (same : Type 0) (acls written now : Option (List ℕ)) (how : Ended) : Type 0 where
+  pub fault : PropsFault
+  pub has_fault : HasPropsFault acls fault
+  pub untouched : same
+  pub text : List ℕ
+  pub wrote : Appends written now text
+  pub says : Says (ended_by_props fault) how 0 [] text
+
+-- the end is none of those that only a fault of the properties brings about
+abbrev pub HasProperties : Ended → Type 0
+HasProperties (AclRefused number) = ⊥
+HasProperties (AclRepeated number) = ⊥
+HasProperties (AclUnknown number) = ⊥
+HasProperties AclTooLong = ⊥
+HasProperties _ = Unit {0}
+
+-- the end that goes with damage in the log of a file
+abbrev pub damaged_in : ℕ → ℕ → Ended
+damaged_in zero at = DamagedKeys at
+damaged_in (suc n) at = DamagedNames at
+
+-- how a replay ends where the log of a file could not be opened
+abbrev pub ended_by : ℕ → StartFault → Ended
+ended_by file (start.Damaged at) = damaged_in file at
+ended_by file start.StoreFault = StoreFault
+ended_by file start.NoMemory = NoMemory
+ended_by file start.Spent = Spent
+
+-- The log of a file could not be opened: the key log on file 0, or the edit log on file 1. A crash at any moment since left of each
+-- file what it may have left before, or what its opening leaves of the log found; and files that a run may start from, if it left
+-- such files before.
+pub record NotOpened (old new : DiskState) (file : ℕ) (fault : StartFault) : Type 0 where
+  pub which : (file ≡ 0) ⊎ (file ≡ 1)
+  pub damaged_keys : (at : ℕ) → file ≡ 0 → fault ≡ start.Damaged at → Tells old → IsDamagedAt (old.reads 0) at
+  pub damaged_names : (at : ℕ) → file ≡ 1 → fault ≡ start.Damaged at → Tells old → IsDamagedName (old.reads 1) at
+  pub spent_keys : file ≡ 0 → fault ≡ start.Spent → Tells old → (commands : List KeyCommand) × (table : Table) × IsKeyLog (old.reads 0) commands table × (table.opening ≡ 4294967295)
+  pub spent_names : file ≡ 1 → fault ≡ start.Spent → Tells old → (ops : List EditOp) × (made : Replayed) × IsNameLog (old.reads 1) ops made × (made.table.opening ≡ 4294967295)
+  -- the first file that has a fault counts: the key log was found good and opened, or the edit log was not touched
+  pub first_keys : file ≡ 1 → Tells old → MayOpenKeys (old.reads 0)
+  pub first_names : file ≡ 0 → RunOn 0 old new
+  pub moments : Tells old → LeavesBoth old new (LeftByStarts old)
+  -- Since the first sync of its opening a crash left of each file the latter alone. Where that sync failed, or the opening wasn't
+  -- reached, it left what it may have left before.
+  pub since_sync_keys : Tells old → ((file ≡ 0) × ((fault ≡ start.StoreFault) ⊎ (fault ≡ start.NoMemory)) × LeavesOnly 0 old new (old.leaves 0)) ⊎ LeavesFrom 0 old new (IsLeftByStart (old.reads 0))
+  pub since_sync_names : Tells old → (((file ≡ 0) ⊎ ((file ≡ 1) × (fault ≡ start.StoreFault))) × LeavesBoth old new (λ c. old.leaves 1 (c 1))) ⊎ LeavesFrom 1 old new (IsLeftByNameStart (old.reads 1))
+  pub sound : Tells old → (ledger : Ledger) (place : ℕ) → StartsSound old ledger place → LeavesBoth old new (SoundFiles ledger place)
+
+-- The logs could not be opened, and nothing was played.
+pub record Unopened (old new : DiskState) (written now : Option (List ℕ)) (how : Ended) : Type 0 where
+  pub file : ℕ
+  pub fault : StartFault
+  pub not_opened : NotOpened old new file fault
+  pub text : List ℕ
+  pub wrote : Appends written now text
+  pub says : Says (ended_by file fault) how 0 [] text
+
+-- what both logs hold once they are opened: what was found, and the next openings
+abbrev pub opened_logs : List KeyCommand → Table → List EditOp → NameTable → Acknowledged
+opened_logs commands table ops names = record { keys = commands ++ next_opening table ∷ []; names = ops ++ next_opening_of_names names ∷ [] }
+
+-- what a crash may leave during the restart of either service in this world, where that ended the replay
+abbrev pub SurvivesStop : Ended → WorldState → Acknowledged → Image → Type 0
+SurvivesStop StoreFault w done image = SurvivesRestart w RestartKms done image ⊎ SurvivesRestart w RestartName done image
+SurvivesStop NoMemory w done image = SurvivesRestart w RestartKms done image ⊎ SurvivesRestart w RestartName done image
+SurvivesStop Spent w done image = SurvivesRestart w RestartKms done image ⊎ SurvivesRestart w RestartName done image
+SurvivesStop _ w done image = ⊥
+
+-- the two files are what a crash may leave on the way, or in the end
+abbrev pub SurvivesUntil : Ended → Acknowledged → WorldState → (ℕ → ℕ) → History → Image → Type 0
+SurvivesUntil stop before first words history image = SurvivesIn before first words history image ⊎ SurvivesStop stop (world_after first history) (also before (logged_in history)) image
+
+-- from some moment of a run on, a crash leaves of both files only what has P
+pub record LeavesBothFrom (old new : DiskState) (P : Image → Type 0) : Type 0 where
+  pub moment : ℕ
+  pub begun : old.moment ≤ moment
+  pub reached : moment ≤ new.moment
+  pub only : (c : Image) → new.left_since moment c → P c
+
+-- Both files were found to be logs, of these commands and operations. A crash at any moment since left of each file what it may have
+-- left before, or what its opening leaves of the log found; or both logs, with the records acknowledged in a world on the way.
+pub record OnDisk (old new : DiskState) (words : ℕ → ℕ) (table : Table) (names : NameTable) (history : History) (stop : Ended) : Type 0 where
+  pub commands : List KeyCommand
+  pub ops : List EditOp
+  pub used : List ℕ
+  pub keys : IsKeyLog (old.reads 0) commands table
+  pub edits : IsNameLog (old.reads 1) ops (record { table = names; used = used })
+  pub moments : LeavesBoth old new (λ image. LeftByStarts old image ⊎ SurvivesUntil stop (opened_logs commands table ops names) (first_world table names) words history image)
+  -- since the first sync of its opening, no file is what it may have been before
+  pub since_sync_keys : LeavesBothFrom old new (λ image. IsLeftByStart (old.reads 0) (image 0) ⊎ SurvivesUntil stop (opened_logs commands table ops names) (first_world table names) words history image)
+  pub since_sync_names : LeavesBothFrom old new (λ image. IsLeftByNameStart (old.reads 1) (image 1) ⊎ SurvivesUntil stop (opened_logs commands table ops names) (first_world table names) words history image)
+
+-- The promise on zone files, with a ledger of draws among so many words that the files at the start allow: in each world on the way
+-- the zone files open, and a crash at any moment since left files that the next run may start from, with what was hidden on the way.
+pub record Promised (old new : DiskState) (words : ℕ → ℕ) (table : Table) (names : NameTable) (ledger : Ledger) (place : ℕ) (history : History) : Type 0 where
+  pub files_open : FilesOpen (drawn_before place ledger) (first_world table names) words history
+  pub sound : LeavesBoth old new (SoundIn (drawn_before place ledger) (first_world table names) words history)
+
+-- the disk holds both logs of the records acknowledged by now, beside those that are pending in this world
+abbrev pub ReadsAs : DiskState → Acknowledged → WorldState → Type 0
+ReadsAs new done w = (r : RunningWorld) × (world_of r ≡ w) × HoldsLogs new r done
+
+-- after these lines of the input, where it is told, comes one that spells this event
+abbrev pub ComesNext : Option (List ℕ) → List (List ℕ) → Event → Type 0
+ComesNext left lines e = (all : List ℕ) → left ≡ Some all → NextSpells all lines e
+
+-- after these lines of the input comes a restart of either service, which may have been cut short
+abbrev pub IsCut : Option (List ℕ) → List (List ℕ) → Type 0
+IsCut left lines = ComesNext left lines RestartKms ⊎ ComesNext left lines RestartName
+
+-- The same at an end behind these lines of the input, but where a restart may have been cut short. Want of memory leaves the logs too,
+-- unless a restart comes next.
+abbrev pub ReadsAt : Ended → Option (List ℕ) → List (List ℕ) → DiskState → Acknowledged → WorldState → Type 0
+ReadsAt (DamagedKeys at) left lines new done w = Unit {0}
+ReadsAt (DamagedNames at) left lines new done w = Unit {0}
+ReadsAt StoreFault left lines new done w = Unit {0}
+ReadsAt NoMemory left lines new done w = ReadsAs new done w ⊎ IsCut left lines
+ReadsAt Spent left lines new done w = Unit {0}
+ReadsAt _ left lines new done w = ReadsAs new done w
+
+-- the last opening of the key log is used, the record that was pending kept or not
+abbrev pub KeysSpent : WorldState → Type 0
+KeysSpent w = (kept : Bool) × ((settled kept w.keys).table.opening ≡ 4294967295)
+
+-- the same of the edit log
+abbrev pub NamesSpent : WorldState → Type 0
+NamesSpent w = (kept : Bool) × ((settled_names kept w.names).table.opening ≡ 4294967295)
+
+-- the last opening of a log is used, and after these lines of the input comes a restart of the service that this log is of
+abbrev pub IsSpent : Option (List ℕ) → List (List ℕ) → WorldState → Type 0
+IsSpent left lines w = (KeysSpent w × ComesNext left lines RestartKms) ⊎ (NamesSpent w × ComesNext left lines RestartName)
+
+-- why a restart behind these lines of the input could not open its log, where the disk tells what it holds: it is never damaged, and
+-- spent only with the last opening of that log
+abbrev pub RestartStops : Ended → Option (List ℕ) → List (List ℕ) → WorldState → Type 0
+RestartStops (DamagedKeys at) left lines w = ⊥
+RestartStops (DamagedNames at) left lines w = ⊥
+RestartStops Spent left lines w = IsSpent left lines w
+RestartStops _ left lines w = Unit {0}
+
+-- Under properties of these lines, lines of the input were played from the world on that the two logs were found to stand for.
+pub record Played (lines : List PropLine) (old new : DiskState) (words : ℕ → ℕ) (left : Option (List ℕ)) (stop : Ended) (history : History) : Type 0 where
+  pub table : Table
+  pub names : NameTable
+  pub before : ℕ
+  pub runs : Runs lines (Tells old) (first_world table names) words before history
+  -- the count of faults in the run is the disk's: it begins at no fewer than the disk had, and ends at no more than it has
+  pub began : old.faults ≤ before
+  pub ended : faults_after before history ≤ new.faults
+  pub on_disk : Tells old → OnDisk old new words table names history stop
+  pub promise : Tells old → (ledger : Ledger) (place : ℕ) → StartsSound old ledger place → Promised old new words table names ledger place history
+  pub reads : (told : Tells old) → let found = on_disk told in ReadsAt stop left (lines_in history) new (also (opened_logs found.commands table found.ops names) (logged_in history)) (world_after (first_world table names) history)
+  pub restart : Tells old → RestartStops stop left (lines_in history) (world_after (first_world table names) history)
+  pub stops : (all : List ℕ) → left ≡ Some all → Stops stop all (lines_in history)
+  pub has_properties : HasProperties stop
+
+pub record PlaysOn (lines : List PropLine) (old new : DiskState) (words : ℕ → ℕ) (left written now : Option (List ℕ)) (how : Ended) : Type 0 where
+  pub history : History
+  pub stop : Ended
+  pub played : Played lines old new words left stop history
+  pub text : List ℕ
+  pub wrote : Appends written now text
+  pub says : Says stop how (length (lines_in history)) (transcript history) text
+
+-- Under properties of these lines, a replay of what was left of an input, with these words to come, wrote behind the old output
+-- and ended so.
+abbrev pub ReplayUnder : List PropLine → DiskState → DiskState → (ℕ → ℕ) → Option (List ℕ) → Option (List ℕ) → Option (List ℕ) → Ended → Type 0
+ReplayUnder lines old new words left written now how = Unopened old new written now how ⊎ PlaysOn lines old new words left written now how
+
+-- The properties were read. Each call of the key management service is judged by their lines.
+pub record HasRead (old new : DiskState) (acls acls' : Option (List ℕ)) (words : ℕ → ℕ) (left written now : Option (List ℕ)) (how : Ended) : Type 0 where
+  pub lines : List PropLine
+  pub read : ReadsProperties acls acls' lines
+  pub replay : ReplayUnder lines old new words left written now how
+
+-- A replay read the properties first, and replayed the input under their lines; or it ended where they could not be read, and
+-- `same` says that all else is as it was.
+abbrev pub Replay : Type 0 → DiskState → DiskState → Option (List ℕ) → Option (List ℕ) → (ℕ → ℕ) → Option (List ℕ) → Option (List ℕ) → Option (List ℕ) → Ended → Type 0
+Replay same old new acls acls' words left written now how = BadProperties same acls written now how ⊎ HasRead old new acls acls' words left written now how

@@ -1,0 +1,208 @@
+-- One line of a replay.
+use Rattle.std.specs.Prelude.{◌≡◌, ◌⊎◌, ◌≤◌, ◌≢◌, ℕ, ◌+◌, ◌^◌, Bool, true, false, List, [], length, Option, None, Some, IsTrue}
+use Rattle.std.specs.Io.KnownBytes.{Appends, Consumes, IsAtEnd}
+use Rattle.hk_base.specs.Disk.{DiskState, Image, Tells}
+use Rattle.hk_base.specs.Faults.{Rose}
+use Rattle.hk_base.specs.Reading.{IsMore}
+use Rattle.hk_base.specs.Writing.{WroteFront}
+use Rattle.kms_acls.specs.StandsFor.{StandsFor as ListsFor}
+use Rattle.prop_text.specs.declared.lines.PropLine.{PropLine}
+use Rattle.replay_text.specs.Events.{IsBad, Spells}
+use Rattle.replay_text.specs.Transcript.{line_text}
+use Rattle.hk_events.specs.declared.event.Event.{Event}
+use Rattle.hk_events.specs.declared.event.Line.{Line}
+use Rattle.world_run.specs.declared.fault.WorldFault.{WorldFault}
+use Rattle.world_run.specs.Acknowledged.{Acknowledged, HoldsLogs, LeavesBoth, RunBoth, also, nothing_acknowledged}
+use Rattle.world_run.specs.World.{RunningWorld, WorldState, world_of}
+use Rattle.world_run.specs.Keeps.{Fails, SoundThrough, SurvivesThrough}
+use Rattle.world_run.specs.Ledger.{Hidden}
+use Rattle.world_run.specs.Linked.{LinkedWorld}
+use Rattle.world_run.specs.Own.{SurvivesAtRest}
+use Rattle.world_run.specs.Promise.{ZoneFilesOpen}
+use Rattle.hkms_commands.specs.declared.lines.Got.{Got}
+use Rattle.hkms_commands.specs.declared.lines.Got.TheVariants as got
+use Rattle.hkms_commands.specs.declared.replay.Ended.{Ended}
+use Rattle.hkms_commands.specs.declared.replay.Ended.TheVariants as ended
+use Rattle.hkms_commands.specs.declared.stage.Play.{Play}
+use Rattle.hkms_commands.specs.declared.stage.Play.TheVariants.{Played, BadLine, Unread, Untold, Unwritten, Unopened}
+use Rattle.hkms_commands.specs.Lines.{is_line, line_used}
+use Rattle.hkms_commands.specs.Replay.{HasProperties, IsTold, ReadsAt, RestartStops, Stops, SurvivesUntil, ended_by, last_line}
+use Rattle.hkms_commands.specs.Run.{FilesOpen, Happened, History, LineRuns, Runs, SoundIn, SurvivesLine, drawn_of, events_of, faults_after, faults_of, hidden_of, lines_in, logged_in, logged_of, told_of, transcript, world_after, world_of_line}
+
+-- the access control lists of the world stand for these lines
+abbrev pub HasLists : RunningWorld → List PropLine → Type 0
+HasLists r lines = ListsFor r.keys.acls lines
+
+-- the access control lists stay as they are
+abbrev pub SameLists : RunningWorld → RunningWorld → Type 0
+SameLists r r' = r'.keys.acls ≡ r.keys.acls
+
+-- where a replay stands between two lines
+pub record View : Type 0 where
+  pub world : RunningWorld
+  pub words : ℕ → ℕ
+  pub events : ℕ
+  pub written : Option (List ℕ)
+
+-- What the layer above needs of the logs: the records acknowledged are behind those before, and what a crash may leave, as `left`
+-- says of the records acknowledged before, with what is hidden before made into what is hidden after.
+pub record GoesOn (old new : DiskState) (r r' : RunningWorld) (logged : Acknowledged) (after : Hidden → Hidden) (left : Acknowledged → Image → Type 0) : Type 0 where
+  pub stands : Tells old → (done : Acknowledged) → HoldsLogs old r done → HoldsLogs new r' (also done logged)
+  pub survives : SurvivesThrough old new r left
+  pub sound : Tells old → (h : Hidden) → LinkedWorld (world_of r) h → SoundThrough old new r (after h)
+  pub run : RunBoth old new
+
+-- under properties of these lines a line was played, with its event if it has one
+pub record PlaysLine (lines : List PropLine) (old new : DiskState) (v : View) (line : List ℕ) (event : Option Happened) (v' : View) : Type 0 where
+  pub runs : LineRuns lines (Tells old) (world_of v.world) v.words v.events old.faults line event
+  pub world_is : world_of v'.world ≡ world_of_line (world_of v.world) event
+  pub lists : SameLists v.world v'.world
+  pub faults_are : new.faults ≡ faults_of old.faults event
+  pub rest : (k : ℕ) → v'.words k ≡ v.words (drawn_of event + k)
+  pub counted : v'.events ≡ v.events + events_of event
+  pub goes_on : GoesOn old new v.world v'.world (logged_of event) (hidden_of (world_of v.world) v.words event) (SurvivesLine (world_of v.world) v.words event)
+
+-- a restart could not open its log
+pub record StopsAtRestart (old new : DiskState) (v : View) (line : List ℕ) (fault : WorldFault) (v' : View) : Type 0 where
+  pub restart : Event
+  pub spells : Spells line restart
+  pub fails : Fails old new v.world v.words restart fault.file fault.fault v'.world v'.words
+
+-- nothing was done
+pub record Untouched (old new : DiskState) (v v' : View) : Type 0 where
+  pub wrote : Appends v.written v'.written []
+  pub world_is : v'.world ≡ v.world
+  pub goes_on : GoesOn old new v.world v'.world nothing_acknowledged (λ h. h) (SurvivesAtRest (world_of v.world))
+  pub faults_are : new.faults ≡ old.faults
+
+-- how a line came out
+abbrev pub PlaysSo : List PropLine → DiskState → DiskState → View → List ℕ → Play → View → Type 0
+PlaysSo lines old new v line Played v' = (event : Option Happened) × PlaysLine lines old new v line event v' × Appends v.written v'.written (told_of v.events event)
+PlaysSo lines old new v line BadLine v' = IsBad line × Untouched old new v v'
+PlaysSo lines old new v line Unread v' = Untouched old new v v'
+PlaysSo lines old new v line Untold v' = (event : Option Happened) × PlaysLine lines old new v line event v' × Appends v.written v'.written []
+PlaysSo lines old new v line Unwritten v' = (event : Option Happened) × PlaysLine lines old new v line event v' × WroteFront v.written v'.written (told_of v.events event)
+PlaysSo lines old new v line (Unopened fault) v' = StopsAtRestart old new v line fault v' × Appends v.written v'.written []
+
+-- the end that goes with how a line came out, the last one or another
+abbrev pub end_of_play : Bool → Play → Option Ended
+end_of_play true Played = Some ended.Done
+end_of_play false Played = None
+end_of_play last BadLine = Some ended.BadLine
+end_of_play last Unread = Some ended.NoMemory
+end_of_play last Untold = Some ended.NoMemory
+end_of_play last Unwritten = Some ended.WriteFault
+end_of_play last (Unopened fault) = Some (ended_by fault.file fault.fault)
+
+-- whether the line is counted as played
+abbrev pub counts : Play → ℕ
+counts Played = 1
+counts BadLine = 0
+counts Unread = 0
+counts Untold = 1
+counts Unwritten = 1
+counts (Unopened fault) = 0
+
+-- where a replay stands, with what is ahead, how many bytes were used, and how many lines were played
+pub record Stand : Type 0 where
+  pub view : View
+  pub ahead : Option (List ℕ)
+  pub used : ℕ
+  pub count : ℕ
+
+-- a line was read and played
+pub record LinePlayed (lines : List PropLine) (old new : DiskState) (v : View) (line : List ℕ) (last : Bool) (result : Option Ended) (v' : View) (count count' : ℕ) : Type 0 where
+  pub play : Play
+  pub plays : PlaysSo lines old new v line play v'
+  pub result_is : result ≡ end_of_play last play
+  pub counted : count' ≡ count + counts play
+
+-- what was read
+pub record Read (before : Stand) (how : Got) (line : List ℕ) (after : Stand) : Type 0 where
+  pub is_line : IsTrue (is_line line)
+  pub consumed : how ≢ got.NoMemory → Consumes before.ahead after.ahead (line_used how line)
+  pub used : how ≢ got.NoMemory → after.used ≡ before.used + length (line_used how line)
+  pub end : how ≡ got.End → IsAtEnd after.ahead
+  pub long : how ≡ got.TooLong → length line ≡ 1048577
+  pub past : how ≡ got.Past → (after.used ≡ 2 ^ 40) × IsMore after.ahead
+
+-- the replay stops before a line is played
+pub record StopsReading (old new : DiskState) (v v' : View) (count count' : ℕ) (how : Ended) (result : Option Ended) : Type 0 where
+  pub untouched : Untouched old new v v'
+  pub counted : count' ≡ count
+  pub result_is : result ≡ Some how
+
+-- the next line was read, and played where there was one
+abbrev pub NextSo : List PropLine → DiskState → DiskState → Stand → Got → List ℕ → Option Ended → Stand → Type 0
+NextSo lines old new s got.Line line result s' = LinePlayed lines old new s.view line false result s'.view s.count s'.count
+NextSo lines old new s got.End line result s' = LinePlayed lines old new s.view line true result s'.view s.count s'.count
+NextSo lines old new s got.TooLong line result s' = StopsReading old new s.view s'.view s.count s'.count ended.BadLine result
+NextSo lines old new s got.Past line result s' = StopsReading old new s.view s'.view s.count s'.count ended.BadLine result
+NextSo lines old new s got.Fault line result s' = StopsReading old new s.view s'.view s.count s'.count ended.ReadFault result
+NextSo lines old new s got.NoMemory line result s' = StopsReading old new s.view s'.view s.count s'.count ended.NoMemory result
+
+pub record Next (lines : List PropLine) (old new : DiskState) (s : Stand) (result : Option Ended) (s' : Stand) : Type 0 where
+  pub how : Got
+  pub line : List ℕ
+  pub read : Read s how line s'
+  pub next : NextSo lines old new s how line result s'
+
+-- the answer of an event was written, or there was no memory for it, or a front of it was written and the output failed
+abbrev pub TellsSo : ℕ → Line → Option (List ℕ) → Option (List ℕ) → Play → Type 0
+TellsSo number told written now Played = Appends written now (line_text number told)
+TellsSo number told written now Untold = Appends written now []
+TellsSo number told written now Unwritten = WroteFront written now (line_text number told)
+TellsSo number told written now BadLine = ⊥
+TellsSo number told written now Unread = ⊥
+TellsSo number told written now (Unopened fault) = ⊥
+
+-- Faults come only where the count of the object rose in the call: that of the input, of the output, of the disk.
+pub record Caused (input input' out out' disk disk' : ℕ) (how : Option Ended) : Type 0 where
+  pub read_later : input ≤ input'
+  pub write_later : out ≤ out'
+  pub disk_later : disk ≤ disk'
+  pub read : how ≡ Some ended.ReadFault → Rose input input'
+  pub write : how ≡ Some ended.WriteFault → Rose out out'
+  pub store : how ≡ Some ended.StoreFault → Rose disk disk'
+
+-- the last line of a cause, or a front of it and the output failed; where there was no memory for it, the line that says so
+pub record Closes (stop : Ended) (lines : ℕ) (written now : Option (List ℕ)) (how : Ended) : Type 0 where
+  pub last : Ended
+  pub last_is : (last ≡ stop) ⊎ (last ≡ ended.NoMemory)
+  pub writes : ((how ≡ last) × Appends written now (last_line last lines)) ⊎ ((how ≡ ended.WriteFault) × WroteFront written now (last_line last lines))
+
+-- a last line was written, or a front of it and the output failed
+abbrev pub WritesLast : Option (List ℕ) → Option (List ℕ) → List ℕ → Ended → Ended → Type 0
+WritesLast written now last end how = ((how ≡ end) × Appends written now last) ⊎ ((how ≡ ended.WriteFault) × WroteFront written now last)
+
+-- what is known of the logs, which held these records before the lines of this input, once they were played
+pub record Kept (old new : DiskState) (first : WorldState) (words : ℕ → ℕ) (left : Option (List ℕ)) (history : History) (stop : Ended) (done : Acknowledged) : Type 0 where
+  pub moments : LeavesBoth old new (SurvivesUntil stop done first words history)
+  pub reads : ReadsAt stop left (lines_in history) new (also done (logged_in history)) (world_after first history)
+
+-- what is hidden beside a world that is linked, and whose zone files open
+pub record IsHidden (w : WorldState) (h : Hidden) : Type 0 where
+  pub linked : LinkedWorld w h
+  pub files_open : ZoneFilesOpen w h
+
+-- what is known of zone files once the lines were played, with what was hidden before them
+pub record KeptOpen (old new : DiskState) (first : WorldState) (words : ℕ → ℕ) (history : History) (before : Hidden) : Type 0 where
+  pub files_open : FilesOpen before first words history
+  pub sound : LeavesBoth old new (SoundIn before first words history)
+
+-- Lines were played, until one of them ended the replay; nothing was written of a last line yet.
+pub record Ran (lines : List PropLine) (old new : DiskState) (r : RunningWorld) (words : ℕ → ℕ) (left written now : Option (List ℕ)) (stop : Ended) (count : ℕ) : Type 0 where
+  pub history : History
+  pub runs : Runs lines (Tells old) (world_of r) words old.faults history
+  pub kept : Tells old → (done : Acknowledged) → HoldsLogs old r done → Kept old new (world_of r) words left history stop done
+  pub promise : Tells old → (done : Acknowledged) → HoldsLogs old r done → (before : Hidden) → IsHidden (world_of r) before → KeptOpen old new (world_of r) words history before
+  pub run : RunBoth old new
+  -- the disk counts each fault of the history
+  pub counted_faults : faults_after old.faults history ≤ new.faults
+  pub restart : Tells old → RestartStops stop left (lines_in history) (world_after (world_of r) history)
+  pub has_properties : HasProperties stop
+  pub stops : (all : List ℕ) → left ≡ Some all → Stops stop all (lines_in history)
+  pub text : List ℕ
+  pub wrote : Appends written now text
+  pub told : IsTold stop text (transcript history)
+  pub counted : count ≡ length (lines_in history)

@@ -1,0 +1,97 @@
+//! The command line.
+ghost use Rattle.std.specs.Prelude.{◌≡◌, ◌⊎◌, ◌<◌};
+ghost use Rattle.std.specs.Io.KnownBytes.{IsAtEnd};
+ghost use Rattle.clap.specs.Words.{fault_of};
+ghost use Rattle.hk_base.specs.Faults.{Rose};
+ghost use Rattle.command_line.specs.Line as line;
+ghost use Rattle.command_line.specs.Orders.{AsksForHelp, AsksForVersion, IsMistake, Names};
+ghost use Rattle.command_line.specs.declared.order.Order.TheVariants as order;
+ghost use Rattle.hkms_commands.specs.declared.replay.Ended.{Ended};
+ghost use Rattle.hkms_commands.specs.Orders.{Obeys, Refuses, Shows, ShowsText, WantsMemory};
+ghost use Rattle.hkms_commands.specs.Pipe.{Pipe};
+ghost use Rattle.hkms_commands.specs.Replay.{Replay, status_of};
+
+use crate::pipe::run_pipe;
+use crate::replay::run_replay;
+use command_line::{Order, OrderFault, read_order};
+use hk_base::{Clock, Disk, Sink, Source, Text, Words, write_all};
+use std::alloc::Global;
+
+/// Writes a text, and answers the status that goes with it, or 8 where the output failed.
+fn show<K: Sink>(out: &mut K, text: &[u8], status: u8) -> u8
+    requires { status < 8 }
+    ensures shows { Shows text.now status (K.written out.old) (K.written out.new) result }
+    ensures write { result ≡ 8 → Rose (K.faults out.old) (K.faults out.new) }
+{
+    match write_all(out, text) {
+        Ok(()) => status,
+        Err(_) => 8,
+    }
+}
+
+/// Does what an order says, as `hkms` has it.
+fn obey<A: Source, S: Source, K: Sink, D: Disk, W: Words, C: Clock>(
+    alloc: Global,
+    told: Result<Order, OrderFault>,
+    acls: &mut A,
+    input: &mut S,
+    out: &mut K,
+    disk: &mut D,
+    rand: &mut W,
+    clock: &mut C,
+) -> u8
+    ensures obeys { Obeys told
+        ((how : Ended) × (result ≡ status_of how) × Replay ((disk.new ≡ disk.old) × (input.new ≡ input.old) × (rand.new ≡ rand.old)) (D.state disk.old) (D.state disk.new) (A.left acls.old) (A.left acls.new) (W.to_come rand.old) (S.left input.old) (K.written out.old) (K.written out.new) how × (result ≡ 0 → IsAtEnd (S.left input.new)))
+        (Pipe (disk.new ≡ disk.old) ((input.new ≡ input.old) × (out.new ≡ out.old) × (rand.new ≡ rand.old) × (clock.new ≡ clock.old)) (D.state disk.old) (D.state disk.new) (A.left acls.old) (A.left acls.new) (W.to_come rand.old) (S.left input.old) (S.left input.new) (K.written out.old) (K.written out.new) result)
+        ((disk.new ≡ disk.old) × (acls.new ≡ acls.old) × (input.new ≡ input.old) × (rand.new ≡ rand.old) × (clock.new ≡ clock.old))
+        (K.written out.old) (K.written out.new) result }
+    ensures read { result ≡ 7 → Rose (S.faults input.old) (S.faults input.new) ⊎ Rose (A.faults acls.old) (A.faults acls.new) }
+    ensures write { result ≡ 8 → Rose (K.faults out.old) (K.faults out.new) }
+    ensures store { result ≡ 5 → Rose (D.state disk.old).faults (D.state disk.new).faults }
+{
+    match told {
+        Ok(Order::Replay) => run_replay(alloc, acls, input, out, disk, rand),
+        Ok(Order::Pipe) => run_pipe(alloc, acls, input, out, disk, rand, clock),
+        Ok(Order::Help(text)) => show(out, text.as_bytes(), 0),
+        Ok(Order::Version(text)) => show(out, text.as_bytes(), 0),
+        Err(OrderFault::Usage) => show(out, b"usage refused\n", 2),
+        Err(OrderFault::NoMemory) => show(out, b"no memory\n", 6),
+    }
+}
+
+/// Does what the words of the command line say, and answers the status. `replay` replays the event
+/// lines of the input, and `pipe` serves the input as a connection, both over the key log on file 0 of
+/// the disk and the edit log on file 1, and under the properties of `acls`. Help and version are shown, with status 0. Words that
+/// have a mistake are refused with status 2 and the line `usage refused`. Where there is no memory to
+/// read the words the status is 6, and the line is `no memory`. At each other order than the two
+/// commands nothing but the output is used.
+pub fn hkms<A: Source, S: Source, K: Sink, D: Disk, W: Words, C: Clock>(
+    alloc: Global,
+    words: &[Text],
+    acls: &mut A,
+    input: &mut S,
+    out: &mut K,
+    disk: &mut D,
+    rand: &mut W,
+    clock: &mut C,
+) -> u8
+    ensures usage { IsMistake (fault_of line.hkms words.now) →
+        Refuses ((disk.new ≡ disk.old) × (acls.new ≡ acls.old) × (input.new ≡ input.old) × (rand.new ≡ rand.old) × (clock.new ≡ clock.old)) (K.written out.old) (K.written out.new) result
+        ⊎ WantsMemory ((disk.new ≡ disk.old) × (acls.new ≡ acls.old) × (input.new ≡ input.old) × (rand.new ≡ rand.old) × (clock.new ≡ clock.old)) (K.written out.old) (K.written out.new) result }
+    ensures usage_only { result ≡ 2 → IsMistake (fault_of line.hkms words.now) }
+    ensures help { AsksForHelp words.now ⊎ AsksForVersion words.now →
+        ShowsText ((disk.new ≡ disk.old) × (acls.new ≡ acls.old) × (input.new ≡ input.old) × (rand.new ≡ rand.old) × (clock.new ≡ clock.old)) (K.written out.old) (K.written out.new) result
+        ⊎ WantsMemory ((disk.new ≡ disk.old) × (acls.new ≡ acls.old) × (input.new ≡ input.old) × (rand.new ≡ rand.old) × (clock.new ≡ clock.old)) (K.written out.old) (K.written out.new) result }
+    ensures replay { Names order.Replay words.now →
+        ((how : Ended) × (result ≡ status_of how) × Replay ((disk.new ≡ disk.old) × (input.new ≡ input.old) × (rand.new ≡ rand.old)) (D.state disk.old) (D.state disk.new) (A.left acls.old) (A.left acls.new) (W.to_come rand.old) (S.left input.old) (K.written out.old) (K.written out.new) how × (result ≡ 0 → IsAtEnd (S.left input.new)))
+        ⊎ WantsMemory ((disk.new ≡ disk.old) × (acls.new ≡ acls.old) × (input.new ≡ input.old) × (rand.new ≡ rand.old) × (clock.new ≡ clock.old)) (K.written out.old) (K.written out.new) result }
+    ensures pipe { Names order.Pipe words.now →
+        Pipe (disk.new ≡ disk.old) ((input.new ≡ input.old) × (out.new ≡ out.old) × (rand.new ≡ rand.old) × (clock.new ≡ clock.old)) (D.state disk.old) (D.state disk.new) (A.left acls.old) (A.left acls.new) (W.to_come rand.old) (S.left input.old) (S.left input.new) (K.written out.old) (K.written out.new) result
+        ⊎ WantsMemory ((disk.new ≡ disk.old) × (acls.new ≡ acls.old) × (input.new ≡ input.old) × (rand.new ≡ rand.old) × (clock.new ≡ clock.old)) (K.written out.old) (K.written out.new) result }
+    ensures read { result ≡ 7 → Rose (S.faults input.old) (S.faults input.new) ⊎ Rose (A.faults acls.old) (A.faults acls.new) }
+    ensures write { result ≡ 8 → Rose (K.faults out.old) (K.faults out.new) }
+    ensures store { result ≡ 5 → Rose (D.state disk.old).faults (D.state disk.new).faults }
+{
+    let told = read_order(alloc, words);
+    obey(alloc, told, acls, input, out, disk, rand, clock)
+}

@@ -1,0 +1,60 @@
+//! Lines of a source.
+ghost use Rattle.std.specs.Prelude.{◌≡◌, ◌≢◌, ◌+◌, ◌≤◌, ◌^◌, length, IsTrue};
+ghost use Rattle.std.specs.Io.KnownBytes.{Consumes, IsAtEnd};
+ghost use Rattle.hk_base.specs.Faults.{Rose};
+ghost use Rattle.hk_base.specs.Reading.{ahead, IsMore};
+ghost use Rattle.hkms_commands.specs.Lines.{is_line, line_used};
+
+use hk_base::{ByteList, Next, Reader, Source};
+
+/// How many bytes a line has at most, its LF not counted.
+pub const LONGEST_LINE: usize = 1048576;
+
+/// How the reading of a line ended.
+#[derive(Clone, Copy, Debug, PartialEq, Eq)]
+pub enum Got {
+    /// The line is whole.
+    Line,
+    /// The input is at its end, and the line is what stood behind the last LF.
+    End,
+    /// The line has more bytes than a line may have.
+    TooLong,
+    /// A byte past the longest input comes next.
+    Past,
+    /// The source failed.
+    Fault,
+    /// There is no memory for the line.
+    NoMemory,
+}
+
+/// Reads on to the end of a line, which is then in `line` without its LF.
+pub fn read_line<S: Source>(reader: &mut Reader, source: &mut S, line: &mut ByteList) -> Got
+    ensures consumed { result ≢ Got.NoMemory → Consumes (ahead reader.old (S.left source.old)) (ahead reader.new (S.left source.new)) (line_used result line.new) }
+    ensures used { result ≢ Got.NoMemory → reader.new.used ≡ reader.old.used + length (line_used result line.new) }
+    ensures bounded { reader.new.used ≤ 2 ^ 40 }
+    ensures line { IsTrue (is_line line.new) }
+    ensures short { result ≡ Got.Line → length line.new ≤ 1048576 }
+    ensures end { result ≡ Got.End → IsAtEnd (ahead reader.new (S.left source.new)) × (length line.new ≤ 1048576) }
+    ensures long { result ≡ Got.TooLong → length line.new ≡ 1048577 }
+    ensures past { result ≡ Got.Past → (reader.new.used ≡ 2 ^ 40) × IsMore (ahead reader.new (S.left source.new)) }
+    ensures later { S.faults source.old ≤ S.faults source.new }
+    ensures fault { result ≡ Got.Fault → Rose (S.faults source.old) (S.faults source.new) }
+{
+    line.clear();
+    'bytes: while line.len() <= LONGEST_LINE {
+        match reader.next(source) {
+            Next::Byte(byte) => {
+                if byte == b'\n' {
+                    return Got::Line;
+                }
+                if line.push(byte).is_err() {
+                    return Got::NoMemory;
+                }
+            }
+            Next::End => return Got::End,
+            Next::Past => return Got::Past,
+            Next::Fault => return Got::Fault,
+        }
+    }
+    Got::TooLong
+}

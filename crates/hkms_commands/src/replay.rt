@@ -1,0 +1,360 @@
+//! Replays the event lines of an input.
+ghost use Rattle.std.specs.Prelude.{◌≡◌, ◌⊎◌, ◌≤◌, ◌<◌, ◌^◌, List, [], Some, length, codes, string_bytes, MatchResult};
+ghost use Rattle.std.specs.Io.KnownBytes.{IsAtEnd};
+ghost use Rattle.hk_base.specs.Disk.{Tells};
+ghost use Rattle.hk_base.specs.Faults.{Rose};
+ghost use Rattle.hk_base.specs.Reading.{ahead};
+ghost use Rattle.prop_text.specs.declared.lines.PropLine.{PropLine};
+ghost use Rattle.world_run.specs.Acknowledged.{Acknowledged, HoldsLogs};
+ghost use Rattle.hkms_commands.specs.Replay.{Replay, ReplayUnder, damaged_in, ended_by, ended_by_props, ended_by_text, last_line, status_of};
+ghost use Rattle.hkms_commands.specs.Steps.{Caused, Closes, HasLists, LinePlayed, Next, Ran, WritesLast};
+ghost use Rattle.hkms_commands.specs.declared.replay.Ended.{Ended};
+
+use crate::lines::{Got, read_line};
+use crate::opening::open_logs;
+use crate::props::{PropsFault, read_properties};
+use crate::stage::{Play, Stage};
+use frame_log::StartFault;
+use hk_base::{ByteList, Disk, Reader, Sink, Source, Words, write_all};
+use prop_text::{PropFault, Props};
+use std::alloc::{AllocError, Global};
+use world_run::{World, WorldFault};
+
+/// How a replay ended.
+#[derive(Clone, Copy, Debug, PartialEq, Eq)]
+pub enum Ended {
+    /// The input was read to its end.
+    Done,
+    /// This line of the properties is refused.
+    AclRefused { number: u64 },
+    /// This line of the properties sets a name that an earlier line set.
+    AclRepeated { number: u64 },
+    /// This line of the properties sets a name that is not known.
+    AclUnknown { number: u64 },
+    /// The properties have more than 1,048,576 bytes.
+    AclTooLong,
+    /// A line was refused.
+    BadLine,
+    /// The key log is damaged at this offset.
+    DamagedKeys { at: u64 },
+    /// The edit log is damaged at this offset.
+    DamagedNames { at: u64 },
+    /// The disk failed when a log was opened.
+    StoreFault,
+    /// Memory was wanting.
+    NoMemory,
+    /// The input or the source of the properties failed.
+    ReadFault,
+    /// The output failed.
+    WriteFault,
+    /// The last opening of a log is used.
+    Spent,
+}
+
+/// How a replay ends where the text of the properties has a fault.
+fn ended_by_text(fault: PropFault) -> Ended
+    ensures { result ≡ ended_by_text fault }
+{
+    match fault {
+        PropFault::BadLine { number } => Ended::AclRefused { number },
+        PropFault::Repeated { number } => Ended::AclRepeated { number },
+        PropFault::UnknownName { number } => Ended::AclUnknown { number },
+        PropFault::TooLong => Ended::AclTooLong,
+        PropFault::NoMemory => Ended::NoMemory,
+    }
+}
+
+/// How a replay ends where the properties could not be read.
+pub fn ended_by_props(fault: PropsFault) -> Ended
+    ensures { result ≡ ended_by_props fault }
+{
+    match fault {
+        PropsFault::ReadFault => Ended::ReadFault,
+        PropsFault::TextFault(fault) => ended_by_text(fault),
+    }
+}
+
+/// How a replay ends where the log on a file is damaged.
+fn damaged_in(file: u8, at: u64) -> Ended
+    ensures { result ≡ damaged_in file at }
+{
+    match file {
+        0 => Ended::DamagedKeys { at },
+        _ => Ended::DamagedNames { at },
+    }
+}
+
+/// How a replay ends where a log could not be opened.
+pub fn ended_by(why: WorldFault) -> Ended
+    ensures { result ≡ ended_by why.file why.fault }
+{
+    match why.fault {
+        StartFault::Damaged { at } => damaged_in(why.file, at),
+        StartFault::StoreFault => Ended::StoreFault,
+        StartFault::NoMemory => Ended::NoMemory,
+        StartFault::Spent => Ended::Spent,
+    }
+}
+
+/// A replay between two lines: what was read ahead, and how many lines were played.
+#[derive(Drop)]
+struct Replaying {
+    reader: Reader,
+    line: ByteList,
+    stage: Stage,
+    count: u64,
+}
+
+impl Replaying {
+    /// Stands before the first line, over services that were started.
+    fn new(alloc: Global, world: World) -> Replaying
+        ensures world { result.stage.world ≡ world }
+        ensures fresh { (result.stage.events ≡ 0) × (result.count ≡ 0) × (result.reader.used ≡ 0) × (result.reader.bytes ≡ []) }
+    {
+        Replaying {
+            reader: Reader::new(),
+            line: ByteList::new(alloc),
+            stage: Stage {
+                alloc,
+                world,
+                events: 0,
+                answer: ByteList::new(alloc),
+            },
+            count: 0,
+        }
+    }
+
+    /// Plays the lines of the input, until one of them ends the replay.
+    fn run<S: Source, D: Disk, K: Sink, W: Words>(
+        &mut self,
+        input: &mut S,
+        disk: &mut D,
+        out: &mut K,
+        words: &mut W,
+    ) -> Ended
+        requires fresh { (self.old.stage.events ≡ 0) × (self.old.count ≡ 0) × (self.old.reader.used ≡ 0) × (self.old.reader.bytes ≡ []) }
+        requires lists { (lines : List PropLine) × HasLists self.old.stage.world lines }
+        requires stands { Tells (D.state disk.old) → ((done : Acknowledged) × HoldsLogs (D.state disk.old) self.old.stage.world done) }
+        ensures ran { (lines : List PropLine) → HasLists self.old.stage.world lines → Ran lines (D.state disk.old) (D.state disk.new) self.old.stage.world (W.to_come words.old) (S.left input.old) (K.written out.old) (K.written out.new) result self.new.count }
+        ensures end { result ≡ Ended.Done → IsAtEnd (S.left input.new) }
+        ensures count { self.new.count < 2 ^ 41 }
+        ensures caused { Caused (S.faults input.old) (S.faults input.new) (K.faults out.old) (K.faults out.new) (D.state disk.old).faults (D.state disk.new).faults (Some result) }
+    {
+        'lines: loop {
+            match self.next(input, disk, out, words) {
+                None => {}
+                Some(ended) => return ended,
+            }
+        }
+    }
+
+    /// Reads the next line and plays it. `None` where the replay goes on.
+    fn next<S: Source, D: Disk, K: Sink, W: Words>(
+        &mut self,
+        input: &mut S,
+        disk: &mut D,
+        out: &mut K,
+        words: &mut W,
+    ) -> Option<Ended>
+        requires few { self.old.stage.events ≤ self.old.count }
+        requires count { self.old.count ≤ 2 ^ 40 }
+        requires lists { (lines : List PropLine) × HasLists self.old.stage.world lines }
+        requires stands { Tells (D.state disk.old) → ((done : Acknowledged) × HoldsLogs (D.state disk.old) self.old.stage.world done) }
+        ensures next { (lines : List PropLine) → HasLists self.old.stage.world lines → Next lines (D.state disk.old) (D.state disk.new) (record { view = record { world = self.old.stage.world; words = W.to_come words.old; events = self.old.stage.events; written = K.written out.old }; ahead = ahead self.old.reader (S.left input.old); used = self.old.reader.used; count = self.old.count }) result (record { view = record { world = self.new.stage.world; words = W.to_come words.new; events = self.new.stage.events; written = K.written out.new }; ahead = ahead self.new.reader (S.left input.new); used = self.new.reader.used; count = self.new.count }) }
+        ensures few { self.new.stage.events ≤ self.new.count }
+        ensures small { self.new.reader.used ≤ 2 ^ 40 }
+        ensures caused { Caused (S.faults input.old) (S.faults input.new) (K.faults out.old) (K.faults out.new) (D.state disk.old).faults (D.state disk.new).faults result }
+    {
+        match read_line(&mut self.reader, input, &mut self.line) {
+            Got::Line => self.play(false, disk, out, words),
+            Got::End => self.play(true, disk, out, words),
+            Got::TooLong => Some(Ended::BadLine),
+            Got::Past => Some(Ended::BadLine),
+            Got::Fault => Some(Ended::ReadFault),
+            Got::NoMemory => Some(Ended::NoMemory),
+        }
+    }
+
+    /// Plays the line that was read, which may be the last one.
+    fn play<D: Disk, K: Sink, W: Words>(
+        &mut self,
+        last: bool,
+        disk: &mut D,
+        out: &mut K,
+        words: &mut W,
+    ) -> Option<Ended>
+        requires short { length self.old.line ≤ 1048576 }
+        requires few { self.old.stage.events ≤ self.old.count }
+        requires count { self.old.count ≤ 2 ^ 40 }
+        requires stands { Tells (D.state disk.old) → ((done : Acknowledged) × HoldsLogs (D.state disk.old) self.old.stage.world done) }
+        ensures played { (lines : List PropLine) → HasLists self.old.stage.world lines → LinePlayed lines (D.state disk.old) (D.state disk.new) (record { world = self.old.stage.world; words = W.to_come words.old; events = self.old.stage.events; written = K.written out.old }) self.old.line last result (record { world = self.new.stage.world; words = W.to_come words.new; events = self.new.stage.events; written = K.written out.new }) self.old.count self.new.count }
+        ensures same { (self.new.reader ≡ self.old.reader) × (self.new.line ≡ self.old.line) }
+        ensures few { self.new.stage.events ≤ self.new.count }
+        ensures later { K.faults out.old ≤ K.faults out.new }
+        ensures fault { result ≡ Some Ended.WriteFault → Rose (K.faults out.old) (K.faults out.new) }
+    {
+        match self.stage.play_line(self.line.as_slice(), disk, out, words) {
+            Play::Played => {
+                self.count += 1;
+                if last { Some(Ended::Done) } else { None }
+            }
+            Play::BadLine => Some(Ended::BadLine),
+            Play::Unread => Some(Ended::NoMemory),
+            Play::Untold => {
+                self.count += 1;
+                Some(Ended::NoMemory)
+            }
+            Play::Unwritten => {
+                self.count += 1;
+                Some(Ended::WriteFault)
+            }
+            Play::Unopened(why) => Some(ended_by(why)),
+        }
+    }
+}
+
+/// Writes the last line, where there is one, and tells how the replay ends then.
+fn finish<K: Sink>(alloc: Global, out: &mut K, stop: Ended, count: u64) -> Ended
+    requires { count < 2 ^ 41 }
+    ensures closes { Closes stop count (K.written out.old) (K.written out.new) result }
+    ensures write { result ≡ Ended.WriteFault → (stop ≡ Ended.WriteFault) ⊎ Rose (K.faults out.old) (K.faults out.new) }
+    ensures later { K.faults out.old ≤ K.faults out.new }
+{
+    match stop {
+        Ended::Done => Ended::Done,
+        Ended::WriteFault => Ended::WriteFault,
+        Ended::NoMemory => written_or_fault(out, b"no memory\n", Ended::NoMemory),
+        Ended::ReadFault => written_or_fault(out, b"read fault\n", Ended::ReadFault),
+        Ended::StoreFault => written_or_fault(out, b"store fault\n", Ended::StoreFault),
+        Ended::Spent => written_or_fault(out, b"openings spent\n", Ended::Spent),
+        Ended::AclTooLong => written_or_fault(out, b"acl too long\n", Ended::AclTooLong),
+        Ended::BadLine => {
+            let line = count + 1;
+            numbered(
+                out,
+                format!(in alloc; "line {line} refused\n"),
+                Ended::BadLine,
+            )
+        }
+        Ended::DamagedKeys { at } => {
+            let line = format!(in alloc; "damaged keys {at}\n");
+            numbered(out, line, Ended::DamagedKeys { at })
+        }
+        Ended::DamagedNames { at } => {
+            let line = format!(in alloc; "damaged names {at}\n");
+            numbered(out, line, Ended::DamagedNames { at })
+        }
+        Ended::AclRefused { number } => {
+            let line = format!(in alloc; "acl line {number} refused\n");
+            numbered(out, line, Ended::AclRefused { number })
+        }
+        Ended::AclRepeated { number } => {
+            let line = format!(in alloc; "acl line {number} repeated\n");
+            numbered(out, line, Ended::AclRepeated { number })
+        }
+        Ended::AclUnknown { number } => {
+            let line = format!(in alloc; "acl line {number} unknown\n");
+            numbered(out, line, Ended::AclUnknown { number })
+        }
+    }
+}
+
+/// Writes a last line with a number, or the one of want of memory where there was none for it.
+fn numbered<K: Sink>(out: &mut K, line: Result<String, AllocError>, ended: Ended) -> Ended
+    ensures wrote { MatchResult line (λ text. WritesLast (K.written out.old) (K.written out.new) (string_bytes text) ended result) (λ _. WritesLast (K.written out.old) (K.written out.new) (codes "no memory\n") Ended.NoMemory result) }
+    ensures write { result ≡ Ended.WriteFault → (ended ≡ Ended.WriteFault) ⊎ Rose (K.faults out.old) (K.faults out.new) }
+    ensures later { K.faults out.old ≤ K.faults out.new }
+{
+    match line {
+        Err(_) => written_or_fault(out, b"no memory\n", Ended::NoMemory),
+        Ok(text) => written_or_fault(out, text.as_bytes(), ended),
+    }
+}
+
+/// Writes a last line, and tells the end that goes with it.
+fn written_or_fault<K: Sink>(out: &mut K, last: &[u8], ended: Ended) -> Ended
+    ensures wrote { WritesLast (K.written out.old) (K.written out.new) last.now ended result }
+    ensures write { result ≡ Ended.WriteFault → (ended ≡ Ended.WriteFault) ⊎ Rose (K.faults out.old) (K.faults out.new) }
+    ensures later { K.faults out.old ≤ K.faults out.new }
+{
+    match write_all(out, last) {
+        Ok(()) => ended,
+        Err(_) => Ended::WriteFault,
+    }
+}
+
+pub fn status_of(ended: Ended) -> u8
+    ensures { result ≡ status_of ended }
+{
+    match ended {
+        Ended::Done => 0,
+        Ended::AclRefused { number: _ } => 3,
+        Ended::AclRepeated { number: _ } => 3,
+        Ended::AclUnknown { number: _ } => 3,
+        Ended::AclTooLong => 3,
+        Ended::BadLine => 3,
+        Ended::DamagedKeys { at: _ } => 4,
+        Ended::DamagedNames { at: _ } => 4,
+        Ended::StoreFault => 5,
+        Ended::NoMemory => 6,
+        Ended::ReadFault => 7,
+        Ended::WriteFault => 8,
+        Ended::Spent => 10,
+    }
+}
+
+/// Opens both logs, and replays the input under properties that were read.
+fn replay_under<S: Source, D: Disk, K: Sink, W: Words>(
+    alloc: Global,
+    props: &Props,
+    input: &mut S,
+    out: &mut K,
+    disk: &mut D,
+    rand: &mut W,
+) -> Ended
+    ensures replay { ReplayUnder props.now.lines (D.state disk.old) (D.state disk.new) (W.to_come rand.old) (S.left input.old) (K.written out.old) (K.written out.new) result }
+    ensures end { result ≡ Ended.Done → IsAtEnd (S.left input.new) }
+    ensures read { result ≡ Ended.ReadFault → Rose (S.faults input.old) (S.faults input.new) }
+    ensures write { result ≡ Ended.WriteFault → Rose (K.faults out.old) (K.faults out.new) }
+    ensures store { result ≡ Ended.StoreFault → Rose (D.state disk.old).faults (D.state disk.new).faults }
+{
+    let world = match open_logs(alloc, disk, props) {
+        Err(why) => return finish(alloc, out, ended_by(why), 0),
+        Ok(world) => world,
+    };
+    let mut replaying = Replaying::new(alloc, world);
+    let stop = replaying.run(input, disk, out, rand);
+    finish(alloc, out, stop, replaying.count)
+}
+
+/// Replays the event lines of the input over the key log on file 0 of a disk and the edit log on file
+/// 1. It reads the properties of the key management service first, to their end or to the byte past
+/// 1,048,576; then it opens both logs, runs each event, writes the transcript of the answers and
+/// behind it the last line that the status has. Each call of the key management service is judged by
+/// the lines of the properties.
+///
+/// It answers the status: 0 where the input was read to its end; 3 where the properties are refused,
+/// and at a line of the input that is refused; 4 where a log is damaged; 5 where the disk failed when
+/// a log was opened, at the start or at a restart; 6 where memory is wanting; 7 where the properties
+/// or the input could not be read; 8 where the output failed; 10 where the last opening of a log is
+/// used.
+pub fn run_replay<A: Source, S: Source, D: Disk, K: Sink, W: Words>(
+    alloc: Global,
+    acls: &mut A,
+    input: &mut S,
+    out: &mut K,
+    disk: &mut D,
+    rand: &mut W,
+) -> u8
+    ensures replay { (how : Ended) × (result ≡ status_of how) × Replay ((disk.new ≡ disk.old) × (input.new ≡ input.old) × (rand.new ≡ rand.old)) (D.state disk.old) (D.state disk.new) (A.left acls.old) (A.left acls.new) (W.to_come rand.old) (S.left input.old) (K.written out.old) (K.written out.new) how }
+    ensures end { result ≡ 0 → IsAtEnd (S.left input.new) }
+    ensures read { result ≡ 7 → Rose (S.faults input.old) (S.faults input.new) ⊎ Rose (A.faults acls.old) (A.faults acls.new) }
+    ensures write { result ≡ 8 → Rose (K.faults out.old) (K.faults out.new) }
+    ensures store { result ≡ 5 → Rose (D.state disk.old).faults (D.state disk.new).faults }
+{
+    let props = match read_properties(alloc, acls) {
+        Err(fault) => return status_of(finish(alloc, out, ended_by_props(fault), 0)),
+        Ok(props) => props,
+    };
+    status_of(replay_under(alloc, &props, input, out, disk, rand))
+}

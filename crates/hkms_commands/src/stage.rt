@@ -1,0 +1,108 @@
+//! A replay between two lines, and how it plays one.
+ghost use Rattle.std.specs.Prelude.{◌≡◌, ◌+◌, ◌≤◌, ◌^◌, List, ℕ, length};
+ghost use Rattle.hk_base.specs.Disk.{Tells};
+ghost use Rattle.hk_base.specs.Faults.{Rose};
+ghost use Rattle.prop_text.specs.declared.lines.PropLine.{PropLine};
+ghost use Rattle.replay_text.specs.Events.{Spells};
+ghost use Rattle.world_run.specs.Acknowledged.{Acknowledged, HoldsLogs};
+ghost use Rattle.hkms_commands.specs.Steps.{HasLists, PlaysSo, TellsSo, counts};
+
+use hk_base::{ByteList, Disk, Sink, Words, write_all};
+use replay_text::{LineFault, read_event, write_line};
+use std::alloc::Global;
+use hk_events::{Event, Line};
+use world_run::{World, WorldFault};
+
+/// How a line was played.
+#[derive(Clone, Copy, Debug, PartialEq, Eq)]
+pub enum Play {
+    /// It is quiet, or its event is done and its answer written.
+    Played,
+    /// It is a bad line.
+    BadLine,
+    /// There was no memory to read it.
+    Unread,
+    /// Its event is done, and there was no memory for the answer.
+    Untold,
+    /// Its event is done, and the answer could not be written.
+    Unwritten,
+    /// It is a restart that could not open its log.
+    Unopened(WorldFault),
+}
+
+/// Both services, and how many events they have answered.
+#[derive(Drop)]
+pub struct Stage {
+    pub alloc: Global,
+    pub world: World,
+    pub events: u64,
+    pub answer: ByteList,
+}
+
+impl Stage {
+    /// Plays a line, and writes the answer where it is an event.
+    pub fn play_line<D: Disk, K: Sink, W: Words>(
+        &mut self,
+        line: &[u8],
+        disk: &mut D,
+        out: &mut K,
+        words: &mut W,
+    ) -> Play
+        requires short { length line.now ≤ 1048576 }
+        requires few { self.old.events ≤ 2 ^ 40 }
+        requires stands { Tells (D.state disk.old) → ((done : Acknowledged) × HoldsLogs (D.state disk.old) self.old.world done) }
+        ensures plays { (lines : List PropLine) → HasLists self.old.world lines → PlaysSo lines (D.state disk.old) (D.state disk.new) (record { world = self.old.world; words = W.to_come words.old; events = self.old.events; written = K.written out.old }) line.now result (record { world = self.new.world; words = W.to_come words.new; events = self.new.events; written = K.written out.new }) }
+        ensures few { self.new.events ≤ self.old.events + counts result }
+        ensures later { K.faults out.old ≤ K.faults out.new }
+        ensures fault { result ≡ Play.Unwritten → Rose (K.faults out.old) (K.faults out.new) }
+    {
+        let event = match read_event(self.alloc, line) {
+            Err(LineFault::BadLine) => return Play::BadLine,
+            Err(LineFault::NoMemory) => return Play::Unread,
+            Ok(None) => return Play::Played,
+            Ok(Some(event)) => event,
+        };
+        self.play_event(event, disk, out, words)
+    }
+
+    fn play_event<D: Disk, K: Sink, W: Words>(
+        &mut self,
+        event: Event,
+        disk: &mut D,
+        out: &mut K,
+        words: &mut W,
+    ) -> Play
+        requires few { self.old.events ≤ 2 ^ 40 }
+        requires stands { Tells (D.state disk.old) → ((done : Acknowledged) × HoldsLogs (D.state disk.old) self.old.world done) }
+        ensures plays { (lines : List PropLine) → HasLists self.old.world lines → (line : List ℕ) → Spells line event → PlaysSo lines (D.state disk.old) (D.state disk.new) (record { world = self.old.world; words = W.to_come words.old; events = self.old.events; written = K.written out.old }) line result (record { world = self.new.world; words = W.to_come words.new; events = self.new.events; written = K.written out.new }) }
+        ensures few { self.new.events ≤ self.old.events + counts result }
+        ensures later { K.faults out.old ≤ K.faults out.new }
+        ensures fault { result ≡ Play.Unwritten → Rose (K.faults out.old) (K.faults out.new) }
+    {
+        match self.world.step(disk, words, self.events + 1, event) {
+            Err(why) => Play::Unopened(why),
+            Ok(told) => self.tell(&told, out),
+        }
+    }
+
+    /// Counts an event that was done, and writes its answer.
+    fn tell<K: Sink>(&mut self, told: &Line, out: &mut K) -> Play
+        requires few { self.old.events ≤ 2 ^ 40 }
+        ensures tells { TellsSo (self.old.events + 1) told.now (K.written out.old) (K.written out.new) result }
+        ensures world { self.new.world ≡ self.old.world }
+        ensures counted { self.new.events ≡ self.old.events + 1 }
+        ensures counts { counts result ≡ 1 }
+        ensures later { K.faults out.old ≤ K.faults out.new }
+        ensures fault { result ≡ Play.Unwritten → Rose (K.faults out.old) (K.faults out.new) }
+    {
+        self.events += 1;
+        self.answer.clear();
+        match write_line(self.alloc, self.events, told, &mut self.answer) {
+            Err(_) => Play::Untold,
+            Ok(()) => match write_all(out, self.answer.as_slice()) {
+                Ok(()) => Play::Played,
+                Err(_) => Play::Unwritten,
+            },
+        }
+    }
+}
