@@ -6,8 +6,6 @@ mod copies;
 mod log;
 mod op_list;
 mod replay;
-#[cfg(test)]
-mod tests;
 
 pub use log::EditLog;
 pub use op_list::{OpList, PlacedOp};

@@ -8,6 +8,3 @@ mod writing;
 
 pub use laws::operations_have_one_spelling;
 pub use ops::EditOp;
-
-#[cfg(test)]
-mod tests;

@@ -6,9 +6,9 @@ ghost use Rattle.std.specs.Cmp.Lexicographic.{slice_cmp};
 ghost use Rattle.std.specs.Ordering.{nat_cmp};
 
 use crate::order::Order;
-use name_calls::NPath;
 use crate::rows::Node;
 use hk_base::Text;
+use name_calls::NPath;
 use std::cmp::Ordering;
 
 /// How many names the node's path has.

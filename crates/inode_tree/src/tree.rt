@@ -15,10 +15,10 @@ mod removal;
 
 use crate::climbs::{below, compare, place};
 use crate::order::Order;
-use name_calls::NPath;
 use crate::rows::{Kind, Node, Row};
 use crate::zones::zone_at;
 use hk_base::{Edek, KeyName, NoMemory, Text};
+use name_calls::NPath;
 use std::alloc::Global;
 use std::cmp::Ordering;
 use std::collections::HashMap;
@@ -537,6 +537,3 @@ fn build(alloc: Global, nodes: &Vec<Node>, n: u32) -> Result<NPath, NoMemory>
     path.push(copy_of(alloc, &node.name)?)?;
     Ok(path)
 }
-
-#[cfg(test)]
-mod tests;

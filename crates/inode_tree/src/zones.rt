@@ -4,9 +4,9 @@ ghost use Rattle.inode_tree.specs.Arena.{IsTree, IsLive, rows_of, path_of};
 ghost use Rattle.inode_tree.specs.Rows.{zone_id, is_marked};
 
 use crate::order::Order;
-use name_calls::NPath;
 use crate::rows::{Kind, Node};
 use crate::tree::seek;
+use name_calls::NPath;
 
 /// Whether the node is a directory that carries a key's name.
 fn marked(node: &Node) -> bool

@@ -3,8 +3,8 @@ ghost use Rattle.std.specs.Prelude.{◌≡◌, ◌∷◌, ◌++◌, ◌<◌, [],
 ghost use Rattle.std.specs.List.{AllByRecursion};
 ghost use Rattle.name_core.specs.Asks.{note_of, open_ask, without};
 
-use name_calls::{Ask, AskNote, Want};
 use hk_base::NoMemory;
+use name_calls::{Ask, AskNote, Want};
 use std::alloc::Global;
 use std::collections::BTreeMap;
 use std::marker::Model;

@@ -12,6 +12,3 @@ pub use laws::{
 };
 pub use name_calls::{Answered, Ask, AskNote, KeyAnswer, NameCall, NameRefusal, NameReply, Want};
 pub use namesystem::Name;
-
-#[cfg(test)]
-mod tests;

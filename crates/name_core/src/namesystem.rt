@@ -17,7 +17,6 @@ ghost use Rattle.name_core.specs.declared.asks.OpenAsk.{OpenAsk};
 ghost use Rattle.name_core.specs.Steps.{ActsOn, ActsSettled, FinishesSettled, IsUnsettled, MayWrite, Settling, Writes, finish_told, refusal_of, told_of};
 
 use crate::asks::{OpenAsk, OpenAsks};
-use name_calls::{Answered, Ask, AskNote, KeyAnswer, NameCall, NameRefusal, NameReply};
 use crate::rules::{
     early_refusal, finish_op, info, is_superuser, path_asked, path_refusal, to_be_deleted,
     to_be_finished, to_be_listed, to_be_made, to_be_zone, wanted,
@@ -26,7 +25,7 @@ use edit_ops::EditOp;
 use frame_log::{StartFault, StoreRefusal};
 use hk_base::{Disk, Edek, KeyName, NoMemory, Text};
 use inode_tree::MOST_ROWS;
-use name_calls::NPath;
+use name_calls::{Answered, Ask, AskNote, KeyAnswer, NPath, NameCall, NameRefusal, NameReply};
 use name_store::NameStore;
 use std::alloc::Global;
 use std::marker::Model;
@@ -560,16 +559,5 @@ fn finished(written: Result<(), StoreRefusal>) -> Result<(), NameRefusal>
     match written {
         Ok(()) => Ok(()),
         Err(why) => Err(refusal(why)),
-    }
-}
-
-#[cfg(test)]
-impl Name {
-    /// Leaves one id of this opening.
-    #[tactic(auto, using(crate::proofs::KeepLemmas::keeps_later))]
-    pub fn skip_ids(&mut self) {
-        if self.next < IDS - 1 {
-            self.next = IDS - 1;
-        }
     }
 }

@@ -9,8 +9,6 @@ mod opening;
 mod replay;
 mod rules;
 mod store;
-#[cfg(test)]
-mod tests;
 mod used;
 
 pub use laws::what_a_crash_leaves_is_no_damage;

@@ -4,9 +4,9 @@ use crate::rules::allows;
 use edit_ops::EditOp;
 use hk_base::NoMemory;
 use inode_tree::Tree;
+use name_calls::ZoneList;
 use std::alloc::Global;
 use std::marker::Model;
-use name_calls::ZoneList;
 use zone_table::{Zones, zones_are_the_marks};
 
 /// The number of the opening, the directories and files, and the encryption zones.

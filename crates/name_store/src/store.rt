@@ -7,9 +7,9 @@ use edit_ops::EditOp;
 use frame_log::{StartFault, StoreRefusal};
 use hk_base::{Disk, NoMemory};
 use inode_tree::Tree;
+use name_calls::ZoneList;
 use std::alloc::Global;
 use std::marker::Model;
-use name_calls::ZoneList;
 
 /// The directories, files and encryption zones of the namesystem, and the edit log on file 1 of a disk
 /// from which they can be made again.

@@ -7,6 +7,3 @@ mod same;
 mod snaps;
 
 pub use snaps::{MOST_SNAPSHOTS, Snaps};
-
-#[cfg(test)]
-mod tests;

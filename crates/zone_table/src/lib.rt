@@ -8,6 +8,3 @@ mod zones;
 pub use laws::zones_are_the_marks;
 pub use name_calls::{ZoneList, ZonePath};
 pub use zones::{ZoneRow, Zones};
-
-#[cfg(test)]
-mod tests;

@@ -7,9 +7,9 @@ ghost use Rattle.name_calls.specs.Paths.{is_prefix, is_relative};
 
 use super::{Tree, copy_of};
 use crate::climbs::{above, below, depth, place};
-use name_calls::NPath;
 use crate::rows::{Node, Row};
 use hk_base::NoMemory;
+use name_calls::NPath;
 use std::alloc::Global;
 
 impl Tree {

@@ -6,11 +6,10 @@ ghost use Rattle.inode_tree.specs.Rows.{is_dir};
 
 use super::{Tree, build, copy_of};
 use crate::climbs::{depth, past, place};
-use name_calls::{Child, ChildList};
 use crate::order::Order;
-use name_calls::NPath;
 use crate::rows::Node;
 use hk_base::NoMemory;
+use name_calls::{Child, ChildList, NPath};
 use std::alloc::Global;
 
 impl Tree {

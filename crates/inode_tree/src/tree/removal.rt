@@ -9,8 +9,8 @@ ghost use Rattle.inode_tree.specs.Rows.{removed};
 use super::{Tree, blank_node};
 use crate::climbs::{past, place};
 use crate::order::Order;
-use name_calls::NPath;
 use crate::rows::Node;
+use name_calls::NPath;
 use std::alloc::Global;
 use std::collections::HashMap;
 
