@@ -5,8 +5,8 @@ ghost use Rattle.replay_text.specs.Events.{SpellsAskCreate, SpellsAskZone, Spell
 
 use crate::fields::{cut, only_field, read_escaped, read_small_number, read_user};
 use hk_base::{KeyName, NoMemory};
-use std::alloc::Global;
 use hk_events::Event;
+use std::alloc::Global;
 
 /// `ask U`, a verb and what the verb takes, of which `ask` is read.
 pub fn read_ask(alloc: Global, fields: &[u8]) -> Result<Option<Event>, NoMemory>

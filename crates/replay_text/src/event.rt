@@ -9,8 +9,8 @@ use crate::asks::{read_ask, read_draw, read_finish};
 use crate::calls::read_call;
 use crate::fields::{cut, only_field, read_escaped, read_user};
 use hk_base::{ByteList, NoMemory, Text};
-use std::alloc::Global;
 use hk_events::Event;
+use std::alloc::Global;
 
 /// Why a line has no event to give.
 #[derive(Clone, Copy, Debug, PartialEq, Eq)]

@@ -13,6 +13,3 @@ mod transcript;
 pub use event::{LineFault, read_event};
 pub use laws::lines_are_read_in_one_way;
 pub use transcript::write_line;
-
-#[cfg(test)]
-mod tests;

@@ -9,13 +9,12 @@ ghost use Rattle.kms_calls.specs.Refusals.{refusal_text};
 ghost use Rattle.replay_text.specs.Transcript.{answer_text, child_part, edek_field, edek_part, edek_text, escaped_path, kept_text, key_text, line_text, material_text, meta_part, meta_text, name_part, name_refusal_text, name_text, row_front, shown_part, told_text, want_text, zone_part, zone_text};
 
 use hk_base::{ByteList, Dek, Edek, KeyName, NoMemory};
+use hk_events::Line;
 use itoa::Buffer;
 use kms_calls::{KeyMeta, KeyVersion, KmsRefusal, KmsReply};
-use name_calls::{AskNote, Child, NPath, NameRefusal, NameReply, Want};
+use name_calls::{AskNote, Child, NPath, NameRefusal, NameReply, Want, ZonePath};
 use percent_encoding::{AsciiSet, CONTROLS, percent_encode};
 use std::alloc::Global;
-use hk_events::Line;
-use name_calls::ZonePath;
 
 /// The bytes of a path that may not stand for themselves, besides those that are not ASCII.
 pub const ESCAPED: AsciiSet = percent_encoding::ascii_set!(

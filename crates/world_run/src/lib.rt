@@ -12,18 +12,3 @@ pub use hk_events::{Event, Line};
 pub use kept::KeptReply;
 pub use laws::sound_files_may_be_started_from;
 pub use world::World;
-
-#[cfg(test)]
-mod ask_tests;
-#[cfg(test)]
-mod desk;
-#[cfg(test)]
-mod late_tests;
-#[cfg(test)]
-mod log_tests;
-#[cfg(test)]
-mod quiet_disk;
-#[cfg(test)]
-mod tests;
-#[cfg(test)]
-mod verdict_tests;

@@ -32,11 +32,13 @@ use crate::fault::WorldFault;
 use crate::kept::{KeptReply, again, note_numbered, reply_numbered};
 use frame_log::StartFault;
 use hk_base::{ByteList, Disk, KeyName, NoMemory, Text, Words};
+use hk_events::{Event, Line};
 use kms_acls::Acls;
 use kms_calls::{KmsCall, KmsRefusal, KmsReply};
 use kms_core::Kms;
-use hk_events::{Event, Line};
-use name_calls::{Answered, Ask, AskNote, NPath, NameCall, NameRefusal, NameReply, PathFault, Want};
+use name_calls::{
+    Answered, Ask, AskNote, NPath, NameCall, NameRefusal, NameReply, PathFault, Want,
+};
 use name_core::Name;
 use prop_text::Props;
 use std::alloc::Global;
