@@ -1,0 +1,177 @@
+"""Edit logs that are built here, byte by byte from their format, and what the program makes of each: the records that it
+reads, those that are out of form, and those that don't apply to the records before them.
+
+Run by records.sh as: records.py PROGRAM FOLDER
+"""
+import os
+import subprocess
+import sys
+
+PROGRAM, FOLDER = sys.argv[1:3]
+MATERIAL = bytes.fromhex("2b7e151628aed2a6abf7158809cf4f3c")
+failures = []
+runs = 0
+
+
+def path_bytes(path):
+    return len(path).to_bytes(2, "big") + path
+
+
+def opened(number):
+    return b"\x01" + number.to_bytes(4, "big")
+
+
+def row_id(counter, opening=1):
+    return (opening << 32) + counter
+
+
+def mkdir(number, path):
+    return b"\x02" + number.to_bytes(8, "big") + path_bytes(path)
+
+
+def edek(key, sealed=MATERIAL, number=0):
+    return bytes([len(key)]) + key + number.to_bytes(2, "big") + bytes(16) + bytes([len(sealed)]) + sealed
+
+
+def file(number, path, key=None):
+    return b"\x03" + number.to_bytes(8, "big") + path_bytes(path) + (b"\x00" if key is None else b"\x01" + key)
+
+
+def remove(path):
+    return b"\x04" + path_bytes(path)
+
+
+def zone(path, key):
+    return b"\x06" + path_bytes(path) + bytes([len(key)]) + key
+
+
+def log(records, gate=1, end=b"\x00"):
+    """Returns the bytes of a log, the last record after this gate, and the offset of that gate."""
+    text, at = b"HKMSNAM1", 8
+    for place, record in enumerate(records):
+        at = len(text)
+        is_last = place + 1 == len(records)
+        text += bytes([gate if is_last else 1]) + len(record).to_bytes(4, "big") + record
+    return text + end, at
+
+
+def run(text, events=b"nn a list /\n"):
+    """Runs the events on an edit log of these bytes, and returns the status and the output."""
+    global runs
+    runs += 1
+    for name in ("keys.log", "names.log"):
+        if os.path.exists(f"{FOLDER}/{name}"):
+            os.remove(f"{FOLDER}/{name}")
+    with open(f"{FOLDER}/names.log", "wb") as it:
+        it.write(text)
+    ran = subprocess.run([PROGRAM, "replay"], cwd=FOLDER, input=events, stdout=subprocess.PIPE, check=False)
+    return ran.returncode, ran.stdout.decode()
+
+
+def expect(name, found, wanted):
+    if found != wanted:
+        failures.append(f"{name}: {found} (wanted {wanted})")
+
+
+def is_damaged(name, records):
+    text, at = log(records)
+    expect(name, run(text), (4, f"damaged names {at}\n"))
+
+
+# A directory, a file outside of zones, a zone of the key k, and a file in it.
+BASE = [
+    opened(1),
+    mkdir(row_id(1), b"/d"),
+    file(row_id(2), b"/f"),
+    mkdir(row_id(3), b"/z"),
+    zone(b"/z", b"k"),
+    file(row_id(4), b"/z/g", edek(b"k")),
+]
+EVENTS = b"nn a list /\nnn a info /z/g\nnn a info /f\nnn hdfs zones\nnn a mkdir /n\nnn a info /n\n"
+EDEK = "k@0:" + bytes(16).hex() + ":" + MATERIAL.hex()
+expect(
+    "records that apply",
+    run(log(BASE)[0], EVENTS),
+    (0, f"1 list d/ f z/\n2 file {row_id(4)} /z {EDEK}\n3 file {row_id(2)} - -\n4 zones /z:k\n5 done\n6 dir {row_id(1, 2)} - -\n"),
+)
+
+# A zone goes with its directory: a file of the same path has no key after it.
+GONE = BASE + [remove(b"/z"), opened(2), mkdir(row_id(1, 2), b"/z"), file(row_id(2, 2), b"/z/g")]
+expect(
+    "a zone that went with its directory",
+    run(log(GONE)[0], b"nn a info /z/g\nnn hdfs zones\n"),
+    (0, f"1 file {row_id(2, 2)} - -\n2 zones\n"),
+)
+
+# Sealed keys of each length, the highest version, and the longest name of a key.
+for sealed in (bytes(16), bytes(range(24)), bytes(range(32))):
+    for name in (b"k", b"a.b-c_D9", b"K" * 64):
+        records = [opened(1), mkdir(row_id(1), b"/z"), zone(b"/z", name), file(row_id(2), b"/z/\xc3\xa4", edek(name, sealed, 65535))]
+        wanted = f"{name.decode()}@65535:{bytes(16).hex()}:{sealed.hex()}"
+        expect("an encrypted key", run(log(records)[0], b"nn a info /z/%C3%A4\n"), (0, f"1 file {row_id(2)} /z {wanted}\n"))
+
+# Only a gate of 1 opens a record.
+for gate in (0, 1, 2, 127, 128, 255):
+    wanted = "1 list d/\n" if gate == 1 else "1 list\n"
+    expect(f"the gate {gate}", run(log(BASE[:2], gate)[0]), (0, wanted))
+for end in (b"\x00", b"\x02", b"\xff"):
+    expect("the end gate", run(log(BASE[:2], end=end)[0]), (0, "1 list d/\n"))
+
+# Records that don't apply.
+for name, records in {
+    "no parent": [mkdir(row_id(5), b"/x/y")],
+    "a file for a parent": [mkdir(row_id(5), b"/f/y")],
+    "a path that is taken": [mkdir(row_id(5), b"/d")],
+    "the root": [mkdir(row_id(5), b"/")],
+    "an id of another opening": [mkdir(row_id(1, 2), b"/e")],
+    "an id in use": [mkdir(row_id(2), b"/e")],
+    "the id of a row that was removed": [remove(b"/d"), mkdir(row_id(1), b"/e")],
+    "the key of another zone": [file(row_id(5), b"/z/h", edek(b"other"))],
+    "no key in a zone": [file(row_id(5), b"/z/h")],
+    "a key outside of zones": [file(row_id(5), b"/e", edek(b"k"))],
+    "a zone that is not empty": [mkdir(row_id(5), b"/d/c"), zone(b"/d", b"k")],
+    "a zone in a zone": [mkdir(row_id(5), b"/z/s"), zone(b"/z/s", b"k")],
+    "a file for a zone": [zone(b"/f", b"k")],
+    "a zone at no path": [zone(b"/x", b"k")],
+    "a removal of the root": [remove(b"/")],
+    "a removal at no path": [remove(b"/nothing")],
+    "an opening left out": [opened(3)],
+    "the same opening": [opened(1)],
+}.items():
+    is_damaged(name, BASE + records)
+is_damaged("a directory before the first opening", [mkdir(row_id(1), b"/z")])
+is_damaged("a first opening of 2", [opened(2)])
+
+# The first record that doesn't apply counts.
+first, at = log(BASE + [mkdir(row_id(5), b"/d")])
+expect("the first of two", run(log(BASE + [mkdir(row_id(5), b"/d"), opened(7)])[0]), (4, f"damaged names {at}\n"))
+
+# Records that are cut short, that have a byte more, or that are out of form.
+for record in (opened(2), mkdir(row_id(5), b"/y"), file(row_id(5), b"/y"), file(row_id(5), b"/z/y", edek(b"k")), remove(b"/d"), zone(b"/d", b"a.b")):
+    for length in range(1, len(record)):
+        is_damaged(f"{record.hex()} cut to {length} bytes", BASE + [record[:length]])
+    is_damaged(f"{record.hex()} with a byte more", BASE + [record + b"\x00"])
+for name, record in {
+    "an unknown first byte": b"\x00",
+    "an unknown record": b"\x05\x00\x02/z\x00\x02/y",
+    "a byte 2 for what may be absent": b"\x03" + row_id(5).to_bytes(8, "big") + path_bytes(b"/z/y") + b"\x02" + edek(b"k"),
+    "sealed bytes of another length": file(row_id(5), b"/z/y", edek(b"k", bytes(17))),
+    "a path without its slash": remove(b"d/"),
+    "a path that begins with .reserved": remove(b"/.reserved"),
+    "the name of a key that is none": zone(b"/d", b"/"),
+    "the name of a key without bytes": zone(b"/d", b""),
+}.items():
+    is_damaged(name, BASE + [record])
+
+# Paths at their limits: 100 names and 8,000 bytes.
+rows, above, longest = [opened(1)], b"", b"/" + b"a" * 79
+for depth in range(1, 101):
+    above += longest
+    rows.append(mkdir(row_id(depth), above))
+expect("a path of 8,000 bytes", run(log(rows)[0], b"nn a info " + above + b"\n"), (0, f"1 dir {row_id(100)} - -\n"))
+is_damaged("a path of 8,001 bytes", rows[:-1] + [mkdir(row_id(100), above + b"a")])
+
+if runs < 200:
+    failures.append(f"only {runs} runs")
+print("\n".join(f"tests/records.py: {it}" for it in failures[:10]), end="\n" if failures else "")
+sys.exit(1 if failures else 0)
