@@ -1,0 +1,9 @@
+//! Tests of trees and snapshots that no event reaches.
+#![tactic(auto)]
+
+#[cfg(test)]
+mod bench;
+#[cfg(test)]
+mod snapshots;
+#[cfg(test)]
+mod trees;
