@@ -1,11 +1,10 @@
-//! What may happen to the services, and how it is answered.
+//! The events of both services, and their answers.
 use hk_base::{ByteList, KeyName, Text};
 use kms_calls::{KmsCall, KmsReply};
 use name_calls::{AskNote, NameRefusal, NameReply};
 
-/// An event: one call on one service. A path stands as the bytes that were given. Asks and replies
-/// that are kept are numbered from 1, each kind by itself, and stay: each may be used late, again
-/// or never.
+/// An event: one call of one service. A path is given by its bytes. Kept asks and kept replies are
+/// numbered from 1, each kind by itself, and stay: each may be used late, again or never.
 #[derive(Drop)]
 pub enum Event {
     /// A call of the key management service.
@@ -13,27 +12,27 @@ pub enum Event {
         user: Text,
         call: KmsCall,
     },
-    /// Drops the key management service, and opens it again from its log.
+    /// Drops the key management service and opens it again from its log.
     RestartKms,
-    /// Drops the namesystem, and opens it again from its log. The asks that were open are gone.
+    /// Drops the namesystem and opens it again from its log. The open asks are dropped.
     RestartName,
     /// Makes a directory of the namesystem.
     Mkdir {
         user: Text,
         path: ByteList,
     },
-    /// Deletes what stands at a path of the namesystem, with all below it where it is recursive.
+    /// Deletes the entry at a path of the namesystem, with all below it if `recursive` is set.
     Delete {
         user: Text,
         path: ByteList,
         recursive: bool,
     },
-    /// Asks what stands at a path of the namesystem.
+    /// Asks for the entry at a path of the namesystem.
     Info {
         user: Text,
         path: ByteList,
     },
-    /// Asks what lies in a directory of the namesystem.
+    /// Asks for the entries of a directory of the namesystem.
     List {
         user: Text,
         path: ByteList,
@@ -42,52 +41,52 @@ pub enum Event {
     Zones {
         user: Text,
     },
-    /// Asks the namesystem to make a file. Where the ask is accepted its note is kept.
+    /// Asks the namesystem to make a file. If the ask is accepted, its note is kept.
     AskCreate {
         user: Text,
         path: ByteList,
     },
-    /// Asks the namesystem to make a directory a zone with this key. Where the ask is accepted its
+    /// Asks the namesystem to make a directory a zone with this key. If the ask is accepted, its
     /// note is kept.
     AskZone {
         user: Text,
         path: ByteList,
         key: KeyName,
     },
-    /// Makes the call of the key management service that the kept ask of this number wants, as the
-    /// user `hdfs`, and keeps the reply.
+    /// Makes the call of the key management service that the kept ask with this number wants, as
+    /// the user `hdfs`, and keeps the reply.
     Draw {
         ask: u32,
     },
-    /// Finishes the ask that the kept reply of this number answers.
+    /// Finishes the ask that the kept reply with this number answers.
     Finish {
         reply: u32,
     },
 }
 
-/// The answer to an event, which is a line of the transcript.
+/// The answer to an event: a line of the transcript.
 #[derive(Drop)]
 pub enum Line {
     /// The reply of the key management service.
     Kms(KmsReply),
-    /// A service was opened again, and this is the number of the opening.
+    /// A service was opened again; this is the number of the opening.
     Opened {
         opening: u32,
     },
-    /// The reply of the namesystem. A finish that was done is answered so too.
+    /// The reply of the namesystem; also the answer to a finish that was done.
     Name(NameReply),
-    /// An ask was accepted, and its note is kept under this number.
+    /// An ask was accepted; its note is kept under this number.
     Asked {
         number: u64,
         note: AskNote,
     },
-    /// A reply is kept under this number, `None` where nothing was wanted.
+    /// A reply is kept under this number; `None` if the ask wanted no call.
     Replied {
         number: u64,
         reply: Option<KmsReply>,
     },
     /// An ask or a finish was refused.
     Refused(NameRefusal),
-    /// Nothing is kept under the number that was given.
+    /// Nothing is kept under the given number.
     Unknown,
 }

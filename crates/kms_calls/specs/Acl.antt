@@ -1,4 +1,4 @@
--- The operations of access lists by the names that the properties of the Hadoop KMS give them.
+-- The names of the operations in the properties of the Hadoop KMS.
 use Rattle.std.specs.Prelude.{ℕ, List, codes}
 use Rattle.kms_calls.specs.declared.acl.AclOp.{AclOp}
 use Rattle.kms_calls.specs.declared.acl.AclOp.TheVariants as op

@@ -1,4 +1,4 @@
--- Refusals of the key management service as text: the number, the name, and of Denied what denies which operation.
+-- Refusals of the key management service as text: the number and the name; for Denied also the list and the operation.
 use Rattle.std.specs.Prelude.{ℕ, List, ◌++◌, codes}
 use Rattle.kms_calls.specs.declared.acl.AclOp.{AclOp}
 use Rattle.kms_calls.specs.declared.acl.AclTable.{AclTable}

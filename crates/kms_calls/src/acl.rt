@@ -1,26 +1,25 @@
-//! What the access rules of the Hadoop KMS speak of: their lists, and the operations of the service
-//! and on a key.
+//! The access control lists of the Hadoop KMS, and the operations that they name.
 ghost use Rattle.std.specs.Prelude.{◌≡◌};
 ghost use Rattle.kms_calls.specs.Acl.{op_text};
 
-/// Which access list denies a call.
+/// The access control list that denies a call.
 #[derive(Clone, Copy, Debug, PartialEq, Eq)]
 pub enum AclTable {
-    /// The service's list of those who may do an operation, `hadoop.kms.acl.OP`, lacks the user.
+    /// The list of users who may do the operation, `hadoop.kms.acl.OP`, does not have the user.
     ServiceAcl,
-    /// The service's list of those who may not, `hadoop.kms.blacklist.OP`, has the user.
+    /// The list of users who may not, `hadoop.kms.blacklist.OP`, has the user.
     ServiceBlacklist,
     /// The key has lists of its own, `key.acl.KEY.OP`, and none of them has the user.
     KeyAcl,
-    /// The key has no lists of its own, and the one for all such keys, `default.key.acl.OP`, lacks
+    /// The key has no lists of its own, and the default list, `default.key.acl.OP`, does not have
     /// the user.
     DefaultAcl,
-    /// Neither the key nor all keys have a list of the operation.
+    /// There is no list for the operation, neither for the key nor a default one.
     NoAcl,
 }
 
-/// An operation that an access list speaks of: the first nine are operations of the service, and
-/// MANAGEMENT, GENERATE_EEK, DECRYPT_EEK and READ are those on a key.
+/// An operation that an access control list names. The first nine are operations of the service;
+/// MANAGEMENT, GENERATE_EEK, DECRYPT_EEK and READ are operations on a key.
 #[derive(Clone, Copy, Debug, PartialEq, Eq)]
 pub enum AclOp {
     Create,
@@ -37,7 +36,7 @@ pub enum AclOp {
 }
 
 impl AclOp {
-    /// The name of the operation in the properties of the Hadoop KMS.
+    /// Returns the name of the operation in the properties of the Hadoop KMS.
     pub fn name(&self) -> &'static str
         ensures { result.now ≡ op_text self.now }
     {

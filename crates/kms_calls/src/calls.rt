@@ -9,8 +9,8 @@ use crate::raw_edek_list::RawEdekList;
 use crate::version_list::VersionList;
 use hk_base::{ByteList, Dek, Edek, KeyName, NoMemory, VersionName};
 
-/// An encrypted data encryption key as it is sent: the version that is said to have sealed it, and
-/// an initialization vector and sealed bytes of any length.
+/// An encrypted data encryption key as a client sends it: the key version that is said to have
+/// sealed it, and an initialization vector and sealed bytes of any length.
 #[derive(Drop)]
 pub struct RawEdek {
     pub version: VersionName,
@@ -21,14 +21,15 @@ pub struct RawEdek {
 /// A call of the key management service.
 #[derive(Drop)]
 pub enum KmsCall {
-    /// Creates a key of `bits` bits with its first version. Where no material is given it is drawn.
+    /// Creates a key of `bits` bits with its first version. If no material is given, it is drawn at
+    /// random.
     Create {
         name: KeyName,
         bits: u64,
         material: Option<ByteList>,
         description: Description,
     },
-    /// Gives a key its next version. Where no material is given it is drawn.
+    /// Gives a key its next version. If no material is given, it is drawn at random.
     Roll {
         name: KeyName,
         material: Option<ByteList>,
@@ -37,15 +38,15 @@ pub enum KmsCall {
     Delete {
         name: KeyName,
     },
-    /// Lets go of what the service holds ready for a key. The key stays as it is.
+    /// Drops what the service holds ready for a key. The key is unchanged.
     Invalidate {
         name: KeyName,
     },
-    /// Asks what is known of a key.
+    /// Asks for the metadata of a key.
     Metadata {
         name: KeyName,
     },
-    /// Asks what is known of some keys.
+    /// Asks for the metadata of several keys.
     Metadatas {
         names: NameList,
     },
@@ -59,7 +60,7 @@ pub enum KmsCall {
     Versions {
         name: KeyName,
     },
-    /// Asks for a version.
+    /// Asks for one version of a key.
     Version {
         version: VersionName,
     },
@@ -68,56 +69,56 @@ pub enum KmsCall {
         name: KeyName,
         count: u32,
     },
-    /// Asks what an encrypted data encryption key opens to under a version of a key.
+    /// Decrypts an encrypted data encryption key under a version of a key.
     Decrypt {
         name: KeyName,
         sent: RawEdek,
     },
-    /// Asks for the same data encryption key, encrypted under the current version of a key.
+    /// Encrypts the same data encryption key under the current version of a key.
     Reencrypt {
         name: KeyName,
         sent: RawEdek,
     },
-    /// Asks for the same data encryption keys, encrypted under the current version of a key.
+    /// Encrypts the same data encryption keys under the current version of a key.
     Batch {
         name: KeyName,
         sent: RawEdekList,
     },
 }
 
-/// Why a call is refused. Where more than one holds the order is NoUser, BadRequest, Denied,
-/// KeyExists or NoSuchKey, NoSuchVersion, WrongKey, BadLength, BadMaterial, TooManyKeys,
-/// TooManyVersions, TooManyAsked, NoMemory, StoreFault.
+/// Why a call is refused. If more than one applies, the first of these is answered: NoUser,
+/// BadRequest, Denied, KeyExists or NoSuchKey, NoSuchVersion, WrongKey, BadLength, BadMaterial,
+/// TooManyKeys, TooManyVersions, TooManyAsked, NoMemory, StoreFault.
 #[derive(Clone, Copy, Debug, PartialEq, Eq)]
 pub enum KmsRefusal {
-    /// The request is not one of the service's, or its body is at fault.
+    /// The request is not one of the service's, or its body is malformed.
     BadRequest,
-    /// No user is named.
+    /// The request names no user.
     NoUser,
-    /// The access rules deny the user the operation.
+    /// An access control list denies the user the operation.
     Denied { table: AclTable, op: AclOp },
-    /// No key has the name.
+    /// No key has this name.
     NoSuchKey,
-    /// The key has no version of the number.
+    /// The key has no version with this number.
     NoSuchVersion,
-    /// A key of the name stands already.
+    /// A key with this name exists already.
     KeyExists,
-    /// The version that is said to have sealed is one of another key.
+    /// The version that is said to have sealed it belongs to another key.
     WrongKey,
-    /// Material that is given, or what is sealed, is not as long as the key, or an initialization
+    /// The given material or the sealed bytes are not as long as the key, or an initialization
     /// vector does not have 16 bytes.
     BadMaterial,
     /// The length is not 128, 192 or 256 bits.
     BadLength,
-    /// 10,000 keys stand, or the numbers of this start are used up.
+    /// There are 10,000 keys, or the numbers of this start are used up.
     TooManyKeys,
     /// The key has 65,535 versions.
     TooManyVersions,
     /// More than 1,000 data encryption keys are asked for, or sent at once.
     TooManyAsked,
-    /// There is no memory for the call.
+    /// Allocation failed.
     NoMemory,
-    /// The disk failed, so that the change is not known to be kept.
+    /// The disk failed, so the change may or may not be kept.
     StoreFault,
 }
 
@@ -132,7 +133,7 @@ impl From<NoMemory> for KmsRefusal {
     }
 }
 
-/// What is known of a key. `versions` counts its versions.
+/// The metadata of a key. `versions` is the number of its versions.
 #[derive(Drop)]
 pub struct KeyMeta {
     pub name: KeyName,
@@ -142,10 +143,10 @@ pub struct KeyMeta {
     pub versions: u32,
 }
 
-/// The reply to a call. Each call is answered by Refused where it is refused, and else as said.
+/// The reply to a call: Refused if the call is refused, else the variant that names the call.
 #[derive(Drop)]
 pub enum KmsReply {
-    /// To Create, Roll, Current and Version. The material is `None` where it is hidden.
+    /// To Create, Roll, Current and Version. The material is `None` if it is hidden.
     Version {
         version: VersionName,
         material: Option<Dek>,
@@ -154,11 +155,11 @@ pub enum KmsReply {
     Done,
     /// To Metadata.
     Metadata(KeyMeta),
-    /// To Metadatas, in the order asked; a key that is asked twice is answered twice.
+    /// To Metadatas, in the order of the call; a key that is named twice is answered twice.
     Metadatas(MetaList),
     /// To Names, in byte order.
     Names(NameList),
-    /// To Versions, in order of number.
+    /// To Versions, by number.
     Versions(VersionList),
     /// To Generate and Batch.
     Ready(EdekList),

@@ -5,7 +5,7 @@ use hk_base::{NoMemory, Text};
 use std::alloc::Global;
 use std::marker::Model;
 
-/// What is said of a key: a text of at most 65,535 bytes, which contracts see as its bytes.
+/// The description of a key: a text of at most 65,535 bytes. Contracts see its bytes.
 #[derive(Drop)]
 pub struct Description {
     text: Text,
@@ -22,7 +22,7 @@ impl Model for Description {
 }
 
 impl Description {
-    /// A description that says nothing. It takes no memory.
+    /// Returns the empty description. It takes no memory.
     pub fn empty(alloc: Global) -> Description
         ensures { result ≡ [] }
     {
@@ -31,7 +31,7 @@ impl Description {
         }
     }
 
-    /// The text as a description, or `None` where it has more than 65,535 bytes.
+    /// Makes a description of a text. Returns `None` if it has more than 65,535 bytes.
     pub fn of(text: Text) -> Option<Description>
         ensures { SomeIff result (length text ≤ 65535) text }
     {
@@ -42,7 +42,7 @@ impl Description {
         }
     }
 
-    /// A copy of the text as a description.
+    /// Copies a text of at most 65,535 bytes into a description.
     pub fn from_str(alloc: Global, text: &str) -> Result<Description, NoMemory>
         requires { length text.now ≤ 65535 }
         ensures { IfOk result (λ description. description ≡ text.now) }
@@ -53,7 +53,7 @@ impl Description {
         })
     }
 
-    /// The same description once more.
+    /// Returns a copy of the description.
     pub fn copy(&self, alloc: Global) -> Result<Description, NoMemory>
         ensures { IfOk result (λ copy. copy ≡ self.now) }
     {
@@ -61,6 +61,7 @@ impl Description {
         Description::from_str(alloc, self.text.as_str())
     }
 
+    /// Returns the text.
     pub fn as_text(&self) -> &Text
         ensures text { result.now ≡ self.now }
         ensures short { length self.now ≤ 65535 }

@@ -5,7 +5,7 @@ use hk_base::{Edek, NoMemory};
 use std::alloc::Global;
 use std::marker::Model;
 
-/// Encrypted data encryption keys, which contracts see as a list.
+/// A list of encrypted data encryption keys. Contracts see one list.
 #[derive(Drop)]
 pub struct EdekList {
     edeks: Vec<Edek>,
@@ -21,7 +21,7 @@ impl Model for EdekList {
 }
 
 impl EdekList {
-    /// No keys, with room for so many.
+    /// Returns an empty list with room for `count` entries.
     pub fn with_room(alloc: Global, count: usize) -> Result<EdekList, NoMemory>
         ensures { IfOk result (λ edeks. edeks ≡ []) }
     {
@@ -29,7 +29,7 @@ impl EdekList {
         Ok(EdekList { edeks })
     }
 
-    /// Adds a key at the end. Where memory is wanting the list stays as it was.
+    /// Adds a key at the end. If allocation fails, the list is unchanged.
     pub fn push(&mut self, edek: Edek) -> Result<(), NoMemory>
         ensures ok { OnOk result (self.new ≡ self.old ++ edek ∷ []) }
         ensures err { OnErr result (self.new ≡ self.old) }
@@ -38,12 +38,14 @@ impl EdekList {
         Ok(())
     }
 
+    /// Returns the entries in the order of the list.
     pub fn as_slice(&self) -> &[Edek]
         ensures { result.now ≡ self.now }
     {
         self.edeks.as_slice()
     }
 
+    /// Returns the number of entries.
     pub fn len(&self) -> usize
         ensures { result ≡ length self.now }
     {

@@ -1,4 +1,4 @@
-//! Lists of what is known of keys.
+//! Lists of keys' metadata.
 ghost use Rattle.std.specs.Prelude.{◌≡◌, ◌∷◌, [], ◌++◌, length, OnOk, OnErr, IfOk};
 
 use crate::calls::KeyMeta;
@@ -6,7 +6,7 @@ use hk_base::NoMemory;
 use std::alloc::Global;
 use std::marker::Model;
 
-/// What is known of some keys, which contracts see as a list.
+/// A list of keys' metadata. Contracts see one list.
 #[derive(Drop)]
 pub struct MetaList {
     metas: Vec<KeyMeta>,
@@ -22,7 +22,7 @@ impl Model for MetaList {
 }
 
 impl MetaList {
-    /// No keys, with room for so many.
+    /// Returns an empty list with room for `count` entries.
     pub fn with_room(alloc: Global, count: usize) -> Result<MetaList, NoMemory>
         ensures { IfOk result (λ metas. metas ≡ []) }
     {
@@ -30,7 +30,7 @@ impl MetaList {
         Ok(MetaList { metas })
     }
 
-    /// Adds what is known of a key at the end. Where memory is wanting the list stays as it was.
+    /// Adds the metadata of a key at the end. If allocation fails, the list is unchanged.
     pub fn push(&mut self, meta: KeyMeta) -> Result<(), NoMemory>
         ensures ok { OnOk result (self.new ≡ self.old ++ meta ∷ []) }
         ensures err { OnErr result (self.new ≡ self.old) }
@@ -39,12 +39,14 @@ impl MetaList {
         Ok(())
     }
 
+    /// Returns the entries in the order of the list.
     pub fn as_slice(&self) -> &[KeyMeta]
         ensures { result.now ≡ self.now }
     {
         self.metas.as_slice()
     }
 
+    /// Returns the number of entries.
     pub fn len(&self) -> usize
         ensures { result ≡ length self.now }
     {

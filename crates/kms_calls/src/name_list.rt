@@ -1,11 +1,11 @@
-//! Lists of names.
+//! Lists of names of keys.
 ghost use Rattle.std.specs.Prelude.{◌≡◌, ◌∷◌, [], ◌++◌, length, OnOk, OnErr, IfOk};
 
 use hk_base::{KeyName, NoMemory};
 use std::alloc::Global;
 use std::marker::Model;
 
-/// Names of keys, which contracts see as a list.
+/// A list of names of keys. Contracts see one list.
 #[derive(Drop)]
 pub struct NameList {
     names: Vec<KeyName>,
@@ -20,7 +20,7 @@ impl Model for NameList {
 }
 
 impl NameList {
-    /// No names, with room for so many.
+    /// Returns an empty list with room for `count` entries.
     pub fn with_room(alloc: Global, count: usize) -> Result<NameList, NoMemory>
         ensures { IfOk result (λ names. names ≡ []) }
     {
@@ -28,7 +28,7 @@ impl NameList {
         Ok(NameList { names })
     }
 
-    /// Adds a name at the end. Where memory is wanting the list stays as it was.
+    /// Adds a name at the end. If allocation fails, the list is unchanged.
     pub fn push(&mut self, name: KeyName) -> Result<(), NoMemory>
         ensures ok { OnOk result (self.new ≡ self.old ++ name ∷ []) }
         ensures err { OnErr result (self.new ≡ self.old) }
@@ -37,12 +37,14 @@ impl NameList {
         Ok(())
     }
 
+    /// Returns the entries in the order of the list.
     pub fn as_slice(&self) -> &[KeyName]
         ensures { result.now ≡ self.now }
     {
         self.names.as_slice()
     }
 
+    /// Returns the number of entries.
     pub fn len(&self) -> usize
         ensures { result ≡ length self.now }
     {

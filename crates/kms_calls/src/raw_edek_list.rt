@@ -1,4 +1,4 @@
-//! Lists of encrypted data encryption keys as they are sent.
+//! Lists of encrypted data encryption keys as a client sends them.
 ghost use Rattle.std.specs.Prelude.{◌≡◌, ◌∷◌, [], ◌++◌, length, OnOk, OnErr, IfOk};
 
 use crate::calls::RawEdek;
@@ -6,7 +6,7 @@ use hk_base::NoMemory;
 use std::alloc::Global;
 use std::marker::Model;
 
-/// Encrypted data encryption keys as they are sent, which contracts see as a list.
+/// A list of encrypted data encryption keys as a client sends them. Contracts see one list.
 #[derive(Drop)]
 pub struct RawEdekList {
     edeks: Vec<RawEdek>,
@@ -22,7 +22,7 @@ impl Model for RawEdekList {
 }
 
 impl RawEdekList {
-    /// No keys, with room for so many.
+    /// Returns an empty list with room for `count` entries.
     pub fn with_room(alloc: Global, count: usize) -> Result<RawEdekList, NoMemory>
         ensures { IfOk result (λ edeks. edeks ≡ []) }
     {
@@ -30,7 +30,7 @@ impl RawEdekList {
         Ok(RawEdekList { edeks })
     }
 
-    /// Adds a key at the end. Where memory is wanting the list stays as it was.
+    /// Adds a key at the end. If allocation fails, the list is unchanged.
     pub fn push(&mut self, edek: RawEdek) -> Result<(), NoMemory>
         ensures ok { OnOk result (self.new ≡ self.old ++ edek ∷ []) }
         ensures err { OnErr result (self.new ≡ self.old) }
@@ -39,12 +39,14 @@ impl RawEdekList {
         Ok(())
     }
 
+    /// Returns the entries in the order of the list.
     pub fn as_slice(&self) -> &[RawEdek]
         ensures { result.now ≡ self.now }
     {
         self.edeks.as_slice()
     }
 
+    /// Returns the number of entries.
     pub fn len(&self) -> usize
         ensures { result ≡ length self.now }
     {

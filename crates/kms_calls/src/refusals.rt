@@ -7,8 +7,8 @@ use crate::calls::KmsRefusal;
 use hk_base::{ByteList, NoMemory};
 
 impl KmsRefusal {
-    /// Appends the text of the refusal: its number, a space and its name, and behind Denied the list
-    /// and the operation. Where memory is wanting `out` stays as it was.
+    /// Appends the text of the refusal: its number, a space and its name; for Denied also the list
+    /// and the operation. If allocation fails, `out` is unchanged.
     pub fn write(&self, out: &mut ByteList) -> Result<(), NoMemory>
         ensures ok { OnOk result (out.new ≡ out.old ++ refusal_text self.now) }
         ensures err { OnErr result (out.new ≡ out.old) }
@@ -46,7 +46,7 @@ fn write_denied(table: AclTable, op: AclOp, out: &mut ByteList) -> Result<(), No
     }
 }
 
-/// Appends the text, or a front of it where memory is wanting.
+/// Appends the text. If allocation fails, a prefix may have been appended.
 fn append_denied(table: AclTable, op: AclOp, out: &mut ByteList) -> Result<(), NoMemory>
     ensures ok { OnOk result (out.new ≡ out.old ++ denied_text table op) }
     ensures err { OnErr result (take (length out.old) out.new ≡ out.old) }

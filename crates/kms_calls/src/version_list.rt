@@ -5,7 +5,7 @@ use hk_base::{Dek, NoMemory, VersionName};
 use std::alloc::Global;
 use std::marker::Model;
 
-/// A version of a key with its material, or `None` where the material is hidden.
+/// A version of a key with its material, or `None` if the material is hidden.
 #[derive(Clone, Copy, PartialEq, Eq)]
 pub struct KeyVersion {
     pub version: VersionName,
@@ -22,7 +22,7 @@ impl Model for KeyVersion {
     ghost inverse = { λ v. record { version = v.version; material = v.material } };
 }
 
-/// Versions with their materials, which contracts see as a list.
+/// A list of key versions with their materials. Contracts see one list.
 #[derive(Drop)]
 pub struct VersionList {
     versions: Vec<KeyVersion>,
@@ -38,7 +38,7 @@ impl Model for VersionList {
 }
 
 impl VersionList {
-    /// No versions, with room for so many.
+    /// Returns an empty list with room for `count` entries.
     pub fn with_room(alloc: Global, count: usize) -> Result<VersionList, NoMemory>
         ensures { IfOk result (λ versions. versions ≡ []) }
     {
@@ -46,7 +46,7 @@ impl VersionList {
         Ok(VersionList { versions })
     }
 
-    /// Adds a version at the end. Where memory is wanting the list stays as it was.
+    /// Adds a version at the end. If allocation fails, the list is unchanged.
     pub fn push(&mut self, version: KeyVersion) -> Result<(), NoMemory>
         ensures ok { OnOk result (self.new ≡ self.old ++ version ∷ []) }
         ensures err { OnErr result (self.new ≡ self.old) }
@@ -55,12 +55,14 @@ impl VersionList {
         Ok(())
     }
 
+    /// Returns the entries in the order of the list.
     pub fn as_slice(&self) -> &[KeyVersion]
         ensures { result.now ≡ self.now }
     {
         self.versions.as_slice()
     }
 
+    /// Returns the number of entries.
     pub fn len(&self) -> usize
         ensures { result ≡ length self.now }
     {

@@ -1,4 +1,4 @@
--- What a reply of the key management service says to the ask that wanted its call.
+-- What a reply of the key management service means for the ask that wanted the call.
 use Rattle.std.specs.Prelude.{List, [], ◌∷◌, Option, Some, None}
 use Rattle.hk_base.specs.declared.names.Edek.{Edek}
 use Rattle.kms_calls.specs.declared.calls.KmsReply.{KmsReply}

@@ -1,4 +1,4 @@
--- Paths as lists of names: their order, their rule, and how they are written.
+-- Paths as lists of names: their order, their rule, and their text form.
 use Rattle.std.specs.Prelude.{ℕ, ◌+◌, Bool, true, false, not, ◌&&◌, ◌==◌, nat_le, List, [], ◌∷◌, ◌++◌, length, Option, Some, None, if◌then◌else◌, bytes_eq, codes}
 use Rattle.std.specs.List.{list_all, slice_split}
 use Rattle.std.specs.declared.cmp.Ordering.{Ordering}
@@ -6,7 +6,7 @@ use Rattle.std.specs.Ordering.{nat_cmp, is_lt}
 use Rattle.std.specs.Cmp.Lexicographic.{slice_cmp}
 use Rattle.std.specs.Str.{is_utf8}
 
--- component by component, by bytes; a path comes before those below it
+-- name by name, by bytes; a path comes before those below it
 abbrev pub path_cmp : List (List ℕ) → List (List ℕ) → Ordering
 path_cmp = slice_cmp (slice_cmp nat_cmp)
 
@@ -28,7 +28,7 @@ is_prefix (x ∷ p) (y ∷ q) = bytes_eq x y && is_prefix p q
 abbrev pub is_child : List (List ℕ) → List (List ℕ) → Bool
 is_child p q = is_prefix p q && length q == length p + 1
 
--- the directory that a path lies in; the root's is the root
+-- the directory of a path; the root's is the root
 abbrev pub parent : List (List ℕ) → List (List ℕ)
 parent [] = []
 parent (x ∷ []) = []
@@ -43,7 +43,7 @@ last_name (x ∷ y ∷ p) = last_name (y ∷ p)
 abbrev pub is_plain_byte : ℕ → Bool
 is_plain_byte b = not (b == 47) && not (b == 58) && not (b == 0)
 
--- 1 to 255 such bytes of UTF-8, and none of the names that have a meaning
+-- 1 to 255 such bytes of UTF-8, and not `.`, `..` or `.snapshot`
 abbrev pub is_component : List ℕ → Bool
 is_component c =
     nat_le 1 (length c) && nat_le (length c) 255 && is_utf8 c && list_all is_plain_byte c
@@ -53,12 +53,12 @@ abbrev pub starts_reserved : List (List ℕ) → Bool
 starts_reserved [] = false
 starts_reserved (c ∷ cs) = bytes_eq c (codes ".reserved")
 
--- each name behind a slash
+-- each name after a slash
 abbrev pub names_text : List (List ℕ) → List ℕ
 names_text [] = []
 names_text (c ∷ cs) = 47 ∷ c ++ names_text cs
 
--- a path as it is written; the root is a slash
+-- the text form of a path; the root is a slash
 abbrev pub path_text : List (List ℕ) → List ℕ
 path_text [] = 47 ∷ []
 path_text (c ∷ cs) = names_text (c ∷ cs)
@@ -67,18 +67,18 @@ path_text (c ∷ cs) = names_text (c ∷ cs)
 abbrev pub is_short : List (List ℕ) → Bool
 is_short p = nat_le (length (path_text p)) 8000 && nat_le (length p) 100
 
--- the names that lead from a directory to what lies below it
+-- names that lead from a directory down to an entry
 abbrev pub is_relative : List (List ℕ) → Bool
 is_relative p = list_all is_component p && is_short p
 
--- such names from the root on
+-- such names from the root
 abbrev pub is_absolute : List (List ℕ) → Bool
 is_absolute p = is_relative p && not (starts_reserved p)
 
 abbrev pub absolute : List (List ℕ) → Option (List (List ℕ))
 absolute p = if is_absolute p then Some p else None
 
--- the path that is written so: a slash, and the names parted by slashes
+-- the path with this text form: a slash, and the names with slashes between
 abbrev pub read_path : List ℕ → Option (List (List ℕ))
 read_path [] = None
 read_path (b ∷ []) = if b == 47 then Some [] else None

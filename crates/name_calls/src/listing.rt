@@ -1,18 +1,18 @@
-//! What lies in a directory.
+//! Lists of the entries of a directory.
 ghost use Rattle.std.specs.Prelude.{◌≡◌, ◌++◌, ◌∷◌, [], OnOk, OnErr};
 
 use hk_base::{NoMemory, Text};
 use std::alloc::Global;
 use std::marker::Model;
 
-/// What lies in a directory: its name there, and whether it is a directory.
+/// An entry of a directory: its name, and whether it is a directory.
 #[derive(Drop)]
 pub struct Child {
     pub name: Text,
     pub directory: bool,
 }
 
-/// The children of a directory. Contracts see them in one list.
+/// The entries of a directory. Contracts see one list.
 #[derive(Drop)]
 pub struct ChildList {
     children: Vec<Child>,
@@ -28,7 +28,7 @@ impl Model for ChildList {
 }
 
 impl ChildList {
-    /// No children. It takes no memory.
+    /// Returns an empty list. It takes no memory.
     pub fn new(alloc: Global) -> ChildList
         ensures { result ≡ [] }
     {
@@ -37,13 +37,14 @@ impl ChildList {
         }
     }
 
+    /// Returns the entries in the order of the list.
     pub fn as_slice(&self) -> &[Child]
         ensures { result.now ≡ self.now }
     {
         self.children.as_slice()
     }
 
-    /// Adds a child at the end. Where memory is wanting the list stays as it was.
+    /// Adds an entry at the end. If allocation fails, the list is unchanged.
     pub fn push(&mut self, child: Child) -> Result<(), NoMemory>
         ensures ok { OnOk result (self.new ≡ self.old ++ child ∷ []) }
         ensures err { OnErr result (self.new ≡ self.old) }

@@ -1,4 +1,4 @@
-//! Paths and their rule.
+//! Paths, and the rule that they follow.
 ghost use Rattle.std.specs.Prelude.{◌≡◌, ◌<◌, ◌≤◌, ◌++◌, ◌∷◌, ◌↔◌, ◌==◌, ◌&&◌, ◌||◌, [], nat_lt, not, None, Some, Err, length, drop, take, slice_index_or, is_some, true, map, count_by, position, codes, IsTrue, IfOk, OnOk, OnErr};
 ghost use Rattle.std.specs.List.{before_first, list_all, slice_split};
 ghost use Rattle.std.specs.Str.{bytes_eq, is_utf8};
@@ -8,10 +8,10 @@ use hk_base::{ByteList, NoMemory, Text};
 use std::alloc::{AllocError, Global};
 use std::marker::Model;
 
-/// A path: its names from the root on, or from a directory on to what lies below it. Each name has
-/// 1 to 255 bytes of UTF-8, has no `/`, `:` or byte 0, and is not `.`, `..` or `.snapshot`. There
-/// are at most 100 names, and 8,000 bytes as it is written. Contracts see the list of the names,
-/// each as its bytes.
+/// A path: the names from the root, or from a directory, down to an entry. Each name has 1 to 255
+/// bytes of UTF-8, has no `/`, `:` or byte 0, and is not `.`, `..` or `.snapshot`. A path has at
+/// most 100 names, and 8,000 bytes in its text form. Contracts see the list of the names, each as
+/// its bytes.
 #[derive(Drop)]
 pub struct NPath {
     names: Vec<Text>,
@@ -28,15 +28,16 @@ impl Model for NPath {
     ghost invariant = { λ path. is_relative path.names.items ≡ true };
 }
 
-/// Why bytes were not read as a path.
+/// Why bytes could not be read as a path.
 #[derive(Clone, Copy, Debug, PartialEq, Eq)]
 pub enum PathFault {
-    /// They are outside the rule of paths.
+    /// They break the rule of paths.
     BadPath,
+    /// Allocation failed.
     NoMemory,
 }
 
-/// The most bytes of a path as it is written.
+/// The most bytes of a path in its text form.
 pub const MOST_BYTES: usize = 8000;
 
 /// The most names of a path.
@@ -86,7 +87,7 @@ fn each_can_be_a_name(bytes: &[u8]) -> bool
         .all(|name| can_be_a_name(name))
 }
 
-/// The parts between slashes.
+/// Splits bytes at their slashes.
 fn parts(alloc: Global, bytes: &[u8]) -> Result<Vec<&[u8]>, AllocError>
     ensures { IfOk result (λ parts. map (λ x. x.now) parts.items ≡ slice_split (λ b. b == 47) bytes.now) }
 {
@@ -105,7 +106,7 @@ fn first_slash(bytes: &[u8]) -> Option<usize>
     bytes.iter().position(|byte| *byte == b'/')
 }
 
-/// What stands before the first slash, or all where there is none.
+/// Returns the bytes before the first slash, or all if there is none.
 fn first_part(bytes: &[u8]) -> &[u8]
     ensures { result.now ≡ before_first (λ b. b == 47) bytes.now }
 {
@@ -115,7 +116,7 @@ fn first_part(bytes: &[u8]) -> &[u8]
     }
 }
 
-/// Whether the bytes are names parted by slashes, within the rule.
+/// Whether the bytes are names with slashes between, within the rule.
 fn are_names(bytes: &[u8]) -> bool
     ensures { result ≡ (list_all is_component (slice_split (λ b. b == 47) bytes.now) && nat_lt (length bytes.now) 8000 && nat_lt (count_by (λ b. b == 47) bytes.now) 100 && not (bytes_eq (before_first (λ b. b == 47) bytes.now) (codes ".reserved"))) }
 {
@@ -126,7 +127,7 @@ fn are_names(bytes: &[u8]) -> bool
     each && short && few && !reserved
 }
 
-/// All but the first byte.
+/// Returns all but the first byte.
 fn after_first_byte(bytes: &[u8]) -> &[u8]
     requires { 1 ≤ length bytes.now }
     ensures { result.now ≡ drop 1 bytes.now }
@@ -134,7 +135,7 @@ fn after_first_byte(bytes: &[u8]) -> &[u8]
     &bytes[1..]
 }
 
-/// Whether the bytes are a path as it is written.
+/// Whether the bytes are the text form of a path.
 fn is_path(bytes: &[u8]) -> bool
     ensures { result ≡ is_some (read_path bytes.now) }
 {
@@ -168,7 +169,7 @@ fn texts_of(alloc: Global, names: &[&[u8]]) -> Result<Vec<Text>, NoMemory>
     Ok(texts)
 }
 
-/// The names that stand parted by slashes.
+/// Reads the names between slashes.
 fn names_of(alloc: Global, bytes: &[u8]) -> Result<Vec<Text>, NoMemory>
     requires { list_all is_component (slice_split (λ b. b == 47) bytes.now) ≡ true }
     ensures { IfOk result (λ names. names.items ≡ slice_split (λ b. b == 47) bytes.now) }
@@ -189,7 +190,7 @@ impl From<NoMemory> for PathFault {
 }
 
 impl NPath {
-    /// The root. It takes no memory.
+    /// Returns the root. It takes no memory.
     pub fn root(alloc: Global) -> NPath
         ensures { result ≡ [] }
     {
@@ -198,8 +199,8 @@ impl NPath {
         }
     }
 
-    /// The absolute path that is written so: `/`, or a `/` before each name. `BadPath` comes
-    /// exactly where the bytes are outside the rule of paths, or the first name is `.reserved`.
+    /// Reads an absolute path: `/`, or a `/` before each name. Returns `BadPath` exactly if the bytes
+    /// break the rule of paths, or the first name is `.reserved`.
     pub fn read(alloc: Global, bytes: &[u8]) -> Result<NPath, PathFault>
         ensures ok { IfOk result (λ path. read_path bytes.now ≡ Some path) }
         ensures bad { (result ≡ Err PathFault.BadPath) ↔ (read_path bytes.now ≡ None) }
@@ -216,7 +217,7 @@ impl NPath {
         }
     }
 
-    /// How many names it has.
+    /// Returns the number of names.
     pub fn len(&self) -> usize
         ensures len { result ≡ length self.now }
         ensures rule { is_relative self.now ≡ true }
@@ -231,7 +232,7 @@ impl NPath {
         self.names.is_empty()
     }
 
-    /// The `k`-th name, from 0.
+    /// Returns the `k`-th name, counted from 0.
     pub fn name(&self, k: usize) -> &Text
         requires { k < length self.now }
         ensures { result.now ≡ slice_index_or self.now k [] }
@@ -239,7 +240,7 @@ impl NPath {
         &self.names[k]
     }
 
-    /// Adds a name at the end. Where memory is wanting the path stays as it was.
+    /// Adds a name at the end. If allocation fails, the path is unchanged.
     pub fn push(&mut self, name: Text) -> Result<(), NoMemory>
         requires { is_relative (self.old ++ name ∷ []) ≡ true }
         ensures ok { OnOk result (self.new ≡ self.old ++ name ∷ []) }
@@ -249,8 +250,8 @@ impl NPath {
         Ok(())
     }
 
-    /// Appends the path as it is written: `/`, or a `/` before each name. Where memory is wanting
-    /// `out` stays as it was.
+    /// Appends the text form: `/`, or a `/` before each name. If allocation fails, `out` is
+    /// unchanged.
     pub fn write(&self, out: &mut ByteList) -> Result<(), NoMemory>
         ensures ok { OnOk result (out.new ≡ out.old ++ path_text self.now) }
         ensures err { OnErr result (out.new ≡ out.old) }
@@ -265,7 +266,7 @@ impl NPath {
         }
     }
 
-    /// Appends the path as it is written, or a front of it where memory is wanting.
+    /// Appends the text form. If allocation fails, a prefix may have been appended.
     fn append_to(&self, out: &mut ByteList) -> Result<(), NoMemory>
         ensures ok { OnOk result (out.new ≡ out.old ++ path_text self.now) }
         ensures err { OnErr result (take (length out.old) out.new ≡ out.old) }
