@@ -18,13 +18,12 @@ const BLOCKS: [u128; 4] = [
 ];
 
 /// A key, and the four blocks encrypted with it.
-#[derive(Clone, Copy)]
 struct Example {
     key: &'static [u8],
     encrypted: [u128; 4],
 }
 
-const EXAMPLES: [Example; 3] = [
+const EXAMPLES: &[Example] = &[
     // SP 800-38A, appendix F.5.1
     Example {
         key: b"\x2b\x7e\x15\x16\x28\xae\xd2\xa6\xab\xf7\x15\x88\x09\xcf\x4f\x3c",
@@ -80,13 +79,17 @@ fn assert_encrypts(rt: &impl Abort, example: &Example) {
     let key = cipher_of(rt, example.key);
     let mut message = joined(&BLOCKS);
     ctr_xor(&key, COUNTER.to_be_bytes(), &mut message);
-    assert_same(rt, message.as_slice(), joined(&example.encrypted).as_slice());
+    assert_same(
+        rt,
+        message.as_slice(),
+        joined(&example.encrypted).as_slice(),
+    );
 }
 
 #[test]
 fn messages_of_the_standard(rt: HostRuntime) {
     for example in EXAMPLES {
-        assert_encrypts(&rt, &example);
+        assert_encrypts(&rt, example);
     }
 }
 

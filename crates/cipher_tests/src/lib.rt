@@ -3,8 +3,6 @@
 #![tactic(auto)]
 
 #[cfg(test)]
-mod byte_wise;
-#[cfg(test)]
 mod ciphers;
 #[cfg(test)]
 mod counters;

@@ -32,7 +32,7 @@ fn fill(rt: &impl Abort, queues: &mut Queues, birth: u64, number: u16) -> bool {
 }
 
 /// What is done to the queues, and what comes of it.
-#[derive(Clone, Copy, Debug)]
+#[derive(Clone, Copy)]
 enum Step {
     /// The queue of a birth is made, if it has none yet.
     Make(u64, bool),
@@ -80,20 +80,20 @@ fn holds(rt: &impl Abort, queues: &mut Queues, step: Step) -> bool {
     }
 }
 
-fn assert_step(rt: &impl Abort, queues: &mut Queues, step: Step) {
+fn assert_step(rt: &impl Abort, queues: &mut Queues, at: usize, step: Step) {
     let held = holds(rt, queues, step);
-    assert!(rt; held, "{step:?}");
+    assert!(rt; held, "step {at}");
 }
 
 fn assert_steps(rt: &impl Abort, alloc: Global, size: u16, watermark: u16, steps: &[Step]) {
     let mut queues = Queues::new(alloc, size, watermark);
-    for step in steps {
-        assert_step(rt, &mut queues, *step);
+    for (at, step) in steps.iter().enumerate() {
+        assert_step(rt, &mut queues, at, *step);
     }
 }
 
 /// Queues of three keys that are low below two.
-const IN_ORDER: [Step; 23] = [
+const IN_ORDER: &[Step] = &[
     Step::Low(None),
     Step::Make(5, true),
     Step::Make(5, false),
@@ -120,7 +120,7 @@ const IN_ORDER: [Step; 23] = [
 ];
 
 /// Queues of one key, with a watermark above their size.
-const OF_ONE_KEY: [Step; 7] = [
+const OF_ONE_KEY: &[Step] = &[
     Step::Make(1, true),
     Step::Low(Some(1)),
     Step::Put(1, 1, true),
@@ -132,41 +132,41 @@ const OF_ONE_KEY: [Step; 7] = [
 
 #[test]
 fn ready_keys_are_taken_in_the_order_in_which_they_came(rt: HostRuntime) {
-    assert_steps(&rt, rt.alloc(), 3, 2, IN_ORDER.as_slice());
-    assert_steps(&rt, rt.alloc(), 1, 10_000, OF_ONE_KEY.as_slice());
+    assert_steps(&rt, rt.alloc(), 3, 2, IN_ORDER);
+    assert_steps(&rt, rt.alloc(), 1, 10_000, OF_ONE_KEY);
 }
 
 /// Fills the queue of birth 1 with ten thousand keys, and takes them again.
 fn fill_and_take(rt: &impl Abort, queues: &mut Queues) {
     for number in 0..10_000 {
-        assert_step(rt, queues, Step::Low(Some(1)));
-        assert_step(rt, queues, Step::Put(1, number, true));
+        assert_step(rt, queues, number as usize, Step::Low(Some(1)));
+        assert_step(rt, queues, number as usize, Step::Put(1, number, true));
     }
-    assert_step(rt, queues, Step::Low(None));
-    assert_step(rt, queues, Step::Put(1, 0, false));
+    assert_step(rt, queues, 10_000, Step::Low(None));
+    assert_step(rt, queues, 10_000, Step::Put(1, 0, false));
     for number in 0..10_000 {
-        assert_step(rt, queues, Step::Take(1, Some(number)));
+        assert_step(rt, queues, number as usize, Step::Take(1, Some(number)));
     }
-    assert_step(rt, queues, Step::Take(1, None));
+    assert_step(rt, queues, 10_000, Step::Take(1, None));
 }
 
 #[test]
 fn a_queue_may_hold_ten_thousand_keys(rt: HostRuntime) {
     let mut queues = Queues::new(rt.alloc(), 10_000, 10_000);
-    assert_step(&rt, &mut queues, Step::Make(1, true));
+    assert_step(&rt, &mut queues, 0, Step::Make(1, true));
     fill_and_take(&rt, &mut queues);
 }
 
 /// Puts a ready key into each of ten thousand queues, always the one that is filled next.
 fn fill_each(rt: &impl Abort, queues: &mut Queues, number: u16) {
     for birth in 0..10_000 {
-        assert_step(rt, queues, Step::Low(Some(birth)));
-        assert_step(rt, queues, Step::Put(birth, number, true));
+        assert_step(rt, queues, birth as usize, Step::Low(Some(birth)));
+        assert_step(rt, queues, birth as usize, Step::Put(birth, number, true));
     }
 }
 
 /// Two queues become low after all were filled.
-const LOW_AGAIN: [Step; 6] = [
+const LOW_AGAIN: &[Step] = &[
     Step::Low(None),
     Step::DropQueue(17),
     Step::Take(18, Some(0)),
@@ -179,12 +179,13 @@ const LOW_AGAIN: [Step; 6] = [
 #[test]
 fn of_ten_thousand_equal_queues_the_least_birth_is_low(rt: HostRuntime) {
     let mut queues = Queues::new(rt.alloc(), 2, 2);
-    for step in 0..10_000 {
-        assert_step(&rt, &mut queues, Step::Make((step * 7919) % 10_000, true));
+    for step in 0..10_000u64 {
+        let birth = (step * 7919) % 10_000;
+        assert_step(&rt, &mut queues, step as usize, Step::Make(birth, true));
     }
     fill_each(&rt, &mut queues, 0);
     fill_each(&rt, &mut queues, 1);
-    for step in LOW_AGAIN {
-        assert_step(&rt, &mut queues, step);
+    for (at, step) in LOW_AGAIN.iter().enumerate() {
+        assert_step(&rt, &mut queues, at, *step);
     }
 }

@@ -1,6 +1,7 @@
 //! A tree and its snapshots, driven by lines of text.
 use hk_base::{KeyName, NoMemory, Text, read_number};
-use inode_tree::{Kind, NPath, Row, Tree};
+use inode_tree::{Kind, Row, Tree};
+use name_calls::NPath;
 use snap_store::{MOST_SNAPSHOTS, Snaps};
 use std::alloc::Global;
 use std::process::Abort;

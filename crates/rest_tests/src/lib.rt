@@ -1,0 +1,11 @@
+//! Tests of bodies, replies and messages: what the responses to requests don't show.
+#![tactic(auto)]
+
+#[cfg(test)]
+mod bodies;
+#[cfg(test)]
+mod messages;
+#[cfg(test)]
+mod replies;
+#[cfg(test)]
+mod statuses;

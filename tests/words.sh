@@ -1,0 +1,107 @@
+#!/usr/bin/env bash
+# The words of the command line: what they show, and what is refused.
+set -u
+. "$(dirname "${BASH_SOURCE[0]}")/room.bash"
+fresh
+
+# run WORD..: runs the program with these words and without input.
+run() {
+    output=$(cd "$room" && "$hkms" "$@" </dev/null 2>/dev/null; printf 'status %s' "$?")
+    status=${output##*status }
+    output=${output%status *}
+}
+
+# refuses WORD..
+refuses() {
+    run "$@"
+    expect "the words $*" 2 $'usage refused\n'
+}
+
+# shows LINE: the last output has this line.
+shows() {
+    grep -qxF -- "$1" <<<"$output" || {
+        printf '%s: no line %s in:\n%s\n' "$0" "$1" "$output"
+        failures=$((failures + 1))
+    }
+}
+
+# helps WORD..: the words show a help text, which ends with a full stop and a line feed.
+helps() {
+    run "$@"
+    if [ "$status" != 0 ] || [ "${output: -2}" != $'.\n' ]; then
+        printf '%s: the words %s show no help, status %s:\n%s\n' "$0" "$*" "$status" "$output"
+        failures=$((failures + 1))
+    fi
+}
+
+for word in --help -h; do
+    helps "$word"
+    shows 'Usage: hkms <COMMAND>'
+    shows '  replay  Runs the calls of an event text and writes their answers'
+    shows '  pipe    Answers the HTTP requests of one connection'
+    shows '  -h, --help     Print help'
+    shows '  -V, --version  Print version'
+    shows '  keys.log             the keys; a change is written here before it is answered'
+    shows '  names.log            directories, files and zones, written in the same way'
+    shows '  kms-acls.properties  access control lists: who may do what with which key'
+    shows '   2  the command line has a mistake; nothing was read, and no log was made'
+
+    helps replay "$word"
+    shows 'Runs the calls of an event text and writes their answers'
+    shows 'Usage: hkms replay'
+    shows '    kms alice metadata j'
+    shows '    2 refused K4 NoSuchKey'
+    shows '     4    damaged keys AT      keys.log is damaged at byte AT'
+
+    helps pipe "$word"
+    shows 'Answers the HTTP requests of one connection'
+    shows 'Usage: hkms pipe'
+    shows '    GET /kms/v1/keys/names?user.name=alice HTTP/1.1'
+    shows '   4  keys.log or names.log is damaged'
+done
+
+for word in --version -V; do
+    run "$word"
+    expect "the word $word" 0 $'hkms 0.1.0\n'
+done
+
+# The first text that is asked for is shown.
+helps --help --version
+shows 'Usage: hkms <COMMAND>'
+helps --help load
+shows 'Usage: hkms <COMMAND>'
+run -V -h
+expect 'the words -V -h' 0 $'hkms 0.1.0\n'
+
+# Other words.
+refuses
+for word in load hkms '' REPLAY repla 'replay ' -replay --replay -- - --help=replay; do
+    refuses "$word"
+done
+
+# A word after a command.
+refuses replay pipe
+refuses replay replay
+refuses pipe 9600
+refuses pipe ''
+refuses replay load --help
+
+# Help is not a command, and a command has no version.
+refuses help
+refuses help replay
+refuses replay help
+refuses replay --version
+refuses pipe -V
+
+# Words that are not ASCII.
+refuses $'r\u00e9play'
+refuses $'-\u00e9'
+refuses $'--h\u00e9lp'
+
+# No word but a command makes a log.
+if [ -n "$(ls -A "$room")" ]; then
+    printf '%s: the folder has %s\n' "$0" "$(ls -A "$room")"
+    failures=$((failures + 1))
+fi
+
+[ "$failures" -eq 0 ]
