@@ -1,4 +1,4 @@
-//! Where a command applies to the parts of a table.
+//! Whether a command applies to a table.
 ghost use Rattle.std.specs.Prelude.{◌≡◌, ◌/◌, ◌^◌, ◌==◌, ◌&&◌, ℕ, nat_lt, not, is_some, length};
 ghost use Rattle.key_rows.specs.Table.{applies, find_birth, find_name, is_length, may_roll, opening_of};
 ghost use Rattle.key_rows.specs.Sound.{Rising};
@@ -31,7 +31,8 @@ fn is_born(rows: &Vec<KeyRow>, birth: u64) -> bool
     }
 }
 
-/// Whether a key may be made where `named` says that its name stands and `count` keys stand.
+/// Returns whether a key may be created. `named` says whether its name is taken, and `count` is the
+/// number of keys in the table.
 fn may_create(
     opening: u32,
     greatest: u64,
@@ -68,7 +69,7 @@ fn may_roll(rows: &Vec<KeyRow>, birth: u64, number: u16, material: &Dek) -> bool
     }
 }
 
-/// Whether a command applies to the table of this opening, greatest birth and these keys.
+/// Returns whether a command applies to the table with this opening, greatest birth and these keys.
 pub(crate) fn applies_to(
     opening: u32,
     greatest: u64,

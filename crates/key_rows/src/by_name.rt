@@ -1,4 +1,4 @@
-//! The births of the keys by their names.
+//! An index from the names of keys to their births.
 ghost use Rattle.std.specs.Prelude.{◌≡◌, ◌<◌, ◌≤◌, ◌∷◌, [], length, take, drop, filter, not, map, MatchResult, OnOk, OnErr, IfOk, IsOk, None, Some, bytes_eq, ◌==◌, if◌then◌else◌};
 ghost use Rattle.std.specs.List.{HoldsAt, insert};
 ghost use Rattle.std.specs.List.Sorted.{IsPartitionPoint};
@@ -12,7 +12,7 @@ use kms_calls::NameList;
 use std::alloc::Global;
 use std::cmp::Ordering;
 
-/// The name of a key, and the key's birth.
+/// The name of a key and its birth.
 #[derive(Drop)]
 pub(crate) struct NamedBirth {
     pub(crate) name: KeyName,
@@ -25,7 +25,7 @@ fn compare(entry: &NamedBirth, name: &KeyName) -> Ordering
     entry.name.as_bytes().cmp(name.as_bytes())
 }
 
-/// The place of a name, or the place where it is to be put in.
+/// Returns the position of a name, or as an error the position to insert it at.
 fn search(entries: &Vec<NamedBirth>, name: &KeyName) -> Result<usize, usize>
     requires { InOrder (names_of entries.now.items) }
     ensures bound { MatchResult result (λ place. place < length entries.now.items) (λ place. place ≤ length entries.now.items) }
@@ -34,7 +34,7 @@ fn search(entries: &Vec<NamedBirth>, name: &KeyName) -> Result<usize, usize>
     entries.binary_search_by(|entry| compare(entry, name))
 }
 
-/// The birth beside a name.
+/// Returns the birth of a name.
 pub(crate) fn birth_of(entries: &Vec<NamedBirth>, name: &KeyName) -> Option<u64>
     requires { InOrder (names_of entries.now.items) }
     ensures { result ≡ birth_in entries.now.items name.now }
@@ -45,7 +45,7 @@ pub(crate) fn birth_of(entries: &Vec<NamedBirth>, name: &KeyName) -> Option<u64>
     }
 }
 
-/// Puts in a name that is not there. It is `Ok` where there is room.
+/// Inserts a name that is not in the index. Returns `Ok` if there is capacity left.
 pub(crate) fn put(entries: &mut Vec<NamedBirth>, name: KeyName, birth: u64) -> Result<(), NoMemory>
     requires order { InOrder (names_of entries.old.items) }
     requires absent { birth_in entries.old.items name ≡ None }
@@ -63,14 +63,14 @@ pub(crate) fn put(entries: &mut Vec<NamedBirth>, name: KeyName, birth: u64) -> R
     }
 }
 
-/// Takes out the name beside a birth.
+/// Removes the name of a birth.
 pub(crate) fn take_out(entries: &mut Vec<NamedBirth>, birth: u64)
     ensures { entries.new.items ≡ filter (λ entry. not (entry.birth == birth)) entries.old.items }
 {
     entries.retain(|entry| entry.birth != birth);
 }
 
-/// The names in order.
+/// Returns the names in order.
 pub(crate) fn copy_names(alloc: Global, entries: &Vec<NamedBirth>) -> Result<NameList, NoMemory>
     ensures { IfOk result (λ names. names ≡ names_of entries.now.items) }
 {

@@ -1,8 +1,8 @@
-//! What follows for the records of the key log. The function does nothing: its contract is the law.
+//! A law about the records of the key log. The function does nothing: its contract is the law.
 ghost use Rattle.key_rows.specs.Laws.{ApplyingIsSpelled, OneSpelling};
 
-/// Two commands with one spelling are one command. So what is written is read again, as the command
-/// that was written. And each command that applies to a table can be written.
+/// Two commands with the same encoding are equal, so a record that is written is decoded as the
+/// command that was written. And every command that applies to a table can be encoded.
 pub fn commands_have_one_spelling()
     ensures one { OneSpelling }
     ensures applying { ApplyingIsSpelled }

@@ -16,8 +16,3 @@ pub use kms_calls::{
 pub use laws::commands_have_one_spelling;
 pub use rows::{DekList, KeyCommand, KeyRow};
 pub use table::KeyTable;
-
-#[cfg(test)]
-mod record_tests;
-#[cfg(test)]
-mod tests;

@@ -1,4 +1,4 @@
-//! Reading the records of the key log.
+//! Decoding the records of the key log.
 ghost use Rattle.std.specs.Prelude.{◌≡◌, IfOk, IsErrOf, length, ◌≤◌};
 ghost use Rattle.std.specs.Int.{w16, w32, w64};
 ghost use Rattle.hk_base.specs.declared.records.RecordFault.TheVariants as fault;
@@ -46,7 +46,7 @@ fn u64_at(bytes: &[u8]) -> Result<(u64, &[u8]), RecordFault>
     Ok((number, rest))
 }
 
-/// So many bytes, and the bytes behind them.
+/// Splits off the first `len` bytes.
 fn cut(bytes: &[u8], len: usize) -> Result<(&[u8], &[u8]), RecordFault>
     ensures { Gives (λ x. (x.0.now, x.1.now)) result (bytes_at len bytes.now) }
 {
@@ -57,7 +57,7 @@ fn cut(bytes: &[u8], len: usize) -> Result<(&[u8], &[u8]), RecordFault>
     Ok((front, rest))
 }
 
-/// The bytes behind a byte of length.
+/// Splits off the bytes whose length the first byte gives.
 #[tactic(auto, unfolding(crate::specs::Reading::short_at))]
 fn cut_short(bytes: &[u8]) -> Result<(&[u8], &[u8]), RecordFault>
     ensures { Gives (λ x. (x.0.now, x.1.now)) result (short_at bytes.now) }
@@ -68,7 +68,7 @@ fn cut_short(bytes: &[u8]) -> Result<(&[u8], &[u8]), RecordFault>
     }
 }
 
-/// The bytes behind two bytes of length.
+/// Splits off the bytes whose length the first two bytes give.
 #[tactic(auto, unfolding(crate::specs::Reading::long_at))]
 fn cut_long(bytes: &[u8]) -> Result<(&[u8], &[u8]), RecordFault>
     ensures given { Gives (λ x. (x.0.now, x.1.now)) result (long_at bytes.now) }
@@ -78,7 +78,7 @@ fn cut_long(bytes: &[u8]) -> Result<(&[u8], &[u8]), RecordFault>
     cut(rest, len as usize)
 }
 
-/// All of the bytes as a name.
+/// Decodes all of the bytes as a name.
 fn name_of(bytes: &[u8]) -> Result<KeyName, RecordFault>
     ensures { Gives (λ x. x) result (name_of bytes.now) }
 {
@@ -88,7 +88,7 @@ fn name_of(bytes: &[u8]) -> Result<KeyName, RecordFault>
     }
 }
 
-/// All of the bytes as a text.
+/// Decodes all of the bytes as a text.
 fn text_of(bytes: &[u8]) -> Result<&str, RecordFault>
     ensures { Gives (λ x. x.now) result (text_of bytes.now) }
 {
@@ -98,7 +98,7 @@ fn text_of(bytes: &[u8]) -> Result<&str, RecordFault>
     }
 }
 
-/// All of the bytes as a description.
+/// Decodes all of the bytes as a description.
 fn description_of(alloc: Global, bytes: &[u8]) -> Result<Description, RecordFault>
     requires { length bytes.now ≤ 65535 }
     ensures { Gives (λ x. x) result (text_of bytes.now) }
@@ -108,7 +108,7 @@ fn description_of(alloc: Global, bytes: &[u8]) -> Result<Description, RecordFaul
     Ok(description)
 }
 
-/// All of the bytes as material.
+/// Decodes all of the bytes as material.
 fn material_of(bytes: &[u8]) -> Result<Dek, RecordFault>
     ensures { Gives (λ x. x) result (material_of bytes.now) }
 {
@@ -124,7 +124,7 @@ pub(crate) fn is_length(bits: u16) -> bool
     bits == 128 || bits == 192 || bits == 256
 }
 
-/// All of the bytes as material of so many bits.
+/// Decodes all of the bytes as material of `bits` bits.
 fn material_of_bits(bits: u16, bytes: &[u8]) -> Result<Dek, RecordFault>
     ensures { Gives (λ x. x) result (material_of_bits bits bytes.now) }
 {
@@ -207,8 +207,7 @@ fn command_of(alloc: Global, bytes: &[u8]) -> Result<KeyCommand, RecordFault>
 }
 
 impl KeyCommand {
-    /// The command whose one spelling as a record of the key log the bytes are. `NoRecord` says
-    /// that they are the spelling of no command.
+    /// Decodes a record of the key log. Returns `NoRecord` if the bytes do not encode any command.
     pub fn read(alloc: Global, bytes: &[u8]) -> Result<KeyCommand, RecordFault>
         ensures read { IfOk result (λ command. HasSpelling command × (bytes.now ≡ spelling command)) }
         ensures none { IsErrOf result fault.NoRecord → (command : KeyCommand) → HasSpelling command → ¬ (bytes.now ≡ spelling command) }

@@ -1,4 +1,4 @@
-//! A key with its versions, and the commands that change the table of keys.
+//! Keys with their versions, and the commands that change the table of keys.
 ghost use Rattle.std.specs.Prelude.{◌≡◌, ◌∷◌, [], ◌++◌, length, slice_get, OnOk, OnErr, IfOk, IsOk, ◌<◌, ◌≤◌};
 ghost use Rattle.std.specs.Vec.{vec_capacity};
 
@@ -7,7 +7,7 @@ use kms_calls::Description;
 use std::alloc::Global;
 use std::marker::Model;
 
-/// The materials of a key, one for each version from 0 on, which contracts see as a list.
+/// The materials of a key, one for each version, from version 0. Contracts see a list.
 #[derive(Drop)]
 pub struct DekList {
     deks: Vec<Dek>,
@@ -22,7 +22,7 @@ impl Model for DekList {
 }
 
 impl DekList {
-    /// The material of a first version.
+    /// Creates a list with the material of version 0.
     pub fn of(alloc: Global, first: Dek) -> Result<DekList, NoMemory>
         ensures { IfOk result (λ deks. deks ≡ first ∷ []) }
     {
@@ -31,7 +31,8 @@ impl DekList {
         Ok(DekList { deks })
     }
 
-    /// The material of a first version, in a buffer. It is `Ok` where the buffer has room.
+    /// Creates a list with the material of version 0 in a given buffer. Returns `Ok` if the buffer
+    /// has capacity for it.
     pub(crate) fn in_buffer(buffer: Vec<Dek>, first: Dek) -> Result<DekList, NoMemory>
         requires empty { buffer.items ≡ [] }
         ensures made { IfOk result (λ deks. deks ≡ first ∷ []) }
@@ -42,8 +43,8 @@ impl DekList {
         Ok(DekList { deks })
     }
 
-    /// Adds the material of the next version in place or, where that has no room, in a buffer. It is
-    /// `Ok` where the buffer has room for all.
+    /// Appends the material of the next version, in place or, if there is no capacity left, in a
+    /// given buffer. Returns `Ok` if the buffer has capacity for all versions.
     pub(crate) fn push_in(&mut self, buffer: Vec<Dek>, dek: Dek) -> Result<(), NoMemory>
         requires empty { buffer.items ≡ [] }
         ensures ok { OnOk result (self.new ≡ self.old ++ dek ∷ []) }
@@ -61,7 +62,8 @@ impl DekList {
         Ok(())
     }
 
-    /// Adds the material of the next version. Where memory is wanting the list stays as it was.
+    /// Appends the material of the next version. Returns `NoMemory` if allocation fails; the list
+    /// is then unchanged.
     pub fn push(&mut self, dek: Dek) -> Result<(), NoMemory>
         ensures ok { OnOk result (self.new ≡ self.old ++ dek ∷ []) }
         ensures err { OnErr result (self.new ≡ self.old) }
@@ -70,14 +72,14 @@ impl DekList {
         Ok(())
     }
 
-    /// The material of a version, or `None` where the key has no version of this number.
+    /// Returns the material of a version, or `None` if the key has no version of this number.
     pub fn get(&self, number: u16) -> Option<Dek>
         ensures { result ≡ slice_get self.now number }
     {
         self.deks.get(number as usize).copied()
     }
 
-    /// How many versions the key has.
+    /// Returns the number of versions.
     pub fn len(&self) -> usize
         ensures { result ≡ length self.now }
     {
@@ -85,8 +87,8 @@ impl DekList {
     }
 }
 
-/// A key. `birth` is a number that no other key has or had, `bits` the length of its materials in
-/// bits, `created` the moment of its creation.
+/// A key. No other key has or had the same `birth`. `bits` is the length of its materials in bits,
+/// and `created` the moment of its creation.
 #[derive(Drop)]
 pub struct KeyRow {
     pub name: KeyName,
@@ -97,14 +99,14 @@ pub struct KeyRow {
     pub created: u64,
 }
 
-/// What changes the table of keys.
+/// A change of the table of keys.
 #[derive(Drop)]
 pub enum KeyCommand {
-    /// The service was started; `opening` counts its starts from 1.
+    /// The service was started. `opening` counts its starts from 1.
     Opened {
         opening: u32,
     },
-    /// A key was created, with its first version.
+    /// A key was created with its first version.
     Create {
         birth: u64,
         name: KeyName,
@@ -113,13 +115,13 @@ pub enum KeyCommand {
         created: u64,
         material: Dek,
     },
-    /// A key got the version of this number.
+    /// A key got a new version with this number.
     Roll {
         birth: u64,
         number: u16,
         material: Dek,
     },
-    /// A key was deleted, with all its versions.
+    /// A key was deleted with all its versions.
     Delete {
         birth: u64,
     },

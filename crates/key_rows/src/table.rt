@@ -16,8 +16,8 @@ use std::alloc::Global;
 use std::marker::Model;
 use std::mem;
 
-/// The keys that stand, in order of birth. Contracts see the last opening, the greatest birth that
-/// a key ever had, and the rows; and beside these the room that is kept for a command (`spare`).
+/// All keys, in order of birth. Contracts see the last opening, the greatest birth that any key
+/// ever had, and the rows. They also see the capacity reserved for a command (`spare`).
 #[derive(Drop)]
 pub struct KeyTable {
     alloc: Global,
@@ -42,7 +42,7 @@ impl Model for KeyTable {
     ghost invariant = { λ t. IsTable (record { opening = t.opening; greatest = t.greatest; rows = t.rows.items }) × IsIndex t.rows.items t.names.items × (t.ready.items ≡ []) };
 }
 
-/// The place of the key of a birth.
+/// Returns the position of the key with this birth.
 fn place_of(rows: &Vec<KeyRow>, birth: u64) -> Option<usize>
     requires { (top : ℕ) × Rising 0 rows.now.items top }
     ensures place { IfSome result (λ place. (place < length rows.now.items) × HoldsAt (λ row. row.birth ≡ birth) rows.now.items place) }
@@ -54,7 +54,7 @@ fn place_of(rows: &Vec<KeyRow>, birth: u64) -> Option<usize>
     }
 }
 
-/// The key of a birth.
+/// Returns the key with this birth.
 pub(crate) fn row_at(rows: &Vec<KeyRow>, birth: u64) -> Option<&KeyRow>
     requires { (top : ℕ) × Rising 0 rows.now.items top }
     ensures { option_copied result ≡ find_birth rows.now.items birth }
@@ -65,7 +65,7 @@ pub(crate) fn row_at(rows: &Vec<KeyRow>, birth: u64) -> Option<&KeyRow>
     }
 }
 
-/// The key of a name.
+/// Returns the key with this name.
 pub(crate) fn row_of<'a>(
     rows: &'a Vec<KeyRow>,
     names: &Vec<NamedBirth>,
@@ -87,8 +87,8 @@ fn remove(rows: &mut Vec<KeyRow>, birth: u64)
     rows.retain(|row| row.birth != birth);
 }
 
-/// Gives the key of the birth the material of its next version, where need be in a buffer. It is
-/// `Ok` where the buffer has room for all its materials.
+/// Appends the material of the next version of the key with this birth, if needed in a given
+/// buffer. Returns `Ok` if the buffer has capacity for all its materials.
 fn roll(rows: &mut Vec<KeyRow>, buffer: Vec<Dek>, birth: u64, material: Dek) -> Result<(), NoMemory>
     requires rising { (top : ℕ) × Rising 0 rows.old.items top }
     requires empty { buffer.items ≡ [] }
@@ -106,8 +106,8 @@ fn roll(rows: &mut Vec<KeyRow>, buffer: Vec<Dek>, birth: u64, material: Dek) -> 
     }
 }
 
-/// How many materials there is to be room for before a command is applied. A key that is rolled
-/// gets room for as many again, so that few rolls move its materials.
+/// Returns the number of materials to reserve before a command is applied. A roll reserves twice as
+/// many as it needs, so that few rolls move the materials of a key.
 fn versions_of(command: &KeyCommand) -> usize
     ensures { need command.now ≤ result }
 {
@@ -120,7 +120,7 @@ fn versions_of(command: &KeyCommand) -> usize
 }
 
 impl KeyTable {
-    /// A table without keys, before any opening. It takes no memory.
+    /// Creates a table without keys, before any opening. Does not allocate.
     pub fn new(alloc: Global) -> KeyTable
         ensures { result.keys ≡ no_keys }
     {
@@ -134,7 +134,7 @@ impl KeyTable {
         }
     }
 
-    /// The last opening, 0 where there was none.
+    /// Returns the last opening, or 0 if there was none.
     pub fn opening(&self) -> u32
         ensures opening { result ≡ self.now.keys.opening }
         ensures table { IsTable self.now.keys }
@@ -142,25 +142,25 @@ impl KeyTable {
         self.opening
     }
 
-    /// How many keys stand.
+    /// Returns the number of keys.
     pub fn count(&self) -> u32
         ensures { result ≡ length self.now.keys.rows }
     {
         self.rows.len() as u32
     }
 
-    /// The key of a name, or `None` where there is none. It takes no memory.
+    /// Returns the key with this name. Does not allocate.
     pub fn find(&self, name: &KeyName) -> Option<&KeyRow>
         ensures found { option_copied result ≡ find_name self.now.keys.rows name.now }
         ensures row { IfSome result (λ row. IsRow row.now) }
-        // The birth is of this key alone.
+        // No other key has this birth.
         ensures birth { IfSome result (λ row. find_birth self.now.keys.rows row.now.birth ≡ Some row.now) }
         ensures table { IsTable self.now.keys }
     {
         row_of(&self.rows, &self.names, name)
     }
 
-    /// The name of the key of a birth, or `None` where there is none. It takes no memory.
+    /// Returns the name of the key with this birth. Does not allocate.
     pub fn name_of(&self, birth: u64) -> Option<KeyName>
         ensures { result ≡ option_map (λ row. row.name) (find_birth self.now.keys.rows birth) }
     {
@@ -168,15 +168,15 @@ impl KeyTable {
         Some(row.name)
     }
 
-    /// The names of the keys in the order of their bytes, or want of memory.
+    /// Returns the names of all keys in byte order, or `NoMemory` if allocation fails.
     pub fn names(&self) -> Result<NameList, NoMemory>
         ensures { IfOk result (AreNames self.now.keys.rows) }
     {
         copy_names(self.alloc, &self.names)
     }
 
-    /// The material of a version, or `None` where the key or the version is absent. It takes no
-    /// memory.
+    /// Returns the material of a version, or `None` if there is no such key or version. Does not
+    /// allocate.
     pub fn version(&self, version: &VersionName) -> Option<Dek>
         ensures { result ≡ material_of self.now.keys.rows version.now }
     {
@@ -184,8 +184,8 @@ impl KeyTable {
         row.materials.get(version.number)
     }
 
-    /// The current version of a key, which is its newest one, or `None` where the key is absent. It
-    /// takes no memory.
+    /// Returns the current version of a key, which is its newest, or `None` if there is no such
+    /// key. Does not allocate.
     pub fn current(&self, name: &KeyName) -> Option<VersionName>
         ensures { result ≡ option_map current_of (find_name self.now.keys.rows name.now) }
     {
@@ -196,9 +196,10 @@ impl KeyTable {
         })
     }
 
-    /// Whether a command applies: an opening is the next one; a created key has a new name, a birth of
-    /// this opening above each before, a length and material of that length, and fewer than 10,000 keys
-    /// stand; a roll is of a key that stands and gives it its next version; a deleted key stands.
+    /// Returns whether a command applies. An opening must be the next one. A key can be created if
+    /// there are fewer than 10,000 keys, its name is new, its birth belongs to this opening and is
+    /// greater than every earlier one, and its material has the right length. A roll must add the
+    /// next version of an existing key. A deleted key must exist.
     pub fn applies(&self, command: &KeyCommand) -> bool
         ensures { result ≡ applies self.now.keys command.now }
     {
@@ -211,9 +212,9 @@ impl KeyTable {
         )
     }
 
-    /// Takes the memory that a command will need. The keys stay as they were, also where memory is
-    /// wanting. After `Ok` the command, where it applies, is applied with `Ok`, for as long as the
-    /// table is left as it is.
+    /// Reserves the memory that a command needs. The keys are unchanged, even if allocation fails.
+    /// After `Ok`, applying the command returns `Ok` if it applies, as long as the table is not
+    /// changed in between.
     pub fn reserve_apply(&mut self, command: &KeyCommand) -> Result<(), NoMemory>
         ensures keys { self.new.keys ≡ self.old.keys }
         ensures room { OnOk result (need command.now ≤ self.new.spare) }
@@ -229,8 +230,8 @@ impl KeyTable {
         Ok(())
     }
 
-    /// Applies a command. Where memory is wanting the keys stay as they were. It is `Ok` where the
-    /// room kept is enough.
+    /// Applies a command. Returns `NoMemory` if allocation fails; the keys are then unchanged.
+    /// Returns `Ok` if the reserved capacity is enough.
     pub fn apply(&mut self, command: KeyCommand) -> Result<(), NoMemory>
         requires { IsTrue (applies self.old.keys command) }
         ensures ok { OnOk result (self.new.keys ≡ after self.old.keys command) }

@@ -1,4 +1,4 @@
-//! Writing the records of the key log.
+//! Encoding the records of the key log.
 ghost use Rattle.std.specs.Prelude.{◌≡◌, ◌≤◌, ◌++◌, ◌∷◌, IsTrue, OnOk, OnErr, length, take};
 ghost use Rattle.std.specs.Str.{IsUtf8};
 ghost use Rattle.hk_base.specs.Names.{IsKeyName, is_key_length};
@@ -9,7 +9,7 @@ use crate::rows::KeyCommand;
 use hk_base::{ByteList, Dek, KeyName, NoMemory};
 use kms_calls::Description;
 
-/// Appends a name with its length, or a front of that where memory is wanting.
+/// Appends a name after its length. If allocation fails, a prefix of that may have been appended.
 fn append_name(out: &mut ByteList, name: &KeyName) -> Result<(), NoMemory>
     ensures ok { OnOk result (out.new ≡ out.old ++ name_field name.now) }
     ensures is_name { OnOk result (IsKeyName name.now) }
@@ -20,7 +20,8 @@ fn append_name(out: &mut ByteList, name: &KeyName) -> Result<(), NoMemory>
     out.append(bytes)
 }
 
-/// Appends a description with its length, or a front of that where memory is wanting.
+/// Appends a description after its length. If allocation fails, a prefix of that may have been
+/// appended.
 fn append_text(out: &mut ByteList, description: &Description) -> Result<(), NoMemory>
     ensures ok { OnOk result (out.new ≡ out.old ++ text_field description.now) }
     ensures short { OnOk result (length description.now ≤ 65535) }
@@ -32,7 +33,8 @@ fn append_text(out: &mut ByteList, description: &Description) -> Result<(), NoMe
     out.append(text.as_bytes())
 }
 
-/// Appends the first byte of a record and a birth, or a front of that where memory is wanting.
+/// Appends the first byte of a record and a birth. If allocation fails, a prefix of that may have
+/// been appended.
 fn append_head(out: &mut ByteList, tag: u8, birth: u64) -> Result<(), NoMemory>
     ensures ok { OnOk result (out.new ≡ out.old ++ tag ∷ to_be_bytes w64 birth) }
     ensures err { OnErr result (take (length out.old) out.new ≡ out.old) }
@@ -41,7 +43,8 @@ fn append_head(out: &mut ByteList, tag: u8, birth: u64) -> Result<(), NoMemory>
     out.append(&birth.to_be_bytes())
 }
 
-/// Appends what a create's record begins with, or a front of that where memory is wanting.
+/// Appends the first fields of the record of a creation. If allocation fails, a prefix of that may
+/// have been appended.
 fn append_front(out: &mut ByteList, birth: u64, name: &KeyName, bits: u16) -> Result<(), NoMemory>
     ensures ok { OnOk result (out.new ≡ out.old ++ 2 ∷ (to_be_bytes w64 birth ++ name_field name.now ++ to_be_bytes w16 bits)) }
     ensures is_name { OnOk result (IsKeyName name.now) }
@@ -52,7 +55,8 @@ fn append_front(out: &mut ByteList, birth: u64, name: &KeyName, bits: u16) -> Re
     out.append(&bits.to_be_bytes())
 }
 
-/// Appends the rest of a create's record, or a front of that where memory is wanting.
+/// Appends the other fields of the record of a creation. If allocation fails, a prefix of that may
+/// have been appended.
 fn append_back(
     out: &mut ByteList,
     description: &Description,
@@ -69,7 +73,7 @@ fn append_back(
     out.append(material.as_bytes())
 }
 
-/// Appends the record of a roll, or a front of it where memory is wanting.
+/// Appends the record of a roll. If allocation fails, a prefix of it may have been appended.
 fn append_roll(out: &mut ByteList, birth: u64, number: u16, material: &Dek) -> Result<(), NoMemory>
     ensures ok { OnOk result (out.new ≡ out.old ++ 3 ∷ (to_be_bytes w64 birth ++ to_be_bytes w16 number ++ material.now)) }
     ensures long { OnOk result (IsTrue (is_key_length (length material.now))) }
@@ -81,8 +85,8 @@ fn append_roll(out: &mut ByteList, birth: u64, number: u16, material: &Dek) -> R
 }
 
 impl KeyCommand {
-    /// Appends the one spelling of the command as a record of the key log. Where memory is wanting
-    /// `out` stays as it was.
+    /// Appends the command as a record of the key log. Returns `NoMemory` if allocation fails;
+    /// `out` is then unchanged.
     pub fn write(&self, out: &mut ByteList) -> Result<(), NoMemory>
         requires { IsTrue (fits self.now) }
         ensures ok { OnOk result (out.new ≡ out.old ++ spelling self.now) }
@@ -92,14 +96,14 @@ impl KeyCommand {
         let len = out.len();
         match self.append_to(out) {
             Ok(()) => Ok(()),
-            Err(wanting) => {
+            Err(error) => {
                 out.truncate(len);
-                Err(wanting)
+                Err(error)
             }
         }
     }
 
-    /// Appends the spelling, or a front of it where memory is wanting.
+    /// Appends the record. If allocation fails, a prefix of it may have been appended.
     fn append_to(&self, out: &mut ByteList) -> Result<(), NoMemory>
         requires { IsTrue (fits self.now) }
         ensures ok { OnOk result (out.new ≡ out.old ++ spelling self.now) }

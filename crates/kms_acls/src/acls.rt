@@ -1,4 +1,4 @@
-//! Access control lists, made for verdicts.
+//! Access control lists, prepared for verdicts.
 ghost use Rattle.std.specs.Prelude.{◌≡◌, ◌||◌, ◌∷◌, ◌++◌, [], List, None, Bool, true, false, if◌then◌else◌, map, IfOk, OnOk, option_map};
 ghost use Rattle.std.specs.List.{list_any};
 ghost use Rattle.std.specs.Option.{option_copied, option_or, unwrap_or};
@@ -8,6 +8,7 @@ ghost use Rattle.kms_acls.specs.Lists.{holds, list_of, stands, users_of};
 ghost use Rattle.kms_acls.specs.StandsFor.{StandsFor};
 ghost use Rattle.kms_acls.specs.Verdict.{default_denial, denied as denied_by, first_denial, key_denial, names_user, service_denial, verdict};
 ghost use Rattle.prop_text.specs.declared.lines.PropLine.{PropLine};
+ghost use Rattle.prop_text.specs.declared.lines.PropLine.TheVariants as prop;
 
 use crate::answers::{Denied, Shown};
 use crate::asked::{Asked, asked_by};
@@ -17,7 +18,7 @@ use crate::lists::{KeyLists, OpLists};
 use crate::members::{Members, set_of};
 use hk_base::{KeyName, NoMemory, Text};
 use kms_calls::{AclOp, AclTable, KmsCall};
-use prop_text::{PropLine, Props, TextList};
+use prop_text::{Acl, PropLine, Props, TextList};
 use std::alloc::Global;
 use std::marker::Model;
 
@@ -47,7 +48,7 @@ fn denied(table: AclTable, op: AclOp) -> Option<Denied>
 }
 
 impl Acls {
-    /// No lists. It takes no memory.
+    /// Creates empty lists. Does not allocate.
     fn new(alloc: Global) -> Acls
         ensures { StandsFor result [] }
     {
@@ -61,25 +62,80 @@ impl Acls {
         }
     }
 
-    /// Adds what a line says.
+    /// Adds a list for an operation of the service.
+    fn add_service(&mut self, alloc: Global, op: AclOp, acl: &Acl) -> Result<(), NoMemory>
+        ensures { OnOk result ((lines : List PropLine) → StandsFor self.old lines → StandsFor self.new (lines ++ prop.Service op acl.now ∷ [])) }
+    {
+        let members = Members::of(alloc, acl)?;
+        self.services.add(op, members)
+    }
+
+    /// Adds a blacklist for an operation of the service.
+    fn add_blacklist(&mut self, alloc: Global, op: AclOp, acl: &Acl) -> Result<(), NoMemory>
+        ensures { OnOk result ((lines : List PropLine) → StandsFor self.old lines → StandsFor self.new (lines ++ prop.Blacklist op acl.now ∷ [])) }
+    {
+        let members = Members::of(alloc, acl)?;
+        self.blacklists.add(op, members)
+    }
+
+    /// Adds the default list for an operation on keys.
+    fn add_default(&mut self, alloc: Global, op: AclOp, acl: &Acl) -> Result<(), NoMemory>
+        ensures { OnOk result ((lines : List PropLine) → StandsFor self.old lines → StandsFor self.new (lines ++ prop.Default op acl.now ∷ [])) }
+    {
+        let members = Members::of(alloc, acl)?;
+        self.defaults.add(op, members)
+    }
+
+    /// Adds the whitelist for an operation on keys.
+    fn add_whitelist(&mut self, alloc: Global, op: AclOp, acl: &Acl) -> Result<(), NoMemory>
+        ensures { OnOk result ((lines : List PropLine) → StandsFor self.old lines → StandsFor self.new (lines ++ prop.Whitelist op acl.now ∷ [])) }
+    {
+        let members = Members::of(alloc, acl)?;
+        self.whitelists.add(op, members)
+    }
+
+    /// Adds a list for an operation on a key.
+    fn add_key(
+        &mut self,
+        alloc: Global,
+        key: &KeyName,
+        op: AclOp,
+        acl: &Acl,
+    ) -> Result<(), NoMemory>
+        ensures { OnOk result ((lines : List PropLine) → StandsFor self.old lines → StandsFor self.new (lines ++ prop.Key key.now op acl.now ∷ [])) }
+    {
+        let members = Members::of(alloc, acl)?;
+        self.keys.add(key.as_bytes(), op, members)
+    }
+
+    /// Adds a list for all operations on a key.
+    fn add_key_all(&mut self, alloc: Global, key: &KeyName, acl: &Acl) -> Result<(), NoMemory>
+        ensures { OnOk result ((lines : List PropLine) → StandsFor self.old lines → StandsFor self.new (lines ++ prop.KeyAll key.now acl.now ∷ [])) }
+    {
+        let members = Members::of(alloc, acl)?;
+        self.keys.add_all(key.as_bytes(), members)
+    }
+
+    /// Adds a group.
+    fn add_group(&mut self, alloc: Global, group: &Text, users: &TextList) -> Result<(), NoMemory>
+        ensures { OnOk result ((lines : List PropLine) → StandsFor self.old lines → StandsFor self.new (lines ++ prop.Group group.now users.now ∷ [])) }
+    {
+        let users = set_of(alloc, users)?;
+        self.groups.add(group.as_str().as_bytes(), users)
+    }
+
+    /// Adds the content of a line.
     fn add(&mut self, alloc: Global, line: &PropLine) -> Result<(), NoMemory>
         ensures { OnOk result ((lines : List PropLine) → StandsFor self.old lines → StandsFor self.new (lines ++ line.now ∷ [])) }
     {
         match line {
-            PropLine::Service { op, acl } => self.services.add(*op, Members::of(alloc, acl)?),
-            PropLine::Blacklist { op, acl } => self.blacklists.add(*op, Members::of(alloc, acl)?),
-            PropLine::Default { op, acl } => self.defaults.add(*op, Members::of(alloc, acl)?),
-            PropLine::Whitelist { op, acl } => self.whitelists.add(*op, Members::of(alloc, acl)?),
-            PropLine::Key { key, op, acl } => {
-                self.keys.add(key.as_bytes(), *op, Members::of(alloc, acl)?)
-            }
-            PropLine::KeyAll { key, acl } => {
-                self.keys.add_all(key.as_bytes(), Members::of(alloc, acl)?)
-            }
-            PropLine::Group { group, users } => {
-                self.groups
-                    .add(group.as_str().as_bytes(), set_of(alloc, users)?)
-            }
+            PropLine::Service { op, acl } => self.add_service(alloc, *op, acl),
+            PropLine::Blacklist { op, acl } => self.add_blacklist(alloc, *op, acl),
+            PropLine::Default { op, acl } => self.add_default(alloc, *op, acl),
+            PropLine::Whitelist { op, acl } => self.add_whitelist(alloc, *op, acl),
+            PropLine::Key { key, op, acl } => self.add_key(alloc, key, *op, acl),
+            PropLine::KeyAll { key, acl } => self.add_key_all(alloc, key, acl),
+            PropLine::Group { group, users } => self.add_group(alloc, group, users),
             PropLine::QueueSize { .. } => Ok(()),
             PropLine::QueueWatermark { .. } => Ok(()),
             PropLine::BatchSize { .. } => Ok(()),
@@ -87,7 +143,7 @@ impl Acls {
         }
     }
 
-    /// The lists that the properties say.
+    /// Builds the lists from properties.
     pub fn from_props(alloc: Global, props: &Props) -> Result<Acls, NoMemory>
         ensures { IfOk result (λ acls. StandsFor acls props.now.lines) }
     {
@@ -98,7 +154,7 @@ impl Acls {
         Ok(acls)
     }
 
-    /// Whether one of the groups has the user.
+    /// Returns whether one of the groups has the user.
     fn in_a_group(&self, user: &[u8], groups: &TextList) -> bool
         ensures { result ≡ list_any (λ g. names_user user.now (users_of g self.now.groups)) groups.now }
     {
@@ -108,7 +164,7 @@ impl Acls {
             .any(|group| self.groups.has(group.as_str().as_bytes(), user))
     }
 
-    /// Whether the user is in a list.
+    /// Returns whether the user is in a list.
     fn holds(&self, user: &[u8], members: &Members) -> bool
         ensures { result ≡ holds self.now.groups user.now members.now }
     {
@@ -121,7 +177,7 @@ impl Acls {
         self.in_a_group(user, &members.groups)
     }
 
-    /// Whether the user is in a list, `None` where there is none.
+    /// Returns whether the user is in a list, or `None` if there is no list.
     fn stands_in(&self, user: &[u8], list: Option<&Members>) -> Option<bool>
         ensures { result ≡ option_map (holds self.now.groups user.now) (option_copied list.entry) }
     {
@@ -131,7 +187,7 @@ impl Acls {
         }
     }
 
-    /// What denies the user an operation of the service.
+    /// Returns the denial of an operation of the service, if the user is denied it.
     fn service_denial(&self, user: &[u8], op: AclOp) -> Option<Denied>
         ensures { result ≡ service_denial (stands self.now user.now) op }
     {
@@ -148,7 +204,8 @@ impl Acls {
         None
     }
 
-    /// What denies the user an operation on a key that has lists of its own.
+    /// Returns the denial of an operation on a key that has lists of its own, if the user is denied
+    /// it.
     fn own_denial(&self, user: &[u8], op: AclOp, lists: &KeyLists) -> Option<Denied>
         ensures { result ≡ (if (unwrap_or (option_map (holds self.now.groups user.now) (list_of op lists.now.by_op)) false || unwrap_or (option_map (holds self.now.groups user.now) lists.now.all) false) then None else denied_by KeyAcl op) }
     {
@@ -160,7 +217,8 @@ impl Acls {
         denied(AclTable::KeyAcl, op)
     }
 
-    /// What denies the user an operation on a key that has no lists of its own.
+    /// Returns the denial of an operation on a key without lists of its own, if the user is denied
+    /// it.
     fn default_denial(&self, user: &[u8], op: AclOp) -> Option<Denied>
         ensures { result ≡ default_denial op ((stands self.now user.now).default op) }
     {
@@ -171,7 +229,7 @@ impl Acls {
         }
     }
 
-    /// What denies the user an operation on a key.
+    /// Returns the denial of an operation on a key, if the user is denied it.
     fn key_denial(&self, user: &[u8], op: AclOp, key: &KeyName) -> Option<Denied>
         ensures { result ≡ key_denial (stands self.now user.now) op key.now }
     {
@@ -187,7 +245,8 @@ impl Acls {
         }
     }
 
-    /// What denies the user what is asked of the service.
+    /// Returns the denial of the operations that a call requests of the service, if the user is
+    /// denied one.
     fn denial_by_service(&self, user: &[u8], asked: Asked<'_>) -> Option<Denied>
         ensures { result ≡ option_or (service_denial (stands self.now user.now) asked.entry.service) (if asked.entry.material then service_denial (stands self.now user.now) op.SetKeyMaterial else None) }
     {
@@ -200,7 +259,8 @@ impl Acls {
         None
     }
 
-    /// What denies the user an operation on one of the keys, the first key first.
+    /// Returns the first denial of an operation on the keys, in order, if the user is denied it on
+    /// one.
     fn denial_by_keys(&self, user: &[u8], op: AclOp, keys: &[KeyName]) -> Option<Denied>
         ensures { result ≡ first_denial (map (key_denial (stands self.now user.now) op) keys.now) }
     {
@@ -212,12 +272,16 @@ impl Acls {
         None
     }
 
-    /// The verdict on a call of a user. First each operation of the service is asked for: the user
-    /// has to be in its list, where there is one, and must not be in its blacklist. Then the operation
-    /// on each key: the whitelist allows it; a key with lists of its own allows it to those in the
-    /// operation's or in the one of all operations; other keys to those in the default list. The
-    /// first that denies is answered. It takes no memory, and time logarithmic in the number of lines
-    /// for each list that is asked, and linear in the number of its groups.
+    /// Returns the verdict on a call of a user: what may be shown, or the first denial.
+    ///
+    /// First come the operations that the call requests of the service. For each the user must be
+    /// in the operation's list, if there is one, and must not be in its blacklist. Then comes the
+    /// operation on each key. The whitelist allows it. A key with lists of its own allows it to
+    /// users in the operation's list or in the list for all operations. Other keys allow it to
+    /// users in the default list.
+    ///
+    /// Does not allocate. Takes time logarithmic in the number of lines for each list that is
+    /// searched, and linear in the number of the list's groups.
     pub fn verdict(&self, user: &Text, call: &KmsCall) -> Result<Shown, Denied>
         ensures { (lines : List PropLine) → StandsFor self.now lines → result ≡ verdict lines user.now call.now }
     {

@@ -1,15 +1,15 @@
-//! What a verdict answers.
+//! Results of a verdict.
 
 use kms_calls::{AclOp, AclTable};
 
-/// What is shown to a user whose call is allowed.
+/// What may be shown to a user whose call is allowed.
 #[derive(Clone, Copy, Debug, PartialEq, Eq)]
 pub struct Shown {
-    /// Whether Create and Roll answer the material of the new version.
+    /// Whether Create and Roll return the material of the new version.
     pub material: bool,
 }
 
-/// Why a call is denied: by which list, and the operation that it was asked for.
+/// Why a call is denied: the list that denies it, and the operation.
 #[derive(Clone, Copy, Debug, PartialEq, Eq)]
 pub struct Denied {
     pub table: AclTable,

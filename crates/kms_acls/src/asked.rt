@@ -1,4 +1,4 @@
-//! What a call asks for.
+//! The operations that a call requests.
 ghost use Rattle.std.specs.Prelude.{◌≡◌};
 ghost use Rattle.kms_acls.specs.Verdict.{asked};
 
@@ -6,14 +6,14 @@ use hk_base::KeyName;
 use kms_calls::{AclOp, KmsCall};
 use std::slice::from_ref;
 
-/// The operations that a call asks for, and the keys that it asks them of.
+/// The operations that a call requests, and the keys they are for.
 #[derive(Clone, Copy)]
 pub struct Asked<'a> {
     /// The operation of the service.
     pub service: AclOp,
-    /// Whether the call brings material: then SET_KEY_MATERIAL is asked of the service besides.
+    /// Whether the call brings material. It then requests SET_KEY_MATERIAL of the service too.
     pub material: bool,
-    /// The operation on each of the keys.
+    /// The operation on each key.
     pub on_keys: AclOp,
     pub keys: &'a [KeyName],
 }
@@ -32,7 +32,7 @@ fn asks(service: AclOp, material: bool, on_keys: AclOp, keys: &[KeyName]) -> Ask
     }
 }
 
-/// The one table of the calls and what they ask for. Names is asked of no key.
+/// Returns the operations that a call requests. Names requests no operation on keys.
 pub fn asked_by(call: &KmsCall) -> Asked<'_>
     ensures service { result.service ≡ (asked call.now).service }
     ensures material { result.material ≡ (asked call.now).material }

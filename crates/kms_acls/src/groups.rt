@@ -27,7 +27,7 @@ impl Model for Groups {
 }
 
 impl Groups {
-    /// No groups. It takes no memory.
+    /// Creates a table without groups. Does not allocate.
     pub fn new(alloc: Global) -> Groups
         ensures { (group : List ℕ) → users_of group result ≡ None }
     {
@@ -37,7 +37,7 @@ impl Groups {
         }
     }
 
-    /// Adds a group, unless there is one of the name. It takes time logarithmic in the number of
+    /// Adds a group, unless there is one with this name. Takes time logarithmic in the number of
     /// groups.
     pub fn add(&mut self, group: &[u8], users: Names) -> Result<(), NoMemory>
         ensures { OnOk result ((other : List ℕ) → users_of other self.new ≡ option_or (users_of other self.old) (given_if (bytes_eq other group.now) users)) }
@@ -50,8 +50,8 @@ impl Groups {
         Ok(())
     }
 
-    /// Whether the group has the user. It takes time logarithmic in the numbers of groups and of the
-    /// group's users.
+    /// Returns whether the group has the user. Takes time logarithmic in the number of groups and
+    /// in the number of the group's users.
     pub fn has(&self, group: &[u8], user: &[u8]) -> bool
         ensures { result ≡ names_user user.now (users_of group.now self.now) }
     {

@@ -1,4 +1,4 @@
-//! The lists of keys.
+//! Access control lists of single keys.
 ghost use Rattle.std.specs.Prelude.{◌≡◌, ℕ, Bool, false, ◌&&◌, ◌||◌, List, Some, None, if◌then◌else◌, OnOk, is_some};
 ghost use Rattle.std.specs.Option.{option_copied, option_or, unwrap_or};
 ghost use Rattle.std.specs.Str.{bytes_eq};
@@ -14,7 +14,7 @@ use std::alloc::Global;
 use std::collections::BTreeMap;
 use std::marker::Model;
 
-/// The lists of each key that has any, by the key's name.
+/// The lists of each key that has lists, by the key's name.
 #[derive(Drop)]
 pub struct Keys {
     alloc: Global,
@@ -31,7 +31,7 @@ impl Model for Keys {
 }
 
 impl Keys {
-    /// No lists. It takes no memory.
+    /// Creates a table without lists. Does not allocate.
     pub fn new(alloc: Global) -> Keys
         ensures { (key : List ℕ) → lists_of_key key result ≡ None }
     {
@@ -41,15 +41,15 @@ impl Keys {
         }
     }
 
-    /// The lists of a key, or `None` where it has none. It takes time logarithmic in the number of
-    /// keys that have lists.
+    /// Returns the lists of a key, or `None` if it has none. Takes time logarithmic in the number
+    /// of keys that have lists.
     pub fn get(&self, key: &[u8]) -> Option<&KeyLists>
         ensures { option_copied result ≡ lists_of_key key.now self.now }
     {
         self.lists.get(key)
     }
 
-    /// Takes the lists of a key out, none where it has none.
+    /// Removes and returns the lists of a key. They are empty if it has none.
     fn take(&mut self, key: &[u8]) -> KeyLists
         ensures taken { result ≡ unwrap_or (lists_of_key key.now self.old) no_lists }
         ensures others { (other : List ℕ) → bytes_eq other key.now ≡ false → lists_of_key other self.new ≡ lists_of_key other self.old }
@@ -61,7 +61,7 @@ impl Keys {
         self.lists.remove(key).unwrap_or(none)
     }
 
-    /// Puts the lists of a key in.
+    /// Inserts the lists of a key.
     fn put(&mut self, key: &[u8], lists: KeyLists) -> Result<(), NoMemory>
         ensures { OnOk result ((other : List ℕ) → lists_of_key other self.new ≡ (if bytes_eq other key.now then Some lists else lists_of_key other self.old)) }
     {
@@ -70,7 +70,7 @@ impl Keys {
         Ok(())
     }
 
-    /// Adds the list of an operation on a key. The first one counts.
+    /// Adds the list of an operation on a key. The first such list counts.
     pub fn add(&mut self, key: &[u8], op: AclOp, members: Members) -> Result<(), NoMemory>
         ensures added { OnOk result ((k : List ℕ) (o : AclOp) → list_of_key k o self.new ≡ option_or (list_of_key k o self.old) (given_if (bytes_eq k key.now && same_op op o) members)) }
         ensures all { OnOk result ((k : List ℕ) → all_of_key k self.new ≡ all_of_key k self.old) }
@@ -82,7 +82,7 @@ impl Keys {
         Ok(())
     }
 
-    /// Adds the list of all operations on a key. The first one counts.
+    /// Adds the list for all operations on a key. The first such list counts.
     pub fn add_all(&mut self, key: &[u8], members: Members) -> Result<(), NoMemory>
         ensures added { OnOk result ((k : List ℕ) → all_of_key k self.new ≡ option_or (all_of_key k self.old) (given_if (bytes_eq k key.now) members)) }
         ensures by_op { OnOk result ((k : List ℕ) (o : AclOp) → list_of_key k o self.new ≡ list_of_key k o self.old) }

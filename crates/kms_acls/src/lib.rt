@@ -1,4 +1,4 @@
-//! The verdict of the access control lists on a call of the key management service.
+//! Decides by access control lists whether a user may make a call of the key management service.
 #![tactic(auto)]
 
 mod acls;
@@ -11,6 +11,3 @@ mod members;
 
 pub use acls::Acls;
 pub use answers::{Denied, Shown};
-
-#[cfg(test)]
-mod tests;

@@ -1,4 +1,4 @@
-//! Lists that each speak of an operation.
+//! Lists of users for single operations.
 ghost use Rattle.std.specs.Prelude.{◌≡◌, ◌∷◌, ◌++◌, [], OnOk};
 ghost use Rattle.std.specs.Option.{option_copied};
 ghost use Rattle.kms_acls.specs.Lists.{list_of};
@@ -10,14 +10,14 @@ use kms_calls::AclOp;
 use std::alloc::Global;
 use std::marker::Model;
 
-/// The list of an operation.
+/// The list of users for an operation.
 #[derive(Drop)]
 pub struct OpList {
     pub op: AclOp,
     pub members: Members,
 }
 
-/// Lists of operations. A properties text has one for each operation at most, so there are few.
+/// Lists for operations. Properties have at most one for each operation, so there are few.
 #[derive(Drop)]
 pub struct OpLists {
     lists: Vec<OpList>,
@@ -39,7 +39,7 @@ fn same_op(a: AclOp, b: AclOp) -> bool
 }
 
 impl OpLists {
-    /// No lists. It takes no memory.
+    /// Creates an empty collection. Does not allocate.
     pub fn new(alloc: Global) -> OpLists
         ensures { result ≡ [] }
     {
@@ -48,7 +48,7 @@ impl OpLists {
         }
     }
 
-    /// Adds the list of an operation. The first one of an operation counts.
+    /// Adds the list of an operation. The first list of an operation counts.
     pub fn add(&mut self, op: AclOp, members: Members) -> Result<(), NoMemory>
         ensures { OnOk result (self.new ≡ self.old ++ record { op = op; members = members } ∷ []) }
     {
@@ -56,7 +56,7 @@ impl OpLists {
         Ok(())
     }
 
-    /// The list of an operation, or `None` where there is none.
+    /// Returns the list of an operation, if there is one.
     pub fn get(&self, op: AclOp) -> Option<&Members>
         ensures { option_copied result ≡ list_of op self.now }
     {
@@ -65,7 +65,7 @@ impl OpLists {
     }
 }
 
-/// The lists of a key: those of an operation each, and the one of all operations.
+/// The lists of a key: those for single operations, and the one for all operations.
 #[derive(Drop)]
 pub struct KeyLists {
     pub by_op: OpLists,

@@ -1,4 +1,4 @@
-//! Lists of users and groups, made for looking users up.
+//! Lists of users and groups, prepared for lookups.
 ghost use Rattle.std.specs.Prelude.{◌≡◌, ℕ, List, IfOk};
 ghost use Rattle.prop_text.specs.Properties.{is_among};
 ghost use Rattle.kms_acls.specs.Lists.{acl_meaning, members_meaning};
@@ -7,7 +7,7 @@ use hk_base::{NoMemory, Text};
 use prop_text::{Acl, Names, TextList};
 use std::alloc::Global;
 
-/// A list of users and groups, whose users are kept for looking them up.
+/// A list of users and groups, with its users in a set.
 #[derive(Drop)]
 pub struct Members {
     pub everybody: bool,
@@ -15,7 +15,7 @@ pub struct Members {
     pub groups: TextList,
 }
 
-/// The names of a list, each once.
+/// Returns the names of a list as a set.
 pub fn set_of(alloc: Global, texts: &TextList) -> Result<Names, NoMemory>
     ensures { IfOk result (λ names. (name : List ℕ) → is_among name names ≡ is_among name texts.now) }
 {
@@ -26,7 +26,7 @@ pub fn set_of(alloc: Global, texts: &TextList) -> Result<Names, NoMemory>
     Ok(names)
 }
 
-/// The same names in the same order.
+/// Copies a list of names.
 fn copy_of(alloc: Global, texts: &TextList) -> Result<TextList, NoMemory>
     ensures { IfOk result (λ copy. copy ≡ texts.now) }
 {
@@ -38,7 +38,7 @@ fn copy_of(alloc: Global, texts: &TextList) -> Result<TextList, NoMemory>
 }
 
 impl Members {
-    /// The users and groups of a list.
+    /// Prepares an access control list for lookups.
     pub fn of(alloc: Global, acl: &Acl) -> Result<Members, NoMemory>
         ensures { IfOk result (λ members. members_meaning members ≡ acl_meaning acl.now) }
     {

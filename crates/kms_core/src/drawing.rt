@@ -1,4 +1,4 @@
-//! Drawing keys of random words.
+//! Drawing keys from random words.
 ghost use Rattle.std.specs.Prelude.{◌≡◌, ◌*◌, ◌/◌, ◌≤◌, ◌⊎◌, ℕ, false, length, take, IsTrue, MatchResult};
 ghost use Rattle.key_rows.specs.Table.{is_length};
 ghost use Rattle.kms_core.specs.Draws.{drawn, drawn_edek, drawn_iv, material_for, words_for, words_of_draw};
@@ -17,7 +17,7 @@ pub struct CurrentVersion {
     pub material: Dek,
 }
 
-/// The bytes of the next words, at most 8, and zeros behind them.
+/// Draws `count` words, at most 8, and returns their bytes with zeros after them.
 fn draw<W: Words>(words: &mut W, count: u64) -> [u8; 32]
     requires { count ≤ 8 }
     ensures bytes { take (4 * count) result ≡ drawn (W.to_come words.old) 0 count }
@@ -32,7 +32,7 @@ fn draw<W: Words>(words: &mut W, count: u64) -> [u8; 32]
     bytes
 }
 
-/// A key of the next `count` words: 4, 6 or 8.
+/// Draws a key of `count` words: 4, 6 or 8.
 fn draw_key<W: Words>(words: &mut W, count: u64) -> Dek
     requires { (count ≡ 4) ⊎ (count ≡ 6) ⊎ (count ≡ 8) }
     ensures key { result ≡ drawn (W.to_come words.old) 0 count }
@@ -44,7 +44,7 @@ fn draw_key<W: Words>(words: &mut W, count: u64) -> Dek
     Dek::of(&bytes[..len])
 }
 
-/// An initialization vector of the next four words.
+/// Draws an initialization vector of four words.
 #[tactic(auto, unfolding(crate::specs::Draws::drawn_iv))]
 fn draw_iv<W: Words>(words: &mut W) -> Iv
     ensures iv { result ≡ drawn_iv (W.to_come words.old) 0 }
@@ -56,7 +56,7 @@ fn draw_iv<W: Words>(words: &mut W) -> Iv
     Iv(iv)
 }
 
-/// The material that is given, or else a drawn one of `bits` bits.
+/// Returns the given material, or draws material of `bits` bits.
 pub fn material_for<W: Words>(words: &mut W, bits: u64, given: Option<ByteList>) -> Dek
     requires known { IsTrue (is_length bits) }
     requires fits { is_misfit bits given ≡ false }
@@ -70,8 +70,8 @@ pub fn material_for<W: Words>(words: &mut W, bits: u64, given: Option<ByteList>)
     }
 }
 
-/// A data encryption key of the next words, encrypted under the current version. Its
-/// initialization vector is drawn first.
+/// Draws an initialization vector and then a data encryption key, and encrypts the key under the
+/// current version.
 fn draw_edek<W: Words>(words: &mut W, current: &CurrentVersion) -> Edek
     ensures key { result ≡ drawn_edek current.now.version current.now.material (W.to_come words.old) 0 }
     ensures rest { Drew (W.to_come words.old) (W.to_come words.new) (words_of_draw (length current.now.material)) }
@@ -86,8 +86,8 @@ fn draw_edek<W: Words>(words: &mut W, current: &CurrentVersion) -> Edek
     }
 }
 
-/// So many data encryption keys, drawn one after another. No word is drawn before there is memory
-/// for all of them.
+/// Draws `count` data encryption keys, one after another. Allocates memory for all of them before
+/// the first word is drawn.
 pub fn draw_edeks<W: Words>(
     alloc: Global,
     words: &mut W,

@@ -1,4 +1,4 @@
-//! The service as its users call it.
+//! The service as users call it.
 ghost use Rattle.std.specs.Prelude.{◌≡◌, ◌⊎◌, ℕ, List, IfOk, IsErrOf, MatchResult, length};
 ghost use Rattle.hk_base.specs.Disk.{LeavesOnly, RunOn, Tells};
 ghost use Rattle.hk_base.specs.Faults.{Rose};
@@ -21,11 +21,11 @@ use kms_calls::{KmsCall, KmsRefusal, KmsReply};
 use std::alloc::Global;
 use std::marker::Model;
 
-/// The key management service in an opening, over the key log on file 0 of a disk, with the access
-/// control lists of its users. Contracts see the lists, the store and the counter of the next birth;
-/// what a call means is said of its keys and its pending command.
+/// The running key management service, over the key log on file 0 of a disk, with the access
+/// control lists of its users. Contracts see the lists, the store and the counter of the next
+/// birth. They define a call by its effect on the keys and the pending command.
 ///
-/// Each call that takes a disk is to be given the disk that the service was started on.
+/// Always pass the disk that the service was started on.
 #[derive(Drop)]
 pub struct Kms {
     acls: Acls,
@@ -40,7 +40,7 @@ impl Model for Kms {
     ghost view = { λ a. record { acls = a.acls; store = a.service.store; next = a.service.next } };
 }
 
-/// Whether the answer to a call hides the material of the new version.
+/// Returns whether the reply to a call hides the material of the new version.
 fn hides(shown: Shown, call: &KmsCall) -> bool
     ensures { result ≡ hides shown call.now }
 {
@@ -64,12 +64,13 @@ fn without_material(reply: KmsReply) -> KmsReply
 }
 
 impl Kms {
-    /// Opens the key log on file 0 of a disk, makes the table of its commands, and records a new
-    /// opening behind them. It may be stopped at any moment, and started again. Calls are judged by
-    /// the lists.
+    /// Opens the key log on file 0 of a disk, builds the table from its commands, and records a new
+    /// opening after them. A crash may stop it at any moment; a later start then works as usual.
+    /// The lists decide who may do what.
     ///
-    /// `Damaged` comes exactly where the file is no log, or a record is no command or doesn't apply,
-    /// with the offset of its gate. `Spent` comes exactly where opening 4,294,967,295 is recorded.
+    /// Returns `Damaged` exactly if the file is not a log, or a record encodes no command or one
+    /// that doesn't apply, with the offset of its gate. Returns `Spent` exactly if opening
+    /// 4,294,967,295 is recorded.
     pub fn start<D: Disk>(alloc: Global, disk: &mut D, acls: Acls) -> Result<Kms, StartFault>
         ensures started { IfOk result (λ kms. Starts (D.state disk.old) (D.state disk.new) (running kms)) }
         ensures lists { IfOk result (λ kms. kms.acls ≡ acls) }
@@ -77,13 +78,13 @@ impl Kms {
         ensures spent { IsErrOf result start.Spent → Tells (D.state disk.old) → ((commands : List KeyCommand) × (table : Table)
             × IsKeyLog ((D.state disk.old).reads 0) commands table × (table.opening ≡ 4294967295)) }
 
-        // A crash at any moment leaves what it might have left before, or the log found, now or with its end
-        // gate read as 1, or its commands with the new opening or without it.
+        // A crash at any moment leaves what it might have left before, or the log found, as it is
+        // or with its end gate read as 1, or its commands with or without the new opening.
         ensures any_moment { Tells (D.state disk.old) → LeavesOnly 0 (D.state disk.old) (D.state disk.new)
             (λ c. (D.state disk.old).leaves 0 c ⊎ IsLeftByStart ((D.state disk.old).reads 0) c) }
 
-        // Whatever the answer, since the first sync of the call it leaves the latter alone. Where that sync
-        // failed, nothing was written.
+        // Whatever the result, after the first sync of the call a crash leaves only the latter. If
+        // that sync failed, nothing was written.
         ensures since_sync { Tells (D.state disk.old) →
             (IsErrOf result start.StoreFault × LeavesOnly 0 (D.state disk.old) (D.state disk.new) ((D.state disk.old).leaves 0))
             ⊎ LeavesFrom 0 (D.state disk.old) (D.state disk.new) (IsLeftByStart ((D.state disk.old).reads 0)) }
@@ -97,8 +98,8 @@ impl Kms {
         }
     }
 
-    /// Opens the key log again, as a start does, and goes on with what it finds and with the same
-    /// lists. Where that fails the service is as it was; it is not to go on with this disk then.
+    /// Opens the key log again, as a start does, and continues with what it finds and with the same
+    /// lists. If that fails the service is unchanged, but must not be used with this disk again.
     pub fn restart<D: Disk>(&mut self, alloc: Global, disk: &mut D) -> Result<(), StartFault>
         ensures started { MatchResult result (λ _. Starts (D.state disk.old) (D.state disk.new) (running self.new)) (λ _. self.new ≡ self.old) }
         ensures lists { self.new.acls ≡ self.old.acls }
@@ -122,7 +123,7 @@ impl Kms {
         }
     }
 
-    /// Ends the service, and gives its lists back for the next start. It takes no memory.
+    /// Ends the service and returns its lists for the next start. Does not allocate.
     pub fn stop(self) -> Acls
         ensures { result ≡ self.acls }
     {
@@ -130,34 +131,34 @@ impl Kms {
         acls
     }
 
-    /// How many keys stand.
+    /// Returns the number of keys.
     pub fn count(&self) -> u32
         ensures count { result ≡ length self.now.store.table.keys.rows }
         ensures rules { IsService (service_of (running self.now)) }
-        // The log is that of file 0.
+        // The log is on file 0.
         ensures file { self.now.store.log.file ≡ 0 }
     {
         self.service.count()
     }
 
-    /// The number of this opening.
+    /// Returns the number of this opening.
     pub fn opening(&self) -> u32
         ensures { result ≡ self.now.store.table.keys.opening }
     {
         self.service.opening()
     }
 
-    /// Answers a call of a user. `now` is the moment, which a created key keeps.
+    /// Answers a call of a user. `now` is the current moment, which a created key records.
     ///
-    /// The verdict of the access control lists comes first: a call that is denied is refused with
-    /// Denied, and does nothing. Any other refusal leaves the keys as they were, and draws no word
-    /// unless memory is wanting or the disk fails. Create and Roll answer the material of the new
-    /// version only to users who may get keys.
+    /// The access control lists come first: a call that they deny is refused with Denied and has no
+    /// effect. Any other refusal leaves the keys unchanged, and draws no word unless allocation or
+    /// the disk fails. Create and Roll return the material of the new version only to users who may
+    /// get keys.
     ///
-    /// Create, Roll and Delete are written to the log before they take effect. They settle the
-    /// pending command first. Where the disk fails, StoreFault is answered: the command of the call is
-    /// then pending, or still the one before. Invalidate, Current, Version, Decrypt and Reencrypt take
-    /// no memory.
+    /// Create, Roll and Delete settle the pending command first, and are written to the log before
+    /// they take effect. If the disk fails, they are refused with StoreFault: the command of the
+    /// call is then pending, or the earlier one still is. Invalidate, Current, Version, Decrypt and
+    /// Reencrypt do not allocate.
     pub fn act<D: Disk, W: Words>(
         &mut self,
         disk: &mut D,

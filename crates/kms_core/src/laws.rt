@@ -1,36 +1,36 @@
-//! What follows for data encryption keys that are generated, decrypted and encrypted again, and for
+//! Laws about data encryption keys that are generated, decrypted and re-encrypted, and about
 //! births. The functions do nothing: their contracts are the laws.
 ghost use Rattle.kms_core.specs.Laws.{BatchOpens, DecryptOpens, DeletedIsGone, DrawsApart, DrawsReadTheirOwn, GeneratedDecrypts, GeneratedOpens, GoneStays, GoneStaysAtStart, PermittedDecryptOpens, ReencryptedOpens};
 
-/// What is sent to decrypt without a cause of a refusal is opened under its version, and the answer
-/// is the key that it opens to. So it is for a user who is permitted to decrypt.
+/// A decrypt that nothing refuses returns the key that the sent bytes open to under their version.
+/// The same holds for a user who may decrypt.
 pub fn decrypt_opens()
     ensures opens { DecryptOpens }
     ensures permitted { PermittedDecryptOpens }
 {}
 
-/// Each key that a generate answers opens to the data encryption key drawn for it, and decrypt
-/// answers that one.
+/// Each key that a generate returns opens to the data encryption key drawn for it, and decrypt
+/// returns that key.
 pub fn generated_keys_open()
     ensures opens { GeneratedOpens }
     ensures decrypts { GeneratedDecrypts }
 {}
 
-/// What a reencrypt answers, and each key that a batch answers, is on the current version and opens
-/// to the data encryption key that what was sent for it opens to.
+/// The key that a reencrypt returns, and each key that a batch returns, is on the current version
+/// and opens to the same data encryption key as the key that was sent.
 pub fn reencrypted_keys_open()
     ensures opens { ReencryptedOpens }
     ensures batch { BatchOpens }
 {}
 
-/// The draws of a generate take different words of the stream, and each reads its own words alone.
+/// The draws of a generate take different words of the stream, and each uses only its own words.
 pub fn draws_use_different_words()
     ensures own { DrawsReadTheirOwn }
     ensures apart { DrawsApart }
 {}
 
-/// The birth of a deleted key was used, and no key has it. No call gives such a birth to a key, and
-/// no start does.
+/// No key has the birth of a deleted key. No call and no start ever gives such a birth to a key
+/// again.
 pub fn births_never_come_again()
     ensures stays { GoneStays }
     ensures at_start { GoneStaysAtStart }

@@ -13,6 +13,3 @@ pub use laws::{
     births_never_come_again, decrypt_opens, draws_use_different_words, generated_keys_open,
     reencrypted_keys_open,
 };
-
-#[cfg(test)]
-mod tests;

@@ -1,5 +1,5 @@
-//! Encrypted data encryption keys as they are sent: checked, opened, and sealed under the current
-//! version.
+//! Encrypted data encryption keys that callers send: checking them, opening them, and sealing them
+//! under the current version.
 ghost use Rattle.std.specs.Prelude.{◌≡◌, ◌/◌, true, false, IfSome, IsTrue, MatchOption, MatchResult, None, Some, is_none};
 ghost use Rattle.std.specs.List.{list_any};
 ghost use Rattle.key_rows.specs.Sound.{IsRow};
@@ -14,10 +14,10 @@ use key_rows::KeyRow;
 use kms_calls::{EdekList, KmsRefusal, RawEdek};
 use std::alloc::Global;
 
-/// How many data encryption keys may be asked for, or sent, in one call.
+/// The largest number of data encryption keys that one call may request or send.
 pub const MOST_ASKED: u32 = 1000;
 
-/// What was sent, its lengths being right, with the material of its version.
+/// A key that was sent, with lengths that were checked, and the material of its version.
 #[derive(Clone, Copy)]
 pub struct Checked {
     pub material: Dek,
@@ -25,7 +25,7 @@ pub struct Checked {
     pub sealed: Dek,
 }
 
-/// The current version of a key with its material. Every key has one.
+/// Returns the current version of a key with its material. Every key has one.
 pub fn newest(row: &KeyRow) -> Option<CurrentVersion>
     requires { IsRow row.now }
     ensures some { is_none result ≡ false }
@@ -40,8 +40,8 @@ pub fn newest(row: &KeyRow) -> Option<CurrentVersion>
     })
 }
 
-/// The initialization vector and the sealed key that were sent, or `None` where their lengths are
-/// not those for a key of `bits` bits.
+/// Returns the initialization vector and the sealed key that were sent, or `None` if their lengths
+/// are wrong for a key of `bits` bits.
 fn parts(bits: u16, sent: &RawEdek) -> Option<(Iv, Dek)>
     requires { IsTrue (is_length bits) }
     ensures { MatchOption result (is_malformed bits sent.now ≡ true) (λ parts. HasParts bits sent.now parts.0 parts.1) }
@@ -54,7 +54,7 @@ fn parts(bits: u16, sent: &RawEdek) -> Option<(Iv, Dek)>
     Some((iv, sealed))
 }
 
-/// What was sent of a key with the material of its version, or why it is refused.
+/// Checks a key that was sent. Returns it with the material of its version, or the refusal.
 fn check(row: &KeyRow, sent: &RawEdek) -> Result<Checked, KmsRefusal>
     requires { IsRow row.now }
     ensures { MatchResult result (Checks row.now sent.now) (λ why. first_cause (sent_causes (Some row.now) row.now.name sent.now) ≡ Some why) }
@@ -75,7 +75,7 @@ fn check(row: &KeyRow, sent: &RawEdek) -> Result<Checked, KmsRefusal>
     })
 }
 
-/// What was sent of a key opened under its version, or why it is refused.
+/// Opens a key that was sent under its version, or returns the refusal.
 pub fn open(row: &KeyRow, sent: &RawEdek) -> Result<Dek, KmsRefusal>
     requires { IsRow row.now }
     ensures { MatchResult result (OpensIn row.now sent.now) (λ why. first_cause (sent_causes (Some row.now) row.now.name sent.now) ≡ Some why) }
@@ -84,8 +84,8 @@ pub fn open(row: &KeyRow, sent: &RawEdek) -> Result<Dek, KmsRefusal>
     Ok(unseal(&checked.material, checked.iv, &checked.sealed))
 }
 
-/// What was sent of a key sealed under the current version, or why it is refused. What is on that
-/// version stays as it is; the initialization vector always does.
+/// Seals a key that was sent under the current version, or returns the refusal. A key on the
+/// current version is returned unchanged. The initialization vector never changes.
 pub fn reseal(row: &KeyRow, sent: &RawEdek) -> Result<Edek, KmsRefusal>
     requires { IsRow row.now }
     ensures { MatchResult result (Reseals row.now sent.now) (λ why. first_cause (sent_causes (Some row.now) row.now.name sent.now) ≡ Some why) }
@@ -131,8 +131,8 @@ fn any_is_malformed(bits: u16, sent: &[RawEdek]) -> bool
     sent.iter().any(|edek| parts(bits, edek).is_none())
 }
 
-/// Why keys that were sent together are refused: each cause is tried over all of them before the
-/// next one.
+/// Returns the refusal of keys that were sent together, if there is one. Each cause is checked for
+/// all of the keys before the next cause.
 fn batch_refusal(row: &KeyRow, sent: &[RawEdek]) -> Option<KmsRefusal>
     requires { IsRow row.now }
     ensures { result ≡ first_cause (batch_causes (Some row.now) row.now.name sent.now) }
@@ -152,7 +152,8 @@ fn batch_refusal(row: &KeyRow, sent: &[RawEdek]) -> Option<KmsRefusal>
     None
 }
 
-/// What was sent of a key sealed under the current version, in the order sent, or why it is refused.
+/// Seals the keys that were sent under the current version, in the order sent, or returns the
+/// refusal.
 pub fn reseal_all(alloc: Global, row: &KeyRow, sent: &[RawEdek]) -> Result<EdekList, KmsRefusal>
     requires { IsRow row.now }
     ensures { MatchResult result (ResealsAll row.now sent.now) (RefusesBatch row.now sent.now) }

@@ -1,4 +1,4 @@
-//! The calls of the service, once they are permitted.
+//! The calls of the service, without the access control lists.
 ghost use Rattle.std.specs.Prelude.{◌≡◌, ◌*◌, ◌/◌, ◌≤◌, ◌<◌, ◌^◌, ◌+◌, ◌⊎◌, ℕ, List, true, false, IfOk, IfSome, IsErrOf, IsTrue, MatchBool, MatchOption, MatchResult, None, Some, find, is_none, is_some, length, map};
 ghost use Rattle.std.specs.List.{list_any};
 ghost use Rattle.std.specs.Option.{option_copied};
@@ -29,16 +29,16 @@ use kms_store::Store;
 use std::alloc::Global;
 use std::marker::Model;
 
-/// How many births an opening has.
+/// The number of births in an opening.
 const BIRTHS: u64 = 1 << 32;
 
-/// How many keys stand at most.
+/// The largest number of keys.
 const MOST_KEYS: u32 = 10000;
 
-/// How many versions a key has at most.
+/// The largest number of versions of a key.
 const MOST_VERSIONS: u16 = 65535;
 
-/// What a change needs to know of a key.
+/// The facts about a key that a change needs.
 #[derive(Clone, Copy)]
 struct Standing {
     birth: u64,
@@ -46,7 +46,7 @@ struct Standing {
     versions: u16,
 }
 
-/// The service in an opening, without its access control lists: each call is taken as permitted.
+/// The running service without its access control lists: every call is permitted.
 #[derive(Drop)]
 pub struct Service {
     alloc: Global,
@@ -104,11 +104,11 @@ impl Service {
         })
     }
 
-    /// How many keys stand.
+    /// Returns the number of keys.
     pub fn count(&self) -> u32
         ensures count { result ≡ length self.now.store.table.keys.rows }
         ensures rules { IsService (service_of self.now) }
-        // The log is that of file 0.
+        // The log is on file 0.
         ensures file { self.now.store.log.file ≡ 0 }
     {
         let _ = self.store.opening();
@@ -117,7 +117,7 @@ impl Service {
         table.count()
     }
 
-    /// The number of this opening.
+    /// Returns the number of this opening.
     pub fn opening(&self) -> u32
         ensures { result ≡ self.now.store.table.keys.opening }
     {
@@ -158,7 +158,7 @@ impl Service {
         }
     }
 
-    /// Settles the pending command, if there is one. Where the disk fails it is still pending.
+    /// Settles the pending command, if there is one. If the disk fails, it is still pending.
     fn settle<D: Disk>(&mut self, disk: &mut D) -> Result<(), StoreRefusal>
         requires stands { Tells (D.state disk.old) → ((commands : List KeyCommand) × StandsFor (D.state disk.old) self.old.store commands) }
         ensures { MatchResult result (λ _. Settling (D.state disk.old) (D.state disk.new) self.old self.new) (λ _. IsUnsettled (D.state disk.old) (D.state disk.new) self.old self.new) }
@@ -187,7 +187,7 @@ impl Service {
         }
     }
 
-    /// Creates a key while nothing is pending.
+    /// Creates a key. No command may be pending.
     fn create_settled<D: Disk, W: Words>(
         &mut self,
         disk: &mut D,
@@ -238,7 +238,7 @@ impl Service {
         self.store.table().count() >= MOST_KEYS || self.next >= BIRTHS
     }
 
-    /// Adds a key, all being checked. Its birth is used also where the disk fails.
+    /// Adds a key after all checks. Its birth is used up even if the disk fails.
     fn add<D: Disk>(
         &mut self,
         disk: &mut D,
@@ -295,7 +295,7 @@ impl Service {
         }
     }
 
-    /// Rolls a key over while nothing is pending.
+    /// Rolls a key over. No command may be pending.
     fn roll_settled<D: Disk, W: Words>(
         &mut self,
         disk: &mut D,
@@ -321,7 +321,7 @@ impl Service {
         self.add_version(disk, name, key, material)
     }
 
-    /// What a change needs to know of a key, or `None` where the key is absent.
+    /// Returns the facts about a key that a change needs, or `None` if there is no such key.
     fn standing(&self, name: &KeyName) -> Option<Standing>
         ensures known { MatchOption result (is_none (row_of (keys_of self.now) name.now) ≡ true) (StandsSo (keys_of self.now) name.now) }
         ensures length { IfSome result (λ key. IsTrue (is_length key.bits)) }
@@ -334,7 +334,7 @@ impl Service {
         })
     }
 
-    /// Adds the next version of a key, all being checked.
+    /// Adds the next version of a key after all checks.
     fn add_version<D: Disk>(
         &mut self,
         disk: &mut D,
@@ -371,7 +371,7 @@ impl Service {
         }
     }
 
-    /// Deletes a key while nothing is pending.
+    /// Deletes a key. No command may be pending.
     fn delete_settled<D: Disk>(&mut self, disk: &mut D, name: KeyName) -> KmsReply
         requires settled { self.old.store.pending ≡ None }
         requires stands { Tells (D.state disk.old) → ((commands : List KeyCommand) × StandsFor (D.state disk.old) self.old.store commands) }
@@ -383,7 +383,7 @@ impl Service {
         self.remove(disk, key.birth)
     }
 
-    /// Deletes the key of a birth, which stands.
+    /// Deletes the key with this birth, which must exist.
     fn remove<D: Disk>(&mut self, disk: &mut D, birth: u64) -> KmsReply
         requires born { is_some (find_birth self.old.store.table.keys.rows birth) ≡ true }
         requires settled { self.old.store.pending ≡ None }
@@ -398,7 +398,7 @@ impl Service {
         }
     }
 
-    /// The key of a name, or `None` where it is absent.
+    /// Returns the key with this name, if there is one.
     fn key(&self, name: &KeyName) -> Option<&KeyRow>
         ensures found { option_copied result ≡ row_of (keys_of self.now) name.now }
         ensures row { IfSome result (λ row. IsRow row.now) }
@@ -424,7 +424,7 @@ impl Service {
         }
     }
 
-    /// What is known of a key.
+    /// Answers with the metadata of a key.
     fn meta(&self, name: &KeyName) -> Result<KeyMeta, KmsRefusal>
         ensures { MatchResult result (λ known. (is_absent (keys_of self.now) name.now ≡ false) × (known ≡ meta_of name.now (row_of (keys_of self.now) name.now))) (λ why. MatchBool (is_absent (keys_of self.now) name.now) (why ≡ KmsRefusal.NoSuchKey) (why ≡ KmsRefusal.NoMemory)) }
     {
@@ -453,7 +453,7 @@ impl Service {
         names.iter().any(|name| self.key(name).is_none())
     }
 
-    /// What is known of keys that stand, in the order asked.
+    /// Returns the metadata of existing keys, in the order requested.
     fn metas(&self, names: &[KeyName]) -> Result<MetaList, KmsRefusal>
         requires { list_any (is_absent (keys_of self.now)) names.now ≡ false }
         ensures { MatchResult result (λ known. known ≡ metas_of (keys_of self.now) names.now) (λ why. why ≡ KmsRefusal.NoMemory) }
@@ -529,7 +529,7 @@ impl Service {
         }
     }
 
-    /// The current version of a key with its material, or `None` where the key is absent.
+    /// Returns the current version of a key with its material, or `None` if there is no such key.
     fn current(&self, name: &KeyName) -> Option<CurrentVersion>
         ensures { MatchOption result (is_none (row_of (keys_of self.now) name.now) ≡ true) (IsCurrent (keys_of self.now) name.now) }
     {
@@ -574,7 +574,7 @@ impl Service {
     }
 }
 
-/// A version with its material.
+/// Answers with a version and its material.
 fn shown(key: KeyName, number: u16, material: Dek) -> KmsReply
     ensures { result ≡ shown key number material }
 {

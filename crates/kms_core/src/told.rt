@@ -1,4 +1,4 @@
-//! What the service tells of a key.
+//! Metadata and versions of a key.
 ghost use Rattle.std.specs.Prelude.{◌≡◌, IfOk, Some};
 ghost use Rattle.key_rows.specs.Sound.{IsRow};
 ghost use Rattle.kms_core.specs.Calls.{meta_of, versions_from};
@@ -8,7 +8,7 @@ use key_rows::KeyRow;
 use kms_calls::{KeyMeta, KeyVersion, VersionList};
 use std::alloc::Global;
 
-/// What is known of a key.
+/// Returns the metadata of a key.
 pub fn meta(alloc: Global, row: &KeyRow) -> Result<KeyMeta, NoMemory>
     requires { IsRow row.now }
     ensures { IfOk result (λ meta. meta ≡ meta_of row.now.name (Some row.now)) }
@@ -23,7 +23,7 @@ pub fn meta(alloc: Global, row: &KeyRow) -> Result<KeyMeta, NoMemory>
     })
 }
 
-/// All versions of a key with their materials, in order of number.
+/// Returns all versions of a key with their materials, in order of number.
 pub fn versions(alloc: Global, row: &KeyRow) -> Result<VersionList, NoMemory>
     requires { IsRow row.now }
     ensures { IfOk result (λ versions. versions ≡ versions_from row.now.name 0 row.now.materials) }

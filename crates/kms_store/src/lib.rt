@@ -1,10 +1,8 @@
-//! The key log: the table of keys as the commands that were acknowledged make it, kept on a disk so
-//! that a crash at any moment loses none of them.
+//! The table of keys, kept in a log on a disk, so that a crash at any moment loses no acknowledged
+//! command.
 #![tactic(auto)]
 
 mod replay;
 mod store;
-#[cfg(test)]
-mod tests;
 
 pub use store::Store;

@@ -1,4 +1,5 @@
-//! Reading a key log: each record is a command, and each applies to the table of those before it.
+//! Replaying a key log. Each record is a command that applies to the table that the commands before
+//! it make.
 ghost use Rattle.std.specs.Prelude.{◌≡◌, ◌-◌, ◌+◌, ◌*◌, ◌^◌, ◌<◌, IsTrue, IfOk, IsErrOf, ℕ, List, map};
 ghost use Rattle.key_rows.specs.Table.{Kept};
 ghost use Rattle.frame_log.specs.Scan.{frame_view};
@@ -10,7 +11,8 @@ use hk_base::{NoMemory, RecordFault};
 use key_rows::{KeyCommand, KeyTable};
 use std::alloc::Global;
 
-/// Applies the command that a record spells. Tells whether it spells one that applies.
+/// Applies the command that a record encodes. Returns `false` if the record encodes no command that
+/// applies.
 fn take(alloc: Global, table: &mut KeyTable, payload: &[u8]) -> Result<bool, NoMemory>
     ensures taken { IfOk result (IsTaken table.old.keys payload.now table.new.keys) }
     ensures births { IfOk result (λ taken. IsTrue taken → HasRoomForBirths table.old.keys → HasRoomForBirths table.new.keys) }
@@ -27,8 +29,8 @@ fn take(alloc: Global, table: &mut KeyTable, payload: &[u8]) -> Result<bool, NoM
     Ok(true)
 }
 
-/// The table of the commands that the frames of a log are. `Damaged` has the offset of the gate of the
-/// first frame that is no command, or one that doesn't apply.
+/// Builds the table from the frames of a log. Returns `Damaged` with the offset of the gate of the
+/// first frame that encodes no command or one that doesn't apply.
 pub(crate) fn replay(alloc: Global, frames: &[Frame]) -> Result<KeyTable, StartFault>
     ensures table { IfOk result (λ table. IsReplayed (map frame_view frames.now) table.keys) }
     ensures births { IfOk result (λ table. HasRoomForBirths table.keys) }

@@ -6,13 +6,13 @@ use key_rows::{KeyCommand, KeyTable};
 use std::alloc::Global;
 use std::marker::Model;
 
-/// The number of the file that has the key log.
+/// The file of the disk with the key log.
 const KEYS: u8 = 0;
 
-/// The table of keys, and the log on file 0 of a disk from which it can be made again.
+/// The table of keys, and the log on file 0 of a disk from which it can be rebuilt.
 ///
-/// After a store fault in a commit one command is pending: the disk may or may not hold its record, and
-/// the table is as before. The next call that changes keys settles it first.
+/// If a commit ends with a store fault, its command is pending: the disk may or may not hold its
+/// record, and the table is unchanged. The next call that changes keys settles it first.
 #[derive(Drop)]
 pub struct Store {
     log: Log,
@@ -45,11 +45,12 @@ impl Store {
     ghost use Rattle.kms_store.specs.Replay.{IsReplayed, IsStuck, payloads};
     ghost use Rattle.kms_store.specs.Store.{Applies, StandsFor, IsWithOrWithout, IsWritten, IsKeyLog, IsDamagedAt, IsLeftByStart, IsOpening, Settles, next_opening};
 
-    /// Opens the key log of a disk, makes the table of its commands, and commits the record of a new
-    /// opening. It may be stopped at any moment, and started again.
+    /// Opens the key log of a disk, builds the table from its commands, and commits the record of a
+    /// new opening. A crash may stop it at any moment; a later start then works as usual.
     ///
-    /// `Damaged` comes exactly where the file is no log, or a record is no command or doesn't apply, with
-    /// the offset of its gate. `Spent` comes exactly where opening 4,294,967,295 is recorded.
+    /// Returns `Damaged` exactly if the file is not a log, or a record encodes no command or one
+    /// that doesn't apply, with the offset of its gate. Returns `Spent` exactly if opening
+    /// 4,294,967,295 is recorded.
     pub fn start<D: Disk>(alloc: Global, disk: &mut D) -> Result<Store, StartFault>
         ensures log { IfOk result (λ store. Tells (D.state disk.old) → ((commands : List KeyCommand) × (table : Table)
             × IsKeyLog ((D.state disk.old).reads 0) commands table
@@ -59,13 +60,13 @@ impl Store {
         ensures spent { IsErrOf result start.Spent → Tells (D.state disk.old) → ((commands : List KeyCommand) × (table : Table)
             × IsKeyLog ((D.state disk.old).reads 0) commands table × (table.opening ≡ 4294967295)) }
 
-        // A crash at any moment leaves what it might have left before, or the log found, now or with its end
-        // gate read as 1, or its commands with the new opening or without it.
+        // A crash at any moment leaves what it might have left before, or the log found, as it is
+        // or with its end gate read as 1, or its commands with or without the new opening.
         ensures any_moment { Tells (D.state disk.old) → LeavesOnly 0 (D.state disk.old) (D.state disk.new)
             (λ c. (D.state disk.old).leaves 0 c ⊎ IsLeftByStart ((D.state disk.old).reads 0) c) }
 
-        // Whatever the answer, since the first sync of the call it leaves the latter alone. Where that sync
-        // failed, nothing was written.
+        // Whatever the result, after the first sync of the call a crash leaves only the latter. If
+        // that sync failed, nothing was written.
         ensures since_sync { Tells (D.state disk.old) →
             (IsErrOf result start.StoreFault × LeavesOnly 0 (D.state disk.old) (D.state disk.new) ((D.state disk.old).leaves 0))
             ⊎ LeavesFrom 0 (D.state disk.old) (D.state disk.new) (IsLeftByStart ((D.state disk.old).reads 0)) }
@@ -77,7 +78,7 @@ impl Store {
         Store::open(alloc, disk, log, frames.list.as_slice())
     }
 
-    /// Makes the table of a log's frames, and records a new opening behind them.
+    /// Builds the table from the frames of a log, and records a new opening after them.
     fn open<D: Disk>(
         alloc: Global,
         disk: &mut D,
@@ -117,9 +118,9 @@ impl Store {
         }
     }
 
-    /// Writes a command to the log and then applies it to the table. All memory is taken before the log
-    /// is written: after `NoMemory` all is as before. After `StoreFault` the command is pending, and the
-    /// table is as before.
+    /// Writes a command to the log and then applies it to the table. Allocates everything before it
+    /// writes to the log: after `NoMemory` nothing has changed. After `StoreFault` the command is
+    /// pending and the table is unchanged.
     pub fn commit<D: Disk>(
         &mut self,
         alloc: Global,
@@ -139,7 +140,8 @@ impl Store {
         ensures refused { OnErr result (Tells (D.state disk.old) → (commands : List KeyCommand) → StandsFor (D.state disk.old) self.old commands
             → StandsFor (D.state disk.new) self.new commands) }
 
-        // A crash at any moment of the call leaves the commands from before it, with the new one or without.
+        // A crash at any moment of the call leaves the commands from before it, with or without the
+        // new one.
         ensures any_moment { Tells (D.state disk.old) → (commands : List KeyCommand) → StandsFor (D.state disk.old) self.old commands
             → LeavesOnly 0 (D.state disk.old) (D.state disk.new) (IsWritten commands command) }
 
@@ -158,14 +160,15 @@ impl Store {
                 self.pending = Some(command);
                 return Err(StoreRefusal::StoreFault);
             }
-            // An append never finds the log damaged.
+            // An append never returns `Damaged`.
             Err(_) => return Err(StoreRefusal::NoMemory),
         }
     }
 
-    /// Settles the pending command: it takes effect in full where the gate byte before its record reads
-    /// 1 after a sync, and is dropped where it doesn't. Where no command is pending it does nothing.
-    /// After `StoreFault`, the only refusal, it is still pending; memory was taken by the commit.
+    /// Settles the pending command. It takes effect in full if the gate byte before its record
+    /// reads 1 after a sync, and is dropped otherwise. If no command is pending, nothing happens.
+    /// After `StoreFault`, the only error, the command is still pending. The commit has allocated
+    /// the memory.
     pub fn settle<D: Disk>(&mut self, disk: &mut D) -> Result<(), StoreRefusal>
         requires stands { Tells (D.state disk.old) → ((commands : List KeyCommand) × StandsFor (D.state disk.old) self.old commands) }
 
@@ -185,7 +188,8 @@ impl Store {
             → StandsFor (D.state disk.new) self.new commands) }
         ensures fault { IsErr result → IsErrOf result store.StoreFault }
 
-        // A crash at any moment of the call leaves the commands from before it, with the pending one or without.
+        // A crash at any moment of the call leaves the commands from before it, with or without the
+        // pending one.
         ensures any_moment { Tells (D.state disk.old) → (commands : List KeyCommand) (command : KeyCommand) → StandsFor (D.state disk.old) self.old commands → self.old.pending ≡ Some command
             → LeavesOnly 0 (D.state disk.old) (D.state disk.new) (IsWithOrWithout commands command) }
 
@@ -207,7 +211,7 @@ impl Store {
         Ok(())
     }
 
-    /// The material of a version that stands. It takes no memory, and never fails.
+    /// Returns the material of an existing version. Does not allocate, and never fails.
     pub fn material<D: Disk>(
         &mut self,
         disk: &mut D,
@@ -222,17 +226,18 @@ impl Store {
         self.table.version(version).ok_or(Failed)
     }
 
-    /// The table that the acknowledged commands make.
+    /// Returns the table that the acknowledged commands make.
     pub fn table(&self) -> &KeyTable
         ensures { result.now ≡ self.now.table }
     {
         &self.table
     }
 
-    /// The number of this opening. The pending command, if there is one, applies to the table.
+    /// Returns the number of this opening. The pending command, if there is one, applies to the
+    /// table.
     pub fn opening(&self) -> u32
         ensures opening { result ≡ self.now.table.keys.opening }
-        // The log is that of file 0.
+        // The log is on file 0.
         ensures file { self.now.log.file ≡ 0 }
         ensures pending { Applies self.now.table.keys self.now.pending }
     {

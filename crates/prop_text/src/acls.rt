@@ -5,7 +5,7 @@ use hk_base::{NoMemory, Text};
 use std::alloc::Global;
 use std::marker::Model;
 
-/// Names of users or groups, which contracts see as a list.
+/// Names of users or groups. Contracts see a list.
 #[derive(Drop)]
 pub struct TextList {
     texts: Vec<Text>,
@@ -20,7 +20,7 @@ impl Model for TextList {
 }
 
 impl TextList {
-    /// No names. It takes no memory.
+    /// Creates an empty list. Does not allocate.
     pub fn new(alloc: Global) -> TextList
         ensures { result ≡ [] }
     {
@@ -29,7 +29,7 @@ impl TextList {
         }
     }
 
-    /// Adds a name at the end. Where memory is wanting the list stays as it was.
+    /// Appends a name. Returns `NoMemory` if allocation fails; the list is then unchanged.
     pub fn push(&mut self, text: Text) -> Result<(), NoMemory>
         ensures ok { OnOk result (self.new ≡ self.old ++ text ∷ []) }
         ensures err { OnErr result (self.new ≡ self.old) }
@@ -45,7 +45,7 @@ impl TextList {
     }
 }
 
-/// Who is meant: everybody, or these users and the users of these groups.
+/// An access control list: everybody, or these users and the users of these groups.
 #[derive(Drop)]
 pub struct Acl {
     pub everybody: bool,

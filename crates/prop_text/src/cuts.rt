@@ -1,4 +1,4 @@
-//! Cutting bytes.
+//! Splitting bytes.
 ghost use Rattle.std.specs.Prelude.{◌≡◌, ◌∷◌, ◌<◌, [], ℕ, List, length, position, All, false, None, Some, IfNone, MatchOption};
 ghost use Rattle.std.specs.List.{slice_split};
 ghost use Rattle.std.specs.Option.{option_copied};
@@ -6,14 +6,14 @@ ghost use Rattle.prop_text.specs.Acls.{is_comma, is_space};
 ghost use Rattle.prop_text.specs.Names.{before, behind};
 ghost use Rattle.prop_text.specs.Properties.{cut_at_equals, is_equals, is_lf, lines_of, without_cr};
 
-/// What stands behind a front, or `None` where the bytes begin otherwise.
+/// Returns the bytes after a prefix, or `None` if they do not begin with it.
 pub fn behind<'a>(front: &[u8], bytes: &'a [u8]) -> Option<&'a [u8]>
     ensures { option_copied result ≡ behind front.now bytes.now }
 {
     bytes.strip_prefix(front)
 }
 
-/// What stands before an end, or `None` where the bytes end otherwise.
+/// Returns the bytes before a suffix, or `None` if they do not end with it.
 pub fn before<'a>(end: &[u8], bytes: &'a [u8]) -> Option<&'a [u8]>
     ensures { option_copied result ≡ before end.now bytes.now }
 {
@@ -47,7 +47,7 @@ fn equals_in(bytes: &[u8]) -> Option<usize>
     bytes.iter().position(|byte| *byte == b'=')
 }
 
-/// The first part of a list, and what stands behind the comma, where there is one.
+/// Splits a list at its first comma: the first part, and the rest if there is a comma.
 pub fn cut_at_comma(bytes: &[u8]) -> (&[u8], Option<&[u8]>)
     ensures cut { MatchOption result.1 (slice_split is_comma bytes.now ≡ result.0.now ∷ []) (λ rest. slice_split is_comma bytes.now ≡ result.0.now ∷ slice_split is_comma rest.now) }
     ensures shorter { MatchOption result.1 (result.0.now ≡ bytes.now) (λ rest. length rest.now < length bytes.now) }
@@ -58,7 +58,7 @@ pub fn cut_at_comma(bytes: &[u8]) -> (&[u8], Option<&[u8]>)
     }
 }
 
-/// What stands before the first space, and what stands behind it, where there is one.
+/// Splits bytes at the first space: the part before it, and the rest if there is a space.
 pub fn cut_at_space(bytes: &[u8]) -> (&[u8], Option<&[u8]>)
     ensures { MatchOption result.1 (slice_split is_space bytes.now ≡ result.0.now ∷ []) (λ rest. slice_split is_space bytes.now ≡ result.0.now ∷ slice_split is_space rest.now) }
 {
@@ -68,7 +68,7 @@ pub fn cut_at_space(bytes: &[u8]) -> (&[u8], Option<&[u8]>)
     }
 }
 
-/// The bytes where they have no space, or `None` where they have one.
+/// Returns the bytes, or `None` if they contain a space.
 pub fn without_space(bytes: &[u8]) -> Option<&[u8]>
     ensures { MatchOption result ((part : List ℕ) → ¬ (slice_split is_space bytes.now ≡ part ∷ [])) (λ part. slice_split is_space bytes.now ≡ part.now ∷ []) }
 {
@@ -79,7 +79,7 @@ pub fn without_space(bytes: &[u8]) -> Option<&[u8]>
     }
 }
 
-/// Name and value of a line, cut at the first `=`, or `None` where there is none.
+/// Splits a line at its first `=` into name and value, or returns `None` if there is none.
 pub fn cut_at_equals(line: &[u8]) -> Option<(&[u8], &[u8])>
     ensures { MatchOption result (cut_at_equals line.now ≡ None) (λ parts. cut_at_equals line.now ≡ Some (parts.0.now, parts.1.now)) }
 {
@@ -98,7 +98,7 @@ fn without_cr(line: &[u8]) -> &[u8]
     }
 }
 
-/// The first line of a text, and what stands behind its LF, where it has one.
+/// Splits a text at its first LF: the line, and the rest if there is an LF.
 pub fn cut_line(text: &[u8]) -> (&[u8], Option<&[u8]>)
     ensures cut { MatchOption result.1 (lines_of text.now ≡ result.0.now ∷ []) (λ rest. lines_of text.now ≡ result.0.now ∷ lines_of rest.now) }
     ensures shorter { MatchOption result.1 (result.0.now ≡ text.now) (λ rest. length rest.now < length text.now) }

@@ -1,21 +1,21 @@
-//! Why a text is no properties.
+//! Errors of reading properties.
 
 use hk_base::NoMemory;
 
-/// Why a text is no properties. The number is that of the first line at fault, from 1, empty lines
-/// and comments counted. On one line `UnknownName` comes before `Repeated`, and `Repeated` before a
-/// bad value.
+/// Why a text could not be read as properties. `number` is the number of the first bad line, from
+/// 1; empty lines and comments count. On one line `UnknownName` takes precedence over `Repeated`,
+/// and `Repeated` over a bad value.
 #[derive(Clone, Copy, Debug, PartialEq, Eq)]
 pub enum PropFault {
-    /// The line has no `=`, or its name does not take its value.
+    /// The line has no `=`, or its value is not allowed for its name.
     BadLine { number: u64 },
-    /// An earlier line has the name.
+    /// An earlier line has the same name.
     Repeated { number: u64 },
     /// The name is not known.
     UnknownName { number: u64 },
     /// The text has more than 1,048,576 bytes.
     TooLong,
-    /// There is no memory for the properties.
+    /// Allocation failed.
     NoMemory,
 }
 

@@ -1,5 +1,5 @@
-//! The properties of the key management service, `kms-acls.properties`: access control lists, groups
-//! and sizes, read from a text.
+//! Reads the properties of the key management service, `kms-acls.properties`: access control lists,
+//! groups and sizes.
 #![tactic(auto)]
 
 mod acls;
@@ -20,6 +20,3 @@ pub use lines::{LineList, PropLine};
 pub use props::{Props, read_props};
 pub use seen::Names;
 pub use sizes::Sizes;
-
-#[cfg(test)]
-mod tests;

@@ -10,31 +10,31 @@ use std::marker::Model;
 /// What a line of the properties sets.
 #[derive(Drop)]
 pub enum PropLine {
-    /// `hadoop.kms.acl.OP`: who may ask the operation of the service.
+    /// `hadoop.kms.acl.OP`: who may request this operation of the service.
     Service { op: AclOp, acl: Acl },
-    /// `hadoop.kms.blacklist.OP`: who may not.
+    /// `hadoop.kms.blacklist.OP`: who may not request it.
     Blacklist { op: AclOp, acl: Acl },
-    /// `key.acl.K.OP`: who may do the operation on the key.
+    /// `key.acl.K.OP`: who may do this operation on the key.
     Key { key: KeyName, op: AclOp, acl: Acl },
-    /// `key.acl.K.ALL`: who may do each operation on the key.
+    /// `key.acl.K.ALL`: who may do any operation on the key.
     KeyAll { key: KeyName, acl: Acl },
-    /// `default.key.acl.OP`: who may do the operation on a key that has no lines of its own.
+    /// `default.key.acl.OP`: who may do this operation on keys without lines of their own.
     Default { op: AclOp, acl: Acl },
-    /// `whitelist.key.acl.OP`: who may do the operation on every key.
+    /// `whitelist.key.acl.OP`: who may do this operation on every key.
     Whitelist { op: AclOp, acl: Acl },
     /// `group.G`: the users of a group.
     Group { group: Text, users: TextList },
-    /// `hkms.queue.size`: how many ready keys a queue has when it is full, 1 to 10,000.
+    /// `hkms.queue.size`: the number of ready keys in a full queue, 1 to 10,000.
     QueueSize { size: u16 },
-    /// `hkms.queue.watermark`: with how many ready keys a queue is low, 1 to 10,000.
+    /// `hkms.queue.watermark`: the number of ready keys at which a queue is low, 1 to 10,000.
     QueueWatermark { size: u16 },
-    /// `hkms.reencrypt.batch`: how many files a batch of a re-encryption has, 1 to 1,000.
+    /// `hkms.reencrypt.batch`: the number of files in a batch of a re-encryption, 1 to 1,000.
     BatchSize { size: u16 },
-    /// `hkms.cache`: how many materials are kept at hand, 1 to 65,535.
+    /// `hkms.cache`: the number of cached materials, 1 to 65,535.
     CacheSize { size: u16 },
 }
 
-/// Lines of the properties in their order, which contracts see as a list.
+/// Lines of the properties in order. Contracts see a list.
 #[derive(Drop)]
 pub struct LineList {
     lines: Vec<PropLine>,
@@ -50,7 +50,7 @@ impl Model for LineList {
 }
 
 impl LineList {
-    /// No lines. It takes no memory.
+    /// Creates an empty list. Does not allocate.
     pub fn new(alloc: Global) -> LineList
         ensures { result ≡ [] }
     {
@@ -59,7 +59,7 @@ impl LineList {
         }
     }
 
-    /// Adds a line at the end. Where memory is wanting the list stays as it was.
+    /// Appends a line. Returns `NoMemory` if allocation fails; the list is then unchanged.
     pub fn push(&mut self, line: PropLine) -> Result<(), NoMemory>
         ensures ok { OnOk result (self.new ≡ self.old ++ line ∷ []) }
         ensures err { OnErr result (self.new ≡ self.old) }

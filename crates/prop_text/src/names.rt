@@ -1,4 +1,4 @@
-//! Reading the names of properties.
+//! Parsing the names of properties.
 ghost use Rattle.std.specs.Prelude.{◌≡◌};
 ghost use Rattle.std.specs.List.{list_all};
 ghost use Rattle.prop_text.specs.Acls.{is_plain};
@@ -9,7 +9,7 @@ use crate::setting::{AclPlace, Setting, SizeName};
 use hk_base::KeyName;
 use kms_calls::AclOp;
 
-/// The operation of the service that has this name.
+/// Returns the operation of the service with this name.
 #[tactic(auto, unfolding(crate::specs::Names::service_op))]
 fn service_op(text: &[u8]) -> Option<AclOp>
     ensures { result ≡ service_op text.now }
@@ -44,7 +44,7 @@ fn service_op(text: &[u8]) -> Option<AclOp>
     None
 }
 
-/// The operation on a key that has this name.
+/// Returns the operation on a key with this name.
 #[tactic(auto, unfolding(crate::specs::Names::key_op))]
 fn key_op(text: &[u8]) -> Option<AclOp>
     ensures { result ≡ key_op text.now }
@@ -100,7 +100,7 @@ fn whitelist_place(name: &[u8]) -> Option<AclPlace>
     Some(AclPlace::Whitelist { op })
 }
 
-/// The key before an end.
+/// Parses a key name before a suffix.
 #[tactic(auto, unfolding(crate::specs::Names::key_before))]
 fn key_before(end: &[u8], bytes: &[u8]) -> Option<KeyName>
     ensures { result ≡ key_before end.now bytes.now }
@@ -109,7 +109,7 @@ fn key_before(end: &[u8], bytes: &[u8]) -> Option<KeyName>
     KeyName::read(name)
 }
 
-/// `K.OP` for one operation, of which the end is given.
+/// Parses `K.OP` for one operation, given by its suffix.
 #[tactic(auto, unfolding(crate::specs::Names::key_with))]
 fn key_with(op: AclOp, end: &[u8], bytes: &[u8]) -> Option<AclPlace>
     ensures { result ≡ key_with op end.now bytes.now }
@@ -118,7 +118,7 @@ fn key_with(op: AclOp, end: &[u8], bytes: &[u8]) -> Option<AclPlace>
     Some(AclPlace::Key { key, op })
 }
 
-/// `K.ALL`.
+/// Parses `K.ALL`.
 #[tactic(auto, unfolding(crate::specs::Names::key_all))]
 fn key_all(bytes: &[u8]) -> Option<AclPlace>
     ensures { result ≡ key_all bytes.now }
@@ -127,7 +127,7 @@ fn key_all(bytes: &[u8]) -> Option<AclPlace>
     Some(AclPlace::KeyAll { key })
 }
 
-/// `K.OP` or `K.ALL`.
+/// Parses `K.OP` or `K.ALL`.
 #[tactic(auto, unfolding(crate::specs::Names::key_place))]
 fn key_and_op(bytes: &[u8]) -> Option<AclPlace>
     ensures { result ≡ key_place bytes.now }
@@ -155,7 +155,7 @@ fn key_place(name: &[u8]) -> Option<AclPlace>
     key_and_op(rest)
 }
 
-/// The access control list that a name sets.
+/// Returns the access control list that a name sets.
 #[tactic(auto, unfolding(crate::specs::Names::acl_name))]
 fn acl_place(name: &[u8]) -> Option<AclPlace>
     ensures { result ≡ acl_name name.now }
@@ -175,14 +175,14 @@ fn acl_place(name: &[u8]) -> Option<AclPlace>
     whitelist_place(name)
 }
 
-/// Whether a byte is neither a space nor a comma.
+/// Returns whether a byte is neither a space nor a comma.
 pub fn is_plain(byte: u8) -> bool
     ensures { result ≡ is_plain byte }
 {
     byte != b' ' && byte != b','
 }
 
-/// Whether no byte is a space or a comma.
+/// Returns whether no byte is a space or a comma.
 pub fn each_is_plain(bytes: &[u8]) -> bool
     ensures { result ≡ list_all is_plain bytes.now }
 {
@@ -210,7 +210,7 @@ fn group_setting(name: &[u8]) -> Option<Setting>
     }
 }
 
-/// The size that a name sets.
+/// Returns the size that a name sets.
 #[tactic(auto, unfolding(crate::specs::Names::size_name))]
 fn size_name(name: &[u8]) -> Option<SizeName>
     ensures { result ≡ size_name name.now }
@@ -230,7 +230,7 @@ fn size_name(name: &[u8]) -> Option<SizeName>
     None
 }
 
-/// What a name sets, or `None` where the name is not known.
+/// Returns what a name sets, or `None` if the name is not known.
 #[tactic(auto, unfolding(crate::specs::Names::setting_of))]
 pub fn read_name(name: &[u8]) -> Option<Setting>
     ensures { result ≡ setting_of name.now }

@@ -1,4 +1,4 @@
-//! The properties of a text.
+//! Reading a whole text of properties.
 ghost use Rattle.std.specs.Prelude.{◌≤◌, length, MatchResult};
 ghost use Rattle.prop_text.specs.Properties.{HasFault, IsProps};
 
@@ -9,18 +9,18 @@ use crate::reading::Reading;
 use crate::sizes::Sizes;
 use std::alloc::Global;
 
-/// How many bytes a text of properties has at most.
+/// The largest size of a text of properties, in bytes.
 const LONGEST_TEXT: usize = 1048576;
 
-/// The properties: their lines in order, and the four sizes.
+/// Properties: their lines in order, and the four sizes.
 #[derive(Drop)]
 pub struct Props {
     pub lines: LineList,
     pub sizes: Sizes,
 }
 
-/// Reads a text to its properties, or to the first line at fault. It takes memory for the lines, and
-/// time that rises with the number of lines times its logarithm.
+/// Reads properties from a text, or reports the first bad line. Takes memory for the lines, and
+/// time O(n log n) in the number of lines.
 pub fn read_props(alloc: Global, bytes: &[u8]) -> Result<Props, PropFault>
     ensures { MatchResult result (IsProps bytes.now) (HasFault bytes.now) }
 {

@@ -14,7 +14,7 @@ use crate::sizes::Sizes;
 use crate::values::read_value;
 use std::alloc::Global;
 
-/// What was read so far: the names that were set, the lines, and the sizes.
+/// The result so far: the names that were set, the lines, and the sizes.
 #[derive(Drop)]
 pub struct Reading {
     pub names: Names,
@@ -22,7 +22,7 @@ pub struct Reading {
     pub sizes: Sizes,
 }
 
-/// Whether a line says nothing: it is empty, or a comment.
+/// Returns whether a line is empty or a comment.
 fn is_quiet(line: &[u8]) -> bool
     ensures { result ≡ is_quiet line.now }
 {
@@ -43,7 +43,7 @@ fn default_sizes() -> Sizes
     }
 }
 
-/// The sizes after a line.
+/// Returns the sizes after a line.
 fn with_line(sizes: Sizes, line: &PropLine) -> Sizes
     requires { IsInRange line.now }
     ensures { result ≡ with_line sizes line.now }
@@ -76,7 +76,7 @@ fn with_line(sizes: Sizes, line: &PropLine) -> Sizes
 }
 
 impl Reading {
-    /// Nothing was read. It takes no memory.
+    /// Creates the state before the first line. Does not allocate.
     pub fn new(alloc: Global) -> Reading
         ensures names { result.names ≡ [] }
         ensures lines { result.lines ≡ [] }
@@ -89,7 +89,7 @@ impl Reading {
         }
     }
 
-    /// Reads what a known name is set to, in the line of this number.
+    /// Reads the value of a known name in line `number`.
     fn read_set(
         &mut self,
         alloc: Global,
@@ -113,7 +113,7 @@ impl Reading {
         Ok(())
     }
 
-    /// Reads the line of this number. After an error it is of no use.
+    /// Reads line `number`. After an error the state must not be used again.
     pub fn read_line(&mut self, alloc: Global, number: u64, line: &[u8]) -> Result<(), PropFault>
         ensures { MatchResult result (λ _. ReadsLine self.old self.new line.now) (LineHasFault self.old.names number line.now) }
     {

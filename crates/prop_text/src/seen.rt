@@ -1,4 +1,4 @@
-//! Names that were set.
+//! Sets of names.
 ghost use Rattle.std.specs.Prelude.{◌≡◌, ℕ, List, [], ◌||◌, not, IfOk, OnOk};
 ghost use Rattle.std.specs.Str.{bytes_eq};
 ghost use Rattle.prop_text.specs.Properties.{is_among};
@@ -8,7 +8,7 @@ use std::alloc::Global;
 use std::collections::BTreeSet;
 use std::marker::Model;
 
-/// Names, each kept once, which contracts see as a list in some order.
+/// A set of names. Contracts see a list in some order.
 #[derive(Drop)]
 pub struct Names {
     alloc: Global,
@@ -24,7 +24,7 @@ impl Model for Names {
 }
 
 impl Names {
-    /// No names. It takes no memory.
+    /// Creates an empty set. Does not allocate.
     pub fn new(alloc: Global) -> Names
         ensures { result ≡ [] }
     {
@@ -34,7 +34,7 @@ impl Names {
         }
     }
 
-    /// Adds a name. Answers whether it is new. It takes time logarithmic in the number of names.
+    /// Adds a name and returns whether it is new. Takes time logarithmic in the number of names.
     pub fn add(&mut self, name: &[u8]) -> Result<bool, NoMemory>
         ensures new { IfOk result (λ new. new ≡ not (is_among name.now self.old)) }
         ensures added { OnOk result ((other : List ℕ) → is_among other self.new ≡ (bytes_eq other name.now || is_among other self.old)) }
@@ -44,7 +44,7 @@ impl Names {
         Ok(new)
     }
 
-    /// Whether the name is there. It takes time logarithmic in the number of names.
+    /// Returns whether the set has the name. Takes time logarithmic in the number of names.
     pub fn has(&self, name: &[u8]) -> bool
         ensures { result ≡ is_among name.now self.now }
     {

@@ -3,7 +3,7 @@
 use hk_base::KeyName;
 use kms_calls::AclOp;
 
-/// Which access control list a name sets.
+/// The access control list that a name sets.
 #[derive(Drop)]
 pub enum AclPlace {
     Service { op: AclOp },
@@ -14,7 +14,7 @@ pub enum AclPlace {
     Whitelist { op: AclOp },
 }
 
-/// Which size a name sets.
+/// The size that a name sets.
 #[derive(Clone, Copy)]
 pub enum SizeName {
     QueueSize,

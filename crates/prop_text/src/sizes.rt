@@ -5,13 +5,13 @@ use std::marker::Model;
 /// Sizes that the properties may set, each within its range.
 #[derive(Clone, Copy, Debug, PartialEq, Eq)]
 pub struct Sizes {
-    /// How many ready keys a queue has when it is full, 1 to 10,000; 500 where no line gives it.
+    /// The number of ready keys in a full queue, 1 to 10,000. The default is 500.
     pub queue: u16,
-    /// With how many ready keys a queue is low, 1 to 10,000; 150 where no line gives it.
+    /// The number of ready keys at which a queue is low, 1 to 10,000. The default is 150.
     pub watermark: u16,
-    /// How many files a batch of a re-encryption has, 1 to 1,000; 1,000 where no line gives it.
+    /// The number of files in a batch of a re-encryption, 1 to 1,000. The default is 1,000.
     pub batch: u16,
-    /// How many materials are kept at hand, 1 to 65,535; 1,000 where no line gives it.
+    /// The number of cached materials, 1 to 65,535. The default is 1,000.
     pub cache: u16,
 }
 

@@ -1,4 +1,4 @@
-//! Reading the values of properties.
+//! Parsing the values of properties.
 ghost use Rattle.std.specs.Prelude.{◌≡◌, ◌≤◌, [], ℕ, List, All, false, IfOk, MatchOption};
 ghost use Rattle.std.specs.List.{slice_split};
 ghost use Rattle.std.specs.Str.{IsUtf8};
@@ -15,7 +15,7 @@ use crate::setting::{AclPlace, Setting, SizeName};
 use hk_base::{NoMemory, Text, read_number};
 use std::alloc::Global;
 
-/// The bytes as a text, or `None` where they are not UTF-8.
+/// Converts UTF-8 bytes to a text. Returns `None` if the bytes are not UTF-8.
 fn read_text(alloc: Global, bytes: &[u8]) -> Result<Option<Text>, NoMemory>
     ensures { IfOk result (λ found. MatchOption found (¬ IsUtf8 bytes.now) (λ text. (text ≡ bytes.now) × IsUtf8 bytes.now)) }
 {
@@ -23,7 +23,7 @@ fn read_text(alloc: Global, bytes: &[u8]) -> Result<Option<Text>, NoMemory>
     Ok(Text::from_utf8(bytes))
 }
 
-/// The name of a user or a group that the bytes are, or `None` where they are none.
+/// Parses the name of a user or a group. Returns `None` if the bytes are not a name.
 fn read_name(alloc: Global, bytes: &[u8]) -> Result<Option<Text>, NoMemory>
     ensures { IfOk result (λ found. MatchOption found (¬ IsName bytes.now) (λ name. (name ≡ bytes.now) × IsName bytes.now)) }
 {
@@ -40,7 +40,7 @@ fn read_name(alloc: Global, bytes: &[u8]) -> Result<Option<Text>, NoMemory>
     read_text(alloc, bytes)
 }
 
-/// The names that stand between commas, or `None` where one of the parts is no name.
+/// Parses names separated by commas. Returns `None` if a part is not a name.
 fn read_parts(alloc: Global, bytes: &[u8]) -> Result<Option<TextList>, NoMemory>
     ensures { IfOk result (λ found. MatchOption found (¬ All IsName (slice_split is_comma bytes.now)) (λ names. (slice_split is_comma bytes.now ≡ names) × All IsName names)) }
 {
@@ -59,7 +59,7 @@ fn read_parts(alloc: Global, bytes: &[u8]) -> Result<Option<TextList>, NoMemory>
     }
 }
 
-/// The list of names that the bytes spell, which may be empty, or `None` where they spell none.
+/// Parses a list of names, which may be empty. Returns `None` if the bytes are not such a list.
 fn read_names(alloc: Global, bytes: &[u8]) -> Result<Option<TextList>, NoMemory>
     ensures { IfOk result (λ found. MatchOption found ((names : List (List ℕ)) → ¬ SpellsNames bytes.now names) (SpellsNames bytes.now)) }
 {
@@ -72,7 +72,7 @@ fn read_names(alloc: Global, bytes: &[u8]) -> Result<Option<TextList>, NoMemory>
     Ok(Some(names))
 }
 
-/// The users and the groups that the bytes spell.
+/// Parses users and groups, separated by a space.
 fn read_users_and_groups(alloc: Global, bytes: &[u8]) -> Result<Option<Acl>, NoMemory>
     ensures { IfOk result (λ found. MatchOption found ((users groups : List (List ℕ)) → ¬ SpellsParts (slice_split is_space bytes.now) users groups) (λ acl. (acl.everybody ≡ false) × SpellsParts (slice_split is_space bytes.now) acl.users acl.groups)) }
 {
@@ -96,7 +96,7 @@ fn read_users_and_groups(alloc: Global, bytes: &[u8]) -> Result<Option<Acl>, NoM
     }))
 }
 
-/// Users without groups.
+/// Creates a list of users without groups.
 fn read_users(alloc: Global, bytes: &[u8]) -> Result<Option<Acl>, NoMemory>
     ensures { IfOk result (λ found. MatchOption found ((users : List (List ℕ)) → ¬ SpellsNames bytes.now users) (λ acl. (acl.everybody ≡ false) × SpellsNames bytes.now acl.users × (acl.groups ≡ []))) }
 {
@@ -110,7 +110,7 @@ fn read_users(alloc: Global, bytes: &[u8]) -> Result<Option<Acl>, NoMemory>
     }))
 }
 
-/// The access control list that the bytes spell, or `None` where they spell none.
+/// Parses an access control list. Returns `None` if the bytes are not one.
 fn read_acl(alloc: Global, bytes: &[u8]) -> Result<Option<Acl>, NoMemory>
     ensures { IfOk result (λ found. MatchOption found ((acl : Acl) → ¬ SpellsAcl bytes.now acl) (SpellsAcl bytes.now)) }
 {
@@ -200,8 +200,8 @@ fn read_size(which: SizeName, value: &[u8]) -> Option<PropLine>
     Some(size_line(which, number as u16))
 }
 
-/// The line that a value says under a name that sets this, or `None` where the name does not take the
-/// value.
+/// Parses a value for a name that sets this, and returns the line. Returns `None` if the value is
+/// not allowed for the name.
 pub fn read_value(
     alloc: Global,
     what: Setting,
