@@ -1,13 +1,15 @@
 -- The last line, and a replay as a whole.
-use Rattle.std.proofs.Common.{◌≡◌, ◌⊎◌, inl, inr, ℕ, zero, suc, Bool, List, [], ◌++◌, length, refl, ap, sym, ◌∙◌, subst, IsTrue, Option, append_assoc}
+use Rattle.std.proofs.Common.{◌≡◌, ◌⊎◌, inl, inr, ℕ, zero, suc, Bool, List, [], ◌++◌, length, refl, ap, sym, ◌∙◌, subst, ◌≤◌, IsTrue, Option, Some, append_assoc, arith}
 use Rattle.std.specs.Io.KnownBytes.{Appends}
 use Rattle.std.proofs.KnownBytes.{Appends-trans, Appends-nil}
 use Rattle.hk_base.specs.Disk.{DiskState, Tells}
+use Rattle.hk_base.specs.Faults.{Rose}
 use Rattle.hk_base.specs.Writing.{WroteFront}
 use Rattle.frame_log.specs.declared.fault.StartFault.{StartFault}
 use Rattle.frame_log.specs.declared.fault.StartFault.TheVariants as start
 use Rattle.kms_store.specs.Store.{IsLeftByStart}
 use Rattle.name_store.specs.Store.{IsLeftByStart as IsLeftByNameStart}
+use Rattle.kms_core.proofs.ServiceLemmas.{rose_before, rose_since}
 use Rattle.prop_text.specs.declared.lines.PropLine.{PropLine}
 use Rattle.prop_text.specs.declared.faults.PropFault.{PropFault}
 use Rattle.prop_text.specs.declared.faults.PropFault.TheVariants as prop_fault
@@ -23,7 +25,7 @@ use Rattle.hkms_commands.specs.declared.props.PropsFault.TheVariants as props_fa
 use Rattle.hkms_commands.specs.Properties.{HasPropsFault, ReadsProperties}
 use Rattle.hkms_commands.specs.Run.{History, Runs, lines_in, logged_in, transcript, world_after}
 use Rattle.hkms_commands.specs.Replay.{IsTold, NotOpened, OnDisk, Played, ReadsAt, Replay, ReplayUnder, RestartStops, Says, SurvivesUntil, ended_by, ended_by_props, ended_by_text, last_line, opened_logs, status_of}
-use Rattle.hkms_commands.specs.Steps.{Closes, Ran}
+use Rattle.hkms_commands.specs.Steps.{Caused, Closes, Ran}
 use Rattle.hkms_commands.proofs.BeganLemmas.{Synced, promise_kept, since_kept, survives_kept}
 use Rattle.hkms_commands.proofs.LivedLemmas.{tells_now}
 
@@ -232,3 +234,22 @@ stopped stop how lines written now c no_memory no_write = go c.last_is c.writes
     go o (inr (end, front)) = absurd (no_write end)
     go (inl is) (inl (end, more)) = sym is ∙ sym end
     go (inr is) (inl (end, more)) = absurd (no_memory (end ∙ is))
+
+-- the causes of an end for which a replay stopped are those of the end once its last line was written
+pub closed_cause : (input input' out mid out' disk disk' : ℕ) (stop how : Ended) (lines : ℕ) (written now : Option (List ℕ)) → Closes stop lines written now how → Caused input input' out mid disk disk' (Some stop)
+    → mid ≤ out' → (how ≡ ended.WriteFault → (stop ≡ ended.WriteFault) ⊎ Rose mid out') → Caused input input' out out' disk disk' (Some how)
+closed_cause input input' out mid out' disk disk' stop how lines written now c caused later write = record {
+  read_later = caused.read_later;
+  write_later = omega (arith, caused.write_later, later);
+  disk_later = caused.disk_later;
+  read = λ e. let is : how ≡ ended.ReadFault = cc in caused.read (ap some_end (stopped_by stop lines written now how ended.ReadFault c (λ e. cc e) (λ e. cc e) is));
+  write = λ e. let is : how ≡ ended.WriteFault = cc in by_output (write is);
+  store = λ e. let is : how ≡ ended.StoreFault = cc in caused.store (ap some_end (stopped_by stop lines written now how ended.StoreFault c (λ e. cc e) (λ e. cc e) is));
+}
+  where
+    some_end : Ended → Option Ended
+    some_end e = Some e
+
+    by_output : (stop ≡ ended.WriteFault) ⊎ Rose mid out' → Rose out out'
+    by_output (inl is) = rose_before out mid out' later (caused.write (ap some_end is))
+    by_output (inr rose) = rose_since out mid out' caused.write_later rose

@@ -206,3 +206,11 @@ pub record Ran (lines : List PropLine) (old new : DiskState) (r : RunningWorld) 
   pub wrote : Appends written now text
   pub told : IsTold stop text (transcript history)
   pub counted : count ≡ length (lines_in history)
+
+-- Lines were played, until one of them ended the replay, and its last line was written behind them.
+pub record RanToEnd (lines : List PropLine) (old new : DiskState) (r : RunningWorld) (words : ℕ → ℕ) (left written now : Option (List ℕ)) (how : Ended) : Type 0 where
+  pub body : Option (List ℕ)
+  pub stop : Ended
+  pub count : ℕ
+  pub ran : Ran lines old new r words left written body stop count
+  pub closes : Closes stop count body now how

@@ -2,21 +2,13 @@
 //! an input and an output of the caller's.
 #![tactic(auto)]
 
-#[cfg(test)]
-mod acl_tests;
 mod command;
 mod lines;
-#[cfg(test)]
-mod log_tests;
 mod opening;
 mod pipe;
-#[cfg(test)]
-mod pipe_tests;
 mod props;
 mod replay;
 mod stage;
-#[cfg(test)]
-mod tests;
 
 pub use command::hkms;
 pub use pipe::run_pipe;

@@ -1,6 +1,11 @@
 //! Serves a connection whose bytes are the input and the output.
-ghost use Rattle.std.specs.Prelude.{◌≡◌, ◌⊎◌};
+ghost use Rattle.std.specs.Prelude.{◌≡◌, ◌⊎◌, ℕ, List};
 ghost use Rattle.hk_base.specs.Faults.{Rose};
+ghost use Rattle.http_wire.specs.Reading.{ahead};
+ghost use Rattle.world_run.specs.World.{RunningWorld};
+ghost use Rattle.hk_serve.specs.declared.ended.Ended.{Ended};
+ghost use Rattle.hk_serve.specs.Served.{Served};
+ghost use Rattle.hk_serve.specs.Worlds.{Happens, IsReady};
 ghost use Rattle.hkms_commands.specs.Pipe.{Pipe, PipeUnder, connection_status};
 
 use crate::opening::open_logs;
@@ -10,6 +15,7 @@ use hk_base::{Clock, Disk, Sink, Source, Words};
 use hk_serve::{Ended, serve_world};
 use prop_text::Props;
 use std::alloc::Global;
+use world_run::World;
 
 /// The status of a connection.
 fn connection_status(ended: Ended) -> u8
@@ -41,12 +47,31 @@ fn pipe_under<S: Source, K: Sink, D: Disk, W: Words, C: Clock>(
     ensures write { result ≡ 8 → Rose (K.faults out.old) (K.faults out.new) }
     ensures store { result ≡ 5 → Rose (D.state disk.old).faults (D.state disk.new).faults }
 {
-    let mut world = match open_logs(alloc, disk, props) {
-        Err(why) => return status_of(ended_by(why)),
-        Ok(world) => world,
-    };
-    let ended = serve_world(alloc, input, out, &mut world, disk, rand, clock);
-    connection_status(ended)
+    match open_logs(alloc, disk, props) {
+        Err(why) => status_of(ended_by(why)),
+        Ok(world) => connection_status(serve_in(alloc, world, input, out, disk, rand, clock)),
+    }
+}
+
+/// Serves the connection with services that were started.
+fn serve_in<S: Source, K: Sink, D: Disk, W: Words, C: Clock>(
+    alloc: Global,
+    world: World,
+    input: &mut S,
+    out: &mut K,
+    disk: &mut D,
+    rand: &mut W,
+    clock: &mut C,
+) -> Ended
+    requires { IsReady D.state (record { disk = disk.old; world = world; words = rand.old }) }
+    ensures served { (unused : List ℕ) × (then : RunningWorld) × Served (Happens D.state W.to_come)
+        (record { ahead = S.left input.old; desk = record { disk = disk.old; world = world; words = rand.old }; written = K.written out.old })
+        (record { ahead = ahead unused (S.left input.new); desk = record { disk = disk.new; world = then; words = rand.new }; written = K.written out.new }) result }
+    ensures read_fault { result ≡ Ended.ReadFault → Rose (S.faults input.old) (S.faults input.new) }
+    ensures write_fault { result ≡ Ended.WriteFault → Rose (K.faults out.old) (K.faults out.new) }
+{
+    let mut world = world;
+    serve_world(alloc, input, out, &mut world, disk, rand, clock)
 }
 
 /// Serves the requests of the input, a connection of HTTP/1.1, over the key log on file 0 of a disk

@@ -1,5 +1,5 @@
 //! Replays the event lines of an input.
-ghost use Rattle.std.specs.Prelude.{◌≡◌, ◌⊎◌, ◌≤◌, ◌<◌, ◌^◌, List, [], Some, length, codes, string_bytes, MatchResult};
+ghost use Rattle.std.specs.Prelude.{◌≡◌, ◌⊎◌, ◌≤◌, ◌<◌, ◌^◌, ℕ, List, [], Some, length, codes, string_bytes, MatchResult};
 ghost use Rattle.std.specs.Io.KnownBytes.{IsAtEnd};
 ghost use Rattle.hk_base.specs.Disk.{Tells};
 ghost use Rattle.hk_base.specs.Faults.{Rose};
@@ -7,7 +7,7 @@ ghost use Rattle.hk_base.specs.Reading.{ahead};
 ghost use Rattle.prop_text.specs.declared.lines.PropLine.{PropLine};
 ghost use Rattle.world_run.specs.Acknowledged.{Acknowledged, HoldsLogs};
 ghost use Rattle.hkms_commands.specs.Replay.{Replay, ReplayUnder, damaged_in, ended_by, ended_by_props, ended_by_text, last_line, status_of};
-ghost use Rattle.hkms_commands.specs.Steps.{Caused, Closes, HasLists, LinePlayed, Next, Ran, WritesLast};
+ghost use Rattle.hkms_commands.specs.Steps.{Caused, Closes, HasLists, LinePlayed, Next, Ran, RanToEnd, WritesLast};
 ghost use Rattle.hkms_commands.specs.declared.replay.Ended.{Ended};
 
 use crate::lines::{Got, read_line};
@@ -148,6 +148,25 @@ impl Replaying {
         }
     }
 
+    /// Plays the lines of the input until one of them ends the replay, and writes the last line.
+    fn run_to_end<S: Source, D: Disk, K: Sink, W: Words>(
+        &mut self,
+        input: &mut S,
+        disk: &mut D,
+        out: &mut K,
+        words: &mut W,
+    ) -> Ended
+        requires fresh { (self.old.stage.events ≡ 0) × (self.old.count ≡ 0) × (self.old.reader.used ≡ 0) × (self.old.reader.bytes ≡ []) }
+        requires lists { (lines : List PropLine) × HasLists self.old.stage.world lines }
+        requires stands { Tells (D.state disk.old) → ((done : Acknowledged) × HoldsLogs (D.state disk.old) self.old.stage.world done) }
+        ensures ran { (lines : List PropLine) → HasLists self.old.stage.world lines → RanToEnd lines (D.state disk.old) (D.state disk.new) self.old.stage.world (W.to_come words.old) (S.left input.old) (K.written out.old) (K.written out.new) result }
+        ensures end { result ≡ Ended.Done → IsAtEnd (S.left input.new) }
+        ensures caused { Caused (S.faults input.old) (S.faults input.new) (K.faults out.old) (K.faults out.new) (D.state disk.old).faults (D.state disk.new).faults (Some result) }
+    {
+        let stop = self.run(input, disk, out, words);
+        finish(self.stage.alloc, out, stop, self.count)
+    }
+
     /// Reads the next line and plays it. `None` where the replay goes on.
     fn next<S: Source, D: Disk, K: Sink, W: Words>(
         &mut self,
@@ -228,35 +247,75 @@ fn finish<K: Sink>(alloc: Global, out: &mut K, stop: Ended, count: u64) -> Ended
         Ended::StoreFault => written_or_fault(out, b"store fault\n", Ended::StoreFault),
         Ended::Spent => written_or_fault(out, b"openings spent\n", Ended::Spent),
         Ended::AclTooLong => written_or_fault(out, b"acl too long\n", Ended::AclTooLong),
-        Ended::BadLine => {
-            let line = count + 1;
-            numbered(
-                out,
-                format!(in alloc; "line {line} refused\n"),
-                Ended::BadLine,
-            )
-        }
-        Ended::DamagedKeys { at } => {
-            let line = format!(in alloc; "damaged keys {at}\n");
-            numbered(out, line, Ended::DamagedKeys { at })
-        }
-        Ended::DamagedNames { at } => {
-            let line = format!(in alloc; "damaged names {at}\n");
-            numbered(out, line, Ended::DamagedNames { at })
-        }
-        Ended::AclRefused { number } => {
-            let line = format!(in alloc; "acl line {number} refused\n");
-            numbered(out, line, Ended::AclRefused { number })
-        }
-        Ended::AclRepeated { number } => {
-            let line = format!(in alloc; "acl line {number} repeated\n");
-            numbered(out, line, Ended::AclRepeated { number })
-        }
-        Ended::AclUnknown { number } => {
-            let line = format!(in alloc; "acl line {number} unknown\n");
-            numbered(out, line, Ended::AclUnknown { number })
-        }
+        Ended::BadLine => bad_line(alloc, out, count),
+        Ended::DamagedKeys { at } => damaged_keys(alloc, out, at),
+        Ended::DamagedNames { at } => damaged_names(alloc, out, at),
+        Ended::AclRefused { number } => acl_refused(alloc, out, number),
+        Ended::AclRepeated { number } => acl_repeated(alloc, out, number),
+        Ended::AclUnknown { number } => acl_unknown(alloc, out, number),
     }
+}
+
+/// Writes that the line after these is refused.
+fn bad_line<K: Sink>(alloc: Global, out: &mut K, count: u64) -> Ended
+    requires { count < 2 ^ 41 }
+    ensures closes { Closes Ended.BadLine count (K.written out.old) (K.written out.new) result }
+    ensures write { result ≡ Ended.WriteFault → Rose (K.faults out.old) (K.faults out.new) }
+    ensures later { K.faults out.old ≤ K.faults out.new }
+{
+    let number = count + 1;
+    let line = format!(in alloc; "line {number} refused\n");
+    numbered(out, line, Ended::BadLine)
+}
+
+/// Writes that the key log is damaged at this offset.
+fn damaged_keys<K: Sink>(alloc: Global, out: &mut K, at: u64) -> Ended
+    ensures closes { (lines : ℕ) → Closes (Ended.DamagedKeys at) lines (K.written out.old) (K.written out.new) result }
+    ensures write { result ≡ Ended.WriteFault → Rose (K.faults out.old) (K.faults out.new) }
+    ensures later { K.faults out.old ≤ K.faults out.new }
+{
+    let line = format!(in alloc; "damaged keys {at}\n");
+    numbered(out, line, Ended::DamagedKeys { at })
+}
+
+/// Writes that the edit log is damaged at this offset.
+fn damaged_names<K: Sink>(alloc: Global, out: &mut K, at: u64) -> Ended
+    ensures closes { (lines : ℕ) → Closes (Ended.DamagedNames at) lines (K.written out.old) (K.written out.new) result }
+    ensures write { result ≡ Ended.WriteFault → Rose (K.faults out.old) (K.faults out.new) }
+    ensures later { K.faults out.old ≤ K.faults out.new }
+{
+    let line = format!(in alloc; "damaged names {at}\n");
+    numbered(out, line, Ended::DamagedNames { at })
+}
+
+/// Writes that this line of the properties is refused.
+fn acl_refused<K: Sink>(alloc: Global, out: &mut K, number: u64) -> Ended
+    ensures closes { (lines : ℕ) → Closes (Ended.AclRefused number) lines (K.written out.old) (K.written out.new) result }
+    ensures write { result ≡ Ended.WriteFault → Rose (K.faults out.old) (K.faults out.new) }
+    ensures later { K.faults out.old ≤ K.faults out.new }
+{
+    let line = format!(in alloc; "acl line {number} refused\n");
+    numbered(out, line, Ended::AclRefused { number })
+}
+
+/// Writes that this line of the properties sets a name again.
+fn acl_repeated<K: Sink>(alloc: Global, out: &mut K, number: u64) -> Ended
+    ensures closes { (lines : ℕ) → Closes (Ended.AclRepeated number) lines (K.written out.old) (K.written out.new) result }
+    ensures write { result ≡ Ended.WriteFault → Rose (K.faults out.old) (K.faults out.new) }
+    ensures later { K.faults out.old ≤ K.faults out.new }
+{
+    let line = format!(in alloc; "acl line {number} repeated\n");
+    numbered(out, line, Ended::AclRepeated { number })
+}
+
+/// Writes that this line of the properties sets a name that is not known.
+fn acl_unknown<K: Sink>(alloc: Global, out: &mut K, number: u64) -> Ended
+    ensures closes { (lines : ℕ) → Closes (Ended.AclUnknown number) lines (K.written out.old) (K.written out.new) result }
+    ensures write { result ≡ Ended.WriteFault → Rose (K.faults out.old) (K.faults out.new) }
+    ensures later { K.faults out.old ≤ K.faults out.new }
+{
+    let line = format!(in alloc; "acl line {number} unknown\n");
+    numbered(out, line, Ended::AclUnknown { number })
 }
 
 /// Writes a last line with a number, or the one of want of memory where there was none for it.
@@ -318,13 +377,29 @@ fn replay_under<S: Source, D: Disk, K: Sink, W: Words>(
     ensures write { result ≡ Ended.WriteFault → Rose (K.faults out.old) (K.faults out.new) }
     ensures store { result ≡ Ended.StoreFault → Rose (D.state disk.old).faults (D.state disk.new).faults }
 {
-    let world = match open_logs(alloc, disk, props) {
-        Err(why) => return finish(alloc, out, ended_by(why), 0),
-        Ok(world) => world,
-    };
+    match open_logs(alloc, disk, props) {
+        Err(why) => finish(alloc, out, ended_by(why), 0),
+        Ok(world) => replay_in(alloc, world, input, out, disk, rand),
+    }
+}
+
+/// Replays the input over services that were started.
+fn replay_in<S: Source, D: Disk, K: Sink, W: Words>(
+    alloc: Global,
+    world: World,
+    input: &mut S,
+    out: &mut K,
+    disk: &mut D,
+    rand: &mut W,
+) -> Ended
+    requires lists { (lines : List PropLine) × HasLists world lines }
+    requires stands { Tells (D.state disk.old) → ((done : Acknowledged) × HoldsLogs (D.state disk.old) world done) }
+    ensures ran { (lines : List PropLine) → HasLists world lines → RanToEnd lines (D.state disk.old) (D.state disk.new) world (W.to_come rand.old) (S.left input.old) (K.written out.old) (K.written out.new) result }
+    ensures end { result ≡ Ended.Done → IsAtEnd (S.left input.new) }
+    ensures caused { Caused (S.faults input.old) (S.faults input.new) (K.faults out.old) (K.faults out.new) (D.state disk.old).faults (D.state disk.new).faults (Some result) }
+{
     let mut replaying = Replaying::new(alloc, world);
-    let stop = replaying.run(input, disk, out, rand);
-    finish(alloc, out, stop, replaying.count)
+    replaying.run_to_end(input, disk, out, rand)
 }
 
 /// Replays the event lines of the input over the key log on file 0 of a disk and the edit log on file

@@ -81,8 +81,21 @@ impl Stage {
     {
         match self.world.step(disk, words, self.events + 1, event) {
             Err(why) => Play::Unopened(why),
-            Ok(told) => self.tell(&told, out),
+            Ok(told) => self.tell_line(told, out),
         }
+    }
+
+    /// Counts an event that was done, and writes its answer, which is dropped then.
+    fn tell_line<K: Sink>(&mut self, told: Line, out: &mut K) -> Play
+        requires few { self.old.events ≤ 2 ^ 40 }
+        ensures tells { TellsSo (self.old.events + 1) told (K.written out.old) (K.written out.new) result }
+        ensures world { self.new.world ≡ self.old.world }
+        ensures counted { self.new.events ≡ self.old.events + 1 }
+        ensures counts { counts result ≡ 1 }
+        ensures later { K.faults out.old ≤ K.faults out.new }
+        ensures fault { result ≡ Play.Unwritten → Rose (K.faults out.old) (K.faults out.new) }
+    {
+        self.tell(&told, out)
     }
 
     /// Counts an event that was done, and writes its answer.

@@ -12,12 +12,12 @@ returns-in-Err-clause-pipe g c = inl (record {
   status_is = c.status_of.ensures ∙ ap status_of c.ended_by.ensures;
 })
 
-pub returns-clause-pipe : goal.returns-clause-pipe
-returns-clause-pipe g c =
-    let served = c.serve_world-ended.ensures.served in
+pub returns-in-Ok-clause-pipe : goal.returns-in-Ok-clause-pipe
+returns-in-Ok-clause-pipe g c =
+    let served = c.serve_in.ensures.served in
     inr (record {
-      how = c.serve_world-ended.result;
-      converses = converses g.D.Disk.state g.W.Words.to_come c.args.props.now.lines (g.D.Disk.state c.args.disk.now) _ _ _ _ _ _ served.0 c.serve_world-ended.result
-          c.in-Ok.ensures.began c.open_logs.ensures.moments c.in-Ok.ensures.since_sync c.open_logs.ensures.sound c.open_logs.ensures.run c.in-Ok.ensures.lists served.1;
+      how = c.serve_in.result;
+      converses = converses g.D.Disk.state g.W.Words.to_come c.args.props.now.lines (g.D.Disk.state c.args.disk.now) _ _ _ _ _ _ served.0 c.serve_in.result
+          c.in-Ok.ensures.began c.open_logs.ensures.moments c.in-Ok.ensures.since_sync c.open_logs.ensures.sound c.open_logs.ensures.run c.in-Ok.ensures.lists served.1.1;
       status_is = c.connection_status.ensures;
     })
