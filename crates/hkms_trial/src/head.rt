@@ -1,0 +1,154 @@
+//! The directives in the head of a trial file.
+use crate::mistake::Mistake;
+use crate::trial::{Fault, FaultAt, Part, Sweep, Trial};
+use hk_base::Text;
+use std::alloc::Global;
+
+/// Appends a line of properties.
+pub fn add_property(alloc: Global, trial: &mut Trial, line: &[u8]) -> Result<(), Mistake> {
+    let mut properties = trial.properties.take().unwrap_or(Vec::new(alloc));
+    properties.extend_from_slice(line)?;
+    properties.push(b'\n')?;
+    trial.properties = Some(properties);
+    Ok(())
+}
+
+/// The words of a command line, divided by spaces.
+fn words_of(alloc: Global, rest: &str) -> Result<Vec<Text>, Mistake> {
+    let mut words = Vec::new(alloc);
+    for word in rest.split_whitespace() {
+        words.push(Text::of(String::from_str(alloc, word)?))?;
+    }
+    Ok(words)
+}
+
+fn number(word: &str) -> Result<u64, Mistake> {
+    match word.parse::<u64>() {
+        Ok(0) => Err(Mistake::NoNumber),
+        Ok(number) => Ok(number),
+        Err(_) => Err(Mistake::NoNumber),
+    }
+}
+
+fn size(word: &str) -> Result<usize, Mistake> {
+    let number = number(word)?;
+    usize::try_from(number).map_err(|_| Mistake::NoNumber)
+}
+
+fn part(word: &str) -> Result<Part, Mistake> {
+    match word {
+        "input" => Ok(Part::Input),
+        "output" => Ok(Part::Output),
+        "properties" => Ok(Part::Properties),
+        "disk" => Ok(Part::Disk),
+        _ => Err(Mistake::NoPart),
+    }
+}
+
+/// A word, and what follows it after a space.
+fn first_word(text: &str) -> (&str, &str) {
+    text.split_once(' ').unwrap_or((text, ""))
+}
+
+/// Reads `PART CALL ..`.
+fn add_faults(trial: &mut Trial, fault: Fault, rest: &str) -> Result<(), Mistake> {
+    let (word, calls) = first_word(rest);
+    let part = part(word)?;
+    if calls.is_empty() {
+        return Err(Mistake::NoNumber);
+    }
+    for word in calls.split_whitespace() {
+        let call = number(word)?;
+        trial.faults.push(FaultAt { part, fault, call })?;
+    }
+    Ok(())
+}
+
+fn add_draws(trial: &mut Trial, rest: &str) -> Result<(), Mistake> {
+    for word in rest.split_whitespace() {
+        match u32::from_str_radix(word, 16) {
+            Ok(draw) => trial.draws.push(draw)?,
+            Err(_) => return Err(Mistake::NoDigits),
+        }
+    }
+    Ok(())
+}
+
+/// Reads `fail PART` or `stop PART`.
+fn set_sweep(trial: &mut Trial, rest: &str) -> Result<(), Mistake> {
+    if trial.sweep.is_some() {
+        return Err(Mistake::SecondSweep);
+    }
+    let (word, rest) = first_word(rest);
+    let fault = match word {
+        "fail" => Fault::Fail,
+        "stop" => Fault::Stop,
+        _ => return Err(Mistake::Unknown),
+    };
+    let part = part(rest)?;
+    trial.sweep = Some(Sweep { part, fault });
+    Ok(())
+}
+
+/// Appends the bytes that hex digits spell; `-` spells none.
+fn add_bytes(alloc: Global, file: &mut Vec<u8>, digits: &str) -> Result<(), Mistake> {
+    if digits == "-" {
+        return Ok(());
+    }
+    match hex::decode(alloc, digits.as_bytes()) {
+        Ok(bytes) => Ok(file.extend_from_slice(bytes.as_slice())?),
+        Err(hex::FromHexError::OutOfMemory) => Err(Mistake::NoMemory),
+        Err(_) => Err(Mistake::NoDigits),
+    }
+}
+
+/// A directive that has no words after it.
+fn set_flag(trial: &mut Trial, line: &str) -> Result<(), Mistake> {
+    match line {
+        "images" => trial.images = true,
+        "files" => trial.files = true,
+        "calls" => trial.calls = true,
+        _ => return Err(Mistake::Unknown),
+    }
+    Ok(())
+}
+
+/// Takes a directive into a trial.
+pub fn read_directive(alloc: Global, trial: &mut Trial, line: &str) -> Result<(), Mistake> {
+    let (word, rest) = first_word(line);
+    match word {
+        "words" => {
+            trial.words = words_of(alloc, rest)?;
+            Ok(())
+        }
+        "no" => set_no_properties(alloc, trial, rest),
+        "draw" => add_draws(trial, rest),
+        "read" | "write" => set_size(trial, word, rest),
+        "fail" => add_faults(trial, Fault::Fail, rest),
+        "stop" => add_faults(trial, Fault::Stop, rest),
+        "each" => set_sweep(trial, rest),
+        "keys" => add_bytes(alloc, &mut trial.keys, rest),
+        "names" => add_bytes(alloc, &mut trial.names, rest),
+        _ => set_flag(trial, line),
+    }
+}
+
+/// Sets how many bytes a read or a write takes at most.
+fn set_size(trial: &mut Trial, word: &str, rest: &str) -> Result<(), Mistake> {
+    let size = size(rest)?;
+    if word == "read" {
+        trial.read = size;
+    } else {
+        trial.write = size;
+    }
+    Ok(())
+}
+
+/// Reads `no properties`.
+fn set_no_properties(alloc: Global, trial: &mut Trial, rest: &str) -> Result<(), Mistake> {
+    if rest != "properties" {
+        return Err(Mistake::Unknown);
+    }
+    trial.properties = Some(Vec::new(alloc));
+    Ok(())
+}

@@ -1,0 +1,84 @@
+#!/usr/bin/env bash
+# The trials under tests/trials, which hkms_trial runs in memory: faults and crashes, given random words, damaged logs.
+# `hkms_trial --help` lists what NAME.trial may hold. NAME.answers is what it prints; or NAME.check is a Python script that
+# reads what it prints on standard input, and prints what is wrong with it and exits with 1.
+set -u
+. "$(dirname "${BASH_SOURCE[0]}")/room.bash"
+
+crate=$PWD/crates/hkms_trial
+trial=$crate/out/hkms_trial
+stamp=$trial.built
+results=$folder/results
+mkdir "$results" || exit 1
+
+# complain TEXT
+complain() {
+    echo "tests/trials.sh: $1"
+    failures=$((failures + 1))
+}
+
+# Whether the program for trials is missing, or older than its sources.
+is_old() {
+    [ ! -x "$trial" ] || [ ! -e "$stamp" ] ||
+        [ -n "$(find crates.txt crates/*/src crates/*/specs crates/*/proofs -newer "$stamp" -type f -print -quit 2>/dev/null)" ]
+}
+
+# Builds it, over the crates of the program itself.
+build() {
+    [ "$("$hkms" build </dev/null)" = 'usage refused' ] || return 1
+    : >"$folder/started"
+    (cd "$crate" && rt run -- --help) </dev/null >"$folder/log" 2>&1
+    grep -qx 'usage: hkms_trial FILE' "$folder/log" || { cat "$folder/log"; return 1; }
+    mv "$folder/started" "$stamp"
+}
+
+# Runs the trial whose expected output or check is $1, and leaves a file about it in $results if it fails.
+run_trial() {
+    local wanted=$1 base=${1%.*} name report status=0
+    name=$(basename "$wanted")
+    report=$folder/$name
+    "$trial" "$base.trial" >"$report.report" 2>"$report.errors" || { status=$?; echo "tests/trials.sh: $base.trial: status $status"; }
+    if [ "$wanted" = "$base.check" ]; then
+        python3 "$wanted" <"$report.report" || { status=$?; echo "tests/trials.sh: $name: status $status"; }
+    else
+        diff -a "$wanted" "$report.report" || { status=$?; echo "tests/trials.sh: $name: < is expected, > is what the trial printed"; }
+    fi
+    cat "$report.errors"
+    rm -f "$report.report" "$report.errors"
+    [ "$status" -eq 0 ]
+}
+
+# Keeps what a trial that fails prints.
+keep_failure() {
+    local result=$results/${1##*/}
+    run_trial "$1" >"$result" 2>&1 && rm -f "$result"
+    return 0
+}
+export -f run_trial keep_failure
+export trial folder results
+
+! is_old || build || exit 1
+
+trials=0
+for file in tests/trials/*; do
+    base=${file%.*}
+    case $file in
+    *.trial)
+        trials=$((trials + 1))
+        [ -e "$base.answers" ] || [ -e "$base.check" ] || complain "$file has neither answers nor a check"
+        ;;
+    *.answers | *.check) [ -e "$base.trial" ] || complain "$file has no trial" ;;
+    *) complain "$file is no part of a trial" ;;
+    esac
+done
+[ "$trials" -gt 0 ] || complain 'there is no trial'
+
+find tests/trials -name '*.answers' -o -name '*.check' |
+    xargs -P "$(nproc)" -I '{}' bash -c 'keep_failure "$1"' - '{}' || complain 'not every trial was run'
+for result in "$results"/*; do
+    [ -e "$result" ] || break
+    cat "$result"
+    failures=$((failures + 1))
+done
+
+[ "$failures" -eq 0 ] || { echo "tests/trials.sh: $failures failed"; exit 1; }
