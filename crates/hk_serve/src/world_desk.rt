@@ -10,9 +10,9 @@ use crate::connection::serve_conn;
 use crate::desk::Desk;
 use crate::ended::Ended;
 use hk_base::{Clock, Disk, Sink, Source, Text, Words};
+use hk_events::{Event, Line};
 use kms_calls::{KmsCall, KmsReply};
 use std::alloc::Global;
-use hk_events::{Event, Line};
 use world_run::{World, WorldFault};
 
 /// Both services as a desk, with the disk that they were started on, random words, and the clock that

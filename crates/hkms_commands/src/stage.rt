@@ -8,9 +8,9 @@ ghost use Rattle.world_run.specs.Acknowledged.{Acknowledged, HoldsLogs};
 ghost use Rattle.hkms_commands.specs.Steps.{HasLists, PlaysSo, TellsSo, counts};
 
 use hk_base::{ByteList, Disk, Sink, Words, write_all};
+use hk_events::{Event, Line};
 use replay_text::{LineFault, read_event, write_line};
 use std::alloc::Global;
-use hk_events::{Event, Line};
 use world_run::{World, WorldFault};
 
 /// How a line was played.
