@@ -4,15 +4,20 @@ ghost use Rattle.std.specs.Fmt.{decimal};
 ghost use Rattle.std.specs.List.{flat_map};
 ghost use Rattle.hex.specs.Hex.{encode_lower};
 ghost use Rattle.percent_encoding.specs.Percent.{percent_encode};
+ghost use Rattle.hk_base.specs.Names.{version_text};
 ghost use Rattle.replay_text.specs.declared.transcript.TheConstants.{ESCAPED};
 ghost use Rattle.kms_calls.specs.Refusals.{refusal_text};
 ghost use Rattle.replay_text.specs.Transcript.{answer_text, child_part, edek_field, edek_part, edek_text, escaped_path, kept_text, key_text, line_text, material_text, meta_part, meta_text, name_part, name_refusal_text, name_text, row_front, shown_part, told_text, want_text, zone_part, zone_text};
 
-use hk_base::{ByteList, Dek, Edek, KeyName, NoMemory};
+use hk_base::{ByteList, Dek, Edek, KeyName, NoMemory, VersionName};
 use hk_events::Line;
 use itoa::Buffer;
-use kms_calls::{KeyMeta, KeyVersion, KmsRefusal, KmsReply};
-use name_calls::{AskNote, Child, NPath, NameRefusal, NameReply, Want, ZonePath};
+use kms_calls::{
+    EdekList, KeyMeta, KeyVersion, KmsRefusal, KmsReply, MetaList, NameList, VersionList,
+};
+use name_calls::{
+    AskNote, Child, ChildList, NPath, NameRefusal, NameReply, Want, ZoneList, ZonePath,
+};
 use percent_encoding::{AsciiSet, CONTROLS, percent_encode};
 use std::alloc::Global;
 
@@ -124,24 +129,52 @@ fn write_name_reply(alloc: Global, reply: &NameReply, out: &mut ByteList) -> Res
 {
     match reply {
         NameReply::Done => out.append(b"done"),
-        NameReply::Dir { id, zone, key } => {
-            write_row(alloc, b"dir ", *id, zone, out)?;
-            write_key_name(key, out)
-        }
-        NameReply::File { id, zone, edek } => {
-            write_row(alloc, b"file ", *id, zone, out)?;
-            write_edek_field(alloc, edek, out)
-        }
-        NameReply::List(children) => {
-            out.append(b"list")?;
-            write_children(alloc, children.as_slice(), out)
-        }
-        NameReply::Zones(zones) => {
-            out.append(b"zones")?;
-            write_zones(alloc, zones.as_slice(), out)
-        }
+        NameReply::Dir { id, zone, key } => write_directory(alloc, *id, zone, key, out),
+        NameReply::File { id, zone, edek } => write_file(alloc, *id, zone, edek, out),
+        NameReply::List(children) => write_child_list(alloc, children, out),
+        NameReply::Zones(zones) => write_zone_list(alloc, zones, out),
         NameReply::Refused(why) => write_refused(why, out),
     }
+}
+
+fn write_directory(
+    alloc: Global,
+    id: u64,
+    zone: &Option<NPath>,
+    key: &Option<KeyName>,
+    out: &mut ByteList,
+) -> Result<(), NoMemory>
+    ensures { OnOk result (out.new ≡ out.old ++ row_front (codes "dir ") id zone.now ++ key_text key.now) }
+{
+    write_row(alloc, b"dir ", id, zone, out)?;
+    write_key_name(key, out)
+}
+
+fn write_file(
+    alloc: Global,
+    id: u64,
+    zone: &Option<NPath>,
+    edek: &Option<Edek>,
+    out: &mut ByteList,
+) -> Result<(), NoMemory>
+    ensures { OnOk result (out.new ≡ out.old ++ row_front (codes "file ") id zone.now ++ edek_field edek.now) }
+{
+    write_row(alloc, b"file ", id, zone, out)?;
+    write_edek_field(alloc, edek, out)
+}
+
+fn write_child_list(alloc: Global, children: &ChildList, out: &mut ByteList) -> Result<(), NoMemory>
+    ensures { OnOk result (out.new ≡ out.old ++ codes "list" ++ flat_map child_part children.now) }
+{
+    out.append(b"list")?;
+    write_children(alloc, children.as_slice(), out)
+}
+
+fn write_zone_list(alloc: Global, zones: &ZoneList, out: &mut ByteList) -> Result<(), NoMemory>
+    ensures { OnOk result (out.new ≡ out.old ++ codes "zones" ++ flat_map zone_part zones.now) }
+{
+    out.append(b"zones")?;
+    write_zones(alloc, zones.as_slice(), out)
 }
 
 /// What comes before the key of a row: its kind, its id and its zone.
@@ -286,43 +319,84 @@ fn write_answer(alloc: Global, reply: &KmsReply, out: &mut ByteList) -> Result<(
     ensures { OnOk result (out.new ≡ out.old ++ answer_text reply.now) }
 {
     match reply {
-        KmsReply::Version { version, material } => {
-            out.append(b"version ")?;
-            version.write(out)?;
-            out.push(b' ')?;
-            write_material(alloc, material, out)
-        }
+        KmsReply::Version { version, material } => write_version(alloc, version, material, out),
         KmsReply::Done => out.append(b"done"),
         KmsReply::Metadata(meta) => write_meta(meta, out),
-        KmsReply::Metadatas(metas) => {
-            out.append(b"metas")?;
-            write_metas(metas.as_slice(), out)
-        }
-        KmsReply::Names(names) => {
-            out.append(b"names")?;
-            write_names(names.as_slice(), out)
-        }
-        KmsReply::Versions(versions) => {
-            out.append(b"versions")?;
-            write_versions(alloc, versions.as_slice(), out)
-        }
-        KmsReply::Ready(edeks) => {
-            out.append(b"ready")?;
-            write_edeks(alloc, edeks.as_slice(), out)
-        }
-        KmsReply::Resealed(edek) => {
-            out.append(b"resealed ")?;
-            write_edek_part(alloc, edek, out)
-        }
-        KmsReply::Key(dek) => {
-            out.append(b"key ")?;
-            write_hex(alloc, dek.as_bytes(), out)
-        }
-        KmsReply::Refused(why) => {
-            out.append(b"refused ")?;
-            why.write(out)
-        }
+        KmsReply::Metadatas(metas) => write_meta_list(metas, out),
+        KmsReply::Names(names) => write_name_list(names, out),
+        KmsReply::Versions(versions) => write_version_list(alloc, versions, out),
+        KmsReply::Ready(edeks) => write_edek_list(alloc, edeks, out),
+        KmsReply::Resealed(edek) => write_resealed(alloc, edek, out),
+        KmsReply::Key(dek) => write_key(alloc, dek, out),
+        KmsReply::Refused(why) => write_kms_refused(why, out),
     }
+}
+
+fn write_version(
+    alloc: Global,
+    version: &VersionName,
+    material: &Option<Dek>,
+    out: &mut ByteList,
+) -> Result<(), NoMemory>
+    ensures { OnOk result (out.new ≡ out.old ++ codes "version " ++ version_text version.now.key version.now.number ++ codes " " ++ material_text material.now) }
+{
+    out.append(b"version ")?;
+    version.write(out)?;
+    out.push(b' ')?;
+    write_material(alloc, material, out)
+}
+
+fn write_meta_list(metas: &MetaList, out: &mut ByteList) -> Result<(), NoMemory>
+    ensures { OnOk result (out.new ≡ out.old ++ codes "metas" ++ flat_map meta_part metas.now) }
+{
+    out.append(b"metas")?;
+    write_metas(metas.as_slice(), out)
+}
+
+fn write_name_list(names: &NameList, out: &mut ByteList) -> Result<(), NoMemory>
+    ensures { OnOk result (out.new ≡ out.old ++ codes "names" ++ flat_map name_part names.now) }
+{
+    out.append(b"names")?;
+    write_names(names.as_slice(), out)
+}
+
+fn write_version_list(
+    alloc: Global,
+    versions: &VersionList,
+    out: &mut ByteList,
+) -> Result<(), NoMemory>
+    ensures { OnOk result (out.new ≡ out.old ++ codes "versions" ++ flat_map shown_part versions.now) }
+{
+    out.append(b"versions")?;
+    write_versions(alloc, versions.as_slice(), out)
+}
+
+fn write_edek_list(alloc: Global, edeks: &EdekList, out: &mut ByteList) -> Result<(), NoMemory>
+    ensures { OnOk result (out.new ≡ out.old ++ codes "ready" ++ flat_map edek_text edeks.now) }
+{
+    out.append(b"ready")?;
+    write_edeks(alloc, edeks.as_slice(), out)
+}
+
+fn write_resealed(alloc: Global, edek: &Edek, out: &mut ByteList) -> Result<(), NoMemory>
+    ensures { OnOk result (out.new ≡ out.old ++ codes "resealed " ++ edek_part edek.now) }
+{
+    out.append(b"resealed ")?;
+    write_edek_part(alloc, edek, out)
+}
+
+fn write_key(alloc: Global, dek: &Dek, out: &mut ByteList) -> Result<(), NoMemory>
+    ensures { OnOk result (out.new ≡ out.old ++ codes "key " ++ encode_lower dek.now) }
+{
+    out.append(b"key ")?;
+    write_hex(alloc, dek.as_bytes(), out)
+}
+
+fn write_kms_refused(why: &KmsRefusal, out: &mut ByteList) -> Result<(), NoMemory>
+    ensures { OnOk result (out.new ≡ out.old ++ codes "refused " ++ refusal_text why.now) }
+{
+    out.append(b"refused ")?;
+    why.write(out)
 }
 
 fn write_material(alloc: Global, material: &Option<Dek>, out: &mut ByteList) -> Result<(), NoMemory>

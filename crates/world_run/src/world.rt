@@ -271,23 +271,20 @@ impl World {
             (λ fault. Fails (D.state disk.old) (D.state disk.new) self.old (W.to_come words.old) event fault.file fault.fault self.new (W.to_come words.new)) }
     {
         match event {
-            Event::Kms { user, call } => {
-                let reply = self.keys.act(disk, words, now, &user, call);
-                Ok(Line::Kms(reply))
-            }
+            Event::Kms { user, call } => Ok(self.call_keys(disk, words, now, user, call)),
             Event::RestartKms => self.restart_keys(disk),
             Event::RestartName => self.restart_names(disk),
-            Event::Mkdir { user, path } => Ok(self.mkdir(disk, &user, &path)),
+            Event::Mkdir { user, path } => Ok(self.mkdir(disk, user, path)),
             Event::Delete {
                 user,
                 path,
                 recursive,
-            } => Ok(self.delete(disk, &user, &path, recursive)),
-            Event::Info { user, path } => Ok(self.info(disk, &user, &path)),
-            Event::List { user, path } => Ok(self.list(disk, &user, &path)),
-            Event::Zones { user } => Ok(self.call(disk, &user, NameCall::Zones)),
-            Event::AskCreate { user, path } => Ok(self.ask_create(&user, &path)),
-            Event::AskZone { user, path, key } => Ok(self.ask_zone(&user, &path, key)),
+            } => Ok(self.delete(disk, user, path, recursive)),
+            Event::Info { user, path } => Ok(self.info(disk, user, path)),
+            Event::List { user, path } => Ok(self.list(disk, user, path)),
+            Event::Zones { user } => Ok(self.zones(disk, user)),
+            Event::AskCreate { user, path } => Ok(self.ask_create(user, path)),
+            Event::AskZone { user, path, key } => Ok(self.ask_zone(user, path, key)),
             Event::Draw { ask } => Ok(self.draw(disk, words, now, ask)),
             Event::Finish { reply } => Ok(self.finish(disk, reply)),
         }
@@ -327,6 +324,22 @@ impl World {
         Ok(Line::Opened { opening })
     }
 
+    /// A call of the key management service.
+    fn call_keys<D: Disk, W: Words>(
+        &mut self,
+        disk: &mut D,
+        words: &mut W,
+        now: u64,
+        user: Text,
+        call: KmsCall,
+    ) -> Line
+        requires stands { Tells (D.state disk.old) → ((done : Acknowledged) × HoldsLogs (D.state disk.old) self.old done) }
+        ensures { (lines : List PropLine) → ListsFor self.old.keys.acls lines → Happens lines (D.state disk.old) (D.state disk.new) self.old (W.to_come words.old) now (event.Kms user call) result self.new (W.to_come words.new) }
+    {
+        let reply = self.keys.act(disk, words, now, &user, call);
+        Line::Kms(reply)
+    }
+
     /// A call of the namesystem.
     fn call<D: Disk>(&mut self, disk: &mut D, user: &Text, call: NameCall) -> Line
         requires stands { Tells (D.state disk.old) → ((done : Acknowledged) × HoldsLogs (D.state disk.old) self.old done) }
@@ -335,71 +348,78 @@ impl World {
         Line::Name(self.names.act(disk, user, call))
     }
 
-    fn mkdir<D: Disk>(&mut self, disk: &mut D, user: &Text, path: &ByteList) -> Line
+    fn mkdir<D: Disk>(&mut self, disk: &mut D, user: Text, path: ByteList) -> Line
         requires stands { Tells (D.state disk.old) → ((done : Acknowledged) × HoldsLogs (D.state disk.old) self.old done) }
-        ensures { PathHappens (D.state disk.old) (D.state disk.new) self.old user.now call.Mkdir (read_path path.now) result self.new }
+        ensures { PathHappens (D.state disk.old) (D.state disk.new) self.old user call.Mkdir (read_path path) result self.new }
     {
         match NPath::read(self.alloc, path.as_slice()) {
             Err(fault) => Line::Name(unread(fault)),
-            Ok(path) => self.call(disk, user, NameCall::Mkdir { path }),
+            Ok(path) => self.call(disk, &user, NameCall::Mkdir { path }),
         }
     }
 
     fn delete<D: Disk>(
         &mut self,
         disk: &mut D,
-        user: &Text,
-        path: &ByteList,
+        user: Text,
+        path: ByteList,
         recursive: bool,
     ) -> Line
         requires stands { Tells (D.state disk.old) → ((done : Acknowledged) × HoldsLogs (D.state disk.old) self.old done) }
-        ensures { PathHappens (D.state disk.old) (D.state disk.new) self.old user.now (delete_with recursive) (read_path path.now) result self.new }
+        ensures { PathHappens (D.state disk.old) (D.state disk.new) self.old user (delete_with recursive) (read_path path) result self.new }
     {
         match NPath::read(self.alloc, path.as_slice()) {
             Err(fault) => Line::Name(unread(fault)),
-            Ok(path) => self.call(disk, user, NameCall::Delete { path, recursive }),
+            Ok(path) => self.call(disk, &user, NameCall::Delete { path, recursive }),
         }
     }
 
-    fn info<D: Disk>(&mut self, disk: &mut D, user: &Text, path: &ByteList) -> Line
+    fn info<D: Disk>(&mut self, disk: &mut D, user: Text, path: ByteList) -> Line
         requires stands { Tells (D.state disk.old) → ((done : Acknowledged) × HoldsLogs (D.state disk.old) self.old done) }
-        ensures { PathHappens (D.state disk.old) (D.state disk.new) self.old user.now call.Info (read_path path.now) result self.new }
+        ensures { PathHappens (D.state disk.old) (D.state disk.new) self.old user call.Info (read_path path) result self.new }
     {
         match NPath::read(self.alloc, path.as_slice()) {
             Err(fault) => Line::Name(unread(fault)),
-            Ok(path) => self.call(disk, user, NameCall::Info { path }),
+            Ok(path) => self.call(disk, &user, NameCall::Info { path }),
         }
     }
 
-    fn list<D: Disk>(&mut self, disk: &mut D, user: &Text, path: &ByteList) -> Line
+    fn zones<D: Disk>(&mut self, disk: &mut D, user: Text) -> Line
         requires stands { Tells (D.state disk.old) → ((done : Acknowledged) × HoldsLogs (D.state disk.old) self.old done) }
-        ensures { PathHappens (D.state disk.old) (D.state disk.new) self.old user.now call.List (read_path path.now) result self.new }
+        ensures { CallHappens (D.state disk.old) (D.state disk.new) self.old user call.Zones result self.new }
+    {
+        self.call(disk, &user, NameCall::Zones)
+    }
+
+    fn list<D: Disk>(&mut self, disk: &mut D, user: Text, path: ByteList) -> Line
+        requires stands { Tells (D.state disk.old) → ((done : Acknowledged) × HoldsLogs (D.state disk.old) self.old done) }
+        ensures { PathHappens (D.state disk.old) (D.state disk.new) self.old user call.List (read_path path) result self.new }
     {
         match NPath::read(self.alloc, path.as_slice()) {
             Err(fault) => Line::Name(unread(fault)),
-            Ok(path) => self.call(disk, user, NameCall::List { path }),
+            Ok(path) => self.call(disk, &user, NameCall::List { path }),
         }
     }
 
-    fn ask_create(&mut self, user: &Text, path: &ByteList) -> Line
-        ensures acts { AskAt (world_of self.old) user.now ask.Create (read_path path.now) result (world_of self.new) }
+    fn ask_create(&mut self, user: Text, path: ByteList) -> Line
+        ensures acts { AskAt (world_of self.old) user ask.Create (read_path path) result (world_of self.new) }
         ensures keys { self.new.keys ≡ self.old.keys }
         ensures store { self.new.names.store ≡ self.old.names.store }
     {
         match NPath::read(self.alloc, path.as_slice()) {
             Err(fault) => unread_ask(fault),
-            Ok(path) => self.ask(user, Ask::Create { path }),
+            Ok(path) => self.ask(&user, Ask::Create { path }),
         }
     }
 
-    fn ask_zone(&mut self, user: &Text, path: &ByteList, key: KeyName) -> Line
-        ensures acts { AskAt (world_of self.old) user.now (zone_with key) (read_path path.now) result (world_of self.new) }
+    fn ask_zone(&mut self, user: Text, path: ByteList, key: KeyName) -> Line
+        ensures acts { AskAt (world_of self.old) user (zone_with key) (read_path path) result (world_of self.new) }
         ensures keys { self.new.keys ≡ self.old.keys }
         ensures store { self.new.names.store ≡ self.old.names.store }
     {
         match NPath::read(self.alloc, path.as_slice()) {
             Err(fault) => unread_ask(fault),
-            Ok(path) => self.ask(user, Ask::Zone { path, key }),
+            Ok(path) => self.ask(&user, Ask::Zone { path, key }),
         }
     }
 

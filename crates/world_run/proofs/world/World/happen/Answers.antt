@@ -1,11 +1,11 @@
 use Rattle.hk_events.specs.declared.event.Event.TheVariants as event
-use Rattle.world_run.proofs.StepLemmas.{ask-happens, kms-happens, restart-happens, so-happens, zone-happens}
+use Rattle.world_run.proofs.StepLemmas.{ask-happens, restart-happens, so-happens, zone-happens}
 use Rattle.world_run.proofs.world.World.happen.Goals as goal
 
 pub returns-in-Kms : goal.returns-in-Kms
 returns-in-Kms g c lines lists =
-    kms-happens lines (g.D.Disk.state c.args.disk.now) (g.D.Disk.state c.act-reply.new.disk) c.args.self.now c.self.inside.keys c.act-reply.new.self c.self.inside.names c.self.inside.notes.items c.self.inside.replies.items
-    (g.W.Words.to_come c.args.words.now) (g.W.Words.to_come c.act-reply.new.words) c.args.now c.args.event c.in-Kms.user c.in-Kms.call c.act-reply.result c.self.view_is c.in-Kms.is (c.act-reply.ensures lines) lists
+    so-happens lines (g.D.Disk.state c.args.disk.now) (g.D.Disk.state c.call_keys.new.disk) c.args.self.now c.call_keys.new.self (g.W.Words.to_come c.args.words.now) (g.W.Words.to_come c.call_keys.new.words) c.args.now c.args.event (event.Kms c.in-Kms.user c.in-Kms.call) c.call_keys.result c.in-Kms.is
+    (c.call_keys.ensures lines lists)
 
 pub returns-in-RestartKms : goal.returns-in-RestartKms
 returns-in-RestartKms g c =
@@ -39,8 +39,8 @@ returns-in-List g c lines lists =
 
 pub returns-in-Zones : goal.returns-in-Zones
 returns-in-Zones g c lines lists =
-    so-happens lines (g.D.Disk.state c.args.disk.now) (g.D.Disk.state c.call.new.disk) c.args.self.now c.call.new.self (g.W.Words.to_come c.args.words.now) (g.W.Words.to_come c.args.words.now) c.args.now c.args.event (event.Zones c.in-Zones.user) c.call.result c.in-Zones.is
-    (c.call.ensures (g.W.Words.to_come c.args.words.now))
+    so-happens lines (g.D.Disk.state c.args.disk.now) (g.D.Disk.state c.zones.new.disk) c.args.self.now c.zones.new.self (g.W.Words.to_come c.args.words.now) (g.W.Words.to_come c.args.words.now) c.args.now c.args.event (event.Zones c.in-Zones.user) c.zones.result c.in-Zones.is
+    (c.zones.ensures (g.W.Words.to_come c.args.words.now))
 
 pub returns-in-AskCreate : goal.returns-in-AskCreate
 returns-in-AskCreate g c lines lists =
