@@ -2,7 +2,7 @@
 use crate::trial::{Fault, FaultAt, Part};
 
 /// How a call goes.
-#[derive(Clone, Copy, Debug, PartialEq, Eq)]
+#[derive(Clone, Copy, PartialEq, Eq)]
 pub enum Course {
     Works,
     /// It fails, and may have done a part of its work.

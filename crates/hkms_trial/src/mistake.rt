@@ -3,7 +3,7 @@ use std::alloc::{AllocError, AllocFailed};
 use std::fmt;
 
 /// A mistake in a line.
-#[derive(Clone, Copy, Debug, PartialEq, Eq)]
+#[derive(Clone, Copy)]
 pub enum Mistake {
     NoMemory,
     Unknown,
@@ -47,7 +47,7 @@ impl fmt::Display for Mistake {
 }
 
 /// Why a trial file cannot be read.
-#[derive(Clone, Copy, Debug, PartialEq, Eq)]
+#[derive(Clone, Copy)]
 pub enum TrialFault {
     /// A line, counted from 1, has a mistake.
     Line { number: u64, mistake: Mistake },

@@ -3,7 +3,7 @@ use hk_base::Text;
 use std::alloc::{AllocError, Global};
 
 /// A part of what surrounds a run.
-#[derive(Clone, Copy, Debug, PartialEq, Eq)]
+#[derive(Clone, Copy, PartialEq, Eq)]
 pub enum Part {
     Input,
     Output,
@@ -12,7 +12,7 @@ pub enum Part {
 }
 
 /// How calls of a part fail.
-#[derive(Clone, Copy, Debug, PartialEq, Eq)]
+#[derive(Clone, Copy, PartialEq, Eq)]
 pub enum Fault {
     /// One call fails.
     Fail,
@@ -21,7 +21,7 @@ pub enum Fault {
 }
 
 /// A fault at a call, counted from 1.
-#[derive(Clone, Copy, Debug, PartialEq, Eq)]
+#[derive(Clone, Copy)]
 pub struct FaultAt {
     pub part: Part,
     pub fault: Fault,
@@ -29,7 +29,7 @@ pub struct FaultAt {
 }
 
 /// The run is repeated with a fault at each call of a part in turn.
-#[derive(Clone, Copy, Debug, PartialEq, Eq)]
+#[derive(Clone, Copy)]
 pub struct Sweep {
     pub part: Part,
     pub fault: Fault,
