@@ -1,5 +1,7 @@
 #!/usr/bin/env bash
-# Requests byte by byte: heads, lengths, bodies and ends of a connection. Each case is a connection of its own.
+# Requests byte by byte: heads, lengths, bodies and ends of a connection. Each case is a connection of its own. Bytes are
+# given as formats of printf.
+# shellcheck disable=SC2059
 set -u
 . "$(dirname "${BASH_SOURCE[0]}")/room.bash"
 fresh

@@ -16,7 +16,7 @@ const BAD_NAME: Option<JsonFault> = Some(JsonFault::BadValue(Member::Name));
 const BAD_LENGTH: Option<JsonFault> = Some(JsonFault::BadValue(Member::Length));
 
 /// Bodies that create a key.
-const CREATE: [Case; 34] = [
+const CREATE: &[Case] = &[
     ("", NOT_JSON),
     ("[]", NOT_JSON),
     ("\"k\"", NOT_JSON),
@@ -72,7 +72,7 @@ const CREATE: [Case; 34] = [
 ];
 
 /// Bodies with an encrypted key.
-const EEK: [Case; 7] = [
+const EEK: &[Case] = &[
     ("[]", NOT_JSON),
     ("{\"iv\":1}", NO_NAME),
     ("{\"name\":\"k\"}", Some(JsonFault::Missing(Member::Iv))),
@@ -92,7 +92,7 @@ const EEK: [Case; 7] = [
 ];
 
 /// Elements of a batch.
-const ELEMENTS: [Case; 10] = [
+const ELEMENTS: &[Case] = &[
     ("null", Some(JsonFault::BadValue(Member::Element))),
     ("7", Some(JsonFault::BadValue(Member::Element))),
     ("{}", Some(JsonFault::Missing(Member::VersionName))),
@@ -120,7 +120,7 @@ const ELEMENTS: [Case; 10] = [
         "{\"versionName\":\"k@1\",\"iv\":\"AA\",\"encryptedKeyVersion\":{\"versionName\":\"EEK\"}}",
         Some(JsonFault::Missing(Member::Material)),
     ),
-    // The element before it is none of the fault, but the null after it is.
+    // The null after it is at fault.
     (SENT, Some(JsonFault::BadValue(Member::Element))),
 ];
 
@@ -145,8 +145,8 @@ fn batch_fault(rt: &impl Abort, alloc: Global, element: &str) -> Option<JsonFaul
     read_batch(alloc, key(rt), body.as_str().as_bytes()).err()
 }
 
-fn assert_fault(rt: &impl Abort, found: Option<JsonFault>, case: Case) {
-    let (body, wanted) = case;
+fn assert_fault(rt: &impl Abort, found: Option<JsonFault>, case: &Case) {
+    let (body, wanted) = *case;
     assert_eq!(rt; found, wanted, "{body}");
 }
 

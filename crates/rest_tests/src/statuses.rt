@@ -1,10 +1,10 @@
-//! The status of each refusal and of each fault, also of those that no request brings at will.
+//! The status of each refusal and of each fault, including those that no request can bring about.
 use kms_calls::{AclOp, AclTable, KmsRefusal, KmsReply};
 use kms_rest::{RestFault, respond, respond_fault};
 use std::alloc::Global;
 use std::process::Abort;
 
-const REFUSALS: [(KmsRefusal, u16); 14] = [
+const REFUSALS: &[(KmsRefusal, u16)] = &[
     (KmsRefusal::BadRequest, 400),
     (KmsRefusal::NoUser, 401),
     (
@@ -36,12 +36,12 @@ fn assert_status(rt: &impl Abort, alloc: Global, why: KmsRefusal, created: bool,
 #[test]
 fn each_refusal_has_its_status(rt: HostRuntime) {
     for (why, status) in REFUSALS {
-        assert_status(&rt, rt.alloc(), why, true, status);
-        assert_status(&rt, rt.alloc(), why, false, status);
+        assert_status(&rt, rt.alloc(), *why, true, *status);
+        assert_status(&rt, rt.alloc(), *why, false, *status);
     }
 }
 
-const FAULTS: [(RestFault, u16, &str); 5] = [
+const FAULTS: &[(RestFault, u16, &str)] = &[
     (
         RestFault::NoRoute,
         404,
@@ -78,6 +78,6 @@ fn assert_fault(rt: &impl Abort, alloc: Global, fault: RestFault, status: u16, b
 #[test]
 fn each_fault_has_its_status_and_its_body(rt: HostRuntime) {
     for (fault, status, body) in FAULTS {
-        assert_fault(&rt, rt.alloc(), fault, status, body);
+        assert_fault(&rt, rt.alloc(), *fault, *status, body);
     }
 }
