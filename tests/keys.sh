@@ -1,0 +1,232 @@
+#!/usr/bin/env bash
+# Keys at their limits and key logs with each byte changed or cut off, as the built program reads them.
+set -u
+. "$(dirname "${BASH_SOURCE[0]}")/room.bash"
+
+# The first run builds the program; then it is run without the script that builds it.
+[ "$("$hkms" build </dev/null)" = 'usage refused' ] || exit 1
+program=$PWD/crates/hkms_tool/out/hkms_tool
+room=$(mktemp -d -p "$quick") || exit 1
+
+# run_here: runs the program in the room, on standard input, for at most a minute.
+run_here() {
+    output=$(cd "$room" && timeout 60 "$program" replay)
+    status=$?
+}
+
+# run: the same in an empty folder.
+run() {
+    rm -rf "$room"
+    mkdir "$room" || exit 1
+    run_here
+}
+
+material=2b7e151628aed2a6abf7158809cf4f3c
+vector=0f0e0d0c0b0a09080706050403020100
+sealed=874d6191b620e3261bef6864990db6ce
+
+# ---- the limits of the table
+
+# 10,000 keys and 65,535 versions of one of them are all that there may be.
+{
+    seq -f "kms a create key-%.0f 128 $material" 0 9999
+    echo "kms a create more 128 $material"
+    echo 'kms a names'
+    yes "kms a roll key-77 $material" | head -n 65535
+    echo 'kms a metadata key-77'
+    echo 'kms a metadata key-9999'
+} >"$folder/many"
+run <"$folder/many"
+refused=$(grep -n refused <<<"$output")
+names=$(grep '^10002 names ' <<<"$output" | cut -d ' ' -f 3- | tr ' ' '\n')
+output=$refused$'\n'$(tail -n 2 <<<"$output")
+expect 'as many keys and versions as there may be' 0 '10001:10001 refused K10 TooManyKeys
+75537:75537 refused K11 TooManyVersions
+75538 meta key-77 128 65535 78
+75539 meta key-9999 128 1 10000'
+output=$(sed -n '1p;3p;$p' <<<"$names" | tr '\n' ' ') status=$(wc -l <<<"$names")
+expect 'the names of all keys' 10000 'key-0 key-10 key-9999 '
+LC_ALL=C sort -c <<<"$names"
+status=$? output=''
+expect 'the order of the names' 0 ''
+run_here <<<'kms a current key-77'
+expect 'the keys in the next run' 0 "1 version key-77@65534 $material"
+
+# A call takes 1,000 encrypted keys at most.
+batch() {
+    yes "k@0:$vector:$sealed" | head -n "$1" | tr '\n' ',' | sed 's/,$//'
+}
+{
+    echo "kms a create k 128 $material"
+    echo "kms a roll k $sealed"
+    echo "kms a batch k $(batch 999),k@1:$vector:$sealed"
+    echo "kms a batch k $(batch 1001)"
+    echo 'kms a generate k 1000'
+    echo 'kms a generate k 1001'
+} >"$folder/batches"
+run <"$folder/batches"
+counts=$(awk '$2 == "ready" { print $1, NF - 2 }' <<<"$output")
+last=$(awk '$1 == 3 { print $NF }' <<<"$output")
+refused=$(grep refused <<<"$output")
+output=$counts$'\n'$last$'\n'$refused
+expect 'batches' 0 "3 1000
+5 1000
+k@1:$vector:$sealed
+4 refused K12 TooManyAsked
+6 refused K12 TooManyAsked"
+
+# ---- properties of 10,000 lines
+
+# 5,000 keys, each with a group of its own that may read it.
+for ((i = 0; i < 5000; i++)); do
+    printf 'key.acl.k%s.READ= g%s\ngroup.g%s=u%s\n' $i $i $i $i
+done >"$folder/lines"
+rm -rf "$room"
+mkdir "$room" || exit 1
+cp "$folder/lines" "$room/kms-acls.properties"
+run_here <<'EOT'
+kms u4321 current k4321
+kms u4320 current k4321
+EOT
+expect '10000 lines of properties' 0 '1 refused K4 NoSuchKey
+2 refused K3 Denied KeyAcl READ'
+echo 'group.g2500=bob' >>"$room/kms-acls.properties"
+run_here <<<'kms u4321 current k4321'
+expect 'a name that 10000 lines repeat' 3 'acl line 10001 repeated'
+
+# ---- each byte of a log
+
+# The log of an opening, the creation of a key and its second version. Its gates lie at 8, 18, 62 and 94.
+run <<EOT
+kms a create k 128 $material
+kms a roll k $sealed
+EOT
+cp "$room/keys.log" "$folder/two"
+output=$(stat -c %s "$folder/two") status=0
+expect 'the length of the log' 0 95
+
+# gate_before PLACE: the gate at the place, or the last one before it.
+gate_before() {
+    local gate found=8
+    for gate in 8 18 62 94; do
+        [ "$gate" -gt "$1" ] || found=$gate
+    done
+    echo "$found"
+}
+
+# changed LENGTH PLACE BYTE: makes a folder with the log, cut to the length, with the byte at the place.
+changed() {
+    rm -rf "$room"
+    mkdir "$room" || exit 1
+    head -c "$1" "$folder/two" >"$room/keys.log"
+    # shellcheck disable=SC2059
+    [ -z "$3" ] || printf "\\x$3" | dd of="$room/keys.log" bs=1 seek="$2" conv=notrunc status=none
+    cp "$room/keys.log" "$folder/before"
+}
+
+# still NAME: a log that is damaged stays as it is.
+still() {
+    cmp -s "$folder/before" "$room/keys.log" || {
+        echo "tests/keys.sh: $1: the log changed"
+        failures=$((failures + 1))
+    }
+}
+
+for ((length = 0; length < 95; length++)); do
+    changed "$length" 0 ''
+    run_here <<<'kms a names'
+    if [ "$length" -le 9 ]; then
+        expect "a log cut to $length bytes" 0 '1 names'
+    else
+        expect "a log cut to $length bytes" 4 "damaged keys $(gate_before $((length - 1)))"
+        still "a log cut to $length bytes"
+    fi
+done
+
+# A changed byte of a payload is another record, or damage at the gate of its frame or a later one.
+both="1 versions k@0:$material k@1:$sealed"
+one="1 versions k@0:$material"
+for ((place = 0; place < 95; place++)); do
+    name="a log with ff at $place"
+    gate=$(gate_before "$place")
+    changed 95 "$place" ff
+    run_here <<<'kms a versions k'
+    case $place in
+    [0-7]) expect "$name" 4 'damaged keys 0' ;;
+    8 | 18) expect "$name" 0 '1 refused K4 NoSuchKey' ;;
+    62) expect "$name" 0 "$one" ;;
+    94) expect "$name" 0 "$both" ;;
+    9 | 1[0-2] | 19 | 2[0-2] | 6[3-6]) expect "$name" 4 "damaged keys $gate" ;;
+    *)
+        damage=${output#damaged keys }
+        if [ "$status" -eq 4 ] && [ "$damage" != "$output" ]; then
+            [ "$damage" -ge "$gate" ] || expect "$name" 4 "damaged keys $gate"
+        else
+            output=$(wc -w <<<"$output")
+            expect "$name" 0 4
+        fi
+        ;;
+    esac
+    [ "$status" -ne 4 ] || still "$name"
+done
+
+# The gate of the second version: it is kept exactly if the byte is 1.
+for ((gate = 0; gate < 256; gate++)); do
+    changed 95 62 "$(printf %02x "$gate")"
+    run_here <<<'kms a versions k'
+    if [ "$gate" -eq 1 ]; then
+        expect "the gate $gate" 0 "$both"
+    else
+        expect "the gate $gate" 0 "$one"
+    fi
+done
+
+# A log of 10,000 keys is read, and a record of one more is damage.
+keys_log() {
+    python3 - "$1" "$material" <<'EOT'
+import struct
+import sys
+
+log = bytearray(b'HKMSKEY1')
+
+
+def record(payload):
+    log.extend(b'\x01' + struct.pack('>I', len(payload)) + payload)
+
+
+record(b'\x01' + struct.pack('>I', 1))
+for number in range(int(sys.argv[1])):
+    name = b'%05d' % number
+    birth = struct.pack('>Q', (1 << 32) + number + 1)
+    record(b'\x02' + birth + bytes([len(name)]) + name + b'\x00\x80\x00\x00' + struct.pack('>Q', 1) + bytes.fromhex(sys.argv[2]))
+log.extend(b'\x00')
+sys.stdout.buffer.write(log)
+EOT
+}
+if command -v python3 >/dev/null; then
+    for keys in 10000 10001; do
+        rm -rf "$room"
+        mkdir "$room" || exit 1
+        keys_log "$keys" >"$room/keys.log"
+        run_here <<<'kms a names'
+        if [ "$keys" -eq 10000 ]; then
+            output=$(wc -w <<<"$output")
+            expect 'a log of 10000 keys' 0 10002
+        else
+            expect 'a log of 10001 keys' 4 'damaged keys 480018'
+        fi
+    done
+else
+    echo 'tests/keys.sh: left out, since there is no python3: a log of 10000 keys'
+fi
+
+# ---- a file that cannot be synced
+
+# No system can sync the null device.
+rm -rf "$room"
+mkdir "$room" || exit 1
+ln -s /dev/null "$room/keys.log"
+run_here <<<'kms a names'
+expect 'a log that cannot be synced' 5 'store fault'
+
+[ "$failures" -eq 0 ]
