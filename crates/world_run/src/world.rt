@@ -358,13 +358,7 @@ impl World {
         }
     }
 
-    fn delete<D: Disk>(
-        &mut self,
-        disk: &mut D,
-        user: Text,
-        path: ByteList,
-        recursive: bool,
-    ) -> Line
+    fn delete<D: Disk>(&mut self, disk: &mut D, user: Text, path: ByteList, recursive: bool) -> Line
         requires stands { Tells (D.state disk.old) → ((done : Acknowledged) × HoldsLogs (D.state disk.old) self.old done) }
         ensures { PathHappens (D.state disk.old) (D.state disk.new) self.old user (delete_with recursive) (read_path path) result self.new }
     {
