@@ -17,7 +17,7 @@ use command_line::{Order, OrderFault, read_order};
 use hk_base::{Clock, Disk, Sink, Source, Text, Words, write_all};
 use std::alloc::Global;
 
-/// Writes a text, and answers the status that goes with it, or 8 where the output failed.
+/// Writes a text. Returns `status`, or 8 if the output fails.
 fn show<K: Sink>(out: &mut K, text: &[u8], status: u8) -> u8
     requires { status < 8 }
     ensures shows { Shows text.now status (K.written out.old) (K.written out.new) result }
@@ -29,7 +29,7 @@ fn show<K: Sink>(out: &mut K, text: &[u8], status: u8) -> u8
     }
 }
 
-/// Does what an order says, as `hkms` has it.
+/// Carries out an order, with the contract of `hkms`.
 fn obey<A: Source, S: Source, K: Sink, D: Disk, W: Words, C: Clock>(
     alloc: Global,
     told: Result<Order, OrderFault>,
@@ -59,12 +59,13 @@ fn obey<A: Source, S: Source, K: Sink, D: Disk, W: Words, C: Clock>(
     }
 }
 
-/// Does what the words of the command line say, and answers the status. `replay` replays the event
-/// lines of the input, and `pipe` serves the input as a connection, both over the key log on file 0 of
-/// the disk and the edit log on file 1, and under the properties of `acls`. Help and version are shown, with status 0. Words that
-/// have a mistake are refused with status 2 and the line `usage refused`. Where there is no memory to
-/// read the words the status is 6, and the line is `no memory`. At each other order than the two
-/// commands nothing but the output is used.
+/// Carries out a command line and returns the exit status.
+///
+/// `replay` replays the event lines of the input, and `pipe` serves the input as an HTTP connection.
+/// Both use the key log on file 0 of the disk, the edit log on file 1, and the properties of `acls`.
+/// Help and version are printed with status 0. A mistake in the words gives status 2 and the line
+/// `usage refused`. If allocation fails while the words are read, the status is 6 and the line is
+/// `no memory`. Anything but the two commands uses the output alone.
 pub fn hkms<A: Source, S: Source, K: Sink, D: Disk, W: Words, C: Clock>(
     alloc: Global,
     words: &[Text],

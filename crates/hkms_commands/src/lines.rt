@@ -7,27 +7,27 @@ ghost use Rattle.hkms_commands.specs.Lines.{is_line, line_used};
 
 use hk_base::{ByteList, Next, Reader, Source};
 
-/// How many bytes a line has at most, its LF not counted.
+/// The most bytes that a line may have, without its LF.
 pub const LONGEST_LINE: usize = 1048576;
 
-/// How the reading of a line ended.
+/// How reading a line ended.
 #[derive(Clone, Copy, Debug, PartialEq, Eq)]
 pub enum Got {
-    /// The line is whole.
+    /// The line ends with an LF.
     Line,
-    /// The input is at its end, and the line is what stood behind the last LF.
+    /// The input ended; the line is what followed the last LF.
     End,
-    /// The line has more bytes than a line may have.
+    /// The line has more than [`LONGEST_LINE`] bytes.
     TooLong,
-    /// A byte past the longest input comes next.
+    /// The input goes on past its longest length.
     Past,
     /// The source failed.
     Fault,
-    /// There is no memory for the line.
+    /// Allocation failed.
     NoMemory,
 }
 
-/// Reads on to the end of a line, which is then in `line` without its LF.
+/// Reads to the end of a line, and leaves the line in `line` without its LF.
 pub fn read_line<S: Source>(reader: &mut Reader, source: &mut S, line: &mut ByteList) -> Got
     ensures consumed { result ≢ Got.NoMemory → Consumes (ahead reader.old (S.left source.old)) (ahead reader.new (S.left source.new)) (line_used result line.new) }
     ensures used { result ≢ Got.NoMemory → reader.new.used ≡ reader.old.used + length (line_used result line.new) }

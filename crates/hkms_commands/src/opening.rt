@@ -19,8 +19,8 @@ use prop_text::Props;
 use std::alloc::Global;
 use world_run::{World, WorldFault};
 
-/// Opens the key log on file 0 of a disk, and then the edit log on file 1. Calls are judged by the
-/// properties. Where a log cannot be opened, the fault says on which file it stands.
+/// Opens the key log on file 0 of a disk, then the edit log on file 1. The properties say who may do
+/// what. If a log cannot be opened, the fault names its file.
 pub fn open_logs<D: Disk>(alloc: Global, disk: &mut D, props: &Props) -> Result<World, WorldFault>
     ensures began { IfOk result (λ world. Begins (D.state disk.old) (D.state disk.new) world) }
     ensures lists { IfOk result (λ world. HasLists world props.now.lines) }

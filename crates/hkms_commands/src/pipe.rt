@@ -1,4 +1,4 @@
-//! Serves a connection whose bytes are the input and the output.
+//! Serves an HTTP connection over the input and the output.
 ghost use Rattle.std.specs.Prelude.{◌≡◌, ◌⊎◌, ℕ, List};
 ghost use Rattle.hk_base.specs.Faults.{Rose};
 ghost use Rattle.http_wire.specs.Reading.{ahead};
@@ -17,7 +17,7 @@ use prop_text::Props;
 use std::alloc::Global;
 use world_run::World;
 
-/// The status of a connection.
+/// The exit status of a connection that ended so.
 fn connection_status(ended: Ended) -> u8
     ensures { result ≡ connection_status ended }
 {
@@ -32,7 +32,7 @@ fn connection_status(ended: Ended) -> u8
     }
 }
 
-/// Opens both logs, and serves the connection under properties that were read.
+/// Opens both logs and serves the connection, with properties that were read.
 fn pipe_under<S: Source, K: Sink, D: Disk, W: Words, C: Clock>(
     alloc: Global,
     props: &Props,
@@ -53,7 +53,7 @@ fn pipe_under<S: Source, K: Sink, D: Disk, W: Words, C: Clock>(
     }
 }
 
-/// Serves the connection with services that were started.
+/// Serves the connection from a world that was opened.
 fn serve_in<S: Source, K: Sink, D: Disk, W: Words, C: Clock>(
     alloc: Global,
     world: World,
@@ -71,20 +71,28 @@ fn serve_in<S: Source, K: Sink, D: Disk, W: Words, C: Clock>(
     ensures write_fault { result ≡ Ended.WriteFault → Rose (K.faults out.old) (K.faults out.new) }
 {
     let mut world = world;
-    serve_world(alloc, input, out, &mut world, disk, rand, clock)
+    let ended = serve_world(alloc, input, out, &mut world, disk, rand, clock);
+    drop(world);
+    ended
 }
 
-/// Serves the requests of the input, a connection of HTTP/1.1, over the key log on file 0 of a disk
-/// and the edit log on file 1, and writes the responses to the output and nothing else. It reads the
-/// properties of the key management service first, to their end or to the byte past 1,048,576; then it
-/// opens both logs, and then it reads the input. Each call is judged by the lines of the properties,
-/// and happens at the moment that the clock has.
+/// Serves the HTTP/1.1 requests of the input over the key log on file 0 of a disk and the edit log on
+/// file 1, and writes only responses to the output.
 ///
-/// It answers the status: 0 where the input was read to its end between two requests, or a request
-/// closes the connection; 3 where the properties are refused, where what came is no request, and where
-/// the requests had 2^40 bytes together; 4 where a log is damaged; 5 where the disk failed when a log
-/// was opened; 6 where memory is wanting; 7 where the properties or the input could not be read; 8
-/// where the output failed; 10 where the last opening of a log is used.
+/// It first reads the properties of the key management service, to their end or to the byte past
+/// 1,048,576, then opens both logs, and then reads the input. The properties say who may make which
+/// call. A call happens at the time that the clock shows.
+///
+/// Returns the exit status:
+///
+/// - 0: the input ended between two requests, or a request closed the connection.
+/// - 3: the properties were refused, the input was no request, or the requests reached 2^40 bytes.
+/// - 4: a log is damaged.
+/// - 5: the disk failed while a log was opened.
+/// - 6: allocation failed.
+/// - 7: the properties or the input could not be read.
+/// - 8: the output failed.
+/// - 10: the last opening of a log is used up.
 pub fn run_pipe<A: Source, S: Source, K: Sink, D: Disk, W: Words, C: Clock>(
     alloc: Global,
     acls: &mut A,

@@ -1,4 +1,4 @@
-//! The properties of a replay.
+//! Reads the properties.
 ghost use Rattle.std.specs.Prelude.{◌≡◌, ◌≤◌, IfOk, IsErrOf};
 ghost use Rattle.hk_base.specs.Faults.{Rose};
 ghost use Rattle.hkms_commands.specs.Properties.{HasPropsFault, ReadsProperties, ReadsText};
@@ -9,7 +9,7 @@ use hk_base::{ByteList, Next, Reader, Source};
 use prop_text::{PropFault, Props, read_props};
 use std::alloc::Global;
 
-/// How many bytes the properties have at most.
+/// The most bytes that the properties may have.
 const LONGEST_TEXT: usize = 1048576;
 
 /// Why the properties could not be read.
@@ -17,11 +17,11 @@ const LONGEST_TEXT: usize = 1048576;
 pub enum PropsFault {
     /// The source failed.
     ReadFault,
-    /// The text is no properties.
+    /// The text is refused as properties.
     TextFault(PropFault),
 }
 
-/// Reads all that a source has, or one byte more than properties may have.
+/// Reads a source to its end, or to one byte more than properties may have.
 fn read_text<A: Source>(alloc: Global, source: &mut A) -> Result<ByteList, PropsFault>
     ensures text { IfOk result (λ text. ReadsText (A.left source.old) (A.left source.new) text) }
     ensures fault { (why : PropsFault) → IsErrOf result why → HasPropsFault (A.left source.old) why }
@@ -46,10 +46,10 @@ fn read_text<A: Source>(alloc: Global, source: &mut A) -> Result<ByteList, Props
 }
 
 /// Reads the properties of the key management service, to the end of the source or to the byte past
-/// 1,048,576. It asks for 4,096 bytes at a time. After an error the source is of no use.
+/// 1,048,576. It asks for 4,096 bytes at a time. Do not use the source after an error.
 ///
-/// `ReadFault` comes only where the source's count of faults rose. Each fault of the text but
-/// `NoMemory` comes exactly where the whole text has it.
+/// Returns `ReadFault` only if the source's count of faults rose, and a fault of the text other than
+/// `NoMemory` exactly if the whole text has it.
 pub fn read_properties<A: Source>(alloc: Global, acls: &mut A) -> Result<Props, PropsFault>
     ensures read { IfOk result (λ props. ReadsProperties (A.left acls.old) (A.left acls.new) props.lines) }
     ensures fault { (why : PropsFault) → IsErrOf result why → HasPropsFault (A.left acls.old) why }

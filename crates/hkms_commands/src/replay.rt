@@ -1,5 +1,5 @@
 //! Replays the event lines of an input.
-ghost use Rattle.std.specs.Prelude.{◌≡◌, ◌⊎◌, ◌≤◌, ◌<◌, ◌^◌, ℕ, List, [], Some, length, codes, string_bytes, MatchResult};
+ghost use Rattle.std.specs.Prelude.{◌≡◌, ◌⊎◌, ◌≤◌, ◌<◌, ◌^◌, List, [], Some, length, codes, string_bytes, MatchResult};
 ghost use Rattle.std.specs.Io.KnownBytes.{IsAtEnd};
 ghost use Rattle.hk_base.specs.Disk.{Tells};
 ghost use Rattle.hk_base.specs.Faults.{Rose};
@@ -29,7 +29,7 @@ pub enum Ended {
     AclRefused { number: u64 },
     /// This line of the properties sets a name that an earlier line set.
     AclRepeated { number: u64 },
-    /// This line of the properties sets a name that is not known.
+    /// This line of the properties sets an unknown name.
     AclUnknown { number: u64 },
     /// The properties have more than 1,048,576 bytes.
     AclTooLong,
@@ -41,17 +41,17 @@ pub enum Ended {
     DamagedNames { at: u64 },
     /// The disk failed when a log was opened.
     StoreFault,
-    /// Memory was wanting.
+    /// Allocation failed.
     NoMemory,
     /// The input or the source of the properties failed.
     ReadFault,
     /// The output failed.
     WriteFault,
-    /// The last opening of a log is used.
+    /// The last opening of a log is used up.
     Spent,
 }
 
-/// How a replay ends where the text of the properties has a fault.
+/// How a replay ends if the text of the properties has a fault.
 fn ended_by_text(fault: PropFault) -> Ended
     ensures { result ≡ ended_by_text fault }
 {
@@ -64,7 +64,7 @@ fn ended_by_text(fault: PropFault) -> Ended
     }
 }
 
-/// How a replay ends where the properties could not be read.
+/// How a replay ends if the properties cannot be read.
 pub fn ended_by_props(fault: PropsFault) -> Ended
     ensures { result ≡ ended_by_props fault }
 {
@@ -74,7 +74,7 @@ pub fn ended_by_props(fault: PropsFault) -> Ended
     }
 }
 
-/// How a replay ends where the log on a file is damaged.
+/// How a replay ends if the log on a file is damaged.
 fn damaged_in(file: u8, at: u64) -> Ended
     ensures { result ≡ damaged_in file at }
 {
@@ -84,7 +84,7 @@ fn damaged_in(file: u8, at: u64) -> Ended
     }
 }
 
-/// How a replay ends where a log could not be opened.
+/// How a replay ends if a log cannot be opened.
 pub fn ended_by(why: WorldFault) -> Ended
     ensures { result ≡ ended_by why.file why.fault }
 {
@@ -96,7 +96,7 @@ pub fn ended_by(why: WorldFault) -> Ended
     }
 }
 
-/// A replay between two lines: what was read ahead, and how many lines were played.
+/// A replay between two lines: what was read ahead, and the number of lines played.
 #[derive(Drop)]
 struct Replaying {
     reader: Reader,
@@ -106,7 +106,7 @@ struct Replaying {
 }
 
 impl Replaying {
-    /// Stands before the first line, over services that were started.
+    /// A replay before its first line.
     fn new(alloc: Global, world: World) -> Replaying
         ensures world { result.stage.world ≡ world }
         ensures fresh { (result.stage.events ≡ 0) × (result.count ≡ 0) × (result.reader.used ≡ 0) × (result.reader.bytes ≡ []) }
@@ -124,7 +124,7 @@ impl Replaying {
         }
     }
 
-    /// Plays the lines of the input, until one of them ends the replay.
+    /// Plays the lines of the input until the replay ends.
     fn run<S: Source, D: Disk, K: Sink, W: Words>(
         &mut self,
         input: &mut S,
@@ -148,7 +148,7 @@ impl Replaying {
         }
     }
 
-    /// Plays the lines of the input until one of them ends the replay, and writes the last line.
+    /// Plays the lines of the input until the replay ends, and writes its last line.
     fn run_to_end<S: Source, D: Disk, K: Sink, W: Words>(
         &mut self,
         input: &mut S,
@@ -167,7 +167,7 @@ impl Replaying {
         finish(self.stage.alloc, out, stop, self.count)
     }
 
-    /// Reads the next line and plays it. `None` where the replay goes on.
+    /// Reads the next line and plays it. Returns `None` if the replay goes on.
     fn next<S: Source, D: Disk, K: Sink, W: Words>(
         &mut self,
         input: &mut S,
@@ -194,7 +194,7 @@ impl Replaying {
         }
     }
 
-    /// Plays the line that was read, which may be the last one.
+    /// Plays the line that was read; `last` says whether it ends the input.
     fn play<D: Disk, K: Sink, W: Words>(
         &mut self,
         last: bool,
@@ -232,7 +232,7 @@ impl Replaying {
     }
 }
 
-/// Writes the last line, where there is one, and tells how the replay ends then.
+/// Writes the last line if the end has one. Returns how the replay ends then.
 fn finish<K: Sink>(alloc: Global, out: &mut K, stop: Ended, count: u64) -> Ended
     requires { count < 2 ^ 41 }
     ensures closes { Closes stop count (K.written out.old) (K.written out.new) result }
@@ -247,78 +247,38 @@ fn finish<K: Sink>(alloc: Global, out: &mut K, stop: Ended, count: u64) -> Ended
         Ended::StoreFault => written_or_fault(out, b"store fault\n", Ended::StoreFault),
         Ended::Spent => written_or_fault(out, b"openings spent\n", Ended::Spent),
         Ended::AclTooLong => written_or_fault(out, b"acl too long\n", Ended::AclTooLong),
-        Ended::BadLine => bad_line(alloc, out, count),
-        Ended::DamagedKeys { at } => damaged_keys(alloc, out, at),
-        Ended::DamagedNames { at } => damaged_names(alloc, out, at),
-        Ended::AclRefused { number } => acl_refused(alloc, out, number),
-        Ended::AclRepeated { number } => acl_repeated(alloc, out, number),
-        Ended::AclUnknown { number } => acl_unknown(alloc, out, number),
+        Ended::BadLine => {
+            let line = count + 1;
+            numbered(
+                out,
+                format!(in alloc; "line {line} refused\n"),
+                Ended::BadLine,
+            )
+        }
+        Ended::DamagedKeys { at } => {
+            let line = format!(in alloc; "damaged keys {at}\n");
+            numbered(out, line, Ended::DamagedKeys { at })
+        }
+        Ended::DamagedNames { at } => {
+            let line = format!(in alloc; "damaged names {at}\n");
+            numbered(out, line, Ended::DamagedNames { at })
+        }
+        Ended::AclRefused { number } => {
+            let line = format!(in alloc; "acl line {number} refused\n");
+            numbered(out, line, Ended::AclRefused { number })
+        }
+        Ended::AclRepeated { number } => {
+            let line = format!(in alloc; "acl line {number} repeated\n");
+            numbered(out, line, Ended::AclRepeated { number })
+        }
+        Ended::AclUnknown { number } => {
+            let line = format!(in alloc; "acl line {number} unknown\n");
+            numbered(out, line, Ended::AclUnknown { number })
+        }
     }
 }
 
-/// Writes that the line after these is refused.
-fn bad_line<K: Sink>(alloc: Global, out: &mut K, count: u64) -> Ended
-    requires { count < 2 ^ 41 }
-    ensures closes { Closes Ended.BadLine count (K.written out.old) (K.written out.new) result }
-    ensures write { result ≡ Ended.WriteFault → Rose (K.faults out.old) (K.faults out.new) }
-    ensures later { K.faults out.old ≤ K.faults out.new }
-{
-    let number = count + 1;
-    let line = format!(in alloc; "line {number} refused\n");
-    numbered(out, line, Ended::BadLine)
-}
-
-/// Writes that the key log is damaged at this offset.
-fn damaged_keys<K: Sink>(alloc: Global, out: &mut K, at: u64) -> Ended
-    ensures closes { (lines : ℕ) → Closes (Ended.DamagedKeys at) lines (K.written out.old) (K.written out.new) result }
-    ensures write { result ≡ Ended.WriteFault → Rose (K.faults out.old) (K.faults out.new) }
-    ensures later { K.faults out.old ≤ K.faults out.new }
-{
-    let line = format!(in alloc; "damaged keys {at}\n");
-    numbered(out, line, Ended::DamagedKeys { at })
-}
-
-/// Writes that the edit log is damaged at this offset.
-fn damaged_names<K: Sink>(alloc: Global, out: &mut K, at: u64) -> Ended
-    ensures closes { (lines : ℕ) → Closes (Ended.DamagedNames at) lines (K.written out.old) (K.written out.new) result }
-    ensures write { result ≡ Ended.WriteFault → Rose (K.faults out.old) (K.faults out.new) }
-    ensures later { K.faults out.old ≤ K.faults out.new }
-{
-    let line = format!(in alloc; "damaged names {at}\n");
-    numbered(out, line, Ended::DamagedNames { at })
-}
-
-/// Writes that this line of the properties is refused.
-fn acl_refused<K: Sink>(alloc: Global, out: &mut K, number: u64) -> Ended
-    ensures closes { (lines : ℕ) → Closes (Ended.AclRefused number) lines (K.written out.old) (K.written out.new) result }
-    ensures write { result ≡ Ended.WriteFault → Rose (K.faults out.old) (K.faults out.new) }
-    ensures later { K.faults out.old ≤ K.faults out.new }
-{
-    let line = format!(in alloc; "acl line {number} refused\n");
-    numbered(out, line, Ended::AclRefused { number })
-}
-
-/// Writes that this line of the properties sets a name again.
-fn acl_repeated<K: Sink>(alloc: Global, out: &mut K, number: u64) -> Ended
-    ensures closes { (lines : ℕ) → Closes (Ended.AclRepeated number) lines (K.written out.old) (K.written out.new) result }
-    ensures write { result ≡ Ended.WriteFault → Rose (K.faults out.old) (K.faults out.new) }
-    ensures later { K.faults out.old ≤ K.faults out.new }
-{
-    let line = format!(in alloc; "acl line {number} repeated\n");
-    numbered(out, line, Ended::AclRepeated { number })
-}
-
-/// Writes that this line of the properties sets a name that is not known.
-fn acl_unknown<K: Sink>(alloc: Global, out: &mut K, number: u64) -> Ended
-    ensures closes { (lines : ℕ) → Closes (Ended.AclUnknown number) lines (K.written out.old) (K.written out.new) result }
-    ensures write { result ≡ Ended.WriteFault → Rose (K.faults out.old) (K.faults out.new) }
-    ensures later { K.faults out.old ≤ K.faults out.new }
-{
-    let line = format!(in alloc; "acl line {number} unknown\n");
-    numbered(out, line, Ended::AclUnknown { number })
-}
-
-/// Writes a last line with a number, or the one of want of memory where there was none for it.
+/// Writes a last line with a number, or `no memory` if its allocation failed.
 fn numbered<K: Sink>(out: &mut K, line: Result<String, AllocError>, ended: Ended) -> Ended
     ensures wrote { MatchResult line (λ text. WritesLast (K.written out.old) (K.written out.new) (string_bytes text) ended result) (λ _. WritesLast (K.written out.old) (K.written out.new) (codes "no memory\n") Ended.NoMemory result) }
     ensures write { result ≡ Ended.WriteFault → (ended ≡ Ended.WriteFault) ⊎ Rose (K.faults out.old) (K.faults out.new) }
@@ -330,7 +290,7 @@ fn numbered<K: Sink>(out: &mut K, line: Result<String, AllocError>, ended: Ended
     }
 }
 
-/// Writes a last line, and tells the end that goes with it.
+/// Writes a last line. Returns `ended`, or `WriteFault` if the output fails.
 fn written_or_fault<K: Sink>(out: &mut K, last: &[u8], ended: Ended) -> Ended
     ensures wrote { WritesLast (K.written out.old) (K.written out.new) last.now ended result }
     ensures write { result ≡ Ended.WriteFault → (ended ≡ Ended.WriteFault) ⊎ Rose (K.faults out.old) (K.faults out.new) }
@@ -362,7 +322,7 @@ pub fn status_of(ended: Ended) -> u8
     }
 }
 
-/// Opens both logs, and replays the input under properties that were read.
+/// Opens both logs and replays the input, with properties that were read.
 fn replay_under<S: Source, D: Disk, K: Sink, W: Words>(
     alloc: Global,
     props: &Props,
@@ -383,7 +343,7 @@ fn replay_under<S: Source, D: Disk, K: Sink, W: Words>(
     }
 }
 
-/// Replays the input over services that were started.
+/// Replays the input in a world that was opened.
 fn replay_in<S: Source, D: Disk, K: Sink, W: Words>(
     alloc: Global,
     world: World,
@@ -399,20 +359,28 @@ fn replay_in<S: Source, D: Disk, K: Sink, W: Words>(
     ensures caused { Caused (S.faults input.old) (S.faults input.new) (K.faults out.old) (K.faults out.new) (D.state disk.old).faults (D.state disk.new).faults (Some result) }
 {
     let mut replaying = Replaying::new(alloc, world);
-    replaying.run_to_end(input, disk, out, rand)
+    let ended = replaying.run_to_end(input, disk, out, rand);
+    drop(replaying);
+    ended
 }
 
-/// Replays the event lines of the input over the key log on file 0 of a disk and the edit log on file
-/// 1. It reads the properties of the key management service first, to their end or to the byte past
-/// 1,048,576; then it opens both logs, runs each event, writes the transcript of the answers and
-/// behind it the last line that the status has. Each call of the key management service is judged by
-/// the lines of the properties.
+/// Replays the event lines of the input over the key log on file 0 of a disk and the edit log on
+/// file 1.
 ///
-/// It answers the status: 0 where the input was read to its end; 3 where the properties are refused,
-/// and at a line of the input that is refused; 4 where a log is damaged; 5 where the disk failed when
-/// a log was opened, at the start or at a restart; 6 where memory is wanting; 7 where the properties
-/// or the input could not be read; 8 where the output failed; 10 where the last opening of a log is
-/// used.
+/// It first reads the properties of the key management service, to their end or to the byte past
+/// 1,048,576, then opens both logs, runs each event, and writes the transcript of the answers,
+/// followed by the last line of the status. The properties say who may make which call.
+///
+/// Returns the exit status:
+///
+/// - 0: the input was read to its end.
+/// - 3: the properties or a line of the input were refused.
+/// - 4: a log is damaged.
+/// - 5: the disk failed while a log was opened, at the start or at a restart.
+/// - 6: allocation failed.
+/// - 7: the properties or the input could not be read.
+/// - 8: the output failed.
+/// - 10: the last opening of a log is used up.
 pub fn run_replay<A: Source, S: Source, D: Disk, K: Sink, W: Words>(
     alloc: Global,
     acls: &mut A,

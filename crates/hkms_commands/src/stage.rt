@@ -16,21 +16,21 @@ use world_run::{World, WorldFault};
 /// How a line was played.
 #[derive(Clone, Copy, Debug, PartialEq, Eq)]
 pub enum Play {
-    /// It is quiet, or its event is done and its answer written.
+    /// It has no event, or its event happened and the answer is written.
     Played,
-    /// It is a bad line.
+    /// It is refused.
     BadLine,
-    /// There was no memory to read it.
+    /// Allocation failed while it was read.
     Unread,
-    /// Its event is done, and there was no memory for the answer.
+    /// Its event happened, and allocation failed for the answer.
     Untold,
-    /// Its event is done, and the answer could not be written.
+    /// Its event happened, and the answer could not be written.
     Unwritten,
-    /// It is a restart that could not open its log.
+    /// It is a restart, and the log could not be opened.
     Unopened(WorldFault),
 }
 
-/// Both services, and how many events they have answered.
+/// Both services, and the number of events that they have answered.
 #[derive(Drop)]
 pub struct Stage {
     pub alloc: Global,
@@ -40,7 +40,7 @@ pub struct Stage {
 }
 
 impl Stage {
-    /// Plays a line, and writes the answer where it is an event.
+    /// Plays a line. If it has an event, writes the answer.
     pub fn play_line<D: Disk, K: Sink, W: Words>(
         &mut self,
         line: &[u8],
@@ -85,7 +85,7 @@ impl Stage {
         }
     }
 
-    /// Counts an event that was done, and writes its answer, which is dropped then.
+    /// Counts an event, and writes and drops its answer.
     fn tell_line<K: Sink>(&mut self, told: Line, out: &mut K) -> Play
         requires few { self.old.events ≤ 2 ^ 40 }
         ensures tells { TellsSo (self.old.events + 1) told (K.written out.old) (K.written out.new) result }
@@ -95,10 +95,12 @@ impl Stage {
         ensures later { K.faults out.old ≤ K.faults out.new }
         ensures fault { result ≡ Play.Unwritten → Rose (K.faults out.old) (K.faults out.new) }
     {
-        self.tell(&told, out)
+        let play = self.tell(&told, out);
+        drop(told);
+        play
     }
 
-    /// Counts an event that was done, and writes its answer.
+    /// Counts an event, and writes its answer.
     fn tell<K: Sink>(&mut self, told: &Line, out: &mut K) -> Play
         requires few { self.old.events ≤ 2 ^ 40 }
         ensures tells { TellsSo (self.old.events + 1) told.now (K.written out.old) (K.written out.new) result }

@@ -1,6 +1,6 @@
-use Rattle.std.proofs.Common.{refl}
+use Rattle.std.proofs.Common.{refl, string_bytes}
 use Rattle.hkms_commands.specs.declared.replay.Ended.TheVariants.{Done, AclRefused, AclRepeated, AclUnknown, BadLine, DamagedKeys, DamagedNames, WriteFault}
-use Rattle.hkms_commands.proofs.StageLemmas.{closes_as, closes_with_nothing}
+use Rattle.hkms_commands.proofs.StageLemmas.{closes_numbered, closes_with_nothing}
 use Rattle.hkms_commands.proofs.replay.finish.Goals as goal
 
 pub returns-in-Done-clause-closes : goal.returns-in-Done-clause-closes
@@ -10,19 +10,20 @@ pub returns-in-WriteFault-clause-closes : goal.returns-in-WriteFault-clause-clos
 returns-in-WriteFault-clause-closes g c = closes_with_nothing c.args.stop WriteFault c.args.count _ c.in-WriteFault.is refl
 
 pub returns-in-BadLine-clause-closes : goal.returns-in-BadLine-clause-closes
-returns-in-BadLine-clause-closes g c = closes_as c.args.stop BadLine _ c.args.count _ _ c.in-BadLine.is c.bad_line.ensures.closes
+returns-in-BadLine-clause-closes g c = closes_numbered string_bytes c.format.result c.args.stop BadLine _ c.args.count _ _ c.in-BadLine.is c.format.ensures.ok c.numbered.ensures.wrote
 
 pub returns-in-DamagedKeys-clause-closes : goal.returns-in-DamagedKeys-clause-closes
-returns-in-DamagedKeys-clause-closes g c = closes_as c.args.stop (DamagedKeys c.in-DamagedKeys.at) _ c.args.count _ _ c.in-DamagedKeys.is (c.damaged_keys.ensures.closes c.args.count)
+returns-in-DamagedKeys-clause-closes g c = closes_numbered string_bytes c.format-line.result c.args.stop (DamagedKeys c.in-DamagedKeys.at) _ c.args.count _ _ c.in-DamagedKeys.is c.format-line.ensures.ok c.numbered-in-DamagedKeys.ensures.wrote
 
 pub returns-in-DamagedNames-clause-closes : goal.returns-in-DamagedNames-clause-closes
-returns-in-DamagedNames-clause-closes g c = closes_as c.args.stop (DamagedNames c.in-DamagedNames.at) _ c.args.count _ _ c.in-DamagedNames.is (c.damaged_names.ensures.closes c.args.count)
+returns-in-DamagedNames-clause-closes g c =
+    closes_numbered string_bytes c.format-line-in-DamagedNames.result c.args.stop (DamagedNames c.in-DamagedNames.at) _ c.args.count _ _ c.in-DamagedNames.is c.format-line-in-DamagedNames.ensures.ok c.numbered-in-DamagedNames.ensures.wrote
 
 pub returns-in-AclRefused-clause-closes : goal.returns-in-AclRefused-clause-closes
-returns-in-AclRefused-clause-closes g c = closes_as c.args.stop (AclRefused c.in-AclRefused.number) _ c.args.count _ _ c.in-AclRefused.is (c.acl_refused.ensures.closes c.args.count)
+returns-in-AclRefused-clause-closes g c = closes_numbered string_bytes c.format-line-in-AclRefused.result c.args.stop (AclRefused c.in-AclRefused.number) _ c.args.count _ _ c.in-AclRefused.is c.format-line-in-AclRefused.ensures.ok c.numbered-in-AclRefused.ensures.wrote
 
 pub returns-in-AclRepeated-clause-closes : goal.returns-in-AclRepeated-clause-closes
-returns-in-AclRepeated-clause-closes g c = closes_as c.args.stop (AclRepeated c.in-AclRepeated.number) _ c.args.count _ _ c.in-AclRepeated.is (c.acl_repeated.ensures.closes c.args.count)
+returns-in-AclRepeated-clause-closes g c = closes_numbered string_bytes c.format-line-in-AclRepeated.result c.args.stop (AclRepeated c.in-AclRepeated.number) _ c.args.count _ _ c.in-AclRepeated.is c.format-line-in-AclRepeated.ensures.ok c.numbered-in-AclRepeated.ensures.wrote
 
 pub returns-in-AclUnknown-clause-closes : goal.returns-in-AclUnknown-clause-closes
-returns-in-AclUnknown-clause-closes g c = closes_as c.args.stop (AclUnknown c.in-AclUnknown.number) _ c.args.count _ _ c.in-AclUnknown.is (c.acl_unknown.ensures.closes c.args.count)
+returns-in-AclUnknown-clause-closes g c = closes_numbered string_bytes c.format-line-in-AclUnknown.result c.args.stop (AclUnknown c.in-AclUnknown.number) _ c.args.count _ _ c.in-AclUnknown.is c.format-line-in-AclUnknown.ensures.ok c.numbered-in-AclUnknown.ensures.wrote

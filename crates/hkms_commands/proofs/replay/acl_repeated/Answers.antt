@@ -1,7 +1,0 @@
-use Rattle.std.proofs.Common.{refl, string_bytes}
-use Rattle.hkms_commands.specs.declared.replay.Ended.TheVariants.{AclRepeated}
-use Rattle.hkms_commands.proofs.StageLemmas.{closes_numbered}
-use Rattle.hkms_commands.proofs.replay.acl_repeated.Goals as goal
-
-pub returns-clause-closes : goal.returns-clause-closes
-returns-clause-closes g c = λ lines. closes_numbered string_bytes c.format-line.result (AclRepeated c.args.number) (AclRepeated c.args.number) _ lines _ _ refl c.format-line.ensures.ok c.numbered.ensures.wrote
