@@ -282,7 +282,7 @@ impl World {
             } => Ok(self.delete(disk, user, path, recursive)),
             Event::Info { user, path } => Ok(self.info(disk, user, path)),
             Event::List { user, path } => Ok(self.list(disk, user, path)),
-            Event::Zones { user } => Ok(self.zones(disk, user)),
+            Event::Zones { user } => Ok(self.call(disk, &user, NameCall::Zones)),
             Event::AskCreate { user, path } => Ok(self.ask_create(user, path)),
             Event::AskZone { user, path, key } => Ok(self.ask_zone(user, path, key)),
             Event::Draw { ask } => Ok(self.draw(disk, words, now, ask)),
@@ -376,13 +376,6 @@ impl World {
             Err(fault) => Line::Name(unread(fault)),
             Ok(path) => self.call(disk, &user, NameCall::Info { path }),
         }
-    }
-
-    fn zones<D: Disk>(&mut self, disk: &mut D, user: Text) -> Line
-        requires stands { Tells (D.state disk.old) → ((done : Acknowledged) × HoldsLogs (D.state disk.old) self.old done) }
-        ensures { CallHappens (D.state disk.old) (D.state disk.new) self.old user call.Zones result self.new }
-    {
-        self.call(disk, &user, NameCall::Zones)
     }
 
     fn list<D: Disk>(&mut self, disk: &mut D, user: Text, path: ByteList) -> Line

@@ -39,8 +39,8 @@ returns-in-List g c lines lists =
 
 pub returns-in-Zones : goal.returns-in-Zones
 returns-in-Zones g c lines lists =
-    so-happens lines (g.D.Disk.state c.args.disk.now) (g.D.Disk.state c.zones.new.disk) c.args.self.now c.zones.new.self (g.W.Words.to_come c.args.words.now) (g.W.Words.to_come c.args.words.now) c.args.now c.args.event (event.Zones c.in-Zones.user) c.zones.result c.in-Zones.is
-    (c.zones.ensures (g.W.Words.to_come c.args.words.now))
+    so-happens lines (g.D.Disk.state c.args.disk.now) (g.D.Disk.state c.call.new.disk) c.args.self.now c.call.new.self (g.W.Words.to_come c.args.words.now) (g.W.Words.to_come c.args.words.now) c.args.now c.args.event (event.Zones c.in-Zones.user) c.call.result c.in-Zones.is
+    (c.call.ensures (g.W.Words.to_come c.args.words.now))
 
 pub returns-in-AskCreate : goal.returns-in-AskCreate
 returns-in-AskCreate g c lines lists =
