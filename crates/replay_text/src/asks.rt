@@ -1,4 +1,4 @@
-//! The lines of asks, and of what is kept of them.
+//! Lines of asks, draws and finishes.
 ghost use Rattle.std.specs.Prelude.{◌≡◌, ◌<◌, ◌^◌, ◌∷◌, [], ℕ, List, IfOk, MatchOption, codes};
 ghost use Rattle.std.specs.Fmt.{decimal};
 ghost use Rattle.replay_text.specs.Events.{SpellsAskCreate, SpellsAskZone, SpellsEvent, SpellsKept, fields_of};
@@ -8,7 +8,7 @@ use hk_base::{KeyName, NoMemory};
 use hk_events::Event;
 use std::alloc::Global;
 
-/// `ask U`, a verb and what the verb takes, of which `ask` is read.
+/// Reads `ask U`, a verb and its fields, from after `ask`.
 pub fn read_ask(alloc: Global, fields: &[u8]) -> Result<Option<Event>, NoMemory>
     ensures { IfOk result (λ found. MatchOption found (((user path : List ℕ) → ¬ SpellsAskCreate (codes "ask" ∷ fields_of fields.now) user path) × ((user path key : List ℕ) → ¬ SpellsAskZone (codes "ask" ∷ fields_of fields.now) user path key)) (SpellsEvent (codes "ask" ∷ fields_of fields.now))) }
 {
@@ -29,7 +29,7 @@ pub fn read_ask(alloc: Global, fields: &[u8]) -> Result<Option<Event>, NoMemory>
     Ok(None)
 }
 
-/// `ask U create P`, of which `create` is read.
+/// Reads `ask U create P`, from after `create`.
 fn read_create(alloc: Global, user: &[u8], fields: &[u8]) -> Result<Option<Event>, NoMemory>
     ensures { IfOk result (λ found. MatchOption found ((who path : List ℕ) → ¬ SpellsAskCreate (codes "ask" ∷ user.now ∷ codes "create" ∷ fields_of fields.now) who path) (SpellsEvent (codes "ask" ∷ user.now ∷ codes "create" ∷ fields_of fields.now))) }
 {
@@ -45,7 +45,7 @@ fn read_create(alloc: Global, user: &[u8], fields: &[u8]) -> Result<Option<Event
     Ok(Some(Event::AskCreate { user, path }))
 }
 
-/// `ask U zone P K`, of which `zone` is read.
+/// Reads `ask U zone P K`, from after `zone`.
 fn read_zone(alloc: Global, user: &[u8], fields: &[u8]) -> Result<Option<Event>, NoMemory>
     ensures { IfOk result (λ found. MatchOption found ((who path key : List ℕ) → ¬ SpellsAskZone (codes "ask" ∷ user.now ∷ codes "zone" ∷ fields_of fields.now) who path key) (SpellsEvent (codes "ask" ∷ user.now ∷ codes "zone" ∷ fields_of fields.now))) }
 {
@@ -68,7 +68,7 @@ fn read_zone(alloc: Global, user: &[u8], fields: &[u8]) -> Result<Option<Event>,
     Ok(Some(Event::AskZone { user, path, key }))
 }
 
-/// `draw A`, of which `draw` is read.
+/// Reads `draw A`, from after `draw`.
 pub fn read_draw(fields: &[u8]) -> Option<Event>
     ensures { MatchOption result ((ask : ℕ) → ¬ SpellsKept (codes "draw") (codes "draw" ∷ fields_of fields.now) ask) (SpellsEvent (codes "draw" ∷ fields_of fields.now)) }
 {
@@ -78,7 +78,7 @@ pub fn read_draw(fields: &[u8]) -> Option<Event>
     Some(Event::Draw { ask })
 }
 
-/// `finish R`, of which `finish` is read.
+/// Reads `finish R`, from after `finish`.
 pub fn read_finish(fields: &[u8]) -> Option<Event>
     ensures { MatchOption result ((reply : ℕ) → ¬ SpellsKept (codes "finish") (codes "finish" ∷ fields_of fields.now) reply) (SpellsEvent (codes "finish" ∷ fields_of fields.now)) }
 {
@@ -88,8 +88,8 @@ pub fn read_finish(fields: &[u8]) -> Option<Event>
     Some(Event::Finish { reply })
 }
 
-/// The number below 2^32 that the only field spells, or `None` where there are more fields or it
-/// spells none.
+/// Returns the number below 2^32 that the only field spells. Returns `None` for several fields or
+/// another spelling.
 fn only_number(fields: &[u8]) -> Option<u32>
     ensures { MatchOption result ((n : ℕ) → n < 2 ^ 32 → ¬ (fields_of fields.now ≡ decimal n ∷ [])) (λ n. (n < 2 ^ 32) × (fields_of fields.now ≡ decimal n ∷ [])) }
 {

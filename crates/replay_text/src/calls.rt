@@ -1,4 +1,4 @@
-//! The calls of event lines: what stands behind `kms` and the user.
+//! Calls of event lines: the fields after `kms` and the user.
 ghost use Rattle.std.specs.Prelude.{◌≡◌, ◌<◌, ◌^◌, ◌∷◌, [], ℕ, List, IfOk, MatchOption, Option, codes, false, true};
 ghost use Rattle.std.specs.Fmt.{decimal};
 ghost use Rattle.hk_base.specs.Names.{Version};
@@ -13,7 +13,7 @@ use hk_base::{KeyName, NoMemory, VersionName};
 use kms_calls::{Description, KmsCall};
 use std::alloc::Global;
 
-/// The call that the fields behind the user spell, or `None` where they spell none.
+/// Returns the call that the fields after the user spell, or `None` if they spell none.
 pub fn read_call(alloc: Global, fields: &[u8]) -> Result<Option<KmsCall>, NoMemory>
     ensures { IfOk result (λ found. MatchOption found ((call : KmsCall) → ¬ SpellsCall (fields_of fields.now) call) (SpellsCall (fields_of fields.now))) }
 {
@@ -27,7 +27,7 @@ pub fn read_call(alloc: Global, fields: &[u8]) -> Result<Option<KmsCall>, NoMemo
     }
 }
 
-/// The call of a verb that stands alone.
+/// Returns the call of a verb without fields.
 fn read_bare_call(verb: &[u8]) -> Option<KmsCall>
     ensures { MatchOption result (¬ (verb.now ≡ codes "names")) (λ found. (verb.now ≡ codes "names") × (found ≡ call.Names)) }
 {
@@ -37,7 +37,7 @@ fn read_bare_call(verb: &[u8]) -> Option<KmsCall>
     None
 }
 
-/// The call on keys alone that a verb and the fields behind it spell.
+/// Returns the call on keys that a verb and its fields spell. Those on encrypted keys are left out.
 fn read_key_call(alloc: Global, verb: &[u8], rest: &[u8]) -> Result<Option<KmsCall>, NoMemory>
     ensures { IfOk result (λ found. MatchOption found ((call : KmsCall) → takes_edeks call ≡ false → ¬ SpellsCall (verb.now ∷ fields_of rest.now) call) (SpellsCall (verb.now ∷ fields_of rest.now))) }
 {
@@ -71,7 +71,7 @@ fn read_key_call(alloc: Global, verb: &[u8], rest: &[u8]) -> Result<Option<KmsCa
     Ok(None)
 }
 
-/// `create K BITS H`, of which the verb is read.
+/// Reads `create K BITS H`, from after its verb.
 fn read_create(alloc: Global, fields: &[u8]) -> Result<Option<KmsCall>, NoMemory>
     ensures { IfOk result (λ found. MatchOption found ((name : List ℕ) (bits : ℕ) (material : Option (List ℕ)) (description : List ℕ) → ¬ SpellsCreate (codes "create" ∷ fields_of fields.now) name bits material description) (SpellsCall (codes "create" ∷ fields_of fields.now))) }
 {
@@ -103,7 +103,7 @@ fn read_create(alloc: Global, fields: &[u8]) -> Result<Option<KmsCall>, NoMemory
     }))
 }
 
-/// `roll K H`, of which the verb is read.
+/// Reads `roll K H`, from after its verb.
 fn read_roll(alloc: Global, fields: &[u8]) -> Result<Option<KmsCall>, NoMemory>
     ensures { IfOk result (λ found. MatchOption found ((name : List ℕ) (material : Option (List ℕ)) → ¬ SpellsRoll (codes "roll" ∷ fields_of fields.now) name material) (SpellsCall (codes "roll" ∷ fields_of fields.now))) }
 {
@@ -123,7 +123,7 @@ fn read_roll(alloc: Global, fields: &[u8]) -> Result<Option<KmsCall>, NoMemory>
     Ok(Some(KmsCall::Roll { name, material }))
 }
 
-/// `delete K`, of which the verb is read.
+/// Reads `delete K`, from after its verb.
 fn read_delete(fields: &[u8]) -> Option<KmsCall>
     ensures { MatchOption result ((name : List ℕ) → ¬ SpellsNamed (codes "delete") (codes "delete" ∷ fields_of fields.now) name) (SpellsCall (codes "delete" ∷ fields_of fields.now)) }
 {
@@ -133,7 +133,7 @@ fn read_delete(fields: &[u8]) -> Option<KmsCall>
     Some(KmsCall::Delete { name })
 }
 
-/// `invalidate K`, of which the verb is read.
+/// Reads `invalidate K`, from after its verb.
 fn read_invalidate(fields: &[u8]) -> Option<KmsCall>
     ensures { MatchOption result ((name : List ℕ) → ¬ SpellsNamed (codes "invalidate") (codes "invalidate" ∷ fields_of fields.now) name) (SpellsCall (codes "invalidate" ∷ fields_of fields.now)) }
 {
@@ -143,7 +143,7 @@ fn read_invalidate(fields: &[u8]) -> Option<KmsCall>
     Some(KmsCall::Invalidate { name })
 }
 
-/// `metadata K`, of which the verb is read.
+/// Reads `metadata K`, from after its verb.
 fn read_metadata(fields: &[u8]) -> Option<KmsCall>
     ensures { MatchOption result ((name : List ℕ) → ¬ SpellsNamed (codes "metadata") (codes "metadata" ∷ fields_of fields.now) name) (SpellsCall (codes "metadata" ∷ fields_of fields.now)) }
 {
@@ -153,7 +153,7 @@ fn read_metadata(fields: &[u8]) -> Option<KmsCall>
     Some(KmsCall::Metadata { name })
 }
 
-/// `current K`, of which the verb is read.
+/// Reads `current K`, from after its verb.
 fn read_current(fields: &[u8]) -> Option<KmsCall>
     ensures { MatchOption result ((name : List ℕ) → ¬ SpellsNamed (codes "current") (codes "current" ∷ fields_of fields.now) name) (SpellsCall (codes "current" ∷ fields_of fields.now)) }
 {
@@ -163,7 +163,7 @@ fn read_current(fields: &[u8]) -> Option<KmsCall>
     Some(KmsCall::Current { name })
 }
 
-/// `versions K`, of which the verb is read.
+/// Reads `versions K`, from after its verb.
 fn read_versions(fields: &[u8]) -> Option<KmsCall>
     ensures { MatchOption result ((name : List ℕ) → ¬ SpellsNamed (codes "versions") (codes "versions" ∷ fields_of fields.now) name) (SpellsCall (codes "versions" ∷ fields_of fields.now)) }
 {
@@ -173,7 +173,7 @@ fn read_versions(fields: &[u8]) -> Option<KmsCall>
     Some(KmsCall::Versions { name })
 }
 
-/// `metadatas K,K`, of which the verb is read.
+/// Reads `metadatas K,K`, from after its verb.
 fn read_metadatas(alloc: Global, fields: &[u8]) -> Result<Option<KmsCall>, NoMemory>
     ensures { IfOk result (λ found. MatchOption found ((names : List (List ℕ)) → ¬ SpellsMetadatas (codes "metadatas" ∷ fields_of fields.now) names) (SpellsCall (codes "metadatas" ∷ fields_of fields.now))) }
 {
@@ -186,7 +186,7 @@ fn read_metadatas(alloc: Global, fields: &[u8]) -> Result<Option<KmsCall>, NoMem
     Ok(Some(KmsCall::Metadatas { names }))
 }
 
-/// `version V`, of which the verb is read.
+/// Reads `version V`, from after its verb.
 fn read_version(fields: &[u8]) -> Option<KmsCall>
     ensures { MatchOption result ((version : Version) → ¬ SpellsVersion (codes "version" ∷ fields_of fields.now) version) (SpellsCall (codes "version" ∷ fields_of fields.now)) }
 {

@@ -1,4 +1,4 @@
-//! The calls that make or take encrypted data encryption keys.
+//! Calls that make or take encrypted data encryption keys.
 ghost use Rattle.std.specs.Prelude.{◌≡◌, ◌<◌, ◌^◌, ◌∷◌, [], ℕ, List, IfOk, MatchOption, codes, true};
 ghost use Rattle.std.specs.Fmt.{decimal};
 ghost use Rattle.kms_calls.specs.declared.calls.KmsCall.{KmsCall};
@@ -11,7 +11,7 @@ use hk_base::{KeyName, NoMemory};
 use kms_calls::{KmsCall, RawEdek};
 use std::alloc::Global;
 
-/// The call on encrypted keys that a verb and the fields behind it spell.
+/// Returns the call on encrypted keys that a verb and its fields spell.
 pub fn read_edek_call(alloc: Global, verb: &[u8], rest: &[u8]) -> Result<Option<KmsCall>, NoMemory>
     ensures { IfOk result (λ found. MatchOption found ((call : KmsCall) → takes_edeks call ≡ true → ¬ SpellsCall (verb.now ∷ fields_of rest.now) call) (SpellsCall (verb.now ∷ fields_of rest.now))) }
 {
@@ -30,7 +30,7 @@ pub fn read_edek_call(alloc: Global, verb: &[u8], rest: &[u8]) -> Result<Option<
     Ok(None)
 }
 
-/// `generate K N`, of which the verb is read.
+/// Reads `generate K N`, from after its verb.
 fn read_generate(fields: &[u8]) -> Option<KmsCall>
     ensures { MatchOption result ((name : List ℕ) (count : ℕ) → ¬ SpellsGenerate (codes "generate" ∷ fields_of fields.now) name count) (SpellsCall (codes "generate" ∷ fields_of fields.now)) }
 {
@@ -50,7 +50,7 @@ fn read_generate(fields: &[u8]) -> Option<KmsCall>
     Some(KmsCall::Generate { name, count })
 }
 
-/// `decrypt V IV H`, of which the verb is read.
+/// Reads `decrypt V IV H`, from after its verb.
 fn read_decrypt(alloc: Global, fields: &[u8]) -> Result<Option<KmsCall>, NoMemory>
     ensures { IfOk result (λ found. MatchOption found ((name : List ℕ) (sent : RawEdek) → ¬ SpellsSent (codes "decrypt") (codes "decrypt" ∷ fields_of fields.now) name sent) (SpellsCall (codes "decrypt" ∷ fields_of fields.now))) }
 {
@@ -64,7 +64,7 @@ fn read_decrypt(alloc: Global, fields: &[u8]) -> Result<Option<KmsCall>, NoMemor
     Ok(Some(KmsCall::Decrypt { name, sent }))
 }
 
-/// `reencrypt V IV H`, of which the verb is read.
+/// Reads `reencrypt V IV H`, from after its verb.
 fn read_reencrypt(alloc: Global, fields: &[u8]) -> Result<Option<KmsCall>, NoMemory>
     ensures { IfOk result (λ found. MatchOption found ((name : List ℕ) (sent : RawEdek) → ¬ SpellsSent (codes "reencrypt") (codes "reencrypt" ∷ fields_of fields.now) name sent) (SpellsCall (codes "reencrypt" ∷ fields_of fields.now))) }
 {
@@ -78,14 +78,14 @@ fn read_reencrypt(alloc: Global, fields: &[u8]) -> Result<Option<KmsCall>, NoMem
     Ok(Some(KmsCall::Reencrypt { name, sent }))
 }
 
-/// The key of the version that is said to have sealed.
+/// Returns the key of the version that sealed it.
 fn key_of(sent: &RawEdek) -> KeyName
     ensures { result ≡ sent.now.version.key }
 {
     sent.version.key
 }
 
-/// The fields `V IV H`.
+/// Reads the fields `V IV H`.
 fn edek_fields(fields: &[u8]) -> Option<EdekFields<'_>>
     ensures { MatchOption result ((version iv sealed : List ℕ) → ¬ (fields_of fields.now ≡ version ∷ iv ∷ sealed ∷ [])) (λ parts. fields_of fields.now ≡ parts.version.now ∷ parts.iv.now ∷ parts.sealed.now ∷ []) }
 {
@@ -99,7 +99,7 @@ fn edek_fields(fields: &[u8]) -> Option<EdekFields<'_>>
     })
 }
 
-/// `batch K V:IV:H,V:IV:H`, of which the verb is read.
+/// Reads `batch K V:IV:H,V:IV:H`, from after its verb.
 fn read_batch(alloc: Global, fields: &[u8]) -> Result<Option<KmsCall>, NoMemory>
     ensures { IfOk result (λ found. MatchOption found ((name : List ℕ) (sent : List RawEdek) → ¬ SpellsBatch (codes "batch" ∷ fields_of fields.now) name sent) (SpellsCall (codes "batch" ∷ fields_of fields.now))) }
 {

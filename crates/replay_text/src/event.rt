@@ -12,16 +12,16 @@ use hk_base::{ByteList, NoMemory, Text};
 use hk_events::Event;
 use std::alloc::Global;
 
-/// Why a line has no event to give.
+/// Why no event is returned for a line.
 #[derive(Clone, Copy, Debug, PartialEq, Eq)]
 pub enum LineFault {
-    /// It says neither an event nor nothing.
+    /// The line is neither an event nor quiet.
     BadLine,
-    /// There is no memory for its event.
+    /// An allocation failed.
     NoMemory,
 }
 
-/// The event of a line, or `None` where the line is empty or a comment.
+/// Returns the event of a line, or `None` if the line is empty or a comment.
 pub fn read_event(alloc: Global, line: &[u8]) -> Result<Option<Event>, LineFault>
     requires { length line.now ≤ 1048576 }
     ensures { MatchResult result (λ found. MatchOption found (IsQuiet line.now) (Spells line.now)) (λ fault. fault ≡ LineFault.BadLine → IsBad line.now) }
@@ -39,7 +39,7 @@ pub fn read_event(alloc: Global, line: &[u8]) -> Result<Option<Event>, LineFault
     }
 }
 
-/// The event that a line spells, or `None` where it spells none.
+/// Returns the event that a line spells, or `None` if it spells none.
 fn read_spelled(alloc: Global, line: &[u8]) -> Result<Option<Event>, NoMemory>
     ensures { IfOk result (λ found. MatchOption found ((event : Event) → ¬ SpellsEvent (fields_of line.now) event) (SpellsEvent (fields_of line.now))) }
 {
@@ -68,7 +68,7 @@ fn read_spelled(alloc: Global, line: &[u8]) -> Result<Option<Event>, NoMemory>
     Ok(None)
 }
 
-/// `kms U` and a call, of which `kms` is read.
+/// Reads `kms U` and a call, from after `kms`.
 fn read_kms_event(alloc: Global, fields: &[u8]) -> Result<Option<Event>, NoMemory>
     ensures { IfOk result (λ found. MatchOption found ((user : List ℕ) (call : KmsCall) → ¬ SpellsKms (codes "kms" ∷ fields_of fields.now) user call) (SpellsEvent (codes "kms" ∷ fields_of fields.now))) }
 {
@@ -85,7 +85,7 @@ fn read_kms_event(alloc: Global, fields: &[u8]) -> Result<Option<Event>, NoMemor
     Ok(Some(Event::Kms { user, call }))
 }
 
-/// `restart kms` or `restart nn`, of which `restart` is read.
+/// Reads `restart kms` or `restart nn`, from after `restart`.
 fn read_restart(fields: &[u8]) -> Option<Event>
     ensures { MatchOption result (¬ SpellsRestart (codes "kms") (codes "restart" ∷ fields_of fields.now) × ¬ SpellsRestart (codes "nn") (codes "restart" ∷ fields_of fields.now)) (SpellsEvent (codes "restart" ∷ fields_of fields.now)) }
 {
@@ -101,7 +101,7 @@ fn read_restart(fields: &[u8]) -> Option<Event>
     None
 }
 
-/// `nn U`, a verb and what the verb takes, of which `nn` is read.
+/// Reads `nn U`, a verb and its fields, from after `nn`.
 fn read_name_event(alloc: Global, fields: &[u8]) -> Result<Option<Event>, NoMemory>
     ensures { IfOk result (λ found. MatchOption found ((event : Event) → ¬ SpellsEvent (codes "nn" ∷ fields_of fields.now) event) (SpellsEvent (codes "nn" ∷ fields_of fields.now))) }
 {
@@ -116,7 +116,7 @@ fn read_name_event(alloc: Global, fields: &[u8]) -> Result<Option<Event>, NoMemo
     }
 }
 
-/// `nn U zones`, of which all is cut into fields.
+/// Reads `nn U zones`, whose fields are given.
 fn read_zones(alloc: Global, user: &[u8], verb: &[u8]) -> Result<Option<Event>, NoMemory>
     ensures { IfOk result (λ found. MatchOption found ((who : List ℕ) → ¬ SpellsZones (codes "nn" ∷ user.now ∷ verb.now ∷ []) who) (SpellsEvent (codes "nn" ∷ user.now ∷ verb.now ∷ []))) }
 {
@@ -129,7 +129,7 @@ fn read_zones(alloc: Global, user: &[u8], verb: &[u8]) -> Result<Option<Event>, 
     Ok(Some(Event::Zones { user }))
 }
 
-/// `nn U`, a verb and a path, of which the verb and what stands before it are read.
+/// Reads `nn U`, a verb and a path, from after the verb.
 fn read_path_event(
     alloc: Global,
     user: &[u8],
@@ -150,7 +150,7 @@ fn read_path_event(
     Ok(path_event(verb, user, path))
 }
 
-/// The event of a verb that goes with a path, or `None` where there is no such verb.
+/// Returns the event of a verb that takes a path, or `None` if there is no such verb.
 fn path_event(verb: &[u8], user: Text, path: ByteList) -> Option<Event>
     ensures { MatchOption result (¬ IsPathVerb verb.now) (IsPathEvent verb.now user path) }
 {

@@ -9,10 +9,10 @@ ghost use Rattle.replay_text.specs.Events.{IsMaterial, IsPath, IsUser, SpellsMat
 use hk_base::{ByteList, KeyName, NoMemory, Text, read_number};
 use std::alloc::Global;
 
-/// How many digits a field of bytes has at most.
+/// The most digits of a field of bytes.
 const MOST_DIGITS: usize = 128;
 
-/// The greatest number of a field.
+/// The greatest number that a field spells.
 const LAST_NUMBER: u64 = 4294967295;
 
 fn space_in(bytes: &[u8]) -> Option<usize>
@@ -22,7 +22,7 @@ fn space_in(bytes: &[u8]) -> Option<usize>
     bytes.iter().position(|byte| *byte == b' ')
 }
 
-/// The first field of a line, and what stands behind the space, where there is one.
+/// Splits a line at its first space: the field, and the rest if there is a space.
 pub fn cut(bytes: &[u8]) -> (&[u8], Option<&[u8]>)
     ensures { MatchOption result.1 (fields_of bytes.now ≡ result.0.now ∷ []) (λ rest. fields_of bytes.now ≡ result.0.now ∷ fields_of rest.now) }
 {
@@ -32,7 +32,7 @@ pub fn cut(bytes: &[u8]) -> (&[u8], Option<&[u8]>)
     }
 }
 
-/// The only field of a line, or `None` where there are more.
+/// Returns the only field of a line, or `None` if there are more.
 pub fn only_field(bytes: &[u8]) -> Option<&[u8]>
     ensures { MatchOption result ((field : List ℕ) → ¬ (fields_of bytes.now ≡ field ∷ [])) (λ field. fields_of bytes.now ≡ field.now ∷ []) }
 {
@@ -43,7 +43,7 @@ pub fn only_field(bytes: &[u8]) -> Option<&[u8]>
     }
 }
 
-/// Whether a byte of a user or a path stands for itself.
+/// Whether a byte of a user or a path is spelled without an escape.
 fn is_plain(byte: u8) -> bool
     ensures { result ≡ is_plain byte }
 {
@@ -56,7 +56,7 @@ fn is_hex_digit(byte: u8) -> bool
     byte.is_ascii_hexdigit()
 }
 
-/// Whether each byte of a field stands for itself or belongs to an escape.
+/// Whether each byte of a field is one without an escape or belongs to an escape.
 fn is_escaped(field: &[u8]) -> bool
     ensures { result ≡ is_escaped_from 0 field.now }
 {
@@ -84,7 +84,7 @@ fn decoded(alloc: Global, field: &[u8]) -> Result<Vec<u8>, NoMemory>
     Ok(bytes)
 }
 
-/// The user that a field spells, or `None` where it spells none.
+/// Returns the user that a field spells, or `None` if it spells none.
 pub fn read_user(alloc: Global, field: &[u8]) -> Result<Option<Text>, NoMemory>
     ensures { IfOk result (λ found. MatchOption found ((user : List ℕ) → ¬ IsUser field.now user) (IsUser field.now)) }
 {
@@ -98,7 +98,7 @@ pub fn read_user(alloc: Global, field: &[u8]) -> Result<Option<Text>, NoMemory>
     Ok(Text::from_utf8(bytes))
 }
 
-/// The bytes that a field spells with its escapes, or `None` where it spells none.
+/// Returns the bytes that a field with escapes spells, or `None` if it spells none.
 pub fn read_escaped(alloc: Global, field: &[u8]) -> Result<Option<ByteList>, NoMemory>
     ensures { IfOk result (λ found. MatchOption found ((path : List ℕ) → ¬ IsPath field.now path) (IsPath field.now)) }
 {
@@ -108,7 +108,7 @@ pub fn read_escaped(alloc: Global, field: &[u8]) -> Result<Option<ByteList>, NoM
     Ok(Some(ByteList::of(decoded(alloc, field)?)))
 }
 
-/// The bytes that 2 to 128 hexadecimal digits spell, or `None` where the field spells none.
+/// Returns the bytes that 2 to 128 hexadecimal digits spell, or `None` for another field.
 pub fn read_bytes(alloc: Global, field: &[u8]) -> Result<Option<ByteList>, NoMemory>
     ensures { IfOk result (λ found. MatchOption found ((material : List ℕ) → ¬ IsMaterial field.now material) (IsMaterial field.now)) }
 {
@@ -125,8 +125,7 @@ pub fn read_bytes(alloc: Global, field: &[u8]) -> Result<Option<ByteList>, NoMem
     }
 }
 
-/// The material that a field spells, which is `None` where the field is `-`, or `None` where it spells
-/// neither.
+/// Returns the material that a field spells, `Some(None)` for `-`, and `None` for another field.
 pub fn read_material(alloc: Global, field: &[u8]) -> Result<Option<Option<ByteList>>, NoMemory>
     ensures { IfOk result (λ found. MatchOption found ((material : Option (List ℕ)) → ¬ SpellsMaterial field.now material) (SpellsMaterial field.now)) }
 {
@@ -139,7 +138,7 @@ pub fn read_material(alloc: Global, field: &[u8]) -> Result<Option<Option<ByteLi
     }
 }
 
-/// A number below 2^32 in its one spelling.
+/// Reads a number below 2^32, which has one spelling.
 pub fn read_small_number(field: &[u8]) -> Option<u32>
     ensures { MatchOption result ((n : ℕ) → n < 2 ^ 32 → ¬ (field.now ≡ decimal n)) (λ n. (n < 2 ^ 32) × (field.now ≡ decimal n)) }
 {
@@ -152,7 +151,7 @@ pub fn read_small_number(field: &[u8]) -> Option<u32>
     Some(number as u32)
 }
 
-/// The key name that the only field is, or `None` where there are more fields or it is none.
+/// Returns the key name that is the only field. Returns `None` for several fields or another one.
 pub fn only_name(fields: &[u8]) -> Option<KeyName>
     ensures { MatchOption result ((name : List ℕ) → IsKeyName name → ¬ (fields_of fields.now ≡ name ∷ [])) (λ name. IsKeyName name × (fields_of fields.now ≡ name ∷ [])) }
 {

@@ -1,4 +1,4 @@
-//! What follows of the event text. The functions do nothing: their contracts are the laws.
+//! Laws of the event text. The functions do nothing: their contracts are the laws.
 ghost use Rattle.std.specs.Prelude.{◌≡◌, ℕ, List};
 ghost use Rattle.hk_events.specs.declared.event.Event.{Event};
 ghost use Rattle.replay_text.specs.Events.{IsQuiet, Spells};

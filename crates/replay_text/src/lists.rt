@@ -1,4 +1,4 @@
-//! Lists in one field: names, and encrypted data encryption keys as they are sent.
+//! Lists in one field: of names, and of encrypted data encryption keys as they are sent.
 ghost use Rattle.std.specs.Prelude.{◌≡◌, ◌<◌, ◌∷◌, [], ℕ, List, length, position, All, false, IfNone, IfOk, MatchOption};
 ghost use Rattle.std.specs.List.{slice_split};
 ghost use Rattle.hk_base.specs.Names.{IsKeyName};
@@ -17,7 +17,7 @@ fn comma_in(bytes: &[u8]) -> Option<usize>
     bytes.iter().position(|byte| *byte == b',')
 }
 
-/// The first part of a list, and what stands behind the comma, where there is one.
+/// Splits a list at its first comma: the part, and the rest if there is a comma.
 fn cut_at_comma(bytes: &[u8]) -> (&[u8], Option<&[u8]>)
     ensures cut { MatchOption result.1 (slice_split is_comma bytes.now ≡ result.0.now ∷ []) (λ rest. slice_split is_comma bytes.now ≡ result.0.now ∷ slice_split is_comma rest.now) }
     ensures shorter { MatchOption result.1 (result.0.now ≡ bytes.now) (λ rest. length rest.now < length bytes.now) }
@@ -35,7 +35,7 @@ fn colon_in(bytes: &[u8]) -> Option<usize>
     bytes.iter().position(|byte| *byte == b':')
 }
 
-/// What stands before the first colon, and what stands behind it, where there is one.
+/// Splits bytes at their first colon: the part, and the rest if there is a colon.
 fn cut_at_colon(bytes: &[u8]) -> (&[u8], Option<&[u8]>)
     ensures { MatchOption result.1 (slice_split is_colon bytes.now ≡ result.0.now ∷ []) (λ rest. slice_split is_colon bytes.now ≡ result.0.now ∷ slice_split is_colon rest.now) }
 {
@@ -45,7 +45,7 @@ fn cut_at_colon(bytes: &[u8]) -> (&[u8], Option<&[u8]>)
     }
 }
 
-/// The bytes where they have no colon, or `None` where they have one.
+/// Returns the bytes, or `None` if there is a colon among them.
 fn without_colon(bytes: &[u8]) -> Option<&[u8]>
     ensures { MatchOption result ((part : List ℕ) → ¬ (slice_split is_colon bytes.now ≡ part ∷ [])) (λ part. slice_split is_colon bytes.now ≡ part.now ∷ []) }
 {
@@ -56,7 +56,7 @@ fn without_colon(bytes: &[u8]) -> Option<&[u8]>
     }
 }
 
-/// The names that stand between commas, or `None` where one of the parts is no name.
+/// Returns the names between commas, or `None` if a part is no name.
 pub fn read_names(alloc: Global, bytes: &[u8]) -> Result<Option<NameList>, NoMemory>
     ensures { IfOk result (λ found. MatchOption found (¬ All IsKeyName (slice_split is_comma bytes.now)) (λ names. (slice_split is_comma bytes.now ≡ names) × All IsKeyName names)) }
 {
@@ -83,7 +83,7 @@ pub struct EdekFields<'a> {
     pub sealed: &'a [u8],
 }
 
-/// The encrypted key that three fields spell, or `None` where they spell none.
+/// Returns the encrypted key that three fields spell, or `None` if they spell none.
 pub fn read_edek(
     alloc: Global,
     version: &[u8],
@@ -122,7 +122,7 @@ fn triple_fields(part: &[u8]) -> Option<EdekFields<'_>>
     })
 }
 
-/// The encrypted key that `V:IV:H` is, or `None` where the bytes are no such triple.
+/// Returns the encrypted key that `V:IV:H` spells, or `None` if the bytes are no such triple.
 fn read_triple(alloc: Global, part: &[u8]) -> Result<Option<RawEdek>, NoMemory>
     ensures { IfOk result (λ found. MatchOption found ((sent : RawEdek) → ¬ IsTriple part.now sent) (IsTriple part.now)) }
 {
@@ -132,7 +132,7 @@ fn read_triple(alloc: Global, part: &[u8]) -> Result<Option<RawEdek>, NoMemory>
     read_edek(alloc, parts.version, parts.iv, parts.sealed)
 }
 
-/// The triples that stand between commas, or `None` where one of the parts is no triple.
+/// Returns the encrypted keys between commas, or `None` if a part spells none.
 pub fn read_edeks(alloc: Global, bytes: &[u8]) -> Result<Option<RawEdekList>, NoMemory>
     ensures { IfOk result (λ found. MatchOption found ((sent : List RawEdek) → ¬ AreTriples (slice_split is_comma bytes.now) sent) (AreTriples (slice_split is_comma bytes.now))) }
 {

@@ -21,12 +21,12 @@ use name_calls::{
 use percent_encoding::{AsciiSet, CONTROLS, percent_encode};
 use std::alloc::Global;
 
-/// The bytes of a path that may not stand for themselves, besides those that are not ASCII.
+/// The bytes of a path that are escaped, besides those that are not ASCII.
 pub const ESCAPED: AsciiSet = percent_encoding::ascii_set!(
     CONTROLS.add(b' ').add(b'%').add(b',').add(b':')
 );
 
-/// Appends the number of an event and its answer. Where memory is wanting a front of the line may
+/// Appends the line of an event's number and answer. If allocation fails, a prefix of the line may
 /// have been appended.
 pub fn write_line(
     alloc: Global,
@@ -63,7 +63,7 @@ fn write_told(alloc: Global, told: &Line, out: &mut ByteList) -> Result<(), NoMe
     }
 }
 
-/// A service that was opened again.
+/// Appends the answer to a restart.
 fn write_opened(opening: u32, out: &mut ByteList) -> Result<(), NoMemory>
     ensures { OnOk result (out.new ≡ out.old ++ codes "opened " ++ decimal opening) }
 {
@@ -71,7 +71,7 @@ fn write_opened(opening: u32, out: &mut ByteList) -> Result<(), NoMemory>
     write_number(opening as u64, out)
 }
 
-/// An ask that was accepted.
+/// Appends the answer to an ask that was accepted.
 fn write_asked(number: u64, note: &AskNote, out: &mut ByteList) -> Result<(), NoMemory>
     ensures { OnOk result (out.new ≡ out.old ++ codes "ask " ++ decimal number ++ codes " " ++ decimal note.now.id ++ codes " " ++ want_text note.now.want) }
 {
@@ -99,7 +99,7 @@ fn write_want(want: &Want, out: &mut ByteList) -> Result<(), NoMemory>
     }
 }
 
-/// A reply that is kept.
+/// Appends the answer to a draw.
 fn write_replied(
     alloc: Global,
     number: u64,
@@ -177,7 +177,7 @@ fn write_zone_list(alloc: Global, zones: &ZoneList, out: &mut ByteList) -> Resul
     write_zones(alloc, zones.as_slice(), out)
 }
 
-/// What comes before the key of a row: its kind, its id and its zone.
+/// Appends the fields before the key of an entry: its kind, id and zone.
 fn write_row(
     alloc: Global,
     kind: &[u8],
@@ -211,7 +211,7 @@ fn write_path(alloc: Global, path: &NPath, out: &mut ByteList) -> Result<(), NoM
     write_escaped(alloc, bytes.as_slice(), out)
 }
 
-/// Bytes of a path, of which those are escaped that may not stand for themselves.
+/// Appends bytes of a path, with escapes.
 fn write_escaped(alloc: Global, bytes: &[u8], out: &mut ByteList) -> Result<(), NoMemory>
     ensures { OnOk result (out.new ≡ out.old ++ percent_encode ESCAPED bytes.now) }
 {
@@ -229,7 +229,7 @@ fn write_children(alloc: Global, children: &[Child], out: &mut ByteList) -> Resu
     Ok(())
 }
 
-/// A child among others, with a slash behind a directory.
+/// Appends a child of a list, with a slash after a directory.
 fn write_child(alloc: Global, child: &Child, out: &mut ByteList) -> Result<(), NoMemory>
     ensures { OnOk result (out.new ≡ out.old ++ child_part child.now) }
 {
@@ -250,7 +250,7 @@ fn write_zones(alloc: Global, zones: &[ZonePath], out: &mut ByteList) -> Result<
     Ok(())
 }
 
-/// A zone among others: its path and its key.
+/// Appends a zone of a list: its path and its key.
 fn write_zone_part(alloc: Global, zone: &ZonePath, out: &mut ByteList) -> Result<(), NoMemory>
     ensures { OnOk result (out.new ≡ out.old ++ zone_part zone.now) }
 {

@@ -1,18 +1,18 @@
-//! What is kept between the parts of a call in three parts.
+//! Notes and replies that are kept between the steps of a call on both services.
 ghost use Rattle.std.specs.Prelude.{◌≡◌, option_map};
 ghost use Rattle.world_run.specs.World.{numbered};
 
 use name_calls::{AskNote, KeyAnswer};
 
 /// The reply to the call that an ask wanted, as far as a finish needs it: the id of the ask, and
-/// what the reply says to it.
+/// what the reply means for it.
 #[derive(Clone, Copy)]
 pub struct KeptReply {
     pub id: u64,
     pub answer: KeyAnswer,
 }
 
-/// The note that is kept under a number, from 1, `None` where none is.
+/// Returns the note with a number, from 1, or `None` if there is none.
 pub fn note_numbered(notes: &Vec<AskNote>, number: u32) -> Option<&AskNote>
     ensures { option_map (λ note. note.now) result ≡ numbered notes.now.items number }
 {
@@ -22,7 +22,7 @@ pub fn note_numbered(notes: &Vec<AskNote>, number: u32) -> Option<&AskNote>
     notes.get(number as usize - 1)
 }
 
-/// The reply that is kept under a number, from 1, `None` where none is.
+/// Returns the reply with a number, from 1, or `None` if there is none.
 pub fn reply_numbered(replies: &Vec<KeptReply>, number: u32) -> Option<&KeptReply>
     ensures { option_map (λ reply. reply.now) result ≡ numbered replies.now.items number }
 {
@@ -32,7 +32,7 @@ pub fn reply_numbered(replies: &Vec<KeptReply>, number: u32) -> Option<&KeptRepl
     replies.get(number as usize - 1)
 }
 
-/// The same note once more.
+/// Returns a copy of a note.
 pub fn again(note: &AskNote) -> AskNote
     ensures { result ≡ note.now }
 {

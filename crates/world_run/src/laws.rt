@@ -1,10 +1,10 @@
-//! What holds of files that a run may start from. The function does nothing: its contract is the law.
+//! Laws of the files that a run may start from. The function does nothing: its contract is the law.
 ghost use Rattle.world_run.specs.Laws.{EmptyFilesAreSound, SoundFilesAreWhole, SoundFilesOpen};
 
-/// Two files that were never written may be started from, with an empty ledger of draws. Where a run
-/// may start from two files, neither is damaged, and each file in a zone opens to the data encryption
-/// key drawn for it, with the keys and the rows that a start finds. Each start and each event leaves
-/// such files (`World::start`, `World::step`).
+/// A run may start from two empty files, with an empty ledger of draws. If a run may start from two
+/// files, neither is damaged, and each file in a zone opens to the data encryption key drawn for it,
+/// with the keys and the rows that a start finds. Each start and each event leaves such files
+/// (`World::start`, `World::step`).
 pub fn sound_files_may_be_started_from()
     ensures empty { EmptyFilesAreSound }
     ensures whole { SoundFilesAreWhole }

@@ -50,11 +50,11 @@ const KEYS: u8 = 0;
 /// The number of the file that has the edit log.
 const NAMES: u8 = 1;
 
-/// Both services, and what is kept between the parts of a call in three parts. Contracts see the
-/// access control lists and the store of the key management service, the store and the open asks of
-/// the namesystem, and the notes and replies that are kept as lists.
+/// Both services, and the notes and replies kept between the steps of a call on both. Contracts see
+/// the access control lists and the store of the key management service, the store and the open asks
+/// of the namesystem, and the notes and replies as lists.
 ///
-/// Each call that takes a disk is to be given the disk that the world was started on.
+/// Always pass the disk that the world was started on.
 #[derive(Drop)]
 pub struct World {
     alloc: Global,
@@ -77,7 +77,7 @@ impl Model for World {
     ghost invariant = { λ a. a.superuser ≡ calls.superuser };
 }
 
-/// The answer where a path could not be read.
+/// Returns the answer to a path that could not be read.
 fn unread(fault: PathFault) -> NameReply
     ensures { result ≡ unread_reply fault }
 {
@@ -87,7 +87,7 @@ fn unread(fault: PathFault) -> NameReply
     }
 }
 
-/// The answer to an ask whose path could not be read.
+/// Returns the answer to an ask whose path could not be read.
 fn unread_ask(fault: PathFault) -> Line
     ensures { result ≡ Line.Refused (unread_refusal fault) }
 {
@@ -97,7 +97,7 @@ fn unread_ask(fault: PathFault) -> Line
     }
 }
 
-/// The answer to a finish.
+/// Returns the answer to a finish.
 fn finish_line(finished: Result<(), NameRefusal>) -> Line
     ensures { result ≡ finish_line finished }
 {
@@ -107,14 +107,15 @@ fn finish_line(finished: Result<(), NameRefusal>) -> Line
     }
 }
 
-/// The user as whom the calls that asks want are made.
+/// Returns the user who makes the calls that asks want.
 fn superuser(alloc: Global) -> Result<Text, NoMemory>
     ensures { IfOk result (λ user. user ≡ superuser) }
 {
     Ok(Text::of(String::from_str(alloc, "hdfs")?))
 }
 
-/// The key management service over its log, with the lists of the properties. The log is opened last.
+/// Opens the key management service over its log, with the lists of the properties. The log is
+/// opened last.
 fn open_keys<D: Disk>(alloc: Global, disk: &mut D, props: &Props) -> Result<Kms, StartFault>
     ensures started { IfOk result (λ kms. Starts (D.state disk.old) (D.state disk.new) (running kms)) }
     ensures lists { IfOk result (λ kms. ListsFor kms.acls props.now.lines) }
@@ -134,14 +135,14 @@ fn open_keys<D: Disk>(alloc: Global, disk: &mut D, props: &Props) -> Result<Kms,
 }
 
 impl World {
-    /// Opens the key log on file 0 of a disk, and then the edit log on file 1. Calls of the key
-    /// management service are judged by the access control lists of the properties, from now on and
-    /// also behind a restart. Where memory is wanting before a log is opened, the fault is that of file 0.
+    /// Opens the key log on file 0 of a disk, and then the edit log on file 1. The access control
+    /// lists of the properties judge the calls of the key management service, from now on and after
+    /// each restart. If allocation fails before a log is opened, the fault is that of file 0.
     ///
-    /// `Damaged` comes exactly where the file is no log, or a record is none or doesn't apply, with the
-    /// offset of its gate. `Spent` comes exactly where opening 4,294,967,295 is recorded. The first file
-    /// that has a fault counts: where the fault is that of file 1, the key log was found good and opened,
-    /// and where it is that of file 0, file 1 was not touched.
+    /// Returns `Damaged` exactly if the file is no log, or one of its records is none or doesn't
+    /// apply, with the offset of its gate. Returns `Spent` exactly if opening 4,294,967,295 is
+    /// recorded. The first file with a fault counts: if it is file 1, the key log was found good and
+    /// was opened; if it is file 0, file 1 was not touched.
     pub fn start<D: Disk>(alloc: Global, disk: &mut D, props: &Props) -> Result<World, WorldFault>
         ensures began { IfOk result (Begins (D.state disk.old) (D.state disk.new)) }
         ensures lists { IfOk result (λ world. ListsFor world.keys.acls props.now.lines) }
@@ -158,13 +159,13 @@ impl World {
             × IsKeyLog ((D.state disk.old).reads 0) commands table × (table.opening < 4294967295)) }
         ensures first_names { (fault : StartFault) → IsErrOf result (record { file = 0; fault = fault }) → RunOn 0 (D.state disk.old) (D.state disk.new) }
 
-        // A crash at any moment leaves of each file what it might have left before, or the log found, now or
-        // with its end gate read as 1, or its records with the new opening or without it.
+        // A crash at any moment leaves of each file what it might have left before, or the log found, as it is
+        // or with its end gate read as 1, or its records with the new opening or without it.
         ensures any_moment { Tells (D.state disk.old) → LeavesBoth (D.state disk.old) (D.state disk.new) (LeftByStarts (D.state disk.old)) }
 
-        // Whatever the answer, since the first sync of its opening it leaves of each file the latter alone. Where
-        // that sync failed, or the opening wasn't reached, nothing was written to the file, and a crash leaves
-        // of it what it might have left before.
+        // Since the first sync of its opening, a crash leaves of each file the latter alone, whatever the answer.
+        // If that sync failed, or the opening wasn't reached, nothing was written to the file, and a crash
+        // leaves of it what it might have left before.
         ensures since_sync_keys { Tells (D.state disk.old) →
             ((IsErrOf result (record { file = 0; fault = start.StoreFault }) ⊎ IsErrOf result (record { file = 0; fault = start.NoMemory }))
             × LeavesOnly 0 (D.state disk.old) (D.state disk.new) ((D.state disk.old).leaves 0))
@@ -174,7 +175,7 @@ impl World {
             × LeavesBoth (D.state disk.old) (D.state disk.new) (λ c. (D.state disk.old).leaves 1 (c 1)))
             ⊎ LeavesFrom 1 (D.state disk.old) (D.state disk.new) (IsLeftByNameStart ((D.state disk.old).reads 1)) }
 
-        // Where every image was one that a run may start from, with a ledger, so is every image since.
+        // If a run may start from every image before, with a ledger, it may start from every image since.
         ensures sound { Tells (D.state disk.old) → (ledger : Ledger) (place : ℕ) → StartsSound (D.state disk.old) ledger place
             → LeavesBoth (D.state disk.old) (D.state disk.new) (SoundFiles ledger place) }
 
@@ -184,7 +185,7 @@ impl World {
         World::open(alloc, disk, props)
     }
 
-    /// The same, said in one clause.
+    /// Does what `start` says, with one clause.
     fn open<D: Disk>(alloc: Global, disk: &mut D, props: &Props) -> Result<World, WorldFault>
         ensures { StartHappens (D.state disk.old) (D.state disk.new) props.now.lines result }
     {
@@ -217,17 +218,16 @@ impl World {
         })
     }
 
-    /// Lets an event happen, and answers it. `now` is the moment of the event. Where the world was
-    /// linked with what was drawn and entered so far, it is linked again, and each file in a zone
-    /// opens to the data encryption key drawn for it, also with the keys and the files that a crash at
-    /// any moment of the event leaves in both logs.
+    /// Lets an event happen, and answers it. `now` is the moment of the event. If the world was linked
+    /// with the draws and entries so far, it is linked again, and each file in a zone opens to the data
+    /// encryption key drawn for it, even with the keys and the files that a crash at any moment of the
+    /// event leaves in both logs.
     ///
-    /// A call of the key management service is judged first, by the access control lists of the start:
-    /// those of a user as that user, and those that asks want as the user `hdfs`. A call that is denied
-    /// does nothing. The lists stay as they are.
+    /// The access control lists of the start judge each call of the key management service first: a
+    /// user's call as that user's, and a call that an ask wants as one of the user `hdfs`. A call that
+    /// is denied does nothing. The lists stay as they are.
     ///
-    /// The only events that may fail are restarts whose opening fails. The world is not to go on with
-    /// this disk then.
+    /// Only a restart may fail, if its opening fails. The world must not go on with this disk then.
     pub fn step<D: Disk, W: Words>(
         &mut self,
         disk: &mut D,
@@ -246,7 +246,7 @@ impl World {
         told
     }
 
-    /// What both services keep by themselves.
+    /// Recalls what both services keep by themselves.
     fn fits(&self)
         ensures fits { ServicesFit (world_of self.now) }
         // The key log is that of file 0.
@@ -290,8 +290,8 @@ impl World {
         }
     }
 
-    /// Opens the key log again, and goes on with the keys that it finds and with the same lists. Where
-    /// it fails, nothing changes but the disk.
+    /// Opens the key log again, and goes on with the keys that it finds and with the same lists. If it
+    /// fails, nothing changes except the disk.
     fn restart_keys<D: Disk>(&mut self, disk: &mut D) -> Result<Line, WorldFault>
         requires stands { Tells (D.state disk.old) → ((done : Acknowledged) × HoldsLogs (D.state disk.old) self.old done) }
         ensures { MatchResult result
@@ -307,8 +307,8 @@ impl World {
         Ok(Line::Opened { opening })
     }
 
-    /// Opens the edit log again, and goes on with the rows that it finds. No ask is open then. Where it
-    /// fails, nothing changes but the disk.
+    /// Opens the edit log again, and goes on with the rows that it finds. No ask is open then. If it
+    /// fails, nothing changes except the disk.
     fn restart_names<D: Disk>(&mut self, disk: &mut D) -> Result<Line, WorldFault>
         requires stands { Tells (D.state disk.old) → ((done : Acknowledged) × HoldsLogs (D.state disk.old) self.old done) }
         ensures { MatchResult result
@@ -324,7 +324,7 @@ impl World {
         Ok(Line::Opened { opening })
     }
 
-    /// A call of the key management service.
+    /// Makes a call of the key management service.
     fn call_keys<D: Disk, W: Words>(
         &mut self,
         disk: &mut D,
@@ -340,7 +340,7 @@ impl World {
         Line::Kms(reply)
     }
 
-    /// A call of the namesystem.
+    /// Makes a call of the namesystem.
     fn call<D: Disk>(&mut self, disk: &mut D, user: &Text, call: NameCall) -> Line
         requires stands { Tells (D.state disk.old) → ((done : Acknowledged) × HoldsLogs (D.state disk.old) self.old done) }
         ensures { CallHappens (D.state disk.old) (D.state disk.new) self.old user.now call result self.new }
@@ -410,7 +410,7 @@ impl World {
         }
     }
 
-    /// Makes an ask, and keeps its note. The room for the note is taken first.
+    /// Makes an ask, and keeps its note, whose room is taken first.
     fn ask(&mut self, user: &Text, ask: Ask) -> Line
         ensures acts { AskActs (world_of self.old) user.now ask result (world_of self.new) ⊎ Refuses (world_of self.old) NameRefusal.NoMemory result (world_of self.new) }
         ensures keys { self.new.keys ≡ self.old.keys }
@@ -430,8 +430,7 @@ impl World {
         }
     }
 
-    /// Makes the call that a kept ask wants, and keeps the reply. The room for the reply is taken
-    /// first.
+    /// Makes the call that a kept ask wants, and keeps the reply, whose room is taken first.
     fn draw<D: Disk, W: Words>(
         &mut self,
         disk: &mut D,
@@ -476,7 +475,7 @@ impl World {
     }
 }
 
-/// Makes the call that an ask wants, where it wants one. It is made as the superuser.
+/// Makes the call that an ask wants, if it wants one, as the superuser.
 fn call_wanted<D: Disk, W: Words>(
     keys: &mut Kms,
     disk: &mut D,
