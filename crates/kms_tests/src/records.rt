@@ -36,7 +36,7 @@ const RECORDS: &[&[u8]] = &[
 ];
 
 /// The record written again, or `None` if the bytes are not a record.
-#[tactic(auto, using(crate::proofs::Records::can_be_written))]
+#[tactic(auto, using(crate::proofs::RecordLemmas::can_be_written))]
 fn rewritten(rt: &(impl Abort + AllocGlobal), bytes: &[u8]) -> Option<ByteList> {
     let mut out = ByteList::new(rt.alloc());
     match KeyCommand::read(rt.alloc(), bytes) {
