@@ -1,5 +1,6 @@
 #!/usr/bin/env bash
-# Each relative link in README.md and docs/*.md leads to a file of the repository, and each anchor to a heading of it.
+# Each relative link in README.md and docs/*.md leads to a file of the repository, and each anchor to a heading of it. Each path
+# of the repository that is named in them exists.
 set -u
 cd "$(dirname "${BASH_SOURCE[0]}")/.." || exit 1
 command -v python3 >/dev/null || { echo "tests/links.sh: skipped, the command python3 is not here"; exit 0; }
@@ -11,6 +12,7 @@ import sys
 
 CODE = re.compile(r"^```.*?^```|^    .*?$", re.M | re.S)
 LINK = re.compile(r"\[[^\]]*\]\(([^)\s]+)\)")
+PATH = re.compile(r"`(?:\./)?((?:tests|examples|docs|bench|completions|crates|[a-z_]+/(?:specs|src|proofs))/[\w./-]*)`")
 
 
 def anchors(text):
@@ -38,7 +40,13 @@ def fault(page, target):
 
 seen = failures = 0
 for page in sys.argv[1:]:
-    for target in LINK.findall(CODE.sub("", open(page, encoding="utf-8").read())):
+    text = CODE.sub("", open(page, encoding="utf-8").read())
+    for path in PATH.findall(text):
+        made = "NAME" in path or "out" in path.split("/")
+        if not made and not any(map(os.path.exists, [path, os.path.join("crates", path)])):
+            print(f"tests/links.sh: {page}: {path}: no such path")
+            failures += 1
+    for target in LINK.findall(text):
         if "://" in target:
             continue
         seen += 1
