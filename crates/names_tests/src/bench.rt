@@ -190,7 +190,8 @@ impl Bench {
         self.say_whether(rt, true);
     }
 
-    fn take(&mut self, rt: &impl Abort, dir: u64, text: &str) {
+    /// Takes a snapshot of the directory with this id.
+    pub fn take(&mut self, rt: &impl Abort, dir: u64, text: &str) {
         let name = name(rt, self.alloc, text);
         let taken = take(self.alloc, &mut self.snaps, &self.tree, dir, name).expect(rt, "memory");
         self.say_whether(rt, taken);

@@ -127,8 +127,8 @@ fn each_line_is_answered_so(rt: HostRuntime) {
 /// Takes snapshots of the directory with id 1 with the names 00000, 00001 and so on.
 fn fill(rt: &impl Abort, alloc: Global, bench: &mut Bench) {
     for i in 0..MOST_SNAPSHOTS {
-        let line = format!(in alloc; "take 1 {i:05}").expect(rt, "memory");
-        bench.line(rt, line.as_str());
+        let name = format!(in alloc; "{i:05}").expect(rt, "memory");
+        bench.take(rt, 1, name.as_str());
     }
 }
 
