@@ -1,4 +1,4 @@
-//! Paths by climbing from a node to the root.
+//! Paths of nodes, by climbing from a node to the root.
 ghost use Rattle.std.specs.Prelude.{◌≡◌, ◌<◌, ◌≤◌, ◌||◌, length, take};
 ghost use Rattle.inode_tree.specs.Arena.{IsLinked, path_of, cmp_front, nearer_of, rows_of, IsRising, AllWithin, rank, rank_past};
 ghost use Rattle.name_calls.specs.Paths.{is_before, is_prefix, path_cmp};
@@ -11,7 +11,7 @@ use hk_base::Text;
 use name_calls::NPath;
 use std::cmp::Ordering;
 
-/// How many names the node's path has.
+/// Returns the number of names in the node's path.
 pub fn depth(nodes: &Vec<Node>, n: u32) -> usize
     requires linked { IsLinked nodes.now.items }
     requires live { n < length nodes.now.items }
@@ -26,7 +26,7 @@ pub fn depth(nodes: &Vec<Node>, n: u32) -> usize
     d
 }
 
-/// How the node's path and a path compare as far as both go.
+/// Compares the node's path with the first `upto` names of a path, as far as both go.
 pub fn front(nodes: &Vec<Node>, n: u32, depth: usize, path: &NPath, upto: usize) -> Ordering
     requires linked { IsLinked nodes.now.items }
     requires live { n < length nodes.now.items }
@@ -51,7 +51,8 @@ fn compare_names(name: &Text, other: &Text) -> Ordering
     name.as_str().as_bytes().cmp(other.as_str().as_bytes())
 }
 
-/// The difference at the k-th name, else the one found below it.
+/// Compares the node's name with the `k`-th of the first `upto` names of a path. Returns `found`,
+/// the result for the names after it, if the two are equal or there is no `k`-th name.
 fn nearer(node: &Node, k: usize, path: &NPath, upto: usize, found: Ordering) -> Ordering
     requires { upto ≤ length path.now }
     ensures { result ≡ nearer_of node.now.name k (take upto path.now) found }
@@ -81,7 +82,7 @@ pub fn compare(nodes: &Vec<Node>, n: u32, path: &NPath, upto: usize) -> Ordering
     }
 }
 
-/// How many rows come before the path.
+/// Returns how many rows come before the path formed by the first `upto` names of `path`.
 pub fn place(nodes: &Vec<Node>, order: &Order, path: &NPath, upto: usize) -> usize
     requires linked { IsLinked nodes.now.items }
     requires within { AllWithin (length nodes.now.items) order.now.items }
@@ -103,7 +104,7 @@ pub fn place(nodes: &Vec<Node>, order: &Order, path: &NPath, upto: usize) -> usi
     low
 }
 
-/// Whether the node's path comes before the path, is the path or lies below it.
+/// Returns whether the node's path comes before the path, is the path or lies below it.
 fn before_or_below(nodes: &Vec<Node>, n: u32, path: &NPath) -> bool
     requires linked { IsLinked nodes.now.items }
     requires live { n < length nodes.now.items }
@@ -117,7 +118,7 @@ fn before_or_below(nodes: &Vec<Node>, n: u32, path: &NPath) -> bool
     }
 }
 
-/// How many rows come before what stands behind the path and behind all below it.
+/// Returns how many rows come before the path, are at the path or lie below it.
 pub fn past(nodes: &Vec<Node>, order: &Order, path: &NPath) -> usize
     requires linked { IsLinked nodes.now.items }
     requires within { AllWithin (length nodes.now.items) order.now.items }
@@ -137,7 +138,7 @@ pub fn past(nodes: &Vec<Node>, order: &Order, path: &NPath) -> usize
     low
 }
 
-/// Whether the node's path is the path or lies below it.
+/// Returns whether the node's path is the path or lies below it.
 pub fn below(nodes: &Vec<Node>, n: u32, path: &NPath) -> bool
     requires linked { IsLinked nodes.now.items }
     requires live { n < length nodes.now.items }
@@ -151,7 +152,7 @@ pub fn below(nodes: &Vec<Node>, n: u32, path: &NPath) -> bool
     }
 }
 
-/// Whether the node's path is the path or leads to it.
+/// Returns whether the node's path is the path or lies above it.
 pub fn above(nodes: &Vec<Node>, n: u32, path: &NPath) -> bool
     requires linked { IsLinked nodes.now.items }
     requires live { n < length nodes.now.items }

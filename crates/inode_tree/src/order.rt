@@ -1,4 +1,4 @@
-//! Numbers in an order, in pieces of bounded length.
+//! A list of numbers, stored in pieces of bounded length.
 ghost use Rattle.std.specs.Prelude.{◌≡◌, ◌<◌, ◌≤◌, ◌+◌, ◌++◌, ◌∷◌, [], length, take, drop, slice_index_or, OnOk, OnErr, IfOk, IsOk, IsSome, vec_capacity, vec_len};
 ghost use Rattle.std.specs.List.{insert, remove};
 ghost use Rattle.inode_tree.specs.Listed.{starts_of, flat, halved, FitsAt, HoldsPlace, IsEmptyOr};
@@ -8,7 +8,7 @@ use std::alloc::Global;
 use std::marker::Model;
 use std::mem;
 
-/// Up to 1,024 numbers, in memory that is there from the start.
+/// Up to 1,024 numbers, in memory that is allocated when the piece is made.
 #[derive(Drop)]
 pub struct Piece {
     numbers: Vec<u32>,
@@ -62,7 +62,7 @@ impl Piece {
         let _ = self.numbers.remove(i);
     }
 
-    /// Moves the numbers from i on into an empty piece.
+    /// Moves the numbers from index `i` on into an empty piece.
     fn split(&mut self, i: usize, other: &mut Piece)
         requires at { i ≤ length self.old }
         requires empty { other.old ≡ [] }
@@ -105,7 +105,7 @@ impl Model for Order {
     ghost invariant = { λ s. (s.starts.items ≡ starts_of 0 s.pieces.items) × IsEmptyOr s.extra };
 }
 
-/// The last piece that begins at or before the i-th number.
+/// Returns the index of the last piece that begins at or before the `i`-th number.
 fn locate(starts: &Vec<u32>, i: usize) -> usize
     requires some { 0 < length starts.now.items }
     requires first { slice_index_or starts.now.items 0 0 ≡ 0 }
@@ -146,7 +146,7 @@ fn at(pieces: &Vec<Piece>, starts: &Vec<u32>, i: usize) -> u32
     pieces[c].get(i - starts[c] as usize)
 }
 
-/// Writes the starts anew behind the c-th piece.
+/// Rewrites the starts of the pieces after the `c`-th one.
 fn renumber(pieces: &Vec<Piece>, starts: &mut Vec<u32>, c: usize)
     requires c { c < length pieces.now.items }
     requires starts { take (c + 1) starts.old.items ≡ take (c + 1) (starts_of 0 pieces.now.items) }
@@ -164,7 +164,7 @@ fn renumber(pieces: &Vec<Piece>, starts: &mut Vec<u32>, c: usize)
     }
 }
 
-/// Puts a number in where its piece has room.
+/// Inserts `n` at index `i`, into the `c`-th piece, which must have room.
 fn put_in(pieces: &mut Vec<Piece>, starts: &mut Vec<u32>, c: usize, i: usize, n: u32)
     requires starts { starts.old.items ≡ starts_of 0 pieces.old.items }
     requires fits { FitsAt starts.old.items pieces.old.items c i }
@@ -193,7 +193,7 @@ fn slip_start(starts: &mut Vec<u32>, i: usize, start: u32)
     let _ = starts.insert(i, start);
 }
 
-/// Cuts a piece in two.
+/// Splits the `c`-th piece in two after its first 512 numbers.
 fn halve(pieces: &mut Vec<Piece>, starts: &mut Vec<u32>, c: usize, empty: Piece)
     requires starts { starts.old.items ≡ starts_of 0 pieces.old.items }
     requires c { c < length pieces.old.items }
@@ -236,7 +236,8 @@ impl Order {
         at(&self.pieces, &self.starts, i)
     }
 
-    /// Takes memory for one more number.
+    /// Reserves memory for one more number. Returns `NoMemory` if allocation fails; the numbers are
+    /// then unchanged.
     pub fn reserve(&mut self) -> Result<(), NoMemory>
         ensures same { self.new.items ≡ self.old.items }
         ensures ok { OnOk result (0 < self.new.spare) }
@@ -257,7 +258,7 @@ impl Order {
         put(&mut self.pieces, &mut self.starts, &mut self.extra, i, n);
     }
 
-    /// Takes a number out. It takes no memory.
+    /// Removes the number at index `i`. It does not allocate.
     pub fn remove(&mut self, i: usize)
         requires within { i < length self.old.items }
         requires count { length self.old.items ≤ 1000000 }
@@ -267,7 +268,7 @@ impl Order {
     }
 }
 
-/// Makes an empty piece where there is none.
+/// Makes an empty piece if there is none.
 fn more(alloc: Global, extra: &mut Option<Piece>) -> Result<(), NoMemory>
     requires { IsEmptyOr extra.old }
     ensures empty { IsEmptyOr extra.new }
@@ -283,7 +284,7 @@ fn more(alloc: Global, extra: &mut Option<Piece>) -> Result<(), NoMemory>
     }
 }
 
-/// Puts a number in at a place, in memory that is ready.
+/// Inserts `n` at index `i`, in reserved memory.
 fn put(pieces: &mut Vec<Piece>, starts: &mut Vec<u32>, extra: &mut Option<Piece>, i: usize, n: u32)
     requires starts { starts.old.items ≡ starts_of 0 pieces.old.items }
     requires empty { IsEmptyOr extra.old }
@@ -316,7 +317,7 @@ fn put(pieces: &mut Vec<Piece>, starts: &mut Vec<u32>, extra: &mut Option<Piece>
     }
 }
 
-/// Puts the first number in.
+/// Inserts the first number, in reserved memory.
 fn begin(pieces: &mut Vec<Piece>, starts: &mut Vec<u32>, extra: &mut Option<Piece>, n: u32)
     requires none { pieces.old.items ≡ [] }
     requires starts { starts.old.items ≡ [] }
@@ -337,7 +338,7 @@ fn begin(pieces: &mut Vec<Piece>, starts: &mut Vec<u32>, extra: &mut Option<Piec
     }
 }
 
-/// Takes a number out of its piece.
+/// Removes the number at index `i` from the `c`-th piece, which holds it.
 fn take_from(pieces: &mut Vec<Piece>, starts: &mut Vec<u32>, c: usize, i: usize)
     requires starts { starts.old.items ≡ starts_of 0 pieces.old.items }
     requires holds { HoldsPlace starts.old.items pieces.old.items c i }
@@ -351,7 +352,7 @@ fn take_from(pieces: &mut Vec<Piece>, starts: &mut Vec<u32>, c: usize, i: usize)
     renumber(pieces, starts, c);
 }
 
-/// Gives an empty piece back.
+/// Drops the `c`-th piece, which must be empty.
 fn drop_piece(pieces: &mut Vec<Piece>, starts: &mut Vec<u32>, c: usize)
     requires starts { starts.old.items ≡ starts_of 0 pieces.old.items }
     requires c { c < length pieces.old.items }
@@ -363,7 +364,7 @@ fn drop_piece(pieces: &mut Vec<Piece>, starts: &mut Vec<u32>, c: usize)
     let _ = starts.remove(c);
 }
 
-/// Takes a number out, and its piece where that was its last.
+/// Removes the number at index `i`, and its piece if that was its last number.
 fn take_out(pieces: &mut Vec<Piece>, starts: &mut Vec<u32>, i: usize)
     requires starts { starts.old.items ≡ starts_of 0 pieces.old.items }
     requires within { i < length (flat pieces.old.items) }

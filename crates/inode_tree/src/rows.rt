@@ -1,21 +1,21 @@
-//! Rows, and the nodes that keep them.
+//! Rows, and the nodes that hold them.
 
 ghost use Rattle.std.specs.Prelude.{◌≡◌};
 ghost use Rattle.inode_tree.specs.Rows.{is_dir};
 
 use hk_base::{Edek, KeyName, Text};
 
-/// What stands at a path.
+/// The kind of a row: a directory or a file.
 #[derive(Clone, Copy, PartialEq, Eq)]
 pub enum Kind {
-    /// A directory, and the key that it is marked with where it is an encryption zone.
+    /// A directory, with the key that it is marked with if it is an encryption zone.
     Dir { key: Option<KeyName> },
-    /// A file, and its encrypted data encryption key where it lies in a zone.
+    /// A file, with its encrypted data encryption key if it lies in a zone.
     File { edek: Option<Edek> },
 }
 
 impl Kind {
-    /// Whether it is a directory.
+    /// Returns whether it is a directory.
     pub fn is_dir(&self) -> bool
         ensures { result ≡ is_dir self.now }
     {
@@ -33,7 +33,7 @@ pub struct Row {
     pub kind: Kind,
 }
 
-/// A row with its own name and the number of its directory's node.
+/// A row, with the last name of its path and the number of its directory's node.
 #[derive(Drop)]
 pub struct Node {
     pub parent: u32,

@@ -1,4 +1,4 @@
-//! The tree of the inodes.
+//! The tree of inodes.
 ghost use Rattle.std.specs.Prelude.{ℕ, Option, ◌≡◌, ◌<◌, ◌≤◌, ◌-◌, [], Some, None, length, slice_index_or, slice_set, take, string_bytes, string_capacity, vec_capacity, vec_len, IsSome, IsOk, IsTrue, OnOk, OnErr, IfOk, if◌then◌else◌};
 ghost use Rattle.std.specs.HashMap.{get, spare};
 ghost use Rattle.std.specs.Bool.{nat_eq};
@@ -25,13 +25,15 @@ use std::collections::HashMap;
 use std::marker::Model;
 use std::mem;
 
-/// The most rows of a tree.
+/// The maximum number of rows of a tree.
 pub const MOST_ROWS: u32 = 1_000_000;
 
-/// The directories and files by path, the root among them. Contracts see the rows in one list, in
-/// path order: component by component, by bytes, and the room that is kept for one more row. Each
-/// row has an id of its own; the root has 0. Finding, making and changing a row take time by the
-/// logarithm of the number of rows. The node of a row that was removed is used again.
+/// The directories and files by path, including the root. In contracts its value is the list of
+/// rows in path order, and the room that is kept for one more row. Path order compares paths name
+/// by name, and names by their bytes. Each row has an id of its own; the root has id 0.
+///
+/// Finding, making and changing a row take logarithmic time in the number of rows. The node of a
+/// removed row is used again.
 #[derive(Drop)]
 pub struct Tree {
     alloc: Global,
@@ -57,7 +59,7 @@ impl Model for Tree {
 }
 
 impl Tree {
-    /// The root alone.
+    /// Creates a tree with only the root.
     pub fn new(alloc: Global) -> Result<Tree, NoMemory>
         ensures { IfOk result (λ tree. tree.rows ≡ root_only) }
     {
@@ -80,9 +82,9 @@ impl Tree {
         })
     }
 
-    /// How many rows there are, with the root: at most 1,000,000. Of the rows it always holds that they stand in path
-    /// order, each path and each id once, that the root is there with id 0, and that what a row lies
-    /// in is a directory.
+    /// Returns the number of rows, including the root: at most 1,000,000. The rows are always in
+    /// path order, and each path and each id occurs once. The root is always there, with id 0. The
+    /// parent of each row is a directory.
     pub fn rows(&self) -> u32
         ensures count { result ≡ length self.now.rows }
         ensures rules { IsRows self.now.rows }
@@ -90,15 +92,15 @@ impl Tree {
         self.order.len() as u32
     }
 
-    /// The row at a path, `None` where none stands there.
+    /// Returns the row at a path, or `None` if there is none.
     pub fn find(&self, path: &NPath) -> Option<Row>
         ensures { result ≡ row_at self.now.rows path.now }
     {
         row_upto(&self.nodes, &self.order, path, path.len())
     }
 
-    /// The row of the directory that a path lies in, which for the root is the root. `None` where
-    /// none stands there.
+    /// Returns the row at the parent of a path, or `None` if there is none. The root is its own
+    /// parent.
     pub fn find_parent(&self, path: &NPath) -> Option<Row>
         ensures { result ≡ row_at self.now.rows (parent path.now) }
     {
@@ -106,7 +108,7 @@ impl Tree {
         row_upto(&self.nodes, &self.order, path, upto)
     }
 
-    /// The row that has an id, `None` where none has it.
+    /// Returns the row with an id, or `None` if there is none.
     pub fn row(&self, id: u64) -> Option<Row>
         ensures { result ≡ option_map (λ e. e.row) (entry_of self.now.rows id) }
     {
@@ -116,7 +118,8 @@ impl Tree {
         }
     }
 
-    /// The path of the row that has an id.
+    /// Returns the path of the row with an id, which must exist. Returns `NoMemory` if allocation
+    /// fails.
     pub fn path_of(&self, id: u64) -> Result<NPath, NoMemory>
         requires { IsSome (entry_of self.now.rows id) }
         ensures { IfOk result (λ path. option_map (λ e. e.path) (entry_of self.now.rows id) ≡ Some path) }
@@ -127,7 +130,7 @@ impl Tree {
         }
     }
 
-    /// Whether a row lies in the directory at the path.
+    /// Returns whether a row lies directly in the directory at the path.
     pub fn has_children(&self, path: &NPath) -> bool
         ensures { result ≡ has_children self.now.rows path.now }
     {
@@ -137,16 +140,17 @@ impl Tree {
         }
     }
 
-    /// The id of the zone that the path lies in: of the directories that carry a key and are the
-    /// path or lie above it, the deepest. `None` where there is none. The path need not stand.
+    /// Returns the id of the zone that the path lies in, or `None` if it lies in none. That is the
+    /// deepest directory marked with a key that is the path or lies above it. The path need not
+    /// exist.
     pub fn zone_of(&self, path: &NPath) -> Option<u64>
         ensures { result ≡ zone_id self.now.rows path.now }
     {
         zone_at(&self.nodes, &self.order, path)
     }
 
-    /// Takes the memory that `mkdir` at this path needs, so that it can't fail. Where memory is
-    /// wanting the rows stay as they were.
+    /// Reserves the memory that `mkdir` at this path needs, so that `mkdir` can't fail. Returns
+    /// `NoMemory` if allocation fails. The rows are unchanged in either case.
     pub fn reserve_mkdir(&mut self, path: &NPath, _id: u64) -> Result<(), NoMemory>
         ensures same { self.new.rows ≡ self.old.rows }
         ensures ok { OnOk result (need path.now ≤ self.new.spare) }
@@ -162,8 +166,8 @@ impl Tree {
         )
     }
 
-    /// Takes the memory that `add_file` at this path needs, so that it can't fail. Where memory is
-    /// wanting the rows stay as they were.
+    /// Reserves the memory that `add_file` at this path needs, so that `add_file` can't fail.
+    /// Returns `NoMemory` if allocation fails. The rows are unchanged in either case.
     pub fn reserve_add_file(
         &mut self,
         path: &NPath,
@@ -184,8 +188,9 @@ impl Tree {
         )
     }
 
-    /// Adds a directory without a key. Its own directory has to stand, the path and the id to be
-    /// free. Where memory is wanting the rows stay as they were; it is not where it was reserved.
+    /// Adds a directory without a key. Its parent must be a directory, the path and the id must be
+    /// free, and the tree must have fewer than `MOST_ROWS` rows. Returns `NoMemory` if allocation
+    /// fails; the rows are then unchanged. It can't fail if the memory was reserved.
     pub fn mkdir(&mut self, path: &NPath, id: u64) -> Result<(), NoMemory>
         requires absent { row_at self.old.rows path.now ≡ None }
         requires parent { IsTrue (is_dir_at (row_at self.old.rows (parent path.now))) }
@@ -208,9 +213,10 @@ impl Tree {
         )
     }
 
-    /// Adds a file, with its encrypted key where it has one. Its directory has to stand, the path
-    /// and the id to be free. Where memory is wanting the rows stay as they were; it is not where
-    /// it was reserved.
+    /// Adds a file, with its encrypted data encryption key if it has one. Its parent must be a
+    /// directory, the path and the id must be free, and the tree must have fewer than `MOST_ROWS`
+    /// rows. Returns `NoMemory` if allocation fails; the rows are then unchanged. It can't fail if
+    /// the memory was reserved.
     pub fn add_file(&mut self, path: &NPath, id: u64, edek: Option<Edek>) -> Result<(), NoMemory>
         requires absent { row_at self.old.rows path.now ≡ None }
         requires parent { IsTrue (is_dir_at (row_at self.old.rows (parent path.now))) }
@@ -233,7 +239,7 @@ impl Tree {
         )
     }
 
-    /// Marks the directory that has the id with a key. It takes no memory.
+    /// Marks the directory with this id with a key. It does not allocate.
     pub fn set_key(&mut self, id: u64, key: KeyName)
         requires { IsTrue (is_dir_at (option_map (λ e. e.row) (entry_of self.old.rows id))) }
         ensures { self.new.rows ≡ set_kind self.old.rows id (Dir (Some key)) }
@@ -243,7 +249,7 @@ impl Tree {
     }
 }
 
-/// The number of the row at the first names of a path.
+/// Returns the number of the row at the first `upto` names of a path.
 pub fn seek(nodes: &Vec<Node>, order: &Order, path: &NPath, upto: usize) -> Option<u32>
     requires tree { (ids : ℕ → Option ℕ) × IsTree nodes.now.items order.now.items ids }
     requires upto { upto ≤ length path.now }
@@ -262,7 +268,7 @@ pub fn seek(nodes: &Vec<Node>, order: &Order, path: &NPath, upto: usize) -> Opti
     }
 }
 
-/// The row at the first names of a path.
+/// Returns the row at the first `upto` names of a path.
 fn row_upto(nodes: &Vec<Node>, order: &Order, path: &NPath, upto: usize) -> Option<Row>
     requires tree { (ids : ℕ → Option ℕ) × IsTree nodes.now.items order.now.items ids }
     requires upto { upto ≤ length path.now }
@@ -274,7 +280,7 @@ fn row_upto(nodes: &Vec<Node>, order: &Order, path: &NPath, upto: usize) -> Opti
     }
 }
 
-/// Whether the row that follows that of the path in path order lies below the path.
+/// Returns whether the row after that of the path, in path order, lies below the path.
 fn next_is_below(nodes: &Vec<Node>, order: &Order, path: &NPath) -> bool
     requires tree { (ids : ℕ → Option ℕ) × IsTree nodes.now.items order.now.items ids }
     requires stands { IsSome (number_of nodes.now.items order.now.items path.now) }
@@ -289,7 +295,7 @@ fn next_is_below(nodes: &Vec<Node>, order: &Order, path: &NPath) -> bool
     }
 }
 
-/// How many bytes the last name of a path has; none for the root.
+/// Returns the length in bytes of the last name of a path: 0 for the root.
 fn last_len(path: &NPath) -> usize
     ensures { result ≡ length (last_name path.now) }
 {
@@ -300,7 +306,7 @@ fn last_len(path: &NPath) -> usize
     path.name(len - 1).as_str().len()
 }
 
-/// A node that no row has.
+/// Creates a node that no row has.
 fn blank_node(alloc: Global) -> Node
     ensures { result ≡ blank }
 {
@@ -314,7 +320,7 @@ fn blank_node(alloc: Global) -> Node
     }
 }
 
-/// Sees to it that there is a free node.
+/// Makes a free node if there is none.
 fn provide(
     alloc: Global,
     nodes: &mut Vec<Node>,
@@ -343,7 +349,8 @@ fn provide(
     Ok(())
 }
 
-/// Takes memory for one more row whose name has so many bytes.
+/// Reserves memory for one more row whose name has `name` bytes. Returns `NoMemory` if allocation
+/// fails; the rows are then unchanged.
 fn make_room(
     alloc: Global,
     nodes: &mut Vec<Node>,
@@ -369,7 +376,7 @@ fn make_room(
     Ok(())
 }
 
-/// Gives an id its number, in memory that is ready.
+/// Maps an id to its number, in reserved memory.
 fn give(places: &mut HashMap<u64, u32>, id: u64, n: u32)
     requires { 0 < spare places.old }
     ensures { (q : ℕ) → get nat_eq places.new q ≡ (if nat_eq id q then Some n else get nat_eq places.old q) }
@@ -377,7 +384,7 @@ fn give(places: &mut HashMap<u64, u32>, id: u64, n: u32)
     let _ = places.insert(id, n);
 }
 
-/// Puts the root in, in memory that is ready.
+/// Adds the root, in reserved memory.
 fn first(alloc: Global, nodes: &mut Vec<Node>, order: &mut Order, places: &mut HashMap<u64, u32>)
     requires nodes { (nodes.old.items ≡ []) × (vec_len nodes.old < vec_capacity nodes.old) }
     requires order { (order.old.items ≡ []) × (0 < order.old.spare) }
@@ -392,7 +399,7 @@ fn first(alloc: Global, nodes: &mut Vec<Node>, order: &mut Order, places: &mut H
     nodes.push_reserved(blank_node(alloc));
 }
 
-/// Makes a name in memory that is ready.
+/// Copies a name into the memory reserved in `ready`, which is then empty.
 fn name_in(alloc: Global, ready: &mut String, name: &Text) -> Text
     requires ready { string_bytes ready.old ≡ [] }
     requires room { length name.now ≤ string_capacity ready.old }
@@ -404,7 +411,7 @@ fn name_in(alloc: Global, ready: &mut String, name: &Text) -> Text
     Text::of(text)
 }
 
-/// Puts the row in, in memory that is ready. The node is the last of the free ones.
+/// Adds a row at the place `at`, in reserved memory. Its node is the last of the free ones.
 fn commit(
     nodes: &mut Vec<Node>,
     order: &mut Order,
@@ -439,7 +446,7 @@ fn copy_of(alloc: Global, name: &Text) -> Result<Text, NoMemory>
     Ok(Text::of(String::from_str(alloc, name.as_str())?))
 }
 
-/// Adds a row.
+/// Adds a row. Returns `NoMemory` if allocation fails; the rows are then unchanged.
 fn add(
     alloc: Global,
     nodes: &mut Vec<Node>,
@@ -467,7 +474,7 @@ fn add(
     Ok(())
 }
 
-/// Puts a row in, in memory that is ready.
+/// Adds a row, in reserved memory.
 fn put_in(
     alloc: Global,
     nodes: &mut Vec<Node>,
@@ -499,7 +506,7 @@ fn put_in(
     commit(nodes, order, places, free, at, Node { parent, name, row });
 }
 
-/// Gives the row of an id another kind: a directory stays one, and a file.
+/// Sets the kind of the row with an id. A directory must stay a directory, and a file a file.
 fn set(nodes: &mut Vec<Node>, order: &Order, places: &HashMap<u64, u32>, id: u64, kind: Kind)
     requires tree { IsTree nodes.old.items order.now.items (get nat_eq places.now) }
     requires same { option_map (λ e. is_dir e.row.kind) (entry_of (rows_of nodes.old.items order.now.items) id) ≡ Some (is_dir kind) }
@@ -522,7 +529,7 @@ fn write(nodes: &mut Vec<Node>, n: usize, kind: Kind)
     node.row.kind = kind;
 }
 
-/// The path of a node.
+/// Builds the path of a node.
 fn build(alloc: Global, nodes: &Vec<Node>, n: u32) -> Result<NPath, NoMemory>
     requires linked { IsLinked nodes.now.items }
     requires live { n < length nodes.now.items }

@@ -1,4 +1,4 @@
-//! Zones, by climbing.
+//! The zone of a path, by climbing from a node to the root.
 ghost use Rattle.std.specs.Prelude.{◌≡◌, ◌<◌, ◌≤◌, length, ℕ, Option};
 ghost use Rattle.inode_tree.specs.Arena.{IsTree, IsLive, rows_of, path_of};
 ghost use Rattle.inode_tree.specs.Rows.{zone_id, is_marked};
@@ -8,7 +8,7 @@ use crate::rows::{Kind, Node};
 use crate::tree::seek;
 use name_calls::NPath;
 
-/// Whether the node is a directory that carries a key's name.
+/// Returns whether the node is a directory that is marked with a key.
 fn marked(node: &Node) -> bool
     ensures { result ≡ is_marked node.now.row }
 {
@@ -18,7 +18,7 @@ fn marked(node: &Node) -> bool
     }
 }
 
-/// The id of the nearest marked directory at or above the node.
+/// Returns the id of the nearest marked directory at or above the node.
 fn zone_above(nodes: &Vec<Node>, order: &Order, n: u32) -> Option<u64>
     requires tree { (ids : ℕ → Option ℕ) × IsTree nodes.now.items order.now.items ids }
     requires live { IsLive order.now.items n }
@@ -38,7 +38,8 @@ fn zone_above(nodes: &Vec<Node>, order: &Order, n: u32) -> Option<u64>
     None
 }
 
-/// The number of the row at the longest front of the path that stands.
+/// Returns the number of the row at the longest prefix of the path that has a row. That row lies in
+/// the same zone as the path.
 fn standing(nodes: &Vec<Node>, order: &Order, path: &NPath) -> u32
     requires tree { (ids : ℕ → Option ℕ) × IsTree nodes.now.items order.now.items ids }
     ensures live { IsLive order.now.items result }
@@ -54,7 +55,7 @@ fn standing(nodes: &Vec<Node>, order: &Order, path: &NPath) -> u32
     0
 }
 
-/// The id of the deepest marked directory that is the path or lies above it.
+/// Returns the id of the deepest marked directory that is the path or lies above it.
 pub fn zone_at(nodes: &Vec<Node>, order: &Order, path: &NPath) -> Option<u64>
     requires tree { (ids : ℕ → Option ℕ) × IsTree nodes.now.items order.now.items ids }
     ensures { result ≡ zone_id (rows_of nodes.now.items order.now.items) path.now }

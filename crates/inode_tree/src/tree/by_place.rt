@@ -1,4 +1,4 @@
-//! Rows by their places in path order, and as they are seen from a directory.
+//! Rows by their place in path order, and their paths relative to a directory.
 ghost use Rattle.std.specs.Prelude.{◌≡◌, ◌<◌, ◌≤◌, ◌-◌, Some, length, drop, slice_get, IsTrue, IfOk};
 ghost use Rattle.std.specs.Option.{option_map};
 ghost use Rattle.inode_tree.specs.Arena.{IsLinked, path_of, rank};
@@ -13,15 +13,15 @@ use name_calls::NPath;
 use std::alloc::Global;
 
 impl Tree {
-    /// How many rows come before a path in path order. That is the place of the row at the path,
-    /// where one stands there.
+    /// Returns how many rows come before a path in path order. If the path has a row, that is the
+    /// place of the row.
     pub fn place(&self, path: &NPath) -> u32
         ensures { result ≡ rank self.now.rows path.now }
     {
         place(&self.nodes, &self.order, path, path.len()) as u32
     }
 
-    /// The row at a place in path order, from 0.
+    /// Returns the row at a place in path order, counted from 0.
     pub fn row_at_place(&self, at: u32) -> Row
         requires { at < length self.now.rows }
         ensures { option_map (λ e. e.row) (slice_get self.now.rows at) ≡ Some result }
@@ -29,7 +29,7 @@ impl Tree {
         self.nodes[self.order.get(at as usize) as usize].row
     }
 
-    /// Whether the path of the row at a place is the path or lies below it.
+    /// Returns whether the path of the row at a place is the path or lies below it.
     pub fn place_is_below(&self, at: u32, path: &NPath) -> bool
         requires { at < length self.now.rows }
         ensures { option_map (λ e. is_prefix path.now e.path) (slice_get self.now.rows at) ≡ Some result }
@@ -37,8 +37,8 @@ impl Tree {
         below(&self.nodes, self.order.get(at as usize), path)
     }
 
-    /// The path of the row at a place without its first `from` names: as it is seen from the
-    /// directory that these lead to.
+    /// Returns the path of the row at a place without its first `from` names: relative to the
+    /// directory at those names. Returns `NoMemory` if allocation fails.
     pub fn path_from(&self, at: u32, from: usize) -> Result<NPath, NoMemory>
         requires { at < length self.now.rows }
         ensures { IfOk result (λ path. option_map (λ e. drop from e.path) (slice_get self.now.rows at) ≡ Some path) }
@@ -48,7 +48,7 @@ impl Tree {
         build_last(self.alloc, &self.nodes, n, count)
     }
 
-    /// Whether the row that has an id is at the path or below it; not so where none has it.
+    /// Returns whether the row with an id is at the path or below it: `false` if no row has the id.
     pub fn at_or_below(&self, id: u64, path: &NPath) -> bool
         ensures { result ≡ at_or_below self.now.rows id path.now }
     {
@@ -58,7 +58,7 @@ impl Tree {
         }
     }
 
-    /// Whether the row that has an id is at the path or above it; not so where none has it.
+    /// Returns whether the row with an id is at the path or above it: `false` if no row has the id.
     pub fn at_or_above(&self, id: u64, path: &NPath) -> bool
         ensures { result ≡ at_or_above self.now.rows id path.now }
     {
@@ -69,7 +69,7 @@ impl Tree {
     }
 }
 
-/// The last names of a node's path.
+/// Builds a path from the last `count` names of a node's path.
 fn build_last(alloc: Global, nodes: &Vec<Node>, n: u32, count: usize) -> Result<NPath, NoMemory>
     requires linked { IsLinked nodes.now.items }
     requires live { n < length nodes.now.items }

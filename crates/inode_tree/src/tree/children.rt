@@ -1,4 +1,4 @@
-//! What lies in a directory, in the order of the rows.
+//! The children of a directory, in the order of the rows.
 ghost use Rattle.std.specs.Prelude.{ℕ, Option, ◌≡◌, ◌<◌, ◌++◌, ◌∷◌, [], length, IfOk, OnOk};
 ghost use Rattle.inode_tree.specs.Arena.{IsSkip, IsTree, rows_of};
 ghost use Rattle.inode_tree.specs.Listing.{children};
@@ -13,8 +13,9 @@ use name_calls::{Child, ChildList, NPath};
 use std::alloc::Global;
 
 impl Tree {
-    /// What lies in the directory at a path, in the order of the rows; nothing where no directory
-    /// stands there. Its time is by the number of children, however many rows lie below them.
+    /// Returns the children of the directory at a path, in the order of the rows. The list is empty
+    /// if there is no directory at the path. Returns `NoMemory` if allocation fails. The time
+    /// depends on the number of children, not on the number of rows below them.
     pub fn list(&self, path: &NPath) -> Result<ChildList, NoMemory>
         ensures { IfOk result (λ list. list ≡ children self.now.rows path.now) }
     {
@@ -22,7 +23,7 @@ impl Tree {
     }
 }
 
-/// The children of a directory. What lies below one of them is passed over.
+/// Returns the children of a directory. Skips the rows below each child.
 fn list(
     alloc: Global,
     nodes: &Vec<Node>,
@@ -47,7 +48,7 @@ fn list(
     Ok(list)
 }
 
-/// Adds a node to the children.
+/// Appends a node to the list of children.
 fn push(alloc: Global, list: &mut ChildList, node: &Node) -> Result<(), NoMemory>
     ensures { OnOk result (list.new ≡ list.old ++ record { name = node.now.name; directory = is_dir node.now.row.kind } ∷ []) }
 {
@@ -57,7 +58,7 @@ fn push(alloc: Global, list: &mut ChildList, node: &Node) -> Result<(), NoMemory
     Ok(())
 }
 
-/// The place behind that of a row and behind all rows below it.
+/// Returns the place after a row and after all rows below it.
 fn skip(alloc: Global, nodes: &Vec<Node>, order: &Order, at: usize) -> Result<usize, NoMemory>
     requires tree { (ids : ℕ → Option ℕ) × IsTree nodes.now.items order.now.items ids }
     requires at { at < length order.now.items }
@@ -68,7 +69,7 @@ fn skip(alloc: Global, nodes: &Vec<Node>, order: &Order, at: usize) -> Result<us
     if next == order.len() {
         return Ok(next);
     }
-    // what follows a row in path order lies in it, or nothing does
+    // the next row in path order lies directly in this row, or no row does
     if nodes[order.get(next) as usize].parent != n {
         return Ok(next);
     }

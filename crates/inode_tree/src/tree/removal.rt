@@ -1,4 +1,4 @@
-//! Rows that are removed, and their nodes, which are used again.
+//! The removal of rows, and the reuse of their nodes.
 ghost use Rattle.std.specs.Prelude.{ℕ, ◌≡◌, ◌<◌, None, length, if◌then◌else◌};
 ghost use Rattle.std.specs.HashMap.{get};
 ghost use Rattle.std.specs.Bool.{nat_eq};
@@ -15,8 +15,8 @@ use std::alloc::Global;
 use std::collections::HashMap;
 
 impl Tree {
-    /// Removes the row at a path, where one stands there, with all that lies below it. The root
-    /// can't be removed. It takes no memory, and for each removed row the time that adding one takes.
+    /// Removes the row at a path, if there is one, and all rows below it. The path must not be the
+    /// root. It does not allocate. Each removed row takes as much time as adding one.
     pub fn remove(&mut self, path: &NPath)
         requires { 0 < length path.now }
         ensures { self.new.rows ≡ removed path.now self.old.rows }
@@ -32,14 +32,14 @@ impl Tree {
     }
 }
 
-/// Forgets an id.
+/// Removes an id from `places`.
 fn forget(places: &mut HashMap<u64, u32>, id: u64)
     ensures { (q : ℕ) → get nat_eq places.new q ≡ (if nat_eq id q then None else get nat_eq places.old q) }
 {
     let _ = places.remove(&id);
 }
 
-/// Takes a row out that no other lies in.
+/// Removes the row at the place `at`, which must not be the root or have children.
 fn take_out(
     alloc: Global,
     nodes: &mut Vec<Node>,
@@ -61,7 +61,7 @@ fn take_out(
     free.push_reserved(n);
 }
 
-/// Takes the row at a path and all below it out, the last in path order first.
+/// Removes the row at a path and all rows below it, the last in path order first.
 fn clear(
     alloc: Global,
     nodes: &mut Vec<Node>,
