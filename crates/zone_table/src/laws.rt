@@ -1,9 +1,9 @@
-//! What follows for the zones of a tree. The function does nothing: its contract is the law.
+//! Laws of the zones of a tree. The function does nothing: its contract states the laws.
 ghost use Rattle.zone_table.specs.Laws.{MarkedIsAZone, RootHasNoZones, UnmarkedChangesNothing};
 
-/// The zones of a tree are its marked directories. A row without a mark that is put in changes no
-/// zones. A directory without a mark is no zone, and becomes one where it is marked. A tree of the
-/// root alone has no zones.
+/// States that the zones of a tree are its marked directories. Adding a row without a mark does not
+/// change the zones. A directory without a mark is not a zone, and becomes one when it is marked. A
+/// tree with only the root has no zones.
 pub fn zones_are_the_marks()
     ensures unmarked { UnmarkedChangesNothing }
     ensures marked { MarkedIsAZone }

@@ -1,4 +1,4 @@
-//! Encryption zones: the zone that a path lies in, and the table of the zones.
+//! Encryption zones: the zone that a path lies in, and the table of zones.
 #![tactic(auto)]
 
 mod laws;

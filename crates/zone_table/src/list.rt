@@ -1,4 +1,4 @@
-//! The zones as they are listed.
+//! The listing of zones.
 ghost use Rattle.std.specs.Prelude.{◌≡◌, ◌<◌, ◌++◌, ◌∷◌, length, map, IfOk, IsSome, OnOk};
 ghost use Rattle.std.specs.HashMap.{keys};
 ghost use Rattle.std.specs.List.{All, flat_map};
@@ -11,7 +11,8 @@ use name_calls::{ZoneList, ZonePath};
 use std::alloc::Global;
 use std::collections::HashMap;
 
-/// The place in path order of the directory that has an id.
+/// Returns the place in path order of the directory with an id, which must exist. Returns
+/// `NoMemory` if allocation fails.
 fn place_of(tree: &Tree, dir: u64) -> Result<u32, NoMemory>
     requires { IsSome (entry_of tree.now.rows dir) }
     ensures { IfOk result (λ place. place ≡ place_of tree.now.rows dir) }
@@ -20,7 +21,8 @@ fn place_of(tree: &Tree, dir: u64) -> Result<u32, NoMemory>
     Ok(tree.place(&path))
 }
 
-/// The places in path order of the directories of zones.
+/// Returns the places in path order of the directories of zones, which must exist. Returns
+/// `NoMemory` if allocation fails.
 pub fn places_of(
     alloc: Global,
     zones: &HashMap<u64, KeyName>,
@@ -36,7 +38,7 @@ pub fn places_of(
     Ok(places)
 }
 
-/// The key that a row is marked with.
+/// Returns the key that a row is marked with.
 fn mark_of(row: &Row) -> Option<KeyName>
     ensures { result ≡ mark_of row.now.kind }
 {
@@ -46,7 +48,7 @@ fn mark_of(row: &Row) -> Option<KeyName>
     }
 }
 
-/// Lists the zone at a place of the tree, where one stands there.
+/// Appends the zone at a place of the tree to the list, if there is one.
 fn list_place(list: &mut ZoneList, tree: &Tree, at: u32) -> Result<(), NoMemory>
     requires { at < length tree.now.rows }
     ensures { OnOk result (list.new ≡ list.old ++ listed_at tree.now.rows at) }
@@ -60,7 +62,8 @@ fn list_place(list: &mut ZoneList, tree: &Tree, at: u32) -> Result<(), NoMemory>
     }
 }
 
-/// The zones at places of the tree, in the order of the places.
+/// Returns the zones at places of the tree, in the order of the places. Returns `NoMemory` if
+/// allocation fails.
 pub fn list_places(alloc: Global, tree: &Tree, places: &Vec<u32>) -> Result<ZoneList, NoMemory>
     requires { All (λ at. at < length tree.now.rows) places.now.items }
     ensures { IfOk result (λ list. list ≡ flat_map (listed_at tree.now.rows) places.now.items) }

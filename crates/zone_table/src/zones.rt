@@ -1,4 +1,4 @@
-//! The table of the zones.
+//! The table of zones.
 ghost use Rattle.std.specs.Prelude.{ℕ, ◌≡◌, ◌≤◌, [], None, IfOk, IsOk, OnOk, OnErr};
 ghost use Rattle.std.specs.Option.{option_map};
 ghost use Rattle.inode_tree.specs.Rows.{removed, zone_id};
@@ -19,8 +19,9 @@ pub struct ZoneRow {
     pub key: KeyName,
 }
 
-/// The encryption zones. Contracts see their rows in one list, by the ids of their directories, and
-/// for how many more there is room. Finding, adding and removing a zone take expected constant time.
+/// The encryption zones. In contracts their value is the list of their rows, ordered by directory
+/// id, and the number of further zones that there is room for. Finding, adding and removing a zone
+/// take expected constant time.
 #[derive(Drop)]
 pub struct Zones {
     alloc: Global,
@@ -40,7 +41,7 @@ impl Model for Zones {
 }
 
 impl Zones {
-    /// No zones. It takes no memory.
+    /// Creates an empty table. It does not allocate.
     pub fn new(alloc: Global) -> Zones
         ensures { result.rows ≡ [] }
     {
@@ -50,15 +51,16 @@ impl Zones {
         }
     }
 
-    /// The id of the directory whose zone a path lies in: of the directories that carry a key and
-    /// are the path or lie above it, the deepest. `None` where there is none. It takes no memory.
+    /// Returns the id of the directory whose zone a path lies in, or `None` if it lies in none.
+    /// That is the deepest directory marked with a key that is the path or lies above it. It does
+    /// not allocate.
     pub fn zone_of(&self, tree: &Tree, path: &NPath) -> Option<u64>
         ensures { result ≡ zone_id tree.now.rows path.now }
     {
         tree.zone_of(path)
     }
 
-    /// The key of the zone that has this directory, `None` where it is no zone.
+    /// Returns the key of the zone of this directory, or `None` if the directory is not a zone.
     pub fn key(&self, dir: u64) -> Option<KeyName>
         ensures { result ≡ option_map (λ row. row.key) (zone_row self.now.rows dir) }
     {
@@ -68,8 +70,9 @@ impl Zones {
         }
     }
 
-    /// Takes the memory that one more zone will need. The zones stay as they are, also where memory
-    /// is wanting. After `Ok` a zone is added with `Ok`, for as long as the table is left as it is.
+    /// Reserves the memory that one more zone needs. Returns `NoMemory` if allocation fails. The
+    /// zones are unchanged in either case. After `Ok`, adding a zone can't fail as long as the
+    /// table does not change.
     pub fn reserve_add(&mut self, _dir: u64, _key: KeyName) -> Result<(), NoMemory>
         ensures same { self.new.rows ≡ self.old.rows }
         ensures ok { (dir : ℕ) (key : KeyName) → OnOk result (need_add dir key ≤ self.new.spare) }
@@ -78,8 +81,8 @@ impl Zones {
         Ok(())
     }
 
-    /// Adds a zone. The directory has to be none yet. Where memory is wanting the zones stay as they
-    /// were. It is `Ok` where there is room for one more.
+    /// Adds a zone. The directory must not be a zone yet. Returns `NoMemory` if allocation fails;
+    /// the zones are then unchanged. It can't fail if there is room for one more.
     pub fn add(&mut self, dir: u64, key: KeyName) -> Result<(), NoMemory>
         requires { zone_row self.old.rows dir ≡ None }
         ensures ok { OnOk result (self.new.rows ≡ put_zone (record { dir = dir; key = key }) self.old.rows) }
@@ -90,22 +93,23 @@ impl Zones {
         Ok(())
     }
 
-    /// Removes the zone that has this directory. Where it is no zone, the zones stay as they were.
-    /// It takes no memory.
+    /// Removes the zone of this directory. Does nothing if the directory is not a zone. It does not
+    /// allocate.
     pub fn remove(&mut self, dir: u64)
         ensures { self.new.rows ≡ without_zone self.old.rows dir }
     {
         let _ = self.keys.remove(&dir);
     }
 
-    /// Removes the zones at and below a path that is to be removed from the tree, so that the table
-    /// is that of the tree without them. It takes no memory, and for each row that is removed the
-    /// time that finding one takes, however many zones there are.
+    /// Removes the zones at and below a path that will be removed from the tree, so that the table
+    /// matches the tree without them. The table must match the tree before. It does not allocate.
+    /// Each row that will be removed takes as much time as finding one, however many zones there
+    /// are.
     pub fn remove_below(&mut self, tree: &Tree, path: &NPath)
         requires { self.old.rows ≡ zones_of tree.now.rows }
         ensures { self.new.rows ≡ zones_of (removed path.now tree.now.rows) }
     {
-        // Each id is that of one row, and those at and below a path stand together.
+        // Each id belongs to one row, and the rows at and below a path are adjacent.
         let rows = tree.rows();
         let mut at = tree.place(path);
         while at < rows && tree.place_is_below(at, path) {
@@ -114,13 +118,14 @@ impl Zones {
         }
     }
 
-    /// The zones of the tree with their paths and keys, in path order. It is an `Err` only where
-    /// memory is wanting. It takes time by the number of the zones, and not by that of the rows.
+    /// Returns the zones of the tree with their paths and keys, in path order. The table must match
+    /// the tree. Fails only if allocation fails. The time depends on the number of zones, not on
+    /// the number of rows.
     pub fn all(&self, tree: &Tree) -> Result<ZoneList, NoMemory>
         requires { self.now.rows ≡ zones_of tree.now.rows }
         ensures { IfOk result (λ list. list ≡ zone_paths tree.now.rows) }
     {
-        // Each id is that of one row.
+        // Each id belongs to one row.
         let _ = tree.rows();
         let mut places = places_of(self.alloc, &self.keys, tree)?;
         places.sort_unstable();
