@@ -32,8 +32,9 @@ pub const MOST_ROWS: u32 = 1_000_000;
 /// rows in path order, and the room that is kept for one more row. Path order compares paths name
 /// by name, and names by their bytes. Each row has an id of its own; the root has id 0.
 ///
-/// Finding, making and changing a row take logarithmic time in the number of rows. The node of a
-/// removed row is used again.
+/// Finding a row takes logarithmic time in the number of rows. Making or removing one also moves the
+/// rest of a piece of the order, and renumbers the pieces after it. The node of a removed row is used
+/// again.
 #[derive(Drop)]
 pub struct Tree {
     alloc: Global,
