@@ -1,9 +1,9 @@
-//! What follows for the records of the edit log. The function does nothing: its contract is the law.
+//! Laws about the records of the edit log. The function does nothing: its contract states the laws.
 ghost use Rattle.edit_ops.specs.Laws.{OneSpelling, RecordsAreShort, SpelledFits};
 
-/// Two operations with one spelling are one operation. So what is written is read again, as the
-/// operation that was written. Each operation that has a spelling can be written, and its record has
-/// at most 8,128 bytes.
+/// Two operations with the same record are the same operation, so reading a written record gives
+/// the operation that was written. Each operation that has a record can be written, and its record
+/// has at most 8,128 bytes.
 pub fn operations_have_one_spelling()
     ensures one { OneSpelling }
     ensures fits { SpelledFits }

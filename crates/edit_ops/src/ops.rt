@@ -1,4 +1,4 @@
-//! What changes the namesystem.
+//! Operations that change the namesystem.
 ghost use Rattle.std.specs.Prelude.{◌≡◌, not, length};
 ghost use Rattle.std.specs.Str.{bytes_eq};
 ghost use Rattle.name_calls.specs.Paths.{is_relative, starts_reserved};
@@ -19,13 +19,13 @@ pub enum EditOp {
         id: u64,
         path: NPath,
     },
-    /// A file was made. It has an encrypted data encryption key where it lies in a zone.
+    /// A file was made. It has an encrypted data encryption key if it lies in a zone.
     File {
         id: u64,
         path: NPath,
         edek: Option<Edek>,
     },
-    /// What stood at the path was removed, with all that lay below it.
+    /// The entry at the path was removed, with everything below it.
     Remove {
         path: NPath,
     },
@@ -36,7 +36,7 @@ pub enum EditOp {
     },
 }
 
-/// Whether the first name of a path is `.reserved`.
+/// Returns whether the first name of a path is `.reserved`.
 fn is_reserved(path: &NPath) -> bool
     ensures { result ≡ starts_reserved path.now }
 {
@@ -47,8 +47,9 @@ fn is_reserved(path: &NPath) -> bool
 }
 
 impl EditOp {
-    /// Whether the operation has a spelling as a record of the edit log: its path, where it has one,
-    /// doesn't begin with the name `.reserved`. Each operation that was read has one.
+    /// Returns whether the operation can be written as a record of the edit log: its path, if it
+    /// has one, doesn't begin with the name `.reserved`. This holds for each operation that was
+    /// read.
     pub fn has_spelling(&self) -> bool
         ensures { result ≡ fits self.now }
     {

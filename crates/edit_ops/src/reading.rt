@@ -47,7 +47,7 @@ fn u64_at(bytes: &[u8]) -> Result<(u64, &[u8]), RecordFault>
     Ok((number, rest))
 }
 
-/// So many bytes, and the bytes behind them.
+/// Splits off the first `len` bytes: those bytes, and the bytes after them.
 fn cut(bytes: &[u8], len: usize) -> Result<(&[u8], &[u8]), RecordFault>
     ensures { Gives (λ x. (x.0.now, x.1.now)) result (bytes_at len bytes.now) }
 {
@@ -58,7 +58,7 @@ fn cut(bytes: &[u8], len: usize) -> Result<(&[u8], &[u8]), RecordFault>
     Ok((front, rest))
 }
 
-/// The bytes behind a byte of length.
+/// Splits off the bytes after a one-byte length: those bytes, and the rest.
 #[tactic(auto, unfolding(key_rows::specs::Reading::short_at))]
 fn cut_short(bytes: &[u8]) -> Result<(&[u8], &[u8]), RecordFault>
     ensures { Gives (λ x. (x.0.now, x.1.now)) result (short_at bytes.now) }
@@ -69,7 +69,7 @@ fn cut_short(bytes: &[u8]) -> Result<(&[u8], &[u8]), RecordFault>
     }
 }
 
-/// The bytes behind two bytes of length.
+/// Splits off the bytes after a two-byte length: those bytes, and the rest.
 #[tactic(auto, unfolding(key_rows::specs::Reading::long_at))]
 fn cut_long(bytes: &[u8]) -> Result<(&[u8], &[u8]), RecordFault>
     ensures { Gives (λ x. (x.0.now, x.1.now)) result (long_at bytes.now) }
@@ -78,7 +78,7 @@ fn cut_long(bytes: &[u8]) -> Result<(&[u8], &[u8]), RecordFault>
     cut(rest, len as usize)
 }
 
-/// All of the bytes as a name.
+/// Reads all of the bytes as a key name.
 fn name_of(bytes: &[u8]) -> Result<KeyName, RecordFault>
     ensures { Gives (λ x. x) result (name_of bytes.now) }
 {
@@ -88,7 +88,7 @@ fn name_of(bytes: &[u8]) -> Result<KeyName, RecordFault>
     }
 }
 
-/// All of the bytes as the sealed bytes of a key.
+/// Reads all of the bytes as the sealed bytes of a key.
 fn sealed_of(bytes: &[u8]) -> Result<Dek, RecordFault>
     ensures { Gives (λ x. x) result (material_of bytes.now) }
 {
@@ -98,7 +98,7 @@ fn sealed_of(bytes: &[u8]) -> Result<Dek, RecordFault>
     }
 }
 
-/// All of the bytes as an initialization vector.
+/// Reads all of the bytes as an initialization vector.
 fn iv_of(bytes: &[u8]) -> Result<Iv, RecordFault>
     ensures { Gives (λ x. x) result (iv_of bytes.now) }
 {
@@ -108,7 +108,7 @@ fn iv_of(bytes: &[u8]) -> Result<Iv, RecordFault>
     }
 }
 
-/// All of the bytes as a path.
+/// Reads all of the bytes as a path.
 fn path_of(alloc: Global, bytes: &[u8]) -> Result<NPath, RecordFault>
     ensures { Gives (λ x. x) result (read_path bytes.now) }
 {
@@ -128,7 +128,7 @@ fn path_at(alloc: Global, bytes: &[u8]) -> Result<(NPath, &[u8]), RecordFault>
     Ok((path, rest))
 }
 
-/// All of the bytes as an encrypted data encryption key.
+/// Reads all of the bytes as an encrypted data encryption key.
 #[tactic(auto, unfolding(crate::specs::Reading::edek_of))]
 fn edek_of(bytes: &[u8]) -> Result<Edek, RecordFault>
     ensures { Gives (λ x. x) result (edek_of bytes.now) }
@@ -151,7 +151,7 @@ fn edek_of(bytes: &[u8]) -> Result<Edek, RecordFault>
     })
 }
 
-/// All of the bytes as an encrypted data encryption key that may be absent.
+/// Reads all of the bytes as an optional encrypted data encryption key.
 #[tactic(auto, unfolding(crate::specs::Reading::opt_edek_of))]
 fn opt_edek_of(bytes: &[u8]) -> Result<Option<Edek>, RecordFault>
     ensures { Gives (λ x. x) result (opt_edek_of bytes.now) }
@@ -238,8 +238,8 @@ fn op_of(alloc: Global, bytes: &[u8]) -> Result<EditOp, RecordFault>
 }
 
 impl EditOp {
-    /// The operation whose one spelling as a record of the edit log the bytes are. `NoRecord` says
-    /// that they are the spelling of no operation.
+    /// Reads the operation whose record in the edit log is exactly these bytes. Returns `NoRecord`
+    /// only if the bytes are the record of no operation.
     pub fn read(alloc: Global, bytes: &[u8]) -> Result<EditOp, RecordFault>
         ensures read { IfOk result (λ op. HasSpelling op × (bytes.now ≡ spelling op)) }
         ensures none { IsErrOf result fault.NoRecord → (op : EditOp) → HasSpelling op → ¬ (bytes.now ≡ spelling op) }

@@ -10,7 +10,7 @@ use crate::ops::EditOp;
 use hk_base::{ByteList, Edek, KeyName, NoMemory};
 use name_calls::NPath;
 
-/// Appends a name with its length, or a front of that where memory is wanting.
+/// Appends a name after its length. If allocation fails, a prefix may have been appended.
 fn append_name(out: &mut ByteList, name: &KeyName) -> Result<(), NoMemory>
     ensures ok { OnOk result (out.new ≡ out.old ++ name_field name.now) }
     ensures is_name { OnOk result (IsKeyName name.now) }
@@ -21,7 +21,7 @@ fn append_name(out: &mut ByteList, name: &KeyName) -> Result<(), NoMemory>
     out.append(bytes)
 }
 
-/// How many bytes a path has as it is written.
+/// Returns the length of a path in bytes as it is written, at most 8,000.
 fn text_len(path: &NPath) -> usize
     ensures len { result ≡ length (path_text path.now) }
     ensures short { result ≤ 8000 }
@@ -38,7 +38,7 @@ fn text_len(path: &NPath) -> usize
     len
 }
 
-/// Appends a path with its length, or a front of that where memory is wanting.
+/// Appends a path after its length. If allocation fails, a prefix may have been appended.
 fn append_path(out: &mut ByteList, path: &NPath) -> Result<(), NoMemory>
     ensures ok { OnOk result (out.new ≡ out.old ++ path_field path.now) }
     ensures rule { OnOk result (is_relative path.now ≡ true) }
@@ -49,7 +49,7 @@ fn append_path(out: &mut ByteList, path: &NPath) -> Result<(), NoMemory>
     path.write(out)
 }
 
-/// Appends an encrypted data encryption key, or a front of it where memory is wanting.
+/// Appends an encrypted data encryption key. If allocation fails, a prefix may have been appended.
 fn append_edek(out: &mut ByteList, edek: &Edek) -> Result<(), NoMemory>
     ensures ok { OnOk result (out.new ≡ out.old ++ edek_field edek.now) }
     ensures is_edek { OnOk result (IsEdek edek.now) }
@@ -63,7 +63,8 @@ fn append_edek(out: &mut ByteList, edek: &Edek) -> Result<(), NoMemory>
     out.append(sealed)
 }
 
-/// Appends what may be absent, or a front of it where memory is wanting.
+/// Appends an optional encrypted data encryption key. If allocation fails, a prefix may have been
+/// appended.
 fn append_opt_edek(out: &mut ByteList, edek: &Option<Edek>) -> Result<(), NoMemory>
     ensures ok { OnOk result (out.new ≡ out.old ++ opt_field edek_field edek.now) }
     ensures is_edek { OnOk result (IsOpt IsEdek edek.now) }
@@ -78,7 +79,8 @@ fn append_opt_edek(out: &mut ByteList, edek: &Option<Edek>) -> Result<(), NoMemo
     }
 }
 
-/// Appends the first byte of a record and an id, or a front of that where memory is wanting.
+/// Appends the first byte of a record and an id. If allocation fails, a prefix may have been
+/// appended.
 fn append_head(out: &mut ByteList, tag: u8, id: u64) -> Result<(), NoMemory>
     ensures ok { OnOk result (out.new ≡ out.old ++ tag ∷ to_be_bytes w64 id) }
     ensures err { OnErr result (take (length out.old) out.new ≡ out.old) }
@@ -87,7 +89,8 @@ fn append_head(out: &mut ByteList, tag: u8, id: u64) -> Result<(), NoMemory>
     out.append(&id.to_be_bytes())
 }
 
-/// Appends what a record with an id begins with, or a front of that where memory is wanting.
+/// Appends the first byte of a record, an id and a path. If allocation fails, a prefix may have
+/// been appended.
 fn append_front(out: &mut ByteList, tag: u8, id: u64, path: &NPath) -> Result<(), NoMemory>
     ensures ok { OnOk result (out.new ≡ out.old ++ tag ∷ (to_be_bytes w64 id ++ path_field path.now)) }
     ensures rule { OnOk result (is_relative path.now ≡ true) }
@@ -97,7 +100,8 @@ fn append_front(out: &mut ByteList, tag: u8, id: u64, path: &NPath) -> Result<()
     append_path(out, path)
 }
 
-/// Appends the record of a file that was made, or a front of it where memory is wanting.
+/// Appends the record of a file that was made. If allocation fails, a prefix may have been
+/// appended.
 fn append_file(
     out: &mut ByteList,
     id: u64,
@@ -113,7 +117,7 @@ fn append_file(
     append_opt_edek(out, edek)
 }
 
-/// Appends the record of a removal, or a front of it where memory is wanting.
+/// Appends the record of a removal. If allocation fails, a prefix may have been appended.
 fn append_remove(out: &mut ByteList, path: &NPath) -> Result<(), NoMemory>
     ensures ok { OnOk result (out.new ≡ out.old ++ 4 ∷ path_field path.now) }
     ensures rule { OnOk result (is_relative path.now ≡ true) }
@@ -123,7 +127,8 @@ fn append_remove(out: &mut ByteList, path: &NPath) -> Result<(), NoMemory>
     append_path(out, path)
 }
 
-/// Appends the record of a directory that was made a zone, or a front of it where memory is wanting.
+/// Appends the record of a directory that was made a zone. If allocation fails, a prefix may have
+/// been appended.
 fn append_zone(out: &mut ByteList, path: &NPath, key: &KeyName) -> Result<(), NoMemory>
     ensures ok { OnOk result (out.new ≡ out.old ++ 6 ∷ (path_field path.now ++ name_field key.now)) }
     ensures rule { OnOk result (is_relative path.now ≡ true) }
@@ -136,8 +141,8 @@ fn append_zone(out: &mut ByteList, path: &NPath, key: &KeyName) -> Result<(), No
 }
 
 impl EditOp {
-    /// Appends the one spelling of the operation as a record of the edit log. Where memory is wanting
-    /// `out` stays as it was.
+    /// Appends the record of the operation in the edit log. Returns `NoMemory` if allocation fails;
+    /// `out` is then unchanged.
     pub fn write(&self, out: &mut ByteList) -> Result<(), NoMemory>
         requires { IsTrue (fits self.now) }
         ensures ok { OnOk result (out.new ≡ out.old ++ spelling self.now) }
@@ -154,7 +159,7 @@ impl EditOp {
         }
     }
 
-    /// Appends the spelling, or a front of it where memory is wanting.
+    /// Appends the record of the operation. If allocation fails, a prefix may have been appended.
     fn append_to(&self, out: &mut ByteList) -> Result<(), NoMemory>
         requires { IsTrue (fits self.now) }
         ensures ok { OnOk result (out.new ≡ out.old ++ spelling self.now) }
