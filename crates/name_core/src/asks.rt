@@ -1,4 +1,4 @@
-//! The asks that are open.
+//! The open asks.
 ghost use Rattle.std.specs.Prelude.{◌≡◌, ◌∷◌, ◌++◌, ◌<◌, [], None, Some, MatchOption, OnOk, OnErr};
 ghost use Rattle.std.specs.List.{AllByRecursion};
 ghost use Rattle.name_core.specs.Asks.{note_of, open_ask, without};
@@ -9,8 +9,8 @@ use std::alloc::Global;
 use std::collections::BTreeMap;
 use std::marker::Model;
 
-/// An ask that was accepted and not finished yet: its id, what was asked, the directory of the zone
-/// that its path lay in, and the call that it wanted.
+/// An ask that was accepted and is not finished yet: its id, what was asked, the directory of the
+/// zone that its path lay in, and the call that it wanted.
 #[derive(Drop)]
 pub struct OpenAsk {
     pub id: u64,
@@ -20,7 +20,7 @@ pub struct OpenAsk {
 }
 
 impl OpenAsk {
-    /// What the ask was told.
+    /// Returns the note that the ask was answered with.
     pub fn note(&self) -> AskNote
         ensures { result ≡ note_of self.now }
     {
@@ -31,7 +31,8 @@ impl OpenAsk {
     }
 }
 
-/// The open asks by their ids, which contracts see as a list in the order of the ids.
+/// The open asks by their ids. In contracts their value is the list of the asks in the order of
+/// their ids.
 #[derive(Drop)]
 pub struct OpenAsks {
     asks: BTreeMap<u64, OpenAsk>,
@@ -52,7 +53,7 @@ impl Model for OpenAsks {
 }
 
 impl OpenAsks {
-    /// No asks. It takes no memory.
+    /// Creates an empty set of open asks. It does not allocate.
     pub fn new(alloc: Global) -> OpenAsks
         ensures { result ≡ [] }
     {
@@ -61,8 +62,8 @@ impl OpenAsks {
         }
     }
 
-    /// Adds an ask, whose id has to be above those of the others. Where memory is wanting the asks
-    /// stay as they were. It takes time logarithmic in the number of open asks.
+    /// Adds an ask, whose id must be above those of the others. Returns `NoMemory` if allocation
+    /// fails; the asks are then unchanged. Takes time logarithmic in the number of open asks.
     pub fn push(&mut self, ask: OpenAsk) -> Result<(), NoMemory>
         requires { AllByRecursion (λ (a : OpenAsk). a.id < ask.id) self.old }
         ensures ok { OnOk result (self.new ≡ self.old ++ ask ∷ []) }
@@ -72,16 +73,16 @@ impl OpenAsks {
         Ok(())
     }
 
-    /// The ask that has the id, `None` where none has it. It takes time logarithmic in the number of
-    /// open asks.
+    /// Returns the ask with the id, or `None` if there is none. Takes time logarithmic in the
+    /// number of open asks.
     pub fn get(&self, id: u64) -> Option<&OpenAsk>
         ensures { MatchOption result (open_ask self.now id ≡ None) (λ ask. open_ask self.now id ≡ Some ask.now) }
     {
         self.asks.get(&id)
     }
 
-    /// Takes the ask away that has the id, where one has it. It takes time logarithmic in the number
-    /// of open asks.
+    /// Removes the ask with the id, if there is one. Takes time logarithmic in the number of open
+    /// asks.
     pub fn remove(&mut self, id: u64)
         ensures { self.new ≡ without self.old id }
     {

@@ -30,14 +30,14 @@ use name_store::NameStore;
 use std::alloc::Global;
 use std::marker::Model;
 
-/// How many ids an opening has.
+/// The number of ids that an opening has.
 const IDS: u64 = 1 << 32;
 
-/// The namesystem in an opening, over the edit log on file 1 of a disk. Contracts see its store, the
-/// counter of the next id, and the open asks; what a call means is said of the rows and the pending
-/// operation.
+/// The namesystem in an opening, over the edit log on file 1 of a disk. In contracts its value is
+/// its store, the counter of the next id, and the open asks. The meaning of a call is stated on the
+/// rows and the pending operation.
 ///
-/// Each call that takes a disk is to be given the disk that the namesystem was started on.
+/// Always pass the disk that the namesystem was started on.
 #[derive(Drop)]
 pub struct Name {
     alloc: Global,
@@ -58,24 +58,27 @@ impl Model for Name {
 }
 
 impl Name {
-    /// Opens the edit log on file 1 of a disk, makes the rows of its operations, and commits the record
-    /// of a new opening. No ask is open then. It may be stopped at any moment, and started again.
+    /// Opens the edit log on file 1 of a disk, makes the rows of its operations, and commits the
+    /// record of a new opening. No ask is open then. It may be stopped at any moment, and started
+    /// again.
     ///
-    /// `Damaged` comes exactly where the file is no log, or a record is no operation or doesn't apply, with
-    /// the offset of its gate. `Spent` comes exactly where opening 4,294,967,295 is recorded.
+    /// Returns `Damaged`, with the offset of the gate, only if the file is not a log, or a record
+    /// is not an operation or doesn't apply. Returns `Spent` only if opening 4,294,967,295 is
+    /// recorded.
     pub fn start<D: Disk>(alloc: Global, disk: &mut D) -> Result<Name, StartFault>
         ensures started { IfOk result (Starts (D.state disk.old) (D.state disk.new)) }
         ensures damaged { (at : ℕ) → IsErrOf result (start.Damaged at) → Tells (D.state disk.old) → IsDamagedAt ((D.state disk.old).reads 1) at }
         ensures spent { IsErrOf result start.Spent → Tells (D.state disk.old) → ((ops : List EditOp) × (made : Replayed)
             × IsNameLog ((D.state disk.old).reads 1) ops made × (made.table.opening ≡ 4294967295)) }
 
-        // A crash at any moment leaves what it might have left before, or the log found, now or with its end
-        // gate read as 1, or its operations with the new opening or without it.
+        // A crash at any moment leaves what it might have left before the call, or the log that was
+        // found, as it is or with its end gate read as 1, or its operations with or without the new
+        // opening.
         ensures any_moment { Tells (D.state disk.old) → LeavesOnly 1 (D.state disk.old) (D.state disk.new)
             (λ c. (D.state disk.old).leaves 1 c ⊎ IsLeftByStart ((D.state disk.old).reads 1) c) }
 
-        // Whatever the answer, since the first sync of the call it leaves the latter alone. Where that sync
-        // failed, nothing was written.
+        // Whatever the answer, a crash after the first sync of the call leaves only the latter. If
+        // that sync failed, nothing was written.
         ensures since_sync { Tells (D.state disk.old) →
             (IsErrOf result start.StoreFault × LeavesOnly 1 (D.state disk.old) (D.state disk.new) ((D.state disk.old).leaves 1))
             ⊎ LeavesFrom 1 (D.state disk.old) (D.state disk.new) (IsLeftByStart ((D.state disk.old).reads 1)) }
@@ -92,9 +95,9 @@ impl Name {
         })
     }
 
-    /// Opens the edit log again, and goes on with the rows that it finds. Open asks and what was pending
-    /// are gone. Where it fails, nothing changes but the disk, and the namesystem is not to go on with
-    /// this disk then.
+    /// Opens the edit log again, and continues with the rows that it finds, without open asks and
+    /// without a pending operation. After an error only the disk has changed, and the namesystem
+    /// must not be used with this disk any longer.
     pub fn restart<D: Disk>(&mut self, alloc: Global, disk: &mut D) -> Result<(), StartFault>
         ensures started { MatchResult result (λ _. Starts (D.state disk.old) (D.state disk.new) self.new) (λ _. self.new ≡ self.old) }
         ensures damaged { (at : ℕ) → IsErrOf result (start.Damaged at) → Tells (D.state disk.old) → IsDamagedAt ((D.state disk.old).reads 1) at }
@@ -117,27 +120,28 @@ impl Name {
         }
     }
 
-    /// How many directories and files stand, the root among them.
+    /// Returns how many directories and files there are, including the root.
     pub fn count(&self) -> u32
         ensures count { result ≡ length self.now.store.table.rows }
-        // What the namesystem keeps by itself.
+        // The invariant of the namesystem.
         ensures rules { IsNames (service_of self.now) }
-        // The log is that of file 1.
+        // The log is on file 1.
         ensures file { self.now.store.log.log.file ≡ 1 }
     {
         self.store.tree().rows()
     }
 
-    /// The number of this opening.
+    /// Returns the number of this opening.
     pub fn opening(&self) -> u32
         ensures { result ≡ self.now.store.table.opening }
     {
         self.store.opening()
     }
 
-    /// Answers a call of a user. A change settles the pending operation first, is written to the log,
-    /// and then takes effect. A refusal leaves all as it was, but that the settled operation may have
-    /// taken effect, and that after `StoreFault` at its own record the change is pending.
+    /// Answers a call of a user. A change settles the pending operation first, is written to the
+    /// log, and then takes effect. A refusal leaves everything unchanged, except that the settled
+    /// operation may have taken effect, and that after `StoreFault` at its own record the change is
+    /// pending.
     pub fn act<D: Disk>(&mut self, disk: &mut D, user: &Text, call: NameCall) -> NameReply
         requires stands { Tells (D.state disk.old) → ((ops : List EditOp) × StandsFor (D.state disk.old) self.old ops) }
         ensures { Acts (D.state disk.old) (D.state disk.new) self.old user.now call result self.new }
@@ -182,12 +186,12 @@ impl Name {
         }
     }
 
-    /// Settles the pending operation, if there is one. Where the disk fails it is still pending.
+    /// Settles the pending operation, if there is one. If the disk fails, it is still pending.
     fn settle<D: Disk>(&mut self, disk: &mut D) -> Result<(), StoreRefusal>
         requires stands { Tells (D.state disk.old) → ((ops : List EditOp) × StandsFor (D.state disk.old) self.old ops) }
         ensures { MatchResult result (λ _. Settling (D.state disk.old) (D.state disk.new) self.old self.new) (λ _. IsUnsettled (D.state disk.old) (D.state disk.new) self.old self.new) }
     {
-        // What the store keeps by itself.
+        // The invariant of the store.
         let _ = self.store.tree();
         self.store.settle(disk)
     }
@@ -210,7 +214,7 @@ impl Name {
         requires stands { Tells (D.state disk.old) → ((ops : List EditOp) × StandsFor (D.state disk.old) self.old ops) }
         ensures { ActsSettled (D.state disk.old) (D.state disk.new) self.old (NameCall.Mkdir path) result self.new }
     {
-        // What the namesystem keeps by itself.
+        // The invariant of the namesystem.
         let _ = self.count();
         if let Some(why) = self.mkdir_refusal(&path) {
             return NameReply::Refused(why);
@@ -262,14 +266,14 @@ impl Name {
         }
     }
 
-    /// Deletes what stands at a path while nothing is pending.
+    /// Deletes the entry at a path while nothing is pending.
     fn delete_settled<D: Disk>(&mut self, disk: &mut D, path: NPath, recursive: bool) -> NameReply
         requires path { starts_reserved path ≡ false }
         requires settled { self.old.store.log.pending ≡ None }
         requires stands { Tells (D.state disk.old) → ((ops : List EditOp) × StandsFor (D.state disk.old) self.old ops) }
         ensures { ActsSettled (D.state disk.old) (D.state disk.new) self.old (NameCall.Delete path recursive) result self.new }
     {
-        // What the namesystem keeps by itself.
+        // The invariant of the namesystem.
         let _ = self.count();
         if let Some(why) = self.delete_refusal(&path, recursive) {
             return NameReply::Refused(why);
@@ -284,8 +288,8 @@ impl Name {
         to_be_deleted(self.store.tree(), path, recursive)
     }
 
-    /// Writes the operation of a call, all being checked, while nothing is pending. Unless memory is
-    /// wanting, so many ids are used up.
+    /// Writes the operation of a call after all checks, while nothing is pending. Uses up `ids` ids
+    /// unless the result is `NoMemory`.
     fn write<D: Disk>(&mut self, disk: &mut D, op: &EditOp, ids: u64) -> Result<(), StoreRefusal>
         requires may { MayWrite (names_of self.old) op.now (record (names_of self.old) { next = self.old.next + ids }) }
         requires settled { self.old.store.log.pending ≡ None }
@@ -307,9 +311,10 @@ impl Name {
 }
 
 impl Name {
-    /// Makes an ask of a user, the first of its three parts. The note tells its id and the call of
-    /// the key management service that is wanted before it is finished. A refusal leaves all as it
-    /// was. It reads the rows without the pending operation, and asks nothing of the disk.
+    /// Accepts an ask of a user, the first of its three parts. The note holds its id and the call
+    /// of the key management service that is needed before it is finished. A refusal leaves
+    /// everything unchanged. It reads the rows without the pending operation, and does not access
+    /// the disk.
     pub fn ask(&mut self, user: &Text, ask: Ask) -> Result<AskNote, NameRefusal>
         ensures asks { Asks (names_of self.old) user.now ask result (names_of self.new) }
         ensures store { self.new.store ≡ self.old.store }
@@ -328,7 +333,7 @@ impl Name {
         }
     }
 
-    /// An ask with the next id.
+    /// Returns an ask with the next id.
     fn opened(&self, ask: Ask) -> OpenAsk
         requires { is_spent (names_of self.now) ≡ false }
         ensures { result ≡ opened (names_of self.now) ask }
@@ -381,9 +386,10 @@ impl Name {
     }
 
     /// Finishes the ask that a reply of the key management service answers, the last of its three
-    /// parts: makes the file, with the encrypted key of the reply, or marks the zone. All is checked
-    /// again, behind the settling of the pending operation. The ask is open no more afterwards, but
-    /// where none was open under the id and where memory is wanting.
+    /// parts. Makes the file, with the encrypted key of the reply, or marks the zone. Everything is
+    /// checked again, after the pending operation is settled. Returns `AskGone` if no ask is open
+    /// under the id. Otherwise the ask is no longer open afterwards, unless the result is
+    /// `NoMemory`.
     pub fn finish<D: Disk>(&mut self, disk: &mut D, answered: Answered) -> Result<(), NameRefusal>
         requires stands { Tells (D.state disk.old) → ((ops : List EditOp) × StandsFor (D.state disk.old) self.old ops) }
         ensures { FinishActs (D.state disk.old) (D.state disk.new) self.old answered.id (answer_of answered.reply) result self.new }
@@ -392,7 +398,7 @@ impl Name {
         self.finish_with(disk, answered.id, answer)
     }
 
-    /// The same by what the reply says alone.
+    /// Finishes an ask as `finish` does, given only its id and what the reply says.
     pub fn finish_with<D: Disk>(
         &mut self,
         disk: &mut D,
@@ -420,7 +426,7 @@ impl Name {
         self.asks.get(id).is_some()
     }
 
-    /// Takes an ask away.
+    /// Removes an open ask.
     fn close(&mut self, id: u64)
         ensures { self.new ≡ record self.old { asks = without self.old.asks id } }
     {
@@ -468,7 +474,7 @@ impl Name {
         requires stands { Tells (D.state disk.old) → ((ops : List EditOp) × StandsFor (D.state disk.old) self.old ops) }
         ensures { (ask : OpenAsk) → open_ask self.old.asks id ≡ Some ask → FinishesSettled (D.state disk.old) (D.state disk.new) self.old ask edek result self.new }
     {
-        // What the namesystem keeps by itself.
+        // The invariant of the namesystem.
         let _ = self.count();
         if let Some(why) = self.finish_refusal(id, &edek) {
             self.close(id);
@@ -480,7 +486,7 @@ impl Name {
         }
     }
 
-    /// The open ask that has the id.
+    /// Returns the open ask with the id.
     fn open_ask(&self, id: u64) -> &OpenAsk
         requires { is_some (open_ask self.now.asks id) ≡ true }
         ensures { open_ask self.now.asks id ≡ Some result.now }
@@ -505,8 +511,8 @@ impl Name {
         finish_op(self.alloc, self.open_ask(id), edek)
     }
 
-    /// Writes the operation of a finish, all being checked, while nothing is pending. Unless memory is
-    /// wanting, the ask is open no more.
+    /// Writes the operation of a finish after all checks, while nothing is pending. The ask is then
+    /// no longer open, unless the result is `NoMemory`.
     fn write_finish<D: Disk>(
         &mut self,
         disk: &mut D,
@@ -532,7 +538,7 @@ impl Name {
     }
 }
 
-/// What a refusal of the store is told as.
+/// Returns the refusal of the namesystem for a refusal of the store.
 fn refusal(why: StoreRefusal) -> NameRefusal
     ensures { result ≡ refusal_of why }
 {
@@ -542,7 +548,7 @@ fn refusal(why: StoreRefusal) -> NameRefusal
     }
 }
 
-/// What a change is told, once its operation was to be written.
+/// Returns the reply to a change, given the result of writing its operation.
 fn told(written: Result<(), StoreRefusal>) -> NameReply
     ensures { result ≡ told_of written }
 {
@@ -552,7 +558,7 @@ fn told(written: Result<(), StoreRefusal>) -> NameReply
     }
 }
 
-/// What a finish is told, once its operation was to be written.
+/// Returns the answer to a finish, given the result of writing its operation.
 fn finished(written: Result<(), StoreRefusal>) -> Result<(), NameRefusal>
     ensures { result ≡ finish_told written }
 {

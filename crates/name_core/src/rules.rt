@@ -1,4 +1,4 @@
-//! What the rows of a tree say of a path.
+//! Answers and refusals for a path, from the rows of a tree.
 ghost use Rattle.std.specs.Prelude.{◌≡◌, ℕ, IfOk, IsTrue, MatchResult, Option, Some, is_some};
 ghost use Rattle.name_calls.specs.Paths.{starts_reserved};
 ghost use Rattle.inode_tree.specs.Rows.{mark_of};
@@ -14,7 +14,7 @@ use inode_tree::{Kind, MOST_ROWS, Row, Tree};
 use name_calls::{Ask, NPath, NameCall, NameRefusal, NameReply, Want};
 use std::alloc::Global;
 
-/// Whether the first name of a path is `.reserved`.
+/// Returns whether the first name of a path is `.reserved`.
 fn is_reserved(path: &NPath) -> bool
     ensures { result ≡ starts_reserved path.now }
 {
@@ -24,7 +24,7 @@ fn is_reserved(path: &NPath) -> bool
     path.name(0).as_str().as_bytes() == b".reserved".as_slice()
 }
 
-/// Why no call speaks of a path: its first name is `.reserved`.
+/// Returns why every call on a path is refused: its first name is `.reserved`.
 pub fn path_refusal(path: &NPath) -> Option<NameRefusal>
     ensures { result ≡ first_cause (path_causes path.now) }
 {
@@ -34,7 +34,7 @@ pub fn path_refusal(path: &NPath) -> Option<NameRefusal>
     None
 }
 
-/// Why a call is refused before the pending operation is settled.
+/// Returns why a call is refused before the pending operation is settled.
 pub fn early_refusal(user: &Text, call: &NameCall) -> Option<NameRefusal>
     ensures { result ≡ first_cause (early_causes user.now call.now) }
 {
@@ -47,7 +47,7 @@ pub fn early_refusal(user: &Text, call: &NameCall) -> Option<NameRefusal>
     }
 }
 
-/// Why the zones are not told: the superuser alone may ask for them.
+/// Returns why the zones can not be listed: only the superuser may ask for them.
 fn zones_refusal(user: &Text) -> Option<NameRefusal>
     ensures { result ≡ first_cause (early_causes user.now NameCall.Zones) }
 {
@@ -57,7 +57,8 @@ fn zones_refusal(user: &Text) -> Option<NameRefusal>
     None
 }
 
-/// Why a path can not be made: its own directory has to stand and be one, and the path to be free.
+/// Returns why a path can not be made: its parent must exist and be a directory, and the path must
+/// be free.
 pub fn to_be_made(tree: &Tree, path: &NPath) -> Option<NameRefusal>
     ensures { result ≡ first_cause (to_be_made tree.now.rows path.now) }
 {
@@ -73,8 +74,8 @@ pub fn to_be_made(tree: &Tree, path: &NPath) -> Option<NameRefusal>
     None
 }
 
-/// Why a path can not be deleted: it has to stand and not to be the root, and a directory to be empty
-/// unless what is in it goes too.
+/// Returns why a path can not be deleted: it must exist and not be the root, and a directory must
+/// be empty unless its contents are deleted too.
 pub fn to_be_deleted(tree: &Tree, path: &NPath, recursive: bool) -> Option<NameRefusal>
     ensures { result ≡ first_cause (delete_causes tree.now.rows path.now recursive) }
 {
@@ -90,7 +91,7 @@ pub fn to_be_deleted(tree: &Tree, path: &NPath, recursive: bool) -> Option<NameR
     None
 }
 
-/// Why a path can not be listed: a directory has to stand there.
+/// Returns why a path can not be listed: it must be an existing directory.
 pub fn to_be_listed(tree: &Tree, path: &NPath) -> Option<NameRefusal>
     ensures { result ≡ first_cause (list_causes tree.now.rows path.now) }
 {
@@ -103,7 +104,8 @@ pub fn to_be_listed(tree: &Tree, path: &NPath) -> Option<NameRefusal>
     None
 }
 
-/// What stands at a path. It takes memory only where the path lies in a zone.
+/// Returns the reply that describes the entry at a path. It allocates only if the path lies in a
+/// zone.
 pub fn info(tree: &Tree, path: &NPath) -> NameReply
     ensures { TellsOf tree.now.rows path.now result }
 {
@@ -116,11 +118,11 @@ pub fn info(tree: &Tree, path: &NPath) -> NameReply
     }
 }
 
-/// The path of the zone that a path lies in.
+/// Returns the path of the zone that a path lies in.
 fn zone_path(tree: &Tree, path: &NPath) -> Result<Option<NPath>, NoMemory>
     ensures { MatchResult result (λ zone. zone ≡ path_of_zone tree.now.rows path.now) (λ why. IsTrue (is_some (path_of_zone tree.now.rows path.now))) }
 {
-    // Each id is that of one row.
+    // No two rows have the same id.
     let _ = tree.rows();
     match tree.zone_of(path) {
         None => Ok(None),
@@ -128,7 +130,7 @@ fn zone_path(tree: &Tree, path: &NPath) -> Result<Option<NPath>, NoMemory>
     }
 }
 
-/// The reply that shows a row, with the path of its zone.
+/// Returns the reply that describes a row, with the path of its zone.
 fn shown(row: Row, zone: Option<NPath>) -> NameReply
     ensures { result ≡ shown row.id zone row.kind }
 {
@@ -139,14 +141,14 @@ fn shown(row: Row, zone: Option<NPath>) -> NameReply
     }
 }
 
-/// Whether the user is the one who alone makes zones and asks for them.
+/// Returns whether the user is the superuser, who alone makes zones and asks for them.
 pub fn is_superuser(user: &Text) -> bool
     ensures { result ≡ is_superuser user.now }
 {
     user.as_str().as_bytes() == b"hdfs".as_slice()
 }
 
-/// Why a directory can not become a zone: it has to stand, to be empty, and to lie in no zone.
+/// Returns why a directory can not become a zone: it must exist, be empty, and lie in no zone.
 pub fn to_be_zone(tree: &Tree, path: &NPath) -> Option<NameRefusal>
     ensures { result ≡ first_cause (zone_causes tree.now.rows path.now) }
 {
@@ -165,7 +167,7 @@ pub fn to_be_zone(tree: &Tree, path: &NPath) -> Option<NameRefusal>
     None
 }
 
-/// The path of what is asked.
+/// Returns the path of an ask.
 pub fn path_asked(ask: &Ask) -> &NPath
     ensures { result.now ≡ path_asked ask.now }
 {
@@ -175,11 +177,11 @@ pub fn path_asked(ask: &Ask) -> &NPath
     }
 }
 
-/// The key of the zone that a path lies in.
+/// Returns the key of the zone that a path lies in.
 fn key_of_zone(tree: &Tree, path: &NPath) -> Option<KeyName>
     ensures { result ≡ key_of_zone tree.now.rows path.now }
 {
-    // Each id is that of one row.
+    // No two rows have the same id.
     let _ = tree.rows();
     match tree.zone_of(path) {
         None => None,
@@ -190,7 +192,7 @@ fn key_of_zone(tree: &Tree, path: &NPath) -> Option<KeyName>
     }
 }
 
-/// The key that a row is marked with.
+/// Returns the key that a row is marked with.
 fn mark(kind: Kind) -> Option<KeyName>
     ensures { result ≡ mark_of kind }
 {
@@ -200,7 +202,7 @@ fn mark(kind: Kind) -> Option<KeyName>
     }
 }
 
-/// The call of the key management service that an ask wants.
+/// Returns the call of the key management service that an ask wants.
 pub fn wanted(tree: &Tree, ask: &Ask) -> Want
     ensures { result ≡ wanted tree.now.rows ask.now }
 {
@@ -213,14 +215,15 @@ pub fn wanted(tree: &Tree, ask: &Ask) -> Want
     }
 }
 
-/// Whether the path of an ask lies in another zone than when the ask was made.
+/// Returns whether the path of an ask lies in another zone than when the ask was made.
 fn is_other_zone(tree: &Tree, ask: &OpenAsk) -> bool
     ensures { result ≡ is_other_zone tree.now.rows ask.now }
 {
     tree.zone_of(path_asked(&ask.ask)) != ask.zone
 }
 
-/// Whether an encrypted key was given exactly where there is a key to a zone, and is one of that key.
+/// Returns whether the encrypted key fits the key of a zone: one of that key if there is a key,
+/// none otherwise.
 fn fits_zone(key: Option<KeyName>, edek: &Option<Edek>) -> bool
     ensures { result ≡ fits_zone key edek.now }
 {
@@ -230,7 +233,7 @@ fn fits_zone(key: Option<KeyName>, edek: &Option<Edek>) -> bool
     }
 }
 
-/// Whether an encrypted key was given and is one of this key.
+/// Returns whether an encrypted key was given and is one of this key.
 fn is_of_key(key: &KeyName, edek: &Option<Edek>) -> bool
     ensures { result ≡ fits_zone (Some key.now) edek.now }
 {
@@ -240,14 +243,15 @@ fn is_of_key(key: &KeyName, edek: &Option<Edek>) -> bool
     }
 }
 
-/// Whether the encrypted key that was given is none of the zone's key, or one is missing or too much.
+/// Returns whether the encrypted key is not one of the zone's key, is missing, or was given without
+/// a key of a zone.
 fn is_other_key(tree: &Tree, path: &NPath, edek: &Option<Edek>) -> bool
     ensures { result ≡ is_other_key tree.now.rows path.now edek.now }
 {
     !fits_zone(key_of_zone(tree, path), edek)
 }
 
-/// Why an ask can not be finished: all is checked again, but who asked.
+/// Returns why an ask can not be finished. Everything is checked again, except who asked.
 pub fn to_be_finished(tree: &Tree, ask: &OpenAsk, edek: &Option<Edek>) -> Option<NameRefusal>
     ensures { result ≡ first_cause (finish_causes tree.now.rows ask.now edek.now ask.now.ask) }
 {
@@ -298,7 +302,8 @@ fn zone_refusal(tree: &Tree, ask: &OpenAsk, path: &NPath) -> Option<NameRefusal>
     None
 }
 
-/// The operation that finishes an ask: makes its file, or marks the directory of its zone.
+/// Returns the operation that finishes an ask: it makes the file, or marks the directory of the
+/// zone.
 pub fn finish_op(alloc: Global, ask: &OpenAsk, edek: Option<Edek>) -> Result<EditOp, NoMemory>
     ensures { IfOk result (λ op. op ≡ finish_op ask.now.id edek ask.now.ask) }
 {
