@@ -1,4 +1,4 @@
-//! Snapshots of directories: the rows at and below a directory as they were.
+//! Snapshots of directories: the rows at and below a directory as they were at one time.
 #![tactic(auto)]
 
 mod prepared;

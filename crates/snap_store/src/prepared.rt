@@ -1,4 +1,4 @@
-//! Rows that were copied before a snapshot is taken.
+//! Rows that are copied before a snapshot is taken.
 ghost use Rattle.std.specs.Prelude.{◌≡◌, ◌↔◌, List, Some, length, map, not, slice_get, false, IsOk, IsSome, IsTrue, IfOk};
 ghost use Rattle.std.specs.List.{filter};
 ghost use Rattle.std.specs.Option.{option_map_or};
@@ -14,7 +14,7 @@ use name_calls::NPath;
 use std::alloc::Global;
 use std::marker::Model;
 
-/// Whether a row at the path or below it stands at a place of the tree.
+/// Returns whether the tree has a row at place `at`, and that row is at the path or below it.
 fn goes_on(tree: &Tree, at: u32, path: &NPath) -> bool
     ensures { result ≡ option_map_or (λ e. is_prefix path.now e.path) (slice_get tree.now.rows at) false }
 {
@@ -25,7 +25,7 @@ fn goes_on(tree: &Tree, at: u32, path: &NPath) -> bool
     }
 }
 
-/// Whether the rows are exactly those at and below a path. It takes no memory.
+/// Returns whether the rows are exactly those at and below a path. It does not allocate.
 fn are_below(rows: &Vec<FrozenRow>, tree: &Tree, path: &NPath) -> bool
     ensures { IsTrue result ↔ (filter (λ e. is_prefix path.now e.path) tree.now.rows ≡ rows.now.items) }
 {
@@ -43,9 +43,9 @@ fn are_below(rows: &Vec<FrozenRow>, tree: &Tree, path: &NPath) -> bool
     !goes_on(tree, at, path)
 }
 
-/// The rows at and below a directory, as a snapshot will have them, and by their whole paths, by
-/// which they are compared with the tree when it is taken. Contracts see the directory's path, and
-/// the rows by their whole paths.
+/// The rows at and below a directory, once as a snapshot will have them and once by their whole
+/// paths. By their whole paths they are compared with the tree when the snapshot is taken. In
+/// contracts their value is the path of the directory, and the rows by their whole paths.
 #[derive(Drop)]
 pub struct Prepared {
     path: NPath,
@@ -66,7 +66,7 @@ impl Model for Prepared {
 }
 
 impl Prepared {
-    /// Copies of the rows at and below the directory that has the id.
+    /// Copies the rows at and below the directory with the id.
     fn of(alloc: Global, tree: &Tree, dir: u64) -> Result<Prepared, NoMemory>
         requires { IsSome (entry_of tree.now.rows dir) }
         ensures { IfOk result (λ prepared. copied_for tree.now.rows dir ≡ Some prepared) }
@@ -77,7 +77,8 @@ impl Prepared {
         Ok(Prepared { path, whole, rows })
     }
 
-    /// Whether it is what a snapshot of the directory needs. It takes no memory.
+    /// Returns whether these are the rows that a snapshot of the directory needs. It does not
+    /// allocate.
     fn is_of(&self, tree: &Tree, dir: u64) -> bool
         ensures { IsTrue result ↔ (copied_for tree.now.rows dir ≡ Some self.now) }
     {
@@ -90,7 +91,7 @@ impl Prepared {
         are_below(&self.whole, tree, &self.path)
     }
 
-    /// The rows as they are seen from the directory. It takes no memory.
+    /// Returns the rows with paths relative to the directory. It does not allocate.
     fn into_rows(self) -> FrozenRows
         ensures { result ≡ map (seen_from (length self.path)) self.rows }
     {
@@ -98,7 +99,8 @@ impl Prepared {
     }
 }
 
-/// What a snapshot of a directory needs; `None` where its row does not stand.
+/// Copies the rows that a snapshot of a directory needs. Returns `None` if the directory has no
+/// row.
 pub fn prepare(alloc: Global, tree: &Tree, dir: u64) -> Result<Option<Prepared>, NoMemory>
     ensures { IfOk result (λ prepared. prepared ≡ copied_for tree.now.rows dir) }
 {
@@ -111,8 +113,8 @@ pub fn prepare(alloc: Global, tree: &Tree, dir: u64) -> Result<Option<Prepared>,
     }
 }
 
-/// The rows for a snapshot of a directory: those that were prepared where they are still those of
-/// the tree, which takes no memory, and otherwise copies.
+/// Returns the rows for a snapshot of a directory. If the prepared rows are still those of the
+/// tree, returns them and does not allocate. Otherwise copies the rows of the tree.
 pub fn rows_for(
     alloc: Global,
     prepared: Option<Prepared>,

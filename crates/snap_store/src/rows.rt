@@ -1,4 +1,4 @@
-//! Rows as they were.
+//! Copies of rows, which do not change with the tree.
 ghost use Rattle.std.specs.Prelude.{◌≡◌, ◌≤◌, ◌<◌, ◌↔◌, Some, length, map, take, slice_get, true, false, IsSome, IsTrue, IfOk};
 ghost use Rattle.std.specs.List.{filter};
 ghost use Rattle.std.specs.List.Sorted.{IsPartitionPoint};
@@ -19,7 +19,7 @@ use std::alloc::Global;
 use std::cmp::Ordering;
 use std::marker::Model;
 
-/// A row at its path, as it was. Contracts see an entry.
+/// A copy of a row, with its path. In contracts its value is an entry.
 #[derive(Drop)]
 pub struct FrozenRow {
     path: NPath,
@@ -34,14 +34,14 @@ impl Model for FrozenRow {
     ghost view = { λ frozen. record { path = frozen.path; row = frozen.row } };
 }
 
-/// How two names compare, by bytes.
+/// Compares two names by their bytes.
 pub fn compare_names(name: &Text, other: &Text) -> Ordering
     ensures { result ≡ slice_cmp nat_cmp name.now other.now }
 {
     name.as_str().as_bytes().cmp(other.as_str().as_bytes())
 }
 
-/// How a path compares with the first names of another.
+/// Compares a path with the first `upto` names of another.
 fn compare(path: &NPath, other: &NPath, upto: usize) -> Ordering
     requires { upto ≤ length other.now }
     ensures { result ≡ path_cmp path.now (take upto other.now) }
@@ -79,7 +79,7 @@ impl FrozenRow {
         }
     }
 
-    /// Whether the row lies in the directory at the path.
+    /// Returns whether the row lies directly in the directory at the path.
     fn is_child_of(&self, path: &NPath) -> bool
         ensures { result ≡ is_child path.now self.now.path }
     {
@@ -94,7 +94,7 @@ impl FrozenRow {
         }
     }
 
-    /// Its own name, and whether it is a directory.
+    /// Returns the last name of the path, and whether the row is that of a directory.
     fn child(&self, alloc: Global) -> Result<Child, NoMemory>
         requires { 0 < length self.now.path }
         ensures { IfOk result (λ child. child ≡ child_of self.now) }
@@ -110,7 +110,7 @@ impl FrozenRow {
         self.row
     }
 
-    /// Whether it is the row at a place of the tree. It takes no memory.
+    /// Returns whether the tree has this row at place `at`. It does not allocate.
     pub fn stands_at(&self, tree: &Tree, at: u32) -> bool
         ensures { IsTrue result ↔ (slice_get tree.now.rows at ≡ Some self.now) }
     {
@@ -134,8 +134,8 @@ fn copy_of(alloc: Global, name: &Text) -> Result<Text, NoMemory>
     Ok(Text::of(String::from_str(alloc, name.as_str())?))
 }
 
-/// A copy of the row at a place in path order, as it is seen from the directory that its first
-/// `from` names lead to.
+/// Copies the row at a place in path order. The path of the copy is relative to the directory at
+/// its first `from` names.
 fn copy_row(tree: &Tree, at: u32, from: usize) -> Result<FrozenRow, NoMemory>
     requires { at < length tree.now.rows }
     ensures { IfOk result (λ row. option_map (seen_from from) (slice_get tree.now.rows at) ≡ Some row) }
@@ -145,8 +145,8 @@ fn copy_row(tree: &Tree, at: u32, from: usize) -> Result<FrozenRow, NoMemory>
     Ok(FrozenRow { path, row })
 }
 
-/// Copies of the rows at and below a path, as they are seen from the directory that their first
-/// `from` names lead to.
+/// Copies the rows at and below a path. The paths of the copies are relative to the directory at
+/// their first `from` names.
 pub fn copy_rows(
     alloc: Global,
     tree: &Tree,
@@ -165,7 +165,7 @@ pub fn copy_rows(
     Ok(rows)
 }
 
-/// How many rows come before the first names of a path.
+/// Returns how many rows come before the path of the first `upto` names.
 fn place(rows: &Vec<FrozenRow>, path: &NPath, upto: usize) -> usize
     requires rising { IsRising rows.now.items }
     requires upto { upto ≤ length path.now }
@@ -176,7 +176,7 @@ fn place(rows: &Vec<FrozenRow>, path: &NPath, upto: usize) -> usize
         .partition_point(|row| row.comes_before(path, upto))
 }
 
-/// The row at the first names of a path.
+/// Returns the row at the first `upto` names of a path.
 fn find(rows: &Vec<FrozenRow>, path: &NPath, upto: usize) -> Option<Row>
     requires rising { IsRising rows.now.items }
     requires upto { upto ≤ length path.now }
@@ -194,7 +194,7 @@ fn find(rows: &Vec<FrozenRow>, path: &NPath, upto: usize) -> Option<Row>
     }
 }
 
-/// The children of the directory at a path.
+/// Returns the children of the directory at a path.
 fn list(alloc: Global, rows: &Vec<FrozenRow>, path: &NPath) -> Result<ChildList, NoMemory>
     ensures { IfOk result (λ list. list ≡ children rows.now.items path.now) }
 {
@@ -207,7 +207,7 @@ fn list(alloc: Global, rows: &Vec<FrozenRow>, path: &NPath) -> Result<ChildList,
     Ok(list)
 }
 
-/// Whether a row is that of a marked directory.
+/// Returns whether there is a row and it is that of a marked directory.
 fn marked(row: &Option<Row>) -> bool
     ensures { result ≡ option_map_or is_marked row.now false }
 {
@@ -220,7 +220,7 @@ fn marked(row: &Option<Row>) -> bool
     }
 }
 
-/// How many names lead to the zone that the path lies in.
+/// Returns how many names of the path lead to the directory of its zone.
 fn zone(rows: &Vec<FrozenRow>, path: &NPath) -> Option<u8>
     requires { IsRising rows.now.items }
     ensures { result ≡ zone_depth rows.now.items path.now }
@@ -238,7 +238,7 @@ fn zone(rows: &Vec<FrozenRow>, path: &NPath) -> Option<u8>
     None
 }
 
-/// The rows at and below a directory as they were, in path order as they are seen from it.
+/// Copies of the rows at and below a directory, with paths relative to it, in path order.
 #[derive(Drop)]
 pub struct FrozenRows {
     alloc: Global,
@@ -257,7 +257,7 @@ impl Model for FrozenRows {
 }
 
 impl FrozenRows {
-    /// Copies of the rows at and below the directory that has the id.
+    /// Copies the rows at and below the directory with the id.
     pub fn of(alloc: Global, tree: &Tree, dir: u64) -> Result<FrozenRows, NoMemory>
         requires { IsSome (entry_of tree.now.rows dir) }
         ensures { IfOk result (λ rows. rows ≡ frozen tree.now.rows dir) }
@@ -268,14 +268,15 @@ impl FrozenRows {
         Ok(FrozenRows { alloc, rows })
     }
 
-    /// The row at a path.
+    /// Returns the row at a path.
     pub fn look(&self, path: &NPath) -> Option<Row>
         ensures { result ≡ row_at self.now path.now }
     {
         find(&self.rows, path, path.len())
     }
 
-    /// What lies in the directory at a path; `None` where none stands there.
+    /// Returns the children of the directory at a path, or `None` if there is no directory at the
+    /// path.
     pub fn list(&self, path: &NPath) -> Result<Option<ChildList>, NoMemory>
         ensures { IfOk result (λ list. list ≡ list_in self.now path.now) }
     {
@@ -291,7 +292,7 @@ impl FrozenRows {
         }
     }
 
-    /// How many names lead to the zone that a path lies in.
+    /// Returns how many names of a path lead to the directory of its zone.
     pub fn zone(&self, path: &NPath) -> Option<u8>
         ensures { result ≡ zone_depth self.now path.now }
     {

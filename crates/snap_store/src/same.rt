@@ -1,4 +1,4 @@
-//! Whether two rows are one.
+//! Equality of rows.
 ghost use Rattle.std.specs.Prelude.{◌≡◌, ◌↔◌, IsTrue};
 
 use hk_base::{Edek, KeyName};
@@ -71,7 +71,7 @@ fn same_kind(kind: &Kind, other: &Kind) -> bool
     }
 }
 
-/// Whether the ids are one, and the kinds with what they carry.
+/// Returns whether two rows have the same id and the same kind, with equal contents.
 pub fn same_row(row: &Row, other: &Row) -> bool
     ensures { IsTrue result ↔ (row.now ≡ other.now) }
 {

@@ -1,4 +1,4 @@
-//! The snapshots, by directory and name.
+//! The snapshots, ordered by directory and name.
 ghost use Rattle.std.specs.Prelude.{◌≡◌, ℕ, List, ◌<◌, ◌≤◌, ◌&&◌, None, Some, [], length, take, not, nat_lt, nat_le, slice_get, true, false, is_some, vec_len, vec_capacity, IsOk, IsSome, IsTrue, IfOk, IfSome, OnOk, OnErr};
 ghost use Rattle.std.specs.List.{remove};
 ghost use Rattle.std.specs.List.Sorted.{IsPartitionPoint};
@@ -18,7 +18,7 @@ use std::alloc::Global;
 use std::cmp::Ordering;
 use std::marker::Model;
 
-/// The most snapshots of a directory.
+/// The maximum number of snapshots of a directory.
 pub const MOST_SNAPSHOTS: u32 = 65_536;
 
 /// A snapshot of a directory.
@@ -77,7 +77,7 @@ impl Taken {
     }
 }
 
-/// How many snapshots come before that of the directory with the name.
+/// Returns how many snapshots come before the one of the directory with the name.
 fn place(taken: &Vec<Taken>, dir: u64, name: &Text) -> usize
     requires { IsRisingBy snapshot_cmp taken.now.items }
     ensures most { result ≤ length taken.now.items }
@@ -88,7 +88,7 @@ fn place(taken: &Vec<Taken>, dir: u64, name: &Text) -> usize
         .partition_point(|snapshot| snapshot.comes_before(dir, name))
 }
 
-/// Where the snapshot of the directory with the name stands.
+/// Returns the index of the snapshot of the directory with the name, or `None` if there is none.
 fn find(taken: &Vec<Taken>, dir: u64, name: &Text) -> Option<usize>
     requires { IsRisingBy snapshot_cmp taken.now.items }
     ensures within { IfSome result (λ at. at < length taken.now.items) }
@@ -106,7 +106,7 @@ fn find(taken: &Vec<Taken>, dir: u64, name: &Text) -> Option<usize>
     }
 }
 
-/// How many snapshots are of directories with a lower id.
+/// Returns how many snapshots are of directories with a smaller id.
 fn first_of(taken: &Vec<Taken>, dir: u64) -> usize
     requires { IsRisingBy snapshot_cmp taken.now.items }
     ensures most { result ≤ length taken.now.items }
@@ -117,7 +117,7 @@ fn first_of(taken: &Vec<Taken>, dir: u64) -> usize
         .partition_point(|snapshot| snapshot.dir() < dir)
 }
 
-/// How many snapshots are of directories with no higher id.
+/// Returns how many snapshots are of directories with this id or a smaller one.
 fn end_of(taken: &Vec<Taken>, dir: u64) -> usize
     requires { IsRisingBy snapshot_cmp taken.now.items }
     ensures most { result ≤ length taken.now.items }
@@ -128,7 +128,7 @@ fn end_of(taken: &Vec<Taken>, dir: u64) -> usize
         .partition_point(|snapshot| snapshot.dir() <= dir)
 }
 
-/// How many ids are lower.
+/// Returns how many ids are smaller than `id`.
 fn place_id(ids: &Vec<u64>, id: u64) -> usize
     requires { IsRisingBy nat_cmp ids.now.items }
     ensures most { result ≤ length ids.now.items }
@@ -137,7 +137,7 @@ fn place_id(ids: &Vec<u64>, id: u64) -> usize
     ids.as_slice().partition_point(|other| *other < id)
 }
 
-/// Where the id stands.
+/// Returns the index of the id, or `None` if it is not there.
 fn find_id(ids: &Vec<u64>, id: u64) -> Option<usize>
     requires { IsRisingBy nat_cmp ids.now.items }
     ensures within { IfSome result (λ at. at < length ids.now.items) }
@@ -151,7 +151,8 @@ fn find_id(ids: &Vec<u64>, id: u64) -> Option<usize>
     if ids[at] == id { Some(at) } else { None }
 }
 
-/// Adds an id, which may be there already.
+/// Adds an id if it is not there already. Returns `NoMemory` if allocation fails; the ids are then
+/// unchanged.
 fn put_id(ids: &mut Vec<u64>, id: u64) -> Result<(), NoMemory>
     requires { IsRisingBy nat_cmp ids.old.items }
     ensures rising { IsRisingBy nat_cmp ids.new.items }
@@ -169,7 +170,7 @@ fn put_id(ids: &mut Vec<u64>, id: u64) -> Result<(), NoMemory>
     }
 }
 
-/// Takes an id away.
+/// Removes an id, if it is there.
 fn remove_id(ids: &mut Vec<u64>, id: u64)
     requires { IsRisingBy nat_cmp ids.old.items }
     ensures { ids.new.items ≡ without_id id ids.old.items }
@@ -182,7 +183,8 @@ fn remove_id(ids: &mut Vec<u64>, id: u64)
     }
 }
 
-/// Adds a snapshot.
+/// Adds a snapshot, whose name must be free in its directory. Returns `NoMemory` if allocation
+/// fails; the snapshots are then unchanged.
 fn put(taken: &mut Vec<Taken>, snapshot: Taken) -> Result<(), NoMemory>
     requires rising { IsRisingBy snapshot_cmp taken.old.items }
     requires free { snapshot_named taken.old.items snapshot.dir snapshot.name ≡ None }
@@ -195,7 +197,7 @@ fn put(taken: &mut Vec<Taken>, snapshot: Taken) -> Result<(), NoMemory>
     Ok(())
 }
 
-/// Takes a snapshot away.
+/// Removes a snapshot, if there is one with the name.
 fn remove(taken: &mut Vec<Taken>, dir: u64, name: &Text)
     requires { IsRisingBy snapshot_cmp taken.old.items }
     ensures { taken.new.items ≡ without_snapshot taken.old.items dir name.now }
@@ -208,7 +210,7 @@ fn remove(taken: &mut Vec<Taken>, dir: u64, name: &Text)
     }
 }
 
-/// The rows of a snapshot.
+/// Returns the rows of a snapshot.
 fn rows_of<'a>(taken: &'a Vec<Taken>, dir: u64, name: &Text) -> Option<&'a FrozenRows>
     requires { IsRisingBy snapshot_cmp taken.now.items }
     ensures { option_map (λ rows. rows.now) result ≡ option_map (λ s. s.rows) (snapshot_named taken.now.items dir name.now) }
@@ -219,9 +221,9 @@ fn rows_of<'a>(taken: &'a Vec<Taken>, dir: u64, name: &Text) -> Option<&'a Froze
     }
 }
 
-/// The directories that may have snapshots, and the snapshots. Contracts see the ids of the
-/// directories in rising order, and the snapshots by directory and name, byte by byte, each with the
-/// rows at and below its directory as they were when it was taken.
+/// The directories that may have snapshots, and the snapshots. In contracts their value is the ids
+/// of the directories in rising order, and the snapshots ordered by directory and name, by bytes.
+/// Each snapshot has the rows at and below its directory as they were when it was taken.
 #[derive(Drop)]
 pub struct Snaps {
     alloc: Global,
@@ -243,7 +245,8 @@ impl Model for Snaps {
 }
 
 impl Snaps {
-    /// No directory may have snapshots, and there are none. It takes no memory.
+    /// Creates an empty store: there are no snapshots, and no directory may have any. It does not
+    /// allocate.
     pub fn new(alloc: Global) -> Snaps
         ensures allowed { result.allowed ≡ [] }
         ensures taken { result.taken ≡ [] }
@@ -256,8 +259,8 @@ impl Snaps {
         }
     }
 
-    /// Lets a directory have snapshots, which it may be already. Where memory is wanting all stays
-    /// as it was.
+    /// Allows snapshots of a directory. Does nothing if they are allowed already. Returns
+    /// `NoMemory` if allocation fails; everything is then unchanged.
     pub fn allow(&mut self, dir: u64) -> Result<(), NoMemory>
         ensures ok { OnOk result (self.new.allowed ≡ with_id dir self.old.allowed) }
         ensures err { OnErr result (self.new.allowed ≡ self.old.allowed) }
@@ -267,8 +270,8 @@ impl Snaps {
         put_id(&mut self.allowed, dir)
     }
 
-    /// Takes memory for one more directory that may have snapshots. Nothing else changes; once it was
-    /// `Ok`, `allow` is too.
+    /// Reserves memory for one more directory that may have snapshots. Nothing else changes. After
+    /// `Ok`, `allow` of the directory succeeds too.
     pub fn reserve_allow(&mut self, dir: u64) -> Result<(), NoMemory>
         ensures ok { OnOk result (need_allow dir ≤ self.new.spare) }
         ensures allowed { self.new.allowed ≡ self.old.allowed }
@@ -278,7 +281,7 @@ impl Snaps {
         Ok(())
     }
 
-    /// Lets a directory, which has to have no snapshots, have none from now on. It takes no memory.
+    /// Disallows snapshots of a directory, which must have none. It does not allocate.
     pub fn disallow(&mut self, dir: u64)
         requires { count_of self.old.taken dir ≡ 0 }
         ensures allowed { self.new.allowed ≡ without_id dir self.old.allowed }
@@ -287,11 +290,12 @@ impl Snaps {
         remove_id(&mut self.allowed, dir);
     }
 
-    /// Takes a snapshot of a directory: the rows at and below it stay in it as they are. The
-    /// directory has to stand and to be one that may have snapshots, the name to be free there, and
-    /// there to be fewer than 65,536 snapshots of it. The other snapshots stay as they are. Where memory
-    /// is wanting all stays as it was. It takes none where `reserve_take` was `Ok` for the directory and
-    /// neither the snapshots nor the rows at and below it have changed since.
+    /// Takes a snapshot of a directory: a copy of the rows at and below it. The directory must
+    /// exist and be allowed to have snapshots, the name must be free there, and it must have fewer
+    /// than 65,536 snapshots. The other snapshots are unchanged. Returns `NoMemory` if allocation
+    /// fails; the snapshots, and which directories may have some, are then unchanged. It does not
+    /// allocate if `reserve_take` was `Ok` for the directory, and neither the snapshots nor the
+    /// rows at and below it have changed since.
     pub fn take(&mut self, tree: &Tree, dir: u64, name: Text) -> Result<(), NoMemory>
         requires stands { IsSome (entry_of tree.now.rows dir) }
         requires allowed { IsTrue (is_among dir self.old.allowed) }
@@ -307,8 +311,9 @@ impl Snaps {
         put(&mut self.taken, Taken { dir, name, rows })
     }
 
-    /// Takes the memory for a snapshot of a directory, by copying its rows. Nothing else changes; once
-    /// it was `Ok`, `take` is too.
+    /// Reserves the memory for a snapshot of a directory, by copying its rows. Nothing else
+    /// changes. After `Ok`, `take` succeeds for the directory until the snapshots or those rows
+    /// change.
     pub fn reserve_take(&mut self, tree: &Tree, dir: u64, name: &Text) -> Result<(), NoMemory>
         ensures ok { OnOk result (IsReady self.new tree.now.rows dir name.now) }
         ensures allowed { self.new.allowed ≡ self.old.allowed }
@@ -320,8 +325,8 @@ impl Snaps {
         Ok(())
     }
 
-    /// Removes a snapshot; where there is none, nothing changes. The other snapshots stay as they
-    /// are. It takes no memory.
+    /// Removes a snapshot. Does nothing if there is none with the name. The other snapshots are
+    /// unchanged. It does not allocate.
     pub fn remove(&mut self, dir: u64, name: &Text)
         ensures taken { self.new.taken ≡ without_snapshot self.old.taken dir name.now }
         ensures others { (d : ℕ) (n : List ℕ) → is_named dir name.now (key_of d n) ≡ false → snapshot_named self.new.taken d n ≡ snapshot_named self.old.taken d n }
@@ -330,9 +335,9 @@ impl Snaps {
         remove(&mut self.taken, dir, name);
     }
 
-    /// The row that a snapshot has at a path, as it is seen from the directory. `None` where there is
-    /// no such snapshot, or none stood there. With no names it is the row of the directory itself,
-    /// which each snapshot has.
+    /// Returns the row that a snapshot has at a path relative to its directory. Returns `None` if
+    /// there is no such snapshot, or it has no row at the path. The empty path gives the row of the
+    /// directory itself, which every snapshot has.
     pub fn look(&self, dir: u64, name: &Text, below: &NPath) -> Option<Row>
         ensures own { below.now ≡ [] → is_some result ≡ is_some (snapshot_named self.now.taken dir name.now) }
         ensures row { result ≡ row_at (rows_in self.now.taken dir name.now) below.now }
@@ -343,8 +348,8 @@ impl Snaps {
         }
     }
 
-    /// What lay in a directory of a snapshot. `None` exactly where the snapshot has no directory at
-    /// the path.
+    /// Returns the children of a directory of a snapshot. Returns `None` if and only if there is no
+    /// such snapshot, or it has no directory at the path.
     pub fn list(&self, dir: u64, name: &Text, below: &NPath) -> Result<Option<ChildList>, NoMemory>
         ensures { IfOk result (λ list. list ≡ list_in (rows_in self.now.taken dir name.now) below.now) }
     {
@@ -354,8 +359,8 @@ impl Snaps {
         }
     }
 
-    /// How many names of the path lead to the directory whose zone the path lay in: to the deepest
-    /// directory at or above it that was marked. `None` where there was none.
+    /// Returns how many names of the path lead to the directory of its zone in the snapshot. This
+    /// is the deepest marked directory at or above the path. Returns `None` if there is none.
     pub fn zone_in(&self, dir: u64, name: &Text, below: &NPath) -> Option<u8>
         ensures { result ≡ zone_depth (rows_in self.now.taken dir name.now) below.now }
     {
@@ -365,7 +370,7 @@ impl Snaps {
         }
     }
 
-    /// How many snapshots a directory has: at most 65,536. `None` where it may have none.
+    /// Returns how many snapshots a directory has, at most 65,536, or `None` if it may have none.
     pub fn count(&self, dir: u64) -> Option<u32>
         ensures count { result ≡ count_in self.now dir }
         ensures rules { IsSnapshots self.now.allowed self.now.taken }
@@ -376,8 +381,8 @@ impl Snaps {
         }
     }
 
-    /// The name of a directory's snapshot at a place in byte order, from 0. `None` where there are no
-    /// more.
+    /// Returns the name of the snapshot of a directory at index `at` in byte order, from 0. Returns
+    /// `None` if there are no more.
     pub fn name_at(&self, dir: u64, at: u32) -> Option<&Text>
         ensures { option_map (λ name. name.now) result ≡ slice_get (names_of self.now.taken dir) at }
     {
@@ -390,7 +395,7 @@ impl Snaps {
         }
     }
 
-    /// Whether there is a snapshot of a directory at the path or below it.
+    /// Returns whether there is a snapshot of a directory at the path or below it.
     pub fn holds(&self, tree: &Tree, path: &NPath) -> bool
         ensures { result ≡ holds_snapshot tree.now.rows self.now.taken path.now }
     {
@@ -399,14 +404,14 @@ impl Snaps {
             .any(|snapshot| tree.at_or_below(snapshot.dir(), path))
     }
 
-    /// Whether a directory above the path, and not at it, may have snapshots.
+    /// Returns whether a directory strictly above the path may have snapshots.
     pub fn allowed_above(&self, tree: &Tree, path: &NPath) -> bool
         ensures { result ≡ allowed_above tree.now.rows self.now.allowed path.now }
     {
         self.allowed.iter().any(|dir| is_above(tree, *dir, path))
     }
 
-    /// Whether a directory below the path, and not at it, may have snapshots.
+    /// Returns whether a directory strictly below the path may have snapshots.
     pub fn allowed_below(&self, tree: &Tree, path: &NPath) -> bool
         ensures { result ≡ allowed_below tree.now.rows self.now.allowed path.now }
     {
@@ -414,7 +419,7 @@ impl Snaps {
     }
 }
 
-/// Whether the row of the id is above the path, and not at it.
+/// Returns whether the row with the id is strictly above the path.
 fn is_above(tree: &Tree, id: u64, path: &NPath) -> bool
     ensures { result ≡ (at_or_above tree.now.rows id path.now && not (at_or_below tree.now.rows id path.now)) }
 {
@@ -423,7 +428,7 @@ fn is_above(tree: &Tree, id: u64, path: &NPath) -> bool
     above && !below
 }
 
-/// Whether the row of the id is below the path, and not at it.
+/// Returns whether the row with the id is strictly below the path.
 fn is_below(tree: &Tree, id: u64, path: &NPath) -> bool
     ensures { result ≡ (at_or_below tree.now.rows id path.now && not (at_or_above tree.now.rows id path.now)) }
 {
