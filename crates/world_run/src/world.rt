@@ -274,14 +274,14 @@ impl World {
             Event::Kms { user, call } => Ok(self.call_keys(disk, words, now, user, call)),
             Event::RestartKms => self.restart_keys(disk),
             Event::RestartName => self.restart_names(disk),
-            Event::Mkdir { user, path } => Ok(self.mkdir(disk, user, path)),
+            Event::Mkdir { user, path } => Ok(self.mkdir(disk, &user, &path)),
             Event::Delete {
                 user,
                 path,
                 recursive,
-            } => Ok(self.delete(disk, user, path, recursive)),
-            Event::Info { user, path } => Ok(self.info(disk, user, path)),
-            Event::List { user, path } => Ok(self.list(disk, user, path)),
+            } => Ok(self.delete(disk, &user, &path, recursive)),
+            Event::Info { user, path } => Ok(self.info(disk, &user, &path)),
+            Event::List { user, path } => Ok(self.list(disk, &user, &path)),
             Event::Zones { user } => Ok(self.call(disk, &user, NameCall::Zones)),
             Event::AskCreate { user, path } => Ok(self.ask_create(user, path)),
             Event::AskZone { user, path, key } => Ok(self.ask_zone(user, path, key)),
@@ -348,43 +348,49 @@ impl World {
         Line::Name(self.names.act(disk, user, call))
     }
 
-    fn mkdir<D: Disk>(&mut self, disk: &mut D, user: Text, path: ByteList) -> Line
+    fn mkdir<D: Disk>(&mut self, disk: &mut D, user: &Text, path: &ByteList) -> Line
         requires stands { Tells (D.state disk.old) → ((done : Acknowledged) × HoldsLogs (D.state disk.old) self.old done) }
-        ensures { PathHappens (D.state disk.old) (D.state disk.new) self.old user call.Mkdir (read_path path) result self.new }
+        ensures { PathHappens (D.state disk.old) (D.state disk.new) self.old user.now call.Mkdir (read_path path.now) result self.new }
     {
         match NPath::read(self.alloc, path.as_slice()) {
             Err(fault) => Line::Name(unread(fault)),
-            Ok(path) => self.call(disk, &user, NameCall::Mkdir { path }),
+            Ok(path) => self.call(disk, user, NameCall::Mkdir { path }),
         }
     }
 
-    fn delete<D: Disk>(&mut self, disk: &mut D, user: Text, path: ByteList, recursive: bool) -> Line
+    fn delete<D: Disk>(
+        &mut self,
+        disk: &mut D,
+        user: &Text,
+        path: &ByteList,
+        recursive: bool,
+    ) -> Line
         requires stands { Tells (D.state disk.old) → ((done : Acknowledged) × HoldsLogs (D.state disk.old) self.old done) }
-        ensures { PathHappens (D.state disk.old) (D.state disk.new) self.old user (delete_with recursive) (read_path path) result self.new }
+        ensures { PathHappens (D.state disk.old) (D.state disk.new) self.old user.now (delete_with recursive) (read_path path.now) result self.new }
     {
         match NPath::read(self.alloc, path.as_slice()) {
             Err(fault) => Line::Name(unread(fault)),
-            Ok(path) => self.call(disk, &user, NameCall::Delete { path, recursive }),
+            Ok(path) => self.call(disk, user, NameCall::Delete { path, recursive }),
         }
     }
 
-    fn info<D: Disk>(&mut self, disk: &mut D, user: Text, path: ByteList) -> Line
+    fn info<D: Disk>(&mut self, disk: &mut D, user: &Text, path: &ByteList) -> Line
         requires stands { Tells (D.state disk.old) → ((done : Acknowledged) × HoldsLogs (D.state disk.old) self.old done) }
-        ensures { PathHappens (D.state disk.old) (D.state disk.new) self.old user call.Info (read_path path) result self.new }
+        ensures { PathHappens (D.state disk.old) (D.state disk.new) self.old user.now call.Info (read_path path.now) result self.new }
     {
         match NPath::read(self.alloc, path.as_slice()) {
             Err(fault) => Line::Name(unread(fault)),
-            Ok(path) => self.call(disk, &user, NameCall::Info { path }),
+            Ok(path) => self.call(disk, user, NameCall::Info { path }),
         }
     }
 
-    fn list<D: Disk>(&mut self, disk: &mut D, user: Text, path: ByteList) -> Line
+    fn list<D: Disk>(&mut self, disk: &mut D, user: &Text, path: &ByteList) -> Line
         requires stands { Tells (D.state disk.old) → ((done : Acknowledged) × HoldsLogs (D.state disk.old) self.old done) }
-        ensures { PathHappens (D.state disk.old) (D.state disk.new) self.old user call.List (read_path path) result self.new }
+        ensures { PathHappens (D.state disk.old) (D.state disk.new) self.old user.now call.List (read_path path.now) result self.new }
     {
         match NPath::read(self.alloc, path.as_slice()) {
             Err(fault) => Line::Name(unread(fault)),
-            Ok(path) => self.call(disk, &user, NameCall::List { path }),
+            Ok(path) => self.call(disk, user, NameCall::List { path }),
         }
     }
 
