@@ -111,7 +111,7 @@ for sealed in (bytes(16), bytes(range(24)), bytes(range(32))):
         expect("an encrypted key", run(log(records)[0], b"nn a info /z/%C3%A4\n"), (0, f"1 file {row_id(2)} /z {wanted}\n"))
 
 # Only a gate of 1 opens a record.
-for gate in (0, 1, 2, 127, 128, 255):
+for gate in range(256):
     wanted = "1 list d/\n" if gate == 1 else "1 list\n"
     expect(f"the gate {gate}", run(log(BASE[:2], gate)[0]), (0, wanted))
 for end in (b"\x00", b"\x02", b"\xff"):
@@ -171,7 +171,7 @@ for depth in range(1, 101):
 expect("a path of 8,000 bytes", run(log(rows)[0], b"nn a info " + above + b"\n"), (0, f"1 dir {row_id(100)} - -\n"))
 is_damaged("a path of 8,001 bytes", rows[:-1] + [mkdir(row_id(100), above + b"a")])
 
-if runs < 200:
+if runs < 400:
     failures.append(f"only {runs} runs")
 print("\n".join(f"tests/records.py: {it}" for it in failures[:10]), end="\n" if failures else "")
 sys.exit(1 if failures else 0)
