@@ -136,20 +136,30 @@ fn assert_ends(rt: &impl Abort, answers: &str, wanted: &str) {
     assert!(rt; answers.ends_with(wanted));
 }
 
-/// Asks for the count, takes one more, asks for the last name, and takes one with 255 bytes elsewhere.
-fn assert_full(rt: &impl Abort, alloc: Global, bench: &mut Bench) {
+/// Asks for the count, tries to take one more, and asks for the last name.
+fn assert_full(rt: &impl Abort, bench: &mut Bench) {
     for line in ["count 1", "take 1 more", "name 1 65535"] {
         bench.line(rt, line);
     }
-    let long = format!(in alloc; "take 2 {0:x>255}", "x").expect(rt, "memory");
-    for line in ["mkdir /f 2", "allow 2", long.as_str(), "count 2"] {
+    assert_ends(rt, bench.answers(), "yes\n65536\nno\n65535\n");
+}
+
+/// Takes a snapshot whose name has 255 bytes, and finds it by its place and by its name.
+fn assert_long_name(rt: &impl Abort, alloc: Global, bench: &mut Bench) {
+    let long = format!(in alloc; "{0:x>255}", "x").expect(rt, "memory");
+    let take = format!(in alloc; "take 2 {long}").expect(rt, "memory");
+    let look = format!(in alloc; "look 2 {long} /").expect(rt, "memory");
+    let wanted = format!(in alloc; "yes\n{long}\ndirectory 2\n").expect(rt, "memory");
+    for line in [
+        "mkdir /f 2",
+        "allow 2",
+        take.as_str(),
+        "name 2 0",
+        look.as_str(),
+    ] {
         bench.line(rt, line);
     }
-    assert_ends(
-        rt,
-        bench.answers(),
-        "yes\n65536\nno\n65535\nyes\nyes\nyes\n1\n",
-    );
+    assert_ends(rt, bench.answers(), wanted.as_str());
 }
 
 #[test]
@@ -159,5 +169,6 @@ fn a_directory_has_at_most_65536_snapshots(rt: HostRuntime) {
     bench.line(&rt, "mkdir /e 1");
     bench.line(&rt, "allow 1");
     fill(&rt, alloc, &mut bench);
-    assert_full(&rt, alloc, &mut bench);
+    assert_full(&rt, &mut bench);
+    assert_long_name(&rt, alloc, &mut bench);
 }
