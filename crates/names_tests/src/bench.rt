@@ -51,6 +51,13 @@ fn make(tree: &mut Tree, path: &NPath, id: u64, directory: bool) -> Result<bool,
     Ok(true)
 }
 
+/// Removes what is at a path, except the root.
+fn remove(tree: &mut Tree, path: &NPath) {
+    if path.len() > 0 {
+        tree.remove(path);
+    }
+}
+
 /// Marks the directory with this id. Returns whether there is one.
 fn mark(tree: &mut Tree, id: u64, key: KeyName) -> bool {
     match tree.row(id) {
@@ -154,10 +161,9 @@ impl Bench {
 
     fn remove(&mut self, rt: &impl Abort, text: &str) {
         let path = path(rt, self.alloc, text);
-        if path.len() > 0 {
-            self.tree.remove(&path);
-        }
-        self.say_number(rt, self.tree.rows() as u64);
+        remove(&mut self.tree, &path);
+        let rows = self.tree.rows() as u64;
+        self.say_number(rt, rows);
     }
 
     fn mark(&mut self, rt: &impl Abort, id: u64) {
@@ -245,7 +251,8 @@ impl Bench {
     }
 
     fn name_at(&mut self, rt: &impl Abort, dir: u64, at: u64) {
-        let name = match self.snaps.name_at(dir, at as u32) {
+        let at = u32::try_from(at).expect(rt, "a place");
+        let name = match self.snaps.name_at(dir, at) {
             None => String::from_str(self.alloc, "-").expect(rt, "memory"),
             Some(name) => String::from_str(self.alloc, name.as_str()).expect(rt, "memory"),
         };
