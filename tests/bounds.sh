@@ -32,7 +32,8 @@ properties 1048545
 expect 'the longest properties' 0 '1 version k@0 2b7e151628aed2a6abf7158809cf4f3c'
 properties 1048546
 expect 'properties too long' 3 'acl too long'
-output=$(ls "$room") status=0
-expect 'what properties too long leave' 0 'kms-acls.properties'
+output=$(cd "$room" && stat -c '%n %s' keys.log names.log) status=0
+expect 'what properties too long leave' 0 'keys.log 0
+names.log 0'
 
 [ "$failures" -eq 0 ]

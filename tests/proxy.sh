@@ -10,7 +10,7 @@ done
 # The block of the page that begins with this line, with the paths of this folder.
 block() {
     awk -v first="    $1" '$0 == first { inside = 1 } inside && /^[^ ]/ { exit } inside { print substr($0, 5) }' docs/operations.md |
-        sed "s#/var/lib/hkms#$room/data#; s#/usr/local/bin/hkms#$hkms#; s#/etc/hkms#$room#; s#/run/hkms#$room#; s#listen 9643#listen unix:$room/tls.sock#"
+        sed "s#/run/hkms#$room#; s#/etc/hkms#$room#; s#/var/lib/hkms#$room/data#; s#listen 9643#listen unix:$room/tls.sock#; s#/usr/local/bin/hkms#$hkms#"
 }
 
 # certificate NAME SUBJECT: makes NAME.key and NAME.pem, by the authority of this folder.
