@@ -1,45 +1,6 @@
 """Reads the reports of trials about changes of the namesystem under faults and crashes."""
 
-
-class Part:
-    """A run of the program: its answers without their numbers, and its status."""
-
-    def __init__(self):
-        self.answers = []
-        self.status = None
-
-    def add(self, line):
-        if line.startswith('status '):
-            self.status = int(line.split()[1])
-        else:
-            number, _, answer = line.partition(' ')
-            self.answers.append(answer if number.isdigit() else line)
-
-
-class Run:
-    """A run with a fault at a call, and a run on each image that a crash may leave after it."""
-
-    def __init__(self, call):
-        self.call = call
-        self.first = Part()
-        self.images = []
-
-    def add(self, line):
-        if line.startswith('image '):
-            self.images.append(Part())
-        else:
-            (self.images[-1] if self.images else self.first).add(line)
-
-
-def read_runs(report):
-    runs = []
-    for line in report.read().splitlines():
-        if line.startswith('call '):
-            runs.append(Run(int(line.split()[1])))
-        else:
-            runs[-1].add(line)
-    return runs
-
+from trial_reports import read_runs
 
 FAULT = 'refused N23 StoreFault'
 
