@@ -1,4 +1,4 @@
-//! Operations once more.
+//! Copies of operations.
 ghost use Rattle.std.specs.Prelude.{◌≡◌, IfOk};
 ghost use Rattle.edit_ops.specs.Records.{HasSpelling, spelling};
 ghost use Rattle.edit_ops.specs.declared.ops.EditOp.{EditOp};
@@ -7,7 +7,7 @@ use edit_ops::EditOp;
 use hk_base::{NoMemory, RecordFault};
 use std::alloc::Global;
 
-/// The operation whose record the bytes are.
+/// Returns the operation whose record the bytes are.
 pub(crate) fn operation_of(alloc: Global, bytes: &[u8]) -> Result<EditOp, NoMemory>
     requires { (op : EditOp) × HasSpelling op × (bytes.now ≡ spelling op) }
     ensures { IfOk result (λ copy. (op : EditOp) → HasSpelling op → bytes.now ≡ spelling op → copy ≡ op) }

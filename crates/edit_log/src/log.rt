@@ -47,14 +47,14 @@ impl EditLog {
     ghost use Rattle.edit_log.specs.Replay.{op_view};
     ghost use Rattle.edit_log.specs.Log.{StandsFor, IsWithOrWithout, IsReadOf, IsEditLog, IsDamagedAt, IsLeftByStart};
 
-    /// Opens the edit log of a disk: reads its operations, and commits the record of a new opening. It
-    /// may be stopped at any moment, and started again. The operations are those found, without the
-    /// new opening, whose number is one more than the list's.
+    /// Opens the edit log of a disk: reads its operations, and commits the record of a new opening. A
+    /// crash may stop this call at any moment; start again then. The operations returned are those found,
+    /// without the new opening, whose number is one more than the list's.
     ///
-    /// `Damaged` comes exactly where the file is no log, or a record is no operation, or an opening that
-    /// isn't one more than the last, or another operation before the first opening, with the offset of
-    /// the gate before the first such record. Whether the operations apply to one another is not asked:
-    /// a caller that asks it calls `recover`, and then `open`. `Spent` comes exactly where opening
+    /// Returns `Damaged` only if the file is not a log, or a record is not an operation, or is an opening
+    /// that is not one more than the last, or another operation before the first opening. The offset is
+    /// that of the gate before the first such record. This call does not check that the operations apply
+    /// to one another: for that, call `recover` and then `open`. Returns `Spent` only if opening
     /// 4,294,967,295 is recorded.
     pub fn start<D: Disk>(alloc: Global, disk: &mut D) -> Result<(EditLog, OpList), StartFault>
         ensures log { IfOk result (λ r. Tells (D.state disk.old) → IsEditLog ((D.state disk.old).reads 1) r.1.list.items r.1.opening
@@ -68,7 +68,7 @@ impl EditLog {
         ensures any_moment { Tells (D.state disk.old) → LeavesOnly 1 (D.state disk.old) (D.state disk.new)
             (λ c. (D.state disk.old).leaves 1 c ⊎ IsLeftByStart ((D.state disk.old).reads 1) c) }
 
-        // Whatever the answer, since the first sync of the call it leaves the latter alone. Where that sync
+        // Whatever the result, after the first sync of the call it leaves the latter alone. If that sync
         // failed, nothing was written.
         ensures since_sync { Tells (D.state disk.old) →
             (IsErrOf result start.StoreFault × LeavesOnly 1 (D.state disk.old) (D.state disk.new) ((D.state disk.old).leaves 1))
@@ -86,13 +86,13 @@ impl EditLog {
         Ok((log, ops))
     }
 
-    /// Reads the operations of a disk's edit log, up to the first record that is no operation or is out
-    /// of turn, of which the list has the place. It commits nothing: the file is as it was found, or its
-    /// end gate, where that isn't 0, is shut. `Damaged` comes exactly where the file is no log.
+    /// Reads the operations of a disk's edit log, up to the first record that is not an operation or is
+    /// out of turn. The list has the offset of that record. Nothing is committed: the file is unchanged,
+    /// or its end gate is set to 0. Returns `Damaged` only if the file is not a log.
     ///
-    /// Where the list has all records, the log stands for its operations: `open` comes next, once they
-    /// are seen to apply to one another. Else the file is damaged, at the first operation that doesn't
-    /// apply or at the place that the list has.
+    /// If the list has all records, call `open` once the operations are known to apply to one another.
+    /// Otherwise the file is damaged, at the first operation that does not apply or at the offset that
+    /// the list has.
     pub fn recover<D: Disk>(alloc: Global, disk: &mut D) -> Result<(EditLog, OpList), StartFault>
         ensures list { IfOk result (λ r. Tells (D.state disk.old) → IsReadOf ((D.state disk.old).reads 1) r.1.list.items r.1.opening r.1.damaged) }
         ensures log { IfOk result (λ r. r.1.damaged ≡ None → Tells (D.state disk.old) → StandsFor (D.state disk.new) r.0 (map op_view r.1.list.items)) }
@@ -105,8 +105,9 @@ impl EditLog {
         ensures any_moment { Tells (D.state disk.old) → LeavesOnly 1 (D.state disk.old) (D.state disk.new)
             (λ c. (D.state disk.old).leaves 1 c ⊎ IsAsFound 1 ((D.state disk.old).reads 1) c) }
 
-        // Whatever the answer, since the first sync of the call it leaves the log found, or that with its end
-        // gate read as 1, and what is no log byte for byte. Where that sync failed, nothing was written.
+        // Whatever the result, after the first sync of the call it leaves the log found, or that log with its
+        // end gate read as 1. A file that is not a log stays byte for byte. If that sync failed, nothing was
+        // written.
         ensures since_sync { Tells (D.state disk.old) →
             (IsErrOf result start.StoreFault × LeavesOnly 1 (D.state disk.old) (D.state disk.new) ((D.state disk.old).leaves 1))
             ⊎ LeavesFrom 1 (D.state disk.old) (D.state disk.new) (IsRecovered 1 ((D.state disk.old).reads 1)) }
@@ -119,9 +120,9 @@ impl EditLog {
         Ok((EditLog { log, pending: None }, ops))
     }
 
-    /// Commits the record of the opening behind the last one, which is 0 where there is none. `Spent`
-    /// comes exactly where the last one is 4,294,967,295, with nothing changed. After `NoMemory` nothing
-    /// is changed either, and after `StoreFault` the opening is pending. It is never `Damaged`.
+    /// Commits the record of the opening after `last`, which is 0 if there is none. Returns `Spent` exactly
+    /// if `last` is 4,294,967,295, and then changes nothing. `NoMemory` changes nothing either. After
+    /// `StoreFault` the opening is pending. Never returns `Damaged`.
     pub fn open<D: Disk>(
         &mut self,
         alloc: Global,
@@ -160,8 +161,8 @@ impl EditLog {
         }
     }
 
-    /// Writes the record of an operation to the log. All memory is taken before the log is written:
-    /// after `NoMemory` all is as before. After `StoreFault` the operation is pending.
+    /// Writes the record of an operation to the log. Allocates only before the log is written: `NoMemory`
+    /// changes nothing. After `StoreFault` the operation is pending.
     pub fn commit<D: Disk>(
         &mut self,
         alloc: Global,
@@ -202,7 +203,7 @@ impl EditLog {
         }
     }
 
-    /// Whether an operation is pending.
+    /// Returns whether an operation is pending.
     pub fn is_pending(&self) -> bool
         ensures pending { result ≡ is_some self.now.pending }
         // The log is that of file 1.
@@ -211,9 +212,9 @@ impl EditLog {
         self.pending.is_some()
     }
 
-    /// Settles the pending operation: it is kept, and answered, where the gate byte before its record
-    /// reads 1 after a sync, and is dropped where it doesn't. Where none is pending nothing is done. After
-    /// `StoreFault`, the only refusal, it is still pending; memory was taken by the commit.
+    /// Settles the pending operation. It is kept and returned if the gate byte before its record reads 1
+    /// after a sync, and dropped otherwise. Does nothing if none is pending. After `StoreFault`, the only
+    /// error, it is still pending. Does not allocate.
     pub fn settle<D: Disk>(&mut self, disk: &mut D) -> Result<Option<EditOp>, StoreRefusal>
         requires stands { Tells (D.state disk.old) → ((ops : List EditOp) × StandsFor (D.state disk.old) self.old ops) }
 

@@ -1,16 +1,16 @@
 //! Operations with their places in the file.
 use edit_ops::EditOp;
 
-/// An operation, and the offset of the gate byte before its record.
+/// An operation and the offset of the gate byte before its record.
 #[derive(Drop)]
 pub struct PlacedOp {
     pub at: u64,
     pub op: EditOp,
 }
 
-/// The operations of a log in the order of the file, up to the first record that is none or is out of
-/// turn. `opening` is the last opening among them, and 0 where there is none. `damaged` is the offset
-/// of the gate byte before that first record; it is `None` where all records are operations in turn.
+/// The operations of a log in file order, up to the first record that is not an operation or is out of
+/// turn. `opening` is the last opening among them, or 0. `damaged` is the offset of the gate byte before
+/// that first record, or `None` if all records are operations in turn.
 #[derive(Drop)]
 pub struct OpList {
     pub list: Vec<PlacedOp>,

@@ -9,7 +9,7 @@ use frame_log::Frame;
 use hk_base::{NoMemory, RecordFault};
 use std::alloc::Global;
 
-/// Whether an operation may follow this last opening.
+/// Returns whether an operation may follow this last opening.
 fn is_in_turn(last: u32, op: &EditOp) -> bool
     ensures { result ≡ in_turn last op.now }
 {
@@ -22,7 +22,7 @@ fn is_in_turn(last: u32, op: &EditOp) -> bool
     }
 }
 
-/// The last opening once the operation has followed.
+/// Returns the last opening after the operation.
 fn opening_after(last: u32, op: &EditOp) -> u32
     ensures { result ≡ then_last last op.now }
 {
@@ -35,7 +35,7 @@ fn opening_after(last: u32, op: &EditOp) -> u32
     }
 }
 
-/// The operation that a record spells, or `None` where it spells none or one that is out of turn.
+/// Returns the operation that a record spells, or `None` if it spells none or one that is out of turn.
 fn next_op(alloc: Global, last: u32, payload: &[u8]) -> Result<Option<EditOp>, NoMemory>
     ensures { IfOk result (λ op. IsTaken last payload.now op) }
 {
@@ -50,7 +50,7 @@ fn next_op(alloc: Global, last: u32, payload: &[u8]) -> Result<Option<EditOp>, N
     Ok(Some(op))
 }
 
-/// The operations that the frames of a log are, up to the first that is none or is out of turn.
+/// Reads the operations of the frames of a log, up to the first that is not one or is out of turn.
 pub(crate) fn read_ops(alloc: Global, frames: &[Frame]) -> Result<OpList, NoMemory>
     ensures { IfOk result (λ ops. IsListOf (map frame_view frames.now) ops.list.items ops.opening ops.damaged) }
 {

@@ -8,7 +8,7 @@ use hk_base::{Disk, LONGEST_FILE};
 use std::alloc::Global;
 
 /// A log on one file of a disk: the offset of its end gate and, after a failure of the disk, the length
-/// of the payload that was being added.
+/// of the payload that was being added. A gate is the commit byte of a frame (docs/glossary.md).
 #[derive(Drop)]
 pub struct Log {
     pub file: u8,

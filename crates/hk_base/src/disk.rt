@@ -12,7 +12,8 @@ pub const LONGEST_FILE: u64 = 1 << 62;
 ///
 /// Between two syncs of a file, a crash may leave any bytes in each range that was written and past
 /// the old end; the bytes outside those ranges are unchanged. After a sync that succeeds, a crash
-/// leaves exactly what a read returns. A call on one file does not change the other.
+/// leaves exactly what a read returns. A call on one file does not change the other. What a crash may
+/// leave is called an image (docs/glossary.md).
 ///
 /// A disk may promise nothing about its content, as a real one does. A call fails only if the count
 /// of faults rises.

@@ -1,4 +1,4 @@
-//! The service behind a connection.
+//! The service of a connection.
 ghost use Rattle.std.specs.Prelude.{ℕ, List};
 ghost use Rattle.kms_calls.specs.declared.calls.KmsCall.{KmsCall};
 ghost use Rattle.kms_calls.specs.declared.calls.KmsReply.{KmsReply};

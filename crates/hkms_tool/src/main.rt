@@ -12,8 +12,7 @@ use std::io::{self, ErrorKind, Read};
 use std::process::ExitCode;
 use std::rt::{Env, Files};
 
-/// The words of the command line without the program's own name. It fails where a word is not
-/// UTF-8.
+/// Returns the words of the command line without the program's own name. Fails if a word is not UTF-8.
 fn words_given(rt: &(impl Env + Alloc<A = Global>)) -> io::Result<Vec<Text>> {
     let mut words = Vec::new(rt.alloc());
     for word in env::args(rt)?.skip(1) {
@@ -32,7 +31,7 @@ fn random_seed<R: Files>(rt: &R) -> io::Result<[u8; 32]> {
 /// The file of the properties of the key management service, in the current folder.
 const PROPERTIES: &str = "kms-acls.properties";
 
-/// The properties where there is no such file: every user may do everything.
+/// The properties if there is no such file: every user may do everything.
 const PERMITTING: &[u8] = b"default.key.acl.MANAGEMENT=*\n\
     default.key.acl.GENERATE_EEK=*\n\
     default.key.acl.DECRYPT_EEK=*\n\
@@ -106,7 +105,7 @@ fn run_with_files(rt: &HostRuntime, words: &[Text], order: &Order, seed: [u8; 32
     }
 }
 
-/// Does what the words of the command line say where they name no command: no file is opened.
+/// Runs words that name no command. Opens no file.
 fn run_without_files(rt: &HostRuntime, words: &[Text], seed: [u8; 32]) -> u8 {
     let mut acls = Reading::new(io::empty());
     let mut disk = PlainDisk::new(rt.alloc());

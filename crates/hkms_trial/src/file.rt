@@ -69,7 +69,7 @@ impl TrialFile {
         self.bytes.as_slice()
     }
 
-    /// Copies bytes from an offset into the front of the buffer, as many as fit, and answers how many.
+    /// Copies bytes from an offset to the start of the buffer, as many as fit. Returns how many.
     pub fn read(&self, at: usize, buf: &mut [u8]) -> usize
         ensures count { result ≤ length buf.new }
         ensures rest { drop result buf.new ≡ drop result buf.old }

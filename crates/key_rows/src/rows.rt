@@ -87,8 +87,8 @@ impl DekList {
     }
 }
 
-/// A key. No other key has or had the same `birth`. `bits` is the length of its materials in bits,
-/// and `created` the moment of its creation.
+/// A key. No other key has or had the same `birth` (docs/glossary.md). `bits` is the length of its
+/// materials in bits, and `created` the moment of its creation.
 #[derive(Drop)]
 pub struct KeyRow {
     pub name: KeyName,
@@ -102,7 +102,7 @@ pub struct KeyRow {
 /// A change of the table of keys.
 #[derive(Drop)]
 pub enum KeyCommand {
-    /// The service was started. `opening` counts its starts from 1.
+    /// The service was started. `opening` counts its starts from 1 (docs/glossary.md).
     Opened {
         opening: u32,
     },

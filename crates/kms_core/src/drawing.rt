@@ -1,4 +1,4 @@
-//! Drawing keys from random words.
+//! Drawing keys from random words. docs/glossary.md says what a draw is.
 ghost use Rattle.std.specs.Prelude.{◌≡◌, ◌*◌, ◌/◌, ◌≤◌, ◌⊎◌, ℕ, false, length, take, IsTrue, MatchResult};
 ghost use Rattle.key_rows.specs.Table.{is_length};
 ghost use Rattle.kms_core.specs.Draws.{drawn, drawn_edek, drawn_iv, material_for, words_for, words_of_draw};

@@ -183,7 +183,7 @@ fn texts_and_their_faults(rt: HostRuntime) {
     }
 }
 
-/// A text of so many lines, and the sizes that it sets.
+/// A text of many lines, and the sizes that it sets.
 struct Setting {
     text: &'static [u8],
     lines: usize,

@@ -62,8 +62,8 @@ pub enum NameRefusal {
     RootOrInside,
 }
 
-/// A change of the namesystem that needs a call of the key management service in between. Its paths
-/// are absolute.
+/// A change of the namesystem that needs a call of the key management service in between
+/// (docs/glossary.md). Its paths are absolute.
 #[derive(Drop)]
 pub enum Ask {
     /// Makes a file, whose parent must exist. In a zone the file gets an encrypted data encryption
@@ -86,7 +86,8 @@ pub enum Want {
     Metadata(KeyName),
 }
 
-/// The answer to an accepted ask: the id by which it is finished, and the call that it wants.
+/// The answer to an accepted ask: the id by which it is finished, and the call that it wants. It is
+/// called a note (docs/glossary.md).
 #[derive(Clone, Copy)]
 pub struct AskNote {
     pub id: u64,

@@ -42,7 +42,7 @@ pub(crate) fn make_file(
     tree.add_file(path, id, edek)
 }
 
-/// Removes what stands at the path and below it, and the zones among that.
+/// Removes the row at the path and all rows below it, with their zones.
 pub(crate) fn remove(tree: &mut Tree, zones: &mut Zones, path: &NPath)
     requires deep { 0 < length path.now }
     requires zones { zones.old.rows ≡ zones_of tree.old.rows }
@@ -53,7 +53,7 @@ pub(crate) fn remove(tree: &mut Tree, zones: &mut Zones, path: &NPath)
     tree.remove(path);
 }
 
-/// Makes a directory a zone.
+/// Marks a directory as a zone.
 pub(crate) fn mark(
     tree: &mut Tree,
     zones: &mut Zones,

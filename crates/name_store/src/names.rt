@@ -36,7 +36,7 @@ impl Names {
     ghost use Rattle.name_store.specs.Table.{after_table, allows};
     ghost use Rattle.name_store.specs.Names.{HasRoom};
 
-    /// The root alone, before the first opening.
+    /// Creates the table of the root alone, before the first opening.
     pub(crate) fn new(alloc: Global) -> Result<Names, NoMemory>
         ensures { IfOk result (λ names. names.table ≡ record { opening = 0; rows = root_only }) }
     {
@@ -49,16 +49,15 @@ impl Names {
         })
     }
 
-    /// Whether the operation may take effect, but for whether its id was used before.
+    /// Returns whether the operation may take effect. Does not check whether its id was used before.
     pub(crate) fn allows(&self, op: &EditOp) -> bool
         ensures { result ≡ allows self.now.table op.now }
     {
         allows(self.opening, &self.tree, op)
     }
 
-    /// Takes the memory that the operation will need. The table stays as it is, also where memory is
-    /// wanting. After `Ok` the operation takes effect with `Ok`, for as long as the table is left as
-    /// it is.
+    /// Reserves the memory that the operation needs. The table is unchanged, even if allocation fails.
+    /// After `Ok`, `apply` of this operation returns `Ok` as long as the table does not change.
     pub(crate) fn reserve(&mut self, op: &EditOp) -> Result<(), NoMemory>
         ensures same { self.new.table ≡ self.old.table }
         ensures ok { OnOk result (HasRoom op.now self.new) }
@@ -72,8 +71,8 @@ impl Names {
         }
     }
 
-    /// Lets an operation take effect. Where memory is wanting the table stays as it was. It is `Ok`
-    /// where there is room for the operation.
+    /// Lets an operation take effect. If allocation fails, the table is unchanged. Returns `Ok` if there
+    /// is room for the operation.
     pub(crate) fn apply(&mut self, op: &EditOp) -> Result<(), NoMemory>
         requires { IsTrue (allows self.old.table op.now) }
         ensures ok { OnOk result (self.new.table ≡ after_table self.old.table op.now) }
@@ -95,7 +94,7 @@ impl Names {
         }
     }
 
-    /// The directories and files.
+    /// Returns the directories and files.
     pub(crate) fn tree(&self) -> &Tree
         ensures rows { result.now.rows ≡ self.now.table.rows }
         ensures rules { IsRows self.now.table.rows }
@@ -104,14 +103,14 @@ impl Names {
         &self.tree
     }
 
-    /// The number of the last opening, 0 before the first.
+    /// Returns the number of the last opening, or 0 before the first.
     pub(crate) fn opening(&self) -> u32
         ensures { result ≡ self.now.table.opening }
     {
         self.opening
     }
 
-    /// The encryption zones with their keys, in path order.
+    /// Returns the encryption zones with their keys, in path order.
     pub(crate) fn zones(&self) -> Result<ZoneList, NoMemory>
         ensures { IfOk result (λ list. list ≡ zone_paths self.now.table.rows) }
     {

@@ -15,8 +15,8 @@ use frame_log::StartFault;
 use hk_base::Disk;
 use std::alloc::Global;
 
-/// Records a new opening behind the operations of a log, which come to this table. `Spent` comes only
-/// where the last opening is 4,294,967,295.
+/// Records a new opening after the operations of a log, which make this table. Returns `Spent` only if
+/// the last opening is 4,294,967,295.
 pub(crate) fn open<D: Disk>(
     alloc: Global,
     disk: &mut D,

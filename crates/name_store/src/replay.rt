@@ -13,7 +13,7 @@ use frame_log::StartFault;
 use hk_base::NoMemory;
 use std::alloc::Global;
 
-/// Lets an operation take effect where it applies. Tells whether it does.
+/// Lets an operation take effect if it applies. Returns whether it does.
 fn take(names: &mut Names, used: &mut UsedIds, op: &EditOp) -> Result<bool, NoMemory>
     ensures { IfOk result (IsTaken names.old.table (contains nat_eq used.old.ids) op.now names.new.table (contains nat_eq used.new.ids)) }
 {
@@ -27,8 +27,8 @@ fn take(names: &mut Names, used: &mut UsedIds, op: &EditOp) -> Result<bool, NoMe
     Ok(true)
 }
 
-/// The table that the operations of a log make. `Damaged` has the place of the first operation that
-/// doesn't apply, or of the record at which the list broke off where all of its operations do.
+/// Makes the table of the operations of a log. `Damaged` has the offset of the first operation that does
+/// not apply or, if all of them do, of the record at which the list ends early.
 pub(crate) fn replay(alloc: Global, ops: &OpList) -> Result<Names, StartFault>
     ensures made { IfOk result (λ names. IsMade ops.now.list.items ops.now.damaged names.table) }
     ensures damaged { (at : ℕ) → IsErrOf result (Damaged at) → IsRefusedAt ops.now.list.items ops.now.damaged at }

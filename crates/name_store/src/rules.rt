@@ -8,11 +8,11 @@ use hk_base::{Edek, KeyName};
 use inode_tree::{Kind, MOST_ROWS, Row, Tree};
 use name_calls::NPath;
 
-/// How many ids an opening has.
+/// The number of ids of an opening.
 const IDS: u64 = 1 << 32;
 
-/// Whether the table of an opening and a tree allows the operation, but for whether its id was used
-/// before. The rules are those of the calls that log it.
+/// Returns whether the table of an opening and a tree allows the operation. Does not check whether its
+/// id was used before. The rules are those of the calls that log it.
 pub(crate) fn allows(opening: u32, tree: &Tree, op: &EditOp) -> bool
     ensures { result ≡ allows (record { opening = opening; rows = tree.now.rows }) op.now }
 {
@@ -56,7 +56,7 @@ fn may_make_zone(opening: u32, tree: &Tree, path: &NPath) -> bool
     0 < opening && place
 }
 
-/// Whether the opening gives out the id.
+/// Returns whether the id is one of the opening.
 fn is_of_opening(opening: u32, id: u64) -> bool
     ensures { result ≡ is_of_opening opening id }
 {
@@ -81,7 +81,7 @@ fn is_dir_at(row: Option<Row>) -> bool
     }
 }
 
-/// Whether a path is free in a directory that stands, with room for one more row.
+/// Returns whether a path is free, its directory exists, and there is room for one more row.
 fn may_be_made(tree: &Tree, path: &NPath) -> bool
     ensures { result ≡ may_be_made tree.now.rows path.now }
 {
@@ -91,7 +91,7 @@ fn may_be_made(tree: &Tree, path: &NPath) -> bool
     housed && free && room
 }
 
-/// Whether a path is that of an empty directory in no zone.
+/// Returns whether a path is that of an empty directory in no zone.
 fn may_be_zone(tree: &Tree, path: &NPath) -> bool
     ensures { result ≡ may_be_zone tree.now.rows path.now }
 {
@@ -101,7 +101,7 @@ fn may_be_zone(tree: &Tree, path: &NPath) -> bool
     stands && empty && outside
 }
 
-/// The key of the zone that a path lies in.
+/// Returns the key of the zone that a path is in.
 fn key_of_zone(tree: &Tree, path: &NPath) -> Option<KeyName>
     ensures { result ≡ key_of_zone tree.now.rows path.now }
 {
@@ -116,7 +116,7 @@ fn key_of_zone(tree: &Tree, path: &NPath) -> Option<KeyName>
     }
 }
 
-/// The key that a row is marked with.
+/// Returns the key that a row is marked with.
 fn mark(kind: Kind) -> Option<KeyName>
     ensures { result ≡ mark_of kind }
 {
@@ -126,7 +126,7 @@ fn mark(kind: Kind) -> Option<KeyName>
     }
 }
 
-/// Whether a file has an encrypted key exactly where it lies in a zone, and then of that zone's key.
+/// Returns whether a file has an encrypted key exactly if it is in a zone, and then of the zone's key.
 fn fits_zone(key: &Option<KeyName>, edek: &Option<Edek>) -> bool
     ensures { result ≡ fits_zone key.now edek.now }
 {

@@ -48,10 +48,10 @@ impl NameStore {
     ghost use Rattle.name_store.specs.Store.{Commits, IsDamagedAt, IsLeftByStart, IsLeftOf, IsNameLog, IsStore, NothingMore, Settles, StandsFor, Started, Unsettled, is_opening, made_with};
 
     /// Opens the edit log of a disk, makes the table of its operations, and commits the record of a new
-    /// opening. It may be stopped at any moment, and started again.
+    /// opening. A crash may stop this call at any moment; start again then.
     ///
-    /// `Damaged` comes exactly where the file is no log, or a record is no operation or doesn't apply, with
-    /// the offset of its gate. `Spent` comes exactly where opening 4,294,967,295 is recorded.
+    /// Returns `Damaged` only if the file is not a log, or a record is not an operation or does not apply,
+    /// with the offset of its gate. Returns `Spent` only if opening 4,294,967,295 is recorded.
     pub fn start<D: Disk>(alloc: Global, disk: &mut D) -> Result<NameStore, StartFault>
         ensures started { IfOk result (Started (D.state disk.old) (D.state disk.new)) }
         ensures damaged { (at : ℕ) → IsErrOf result (start.Damaged at) → Tells (D.state disk.old) → IsDamagedAt ((D.state disk.old).reads 1) at }
@@ -63,7 +63,7 @@ impl NameStore {
         ensures any_moment { Tells (D.state disk.old) → LeavesOnly 1 (D.state disk.old) (D.state disk.new)
             (λ c. (D.state disk.old).leaves 1 c ⊎ IsLeftByStart ((D.state disk.old).reads 1) c) }
 
-        // Whatever the answer, since the first sync of the call it leaves the latter alone. Where that sync
+        // Whatever the result, after the first sync of the call it leaves the latter alone. If that sync
         // failed, nothing was written.
         ensures since_sync { Tells (D.state disk.old) →
             (IsErrOf result start.StoreFault × LeavesOnly 1 (D.state disk.old) (D.state disk.new) ((D.state disk.old).leaves 1))
@@ -79,9 +79,9 @@ impl NameStore {
         Ok(NameStore { log, names })
     }
 
-    /// Writes the record of an operation to the log and then lets it take effect. All memory is taken
-    /// before the log is written: after `NoMemory` all is as before. After `StoreFault` the operation is
-    /// pending, and the table is as before; the memory that it will need stays put by.
+    /// Writes the record of an operation to the log and then lets it take effect. Allocates only before
+    /// the log is written: `NoMemory` changes nothing. After `StoreFault` the operation is pending, and the
+    /// table is unchanged; the memory that the operation needs stays reserved.
     pub fn commit<D: Disk>(
         &mut self,
         alloc: Global,
@@ -112,9 +112,9 @@ impl NameStore {
         }
     }
 
-    /// Settles the pending operation: where the log keeps it, it takes effect; else it is dropped. Where
-    /// none is pending nothing is done. It takes no memory. After `StoreFault`, the only refusal, it is
-    /// still pending.
+    /// Settles the pending operation. If the log keeps it, it takes effect; otherwise it is dropped. Does
+    /// nothing if none is pending. Does not allocate. After `StoreFault`, the only error, it is still
+    /// pending.
     pub fn settle<D: Disk>(&mut self, disk: &mut D) -> Result<(), StoreRefusal>
         requires stands { Tells (D.state disk.old) → ((used : List ℕ) × (ops : List EditOp) × StandsFor (D.state disk.old) self.old used ops) }
 
@@ -139,7 +139,7 @@ impl NameStore {
         }
     }
 
-    /// The directories and files as they are without the pending operation.
+    /// Returns the directories and files, without the pending operation.
     pub fn tree(&self) -> &Tree
         ensures rows { result.now.rows ≡ self.now.table.rows }
         // What it keeps by itself.
@@ -150,14 +150,14 @@ impl NameStore {
         self.names.tree()
     }
 
-    /// The number of this opening.
+    /// Returns the number of this opening.
     pub fn opening(&self) -> u32
         ensures { result ≡ self.now.table.opening }
     {
         self.names.opening()
     }
 
-    /// The encryption zones with their keys, in path order.
+    /// Returns the encryption zones with their keys, in path order.
     pub fn zones(&self) -> Result<ZoneList, NoMemory>
         ensures { IfOk result (λ list. list ≡ zone_paths self.now.table.rows) }
     {

@@ -4,7 +4,7 @@ use hk_base::NoMemory;
 use std::alloc::Global;
 use std::collections::HashSet;
 
-/// Ids, of which no operation may use one again.
+/// The ids that no operation may use again.
 #[derive(Drop)]
 pub(crate) struct UsedIds {
     ids: HashSet<u64>,
@@ -17,7 +17,7 @@ impl UsedIds {
     ghost use Rattle.std.specs.List.{list_any};
     ghost use Rattle.name_store.specs.Table.{is_among, uses};
 
-    /// No ids. It takes no memory.
+    /// Creates the empty set of ids. Does not allocate.
     pub(crate) fn new(alloc: Global) -> UsedIds
         ensures { (id : ℕ) → contains nat_eq result.ids id ≡ false }
     {
@@ -26,7 +26,7 @@ impl UsedIds {
         }
     }
 
-    /// Whether no id that the operation uses is among them.
+    /// Returns whether no id of the operation was used before.
     pub(crate) fn is_fresh(&self, op: &EditOp) -> bool
         ensures { result ≡ not (list_any (contains nat_eq self.now.ids) (uses op.now)) }
     {
@@ -39,7 +39,7 @@ impl UsedIds {
         }
     }
 
-    /// Adds the ids that the operation uses.
+    /// Adds the ids of the operation.
     pub(crate) fn add(&mut self, op: &EditOp) -> Result<(), NoMemory>
         ensures { OnOk result ((id : ℕ) → contains nat_eq self.new.ids id ≡ (is_among (uses op.now) id || contains nat_eq self.old.ids id)) }
     {

@@ -4,7 +4,7 @@ use std::alloc::Global;
 use std::process::Abort;
 
 /// The `i`-th of a thousand rows: ten directories, in each 98 files, and beside each directory a file
-/// whose name goes on where the name of the directory ends. The ids are the places in path order.
+/// whose name begins with the name of the directory. The ids are the places in path order.
 fn nth(rt: &impl Abort, alloc: Global, i: u64) -> String {
     if i < 10 {
         let d = i * 7 % 10;

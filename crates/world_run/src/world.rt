@@ -54,7 +54,8 @@ const NAMES: u8 = 1;
 /// the access control lists and the store of the key management service, the store and the open asks
 /// of the namesystem, and the notes and replies as lists.
 ///
-/// Always pass the disk that the world was started on.
+/// Always pass the disk that the world was started on. docs/glossary.md explains the words of its
+/// contracts: ledger, draw, linked, sound.
 #[derive(Drop)]
 pub struct World {
     alloc: Global,
