@@ -76,6 +76,7 @@ row_rolled row number material may is =
     let below : number < 65535 = grind (arith, outer.1) in
     let long : length material ≡ row.bits / 8 = (Decides-eqb (length material) (row.bits / 8)).0 first.1 in
     record {
+      born = is.born;
       bits = is.bits;
       some = omega (arith, length-append row.materials (material ∷ []));
       few = omega (arith, length-append row.materials (material ∷ []), number_is, below);

@@ -1,5 +1,5 @@
 -- A command that applies leaves a table of keys.
-use Rattle.std.proofs.Common.{◌≡◌, ℕ, ◌/◌, ◌<◌, List, [], ◌∷◌, length, Bool, true, not, ◌&&◌, ◌==◌, nat_lt, is_none, Option, None, Some, IfSome, sym, subst, arith, length-append}
+use Rattle.std.proofs.Common.{◌≡◌, ℕ, ◌/◌, ◌<◌, ◌^◌, List, [], ◌∷◌, length, Bool, true, not, ◌&&◌, ◌==◌, nat_lt, is_none, Option, None, Some, IfSome, sym, subst, arith, length-append}
 use Rattle.std.specs.Option.{option_copied}
 use Rattle.std.proofs.Common.{Bor}
 use Rattle.std.proofs.lemmas.Bool.Decides.{Decides-eqb}
@@ -22,13 +22,15 @@ sound_create t birth name bits description created material is may =
     let long : length material ≡ bits / 8 = (Decides-eqb (length material) (bits / 8)).0 g.1 in
     let few : length t.rows < 10000 = grind (arith, e.1) in
     let above : t.greatest < birth = grind (arith, d.1) in
+    let here : birth / 2 ^ 32 ≡ t.opening = (Decides-eqb (opening_of birth) t.opening).0 c.1 in
+    let opened : 0 < t.opening = grind (arith, b.0) in
     let row : KeyRow = record { name = name; birth = birth; bits = bits; materials = material ∷ []; description = description; created = created } in
     record {
       opening = is.opening;
       few = omega (arith, length-append t.rows (row ∷ []), few);
       births = rising_more 0 t.rows t.greatest row is.births above;
       names = names_more t.rows row is.names (other_names name t.rows b.1);
-      rows = each_more IsRow t.rows row is.rows (record { bits = f.1; some = omega arith; few = omega arith; materials = (long, tt) });
+      rows = each_more IsRow t.rows row is.rows (record { born = omega (arith, here, opened); bits = f.1; some = omega arith; few = omega arith; materials = (long, tt) });
     }
 
 -- the name of a create is the name of no key

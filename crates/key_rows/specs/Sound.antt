@@ -14,8 +14,9 @@ abbrev pub NamesOnce : List KeyRow → Type 0
 NamesOnce [] = Unit {0}
 NamesOnce (row ∷ rows) = AllByRecursion (λ (other : KeyRow). other.name ≢ row.name) rows × NamesOnce rows
 
--- a key has one of the lengths, some versions, and each of its materials has its length
+-- a key was created in an opening, from 1 on, has one of the lengths, some versions, and each of its materials has its length
 pub record IsRow (row : KeyRow) : Type 0 where
+  pub born : 2 ^ 32 ≤ row.birth
   pub bits : IsTrue (is_length row.bits)
   pub some : 0 < length row.materials
   pub few : length row.materials ≤ 65535
