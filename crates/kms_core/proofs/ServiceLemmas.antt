@@ -20,7 +20,7 @@ use Rattle.kms_store.specs.Store.{Applies, IsKeyLog, IsLeftOf, next_opening, IsL
 use Rattle.kms_core.specs.State.{KmsState, Running, ServiceState, keys_of, service_of, settled}
 use Rattle.kms_core.specs.Calls.{CallActs, Deed, KmsActs, NoRoom, Plain, birth_of, bits_of, causes, deed, deleted, done_with, first_cause, is_misfit, rolled, row_of, shown, takes_memory, unless_refused, versions_of}
 use Rattle.kms_core.specs.Service.{Acts, Changes, IsGrowing, Logs, OwnOf, ServesBy, Starts, acknowledged, is_change, listed}
-use Rattle.kms_core.specs.Steps.{ActsSettled, Commits, EndsSo, IsUnsettled, OwnChange, Settling, StandsSo}
+use Rattle.kms_core.specs.Steps.{ActsSettled, Commits, EndsSo, IsUnsettled, OwnChange, OwnDeed, Settling, StandsSo}
 use Rattle.kms_core.specs.declared.service.Standing.{Standing}
 use Rattle.kms_core.specs.Draws.{material_for, words_for}
 use Rattle.kms_core.proofs.StepLemmas.{may_be_rolled}
@@ -34,6 +34,15 @@ unchanged d store P = record {
   stands = λ told commands s. subst (StandsFor d store) (sym (append-nil commands)) s;
   moments = λ told commands s. (begin 0 d (P commands)).moments;
   run = (begin 0 d (P [])).run;
+}
+
+-- nor by a call after which the store still stands for the same commands
+idle : (old new : DiskState) (store store' : StoreState) (P : List KeyCommand → List ℕ → Type 0) → new ≡ old
+    → (Tells old → (commands : List KeyCommand) → StandsFor old store commands → StandsFor new store' commands) → Logs old new store store' P []
+idle old new store store' P same stands = record {
+  stands = λ told commands s. subst (StandsFor new store') (sym (append-nil commands)) (stands told commands s);
+  moments = λ told commands s. subst (λ (d : DiskState). LeavesOnly 0 old d (P commands)) (sym same) (begin 0 old (P commands)).moments;
+  run = subst (λ (d : DiskState). RunOn 0 old d) (sym same) (begin 0 old (P [])).run;
 }
 
 -- a count that rose since a later moment rose since an earlier one
@@ -134,8 +143,8 @@ acts_settled old mid new r s t words now c told words' change a b = record {
   serves = subst (λ (x : Bool). ServesBy x (service_of r) words now c (Rose old.faults new.faults) told b.drawn (settled_commands a.kept r.store.pending ++ b.logged) (service_of t)) (sym change)
       (inr (a.kept, behind b.changes));
   rest = b.rest;
-  disk = behind_settling old mid new r s t a.kept (OwnOf (service_of r) words now c) (OwnChange (keys_of s) words now c) b.logged
-      (λ command own. subst (λ (k : KmsState). OwnChange k words now c command) keys_are own) a.service a.disk b.disk;
+  disk = behind_settling old mid new r s t a.kept (OwnOf (service_of r) words now c told (service_of t)) (OwnChange (keys_of s) words now c told (service_of t)) b.logged
+      own a.service a.disk b.disk;
 }
   where
     before : List KeyCommand
@@ -143,6 +152,13 @@ acts_settled old mid new r s t words now c told words' change a b = record {
 
     keys_are : keys_of s ≡ settled a.kept (service_of r)
     keys_are = ap (λ (x : ServiceState). x.keys) a.service
+
+    own : (command : KeyCommand) → OwnChange (keys_of s) words now c told (service_of t) command → OwnOf (service_of r) words now c told (service_of t) a.kept command
+    own command h = record {
+      free = ap (λ (k : KmsState). first_cause (causes k c)) (sym keys_are) ∙ h.free;
+      is = ap (λ (k : KmsState). (deed k words now c).logs) (sym keys_are) ∙ h.is;
+      was_written = h.was_written;
+    }
 
     behind : Changes (keys_of s) [] words now c (Rose mid.faults new.faults) told b.drawn b.logged (service_of t)
         → Changes (settled a.kept (service_of r)) before words now c (Rose old.faults new.faults) told b.drawn (before ++ b.logged) (service_of t)
@@ -170,7 +186,7 @@ acts_unsettled old new r t words now c change u = record {
   serves = subst (λ (x : Bool). ServesBy x (service_of r) words now c (Rose old.faults new.faults) (Refused StoreFault) 0 [] (service_of t)) (sym change)
       (inl (record { waits = u.waits; failed = u.failed; told_is = refl; none_drawn = refl; none_logged = refl; same = ap service_of u.same }));
   rest = λ k. ap words (omega arith);
-  disk = logs_leaving old new r.store t.store NoCommand (OwnOf (service_of r) words now c) [] (λ kept command never. absurd never) u.disk;
+  disk = logs_leaving old new r.store t.store NoCommand (OwnOf (service_of r) words now c (Refused StoreFault) (service_of t)) [] (λ kept command never. absurd never) u.disk;
 }
 
 -- a call that changes nothing
@@ -182,7 +198,7 @@ acts_reading d r words now c told words' change a = record {
   serves = subst (λ (x : Bool). ServesBy x (service_of r) words now c (Rose d.faults d.faults) told a.drawn [] (service_of r)) (sym change)
       (record { acts = a.acts; none_logged = refl; same = refl });
   rest = a.rest;
-  disk = unchanged d r.store (IsLeftOf r.store.table.keys r.store.pending (OwnOf (service_of r) words now c));
+  disk = unchanged d r.store (IsLeftOf r.store.table.keys r.store.pending (OwnOf (service_of r) words now c told (service_of r)));
 }
 
 -- a change that is refused while nothing is pending
@@ -193,7 +209,7 @@ settled_refused d r words now c why words' none a = record {
   logged = [];
   changes = inl (record { changed = keys_of r; acts = a.acts; logged_is = refl; left = λ i. record { keys = keys_of r; pending = none i } });
   rest = a.rest;
-  disk = unchanged d r.store (IsGrowing r.store.table.keys (OwnChange (keys_of r) words now c));
+  disk = unchanged d r.store (IsGrowing r.store.table.keys (OwnChange (keys_of r) words now c (Refused why) (service_of r)));
 }
 
 -- a change without a cause of refusal does its deed
@@ -207,7 +223,8 @@ settled_enacted old new r t words now c told words' takes free acks done rest = 
   logged = done.logged;
   changes = ends done.ends;
   rest = rest;
-  disk = logs_growing old new r.store t.store (λ (command : KeyCommand). d.logs ≡ Some command) (OwnChange s words now c) done.logged (λ command is. (free, is)) done.disk;
+  disk = logs_growing old new r.store t.store (OwnDeed d told (service_of t)) (OwnChange s words now c told (service_of t)) done.logged
+      (λ command own. record { free = free; is = own.is; was_written = own.was_written }) done.disk;
 }
   where
     s : KmsState
@@ -236,7 +253,8 @@ pub same_commit : (old new : DiskState) (r t : Running) (d e : Deed) (told : Kms
 same_commit old new r t d e told logs answer state k = record {
   logged = k.logged;
   ends = same k.ends;
-  disk = logs_growing old new r.store t.store (λ (command : KeyCommand). d.logs ≡ Some command) (λ (command : KeyCommand). e.logs ≡ Some command) k.logged (λ command is. sym logs ∙ is) k.disk;
+  disk = logs_growing old new r.store t.store (OwnDeed d told (service_of t)) (OwnDeed e told (service_of t)) k.logged
+      (λ command own. record { is = sym logs ∙ own.is; was_written = own.was_written }) k.disk;
 }
   where
     same : EndsSo (keys_of r) d (Rose old.faults new.faults) told k.logged (service_of t) → EndsSo (keys_of r) e (Rose old.faults new.faults) told k.logged (service_of t)
@@ -279,6 +297,7 @@ not_written old new store store' own command is_own k stands = record {
 pub record IsDeedOf (r : Running) (d : Deed) (command : KeyCommand) : Type 0 where
   pub logs : d.logs ≡ Some command
   pub same_table : d.state.table ≡ r.store.table.keys
+  pub acknowledges : acknowledged d.answer (Some command) ≡ command ∷ []
 
 pub commit_done : (old new : DiskState) (r t : Running) (d : Deed) (command : KeyCommand) (told : KmsReply) → IsDeedOf r d command → t.next ≡ d.state.next → told ≡ d.answer
     → t.store.table.keys ≡ after r.store.table.keys command → t.store.pending ≡ None → Committed old new r.store command
@@ -286,9 +305,12 @@ pub commit_done : (old new : DiskState) (r t : Running) (d : Deed) (command : Ke
 commit_done old new r t d command told of_deed next told_is then_is none k stands = record {
   logged = command ∷ [];
   ends = inl (told_is, ap listed (sym of_deed.logs), done);
-  disk = wrote old new r.store t.store (λ (x : KeyCommand). d.logs ≡ Some x) command of_deed.logs k stands;
+  disk = wrote old new r.store t.store (OwnDeed d told (service_of t)) command own k stands;
 }
   where
+    own : OwnDeed d told (service_of t) command
+    own = record { is = of_deed.logs; was_written = inl (ap (λ (x : KmsReply). acknowledged x (Some command)) told_is ∙ of_deed.acknowledges) }
+
     there : t.store.table.keys ≡ after d.state.table command
     there = then_is ∙ ap (λ (x : Table). after x command) (sym of_deed.same_table)
 
@@ -296,13 +318,14 @@ commit_done old new r t d command told of_deed next told_is then_is none k stand
     done = subst (λ (o : Option KeyCommand). service_of t ≡ record { keys = done_with o d.state; pending = None }) (sym of_deed.logs)
         (λ i. record { keys = record { table = there i; next = next i }; pending = none i })
 
-pub commit_wanting : (old new : DiskState) (r t : Running) (d : Deed) (command : KeyCommand) (told : KmsReply) → IsDeedOf r d command → t.next ≡ r.next → told ≡ Refused NoMemory
-    → t.store.table.keys ≡ r.store.table.keys → t.store.pending ≡ None → Committed old new r.store command
+-- memory was wanting, and the disk was not touched
+pub commit_wanting : (old new : DiskState) (r t : Running) (d : Deed) (told : KmsReply) → t.next ≡ r.next → told ≡ Refused NoMemory
+    → t.store.table.keys ≡ r.store.table.keys → t.store.pending ≡ None → new ≡ old
     → (Tells old → (commands : List KeyCommand) → StandsFor old r.store commands → StandsFor new t.store commands) → Commits old new r d told t
-commit_wanting old new r t d command told of_deed next told_is same none k stands = record {
+commit_wanting old new r t d told next told_is same none untouched stands = record {
   logged = [];
   ends = inr (inl (told_is, refl, λ i. record { keys = record { table = same i; next = next i }; pending = none i }));
-  disk = not_written old new r.store t.store (λ (x : KeyCommand). d.logs ≡ Some x) command of_deed.logs k stands;
+  disk = idle old new r.store t.store (IsGrowing r.store.table.keys (OwnDeed d told (service_of t))) untouched stands;
 }
 
 pub commit_failed : (old new : DiskState) (r t : Running) (d : Deed) (command : KeyCommand) (told : KmsReply) → IsDeedOf r d command → t.next ≡ d.state.next → told ≡ Refused StoreFault
@@ -311,7 +334,7 @@ pub commit_failed : (old new : DiskState) (r t : Running) (d : Deed) (command : 
 commit_failed old new r t d command told of_deed next told_is same waits failed k stands = record {
   logged = [];
   ends = inr (inr (failed, told_is, refl, λ i. record { keys = record { table = (same ∙ sym of_deed.same_table) i; next = next i }; pending = (waits ∙ sym of_deed.logs) i }));
-  disk = not_written old new r.store t.store (λ (x : KeyCommand). d.logs ≡ Some x) command of_deed.logs k stands;
+  disk = not_written old new r.store t.store (OwnDeed d told (service_of t)) command (record { is = of_deed.logs; was_written = inr waits }) k stands;
 }
 
 pub err_only : {A B Q : Type 0} (P : Type 0) (result : Result A B) → IsErr result → Q → MatchResult result (λ _. P) (λ _. Q)

@@ -1,8 +1,9 @@
 -- The calls of users: denied, or permitted and served.
-use Rattle.std.proofs.Common.{◌≡◌, ℕ, ◌+◌, List, [], Bool, true, false, cond, Some, refl, ap, sym, ◌∙◌, subst, arith}
+use Rattle.std.proofs.Common.{◌≡◌, inl, inr, ℕ, ◌+◌, List, [], Bool, true, false, cond, Option, Some, refl, ap, sym, ◌∙◌, subst, arith}
 use Rattle.std.specs.Prelude.{Result, Ok, Err}
 use Rattle.hk_base.specs.Disk.{DiskState}
 use Rattle.hk_base.specs.Faults.{Rose}
+use Rattle.key_rows.specs.declared.rows.KeyCommand.{KeyCommand}
 use Rattle.kms_calls.specs.declared.calls.KmsCall.{KmsCall}
 use Rattle.kms_calls.specs.declared.calls.KmsCall.TheVariants as call
 use Rattle.kms_calls.specs.declared.calls.KmsReply.{KmsReply}
@@ -14,14 +15,14 @@ use Rattle.kms_acls.specs.declared.answers.Denied.{Denied}
 use Rattle.kms_acls.specs.Verdict.{verdict}
 use Rattle.kms_store.specs.Store.{IsLeftOf}
 use Rattle.kms_core.specs.State.{ServiceState, service_of, settled}
-use Rattle.kms_core.specs.Service.{Acts, OwnOf, Serves}
+use Rattle.kms_core.specs.Service.{Acts, OwnOf, Serves, WasWritten, acknowledged}
 use Rattle.kms_core.specs.Users.{ActsFor, Permits, RunningKms, ServesUnder, hides, running, told_to, without_material}
 use Rattle.kms_core.specs.Calls.{birth_of, edek_of, row_of}
 use Rattle.kms_core.specs.Opening.{unseals}
 use Rattle.hk_base.specs.declared.names.Dek.{Dek}
 use Rattle.kms_core.proofs.LawLemmas.{decrypt_opens}
 use Rattle.kms_core.specs.Laws.{DeletedIsGone, Gone, GoneStays, PermittedDecryptOpens}
-use Rattle.kms_core.proofs.ServiceLemmas.{unchanged}
+use Rattle.kms_core.proofs.ServiceLemmas.{logs_leaving, unchanged}
 use Rattle.kms_core.proofs.BirthLemmas.{deleted_is_gone, gone_stays}
 
 -- a call that is denied
@@ -33,7 +34,7 @@ is_denied d k lines user words now c denied told is told_is = record {
   serves = subst (λ (v : Result Shown Denied). ServesUnder v (service_of (running k)) words now c (Rose d.faults d.faults) told 0 [] (service_of (running k))) (sym is)
       (record { told_is = told_is; none_drawn = refl; none_logged = refl; same = refl });
   rest = λ n. ap words (omega arith);
-  disk = unchanged d k.store (IsLeftOf k.store.table.keys k.store.pending (OwnOf (service_of (running k)) words now c));
+  disk = unchanged d k.store (IsLeftOf k.store.table.keys k.store.pending (OwnOf (service_of (running k)) words now c told (service_of (running k))));
   untouched = λ why denied. record { reads = refl; faults = refl; moment = refl; leaves = λ file c left. left; left = λ t c left. left };
   lists = refl;
 }
@@ -46,6 +47,24 @@ told_hidden shown c told h = ap (λ b. cond b (without_material told) told) (sym
 pub told_shown : (shown : Shown) (c : KmsCall) (told : KmsReply) → hides shown c ≡ false → told ≡ told_to shown c told
 told_shown shown c told h = ap (λ b. cond b (without_material told) told) (sym h)
 
+without_acknowledged : (r : KmsReply) (o : Option KeyCommand) → acknowledged (without_material r) o ≡ acknowledged r o
+without_acknowledged (reply.Version version material) o = refl
+without_acknowledged reply.Done o = refl
+without_acknowledged (reply.Metadata meta) o = refl
+without_acknowledged (reply.Metadatas metas) o = refl
+without_acknowledged (reply.Names names) o = refl
+without_acknowledged (reply.Versions versions) o = refl
+without_acknowledged (reply.Ready keys) o = refl
+without_acknowledged (reply.Resealed key) o = refl
+without_acknowledged (reply.Key key) o = refl
+without_acknowledged (reply.Refused why) o = refl
+
+-- hiding the material changes nothing of what an answer acknowledges
+hidden_acknowledged : (shown : Shown) (c : KmsCall) (r : KmsReply) (o : Option KeyCommand) → acknowledged (told_to shown c r) o ≡ acknowledged r o
+hidden_acknowledged shown c r o =
+    let P : Bool → Type 0 = λ b. acknowledged (cond b (without_material r) r) o ≡ acknowledged r o in
+    elim (hides shown c) as P [ true ↦ without_acknowledged r o | false ↦ refl ]
+
 -- a call that is permitted
 pub is_permitted : (old new : DiskState) (k k' : RunningKms) (lines : List PropLine) (user : List ℕ) (words : ℕ → ℕ) (now : ℕ) (c : KmsCall) (shown : Shown) (served told : KmsReply) (words' : ℕ → ℕ)
     → verdict lines user c ≡ Ok shown → told ≡ told_to shown c served → k'.acls ≡ k.acls → Acts old new (running k) words now c served (running k') words'
@@ -56,10 +75,18 @@ is_permitted old new k k' lines user words now c shown served told words' is tol
   serves = subst (λ (v : Result Shown Denied). ServesUnder v (service_of (running k)) words now c (Rose old.faults new.faults) told a.drawn a.logged (service_of (running k'))) (sym is)
       (record { reply = served; serves = a.serves; told_is = told_is });
   rest = a.rest;
-  disk = a.disk;
+  disk = logs_leaving old new k.store k'.store (OwnOf (service_of (running k)) words now c served (service_of (running k'))) (OwnOf (service_of (running k)) words now c told (service_of (running k')))
+      a.logged own a.disk;
   untouched = λ why denied. absurd (cc (is, denied));
   lists = lists;
 }
+  where
+    acks : (command : KeyCommand) → WasWritten served (service_of (running k')) command → WasWritten told (service_of (running k')) command
+    acks command (inl written) = inl (ap (λ (r : KmsReply). acknowledged r (Some command)) told_is ∙ hidden_acknowledged shown c served (Some command) ∙ written)
+    acks command (inr pending) = inr pending
+
+    own : (kept : Bool) (command : KeyCommand) → OwnOf (service_of (running k)) words now c served (service_of (running k')) kept command → OwnOf (service_of (running k)) words now c told (service_of (running k')) kept command
+    own kept command h = record { free = h.free; is = h.is; was_written = acks command h.was_written }
 
 -- births that are gone
 

@@ -102,9 +102,17 @@ pub record Logs (old new : DiskState) (store store' : StoreState) (P : List KeyC
   pub moments : Tells old → (commands : List KeyCommand) → StandsFor old store commands → LeavesOnly 0 old new (P commands)
   pub run : RunOn 0 old new
 
--- what a call may write behind the settled log
-abbrev pub OwnOf : ServiceState → (ℕ → ℕ) → ℕ → KmsCall → Bool → KeyCommand → Type 0
-OwnOf s words now c kept command = (first_cause (causes (settled kept s) c) ≡ None) × ((deed (settled kept s) words now c).logs ≡ Some command)
+-- the answer acknowledges the command, or it is pending afterwards
+abbrev pub WasWritten : KmsReply → ServiceState → KeyCommand → Type 0
+WasWritten told s' command = (acknowledged told (Some command) ≡ command ∷ []) ⊎ (s'.pending ≡ Some command)
+
+-- What a call that was answered so and left this may write behind the settled log: its own command, if nothing refuses the call,
+-- and if the answer acknowledges the command or it is pending afterwards. So a call that is refused writes nothing, except before a
+-- store fault.
+pub record OwnOf (s : ServiceState) (words : ℕ → ℕ) (now : ℕ) (c : KmsCall) (told : KmsReply) (s' : ServiceState) (kept : Bool) (command : KeyCommand) : Type 0 where
+  pub free : first_cause (causes (settled kept s) c) ≡ None
+  pub is : (deed (settled kept s) words now c).logs ≡ Some command
+  pub was_written : WasWritten told s' command
 
 -- A call of a running service over its disk.
 pub record Acts (old new : DiskState) (r : Running) (words : ℕ → ℕ) (now : ℕ) (c : KmsCall) (told : KmsReply) (r' : Running) (words' : ℕ → ℕ) : Type 0 where
@@ -112,7 +120,7 @@ pub record Acts (old new : DiskState) (r : Running) (words : ℕ → ℕ) (now :
   pub logged : List KeyCommand
   pub serves : Serves (service_of r) words now c (Rose old.faults new.faults) told drawn logged (service_of r')
   pub rest : (k : ℕ) → words' k ≡ words (drawn + k)
-  pub disk : Logs old new r.store r'.store (IsLeftOf r.store.table.keys r.store.pending (OwnOf (service_of r) words now c)) logged
+  pub disk : Logs old new r.store r'.store (IsLeftOf r.store.table.keys r.store.pending (OwnOf (service_of r) words now c told (service_of r'))) logged
 
 -- A start found a table in the log, and recorded the next opening behind its commands.
 pub record Starts (old new : DiskState) (r : Running) : Type 0 where

@@ -17,7 +17,7 @@ use Rattle.hk_base.specs.Disk.{DiskState}
 use Rattle.hk_base.specs.Faults.{Rose}
 use Rattle.kms_store.specs.Store.{IsLeftOf, NoCommand, settled_commands}
 use Rattle.kms_core.specs.State.{KmsState, Running, ServiceState, keys_of, service_of, settled}
-use Rattle.kms_core.specs.Service.{Changes, IsGrowing, Logs, listed}
+use Rattle.kms_core.specs.Service.{Changes, IsGrowing, Logs, WasWritten, listed}
 use Rattle.kms_core.specs.Calls.{Deed, done_with, causes, deed, takes_memory, birth_of, bits_of, versions_of, row_of, current_version, first_cause, sent_causes, batch_causes, is_malformed, edek_of, same_version}
 use Rattle.kms_core.specs.Draws.{drawn_edeks, place_of_draw}
 use Rattle.kms_core.specs.declared.drawing.CurrentVersion.{CurrentVersion}
@@ -130,10 +130,15 @@ EndsSo s d fault told logged s' =
     ⊎ ((told ≡ Refused NoMemory) × (logged ≡ []) × (s' ≡ record { keys = s; pending = None }))
     ⊎ (fault × (told ≡ Refused StoreFault) × (logged ≡ []) × (s' ≡ record { keys = d.state; pending = d.logs }))
 
+-- what it may write that was answered so and left this
+pub record OwnDeed (d : Deed) (told : KmsReply) (s' : ServiceState) (command : KeyCommand) : Type 0 where
+  pub is : d.logs ≡ Some command
+  pub was_written : WasWritten told s' command
+
 pub record Commits (old new : DiskState) (r : Running) (d : Deed) (told : KmsReply) (r' : Running) : Type 0 where
   pub logged : List KeyCommand
   pub ends : EndsSo (keys_of r) d (Rose old.faults new.faults) told logged (service_of r')
-  pub disk : Logs old new r.store r'.store (IsGrowing r.store.table.keys (λ command. d.logs ≡ Some command)) logged
+  pub disk : Logs old new r.store r'.store (IsGrowing r.store.table.keys (OwnDeed d told (service_of r'))) logged
 
 -- the pending command was settled, and was kept or not
 pub record Settling (old new : DiskState) (r r' : Running) : Type 0 where
@@ -148,9 +153,11 @@ pub record IsUnsettled (old new : DiskState) (r r' : Running) : Type 0 where
   pub same : r' ≡ r
   pub disk : Logs old new r.store r'.store (IsLeftOf r.store.table.keys r.store.pending NoCommand) []
 
--- what a change may write beside which nothing is pending
-abbrev pub OwnChange : KmsState → (ℕ → ℕ) → ℕ → KmsCall → KeyCommand → Type 0
-OwnChange s words now c command = (first_cause (causes s c) ≡ None) × ((deed s words now c).logs ≡ Some command)
+-- what a change may write that was answered so and left this, while nothing is pending
+pub record OwnChange (s : KmsState) (words : ℕ → ℕ) (now : ℕ) (c : KmsCall) (told : KmsReply) (s' : ServiceState) (command : KeyCommand) : Type 0 where
+  pub free : first_cause (causes s c) ≡ None
+  pub is : (deed s words now c).logs ≡ Some command
+  pub was_written : WasWritten told s' command
 
 -- a change of keys while nothing is pending
 pub record ActsSettled (old new : DiskState) (r : Running) (words : ℕ → ℕ) (now : ℕ) (c : KmsCall) (told : KmsReply) (r' : Running) (words' : ℕ → ℕ) : Type 0 where
@@ -158,4 +165,4 @@ pub record ActsSettled (old new : DiskState) (r : Running) (words : ℕ → ℕ)
   pub logged : List KeyCommand
   pub changes : Changes (keys_of r) [] words now c (Rose old.faults new.faults) told drawn logged (service_of r')
   pub rest : Drew words words' drawn
-  pub disk : Logs old new r.store r'.store (IsGrowing r.store.table.keys (OwnChange (keys_of r) words now c)) logged
+  pub disk : Logs old new r.store r'.store (IsGrowing r.store.table.keys (OwnChange (keys_of r) words now c told (service_of r'))) logged

@@ -78,7 +78,7 @@ pub record ActsFor (lines : List PropLine) (user : Text) (old new : DiskState) (
   pub logged : List KeyCommand
   pub serves : ServesUser lines user (service_of (running k)) words now c (Rose old.faults new.faults) told drawn logged (service_of (running k'))
   pub rest : (n : ℕ) → words' n ≡ words (drawn + n)
-  pub disk : Logs old new k.store k'.store (IsLeftOf k.store.table.keys k.store.pending (OwnOf (service_of (running k)) words now c)) logged
+  pub disk : Logs old new k.store k'.store (IsLeftOf k.store.table.keys k.store.pending (OwnOf (service_of (running k)) words now c told (service_of (running k')))) logged
   -- a call that is denied leaves the disk as it is
   pub untouched : (denied : Denied) → verdict lines user c ≡ Err denied → IsUntouched old new
   pub lists : k'.acls ≡ k.acls

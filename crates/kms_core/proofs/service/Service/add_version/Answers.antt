@@ -18,12 +18,12 @@ returns g c =
     let t : Running = record { store = c.commit.new.self; next = c.self.inside.next } in
     let command : KeyCommand = Roll c.args.key.birth c.args.key.versions c.args.material in
     let so : StandsSo (keys_of r) c.args.name c.args.key = subst (λ (x : Running). StandsSo (keys_of x) c.args.name c.args.key) (sym c.self.view_is) c.requires.key in
-    let of_deed : IsDeedOf r (rolled (keys_of r) c.args.name (row_of (keys_of r) c.args.name) c.args.material 0) command = record { logs = ap (λ (b : ℕ). Some (Roll b (versions_of (row_of (keys_of r) c.args.name)) c.args.material)) (sym so.birth) ∙ ap (λ (n : ℕ). Some (Roll c.args.key.birth n c.args.material)) (sym so.versions); same_table = refl } in
+    let of_deed : IsDeedOf r (rolled (keys_of r) c.args.name (row_of (keys_of r) c.args.name) c.args.material 0) command = record { logs = ap (λ (b : ℕ). Some (Roll b (versions_of (row_of (keys_of r) c.args.name)) c.args.material)) (sym so.birth) ∙ ap (λ (n : ℕ). Some (Roll c.args.key.birth n c.args.material)) (sym so.versions); same_table = refl; acknowledges = refl } in
     let may : applies c.self.inside.store.table.keys command ≡ true = can_roll (keys_of r) c.args.name c.args.key c.args.material c.self.invariant.0 so c.requires.room c.requires.length in
     let k : Committed D0 D1 c.self.inside.store command = record { may = may; moments = c.commit.ensures.any_moment; run = c.commit.ensures.run } in
     subst (λ (x : Running). Commits D0 D1 x (rolled (keys_of x) c.args.name (row_of (keys_of x) c.args.name) c.args.material 0) c.match-commit.result t) c.self.view_is
     (elim c.match-commit.branch [
-      | in-Err-NoMemory w ↦ commit_wanting D0 D1 r t _ command _ of_deed refl w.result-is (c.commit.ensures.memory (w.in-Err-NoMemory.is ∙ ap Err w.in-Err-NoMemory.field-0-is)).0 (c.commit.ensures.memory (w.in-Err-NoMemory.is ∙ ap Err w.in-Err-NoMemory.field-0-is)).2 k w.in-Err-NoMemory.ensures.refused
+      | in-Err-NoMemory w ↦ commit_wanting D0 D1 r t _ _ refl w.result-is (c.commit.ensures.memory (w.in-Err-NoMemory.is ∙ ap Err w.in-Err-NoMemory.field-0-is)).0 (c.commit.ensures.memory (w.in-Err-NoMemory.is ∙ ap Err w.in-Err-NoMemory.field-0-is)).2 (ap g.D.Disk.state (c.commit.ensures.memory (w.in-Err-NoMemory.is ∙ ap Err w.in-Err-NoMemory.field-0-is)).3) w.in-Err-NoMemory.ensures.refused
       | in-Err-StoreFault w ↦
           commit_failed D0 D1 r t _ command _ of_deed refl w.result-is (c.commit.ensures.pending (w.in-Err-StoreFault.is ∙ ap Err w.in-Err-StoreFault.field-0-is)).0 (c.commit.ensures.pending (w.in-Err-StoreFault.is ∙ ap Err w.in-Err-StoreFault.field-0-is)).1
           (c.commit.ensures.cause (w.in-Err-StoreFault.is ∙ ap Err w.in-Err-StoreFault.field-0-is)) k w.in-Err-StoreFault.ensures.refused
