@@ -1,7 +1,7 @@
 -- Births of keys after a call.
 use Rattle.std.specs.Prelude.{⊤, ◌&&◌, length, nat_lt}
 use Rattle.std.proofs.lemmas.Bool.Decides.{nat_tests}
-use Rattle.std.proofs.Common.{◌≡◌, ℕ, ◌+◌, ◌*◌, ◌^◌, ◌/◌, ◌<◌, ◌≤◌, inl, inr, List, [], ◌∷◌, ◌++◌, map, find, filter, Bool, true, false, not, ◌==◌, cond, Option, None, Some, is_none, IfSome, refl, ap, sym, ◌∙◌, subst, arith}
+use Rattle.std.proofs.Common.{◌≡◌, ℕ, ◌+◌, ◌*◌, ◌^◌, ◌/◌, ◌<◌, ◌≤◌, ◌⊎◌, inl, inr, List, [], ◌∷◌, ◌++◌, map, find, filter, Bool, true, false, not, ◌==◌, cond, Option, None, Some, is_none, IfSome, refl, ap, sym, ◌∙◌, subst, arith}
 use Rattle.hk_base.specs.Faults.{Rose}
 use Rattle.key_rows.specs.declared.rows.KeyRow.{KeyRow}
 use Rattle.kms_calls.specs.declared.calls.KmsCall.{KmsCall}
@@ -16,11 +16,11 @@ use Rattle.key_rows.specs.Table.{Table, after, applies, find_birth, find_name, i
 use Rattle.key_rows.specs.Sound.{Rising}
 use Rattle.key_rows.proofs.Births.{both, other_number}
 use Rattle.key_rows.proofs.TableLemmas.{sound_create, sound_roll, sound_delete}
-use Rattle.kms_store.specs.Store.{settled_table}
+use Rattle.kms_store.specs.Store.{settled_commands, settled_table}
 use Rattle.kms_core.specs.State.{IsPending, IsService, KmsState, ServiceState, next_birth, settled}
-use Rattle.kms_core.specs.Service.{Serves, ServesBy, is_change}
+use Rattle.kms_core.specs.Service.{Changes, Serves, ServesBy, is_change}
 use Rattle.kms_core.specs.Calls.{KmsActs, Plain, NoRoom, Ending, birth_of, causes, deed, deleted, done_with, first_cause, outcome, row_of, unless_refused, versions_of}
-use Rattle.kms_core.specs.Laws.{Gone, GoneStaysAtStart}
+use Rattle.kms_core.specs.Laws.{Gone, GoneStaysAtStart, IsUsedUp, UsedUpAtStart}
 
 -- what is not found stays so
 
@@ -183,6 +183,145 @@ pub gone_stays_at_start : GoneStaysAtStart
 gone_stays_at_start s kept is birth gone =
     let there = gone_settled kept s.pending s.keys birth is.waits gone in
     record { used = there.used; absent = there.absent }
+
+-- births that are used up
+
+-- a command that gives no key this birth
+abbrev GivesNot : ℕ → KeyCommand → Type 0
+GivesNot birth (Opened opening) = ⊤
+GivesNot birth (Create made name bits description created material) = made ≡ birth → ⊥
+GivesNot birth (Roll other number material) = ⊤
+GivesNot birth (Delete other) = ⊤
+
+absent_after : (t : Table) (command : KeyCommand) (birth : ℕ) → GivesNot birth command → is_none (find_birth t.rows birth) ≡ true → is_none (find_birth (after t command).rows birth) ≡ true
+absent_after t (Opened opening) birth other none = none
+absent_after t (Create made name bits description created material) birth other none = none_more (is_born birth) t.rows _ none (other_number made birth other)
+absent_after t (Roll rolled number material) birth other none = none_rolled birth rolled material t.rows none
+absent_after t (Delete gone) birth other none = none_filter (is_born birth) (λ row. not (is_born gone row)) t.rows none
+
+absent_settled : (kept : Bool) (o : Option KeyCommand) (t : Table) (birth : ℕ) → IfSome o (GivesNot birth) → is_none (find_birth t.rows birth) ≡ true → is_none (find_birth (settled_table kept o t).rows birth) ≡ true
+absent_settled kept None t birth other none = none
+absent_settled true (Some command) t birth other none = absent_after t command birth other none
+absent_settled false (Some command) t birth other none = none
+
+absent_done : (o : Option KeyCommand) (s : KmsState) (birth : ℕ) → IfSome o (GivesNot birth) → is_none (find_birth s.table.rows birth) ≡ true → is_none (find_birth (done_with o s).table.rows birth) ≡ true
+absent_done None s birth other none = none
+absent_done (Some command) s birth other none = absent_after s.table command birth other none
+
+-- a deed gives a key no birth below the next one
+deed_gives : (s : KmsState) (words : ℕ → ℕ) (now : ℕ) (c : KmsCall) (birth : ℕ) → birth < next_birth s → IfSome (deed s words now c).logs (GivesNot birth)
+deed_gives s words now (call.Create name bits material description) birth below = λ same. absurd (omega (arith, same, below))
+deed_gives s words now (call.Roll name material) birth below = tt
+deed_gives s words now (call.Delete name) birth below = tt
+deed_gives s words now (call.Invalidate name) birth below = tt
+deed_gives s words now (call.Metadata name) birth below = tt
+deed_gives s words now (call.Metadatas names) birth below = tt
+deed_gives s words now call.Names birth below = tt
+deed_gives s words now (call.Current name) birth below = tt
+deed_gives s words now (call.Versions name) birth below = tt
+deed_gives s words now (call.Version version) birth below = tt
+deed_gives s words now (call.Generate name count) birth below = tt
+deed_gives s words now (call.Decrypt name sent) birth below = tt
+deed_gives s words now (call.Reencrypt name sent) birth below = tt
+deed_gives s words now (call.Batch name sent) birth below = tt
+
+-- the next birth stays, or rises
+deed_next : (s : KmsState) (words : ℕ → ℕ) (now : ℕ) (c : KmsCall) → next_birth s ≤ next_birth (deed s words now c).state
+deed_next s words now (call.Create name bits material description) = omega arith
+deed_next s words now (call.Roll name material) = omega arith
+deed_next s words now (call.Delete name) = omega arith
+deed_next s words now (call.Invalidate name) = omega arith
+deed_next s words now (call.Metadata name) = omega arith
+deed_next s words now (call.Metadatas names) = omega arith
+deed_next s words now call.Names = omega arith
+deed_next s words now (call.Current name) = omega arith
+deed_next s words now (call.Versions name) = omega arith
+deed_next s words now (call.Version version) = omega arith
+deed_next s words now (call.Generate name count) = omega arith
+deed_next s words now (call.Decrypt name sent) = omega arith
+deed_next s words now (call.Reencrypt name sent) = omega arith
+deed_next s words now (call.Batch name sent) = omega arith
+
+done_next : (s : KmsState) (words : ℕ → ℕ) (now : ℕ) (c : KmsCall) → next_birth s ≤ next_birth (done_with (deed s words now c).logs (deed s words now c).state)
+done_next s words now (call.Create name bits material description) = omega arith
+done_next s words now (call.Roll name material) = omega arith
+done_next s words now (call.Delete name) = omega arith
+done_next s words now (call.Invalidate name) = omega arith
+done_next s words now (call.Metadata name) = omega arith
+done_next s words now (call.Metadatas names) = omega arith
+done_next s words now call.Names = omega arith
+done_next s words now (call.Current name) = omega arith
+done_next s words now (call.Versions name) = omega arith
+done_next s words now (call.Version version) = omega arith
+done_next s words now (call.Generate name count) = omega arith
+done_next s words now (call.Decrypt name sent) = omega arith
+done_next s words now (call.Reencrypt name sent) = omega arith
+done_next s words now (call.Batch name sent) = omega arith
+
+next_settled : (kept : Bool) (s : ServiceState) → IsService s → next_birth (settled kept s) ≡ next_birth s.keys
+next_settled kept s is = go kept s.pending is.waits
+  where
+    go : (kept : Bool) (o : Option KeyCommand) → IfSome o (IsPending s.keys) → (settled_table kept o s.keys.table).opening * 2 ^ 32 + s.keys.next ≡ next_birth s.keys
+    go kept None waits = refl
+    go true (Some command) waits = ap (λ (n : ℕ). n * 2 ^ 32 + s.keys.next) waits.same_opening
+    go false (Some command) waits = refl
+
+-- a birth below the next one that no key has after a change of keys beside which nothing was pending
+changes_use_up : (s : KmsState) (logged_before : List KeyCommand) (words : ℕ → ℕ) (now : ℕ) (c : KmsCall) (fault : Type 0) (told : KmsReply) (drawn : ℕ) (logged : List KeyCommand) (s' : ServiceState) (birth : ℕ)
+    → birth < next_birth s → Changes s logged_before words now c fault told drawn logged s' → is_none (find_birth s'.keys.table.rows birth) ≡ true → IsUsedUp s' birth
+changes_use_up s logged_before words now c fault told drawn logged s' birth below (inl w) none =
+    subst (λ (t : ServiceState). IsUsedUp t birth) (sym w.left)
+    (record { below = omega (arith, below, rises); absent = λ kept. subst (λ (t : ServiceState). is_none (find_birth t.keys.table.rows birth) ≡ true) w.left none })
+  where
+    rises : next_birth s ≤ next_birth w.changed
+    rises = after_call (λ (t : KmsState). next_birth s ≤ next_birth t) s words now c told drawn w.changed w.acts (omega arith) (done_next s words now c)
+changes_use_up s logged_before words now c fault told drawn logged s' birth below (inr u) none =
+    subst (λ (t : ServiceState). IsUsedUp t birth) (sym u.left)
+    (record {
+      below = omega (arith, below, deed_next s words now c);
+      absent = λ kept. absent_settled kept (deed s words now c).logs (deed s words now c).state.table birth (deed_gives s words now c birth below)
+          (subst (λ (t : ServiceState). is_none (find_birth t.keys.table.rows birth) ≡ true) u.left none);
+    })
+
+-- a change of keys gives no key such a birth
+changes_give : (s : KmsState) (logged_before : List KeyCommand) (words : ℕ → ℕ) (now : ℕ) (c : KmsCall) (fault : Type 0) (told : KmsReply) (drawn : ℕ) (logged : List KeyCommand) (s' : ServiceState) (birth : ℕ)
+    → birth < next_birth s → Changes s logged_before words now c fault told drawn logged s' → is_none (find_birth s.table.rows birth) ≡ true → is_none (find_birth s'.keys.table.rows birth) ≡ true
+changes_give s logged_before words now c fault told drawn logged s' birth below (inl w) none =
+    subst (λ (t : ServiceState). is_none (find_birth t.keys.table.rows birth) ≡ true) (sym w.left)
+    (after_call (λ (t : KmsState). is_none (find_birth t.table.rows birth) ≡ true) s words now c told drawn w.changed w.acts none
+    (absent_done (deed s words now c).logs (deed s words now c).state birth (deed_gives s words now c birth below)
+    (subst (λ (t : Table). is_none (find_birth t.rows birth) ≡ true) (sym (deed_keeps s words now c)) none)))
+changes_give s logged_before words now c fault told drawn logged s' birth below (inr u) none =
+    subst (λ (t : ServiceState). is_none (find_birth t.keys.table.rows birth) ≡ true) (sym u.left)
+    (subst (λ (t : Table). is_none (find_birth t.rows birth) ≡ true) (sym (deed_keeps s words now c)) none)
+
+pub used_up_stays : (s : ServiceState) (words : ℕ → ℕ) (now : ℕ) (c : KmsCall) (before later : ℕ) (told : KmsReply) (drawn : ℕ) (logged : List KeyCommand) (s' : ServiceState)
+    → IsService s → Serves s words now c (Rose before later) told drawn logged s' → (birth : ℕ) → IsUsedUp s birth → IsUsedUp s' birth
+used_up_stays s words now c before later told drawn logged s' is serves birth used = go (is_change c) serves
+  where
+    below : (kept : Bool) → birth < next_birth (settled kept s)
+    below kept = subst (λ (n : ℕ). birth < n) (sym (next_settled kept s is)) used.below
+
+    go : (b : Bool) → ServesBy b s words now c (Rose before later) told drawn logged s' → IsUsedUp s' birth
+    go false r = subst (λ (t : ServiceState). IsUsedUp t birth) (sym r.same) used
+    go true (inl u) = subst (λ (t : ServiceState). IsUsedUp t birth) (sym u.same) used
+    go true (inr (kept, changes)) =
+        changes_use_up (settled kept s) (settled_commands kept s.pending) words now c (Rose before later) told drawn logged s' birth (below kept) changes
+        (changes_give (settled kept s) (settled_commands kept s.pending) words now c (Rose before later) told drawn logged s' birth (below kept) changes (used.absent kept))
+
+pub lost_is_used_up : (s : ServiceState) (words : ℕ → ℕ) (now : ℕ) (c : KmsCall) (before later : ℕ) (told : KmsReply) (drawn : ℕ) (logged : List KeyCommand) (s' : ServiceState)
+    → IsService s → Serves s words now c (Rose before later) told drawn logged s' → (birth : ℕ) → birth < next_birth s.keys → is_none (find_birth s'.keys.table.rows birth) ≡ true → IsUsedUp s' birth ⊎ (s' ≡ s)
+lost_is_used_up s words now c before later told drawn logged s' is serves birth below none = go (is_change c) serves
+  where
+    go : (b : Bool) → ServesBy b s words now c (Rose before later) told drawn logged s' → IsUsedUp s' birth ⊎ (s' ≡ s)
+    go false r = inr r.same
+    go true (inl u) = inr u.same
+    go true (inr (kept, changes)) =
+        inl (changes_use_up (settled kept s) (settled_commands kept s.pending) words now c (Rose before later) told drawn logged s' birth
+        (subst (λ (n : ℕ). birth < n) (sym (next_settled kept s is)) below) changes none)
+
+pub used_up_at_start : UsedUpAtStart
+used_up_at_start s kept is birth below none = record { below = omega (arith, next_settled kept s is, below, is.counter); absent = λ again. none }
 
 -- a key that stands was born
 

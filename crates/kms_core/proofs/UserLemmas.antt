@@ -1,5 +1,5 @@
 -- The calls of users: denied, or permitted and served.
-use Rattle.std.proofs.Common.{◌≡◌, inl, inr, ℕ, ◌+◌, List, [], Bool, true, false, cond, Option, Some, refl, ap, sym, ◌∙◌, subst, arith}
+use Rattle.std.proofs.Common.{◌≡◌, ◌⊎◌, inl, inr, ℕ, ◌+◌, List, [], Bool, true, false, cond, Option, Some, refl, ap, sym, ◌∙◌, subst, arith}
 use Rattle.std.specs.Prelude.{Result, Ok, Err}
 use Rattle.hk_base.specs.Disk.{DiskState}
 use Rattle.hk_base.specs.Faults.{Rose}
@@ -21,9 +21,9 @@ use Rattle.kms_core.specs.Calls.{birth_of, edek_of, row_of}
 use Rattle.kms_core.specs.Opening.{unseals}
 use Rattle.hk_base.specs.declared.names.Dek.{Dek}
 use Rattle.kms_core.proofs.LawLemmas.{decrypt_opens}
-use Rattle.kms_core.specs.Laws.{DeletedIsGone, Gone, GoneStays, PermittedDecryptOpens}
+use Rattle.kms_core.specs.Laws.{DeletedIsGone, Gone, GoneStays, IsUsedUp, LostIsUsedUp, PermittedDecryptOpens, UsedUpStays}
 use Rattle.kms_core.proofs.ServiceLemmas.{logs_leaving, unchanged}
-use Rattle.kms_core.proofs.BirthLemmas.{deleted_is_gone, gone_stays}
+use Rattle.kms_core.proofs.BirthLemmas.{deleted_is_gone, gone_stays, lost_is_used_up, used_up_stays}
 
 -- a call that is denied
 pub is_denied : (d : DiskState) (k : RunningKms) (lines : List PropLine) (user : List ℕ) (words : ℕ → ℕ) (now : ℕ) (c : KmsCall) (denied : Denied) (told : KmsReply)
@@ -96,6 +96,20 @@ gone_for_user lines user s words now c before later told drawn logged s' is serv
     by_verdict : (v : Result Shown Denied) → ServesUnder v s words now c (Rose before later) told drawn logged s' → Gone s'.keys.table birth
     by_verdict (Ok shown) p = gone_stays s words now c before later p.reply drawn logged s' is p.serves birth gone
     by_verdict (Err denied) p = subst (λ (t : ServiceState). Gone t.keys.table birth) (sym p.same) gone
+
+pub used_up_for_user : UsedUpStays
+used_up_for_user lines user s words now c before later told drawn logged s' is serves birth used = by_verdict (verdict lines user c) serves
+  where
+    by_verdict : (v : Result Shown Denied) → ServesUnder v s words now c (Rose before later) told drawn logged s' → IsUsedUp s' birth
+    by_verdict (Ok shown) p = used_up_stays s words now c before later p.reply drawn logged s' is p.serves birth used
+    by_verdict (Err denied) p = subst (λ (t : ServiceState). IsUsedUp t birth) (sym p.same) used
+
+pub lost_for_user : LostIsUsedUp
+lost_for_user lines user s words now c before later told drawn logged s' is serves birth below none = by_verdict (verdict lines user c) serves
+  where
+    by_verdict : (v : Result Shown Denied) → ServesUnder v s words now c (Rose before later) told drawn logged s' → IsUsedUp s' birth ⊎ (s' ≡ s)
+    by_verdict (Ok shown) p = lost_is_used_up s words now c before later p.reply drawn logged s' is p.serves birth below none
+    by_verdict (Err denied) p = inr p.same
 
 pub deleted_for_user : DeletedIsGone
 deleted_for_user lines user s words now name before later drawn logged s' is serves = by_verdict (verdict lines user (call.Delete name)) serves

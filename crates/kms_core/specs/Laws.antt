@@ -1,5 +1,5 @@
 -- What follows for data encryption keys that are generated, decrypted and encrypted again, and for births.
-use Rattle.std.specs.Prelude.{◌≡◌, ℕ, ◌+◌, ◌<◌, ◌≤◌, Bool, List, length, true, None, Ok, Some, is_none, slice_get}
+use Rattle.std.specs.Prelude.{◌≡◌, ◌⊎◌, ℕ, ◌+◌, ◌<◌, ◌≤◌, Bool, List, length, true, None, Ok, Some, is_none, slice_get}
 use Rattle.hk_base.specs.Faults.{Rose}
 use Rattle.hk_base.specs.declared.names.Dek.{Dek}
 use Rattle.hk_base.specs.declared.names.Edek.{Edek}
@@ -19,7 +19,7 @@ use Rattle.key_rows.specs.Sound.{IsTable}
 use Rattle.kms_core.specs.Draws.{drawn_dek, drawn_edek, place_of_draw, words_of_draw}
 use Rattle.kms_core.specs.Opening.{unseals}
 use Rattle.key_rows.specs.declared.rows.KeyCommand.{KeyCommand}
-use Rattle.kms_core.specs.State.{IsService, KmsState, ServiceState, opened, settled}
+use Rattle.kms_core.specs.State.{IsService, KmsState, ServiceState, next_birth, opened, settled}
 use Rattle.kms_core.specs.Users.{ServesUser}
 use Rattle.kms_core.specs.Calls.{CallActs, birth_of, current_version, first_cause, sent_causes, row_of, edek_of, current_material}
 
@@ -111,6 +111,34 @@ DeletedIsGone =
     (lines : List PropLine) (user : Text) (s : ServiceState) (words : ℕ → ℕ) (now : ℕ) (name : KeyName) (before later : ℕ) (drawn : ℕ) (logged : List KeyCommand) (s' : ServiceState)
     → IsService s → ServesUser lines user s words now (call.Delete name) (Rose before later) reply.Done drawn logged s'
     → (kept : Bool) × Gone s'.keys.table (birth_of (row_of (settled kept s) name))
+
+-- A birth below the next one that no key has, and that none gets if the pending command was kept. It was that of a key that was
+-- deleted, or was taken for a create whose record could not be written.
+pub record IsUsedUp (s : ServiceState) (birth : ℕ) : Type 0 where
+  pub below : birth < next_birth s.keys
+  pub absent : (kept : Bool) → is_none (find_birth (settled kept s).table.rows birth) ≡ true
+
+-- no call of a user gives such a birth to a key
+abbrev pub UsedUpStays : Type 0
+UsedUpStays =
+    (lines : List PropLine) (user : Text) (s : ServiceState) (words : ℕ → ℕ) (now : ℕ) (c : KmsCall) (before later : ℕ) (told : KmsReply) (drawn : ℕ) (logged : List KeyCommand)
+    (s' : ServiceState)
+    → IsService s → ServesUser lines user s words now c (Rose before later) told drawn logged s' → (birth : ℕ) → IsUsedUp s birth → IsUsedUp s' birth
+
+-- A birth below the next one that no key has after a call is used up, unless the call left all as it was: then the command that
+-- was pending, which may make a key of it, is still pending.
+abbrev pub LostIsUsedUp : Type 0
+LostIsUsedUp =
+    (lines : List PropLine) (user : Text) (s : ServiceState) (words : ℕ → ℕ) (now : ℕ) (c : KmsCall) (before later : ℕ) (told : KmsReply) (drawn : ℕ) (logged : List KeyCommand)
+    (s' : ServiceState)
+    → IsService s → ServesUser lines user s words now c (Rose before later) told drawn logged s'
+    → (birth : ℕ) → birth < next_birth s.keys → is_none (find_birth s'.keys.table.rows birth) ≡ true → IsUsedUp s' birth ⊎ (s' ≡ s)
+
+-- and so is each birth below the next one that no key has in the table which a start finds
+abbrev pub UsedUpAtStart : Type 0
+UsedUpAtStart =
+    (s : ServiceState) (kept : Bool) → IsService s → (birth : ℕ) → birth < next_birth s.keys → is_none (find_birth (settled kept s).table.rows birth) ≡ true
+    → IsUsedUp (opened (settled kept s).table) birth
 
 -- these many words from the place on are the same in both streams
 abbrev pub SameWords : (ℕ → ℕ) → (ℕ → ℕ) → ℕ → ℕ → Type 0

@@ -1,5 +1,5 @@
 -- The key management service in an opening.
-use Rattle.std.specs.Prelude.{◌≡◌, ℕ, ◌+◌, ◌*◌, ◌^◌, ◌<◌, Bool, true, nat_le, Option, None, IfSome}
+use Rattle.std.specs.Prelude.{◌≡◌, ℕ, ◌+◌, ◌*◌, ◌^◌, ◌<◌, ◌≤◌, Bool, true, nat_le, Option, None, IfSome}
 use Rattle.key_rows.specs.declared.rows.KeyCommand.{KeyCommand}
 use Rattle.key_rows.specs.Sound.{IsTable}
 use Rattle.key_rows.specs.Table.{Table, after, applies}
@@ -37,10 +37,11 @@ pub record IsPending (s : KmsState) (command : KeyCommand) : Type 0 where
   pub same_opening : (after s.table command).opening ≡ s.table.opening
   pub births : (after s.table command).greatest < next_birth s
 
--- What every service keeps: births in use lie below the next one.
+-- What every service keeps: births in use lie below the next one, and the next one is at most the first of the next opening.
 pub record IsService (s : ServiceState) : Type 0 where
   pub table : IsTable s.keys.table
   pub births : s.keys.table.greatest < next_birth s.keys
+  pub counter : s.keys.next ≤ 2 ^ 32
   pub waits : IfSome s.pending (IsPending s.keys)
 
 -- A service that runs: its store, and the counter of the next birth.

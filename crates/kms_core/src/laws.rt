@@ -1,6 +1,6 @@
 //! Laws about data encryption keys that are generated, decrypted and re-encrypted, and about
 //! births. The functions do nothing: their contracts are the laws.
-ghost use Rattle.kms_core.specs.Laws.{BatchOpens, DecryptOpens, DeletedIsGone, DrawsApart, DrawsReadTheirOwn, GeneratedDecrypts, GeneratedOpens, GoneStays, GoneStaysAtStart, PermittedDecryptOpens, ReencryptedOpens};
+ghost use Rattle.kms_core.specs.Laws.{BatchOpens, DecryptOpens, DeletedIsGone, DrawsApart, DrawsReadTheirOwn, GeneratedDecrypts, GeneratedOpens, GoneStays, GoneStaysAtStart, LostIsUsedUp, PermittedDecryptOpens, ReencryptedOpens, UsedUpAtStart, UsedUpStays};
 
 /// A decrypt that nothing refuses returns the key that the sent bytes open to under their version.
 /// The same holds for a user who may decrypt.
@@ -30,9 +30,13 @@ pub fn draws_use_different_words()
 {}
 
 /// No key has the birth of a deleted key. No call and no start ever gives such a birth to a key
-/// again.
+/// again, nor any other birth below the next one, except that the pending command gets its own. So
+/// a birth that was taken for a create whose record could not be written is used up.
 pub fn births_never_come_again()
     ensures stays { GoneStays }
     ensures at_start { GoneStaysAtStart }
     ensures deleted { DeletedIsGone }
+    ensures below_next { UsedUpStays }
+    ensures lost { LostIsUsedUp }
+    ensures lost_at_start { UsedUpAtStart }
 {}
