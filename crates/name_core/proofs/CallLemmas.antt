@@ -40,7 +40,7 @@ acts-early d r user c why is = record {
   logged = [];
   serves = subst (λ (o : Option NameRefusal). ServesUnless o (service_of r) c (Rose d.faults d.faults) (reply.Refused why) [] (service_of r)) (sym is)
       (record { told_is = refl; none_logged = refl; same = refl });
-  disk = logs-of d d r r (OwnOf (service_of r) c) [] (unchanged d r (Leaving r (OwnOf (service_of r) c)));
+  disk = logs-of d d r r (OwnOf (service_of r) c (reply.Refused why) (service_of r)) [] (unchanged d r (Leaving r (OwnOf (service_of r) c (reply.Refused why) (service_of r))));
 }
 
 -- a call that changes nothing
@@ -50,7 +50,7 @@ acts-reading d r user c told early reads acts = record {
   logged = [];
   serves = subst (λ (o : Option NameRefusal). ServesUnless o (service_of r) c (Rose d.faults d.faults) told [] (service_of r)) (sym early)
       (subst (λ (b : Bool). ServesBy b (service_of r) c (Rose d.faults d.faults) told [] (service_of r)) (sym reads) (record { acts = acts; none_logged = refl; same = refl }));
-  disk = logs-of d d r r (OwnOf (service_of r) c) [] (unchanged d r (Leaving r (OwnOf (service_of r) c)));
+  disk = logs-of d d r r (OwnOf (service_of r) c told (service_of r)) [] (unchanged d r (Leaving r (OwnOf (service_of r) c told (service_of r))));
 }
 
 -- a change
@@ -60,7 +60,7 @@ acts-changing old new r t user c told early change a = record {
   logged = a.logged;
   serves = subst (λ (o : Option NameRefusal). ServesUnless o (service_of r) c (Rose old.faults new.faults) told a.logged (service_of t)) (sym early)
       (subst (λ (b : Bool). ServesBy b (service_of r) c (Rose old.faults new.faults) told a.logged (service_of t)) (sym change) a.serves);
-  disk = logs-of old new r t (OwnOf (service_of r) c) a.logged a.disk;
+  disk = logs-of old new r t (OwnOf (service_of r) c told (service_of t)) a.logged a.disk;
 }
 
 -- a change whose pending operation was settled first
@@ -68,8 +68,7 @@ pub acts-settled : (old mid new : DiskState) (r s t : RunningNames) (c : NameCal
 acts-settled old mid new r s t c told a b = record {
   logged = before ++ b.logged;
   serves = inr (a.kept, behind b.changes);
-  disk = behind-settling old mid new r s t a.kept (OwnOf (service_of r) c) (OwnChange (names_of s) c) b.logged
-      (λ o own. subst (λ (n : NameState). OwnChange n c o) names_are own) a.disk b.disk;
+  disk = behind-settling old mid new r s t a.kept (OwnOf (service_of r) c told (service_of t)) (OwnChange (names_of s) c told (service_of t)) b.logged own a.disk b.disk;
 }
   where
     before : List EditOp
@@ -77,6 +76,13 @@ acts-settled old mid new r s t c told a b = record {
 
     names_are : names_of s ≡ settled a.kept (service_of r)
     names_are = ap (λ (x : NameService). x.names) a.service
+
+    own : (o : EditOp) → OwnChange (names_of s) c told (service_of t) o → OwnOf (service_of r) c told (service_of t) a.kept o
+    own o h = record {
+      free = ap (λ (n : NameState). first_cause (causes n c)) (sym names_are) ∙ h.0;
+      is = ap (λ (n : NameState). (deed n c).logs) (sym names_are) ∙ h.1;
+      was_written = h.2;
+    }
 
     behind : Changes (names_of s) [] c (Rose mid.faults new.faults) told b.logged (service_of t)
         → Changes (settled a.kept (service_of r)) before c (Rose old.faults new.faults) told (before ++ b.logged) (service_of t)
@@ -99,7 +105,7 @@ pub acts-unsettled : (old new : DiskState) (r t : RunningNames) (c : NameCall) �
 acts-unsettled old new r t c u = record {
   logged = [];
   serves = inl (record { waits = u.waits; failed = u.failed; told_is = refl; none_logged = refl; same = ap service_of u.same });
-  disk = logging-leaving old new r t NothingMore (OwnOf (service_of r) c) [] (λ kept o never. absurd never) u.disk;
+  disk = logging-leaving old new r t NothingMore (OwnOf (service_of r) c (reply.Refused refusal.StoreFault) (service_of t)) [] (λ kept o never. absurd never) u.disk;
 }
 
 -- a change that is refused while nothing is pending
@@ -113,7 +119,7 @@ settled-refused d r c why none is = record {
     logged_is = refl;
     left = λ i. record { names = names_of r; pending = none i };
   });
-  disk = unchanged d r (Growing r (OwnChange (names_of r) c));
+  disk = unchanged d r (Growing r (OwnChange (names_of r) c (reply.Refused why) (service_of r)));
 }
 
 abbrev pub done_deed : EditOp → NameState → Deed
@@ -128,8 +134,8 @@ settled-written old new r t c o left result takes free is w = go result w
     s : NameState
     s = names_of r
 
-    own : (x : EditOp) → x ≡ o → OwnChange s c x
-    own x same = (free, ap (λ (d : Deed). d.logs) is ∙ ap Some (sym same))
+    logs : (x : EditOp) → x ≡ o → (deed s c).logs ≡ Some x
+    logs x same = ap (λ (d : Deed). d.logs) is ∙ ap Some (sym same)
 
     go : (result : Result (Unit {0}) StoreRefusal) → Writes old new r left o result t → ActsSettled old new r c (told_of result) t
     go (Ok done) w = record {
@@ -140,12 +146,12 @@ settled-written old new r t c o left result takes free is w = go result w
         logged_is = ap (λ (d : Deed). acknowledged reply.Done d.logs) (sym is);
         left = w.service;
       });
-      disk = logging-growing old new r t (λ x. x ≡ o) (OwnChange s c) (o ∷ []) own w.disk;
+      disk = logging-growing old new r t (λ x. x ≡ o) (OwnChange s c reply.Done (service_of t)) (o ∷ []) (λ x same. (free, logs x same, inl refl)) w.disk;
     }
     go (Err store.NoMemory) w = record {
       logged = [];
       changes = inl (record { changed = s; acts = (NoRoom, (takes, free), refl); logged_is = refl; left = w.service });
-      disk = logging-growing old new r t (λ x. ⊥) (OwnChange s c) [] (λ x never. absurd never) w.disk;
+      disk = logging-growing old new r t (λ x. ⊥) (OwnChange s c (reply.Refused refusal.NoMemory) (service_of t)) [] (λ x never. absurd never) w.disk;
     }
     go (Err store.StoreFault) w = record {
       logged = [];
@@ -156,7 +162,8 @@ settled-written old new r t c o left result takes free is w = go result w
         logged_is = refl;
         left = w.service ∙ ap (λ (d : Deed). record { names = d.state; pending = d.logs }) (sym is);
       });
-      disk = logging-growing old new r t (λ x. x ≡ o) (OwnChange s c) [] own w.disk;
+      disk = logging-growing old new r t (λ x. x ≡ o) (OwnChange s c (reply.Refused refusal.StoreFault) (service_of t)) []
+          (λ x same. (free, logs x same, inr (ap (λ (y : NameService). y.pending) w.service ∙ ap Some (sym same)))) w.disk;
     }
 
 pub same-counter : (s : NameState) (p : List (List ℕ)) (recursive : Bool) → deed s (call.Delete p recursive) ≡ done_deed (op.Remove p) (record s { next = s.next + 0 })

@@ -13,6 +13,7 @@ use Rattle.name_calls.specs.declared.calls.AskNote.{AskNote}
 use Rattle.name_calls.specs.declared.calls.KeyAnswer.{KeyAnswer}
 use Rattle.name_calls.specs.declared.calls.NameCall.{NameCall}
 use Rattle.name_calls.specs.declared.calls.NameRefusal.{NameRefusal}
+use Rattle.name_calls.specs.declared.calls.NameReply.{NameReply}
 use Rattle.name_core.specs.State.{AreFree, IsNames, NameService, NameState, RunningNames, StandsFor, names_of, next_id, settled}
 use Rattle.name_core.specs.Asks.{Asks, ask_causes, asked, opened, unless_not_asked}
 use Rattle.name_core.specs.Calls.{NoRoom, Plain, first_cause}
@@ -71,9 +72,10 @@ pub settled_opened : (kept : Bool) (s : NameService) → IsNames s → 0 < (sett
 settled_opened kept s n = subst (λ (o : ℕ). 0 < o) (sym (settled-opening kept s.pending s.names s.names.table (keeps-of s n).waits)) n.opened
 
 -- what a call may write is allowed, and is no opening
-pub own_of_call : (s : NameService) (c : NameCall) (kept : Bool) (o : EditOp) → IsNames s → OwnOf s c kept o → (allows (settled kept s).table o ≡ true) × (is_opening o ≡ false)
-own_of_call s c kept o n own =
-    (allowed-call (settled kept s) c o (settled_opened kept s n) (settled_keeps kept s n).ids own.0 own.1, no-opening (settled kept s) c o own.1)
+pub own_of_call : (s : NameService) (c : NameCall) (told : NameReply) (s' : NameService) (kept : Bool) (o : EditOp) → IsNames s → OwnOf s c told s' kept o
+    → (allows (settled kept s).table o ≡ true) × (is_opening o ≡ false)
+own_of_call s c told s' kept o n own =
+    (allowed-call (settled kept s) c o (settled_opened kept s n) (settled_keeps kept s n).ids own.free own.is, no-opening (settled kept s) c o own.is)
 
 -- what a finish may write is allowed, and is no opening
 pub own_of_finish : (s : NameService) (id : ℕ) (given : KeyAnswer) (told : Result (Unit {0}) NameRefusal) (s' : NameService) (kept : Bool) (o : EditOp) → IsNames s

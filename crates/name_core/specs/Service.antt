@@ -142,9 +142,12 @@ FinishServes s id given fault told logged s' = FinishServesAt s (open_ask s.name
 
 -- over a disk
 
--- what a call may write behind the settled log
-abbrev pub OwnOf : NameService → NameCall → Bool → EditOp → Type 0
-OwnOf s c kept op = (first_cause (causes (settled kept s) c) ≡ None) × ((deed (settled kept s) c).logs ≡ Some op)
+-- What a call that was answered so and left this may write after the settled log: its own operation, if the answer acknowledges it or it
+-- is pending afterwards. A call refused for a cause or for want of memory writes none, so no crash leaves one.
+pub record OwnOf (s : NameService) (c : NameCall) (told : NameReply) (s' : NameService) (kept : Bool) (op : EditOp) : Type 0 where
+  pub free : first_cause (causes (settled kept s) c) ≡ None
+  pub is : (deed (settled kept s) c).logs ≡ Some op
+  pub was_written : (acknowledged told (Some op) ≡ op ∷ []) ⊎ (s'.pending ≡ Some op)
 
 -- and what a finish may that was answered so and left this: its own record is written where it is done, or is left pending
 pub record OwnOfFinish (s : NameService) (id : ℕ) (given : KeyAnswer) (told : Result (Unit {0}) NameRefusal) (s' : NameService) (kept : Bool) (op : EditOp) : Type 0 where
@@ -167,7 +170,7 @@ pub record Logs (old new : DiskState) (r r' : RunningNames) (own : Bool → Edit
 pub record Acts (old new : DiskState) (r : RunningNames) (user : Text) (c : NameCall) (told : NameReply) (r' : RunningNames) : Type 0 where
   pub logged : List EditOp
   pub serves : Serves (service_of r) user c (Rose old.faults new.faults) told logged (service_of r')
-  pub disk : Logs old new r r' (OwnOf (service_of r) c) logged
+  pub disk : Logs old new r r' (OwnOf (service_of r) c told (service_of r')) logged
 
 pub record FinishActs (old new : DiskState) (r : RunningNames) (id : ℕ) (given : KeyAnswer) (told : Result (Unit {0}) NameRefusal) (r' : RunningNames) : Type 0 where
   pub logged : List EditOp

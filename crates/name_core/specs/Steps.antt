@@ -22,7 +22,7 @@ use Rattle.name_calls.specs.declared.calls.NameRefusal.TheVariants.{NoMemory, St
 use Rattle.name_core.specs.State.{AreFree, AreRecent, IdsFit, NameService, NameState, RunningNames, StandsFor, names_of, next_id, service_of, settled}
 use Rattle.name_core.specs.Asks.{finish_causes, finish_op}
 use Rattle.name_core.specs.Calls.{causes, deed, done_with, first_cause, info_causes, info_reply, path_of_zone}
-use Rattle.name_core.specs.Service.{Changes, Concludes, OwnOf, ServesBy}
+use Rattle.name_core.specs.Service.{Changes, Concludes, OwnOf, ServesBy, acknowledged}
 
 -- what stands at the path is told, or memory is wanting for the path of its zone
 abbrev pub TellsOf : List Entry → NPath → NameReply → Type 0
@@ -140,17 +140,18 @@ finish_told (Err why) = Err (refusal_of why)
 pub record ActsOn (old new : DiskState) (r : RunningNames) (c : NameCall) (told : NameReply) (r' : RunningNames) : Type 0 where
   pub logged : List EditOp
   pub serves : ServesBy true (service_of r) c (Rose old.faults new.faults) told logged (service_of r')
-  pub disk : Logging old new r r' (Leaving r (OwnOf (service_of r) c)) logged
+  pub disk : Logging old new r r' (Leaving r (OwnOf (service_of r) c told (service_of r'))) logged
 
--- what a change may write while nothing is pending
-abbrev pub OwnChange : NameState → NameCall → EditOp → Type 0
-OwnChange s c op = (first_cause (causes s c) ≡ None) × ((deed s c).logs ≡ Some op)
+-- what a change that was answered so and left this may write while nothing is pending
+abbrev pub OwnChange : NameState → NameCall → NameReply → NameService → EditOp → Type 0
+OwnChange s c told s' op =
+    (first_cause (causes s c) ≡ None) × ((deed s c).logs ≡ Some op) × ((acknowledged told (Some op) ≡ op ∷ []) ⊎ (s'.pending ≡ Some op))
 
 -- a change while nothing is pending
 pub record ActsSettled (old new : DiskState) (r : RunningNames) (c : NameCall) (told : NameReply) (r' : RunningNames) : Type 0 where
   pub logged : List EditOp
   pub changes : Changes (names_of r) [] c (Rose old.faults new.faults) told logged (service_of r')
-  pub disk : Logging old new r r' (Growing r (OwnChange (names_of r) c)) logged
+  pub disk : Logging old new r r' (Growing r (OwnChange (names_of r) c told (service_of r'))) logged
 
 -- what a finish that was answered so and left this may write while nothing is pending
 abbrev pub OwnFinish : NameState → OpenAsk → Option Edek → Result (Unit {0}) NameRefusal → NameService → EditOp → Type 0
