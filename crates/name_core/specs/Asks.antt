@@ -3,8 +3,6 @@ use Rattle.std.specs.Prelude.{◌≡◌, ℕ, ◌+◌, Bool, not, List, [], ◌�
 use Rattle.hk_base.specs.declared.names.Edek.{Edek}
 use Rattle.hk_base.specs.declared.names.KeyName.{KeyName}
 use Rattle.hk_base.specs.declared.texts.Text.{Text}
-use Rattle.kms_calls.specs.declared.calls.KmsReply.{KmsReply}
-use Rattle.kms_calls.specs.declared.calls.KmsReply.TheVariants as reply
 use Rattle.name_calls.specs.declared.paths.NPath.{NPath}
 use Rattle.inode_tree.specs.Rows.{Entry, row_at, is_dir_at, has_children, same_id, zone_id, zone_of}
 use Rattle.edit_ops.specs.declared.ops.EditOp.{EditOp}
@@ -13,8 +11,6 @@ use Rattle.name_store.specs.Table.{after_table, fits_zone, key_of_zone}
 use Rattle.name_calls.specs.declared.calls.Ask.{Ask}
 use Rattle.name_calls.specs.declared.calls.Ask.TheVariants as ask
 use Rattle.name_calls.specs.declared.calls.AskNote.{AskNote}
-use Rattle.name_calls.specs.declared.calls.KeyAnswer.{KeyAnswer}
-use Rattle.name_calls.specs.declared.calls.KeyAnswer.TheVariants as answer
 use Rattle.name_calls.specs.declared.calls.NameRefusal.{NameRefusal}
 use Rattle.name_calls.specs.declared.calls.NameRefusal.TheVariants as refusal
 use Rattle.name_calls.specs.declared.calls.Want.{Want}
