@@ -22,6 +22,10 @@ plain_state files faults = record {
   faults = faults;
 }
 
+-- the disk as the clauses of `Disk` see it
+abbrev pub state_of : PlainDisk → DiskState
+state_of d = plain_state (contents d) (faults_of d)
+
 pub within : (d : PlainDisk) (f : ℕ) → f < 2 → length (contents d f) ≤ 2 ^ 62
 within d zero lt = d.first_limit
 within d (suc f) lt = d.second_limit

@@ -3,8 +3,8 @@ ghost use Rattle.std.specs.Prelude.{◌≤◌, ◌^◌, length};
 
 mod calls;
 
-/// Two files in memory. A call fails only if a write can't allocate or would make a file longer than
-/// 2^62 bytes. It keeps no record of what a crash might leave.
+/// Two files in memory. Only a write fails, if it can't allocate or would make the file longer than
+/// 2^62 bytes; both files are then unchanged. It keeps no record of what a crash might leave.
 #[derive(Drop)]
 pub struct PlainDisk {
     first: Vec<u8>,

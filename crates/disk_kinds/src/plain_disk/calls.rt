@@ -1,9 +1,9 @@
 //! The calls of a disk that records nothing about crashes.
-ghost use Rattle.std.specs.Prelude.{◌≡◌, ◌≤◌, ◌<◌, ◌+◌, ◌-◌, ◌^◌, [], length, OnOk, OnErr};
+ghost use Rattle.std.specs.Prelude.{◌≡◌, ◌≤◌, ◌<◌, ◌+◌, ◌-◌, ◌^◌, [], min, length, take, drop, IfOk, OnOk, OnErr, MatchResult};
 ghost use Rattle.std.proofs.Common.{refl};
-ghost use Rattle.hk_base.specs.Disk.{written};
-ghost use Rattle.hk_base.specs.Faults.{Rose};
-ghost use Rattle.disk_kinds.specs.Plain.{plain_state, contents, faults_of, within};
+ghost use Rattle.hk_base.specs.Disk.{CallOn, Follows, Torn, piece, written};
+ghost use Rattle.disk_kinds.specs.Fakes.{counted};
+ghost use Rattle.disk_kinds.specs.Plain.{contents, faults_of, state_of, within};
 
 use super::PlainDisk;
 use crate::pieces::copy_front;
@@ -56,9 +56,10 @@ impl PlainDisk {
         }
     }
 
+    /// Counts a fault.
     fn fault(&mut self) -> Failed
         ensures same { contents self.new ≡ contents self.old }
-        ensures rose { Rose (faults_of self.old) (faults_of self.new) }
+        ensures faults { faults_of self.new ≡ counted (faults_of self.old) }
         ensures later { faults_of self.old ≤ faults_of self.new }
     {
         self.faults = self.faults.saturating_add(1);
@@ -80,7 +81,7 @@ fn overwrite(file: &mut Vec<u8>, at: usize, bytes: &[u8]) -> Result<(), AllocErr
 }
 
 impl Disk for PlainDisk {
-    ghost state = { λ d. plain_state (contents d) (faults_of d) };
+    ghost state = { λ d. state_of d };
 
     ghost counts_now = { λ d t c le now. now };
 
@@ -90,15 +91,37 @@ impl Disk for PlainDisk {
 
     ghost bounded = { λ d f told lt. within d f lt };
 
-    fn len(&mut self, file: u8) -> Result<u64, Failed> {
+    fn len(&mut self, file: u8) -> Result<u64, Failed>
+        requires { file < 2 }
+        ensures size { result ≡ Ok (length (contents self.old file)) }
+        ensures kept { self.new ≡ self.old }
+    {
         Ok(self.file(file).len() as u64)
     }
 
-    fn read(&mut self, file: u8, at: u64, buf: &mut [u8]) -> Result<usize, Failed> {
+    fn read(&mut self, file: u8, at: u64, buf: &mut [u8]) -> Result<usize, Failed>
+        requires file { file < 2 }
+        requires place { at ≤ length (contents self.old file) }
+        ensures count { result ≡ Ok (min (length buf.new) (length (contents self.old file) - at)) }
+        ensures bytes { IfOk result (λ n. take n buf.new ≡ piece at n (contents self.old file)) }
+        ensures rest { IfOk result (λ n. drop n buf.new ≡ drop n buf.old) }
+        ensures kept { self.new ≡ self.old }
+    {
         Ok(copy_front(&self.file(file)[at as usize..], buf))
     }
 
-    fn write_at(&mut self, file: u8, at: u64, bytes: &[u8]) -> Result<(), Failed> {
+    fn write_at(&mut self, file: u8, at: u64, bytes: &[u8]) -> Result<(), Failed>
+        requires file { file < 2 }
+        requires place { at ≤ length (contents self.old file) }
+        ensures written { OnOk result (contents self.new file ≡ written at bytes.now (contents self.old file)) }
+        ensures other { contents self.new (1 - file) ≡ contents self.old (1 - file) }
+        ensures limit { OnOk result (at + length bytes.now ≤ 2 ^ 62) }
+        ensures kept { OnErr result (contents self.new file ≡ contents self.old file) }
+        ensures faults { MatchResult result (λ _. faults_of self.new ≡ faults_of self.old) (λ _. faults_of self.new ≡ counted (faults_of self.old)) }
+        ensures torn { OnErr result (Torn at (length bytes.now) (contents self.old file) (contents self.new file)) }
+        ensures crash { Follows (Torn at (length bytes.now)) ((state_of self.old).leaves file) ((state_of self.new).leaves file) }
+        ensures call { CallOn file (state_of self.old) (state_of self.new) }
+    {
         let size = bytes.len() as u64;
         if at > LONGEST_FILE || size > LONGEST_FILE - at {
             return Err(self.fault());
@@ -109,7 +132,14 @@ impl Disk for PlainDisk {
         }
     }
 
-    fn cut(&mut self, file: u8, len: u64) -> Result<(), Failed> {
+    fn cut(&mut self, file: u8, len: u64) -> Result<(), Failed>
+        requires file { file < 2 }
+        requires place { len ≤ length (contents self.old file) }
+        ensures works { result ≡ Ok tt }
+        ensures cut { contents self.new file ≡ take len (contents self.old file) }
+        ensures other { contents self.new (1 - file) ≡ contents self.old (1 - file) }
+        ensures faults { faults_of self.new ≡ faults_of self.old }
+    {
         if file == 0 {
             self.first.truncate(len as usize);
         } else {
@@ -118,7 +148,11 @@ impl Disk for PlainDisk {
         Ok(())
     }
 
-    fn sync(&mut self, _file: u8) -> Result<(), Failed> {
+    fn sync(&mut self, _file: u8) -> Result<(), Failed>
+        ensures works { result ≡ Ok tt }
+        ensures kept { self.new ≡ self.old }
+    {
+        // Memory needs no sync.
         Ok(())
     }
 }
