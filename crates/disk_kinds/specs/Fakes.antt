@@ -1,11 +1,12 @@
 -- What the sources, sinks and disks in memory are to a contract.
-use Rattle.std.specs.Prelude.{◌≡◌, ◌+◌, ◌-◌, ◌^◌, ℕ, List, Result, min, MatchResult}
+use Rattle.std.specs.Prelude.{◌≡◌, ◌+◌, ◌-◌, ◌^◌, ℕ, List, Contains, Result, min, IsErr, MatchResult}
 
--- which calls are to fail, by their numbers from 1; how many were made; how many failed
+-- which calls must fail, by their numbers from 1; how many were made; how many failed; how many of these for want of memory
 pub record Plan : Type 0 where
   pub failing : List ℕ
   pub made : ℕ
   pub faults : ℕ
+  pub shortages : ℕ
 
 -- a count of 64 bits that stops at its last value
 abbrev pub counted : ℕ → ℕ
@@ -16,6 +17,18 @@ pub record CallMade {T E : Type 0} (old new : Plan) (result : Result T E) : Type
   pub failing : new.failing ≡ old.failing
   pub made : new.made ≡ counted old.made
   pub faults : MatchResult result (λ _. new.faults ≡ old.faults) (λ _. new.faults ≡ counted old.faults)
+
+-- the next call is listed
+abbrev pub NextFails : Plan → Type 0
+NextFails p = Contains p.failing (counted p.made)
+
+-- A call that may need memory goes by its plan: it is counted, it fails if it is listed, and otherwise it fails only
+-- for want of memory, which is counted apart.
+pub record FollowsPlan {T E : Type 0} (old new : Plan) (result : Result T E) : Type 0 where
+  pub call : CallMade old new result
+  pub listed : NextFails old → IsErr result
+  pub no_shortage : NextFails old → new.shortages ≡ old.shortages
+  pub unlisted : ¬ NextFails old → MatchResult result (λ _. new.shortages ≡ old.shortages) (λ _. new.shortages ≡ counted old.shortages)
 
 -- the bytes that are left, and at most how many a read gives
 pub record Supply : Type 0 where

@@ -78,6 +78,16 @@ disk_state now past faults = record {
   faults = faults;
 }
 
+-- the disk as the clauses of `Disk` see it
+abbrev pub state_of : MemDisk → DiskState
+state_of d = disk_state (now_of d) (past_of d) (plan_of d).faults
+
+abbrev pub reads_of : MemDisk → ℕ → List ℕ
+reads_of d file = (the_file (now_of d) file).reads
+
+abbrev pub leaves_of : MemDisk → ℕ → List ℕ → Type 0
+leaves_of d file = MayLeave (the_file (now_of d) file)
+
 none_left : (past : List Moment) (c : Image) → WasImage (drop (length past) past) c → ⊥
 none_left [] c was = was
 none_left (m ∷ past) c was = none_left past c was

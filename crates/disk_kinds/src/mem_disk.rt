@@ -30,7 +30,9 @@ pub(crate) struct Moment {
 }
 
 /// Two files in memory, with a record of what a crash may leave at each moment since the start, and a
-/// plan of the calls that fail. A write that fails by plan writes the first half of its bytes.
+/// plan of the calls that fail. Each call is counted. A call that is not in the plan fails only for
+/// want of memory, which is counted apart, and then changes nothing; no memory holds a file of more
+/// than 2^62 bytes. A write that fails by plan writes the first half of its bytes.
 #[derive(Drop)]
 pub struct MemDisk {
     alloc: Global,

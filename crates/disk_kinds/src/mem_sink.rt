@@ -1,9 +1,9 @@
 //! A sink in memory.
-ghost use Rattle.std.specs.Prelude.{◌≡◌, ◌↔◌, ◌+◌, ◌<◌, ◌^◌, ◌-◌, [], min, length, Some, Contains, IfOk, IsErr};
+ghost use Rattle.std.specs.Prelude.{◌≡◌, ◌+◌, ◌<◌, ◌^◌, ◌-◌, [], min, length, Some, IfOk};
 ghost use Rattle.std.specs.Io.{WritesAtMost};
 ghost use Rattle.std.specs.Io.KnownBytes.{WriteAppends};
 ghost use Rattle.hk_base.specs.Faults.{HasCause, Rose};
-ghost use Rattle.disk_kinds.specs.Fakes.{CallMade, counted};
+ghost use Rattle.disk_kinds.specs.Fakes.{FollowsPlan};
 
 use crate::calls::CallPlan;
 use hk_base::{ByteList, Failed, Sink};
@@ -31,8 +31,8 @@ impl Model for MemSink {
 
 impl MemSink {
     /// Creates an empty sink. A write takes at most `most` bytes. The writes whose numbers, counted
-    /// from 1, are in `failing` fail. So does a write whose allocation fails. A write that fails takes
-    /// nothing.
+    /// from 1, are in `failing` fail. So does a write whose allocation fails, which is counted apart. A
+    /// write that fails takes nothing.
     pub fn new(alloc: Global, most: usize, failing: Vec<u64>) -> MemSink
         requires { 0 < most }
         ensures written { result.written ≡ [] }
@@ -40,6 +40,7 @@ impl MemSink {
         ensures failing { result.plan.failing ≡ failing.items }
         ensures made { result.plan.made ≡ 0 }
         ensures faults { result.plan.faults ≡ 0 }
+        ensures shortages { result.plan.shortages ≡ 0 }
     {
         MemSink {
             bytes: ByteList::new(alloc),
@@ -68,6 +69,13 @@ impl MemSink {
     {
         self.plan.faults()
     }
+
+    /// Returns the number of writes that failed for want of memory, up to 2^64 - 1.
+    pub fn shortages(&self) -> u64
+        ensures { result ≡ self.now.plan.shortages }
+    {
+        self.plan.shortages()
+    }
 }
 
 impl Sink for MemSink {
@@ -80,16 +88,15 @@ impl Sink for MemSink {
         ensures bytes { WriteAppends (Some self.old.written) (Some self.new.written) result bytes.now }
         ensures cause { HasCause self.old.plan.faults self.new.plan.faults result }
         ensures nothing { result ≡ Ok 0 → 0 < length bytes.now → Rose self.old.plan.faults self.new.plan.faults }
-        ensures listed { Contains self.old.plan.failing (counted self.old.plan.made) → IsErr result }
         ensures count { IfOk result (λ n. n ≡ min (length bytes.now) self.old.most) }
         ensures most { self.new.most ≡ self.old.most }
-        ensures plan { CallMade self.old.plan self.new.plan result }
+        ensures plan { FollowsPlan self.old.plan self.new.plan result }
     {
         self.plan.call()?;
         let count = bytes.len().min(self.most);
         match self.bytes.append(&bytes[..count]) {
             Ok(()) => Ok(count),
-            Err(_) => Err(self.plan.fault()),
+            Err(_) => Err(self.plan.shortage()),
         }
     }
 }

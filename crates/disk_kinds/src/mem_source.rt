@@ -1,9 +1,9 @@
 //! A source in memory.
-ghost use Rattle.std.specs.Prelude.{◌≡◌, ◌↔◌, ◌+◌, ◌<◌, ◌^◌, ◌-◌, min, length, Some, Contains, IfOk, IsErr};
+ghost use Rattle.std.specs.Prelude.{◌≡◌, ◌↔◌, ◌+◌, ◌<◌, ◌^◌, ◌-◌, min, length, Some, IfOk, IsErr};
 ghost use Rattle.std.specs.Io.{ReadsAtMost};
 ghost use Rattle.std.specs.Io.KnownBytes.{ReadConsumes};
 ghost use Rattle.hk_base.specs.Faults.{HasCause};
-ghost use Rattle.disk_kinds.specs.Fakes.{CallMade, counted};
+ghost use Rattle.disk_kinds.specs.Fakes.{CallMade, NextFails};
 
 use crate::calls::CallPlan;
 use crate::pieces::copy_front;
@@ -73,7 +73,7 @@ impl Source for MemSource {
         ensures bound { ReadsAtMost result buf.new }
         ensures bytes { ReadConsumes (Some self.old.left) (Some self.new.left) result buf.new }
         ensures cause { HasCause self.old.plan.faults self.new.plan.faults result }
-        ensures listed { IsErr result ↔ Contains self.old.plan.failing (counted self.old.plan.made) }
+        ensures listed { IsErr result ↔ NextFails self.old.plan }
         ensures count { IfOk result (λ n. n ≡ min (min (length self.old.left) (length buf.new)) self.old.most) }
         ensures most { self.new.most ≡ self.old.most }
         ensures plan { CallMade self.old.plan self.new.plan result }

@@ -1,9 +1,10 @@
 //! The calls of a disk in memory.
-ghost use Rattle.std.specs.Prelude.{◌≡◌, ◌≤◌, ◌<◌, ◌+◌, ◌^◌, ◌++◌, [], ◌∷◌, length, take, OnOk, OnErr, IfOk};
+ghost use Rattle.std.specs.Prelude.{◌≡◌, ◌↔◌, ◌≤◌, ◌<◌, ◌+◌, ◌-◌, ◌^◌, ◌++◌, [], ◌∷◌, min, length, take, drop, OnOk, OnErr, IfOk, IsErr};
 ghost use Rattle.std.proofs.Common.{inl, refl};
-ghost use Rattle.hk_base.specs.Disk.{written};
+ghost use Rattle.hk_base.specs.Disk.{CallOn, Cut, Follows, Only, Reads, Torn, piece, written};
 ghost use Rattle.disk_kinds.specs.declared.mem_disk.Change.TheVariants.{Written, CutTo};
-ghost use Rattle.disk_kinds.specs.Past.{FileAt, disk_state, moment_at, file_at, fresh_file, now_of, past_of, plan_of, the_file, only_image, within, Put, Left};
+ghost use Rattle.disk_kinds.specs.Fakes.{CallMade, FollowsPlan, NextFails};
+ghost use Rattle.disk_kinds.specs.Past.{FileAt, moment_at, file_at, fresh_file, now_of, past_of, plan_of, state_of, reads_of, leaves_of, the_file, only_image, within, Put, Left};
 
 use super::{Change, Kept, MemDisk, Moment};
 use crate::calls::CallPlan;
@@ -66,7 +67,7 @@ impl MemDisk {
         requires second { length second.items ≤ 2 ^ 62 }
         ensures files { IfOk result (λ d. now_of d ≡ record { first = fresh_file first.items; second = fresh_file second.items }) }
         ensures past { IfOk result (λ d. past_of d ≡ []) }
-        ensures plan { IfOk result (λ d. plan_of d ≡ record { failing = failing.items; made = 0; faults = 0 }) }
+        ensures plan { IfOk result (λ d. plan_of d ≡ record { failing = failing.items; made = 0; faults = 0; shortages = 0 }) }
     {
         Ok(MemDisk {
             alloc,
@@ -109,6 +110,13 @@ impl MemDisk {
         self.plan.faults()
     }
 
+    /// Returns the number of calls that failed for want of memory, up to 2^64 - 1.
+    pub fn shortages(&self) -> u64
+        ensures { result ≡ (plan_of self.now).shortages }
+    {
+        self.plan.shortages()
+    }
+
     /// Replaces a file and records the moment before.
     fn put(&mut self, file: u8, next: Kept) -> Result<(), AllocError>
         requires { file < 2 }
@@ -125,17 +133,21 @@ impl MemDisk {
         Ok(())
     }
 
-    /// Writes a prefix of a write of `size` bytes. If allocation fails, nothing is written.
+    /// Writes a prefix of a write of `size` bytes. If allocation fails, or if the file would become
+    /// longer than 2^62 bytes, which no memory holds, nothing is written.
     fn write_part(&mut self, file: u8, at: u64, part: &[u8], size: u64) -> Result<(), AllocError>
         requires file { file < 2 }
         requires place { at ≤ length ((the_file (now_of self.old) file).reads) }
         requires part { length part.now ≤ size }
-        requires limit { at + size ≤ 2 ^ 62 }
+        ensures limit { OnOk result (at + size ≤ 2 ^ 62) }
         ensures ok { let old = the_file (now_of self.old) file in OnOk result (Put file (record { reads = written at part.now old.reads; synced = old.synced; changes = old.changes ++ Written at size ∷ [] })
             (now_of self.old) (now_of self.new) (past_of self.old) (past_of self.new)) }
         ensures err { OnErr result (Left (now_of self.old) (now_of self.new) (past_of self.old) (past_of self.new)) }
         ensures plan { plan_of self.new ≡ plan_of self.old }
     {
+        if at > LONGEST_FILE || size > LONGEST_FILE - at {
+            return Err(AllocError);
+        }
         let old = self.current.file(file);
         let reads = overwritten(self.alloc, &old.reads, at, part)?;
         let mut changes = old.changes.to_vec(self.alloc)?;
@@ -203,7 +215,7 @@ fn overwritten(alloc: Global, old: &[u8], at: u64, bytes: &[u8]) -> Result<Vec<u
 }
 
 impl Disk for MemDisk {
-    ghost state = { λ d. disk_state (now_of d) (past_of d) (plan_of d).faults };
+    ghost state = { λ d. state_of d };
 
     ghost counts_now = { λ d t c le now. inl now };
 
@@ -213,25 +225,49 @@ impl Disk for MemDisk {
 
     ghost bounded = { λ d f told lt. within d f lt };
 
-    fn len(&mut self, file: u8) -> Result<u64, Failed> {
+    fn len(&mut self, file: u8) -> Result<u64, Failed>
+        requires { file < 2 }
+        ensures listed { IsErr result ↔ NextFails (plan_of self.old) }
+        ensures plan { CallMade (plan_of self.old) (plan_of self.new) result }
+        ensures size { IfOk result (λ n. n ≡ length (reads_of self.old file)) }
+        ensures kept { Left (now_of self.old) (now_of self.new) (past_of self.old) (past_of self.new) }
+        ensures call { CallOn file (state_of self.old) (state_of self.new) }
+    {
         self.plan.call()?;
         Ok(self.current.file(file).reads.len() as u64)
     }
 
-    fn read(&mut self, file: u8, at: u64, buf: &mut [u8]) -> Result<usize, Failed> {
+    fn read(&mut self, file: u8, at: u64, buf: &mut [u8]) -> Result<usize, Failed>
+        requires file { file < 2 }
+        requires place { at ≤ length (reads_of self.old file) }
+        ensures listed { IsErr result ↔ NextFails (plan_of self.old) }
+        ensures plan { CallMade (plan_of self.old) (plan_of self.new) result }
+        ensures count { IfOk result (λ n. n ≡ min (length buf.new) (length (reads_of self.old file) - at)) }
+        ensures bytes { IfOk result (λ n. take n buf.new ≡ piece at n (reads_of self.old file)) }
+        ensures rest { IfOk result (λ n. drop n buf.new ≡ drop n buf.old) }
+        ensures kept { Left (now_of self.old) (now_of self.new) (past_of self.old) (past_of self.new) }
+        ensures call { CallOn file (state_of self.old) (state_of self.new) }
+    {
         self.plan.call()?;
         Ok(copy_front(&self.current.file(file).reads[at as usize..], buf))
     }
 
-    fn write_at(&mut self, file: u8, at: u64, bytes: &[u8]) -> Result<(), Failed> {
+    fn write_at(&mut self, file: u8, at: u64, bytes: &[u8]) -> Result<(), Failed>
+        requires file { file < 2 }
+        requires place { at ≤ length (reads_of self.old file) }
+        ensures plan { FollowsPlan (plan_of self.old) (plan_of self.new) result }
+        ensures written { OnOk result (reads_of self.new file ≡ written at bytes.now (reads_of self.old file)) }
+        ensures torn { OnErr result (Torn at (length bytes.now) (reads_of self.old file) (reads_of self.new file)) }
+        ensures limit { OnOk result (at + length bytes.now ≤ 2 ^ 62) }
+        ensures kept { ¬ NextFails (plan_of self.old) → OnErr result (Left (now_of self.old) (now_of self.new) (past_of self.old) (past_of self.new)) }
+        ensures crash { Follows (Torn at (length bytes.now)) (leaves_of self.old file) (leaves_of self.new file) }
+        ensures call { CallOn file (state_of self.old) (state_of self.new) }
+    {
         let size = bytes.len() as u64;
-        if at > LONGEST_FILE || size > LONGEST_FILE - at {
-            return Err(self.plan.fault());
-        }
         match self.plan.call() {
             Ok(()) => match self.write_part(file, at, bytes, size) {
                 Ok(()) => Ok(()),
-                Err(_) => Err(self.plan.fault()),
+                Err(_) => Err(self.plan.shortage()),
             },
             Err(failed) => match self.write_part(file, at, &bytes[..bytes.len() / 2], size) {
                 Ok(()) => Err(failed),
@@ -240,19 +276,35 @@ impl Disk for MemDisk {
         }
     }
 
-    fn cut(&mut self, file: u8, len: u64) -> Result<(), Failed> {
+    fn cut(&mut self, file: u8, len: u64) -> Result<(), Failed>
+        requires file { file < 2 }
+        requires place { len ≤ length (reads_of self.old file) }
+        ensures plan { FollowsPlan (plan_of self.old) (plan_of self.new) result }
+        ensures kept { OnErr result (Left (now_of self.old) (now_of self.new) (past_of self.old) (past_of self.new)) }
+        ensures cut { OnOk result (reads_of self.new file ≡ take len (reads_of self.old file)) }
+        ensures torn { OnErr result (Cut len (reads_of self.old file) (reads_of self.new file)) }
+        ensures crash { Follows (Cut len) (leaves_of self.old file) (leaves_of self.new file) }
+        ensures call { CallOn file (state_of self.old) (state_of self.new) }
+    {
         self.plan.call()?;
         match self.cut_to(file, len) {
             Ok(()) => Ok(()),
-            Err(_) => Err(self.plan.fault()),
+            Err(_) => Err(self.plan.shortage()),
         }
     }
 
-    fn sync(&mut self, file: u8) -> Result<(), Failed> {
+    fn sync(&mut self, file: u8) -> Result<(), Failed>
+        requires { file < 2 }
+        ensures plan { FollowsPlan (plan_of self.old) (plan_of self.new) result }
+        ensures kept { OnErr result (Left (now_of self.old) (now_of self.new) (past_of self.old) (past_of self.new)) }
+        ensures durable { OnOk result (Only (reads_of self.old file) (leaves_of self.new file)) }
+        ensures same { Reads file (state_of self.old) (state_of self.new) }
+        ensures call { CallOn file (state_of self.old) (state_of self.new) }
+    {
         self.plan.call()?;
         match self.make_synced(file) {
             Ok(()) => Ok(()),
-            Err(_) => Err(self.plan.fault()),
+            Err(_) => Err(self.plan.shortage()),
         }
     }
 }

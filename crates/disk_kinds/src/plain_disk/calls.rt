@@ -47,6 +47,7 @@ impl PlainDisk {
         ensures written { OnOk result (contents self.new file ≡ written at bytes.now (contents self.old file)) }
         ensures other { contents self.new (1 - file) ≡ contents self.old (1 - file) }
         ensures same { OnErr result (contents self.new file ≡ contents self.old file) }
+        ensures grows { OnErr result (length (contents self.old file) < at + length bytes.now) }
         ensures faults { faults_of self.new ≡ faults_of self.old }
     {
         if file == 0 {
@@ -72,6 +73,7 @@ fn overwrite(file: &mut Vec<u8>, at: usize, bytes: &[u8]) -> Result<(), AllocErr
     requires { at ≤ length file.old.items }
     ensures written { OnOk result (file.new.items ≡ written at bytes.now file.old.items) }
     ensures same { OnErr result (file.new.items ≡ file.old.items) }
+    ensures grows { OnErr result (length file.old.items < at + length bytes.now) }
 {
     let inside = bytes.len().min(file.len() - at);
     let (over, past) = bytes.split_at(inside);
@@ -116,6 +118,7 @@ impl Disk for PlainDisk {
         ensures written { OnOk result (contents self.new file ≡ written at bytes.now (contents self.old file)) }
         ensures other { contents self.new (1 - file) ≡ contents self.old (1 - file) }
         ensures limit { OnOk result (at + length bytes.now ≤ 2 ^ 62) }
+        ensures grows { OnErr result (length (contents self.old file) < at + length bytes.now) }
         ensures kept { OnErr result (contents self.new file ≡ contents self.old file) }
         ensures faults { MatchResult result (λ _. faults_of self.new ≡ faults_of self.old) (λ _. faults_of self.new ≡ counted (faults_of self.old)) }
         ensures torn { OnErr result (Torn at (length bytes.now) (contents self.old file) (contents self.new file)) }
