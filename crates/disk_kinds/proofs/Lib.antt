@@ -1,3 +1,4 @@
+pub mod OpaqueLemmas
 mod Plains
 mod Puts
 mod Rests

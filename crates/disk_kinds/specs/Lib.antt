@@ -1,4 +1,4 @@
 pub mod Fakes
+pub mod Opaque
 pub mod Past
 pub mod Plain
-pub mod Untold

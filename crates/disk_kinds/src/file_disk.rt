@@ -2,7 +2,7 @@
 ghost use Rattle.std.specs.Prelude.{◌≡◌, ◌≤◌, ◌<◌, ◌+◌, ◌^◌, length, drop, IfOk, OnOk};
 ghost use Rattle.std.specs.Io.{ReadsAtMost, WritesAtMost};
 ghost use Rattle.hk_base.specs.Faults.{Rose};
-ghost use Rattle.disk_kinds.specs.Untold.{untold};
+ghost use Rattle.disk_kinds.specs.Opaque.{opaque};
 
 use crate::pieces::copy_front;
 use hk_base::{Disk, Failed, LONGEST_FILE};
@@ -201,6 +201,17 @@ impl FileDisk {
         }
     }
 
+    /// Lets every later sync of a file fail.
+    fn mark_lost(&mut self, file: u8)
+        ensures { self.new.faults ≡ self.old.faults }
+    {
+        if file == 0 {
+            self.keys_lost = true;
+        } else {
+            self.names_lost = true;
+        }
+    }
+
     /// Counts a fault.
     fn fault(&mut self) -> Failed
         ensures rose { Rose self.old.faults self.new.faults }
@@ -212,11 +223,11 @@ impl FileDisk {
 }
 
 impl Disk for FileDisk {
-    ghost state = { λ d. untold d.faults };
+    ghost state = { λ d. opaque d.faults };
 
-    ghost counts_now = { λ d t c le now. now };
+    ghost counts_now = { λ d t c le now. tt };
 
-    ghost only_now = { λ d c left. left };
+    ghost only_now = { λ d c left f lt. tt };
 
     ghost is_one = { λ d f told lt. Prim.cc told };
 
@@ -242,6 +253,7 @@ impl Disk for FileDisk {
         }
     }
 
+    #[tactic(auto, using(crate::proofs::OpaqueLemmas::opaque_torn))]
     fn write_at(&mut self, file: u8, at: u64, bytes: &[u8]) -> Result<(), Failed> {
         let size = bytes.len() as u64;
         if at > LONGEST_FILE || size > LONGEST_FILE - at {
@@ -253,6 +265,7 @@ impl Disk for FileDisk {
         }
     }
 
+    #[tactic(auto, using(crate::proofs::OpaqueLemmas::opaque_cut))]
     fn cut(&mut self, file: u8, len: u64) -> Result<(), Failed> {
         match cut_tried(self.file(file), len) {
             Ok(()) => Ok(()),
@@ -267,11 +280,7 @@ impl Disk for FileDisk {
         match sync_tried(self.file(file)) {
             Ok(()) => Ok(()),
             Err(_) => {
-                if file == 0 {
-                    self.keys_lost = true;
-                } else {
-                    self.names_lost = true;
-                }
+                self.mark_lost(file);
                 Err(self.fault())
             }
         }

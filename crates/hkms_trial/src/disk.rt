@@ -1,7 +1,7 @@
 //! A disk of two files in memory whose calls fail by a plan.
 ghost use Rattle.std.specs.Prelude.{◌≤◌};
 ghost use Rattle.hk_base.specs.Faults.{Rose};
-ghost use Rattle.disk_kinds.specs.Untold.{untold};
+ghost use Rattle.disk_kinds.specs.Opaque.{opaque};
 
 use crate::calls::{Calls, Course};
 use crate::file::TrialFile;
@@ -134,11 +134,11 @@ impl TrialDisk {
 }
 
 impl Disk for TrialDisk {
-    ghost state = { λ d. untold d.faults };
+    ghost state = { λ d. opaque d.faults };
 
-    ghost counts_now = { λ d t c le now. now };
+    ghost counts_now = { λ d t c le now. tt };
 
-    ghost only_now = { λ d c left. left };
+    ghost only_now = { λ d c left f lt. tt };
 
     ghost is_one = { λ d f told lt. Prim.cc told };
 
@@ -161,6 +161,7 @@ impl Disk for TrialDisk {
         Ok(self.file(file).read(at as usize, buf))
     }
 
+    #[tactic(auto, using(disk_kinds::proofs::OpaqueLemmas::opaque_torn))]
     fn write_at(&mut self, file: u8, at: u64, bytes: &[u8]) -> Result<(), Failed> {
         let size = bytes.len() as u64;
         if at > self.size(file) || at > LONGEST_FILE || size > LONGEST_FILE - at {
@@ -173,6 +174,7 @@ impl Disk for TrialDisk {
         }
     }
 
+    #[tactic(auto, using(disk_kinds::proofs::OpaqueLemmas::opaque_cut))]
     fn cut(&mut self, file: u8, len: u64) -> Result<(), Failed> {
         if len > self.size(file) {
             return Err(self.fault());
