@@ -1,5 +1,5 @@
 //! Adapters over the system's readers, writers and clock that count errors.
-ghost use Rattle.std.specs.Prelude.{◌≡◌, ◌≤◌, ◌+◌, ◌-◌, ◌^◌, min, IfOk};
+ghost use Rattle.std.specs.Prelude.{◌≡◌, ◌≤◌, ◌<◌, ◌+◌, ◌-◌, ◌^◌, min, IfOk};
 ghost use Rattle.std.specs.Io.{ReadsAtMost, WritesAtMost};
 ghost use Rattle.std.specs.Io.KnownBytes.{ReadConsumes, WriteAppends};
 
@@ -135,7 +135,8 @@ impl<W: Write + Drop> Sink for Writing<W> {
     }
 }
 
-/// A clock over the system's clock. It counts errors, up to 2^64 - 1, and reads 0 on an error.
+/// A clock over the system's clock. It reads 0 on an error, and counts each reading of 0, up to
+/// 2^64 - 1; no clock that is set reads 0.
 #[derive(Drop)]
 pub struct WallClock<C: time::Clock + Drop> {
     pub clock: C,
@@ -151,14 +152,23 @@ impl<C: time::Clock + Drop> WallClock<C> {
     }
 }
 
+/// Returns the milliseconds since the start of 1970, or 0 on an error.
+fn read_ms<C: time::Clock>(clock: &C) -> u64 {
+    match clock.since_1970() {
+        Ok(elapsed) => elapsed.as_millis().min(u64::MAX as u128) as u64,
+        Err(_) => 0,
+    }
+}
+
 impl<C: time::Clock + Drop> Clock for WallClock<C> {
-    fn now_ms(&mut self) -> u64 {
-        match self.clock.since_1970() {
-            Ok(elapsed) => elapsed.as_millis().min(u64::MAX as u128) as u64,
-            Err(_) => {
-                self.faults = one_more(self.faults);
-                0
-            }
+    fn now_ms(&mut self) -> u64
+        ensures failed { result ≡ 0 → self.new.faults ≡ min (self.old.faults + 1) (2 ^ 64 - 1) }
+        ensures read { 0 < result → self.new.faults ≡ self.old.faults }
+    {
+        let now = read_ms(&self.clock);
+        if now == 0 {
+            self.faults = one_more(self.faults);
         }
+        now
     }
 }
