@@ -1,8 +1,8 @@
 //! The routes of the service: which operation a method and a path name.
-ghost use Rattle.std.specs.Prelude.{◌≡◌, ℕ, List, length, IfOk, IfErr, OnOk};
+ghost use Rattle.std.specs.Prelude.{◌≡◌, ℕ, List, [], length, IfOk, IfErr, OnOk};
 ghost use Rattle.kms_rest.specs.Operations.{Routes};
 ghost use Rattle.kms_rest.specs.Places as spec;
-ghost use Rattle.kms_rest.specs.Rows.{table, with_calls_of_a_key, with_keys, with_versions_and_names};
+ghost use Rattle.kms_rest.specs.Rows.{table, with_calls_of_a_key, with_keys};
 
 use crate::faults::RestFault;
 use crate::operation::Operation;
@@ -12,9 +12,10 @@ use matchit::Router;
 use path_routes::add_route;
 use std::alloc::Global;
 
-/// Adds the routes of keys as a whole and of their metadata.
+/// Adds the routes of keys as a whole and of their metadata to an empty router.
 fn add_routes_of_keys(router: &mut Router<Place>) -> Result<(), NoMemory>
-    ensures { OnOk result (router.new ≡ with_keys router.old) }
+    requires { router.old ≡ [] }
+    ensures { OnOk result (router.new ≡ with_keys []) }
 {
     add_route(router, "/kms/v1/keys", Place::Keys)?;
     add_route(router, "/kms/v1/key/{k}", Place::Key)?;
@@ -27,9 +28,10 @@ fn add_routes_of_keys(router: &mut Router<Place>) -> Result<(), NoMemory>
     Ok(())
 }
 
-/// Adds the routes of a key's versions and of its encrypted keys.
+/// Adds the routes of a key's versions and of its encrypted keys to those of keys.
 fn add_routes_of_a_key(router: &mut Router<Place>) -> Result<(), NoMemory>
-    ensures { OnOk result (router.new ≡ with_calls_of_a_key router.old) }
+    requires { router.old ≡ with_keys [] }
+    ensures { OnOk result (router.new ≡ with_calls_of_a_key (with_keys [])) }
 {
     add_route(router, "/kms/v1/key/{k}/_currentversion", Place::KeyCurrent)?;
     add_route(router, "/kms/v1/key/{k}/_versions", Place::KeyVersions)?;
@@ -38,9 +40,10 @@ fn add_routes_of_a_key(router: &mut Router<Place>) -> Result<(), NoMemory>
     Ok(())
 }
 
-/// Adds the routes of single versions and of lists of keys.
+/// Adds the routes of single versions and of lists of keys to all others.
 fn add_routes_of_versions_and_names(router: &mut Router<Place>) -> Result<(), NoMemory>
-    ensures { OnOk result (router.new ≡ with_versions_and_names router.old) }
+    requires { router.old ≡ with_calls_of_a_key (with_keys []) }
+    ensures { OnOk result (router.new ≡ table) }
 {
     add_route(router, "/kms/v1/keyversion/{v}", Place::Version)?;
     add_route(router, "/kms/v1/keyversion/{v}/_eek", Place::VersionEek)?;

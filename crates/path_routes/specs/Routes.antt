@@ -1,9 +1,9 @@
 -- The rows of a router after a route more.
-use Rattle.std.specs.Prelude.{ℕ, List, Result, Ok, Err}
+use Rattle.std.specs.Prelude.{◌≡◌, ℕ, List, None, Result, Ok, Err}
 use Rattle.matchit.specs.Rows.{RowsOf}
 use Rattle.matchit.specs.Order.{placed}
 use Rattle.matchit.specs.Route.{Scan, parse_route}
-use Rattle.matchit.specs.Router.{RouteOf, route_from}
+use Rattle.matchit.specs.Router.{RouteOf, nearest, route_from}
 use Rattle.matchit.specs.declared.error.InsertError.{InsertError}
 
 -- the rows of a router whose routes have values of a type
@@ -16,3 +16,12 @@ added (Err e) value rows = rows
 
 abbrev pub with_route : {T : Type 0} → List ℕ → T → Table T → Table T
 with_route route value rows = added (parse_route route) value rows
+
+abbrev pub IsApart : {T : Type 0} → Result Scan InsertError → Table T → Type 0
+IsApart (Ok s) rows = nearest s.pattern rows ≡ None
+IsApart (Err e) rows = ⊥
+
+-- The text is a route, and it conflicts with no route of the rows: no path could follow both with none of them
+-- the better. So only a failed allocation keeps it out.
+abbrev pub HasNoConflict : {T : Type 0} → List ℕ → Table T → Type 0
+HasNoConflict route rows = IsApart (parse_route route) rows
