@@ -1,5 +1,5 @@
 //! Sets of names.
-ghost use Rattle.std.specs.Prelude.{◌≡◌, ℕ, List, [], ◌||◌, not, IfOk, OnOk};
+ghost use Rattle.std.specs.Prelude.{◌≡◌, ℕ, List, [], ◌||◌, not, IfOk, OnErr, OnOk};
 ghost use Rattle.std.specs.Str.{bytes_eq};
 ghost use Rattle.prop_text.specs.Properties.{is_among};
 
@@ -34,10 +34,12 @@ impl Names {
         }
     }
 
-    /// Adds a name and returns whether it is new. Takes time logarithmic in the number of names.
+    /// Adds a name and returns whether it is new. Returns `NoMemory` if allocation fails; the set is then
+    /// unchanged. Takes time logarithmic in the number of names.
     pub fn add(&mut self, name: &[u8]) -> Result<bool, NoMemory>
         ensures new { IfOk result (λ new. new ≡ not (is_among name.now self.old)) }
         ensures added { OnOk result ((other : List ℕ) → is_among other self.new ≡ (bytes_eq other name.now || is_among other self.old)) }
+        ensures kept { OnErr result (self.new ≡ self.old) }
     {
         let name = Vec::from_slice(self.alloc, name)?;
         let new = self.names.insert(name)?;
