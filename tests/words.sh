@@ -94,9 +94,9 @@ refuses replay --version
 refuses pipe -V
 
 # Words that are not ASCII.
-refuses $'r\u00e9play'
-refuses $'-\u00e9'
-refuses $'--h\u00e9lp'
+refuses $'r\xc3\xa9play'
+refuses $'-\xc3\xa9'
+refuses $'--h\xc3\xa9lp'
 
 # No word but a command makes a log.
 if [ -n "$(ls -A "$room")" ]; then
