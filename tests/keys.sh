@@ -52,7 +52,7 @@ expect 'the order of the names' 0 ''
 run_here <<<'kms a current key-77'
 expect 'the keys in the next run' 0 "1 version key-77@65534 $material"
 
-# A call takes 1,000 encrypted keys at most.
+# A call takes 1,000 encrypted keys at most. Bad material is looked for before their number.
 batch() {
     yes "k@0:$vector:$sealed" | head -n "$1" | tr '\n' ',' | sed 's/,$//'
 }
@@ -61,6 +61,7 @@ batch() {
     echo "kms a roll k $sealed"
     echo "kms a batch k $(batch 999),k@1:$vector:$sealed"
     echo "kms a batch k $(batch 1001)"
+    echo "kms a batch k $(batch 1000),k@0:$vector:00"
     echo 'kms a generate k 1000'
     echo 'kms a generate k 1001'
 } >"$folder/batches"
@@ -70,10 +71,11 @@ last=$(awk '$1 == 3 { print $NF }' <<<"$output")
 refused=$(grep refused <<<"$output")
 output=$counts$'\n'$last$'\n'$refused
 expect 'batches' 0 "3 1000
-5 1000
+6 1000
 k@1:$vector:$sealed
 4 refused K12 TooManyAsked
-6 refused K12 TooManyAsked"
+5 refused K8 BadMaterial
+7 refused K12 TooManyAsked"
 
 # ---- properties of 10,000 lines
 
