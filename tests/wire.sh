@@ -38,6 +38,14 @@ closes() {
     answered "the last request $1" 0 '404 NoRoute' < <(printf "$1"; printf '%s' "$names")
 }
 
+# responds BYTES RESPONSE NAME: BYTES are answered by the status line and the exception, in a whole response.
+responds() {
+    local body="{\"RemoteException\":{\"exception\":\"$3\",\"message\":\"$3\"}}"
+    output=$(cd "$room" && printf "$1" | "$hkms" pipe)
+    status=$?
+    expect "the response to $1" 3 "HTTP/1.1 $2"$'\r\nContent-Type: application/json\r\nContent-Length: '"${#body}"$'\r\n\r\n'"$body"
+}
+
 # Heads.
 accepts '\r\nGET / HTTP/1.1\r\n\r\n'
 accepts 'GET / HTTP/1.1\n\n'
@@ -66,6 +74,8 @@ for field in 'Transfer-Encoding: chunked' 'TRANSFER-encoding: identity' $'Conten
     $'Content-Length: 9999999\r\nTransfer-Encoding:'; do
     refuses "POST / HTTP/1.1\r\n$field\r\n\r\n" '501 Chunked'
 done
+responds 'POST / HTTP/1.1\r\nContent-Length: 4194305\r\n\r\n' '413 Payload Too Large' BodyTooLong
+responds 'POST / HTTP/1.1\r\nTransfer-Encoding: chunked\r\n\r\n' '501 Not Implemented' Chunked
 
 # Ends of the input: between two requests, in a head and in a body.
 ends '' 0
