@@ -24,8 +24,9 @@ class Part:
 class Run:
     """A run with a fault at a call, and the runs after it: further ones on its disk, or one on each image."""
 
-    def __init__(self, call):
-        self.call = call
+    def __init__(self, title):
+        self.title = title
+        self.call = int(title.split()[1])
         self.parts = [Part()]
 
     @property
@@ -49,7 +50,7 @@ def read_runs(report):
     runs = []
     for line in report.read().splitlines():
         if line.startswith('call '):
-            runs.append(Run(int(line.split()[1])))
+            runs.append(Run(line))
         else:
             runs[-1].add(line)
     return runs
