@@ -152,8 +152,9 @@ impl Kms {
     ///
     /// The access control lists come first: a call that they deny is refused with Denied and has no
     /// effect. Any other refusal leaves the keys unchanged, and draws no word unless allocation or
-    /// the disk fails. Create and Roll return the material of the new version only to users who may
-    /// get keys.
+    /// the disk fails. A crash inside a refused call leaves no record of it in the log, unless the
+    /// reply is StoreFault. Create and Roll return the material of the new version only to users
+    /// who may get keys.
     ///
     /// Create, Roll and Delete settle the pending command first, and are written to the log before
     /// they take effect. If the disk fails, they are refused with StoreFault: the command of the
