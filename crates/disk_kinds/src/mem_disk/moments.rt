@@ -233,8 +233,10 @@ impl Disk for MemDisk {
         ensures kept { Left (now_of self.old) (now_of self.new) (past_of self.old) (past_of self.new) }
         ensures call { CallOn file (state_of self.old) (state_of self.new) }
     {
-        self.plan.call()?;
-        Ok(self.current.file(file).reads.len() as u64)
+        match self.plan.call() {
+            Ok(()) => Ok(self.current.file(file).reads.len() as u64),
+            Err(failed) => Err(failed),
+        }
     }
 
     fn read(&mut self, file: u8, at: u64, buf: &mut [u8]) -> Result<usize, Failed>
