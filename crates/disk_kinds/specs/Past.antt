@@ -1,6 +1,8 @@
 -- What a disk in memory keeps: its files, what a crash may leave of them, and all that was before.
-use Rattle.std.specs.Prelude.{◌≡◌, ◌⊎◌, ℕ, zero, suc, ◌≤◌, ◌<◌, ◌^◌, List, [], ◌∷◌, ◌++◌, length, drop, true}
+use Rattle.std.specs.Prelude.{◌≡◌, ◌⊎◌, ℕ, zero, suc, ◌+◌, ◌-◌, ◌≤◌, ◌<◌, ◌^◌, List, [], ◌∷◌, ◌++◌, length, drop, true}
 use mathlib.Core.Logic.{inl, inr}
+use mathlib.Core.Path.{sym, ap, subst, ◌∙◌}
+use Rattle.std.proofs.lemmas.List.{drop-drop}
 use Rattle.hk_base.specs.Disk.{DiskState, Image, Torn, Cut}
 use Rattle.disk_kinds.specs.declared.mem_disk.Change.{Change}
 use Rattle.disk_kinds.specs.declared.mem_disk.Change.TheVariants.{Written, CutTo}
@@ -95,6 +97,17 @@ none_left (m ∷ past) c was = none_left past c was
 pub only_image : (now : MomentAt) (past : List Moment) (c : Image) → IsImageOf now c ⊎ WasImage (drop (length past) past) c → IsImageOf now c
 only_image now past c (inl here) = here
 only_image now past c (inr was) = absurd (none_left past c was)
+
+was_before : (n : ℕ) (past : List Moment) (c : Image) → WasImage (drop n past) c → WasImage past c
+was_before zero past c was = was
+was_before (suc n) [] c was = was
+was_before (suc n) (m ∷ past) c was = inr (was_before n past c was)
+
+-- an image since a moment is one since each earlier moment
+pub since_earlier : (now : MomentAt) (past : List Moment) (s t : ℕ) (c : Image) → t ≡ s + (t - s) → IsImageOf now c ⊎ WasImage (drop t past) c → IsImageOf now c ⊎ WasImage (drop s past) c
+since_earlier now past s t c is (inl here) = inl here
+since_earlier now past s t c is (inr was) =
+    inr (was_before (t - s) (drop s past) c (subst (λ (l : List Moment). WasImage l c) (ap (λ (n : ℕ). drop n past) is ∙ sym (drop-drop (t - s) s past)) was))
 
 pub within : (d : MemDisk) (f : ℕ) → f < 2 → length ((the_file (now_of d) f).reads) ≤ 2 ^ 62
 within d zero lt = d.current.first.limit

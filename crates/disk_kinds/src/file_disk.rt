@@ -233,6 +233,8 @@ impl Disk for FileDisk {
 
     ghost bounded = { λ d f told lt. Prim.cc told };
 
+    ghost later_leaves_less = { λ d s t c le left. left };
+
     fn len(&mut self, file: u8) -> Result<u64, Failed> {
         match self.file(file).metadata() {
             Ok(metadata) => {

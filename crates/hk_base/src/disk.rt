@@ -86,4 +86,7 @@ pub trait Disk {
 
     /// No file is longer than 2^62 bytes.
     ghost bounded: { (disk : Self) (f : ℕ) → Tells (state disk) → f < 2 → length ((state disk).reads f) ≤ 2 ^ 62 };
+
+    /// What a crash may have left since a moment includes what it may have left since a later one.
+    ghost later_leaves_less: { (disk : Self) (s t : ℕ) (c : Image) → s ≤ t → (state disk).left_since t c → (state disk).left_since s c };
 }

@@ -144,6 +144,8 @@ impl Disk for TrialDisk {
 
     ghost bounded = { λ d f told lt. Prim.cc told };
 
+    ghost later_leaves_less = { λ d s t c le left. left };
+
     fn len(&mut self, file: u8) -> Result<u64, Failed> {
         let course = self.course();
         let size = self.size(file);

@@ -1,10 +1,10 @@
 //! The calls of a disk in memory.
 ghost use Rattle.std.specs.Prelude.{◌≡◌, ◌↔◌, ◌≤◌, ◌<◌, ◌+◌, ◌-◌, ◌^◌, ◌++◌, [], ◌∷◌, min, length, take, drop, OnOk, OnErr, IfOk, IsErr};
-ghost use Rattle.std.proofs.Common.{inl, refl};
+ghost use Rattle.std.proofs.Common.{arith, inl, refl};
 ghost use Rattle.hk_base.specs.Disk.{CallOn, Cut, Follows, Only, Reads, Torn, piece, written};
 ghost use Rattle.disk_kinds.specs.declared.mem_disk.Change.TheVariants.{Written, CutTo};
 ghost use Rattle.disk_kinds.specs.Fakes.{CallMade, FollowsPlan, NextFails};
-ghost use Rattle.disk_kinds.specs.Past.{FileAt, moment_at, file_at, fresh_file, now_of, past_of, plan_of, state_of, reads_of, leaves_of, the_file, only_image, within, Put, Left};
+ghost use Rattle.disk_kinds.specs.Past.{FileAt, moment_at, file_at, fresh_file, now_of, past_of, plan_of, state_of, reads_of, leaves_of, the_file, only_image, since_earlier, within, Put, Left};
 
 use super::{Change, Kept, MemDisk, Moment};
 use crate::calls::CallPlan;
@@ -224,6 +224,8 @@ impl Disk for MemDisk {
     ghost is_one = { λ d f told lt. inl refl };
 
     ghost bounded = { λ d f told lt. within d f lt };
+
+    ghost later_leaves_less = { λ d s t c le left. since_earlier (now_of d) (past_of d) s t c (Prim.omega arith) left };
 
     fn len(&mut self, file: u8) -> Result<u64, Failed>
         requires { file < 2 }

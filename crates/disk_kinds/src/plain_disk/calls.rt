@@ -93,6 +93,8 @@ impl Disk for PlainDisk {
 
     ghost bounded = { λ d f told lt. within d f lt };
 
+    ghost later_leaves_less = { λ d s t c le left. left };
+
     fn len(&mut self, file: u8) -> Result<u64, Failed>
         requires { file < 2 }
         ensures size { result ≡ Ok (length (contents self.old file)) }
