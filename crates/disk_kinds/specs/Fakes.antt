@@ -36,8 +36,9 @@ pub record Supply : Type 0 where
   pub most : ℕ
   pub plan : Plan
 
--- the bytes that were written, and at most how many a write takes
+-- the bytes that were written, how many fit in the memory that is there, and at most how many a write takes
 pub record Collected : Type 0 where
   pub written : List ℕ
+  pub room : ℕ
   pub most : ℕ
   pub plan : Plan

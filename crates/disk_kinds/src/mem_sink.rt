@@ -1,30 +1,30 @@
 //! A sink in memory.
-ghost use Rattle.std.specs.Prelude.{◌≡◌, ◌+◌, ◌<◌, ◌^◌, ◌-◌, [], min, length, Some, IfOk};
+ghost use Rattle.std.specs.Prelude.{◌≡◌, ◌+◌, ◌<◌, ◌^◌, ◌-◌, [], min, length, Some, IfOk, OnErr};
 ghost use Rattle.std.specs.Io.{WritesAtMost};
 ghost use Rattle.std.specs.Io.KnownBytes.{WriteAppends};
 ghost use Rattle.hk_base.specs.Faults.{HasCause, Rose};
-ghost use Rattle.disk_kinds.specs.Fakes.{FollowsPlan};
+ghost use Rattle.disk_kinds.specs.Fakes.{FollowsPlan, NextFails};
 
 use crate::calls::CallPlan;
-use hk_base::{ByteList, Failed, Sink};
+use hk_base::{Failed, Sink};
 use std::alloc::Global;
 use std::marker::Model;
 
 /// A sink that collects bytes in memory, with a plan of the calls that fail.
 #[derive(Drop)]
 pub struct MemSink {
-    bytes: ByteList,
+    bytes: Vec<u8>,
     most: usize,
     plan: CallPlan,
 }
 
 impl Model for MemSink {
-    ghost use Rattle.std.specs.Prelude.{◌<◌};
+    ghost use Rattle.std.specs.Prelude.{◌<◌, vec_capacity};
     ghost use Rattle.disk_kinds.specs.Fakes.{Collected};
 
     ghost Value = { Collected };
 
-    ghost view = { λ s. record { written = s.bytes; most = s.most; plan = s.plan } };
+    ghost view = { λ s. record { written = s.bytes.items; room = vec_capacity s.bytes; most = s.most; plan = s.plan } };
 
     ghost invariant = { λ s. 0 < s.most };
 }
@@ -43,7 +43,7 @@ impl MemSink {
         ensures shortages { result.plan.shortages ≡ 0 }
     {
         MemSink {
-            bytes: ByteList::new(alloc),
+            bytes: Vec::new(alloc),
             most,
             plan: CallPlan::new(failing),
         }
@@ -60,7 +60,7 @@ impl MemSink {
     pub fn into_vec(self) -> Vec<u8>
         ensures { result.items ≡ self.written }
     {
-        self.bytes.into_vec()
+        self.bytes
     }
 
     /// Returns the number of writes that failed, up to 2^64 - 1.
@@ -88,13 +88,14 @@ impl Sink for MemSink {
         ensures bytes { WriteAppends (Some self.old.written) (Some self.new.written) result bytes.now }
         ensures cause { HasCause self.old.plan.faults self.new.plan.faults result }
         ensures nothing { result ≡ Ok 0 → 0 < length bytes.now → Rose self.old.plan.faults self.new.plan.faults }
+        ensures room { OnErr result (¬ NextFails self.old.plan → self.old.room < length self.old.written + min (length bytes.now) self.old.most) }
         ensures count { IfOk result (λ n. n ≡ min (length bytes.now) self.old.most) }
         ensures most { self.new.most ≡ self.old.most }
         ensures plan { FollowsPlan self.old.plan self.new.plan result }
     {
         self.plan.call()?;
         let count = bytes.len().min(self.most);
-        match self.bytes.append(&bytes[..count]) {
+        match self.bytes.extend_from_slice(&bytes[..count]) {
             Ok(()) => Ok(count),
             Err(_) => Err(self.plan.shortage()),
         }
