@@ -1,5 +1,5 @@
 //! Lines of the transcript.
-ghost use Rattle.std.specs.Prelude.{◌≡◌, ◌++◌, OnOk, codes};
+ghost use Rattle.std.specs.Prelude.{◌≡◌, ◌++◌, OnErr, OnOk, codes};
 ghost use Rattle.std.specs.Fmt.{decimal};
 ghost use Rattle.std.specs.List.{flat_map};
 ghost use Rattle.hex.specs.Hex.{encode_lower};
@@ -26,14 +26,26 @@ pub const ESCAPED: AsciiSet = percent_encoding::ascii_set!(
     CONTROLS.add(b' ').add(b'%').add(b',').add(b':')
 );
 
-/// Appends the line of an event's number and answer. If allocation fails, a prefix of the line may
-/// have been appended.
+/// Appends the line of an event's number and answer. Returns `NoMemory` if allocation fails; the list
+/// is then unchanged.
 pub fn write_line(
     alloc: Global,
     number: u64,
     told: &Line,
     out: &mut ByteList,
 ) -> Result<(), NoMemory>
+    ensures ok { OnOk result (out.new ≡ out.old ++ line_text number told.now) }
+    ensures err { OnErr result (out.new ≡ out.old) }
+{
+    // The line is appended as a whole, so that no prefix of it is left in `out`.
+    let mut line = ByteList::new(alloc);
+    write_parts(alloc, number, told, &mut line)?;
+    out.append(line.as_slice())
+}
+
+/// Appends the line of an event's number and answer. If allocation fails, a prefix of the line may
+/// have been appended.
+fn write_parts(alloc: Global, number: u64, told: &Line, out: &mut ByteList) -> Result<(), NoMemory>
     ensures { OnOk result (out.new ≡ out.old ++ line_text number told.now) }
 {
     write_number(number, out)?;
