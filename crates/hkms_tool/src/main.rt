@@ -1,6 +1,13 @@
 //! hkms: the Hadoop key management server.
 #![tactic(auto)]
 
+ghost use Rattle.std.specs.Prelude.{◌≡◌, ◌≢◌, ◌⊎◌, IfErr, MatchResult};
+ghost use Rattle.std.specs.IoError.{error_kind};
+ghost use Rattle.clap.specs.Words.{fault_of};
+ghost use Rattle.command_line.specs.Line as line;
+ghost use Rattle.command_line.specs.Orders.{IsMistake};
+ghost use Rattle.hkms_tool.specs.Starting.{EndsBy, EndsWith};
+
 use command_line::{Order, OrderFault, read_order};
 use disk_kinds::{ChaWords, FileDisk, PlainDisk, Reading, WallClock, Writing, open_source};
 use hk_base::{Disk, Source, Text, write_all};
@@ -39,7 +46,9 @@ const PERMITTING: &[u8] = b"default.key.acl.MANAGEMENT=*\n\
 
 /// Tells of a fault that comes before the input is read, and answers the status: by a last line, but
 /// for a connection, whose output has responses alone.
-fn fault_told(rt: &HostRuntime, order: &Order, line: &[u8], status: u8) -> u8 {
+fn fault_told(rt: &HostRuntime, order: &Order, line: &[u8], status: u8) -> u8
+    ensures { EndsWith status result }
+{
     if matches!(order, Order::Pipe) {
         return status;
     }
@@ -50,6 +59,17 @@ fn fault_told(rt: &HostRuntime, order: &Order, line: &[u8], status: u8) -> u8 {
     }
 }
 
+/// Tells of an error that comes before the input is read, as `fault_told` does. A failed allocation
+/// has a line and a status of its own.
+fn error_told(rt: &HostRuntime, order: &Order, error: &io::Error, line: &[u8], status: u8) -> u8
+    ensures { EndsBy status error.now result }
+{
+    if error.kind() == ErrorKind::OutOfMemory {
+        return fault_told(rt, order, b"no memory\n", 6);
+    }
+    fault_told(rt, order, line, status)
+}
+
 /// Does what the words of the command line say, over a disk.
 fn run_over<A: Source, D: Disk>(
     rt: &HostRuntime,
@@ -57,7 +77,9 @@ fn run_over<A: Source, D: Disk>(
     seed: [u8; 32],
     acls: &mut A,
     disk: &mut D,
-) -> u8 {
+) -> u8
+    ensures { result ≡ 2 → IsMistake (fault_of line.hkms words.now) }
+{
     let mut input = Reading::new(rt.stdin());
     let mut out = Writing::new(rt.stdout());
     let mut rand = ChaWords::from_seed(seed);
@@ -74,6 +96,27 @@ fn run_over<A: Source, D: Disk>(
     )
 }
 
+/// Does what the words of the command line say, over the logs that were opened.
+fn run_on<A: Source>(
+    rt: &HostRuntime,
+    words: &[Text],
+    order: &Order,
+    seed: [u8; 32],
+    acls: &mut A,
+    opened: io::Result<FileDisk>,
+) -> u8
+    ensures usage { result ≡ 2 → IsMistake (fault_of line.hkms words.now) }
+    ensures unopened { IfErr opened (λ error. EndsBy 5 error result) }
+{
+    match opened {
+        Ok(mut disk) => run_over(rt, words, seed, acls, &mut disk),
+        Err(error) => {
+            let _ = eprintln!(rt; "hkms: keys.log and names.log cannot be opened here: {error}");
+            error_told(rt, order, &error, b"store fault\n", 5)
+        }
+    }
+}
+
 /// Does what the words of the command line say, over the logs of the current folder.
 fn run_here<A: Source>(
     rt: &HostRuntime,
@@ -81,44 +124,76 @@ fn run_here<A: Source>(
     order: &Order,
     seed: [u8; 32],
     acls: &mut A,
-) -> u8 {
-    match FileDisk::open(rt, rt.alloc(), ".") {
-        Ok(mut disk) => run_over(rt, words, seed, acls, &mut disk),
-        Err(error) => {
-            let _ = eprintln!(rt; "hkms: keys.log and names.log cannot be opened here: {error}");
-            fault_told(rt, order, b"store fault\n", 5)
-        }
-    }
+) -> u8
+    ensures { result ≡ 2 → IsMistake (fault_of line.hkms words.now) }
+{
+    let opened = FileDisk::open(rt, rt.alloc(), ".");
+    run_on(rt, words, order, seed, acls, opened)
 }
 
-/// Does what the words of the command line say, with the files of the current folder.
-fn run_with_files(rt: &HostRuntime, words: &[Text], order: &Order, seed: [u8; 32]) -> u8 {
-    match open_source(rt, PROPERTIES) {
+/// Does what the words of the command line say, with the properties that were opened. Without a file
+/// of properties every user may do everything.
+fn run_under<A: Source + Drop>(
+    rt: &HostRuntime,
+    words: &[Text],
+    order: &Order,
+    seed: [u8; 32],
+    opened: io::Result<A>,
+) -> u8
+    ensures usage { result ≡ 2 → IsMistake (fault_of line.hkms words.now) }
+    ensures unopened { IfErr opened (λ error. error_kind error ≢ ErrorKind.NotFound → EndsBy 7 error result) }
+{
+    match opened {
         Ok(mut acls) => run_here(rt, words, order, seed, &mut acls),
         Err(error) => {
             if error.kind() == ErrorKind::NotFound {
                 return run_here(rt, words, order, seed, &mut Reading::new(PERMITTING));
             }
             let _ = eprintln!(rt; "hkms: {PROPERTIES} cannot be opened here: {error}");
-            fault_told(rt, order, b"read fault\n", 7)
+            error_told(rt, order, &error, b"read fault\n", 7)
         }
     }
 }
 
 /// Runs words that name no command. Opens no file.
-fn run_without_files(rt: &HostRuntime, words: &[Text], seed: [u8; 32]) -> u8 {
+fn run_without_files(rt: &HostRuntime, words: &[Text], seed: [u8; 32]) -> u8
+    ensures { result ≡ 2 → IsMistake (fault_of line.hkms words.now) }
+{
     let mut acls = Reading::new(io::empty());
     let mut disk = PlainDisk::new(rt.alloc());
     run_over(rt, words, seed, &mut acls, &mut disk)
 }
 
+/// Does what the words of the command line say, with the files of the current folder.
+fn run_with_files(rt: &HostRuntime, words: &[Text], order: &Order, seed: [u8; 32]) -> u8
+    ensures { result ≡ 2 → IsMistake (fault_of line.hkms words.now) }
+{
+    let opened = open_source(rt, PROPERTIES);
+    run_under(rt, words, order, seed, opened)
+}
+
 /// Does what the words of the command line say.
-fn run(rt: &HostRuntime, words: &[Text], seed: [u8; 32]) -> u8 {
+fn run(rt: &HostRuntime, words: &[Text], seed: [u8; 32]) -> u8
+    ensures { result ≡ 2 → IsMistake (fault_of line.hkms words.now) }
+{
     match read_order(rt.alloc(), words) {
         Ok(Order::Replay) => run_with_files(rt, words, &Order::Replay, seed),
         Ok(Order::Pipe) => run_with_files(rt, words, &Order::Pipe, seed),
         Err(OrderFault::NoMemory) => fault_told(rt, &Order::Replay, b"no memory\n", 6),
         _ => run_without_files(rt, words, seed),
+    }
+}
+
+/// Does what the words of the command line say, if they could be read. Words that are not UTF-8 are
+/// refused as words that are not known.
+fn run_words(rt: &HostRuntime, words: io::Result<Vec<Text>>, seed: [u8; 32]) -> u8
+    ensures { MatchResult words
+        (λ words. result ≡ 2 → IsMistake (fault_of line.hkms words.items))
+        (λ error. EndsBy 2 error result) }
+{
+    match words {
+        Ok(words) => run(rt, words.as_slice(), seed),
+        Err(error) => error_told(rt, &Order::Replay, &error, b"usage refused\n", 2),
     }
 }
 
@@ -128,8 +203,6 @@ fn main(rt: HostRuntime) -> ExitCode {
         let _ = write_all(&mut out, b"no random source\n");
         return ExitCode::from(7);
     };
-    // Words that cannot be read are refused as words that are not known.
-    let words = words_given(&rt).unwrap_or(Vec::new(rt.alloc()));
-    let status = run(&rt, words.as_slice(), seed);
-    ExitCode::from(status)
+    let words = words_given(&rt);
+    ExitCode::from(run_words(&rt, words, seed))
 }
