@@ -29,7 +29,7 @@ use Rattle.world_run.specs.declared.kept.KeptReply.{KeptReply}
 use Rattle.world_run.specs.Acknowledged.{Acknowledged, HoldsLogs, Survives}
 use Rattle.world_run.specs.Does.{Happens}
 use Rattle.world_run.specs.Own.{OwnKeysOfEvent, OwnOfEvent, OwnOfPath, OwnOfReply}
-use Rattle.world_run.specs.Keeps.{Fails, KnowsWorld, SoundNow, SoundThrough, Steps, SurvivesNow, SurvivesThrough}
+use Rattle.world_run.specs.Keeps.{Fails, KnowsWorld, RestsNow, SoundFrom, Steps, SurvivesThrough}
 use Rattle.world_run.specs.Ledger.{Hidden, Ledger, hidden_after}
 use Rattle.world_run.specs.Linked.{FilesLinked, LinkedWorld, ServicesFit, SoundFiles}
 use Rattle.world_run.specs.Step.{FinishReply, Step, delete_with, finish_line}
@@ -59,24 +59,16 @@ survives-left d r own_keys own done s fit c left = record {
   names = record { kept = left.names.kept; more = left.names.more; more_is = left.names.more_is; used = _; log = names-left d r own_keys own done s c left };
 }
 
-pub survives-through : (old new : DiskState) (r : RunningWorld) (own_keys : Bool → KeyCommand → Type 0) (own : Bool → EditOp → Type 0) → ServicesFit (world_of r) → (Tells old → LeavesLogs old new r own_keys own)
-    → SurvivesThrough old new r (λ done. Survives (world_of r) done own_keys own)
-survives-through old new r own_keys own fit moments told done s =
-    leaves-weaker old new (IsLeftOfBoth r own_keys own done s.names.used) (Survives (world_of r) done own_keys own) (λ c left. survives-left old r own_keys own done s fit c left) (moments told done s)
-
 -- what is left now, while nothing is written
-left-now : (d : DiskState) (r : RunningWorld) (done : Acknowledged) → r.keys.store.log.file ≡ 0 → r.names.store.log.log.file ≡ 1 → ServicesFit (world_of r) → (s : HoldsLogs d r done) → (c : Image) → IsImage d c
-    → IsLeftOfBoth r NoCommand NothingMore done s.names.used c
-left-now d r done keys_file names_file fit s c image =
-    record { keys = keys-now d r NoCommand done keys_file fit s (c 0) (image 0 (omega arith)); names = names-now d r NothingMore done names_file s (c 1) (image 1 (omega arith)) }
-
-pub survives-now : (d : DiskState) (r : RunningWorld) → r.keys.store.log.file ≡ 0 → r.names.store.log.log.file ≡ 1 → ServicesFit (world_of r) → SurvivesNow d r
-survives-now d r keys_file names_file fit done s c image = survives-left d r NoCommand NothingMore done s fit c (left-now d r done keys_file names_file fit s c image)
+pub left-now : (d : DiskState) (r : RunningWorld) (own_keys : Bool → KeyCommand → Type 0) (own : Bool → EditOp → Type 0) (done : Acknowledged) → r.keys.store.log.file ≡ 0 → r.names.store.log.log.file ≡ 1 → ServicesFit (world_of r) → (s : HoldsLogs d r done) → (c : Image) → IsImage d c
+    → IsLeftOfBoth r own_keys own done s.names.used c
+left-now d r own_keys own done keys_file names_file fit s c image =
+    record { keys = keys-now d r own_keys done keys_file fit s (c 0) (image 0 (omega arith)); names = names-now d r own done names_file s (c 1) (image 1 (omega arith)) }
 
 -- and what is linked there
 
 sound-left : (d : DiskState) (r : RunningWorld) (ledger : Ledger) (place : ℕ) (own_keys : Bool → KeyCommand → Type 0) (own : Bool → EditOp → Type 0) → LinkedFiles (world_of r) ledger place → OwnLinks (world_of r) ledger own → (done : Acknowledged) (s : HoldsLogs d r done)
-    → ServicesFit (world_of r) → (c : Image) → IsLeftOfBoth r own_keys own done s.names.used c → SoundFiles ledger place c
+    → ServicesFit (world_of r) → (c : Image) → IsLeftOfBoth r own_keys own done s.names.used c → SoundFiles (record { ledger = ledger; place = place }) c
 sound-left d r ledger place own_keys own files owns done s fit c left = record {
   commands = done.keys ++ settled_commands left.keys.kept r.keys.store.pending;
   more = left.keys.more;
@@ -95,14 +87,23 @@ sound-left d r ledger place own_keys own files owns done s fit c left = record {
         room-found (done.keys ++ settled_commands left.keys.kept r.keys.store.pending) found left.keys.more (settled left.keys.kept (world_of r).keys).table
         (keys-left d r own_keys own done s fit c left).makes left.keys.fits
 
-pub sound-through : (old new : DiskState) (r : RunningWorld) (h : Hidden) (own_keys : Bool → KeyCommand → Type 0) (own : Bool → EditOp → Type 0) → ServicesFit (world_of r) → LinkedFiles (world_of r) h.ledger h.place → OwnLinks (world_of r) h.ledger own → LeavesLogs old new r own_keys own
-    → SoundThrough old new r h
-sound-through old new r h own_keys own fit files owns moments done s =
-    leaves-weaker old new (IsLeftOfBoth r own_keys own done s.names.used) (SoundFiles h.ledger h.place) (λ c left. sound-left old r h.ledger h.place own_keys own files owns done s fit c left) (moments done s)
+-- what is left is both: logs of what is acknowledged, and files that a run may start from
+pub left-sound : (d : DiskState) (r : RunningWorld) (after : Hidden → Hidden) (own_keys : Bool → KeyCommand → Type 0) (own : Bool → EditOp → Type 0) → ServicesFit (world_of r)
+    → ((h : Hidden) → LinkedWorld (world_of r) h → LinkedFiles (world_of r) (after h).ledger (after h).place) → ((h : Hidden) → LinkedWorld (world_of r) h → OwnLinks (world_of r) (after h).ledger own)
+    → (done : Acknowledged) (s : HoldsLogs d r done) → (c : Image) → IsLeftOfBoth r own_keys own done s.names.used c → Survives (world_of r) done own_keys own c × SoundFrom (LinkedWorld (world_of r)) after c
+left-sound d r after own_keys own fit files owns done s c left =
+    (survives-left d r own_keys own done s fit c left, λ h l. sound-left d r (after h).ledger (after h).place own_keys own (files h l) (owns h l) done s fit c left)
 
-pub sound-now : (d : DiskState) (r : RunningWorld) (h : Hidden) → r.keys.store.log.file ≡ 0 → r.names.store.log.log.file ≡ 1 → ServicesFit (world_of r) → LinkedWorld (world_of r) h → SoundNow d r h
-sound-now d r h keys_file names_file fit l done s c image =
-    sound-left d r h.ledger h.place NoCommand NothingMore (world-files (world_of r) h l) (own-of-nothing (world_of r) h) done s fit c (left-now d r done keys_file names_file fit s c image)
+pub survives-through : (old new : DiskState) (r : RunningWorld) (after : Hidden → Hidden) (own_keys : Bool → KeyCommand → Type 0) (own : Bool → EditOp → Type 0) → ServicesFit (world_of r)
+    → ((h : Hidden) → LinkedWorld (world_of r) h → LinkedFiles (world_of r) (after h).ledger (after h).place) → ((h : Hidden) → LinkedWorld (world_of r) h → OwnLinks (world_of r) (after h).ledger own)
+    → (Tells old → LeavesLogs old new r own_keys own) → SurvivesThrough old new r (λ done c. Survives (world_of r) done own_keys own c × SoundFrom (LinkedWorld (world_of r)) after c)
+survives-through old new r after own_keys own fit files owns moments told done s =
+    leaves-weaker old new (IsLeftOfBoth r own_keys own done s.names.used) (λ c. Survives (world_of r) done own_keys own c × SoundFrom (LinkedWorld (world_of r)) after c)
+    (λ c left. left-sound old r after own_keys own fit files owns done s c left) (moments told done s)
+
+pub rests-now : (d : DiskState) (r : RunningWorld) → r.keys.store.log.file ≡ 0 → r.names.store.log.log.file ≡ 1 → ServicesFit (world_of r) → RestsNow d r
+rests-now d r keys_file names_file fit done s c image =
+    left-sound d r (λ h. h) NoCommand NothingMore fit (world-files (world_of r)) (λ h l. own-of-nothing (world_of r) h) done s c (left-now d r NoCommand NothingMore done keys_file names_file fit s c image)
 
 -- what an event may write keeps the files linked, with the ledger behind it
 
@@ -130,9 +131,9 @@ event-owns : (lines : List PropLine) (w : WorldState) (words : ℕ → ℕ) (now
     → Step lines w words now e fault tells told drawn logged w' → LinkedWorld w h → OwnLinks w (hidden_after w words e told drawn w' h).ledger (OwnOfEvent w e told w')
 event-owns lines w words now e fault tells told drawn logged w' h fit step l = go e step
   where
-    by-path : (c : NPath → NameCall) (path : Option NPath) → OwnLinks w h.ledger (OwnOfPath w.names c path)
+    by-path : (c : NPath → NameCall) (path : Option NPath) → OwnLinks w h.ledger (OwnOfPath w.names c path told w'.names)
     by-path c None = λ kept op own. absurd own
-    by-path c (Some path) = own-of-call w h (c path) fit l
+    by-path c (Some path) = own-of-call w h (c path) told w'.names fit l
 
     go : (x : Event) → Step lines w words now x fault tells told drawn logged w' → OwnLinks w (hidden_after w words x told drawn w' h).ledger (OwnOfEvent w x told w')
     go (event.Kms user c) s = own-of-nothing w h
@@ -142,7 +143,7 @@ event-owns lines w words now e fault tells told drawn logged w' h fit step l = g
     go (event.Delete user path recursive) s = by-path (delete_with recursive) (read_path path)
     go (event.Info user path) s = by-path call.Info (read_path path)
     go (event.List user path) s = by-path call.List (read_path path)
-    go (event.Zones user) s = own-of-call w h call.Zones fit l
+    go (event.Zones user) s = own-of-call w h call.Zones told w'.names fit l
     go (event.AskCreate user path) s = own-of-nothing w h
     go (event.AskZone user path key) s = own-of-nothing w h
     go (event.Draw number) s = λ kept op own. absurd own
@@ -158,22 +159,20 @@ steps lines old new r words now e told r' words' keys_file names_file fit keys_f
   step = record {
     step = does.acts;
     linked = linked;
-    files_open = λ knows h l. linked-promise (world_of r') (hidden_after (world_of r) words e told does.drawn (world_of r') h) fit'.keys.table.names (linked knows h l);
+    files_open = λ knows h l. linked-promise (world_of r') (hidden_after (world_of r) words e told does.drawn (world_of r') h) fit'.keys (linked knows h l);
   };
   rest = does.rest;
   stands = one-holds old new r r' own_keys own does.logged keys_file names_file does.disk;
-  survives = survives-through old new r own_keys own fit moments;
-  survives_then = survives-now new r' keys_file' names_file' fit';
-  sound = λ tells h l. sound-through old new r (hidden_after (world_of r) words e told does.drawn (world_of r') h) own_keys own fit
-      (event-files lines (world_of r) words now e (Rose old.faults new.faults) (Tells old) told does.drawn does.logged (world_of r') h fit does.acts l)
-      (event-owns lines (world_of r) words now e (Rose old.faults new.faults) (Tells old) told does.drawn does.logged (world_of r') h fit does.acts l) (moments tells);
-  sound_then = λ knows h l. sound-now new r' (hidden_after (world_of r) words e told does.drawn (world_of r') h) keys_file' names_file' fit' (linked knows h l);
+  survives = survives-through old new r (hidden_after (world_of r) words e told does.drawn (world_of r')) own_keys own fit
+      (λ h l. event-files lines (world_of r) words now e (Rose old.faults new.faults) (Tells old) told does.drawn does.logged (world_of r') h fit does.acts l)
+      (λ h l. event-owns lines (world_of r) words now e (Rose old.faults new.faults) (Tells old) told does.drawn does.logged (world_of r') h fit does.acts l) moments;
+  rests = rests-now new r' keys_file' names_file' fit';
   run = one-runs old new r r' own_keys own does.logged does.disk;
   lists = does.lists;
 }
   where
     own_keys : Bool → KeyCommand → Type 0
-    own_keys = OwnKeysOfEvent (world_of r) words now e
+    own_keys = OwnKeysOfEvent (world_of r) words now e told (world_of r')
 
     own : Bool → EditOp → Type 0
     own = OwnOfEvent (world_of r) e told (world_of r')

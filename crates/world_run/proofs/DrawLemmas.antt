@@ -1,5 +1,5 @@
 -- What a draw for an ask answers, and what the key that it draws opens to.
-use Rattle.std.proofs.Common.{◌≡◌, ◌⊎◌, inl, inr, ℕ, ◌+◌, ◌*◌, ◌/◌, ◌<◌, ◌≤◌, Bool, true, false, cond, List, [], ◌∷◌, length, Option, Some, None, is_none, find, refl, sym, ap, subst, ◌∙◌, arith}
+use Rattle.std.proofs.Common.{◌≡◌, ◌⊎◌, inl, inr, ℕ, ◌+◌, ◌^◌, ◌*◌, ◌/◌, ◌<◌, ◌≤◌, Bool, true, false, cond, List, [], ◌∷◌, length, Option, Some, None, is_none, find, refl, sym, ap, subst, ◌∙◌, arith}
 use Rattle.std.specs.Prelude.{nat_lt, ◌≢◌, slice_get}
 use Rattle.std.specs.List.{AllByRecursion}
 use Rattle.std.specs.Option.{option_map, option_and_then}
@@ -14,7 +14,7 @@ use Rattle.kms_calls.specs.declared.calls.KmsRefusal.{KmsRefusal}
 use Rattle.kms_calls.specs.declared.calls.KmsRefusal.TheVariants.{NoSuchKey, TooManyAsked}
 use Rattle.kms_calls.specs.declared.calls.KmsReply.{KmsReply}
 use Rattle.kms_calls.specs.declared.calls.KmsReply.TheVariants as reply
-use Rattle.key_rows.specs.Sound.{IsTable, NamesOnce, Rising}
+use Rattle.key_rows.specs.Sound.{IsRow, IsTable, NamesOnce, Rising}
 use Rattle.key_rows.specs.Table.{current_of, find_name, is_named, material_of}
 use Rattle.kms_core.specs.Calls.{KmsActs, NoRoom, Plain, birth_of, causes, current_material, current_version, deed, first_cause, generate_causes, generated, row_of, unless_refused}
 use Rattle.kms_core.specs.Draws.{drawn as drawn_bytes, drawn_dek, drawn_edek, place_of_draw, words_of_draw}
@@ -94,6 +94,18 @@ alone open_by rows row v dek found named h =
 pub opens-among : (rows : List KeyRow) (row : KeyRow) (e : Edek) (dek : Dek) → NamesOnce rows → In row rows → unseals (row ∷ []) e ≡ Some dek → unseals rows e ≡ Some dek
 opens-among rows row e dek once i h = among _ rows row e.version dek once i h
 
+-- and it has the name of the version's key
+named : (open_by : Dek → Dek) (row : KeyRow) (v : VersionName) (dek : Dek) → option_map open_by (material_of (row ∷ []) v) ≡ Some dek → row.name ≡ v.key
+unfolding at-number
+named open_by row v dek h = go (is_named v.key row) refl h
+  where
+    go : (b : Bool) → is_named v.key row ≡ b → option_map open_by (at-number v (cond b (Some row) None)) ≡ Some dek → row.name ≡ v.key
+    go true is h = same-bytes row.name v.key is
+    go false is h = absurd cc
+
+pub opens-named : (row : KeyRow) (e : Edek) (dek : Dek) → unseals (row ∷ []) e ≡ Some dek → row.name ≡ e.version.key
+opens-named row e dek h = named _ row e.version dek h
+
 -- and the other way round, where it is found under its name
 opens-alone : (rows : List KeyRow) (row : KeyRow) (e : Edek) (dek : Dek) → find_name rows e.version.key ≡ Some row → is_named e.version.key row ≡ true → unseals rows e ≡ Some dek
     → unseals (row ∷ []) e ≡ Some dek
@@ -165,6 +177,7 @@ pub record FreshKey (s : KmsState) (words : ℕ → ℕ) (place : ℕ) (name : L
   pub of_draw : e.version ≡ (draw_of s words place name).version
   pub opens : OpensTo s.table.rows (draw_of s words place name) e
   pub born : (draw_of s words place name).birth ≤ s.table.greatest
+  pub recent : 2 ^ 32 ≤ (draw_of s words place name).birth
 
 rising-most : (low top : ℕ) (rows : List KeyRow) → Rising low rows top → (x : KeyRow) → In x rows → x.birth ≤ top
 rising-most low top [] r x i = absurd i
@@ -194,6 +207,7 @@ fresh-key s words place now name e drawn s' table acts one =
           subst (λ (r : KeyRow). unseals (r ∷ []) e ≡ Some (draw_of s words place name).dek) (sym is)
           (opens-alone s.table.rows row.0 e (draw_of s words place name).dek found (ap (λ (k : List ℕ). is_named k row.0) (key ∙ same-bytes row.0.name name named) ∙ named) opened);
       born = subst (λ (b : ℕ). b ≤ s.table.greatest) (sym (ap birth_of row.1)) (rising-most 0 s.table.greatest s.table.rows table.births row.0 (found-in name s.table.rows row.0 row.1));
+      recent = subst (λ (b : ℕ). 2 ^ 32 ≤ b) (sym (ap birth_of row.1)) (each-in IsRow s.table.rows row.0 table.rows (found-in name s.table.rows row.0 row.1)).born;
     }
 
 -- its words

@@ -1,5 +1,5 @@
 -- What a finish makes of the ledger of draws, and of the files.
-use Rattle.std.proofs.Common.{◌≡◌, ◌⊎◌, inl, inr, ℕ, ◌<◌, Bool, true, false, cond, not, ◌&&◌, List, [], ◌∷◌, ◌++◌, length, Option, Some, None, is_none, is_some, refl, sym, ap, subst, ◌∙◌, arith}
+use Rattle.std.proofs.Common.{◌≡◌, ◌⊎◌, inl, inr, ℕ, ◌≤◌, ◌^◌, ◌*◌, ◌<◌, Bool, true, false, cond, not, ◌&&◌, List, [], ◌∷◌, ◌++◌, length, Option, Some, None, is_none, is_some, refl, sym, ap, subst, ◌∙◌, arith}
 use Rattle.std.specs.Prelude.{◌==◌, nat_le}
 use Rattle.std.specs.List.{AllByRecursion}
 use Rattle.std.proofs.lemmas.Bool.Decides.{nat_tests}
@@ -92,9 +92,9 @@ one-kept : (keys : List KeyRow) (replies : List KeptReply) (replied : List (Opti
 one-kept keys replies replied r q d l at other = some-is r q (sym at.1 ∙ ap (numbered replies) (l.one_reply at.0 other.0 d at.2 other.2) ∙ other.1)
 
 pub entered-ledger : (enter : Bool) (ledger : Ledger) (keys : List KeyRow) (replies : List KeptReply) (replied : List (Option Draw)) (asks : List OpenAsk) (a : OpenAsk) (kept : KeptReply) (o : Option Draw) (next : ℕ)
-    → In a asks → a.id ≡ kept.id → a.id < next → IsRising asks → Replied replies replied kept o → RepliesLinked keys replies replied
+    → In a asks → a.id ≡ kept.id → a.id < next → 2 ^ 32 ≤ a.id → IsRising asks → Replied replies replied kept o → RepliesLinked keys replies replied
     → LedgerFits ledger replies replied asks next → LedgerFits (with_entry enter kept o ledger) replies replied (without asks a.id) next
-entered-ledger enter ledger keys replies replied asks a kept o next member same low rising at l g =
+entered-ledger enter ledger keys replies replied asks a kept o next member same low recent rising at l g =
     record {
       one_draw = λ id d f i j. elim (in-entry enter ledger kept o id d i) [
         | inl old ↦ elim (in-entry enter ledger kept o id f j) [
@@ -117,6 +117,7 @@ entered-ledger enter ledger keys replies replied asks a kept o next member same 
         ]
       ];
       below = λ id d i. elim (in-entry enter ledger kept o id d i) [ inl old ↦ g.below id d old | inr new ↦ omega (arith, low, same, new.0) ];
+      recent = λ id d i. elim (in-entry enter ledger kept o id d i) [ inl old ↦ g.recent id d old | inr new ↦ omega (arith, recent, same, new.0) ];
       not_open = λ b d i j. elim (in-entry enter ledger kept o b.id d j) [
         | inl old ↦ g.not_open b d (in-without asks a.id b i) old
         | inr new ↦ without-apart asks a.id rising b i (new.0 ∙ sym same)
@@ -133,7 +134,7 @@ entered-ledger enter ledger keys replies replied asks a kept o next member same 
 entered-draws : (enter : Bool) (ledger : Ledger) (replies : List KeptReply) (replied : List (Option Draw)) (kept : KeptReply) (o : Option Draw) (place : ℕ) (IsBirth : ℕ → Type 0) → Replied replies replied kept o
     → DrawsFit ledger replied place IsBirth → DrawsFit (with_entry enter kept o ledger) replied place IsBirth
 entered-draws enter ledger replies replied kept o place IsBirth at f =
-    record { taken = λ d i. f.taken d (was d i); born = λ d i. f.born d (was d i); apart = λ d g i j. f.apart d g (was d i) (was g j) }
+    record { taken = λ d i. f.taken d (was d i); born = λ d i. f.born d (was d i); recent = λ d i. f.recent d (was d i); apart = λ d g i j. f.apart d g (was d i) (was g j) }
   where
     was : (d : Draw) → IsDrawn (with_entry enter kept o ledger) replied d → IsDrawn ledger replied d
     was d (inl (id, i)) = elim (in-entry enter ledger kept o id d i) [
@@ -217,6 +218,10 @@ pub record Answered (w : WorldState) (h : Hidden) (a : OpenAsk) (kept : KeptRepl
 abbrev pub entered_in : Bool → KeptReply → Option Draw → Hidden → Hidden
 entered_in enter kept o h = record h { ledger = with_entry enter kept o h.ledger }
 
+-- an id of an opening from 1 on
+from-one : (opening id : ℕ) → 0 < opening → opening * 2 ^ 32 ≤ id → 2 ^ 32 ≤ id
+from-one opening id opened here = omega (arith, opened, here)
+
 -- the ask is open no more, and its draw may be entered
 pub linked-finished : (w : WorldState) (h : Hidden) (enter : Bool) (a : OpenAsk) (kept : KeptReply) (o : Option Draw) (names : NameService) → IsNames w.names → Answered w h a kept o
     → names.names.asks ≡ without w.names.names.asks a.id → next_id names.names ≡ next_id w.names.names
@@ -224,13 +229,15 @@ pub linked-finished : (w : WorldState) (h : Hidden) (enter : Bool) (a : OpenAsk)
 linked-finished w h enter a kept o names fit answered asks next files l =
     let member = open-in w.names.names.asks kept.id a answered.opened in
     let low : a.id < next_id w.names.names = each-in (λ (q : OpenAsk). q.id < next_id w.names.names) w.names.names.asks a fit.ids.of_asks member.0 in
+    let present : w.names.names.table.opening * 2 ^ 32 ≤ a.id = each-in (λ (q : OpenAsk). w.names.names.table.opening * 2 ^ 32 ≤ q.id) w.names.names.asks a fit.recent member.0 in
+    let recent : 2 ^ 32 ≤ a.id = from-one w.names.names.table.opening a.id fit.opened present in
     record {
       files = files;
       replies = l.replies;
       draws = entered-draws enter h.ledger w.kept.replies h.replied kept o h.place (IsOldBirth w.keys.keys.table) answered.at l.draws;
       ledger = subst (λ (open_asks : List OpenAsk). LedgerFits (with_entry enter kept o h.ledger) w.kept.replies h.replied open_asks (next_id names.names)) (sym asks)
           (subst (λ (n : ℕ). LedgerFits (with_entry enter kept o h.ledger) w.kept.replies h.replied (without w.names.names.asks a.id) n) (sym next)
-          (entered-ledger enter h.ledger w.keys.keys.table.rows w.kept.replies h.replied w.names.names.asks a kept o (next_id w.names.names) member.0 member.1 low fit.ids.rising answered.at l.replies l.ledger));
+          (entered-ledger enter h.ledger w.keys.keys.table.rows w.kept.replies h.replied w.names.names.asks a kept o (next_id w.names.names) member.0 member.1 low recent fit.ids.rising answered.at l.replies l.ledger));
     }
 
 -- nothing is entered

@@ -23,7 +23,7 @@ use Rattle.kms_acls.specs.declared.answers.Shown.{Shown}
 use Rattle.kms_acls.specs.Verdict.{verdict}
 use Rattle.kms_core.specs.Calls.{KmsActs}
 use Rattle.kms_core.specs.Draws.{words_of_draw}
-use Rattle.kms_core.specs.State.{ServiceState}
+use Rattle.kms_core.specs.State.{IsService, ServiceState, settled as settled_keys}
 use Rattle.kms_core.specs.Users.{ServesUnder}
 use Rattle.name_store.specs.Store.{is_opening}
 use Rattle.name_store.specs.Table.{NameTable, after_table, settled_table}
@@ -54,16 +54,16 @@ use Rattle.world_run.specs.Acknowledged.{Acknowledged}
 use Rattle.world_run.specs.World.{WorldState, numbered, with_names, with_reply}
 use Rattle.world_run.specs.Step.{AskAt, DrawActs, FinishReply, PathActs, Step, WantActs, after_ask, delete_with, finish_line, kept_reply, zone_with}
 use Rattle.world_run.specs.Keeps.{KnowsWorld}
-use Rattle.world_run.specs.Ledger.{Draw, Hidden, Ledger, behind_words, draw_noted, draw_of, draw_told, entered, enters, entry_of, hidden_after, id_of_reply, makes_file}
+use Rattle.world_run.specs.Ledger.{Draw, Hidden, Ledger, Past, behind_words, draw_noted, draw_of, draw_told, entered, enters, entry_of, hidden_after, id_of_reply, makes_file}
 use Rattle.world_run.specs.Promise.{FilesOpen, In, ZoneFilesOpen}
 use Rattle.world_run.specs.Linked.{DrawsFit, FilesLinked, IsOldBirth, IsRecordedBirth, KeyLinked, LedgerFits, LinkedTables, LinkedWorld, ServicesFit, given}
-use Rattle.world_run.proofs.DrawLemmas.{OneDrawn, fresh-key, generate-one, meta-answers, opens-among, words-of-draw}
+use Rattle.world_run.proofs.DrawLemmas.{OneDrawn, fresh-key, generate-one, meta-answers, opens-among, opens-named, words-of-draw}
 use Rattle.world_run.proofs.FinishLemmas.{Answered, entered-files, entered_in, finish-drawn, finish-fits, linked-finished, linked-unentered, open-in, with_entry}
-use Rattle.world_run.proofs.Laters.{same-later, user-later}
+use Rattle.world_run.proofs.Laters.{later-settled, may-wait, names-with, same-later, user-later}
 use Rattle.world_run.proofs.Members.{numbered-beside}
 use Rattle.world_run.proofs.RowLemmas.{InPlace}
 use Rattle.world_run.proofs.RowsAfter.{files-after}
-use Rattle.world_run.proofs.WorldLemmas.{NewReply, ledger-more, linked-ask, linked-keys, linked-names, linked-reopened, linked-reply, linked-restart, linked-words, next-after, next-settled, rows-settled}
+use Rattle.world_run.proofs.WorldLemmas.{NewReply, files-later, ledger-more, linked-ask, linked-keys, linked-names, linked-reopened, linked-reply, linked-restart, linked-words, next-after, next-settled, rows-settled}
 
 -- calls of the namesystem
 
@@ -176,6 +176,7 @@ unkeyed-keeps w h words note wanted reply drawn l none undrawn =
       begins = λ d is. absurd cc;
       ends = λ d is. absurd cc;
       born = λ d is. absurd cc;
+      recent = λ d is. absurd cc;
     }) l)
 
 generated-new : (w : WorldState) (h : Hidden) (words : ℕ → ℕ) (now : ℕ) (note : AskNote) (name : KeyName) (e : Edek) (drawn : ℕ) → ServicesFit w
@@ -193,6 +194,9 @@ generated-new w h words now note name e drawn fit acts one =
       born = λ d is.
           let same : draw_of w.keys.keys words h.place name ≡ d = cc in
           subst (λ (x : Draw). x.birth ≤ w.keys.keys.table.greatest) same fresh.born;
+      recent = λ d is.
+          let same : draw_of w.keys.keys words h.place name ≡ d = cc in
+          subst (λ (x : Draw). 2 ^ 32 ≤ x.birth) same fresh.recent;
     }
 
 made-keeps : (w : WorldState) (h : Hidden) (words : ℕ → ℕ) (now : ℕ) (note : AskNote) (name : KeyName) (reply : KmsReply) (drawn : ℕ) → ServicesFit w → LinkedWorld w h
@@ -395,7 +399,12 @@ files-open ledger replied place IsBirth keys rows replies asks next once f draws
     record {
       open_up = λ x e i is.
           let d = f.files x e i is in
-          record { draw = d.draw; entered = d.entered; of_key = d.of_key; opens = λ row j birth. opens-among keys row e d.draw.dek once j (d.opens row j birth) };
+          record {
+            draw = d.draw;
+            entered = d.entered;
+            of_key = d.of_key;
+            opens = λ row j birth. let alone = d.opens row j birth in (opens-named row e d.draw.dek alone ∙ d.of_key, opens-among keys row e d.draw.dek once j alone);
+          };
       one_draw = fits.one_draw;
       apart = λ i j d g p q unlike. elim (draws.apart d g (inl (i, p)) (inl (j, q))) [
         | inl same ↦ absurd (unlike (fits.one_file i j d p (subst (λ (x : Draw). In (j, x) ledger) (sym same) q)))
@@ -404,15 +413,13 @@ files-open ledger replied place IsBirth keys rows replies asks next once f draws
       of_zone = f.zones;
     }
 
--- without the pending operation the table is as it stands
-unsettled : (pending : Option EditOp) (t : NameTable) → settled_table false pending t ≡ t
-unsettled None t = refl
-unsettled (Some waiting) t = refl
+pub linked-promise : (w : WorldState) (h : Hidden) → IsService w.keys → LinkedWorld w h → ZoneFilesOpen w h
+linked-promise w h fit l kept_keys kept_names =
+    let later = later-settled kept_keys w.keys fit in
+    files-open h.ledger h.replied h.place (IsOldBirth w.keys.keys.table) (settled_keys kept_keys w.keys).table.rows (settled kept_names w.names).table.rows w.kept.replies w.names.names.asks (next_id w.names.names)
+    (names-with kept_keys w.keys.pending w.keys.keys.table fit.table (may-wait w.keys.pending w.keys.keys fit.waits))
+    (files-later h.ledger h.replied h.place (IsOldBirth w.keys.keys.table) w.keys.keys.table.rows (settled_keys kept_keys w.keys).table.rows (settled kept_names w.names).table.rows l.draws later.rows (l.files kept_names))
+    l.draws l.ledger
 
-pub linked-promise : (w : WorldState) (h : Hidden) → NamesOnce w.keys.keys.table.rows → LinkedWorld w h → ZoneFilesOpen w h
-linked-promise w h once l =
-    files-open h.ledger h.replied h.place (IsOldBirth w.keys.keys.table) w.keys.keys.table.rows w.names.names.table.rows w.kept.replies w.names.names.asks (next_id w.names.names) once
-    (subst (λ (t : NameTable). FilesLinked h.ledger w.keys.keys.table.rows t.rows) (unsettled w.names.pending w.names.names.table) (l.files false)) l.draws l.ledger
-
-pub tables-open : (ledger : Ledger) (place : ℕ) (keys : Table) (names : NameTable) → NamesOnce keys.rows → LinkedTables ledger place keys names → FilesOpen ledger keys.rows names.rows
-tables-open ledger place keys names once l = files-open ledger [] place (IsRecordedBirth keys) keys.rows names.rows [] [] ((names.opening + 1) * 2 ^ 32) once l.files l.draws l.fits
+pub tables-open : (past : Past) (keys : Table) (names : NameTable) → NamesOnce keys.rows → LinkedTables past keys names → FilesOpen past.ledger keys.rows names.rows
+tables-open past keys names once l = files-open past.ledger [] past.place (IsRecordedBirth keys) keys.rows names.rows [] [] ((names.opening + 1) * 2 ^ 32) once l.files l.draws l.fits

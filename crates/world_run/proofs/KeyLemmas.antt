@@ -1,13 +1,17 @@
 -- What a crash leaves of the key log: which one command more may stand behind the acknowledged ones.
-use Rattle.std.proofs.Common.{◌≡◌, ℕ, Bool, List, Option, None, Some}
+use Rattle.std.proofs.Common.{◌≡◌, ℕ, Bool, List, Option, None, Some, refl}
 use Rattle.hk_base.specs.Disk.{DiskState}
 use Rattle.hk_base.specs.declared.names.KeyName.{KeyName}
 use Rattle.key_rows.specs.Table.{Table}
+use Rattle.kms_calls.specs.declared.calls.KmsCall.{KmsCall}
 use Rattle.kms_calls.specs.declared.calls.KmsCall.TheVariants as call
+use Rattle.kms_calls.specs.declared.calls.KmsReply.{KmsReply}
 use Rattle.key_rows.specs.declared.rows.KeyCommand.{KeyCommand}
 use Rattle.kms_store.specs.Store.{IsLeftOf, NoCommand, StoreState}
 use Rattle.kms_core.specs.Service.{Logs, OwnOf}
 use Rattle.kms_core.specs.State.{ServiceState}
+use Rattle.hk_events.specs.declared.event.Line.TheVariants as line
+use Rattle.world_run.specs.Own.{OwnOfKeysCall}
 use Rattle.kms_core.proofs.ServiceLemmas.{leaving_more, logs_leaving}
 
 -- what may be written, said in another way
@@ -17,12 +21,19 @@ keys-weaker own other table pending commands bytes f l = leaving_more table pend
 
 -- the calls that asks want change no key, and write nothing
 
-pub generate-logs : (old new : DiskState) (store store' : StoreState) (s : ServiceState) (words : ℕ → ℕ) (now : ℕ) (name : KeyName) (logged : List KeyCommand)
-    → Logs old new store store' (IsLeftOf store.table.keys store.pending (OwnOf s words now (call.Generate name 1))) logged → Logs old new store store' (IsLeftOf store.table.keys store.pending NoCommand) logged
-generate-logs old new store store' s words now name logged l =
-    logs_leaving old new store store' (OwnOf s words now (call.Generate name 1)) NoCommand logged (λ kept command own. let writes : None ≡ Some command = own.1 in absurd (cc writes)) l
+pub generate-logs : (old new : DiskState) (store store' : StoreState) (s : ServiceState) (words : ℕ → ℕ) (now : ℕ) (name : KeyName) (told : KmsReply) (s' : ServiceState) (logged : List KeyCommand)
+    → Logs old new store store' (IsLeftOf store.table.keys store.pending (OwnOf s words now (call.Generate name 1) told s')) logged → Logs old new store store' (IsLeftOf store.table.keys store.pending NoCommand) logged
+generate-logs old new store store' s words now name told s' logged l =
+    logs_leaving old new store store' (OwnOf s words now (call.Generate name 1) told s') NoCommand logged (λ kept command own. let writes : None ≡ Some command = own.is in absurd (cc writes)) l
 
-pub metadata-logs : (old new : DiskState) (store store' : StoreState) (s : ServiceState) (words : ℕ → ℕ) (now : ℕ) (name : KeyName) (logged : List KeyCommand)
-    → Logs old new store store' (IsLeftOf store.table.keys store.pending (OwnOf s words now (call.Metadata name))) logged → Logs old new store store' (IsLeftOf store.table.keys store.pending NoCommand) logged
-metadata-logs old new store store' s words now name logged l =
-    logs_leaving old new store store' (OwnOf s words now (call.Metadata name)) NoCommand logged (λ kept command own. let writes : None ≡ Some command = own.1 in absurd (cc writes)) l
+pub metadata-logs : (old new : DiskState) (store store' : StoreState) (s : ServiceState) (words : ℕ → ℕ) (now : ℕ) (name : KeyName) (told : KmsReply) (s' : ServiceState) (logged : List KeyCommand)
+    → Logs old new store store' (IsLeftOf store.table.keys store.pending (OwnOf s words now (call.Metadata name) told s')) logged → Logs old new store store' (IsLeftOf store.table.keys store.pending NoCommand) logged
+metadata-logs old new store store' s words now name told s' logged l =
+    logs_leaving old new store store' (OwnOf s words now (call.Metadata name) told s') NoCommand logged (λ kept command own. let writes : None ≡ Some command = own.is in absurd (cc writes)) l
+
+-- what a call of a user may write, beside the line that tells the reply
+pub call-logs : (old new : DiskState) (store store' : StoreState) (s : ServiceState) (words : ℕ → ℕ) (now : ℕ) (c : KmsCall) (told : KmsReply) (s' : ServiceState) (logged : List KeyCommand)
+    → Logs old new store store' (IsLeftOf store.table.keys store.pending (OwnOf s words now c told s')) logged
+    → Logs old new store store' (IsLeftOf store.table.keys store.pending (OwnOfKeysCall s words now c (line.Kms told) s')) logged
+call-logs old new store store' s words now c told s' logged l =
+    logs_leaving old new store store' (OwnOf s words now c told s') (OwnOfKeysCall s words now c (line.Kms told) s') logged (λ kept command own. record { reply = told; told_is = refl; own = own }) l

@@ -32,14 +32,14 @@ none-drawn : (d : Draw) → IsDrawn [] [] d → ⊥
 none-drawn d (inl (id, i)) = absurd i
 none-drawn d (inr i) = absurd i
 
-nothing-linked : LinkedTables [] 0 no_keys nothing_logged.table
+nothing-linked : LinkedTables (record { ledger = []; place = 0 }) no_keys nothing_logged.table
 nothing-linked = record {
   files = record {
     files = λ x e i h. elim i [ inl is ↦ let none : None ≡ Some e = ap (λ (y : Entry). edek_of y.row.kind) (sym is) ∙ h in absurd cc | inr none ↦ absurd none ];
     zones = λ x i. elim i [ inl is ↦ subst (λ (y : Entry). FitsZone (key_of_zone root_only y.path) y.row.kind) (sym is) tt | inr none ↦ absurd none ];
   };
-  draws = record { taken = λ d i. absurd (none-drawn d i); born = λ d i. absurd (none-drawn d i); apart = λ d f i j. absurd (none-drawn d i) };
-  fits = record { one_draw = λ id d f i j. absurd i; one_file = λ i j d p q. absurd p; below = λ id d i. absurd i; not_open = λ a d i j. absurd i; its_ask = λ id r d i at. absurd i };
+  draws = record { taken = λ d i. absurd (none-drawn d i); born = λ d i. absurd (none-drawn d i); recent = λ d i. absurd (none-drawn d i); apart = λ d f i j. absurd (none-drawn d i) };
+  fits = record { one_draw = λ id d f i j. absurd i; one_file = λ i j d p q. absurd p; below = λ id d i. absurd i; recent = λ id d i. absurd i; not_open = λ a d i j. absurd i; its_ask = λ id r d i at. absurd i };
 }
 
 pub empty-sound : EmptyFilesAreSound
@@ -58,7 +58,7 @@ empty-sound c keys names = record {
 -- no damage
 
 pub sound-whole : SoundFilesAreWhole
-sound-whole ledger place c at s = (not_damaged (c 0) s.commands s.more s.table at s.keys, names_not_damaged (c 1) s.ops s.more_ops s.made at s.names)
+sound-whole past c at s = (not_damaged (c 0) s.commands s.more s.table at s.keys, names_not_damaged (c 1) s.ops s.more_ops s.made at s.names)
 
 -- the tables that are found
 
@@ -80,6 +80,6 @@ pub no-keys-table : IsTable no_keys
 no-keys-table = record { opening = omega arith; few = omega arith; births = omega arith; names = tt; rows = tt }
 
 pub sound-open : SoundFilesOpen
-sound-open ledger place c s found found_names =
-    tables-open ledger place (settled_table found s.more s.table) (settled_log found_names s.more_ops s.made).table
+sound-open past c s found found_names =
+    tables-open past (settled_table found s.more s.table) (settled_log found_names s.more_ops s.made).table
     (names-with found s.more s.table (replayed-table no_keys s.table s.commands s.keys.spelled no-keys-table s.keys.makes) s.keys.fits) (s.linked found found_names)

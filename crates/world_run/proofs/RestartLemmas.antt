@@ -1,6 +1,6 @@
 -- A restart of either service: what it finds in its log, and what a crash leaves meanwhile.
-use Rattle.std.proofs.Common.{◌≡◌, ◌⊎◌, inl, inr, ℕ, ◌∙◌, Bool, true, false, List, [], ◌∷◌, ◌++◌, refl, sym, ap, subst, ⊎_elim, arith, append_assoc}
-use Rattle.hk_base.specs.Disk.{DiskState, LeavesOnly, RunOn, Tells}
+use Rattle.std.proofs.Common.{◌≡◌, ◌⊎◌, inl, inr, ℕ, ◌≤◌, ◌∙◌, Bool, true, false, List, [], ◌∷◌, ◌++◌, refl, sym, ap, subst, ⊎_elim, arith, append_assoc}
+use Rattle.hk_base.specs.Disk.{DiskState, Image, IsImage, LeavesOnly, RunOn, Tells}
 use Rattle.hk_base.specs.Faults.{Rose}
 use Rattle.hk_base.proofs.Runs.{weaker}
 use Rattle.frame_log.specs.declared.fault.StartFault.{StartFault}
@@ -19,22 +19,32 @@ use Rattle.name_core.specs.Service.{Starts as NamesStart}
 use Rattle.name_core.specs.State.{StandsFor as NamesStandFor}
 use Rattle.hk_events.specs.declared.event.Event.TheVariants as event
 use Rattle.hk_events.specs.declared.event.Line.TheVariants as line
-use Rattle.world_run.specs.Acknowledged.{Acknowledged, HoldsLogs, of_keys, of_names}
+use Rattle.world_run.specs.Acknowledged.{Acknowledged, HoldsLogs, LeavesBoth, Survives, of_keys, of_names}
 use Rattle.world_run.specs.Does.{Happens}
-use Rattle.world_run.specs.Keeps.{Fails}
-use Rattle.world_run.specs.Linked.{ServicesFit}
+use Rattle.world_run.specs.Keeps.{Fails, LeftByRestart, SoundFrom, SurvivesThrough}
+use Rattle.world_run.specs.Ledger.{Hidden}
+use Rattle.world_run.specs.Linked.{LinkedWorld, ServicesFit}
 use Rattle.world_run.specs.Step.{Recovers, RecoversNames}
 use Rattle.world_run.specs.World.{RunningWorld, world_of}
 use Rattle.world_run.proofs.BothLemmas.{LeavesLogs, both-of, on-keys-leaves, on-names-leaves}
-use Rattle.world_run.proofs.CrashLemmas.{sound-through, survives-through}
+use Rattle.world_run.proofs.CrashLemmas.{left-now, left-sound, survives-through}
 use Rattle.world_run.proofs.KeyLemmas.{keys-weaker}
 use Rattle.world_run.proofs.Laters.{may-wait}
-use Rattle.world_run.proofs.SoundLemmas.{own-of-nothing, own-of-opening, world-files}
+use Rattle.world_run.proofs.SoundLemmas.{LinkedFiles, own-of-nothing, own-of-opening, world-files}
+use Rattle.world_run.proofs.StartLemmas.{Moment}
 use Rattle.world_run.proofs.StepLemmas.{own-weaker}
 use Rattle.name_store.proofs.Layers.{finds as finds_names, left_by_start as names_left_by_start, left_by_store as names_left_by_store, not_damaged as names_not_damaged, sound_store as sound_names, stands_once as names_stand_once}
 
 abbrev Held : DiskState → RunningWorld → Type 0
 Held d w = Tells d → (done : Acknowledged) × HoldsLogs d w done
+
+-- what a crash leaves in the end was left before the restart began, or is left by it
+left-then : (old new : DiskState) (w : RunningWorld) (own_keys : Bool → KeyCommand → Type 0) (own : Bool → EditOp → Type 0) → Moment old → Moment new → old.moment ≤ new.moment → (done : Acknowledged)
+    → LeavesBoth old new (λ c. Survives (world_of w) done own_keys own c × SoundFrom (LinkedWorld (world_of w)) (λ h. h) c)
+    → ((c : Image) → IsImage old c → Survives (world_of w) done own_keys own c × SoundFrom (LinkedWorld (world_of w)) (λ h. h) c)
+    → (c : Image) → IsImage new c → Survives (world_of w) done own_keys own c × SoundFrom (LinkedWorld (world_of w)) (λ h. h) c
+left-then old new w own_keys own m n later done moments now c image =
+    ⊎_elim (λ past. now c (m.only c past)) (λ left. left) (moments.before old.moment c (omega arith) (n.counts old.moment c later image))
 
 -- the key management service
 
@@ -110,12 +120,12 @@ keys-restarted old new w w' opening lists of_file fit held s moments run number 
     }
 
 -- the opening failed
-pub keys-fail : (old new : DiskState) (w w' : RunningWorld) (words : ℕ → ℕ) (fault : StartFault) → w' ≡ w → w.keys.store.log.file ≡ 0 → w.names.store.log.log.file ≡ 1 → ServicesFit (world_of w) → Held old w
+pub keys-fail : (old new : DiskState) (w w' : RunningWorld) (words : ℕ → ℕ) (fault : StartFault) → Moment old → Moment new → w' ≡ w → w.keys.store.log.file ≡ 0 → w.names.store.log.log.file ≡ 1 → ServicesFit (world_of w) → Held old w
     → ((at : ℕ) → fault ≡ start.Damaged at → Tells old → IsDamagedAt (old.reads 0) at)
     → (fault ≡ start.Spent → Tells old → (commands : List KeyCommand) × (table : Table) × IsKeyLog (old.reads 0) commands table × (table.opening ≡ 4294967295))
     → (fault ≡ start.StoreFault → Rose old.faults new.faults)
     → (Tells old → LeavesOnly 0 old new (λ c. old.leaves 0 c ⊎ IsLeftByStart (old.reads 0) c)) → RunOn 0 old new → Fails old new w words event.RestartKms 0 fault w' words
-keys-fail old new w w' words fault same keys_file names_file fit held damaged spent cause moments run = record {
+keys-fail old new w w' words fault m n same keys_file names_file fit held damaged spent cause moments run = record {
   restart = refl;
   same = same;
   same_words = refl;
@@ -125,8 +135,8 @@ keys-fail old new w w' words fault same keys_file names_file fit held damaged sp
       let f = finds (old.reads 0) (held told).0.keys w.keys.store.pending w.keys.store.table.keys k.0 k.1 (sound told) k.2 in
       (f.kept, ap (λ (t : Table). t.opening) (sym f.table_is) ∙ k.3);
   cause = cause;
-  survives = survives-through old new w AKeyOpening NothingMore fit left;
-  sound = λ told h l. sound-through old new w h AKeyOpening NothingMore fit (world-files (world_of w) h l) (own-of-nothing (world_of w) h) (left told);
+  survives = survives;
+  survives_then = λ told done s c image. left-then old new w AKeyOpening NothingMore m n run.later done (survives told done s) (now done s) c image;
   run = both-of 0 old new run;
 }
   where
@@ -135,6 +145,15 @@ keys-fail old new w w' words fault same keys_file names_file fit held damaged sp
 
     left : Tells old → LeavesLogs old new w AKeyOpening NothingMore
     left told = on-keys-leaves old new w AKeyOpening NothingMore names_file (keys-left-by-restart old new w keys_file fit moments told)
+
+    files : (h : Hidden) → LinkedWorld (world_of w) h → LinkedFiles (world_of w) h.ledger h.place
+    files = world-files (world_of w)
+
+    survives : SurvivesThrough old new w (LeftByRestart (world_of w) event.RestartKms)
+    survives = survives-through old new w (λ h. h) AKeyOpening NothingMore fit files (λ h l. own-of-nothing (world_of w) h) left
+
+    now : (done : Acknowledged) → HoldsLogs old w done → (c : Image) → IsImage old c → Survives (world_of w) done AKeyOpening NothingMore c × SoundFrom (LinkedWorld (world_of w)) (λ h. h) c
+    now done s c image = left-sound old w (λ h. h) AKeyOpening NothingMore fit files (λ h l. own-of-nothing (world_of w) h) done s c (left-now old w AKeyOpening NothingMore done keys_file names_file fit s c image)
 
 -- the namesystem
 
@@ -204,12 +223,12 @@ names-restarted old new w w' opening keys of_file held s moments run number rest
     }
 
 -- the opening failed
-pub names-fail : (old new : DiskState) (w w' : RunningWorld) (words : ℕ → ℕ) (fault : StartFault) → w' ≡ w → w.keys.store.log.file ≡ 0 → w.names.store.log.log.file ≡ 1 → ServicesFit (world_of w) → Held old w
+pub names-fail : (old new : DiskState) (w w' : RunningWorld) (words : ℕ → ℕ) (fault : StartFault) → Moment old → Moment new → w' ≡ w → w.keys.store.log.file ≡ 0 → w.names.store.log.log.file ≡ 1 → ServicesFit (world_of w) → Held old w
     → ((at : ℕ) → fault ≡ start.Damaged at → Tells old → IsDamagedName (old.reads 1) at)
     → (fault ≡ start.Spent → Tells old → (ops : List EditOp) × (made : Replayed) × IsNameLog (old.reads 1) ops made × (made.table.opening ≡ 4294967295))
     → (fault ≡ start.StoreFault → Rose old.faults new.faults)
     → (Tells old → LeavesOnly 1 old new (λ c. old.leaves 1 c ⊎ IsLeftByNameStart (old.reads 1) c)) → RunOn 1 old new → Fails old new w words event.RestartName 1 fault w' words
-names-fail old new w w' words fault same keys_file names_file fit held damaged spent cause moments run = record {
+names-fail old new w w' words fault m n same keys_file names_file fit held damaged spent cause moments run = record {
   restart = refl;
   same = same;
   same_words = refl;
@@ -219,8 +238,8 @@ names-fail old new w w' words fault same keys_file names_file fit held damaged s
       let f = finds_names (old.reads 1) (held told).0.names w.names.store.log.pending (made_with w.names.store (held told).1.names.used) k.0 k.1 (sound told) k.2 in
       (f.kept, ap (λ (m : Replayed). m.table.opening) (sym f.made_is) ∙ k.3);
   cause = cause;
-  survives = survives-through old new w NoCommand AnOpening fit left;
-  sound = λ told h l. sound-through old new w h NoCommand AnOpening fit (world-files (world_of w) h l) (own-of-opening (world_of w) h fit l) (left told);
+  survives = survives;
+  survives_then = λ told done s c image. left-then old new w NoCommand AnOpening m n run.later done (survives told done s) (now done s) c image;
   run = both-of 1 old new run;
 }
   where
@@ -229,3 +248,12 @@ names-fail old new w w' words fault same keys_file names_file fit held damaged s
 
     left : Tells old → LeavesLogs old new w NoCommand AnOpening
     left told = on-names-leaves old new w NoCommand AnOpening keys_file fit (names-left-by-restart old new w names_file moments told)
+
+    files : (h : Hidden) → LinkedWorld (world_of w) h → LinkedFiles (world_of w) h.ledger h.place
+    files = world-files (world_of w)
+
+    survives : SurvivesThrough old new w (LeftByRestart (world_of w) event.RestartName)
+    survives = survives-through old new w (λ h. h) NoCommand AnOpening fit files (λ h l. own-of-opening (world_of w) h fit l) left
+
+    now : (done : Acknowledged) → HoldsLogs old w done → (c : Image) → IsImage old c → Survives (world_of w) done NoCommand AnOpening c × SoundFrom (LinkedWorld (world_of w)) (λ h. h) c
+    now done s c image = left-sound old w (λ h. h) NoCommand AnOpening fit files (λ h l. own-of-opening (world_of w) h fit l) done s c (left-now old w NoCommand AnOpening done keys_file names_file fit s c image)

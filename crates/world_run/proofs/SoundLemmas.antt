@@ -25,7 +25,7 @@ use Rattle.name_calls.specs.declared.calls.NameRefusal.{NameRefusal}
 use Rattle.name_calls.specs.declared.calls.NameRefusal.TheVariants as refusal
 use Rattle.name_core.specs.Asks.{finish_op, open_ask}
 use Rattle.name_core.specs.Calls.{deed}
-use Rattle.name_core.specs.Service.{FinishServes, FinishServesAt, FinishServesOpen, OwnOf, OwnOfFinish}
+use Rattle.name_core.specs.Service.{FinishServes, FinishServesAt, FinishServesOpen, OwnOfFinish}
 use Rattle.name_core.specs.State.{NameService, next_id, settled as settled_names}
 use Rattle.hk_events.specs.declared.event.Event.{Event}
 use Rattle.hk_events.specs.declared.event.Event.TheVariants as event
@@ -33,6 +33,7 @@ use Rattle.hk_events.specs.declared.event.Line.{Line}
 use Rattle.hk_events.specs.declared.event.Line.TheVariants as line
 use Rattle.world_run.specs.declared.kept.KeptReply.{KeptReply}
 use Rattle.world_run.specs.Acknowledged.{Acknowledged}
+use Rattle.world_run.specs.Own.{OwnOfNamesCall}
 use Rattle.world_run.specs.World.{WorldState, numbered}
 use Rattle.world_run.specs.Step.{FinishReply, Step, finish_line}
 use Rattle.world_run.specs.Ledger.{Draw, Hidden, Ledger, enters, hidden_after, makes_file}
@@ -61,11 +62,12 @@ pub world-files : (w : WorldState) (h : Hidden) → LinkedWorld w h → LinkedFi
 world-files w h l =
     record {
       files = l.files;
-      draws = record { taken = λ d i. l.draws.taken d (was d i); born = λ d i. l.draws.born d (was d i); apart = λ d f i j. l.draws.apart d f (was d i) (was f j) };
+      draws = record { taken = λ d i. l.draws.taken d (was d i); born = λ d i. l.draws.born d (was d i); recent = λ d i. l.draws.recent d (was d i); apart = λ d f i j. l.draws.apart d f (was d i) (was f j) };
       fits = record {
         one_draw = l.ledger.one_draw;
         one_file = l.ledger.one_file;
         below = l.ledger.below;
+        recent = l.ledger.recent;
         not_open = λ a d i j. absurd i;
         its_ask = λ id r d i at. absurd (none-replied r (Some d) at);
       };
@@ -106,7 +108,7 @@ finish-reply-through w words h number fault told drawn logged w' (Some kept) fit
 
 more-words : (w : WorldState) (ledger : Ledger) (place drawn : ℕ) → LinkedFiles w ledger place → LinkedFiles w ledger (place + drawn)
 more-words w ledger place drawn f =
-    record { files = f.files; draws = record { taken = λ d i. let t = f.draws.taken d i in omega (arith, t); born = f.draws.born; apart = f.draws.apart }; fits = f.fits }
+    record { files = f.files; draws = record { taken = λ d i. let t = f.draws.taken d i in omega (arith, t); born = f.draws.born; recent = f.draws.recent; apart = f.draws.apart }; fits = f.fits }
 
 -- a draw enters nothing
 draw-through : (w : WorldState) (words : ℕ → ℕ) (h : Hidden) (number drawn : ℕ) (told : Line) (w' : WorldState) → LinkedFiles w h.ledger (h.place + drawn)
@@ -157,8 +159,8 @@ own-of-opening w h fit l kept (op.File id p edek) own may = absurd cc
 own-of-opening w h fit l kept (op.Remove p) own may = absurd cc
 own-of-opening w h fit l kept (op.Zone p key) own may = absurd cc
 
-pub own-of-call : (w : WorldState) (h : Hidden) (c : NameCall) → ServicesFit w → LinkedWorld w h → OwnLinks w h.ledger (OwnOf w.names c)
-own-of-call w h c fit l kept written own may = go c own.1
+pub own-of-call : (w : WorldState) (h : Hidden) (c : NameCall) (told : Line) (names : NameService) → ServicesFit w → LinkedWorld w h → OwnLinks w h.ledger (OwnOfNamesCall w.names c told names)
+own-of-call w h c told names fit l kept written own may = go c own.own.is
   where
     go : (c : NameCall) → (deed (settled_names kept w.names) c).logs ≡ Some written → FilesLinked h.ledger w.keys.keys.table.rows (after_table (settled_names kept w.names).table written).rows
     go (call.Mkdir p) is =
@@ -253,7 +255,7 @@ opening-left w own made ops bytes is fit left found =
 
 -- the keys of a log, which grew from the world's, beside rows that are linked with the world's keys
 tables-of-files : (w : WorldState) (ledger : Ledger) (place : ℕ) (keys : Table) (names : NameTable) → ServicesFit w → KeysLater w.keys.keys.table keys → HasRoomForBirths keys
-    → LinkedFiles w ledger place → w.names.names.table.opening ≤ names.opening → FilesLinked ledger w.keys.keys.table.rows names.rows → LinkedTables ledger place keys names
+    → LinkedFiles w ledger place → w.names.names.table.opening ≤ names.opening → FilesLinked ledger w.keys.keys.table.rows names.rows → LinkedTables (record { ledger = ledger; place = place }) keys names
 tables-of-files w ledger place keys names fit grew room f rises files =
     record {
       files = files-later ledger [] place (IsOldBirth w.keys.keys.table) w.keys.keys.table.rows keys.rows names.rows f.draws grew.rows files;
@@ -262,6 +264,7 @@ tables-of-files w ledger place keys names fit grew room f rises files =
         one_draw = f.fits.one_draw;
         one_file = f.fits.one_file;
         below = λ id d i. let low = f.fits.below id d i in let few = fit.names.few in higher id w.names.names.table.opening names.opening w.names.names.next low few rises;
+        recent = f.fits.recent;
         not_open = f.fits.not_open;
         its_ask = f.fits.its_ask;
       };
@@ -273,7 +276,7 @@ tables-of-files w ledger place keys names fit grew room f rises files =
 -- the tables that a start finds in what a crash leaves of both logs
 pub tables-through : (w : WorldState) (ledger : Ledger) (place : ℕ) (own : Bool → EditOp → Type 0) (k found : Bool) (more : Option KeyCommand) (made : Replayed) (ops : List EditOp) (bytes : List ℕ) → ServicesFit w → Applies (settled k w.keys).table more
     → HasRoomForBirths (settled_table found more (settled k w.keys).table) → made.table ≡ w.names.names.table → LinkedFiles w ledger place → OwnLinks w ledger own → (left : IsLeftOf made w.names.pending own ops bytes) → (found_names : Bool)
-    → LinkedTables ledger place (settled_table found more (settled k w.keys).table) (settled_log found_names left.more (settled_log left.kept w.names.pending made)).table
+    → LinkedTables (record { ledger = ledger; place = place }) (settled_table found more (settled k w.keys).table) (settled_log found_names left.more (settled_log left.kept w.names.pending made)).table
 tables-through w ledger place own k found more made ops bytes fit may room is f links left found_names =
     let grew = then-later w.keys.keys.table (settled k w.keys).table (settled_table found more (settled k w.keys).table) (later-settled k w.keys fit.keys) (later-with found more (settled k w.keys).table may) in
     tables-of-files w ledger place (settled_table found more (settled k w.keys).table) (settled_log found_names left.more (settled_log left.kept w.names.pending made)).table fit grew room f

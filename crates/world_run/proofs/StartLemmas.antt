@@ -4,39 +4,43 @@ use Rattle.std.specs.Prelude.{⊤, ◌&&◌, IfSome, IsErrOf}
 use Rattle.std.specs.List.{AllByRecursion}
 use Rattle.std.specs.declared.result.Result.{Result}
 use Rattle.std.proofs.lemmas.Bool.Decides.{nat_tests}
+use Rattle.std.proofs.lemmas.List.{map-append}
 use Rattle.hk_base.specs.Disk.{DiskState, Image, IsImage, LeavesOnly, RunOn, Tells}
 use Rattle.hk_base.specs.Faults.{Rose}
 use Rattle.hk_base.proofs.Runs.{begin}
+use Rattle.frame_log.specs.Format.{IsAtRest}
 use Rattle.frame_log.specs.Stands.{LeavesFrom}
 use Rattle.frame_log.specs.declared.fault.StartFault.{StartFault}
 use Rattle.frame_log.specs.declared.fault.StartFault.TheVariants as start
 use Rattle.edit_ops.specs.declared.ops.EditOp.{EditOp}
 use Rattle.edit_ops.specs.declared.ops.EditOp.TheVariants as op
+use Rattle.edit_ops.specs.Records.{HasSpelling as HasNameSpelling}
 use Rattle.key_rows.specs.declared.rows.KeyCommand.{KeyCommand}
 use Rattle.key_rows.specs.declared.rows.KeyCommand.TheVariants.{Opened, Create, Roll, Delete}
-use Rattle.key_rows.specs.Records.{HasSpelling}
+use Rattle.key_rows.specs.Records.{HasSpelling, spelling}
 use Rattle.key_rows.specs.Table.{Table, after, applies}
 use Rattle.key_rows.proofs.Births.{both}
 use Rattle.prop_text.specs.declared.lines.PropLine.{PropLine}
 use Rattle.kms_acls.specs.StandsFor.{StandsFor as ListsFor}
-use Rattle.kms_store.specs.Store.{AKeyOpening, Applies, IsDamagedAt, IsKeyLog, IsLeftByStart, is_key_opening, next_opening, settled_commands, settled_table}
-use Rattle.kms_store.proofs.Layers.{finds, left_by_start, sound_left}
+use Rattle.kms_store.specs.Store.{AKeyOpening, Applies, IsDamagedAt, IsKeyLog, IsLeftByStart, IsLogOf, Opening, is_key_opening, next_opening, settled_commands, settled_table}
+use Rattle.kms_store.proofs.Layers.{finds, left_by_start, log_of_store, sound_left}
 use Rattle.kms_core.specs.Service.{Starts}
-use Rattle.kms_core.specs.State.{Running}
+use Rattle.kms_core.specs.State.{Running, ServiceState}
 use Rattle.kms_core.specs.Users.{RunningKms, running}
 use Rattle.name_store.specs.Store.{AnOpening, IsDamagedAt as IsDamagedName, IsLeftByStart as IsLeftByNameStart, IsNameLog, is_opening}
-use Rattle.name_store.specs.Table.{NameTable, Replayed, after_table, allows, is_fresh, settled_log, settled_ops}
+use Rattle.name_store.specs.Table.{NameTable, Replayed, after_table, allows, is_fresh, next_opening as next_opening_of_names, settled_log, settled_ops}
 use Rattle.name_core.specs.Service.{Starts as NamesStart}
 use Rattle.name_core.specs.State.{RunningNames}
 use Rattle.world_run.specs.declared.fault.WorldFault.{WorldFault}
 use Rattle.world_run.specs.Acknowledged.{LeavesBoth, RunBoth}
-use Rattle.world_run.specs.Keeps.{Begins, LeftByStarts}
-use Rattle.world_run.specs.Ledger.{Ledger, drawn_before}
+use Rattle.world_run.specs.Keeps.{Begins, IsOpenedLog, LeftByFirst, LeftBySecond, LeftByStarts}
+use Rattle.world_run.specs.Ledger.{Past, drawn_before}
 use Rattle.world_run.specs.Linked.{IsOldBirth, IsRecordedBirth, LinkedTables, LinkedWorld, ServicesFit, SoundFiles, StartsSound}
-use Rattle.world_run.specs.Starts.{MayOpenKeys, StartHappens}
+use Rattle.world_run.specs.Starts.{KeysOpened, StartHappens}
 use Rattle.world_run.specs.World.{RunningWorld, WorldState, first_world, world_of}
-use Rattle.world_run.proofs.BothLemmas.{both-of, keys-beside, leaves-keys, leaves-weaker}
-use Rattle.world_run.proofs.CrashLemmas.{sound-now, survives-now}
+use Rattle.world_run.proofs.BothLemmas.{both-of, keys-beside, leaves-keys}
+use Rattle.world_run.proofs.CrashLemmas.{rests-now}
+use Rattle.world_run.proofs.KeepLemmas.{linked-promise}
 use Rattle.world_run.proofs.Laters.{next-rises, recorded-more}
 use Rattle.world_run.proofs.Members.{numbered-in}
 use Rattle.world_run.proofs.SoundLemmas.{none-replied}
@@ -55,40 +59,44 @@ pair-image d a b p q (suc zero) lt = q
 pair-image d a b p q (suc (suc file)) lt = absurd (omega (arith, lt))
 
 -- only the bytes of the two files count
-pair-sound : (ledger : Ledger) (place : ℕ) (c : Image) → SoundFiles ledger place (pair (c 0) (c 1)) → SoundFiles ledger place c
-pair-sound ledger place c s = record { commands = s.commands; more = s.more; table = s.table; ops = s.ops; more_ops = s.more_ops; made = s.made; keys = s.keys; names = s.names; linked = s.linked }
+pair-sound : (past : Past) (c : Image) → SoundFiles past (pair (c 0) (c 1)) → SoundFiles past c
+pair-sound past c s = record { commands = s.commands; more = s.more; table = s.table; ops = s.ops; more_ops = s.more_ops; made = s.made; keys = s.keys; names = s.names; linked = s.linked }
+
+last-has : (commands : List KeyCommand) (command : KeyCommand) → AllByRecursion HasSpelling (commands ++ command ∷ []) → HasSpelling command
+last-has [] command all = all.0
+last-has (x ∷ xs) command all = last-has xs command all.1
 
 -- what a start leaves of one file, beside the other, is sound again
 
 -- a later opening of the key log
-key-opened-linked : (ledger : Ledger) (place : ℕ) (t : Table) (names : NameTable) (opening : ℕ) → t.opening ≤ opening → LinkedTables ledger place t names → LinkedTables ledger place (record t { opening = opening }) names
-key-opened-linked ledger place t names opening le l = record {
+key-opened-linked : (past : Past) (t : Table) (names : NameTable) (opening : ℕ) → t.opening ≤ opening → LinkedTables past t names → LinkedTables past (record t { opening = opening }) names
+key-opened-linked past t names opening le l = record {
   files = l.files;
-  draws = draws-later ledger [] place (IsRecordedBirth t) (IsRecordedBirth (record t { opening = opening })) (λ b h. recorded-more t.opening opening b le h) l.draws;
+  draws = draws-later past.ledger [] past.place (IsRecordedBirth t) (IsRecordedBirth (record t { opening = opening })) (λ b h. recorded-more t.opening opening b le h) l.draws;
   fits = l.fits;
 }
 
-next-key-linked : (ledger : Ledger) (place : ℕ) (t : Table) (names : NameTable) (c : KeyCommand) → is_key_opening c ≡ true → applies t c ≡ true → LinkedTables ledger place t names → LinkedTables ledger place (after t c) names
-next-key-linked ledger place t names (Opened opening) is may l = key-opened-linked ledger place t names opening (next-rises t.opening opening may) l
-next-key-linked ledger place t names (Create birth name bits description created material) is may l = absurd (cc is)
-next-key-linked ledger place t names (Roll birth number material) is may l = absurd (cc is)
-next-key-linked ledger place t names (Delete birth) is may l = absurd (cc is)
+next-key-linked : (past : Past) (t : Table) (names : NameTable) (c : KeyCommand) → is_key_opening c ≡ true → applies t c ≡ true → LinkedTables past t names → LinkedTables past (after t c) names
+next-key-linked past t names (Opened opening) is may l = key-opened-linked past t names opening (next-rises t.opening opening may) l
+next-key-linked past t names (Create birth name bits description created material) is may l = absurd (cc is)
+next-key-linked past t names (Roll birth number material) is may l = absurd (cc is)
+next-key-linked past t names (Delete birth) is may l = absurd (cc is)
 
 -- the command that was pending, kept after all
 key-kept-after-all : (table : Table) (kept : Bool) (more : Option KeyCommand) (c : KeyCommand) → kept ≡ false → more ≡ Some c → after (settled_table kept more table) c ≡ settled_table true more table
 key-kept-after-all table kept more c dropped is =
     (λ i. after (settled_table (dropped i) (is i) table) c) ∙ ap (λ (p : Option KeyCommand). settled_table true p table) (sym is)
 
-keys-linked : (ledger : Ledger) (place : ℕ) (names : NameTable) (more : Option KeyCommand) (table : Table) → ((found : Bool) → LinkedTables ledger place (settled_table found more table) names) → (kept found : Bool) (behind : Option KeyCommand)
+keys-linked : (past : Past) (names : NameTable) (more : Option KeyCommand) (table : Table) → ((found : Bool) → LinkedTables past (settled_table found more table) names) → (kept found : Bool) (behind : Option KeyCommand)
     → IfSome behind (λ c. ((kept ≡ false) × (more ≡ Some c)) ⊎ AKeyOpening kept c) → Applies (settled_table kept more table) behind
-    → LinkedTables ledger place (settled_table found behind (settled_table kept more table)) names
-keys-linked ledger place names more table linked kept found None is may = linked kept
-keys-linked ledger place names more table linked kept false (Some c) is may = linked kept
-keys-linked ledger place names more table linked kept true (Some c) (inl is) may = subst (λ (t : Table). LinkedTables ledger place t names) (sym (key-kept-after-all table kept more c is.0 is.1)) (linked true)
-keys-linked ledger place names more table linked kept true (Some c) (inr is) may = next-key-linked ledger place (settled_table kept more table) names c is may (linked kept)
+    → LinkedTables past (settled_table found behind (settled_table kept more table)) names
+keys-linked past names more table linked kept found None is may = linked kept
+keys-linked past names more table linked kept false (Some c) is may = linked kept
+keys-linked past names more table linked kept true (Some c) (inl is) may = subst (λ (t : Table). LinkedTables past t names) (sym (key-kept-after-all table kept more c is.0 is.1)) (linked true)
+keys-linked past names more table linked kept true (Some c) (inr is) may = next-key-linked past (settled_table kept more table) names c is may (linked kept)
 
-keys-started : (ledger : Ledger) (place : ℕ) (a b left : List ℕ) → SoundFiles ledger place (pair a b) → IsLeftByStart a left → SoundFiles ledger place (pair left b)
-keys-started ledger place a b left s l =
+keys-started : (past : Past) (a b left : List ℕ) → SoundFiles past (pair a b) → IsLeftByStart a left → SoundFiles past (pair left b)
+keys-started past a b left s l =
     let k = left_by_start a s.commands s.more s.table s.keys left l in
     record {
       commands = s.commands ++ settled_commands k.kept s.more;
@@ -99,43 +107,43 @@ keys-started ledger place a b left s l =
       made = s.made;
       keys = sound_left s.table s.more AKeyOpening s.commands left s.keys.spelled s.keys.spelled_more s.keys.makes s.keys.fits k;
       names = s.names;
-      linked = λ found found_names. keys-linked ledger place (settled_log found_names s.more_ops s.made).table s.more s.table (λ again. s.linked again found_names) k.kept found k.more k.more_is k.fits;
+      linked = λ found found_names. keys-linked past (settled_log found_names s.more_ops s.made).table s.more s.table (λ again. s.linked again found_names) k.kept found k.more k.more_is k.fits;
     }
 
 -- a later opening of the edit log
-opened-linked : (ledger : Ledger) (place : ℕ) (keys : Table) (t : NameTable) (opening : ℕ) → t.opening ≤ opening → LinkedTables ledger place keys t → LinkedTables ledger place keys (record t { opening = opening })
-opened-linked ledger place keys t opening le l = record {
+opened-linked : (past : Past) (keys : Table) (t : NameTable) (opening : ℕ) → t.opening ≤ opening → LinkedTables past keys t → LinkedTables past keys (record t { opening = opening })
+opened-linked past keys t opening le l = record {
   files = l.files;
   draws = l.draws;
-  fits = ledger-more ledger [] [] [] ((t.opening + 1) * 2 ^ 32) ((opening + 1) * 2 ^ 32) (omega (arith, le)) l.fits;
+  fits = ledger-more past.ledger [] [] [] ((t.opening + 1) * 2 ^ 32) ((opening + 1) * 2 ^ 32) (omega (arith, le)) l.fits;
 }
 
-next-linked : (ledger : Ledger) (place : ℕ) (keys : Table) (t : NameTable) (o : EditOp) → is_opening o ≡ true → allows t o ≡ true → LinkedTables ledger place keys t → LinkedTables ledger place keys (after_table t o)
-next-linked ledger place keys t (op.Opened opening) is may l = opened-linked ledger place keys t opening (next t.opening opening may) l
+next-linked : (past : Past) (keys : Table) (t : NameTable) (o : EditOp) → is_opening o ≡ true → allows t o ≡ true → LinkedTables past keys t → LinkedTables past keys (after_table t o)
+next-linked past keys t (op.Opened opening) is may l = opened-linked past keys t opening (next t.opening opening may) l
   where
     next : (a b : ℕ) → (b == a + 1) ≡ true → a ≤ b
     next a b h = grind (arith, nat_tests)
-next-linked ledger place keys t (op.Mkdir id p) is may l = absurd (cc is)
-next-linked ledger place keys t (op.File id p edek) is may l = absurd (cc is)
-next-linked ledger place keys t (op.Remove p) is may l = absurd (cc is)
-next-linked ledger place keys t (op.Zone p key) is may l = absurd (cc is)
+next-linked past keys t (op.Mkdir id p) is may l = absurd (cc is)
+next-linked past keys t (op.File id p edek) is may l = absurd (cc is)
+next-linked past keys t (op.Remove p) is may l = absurd (cc is)
+next-linked past keys t (op.Zone p key) is may l = absurd (cc is)
 
 -- the operation that was pending, kept after all
 kept-after-all : (made : Replayed) (kept : Bool) (more : Option EditOp) (o : EditOp) → kept ≡ false → more ≡ Some o → after_table (settled_log kept more made).table o ≡ (settled_log true more made).table
 kept-after-all made kept more o dropped is =
     (λ i. after_table (settled_log (dropped i) (is i) made).table o) ∙ ap (λ (p : Option EditOp). (settled_log true p made).table) (sym is)
 
-names-linked : (ledger : Ledger) (place : ℕ) (keys : Table) (more : Option EditOp) (made : Replayed) → ((found : Bool) → LinkedTables ledger place keys (settled_log found more made).table) → (kept found : Bool) (behind : Option EditOp)
+names-linked : (past : Past) (keys : Table) (more : Option EditOp) (made : Replayed) → ((found : Bool) → LinkedTables past keys (settled_log found more made).table) → (kept found : Bool) (behind : Option EditOp)
     → IfSome behind (λ o. ((kept ≡ false) × (more ≡ Some o)) ⊎ AnOpening kept o) → IfSome behind (λ o. (allows (settled_log kept more made).table o && is_fresh (settled_log kept more made).used o) ≡ true)
-    → LinkedTables ledger place keys (settled_log found behind (settled_log kept more made)).table
-names-linked ledger place keys more made linked kept found None is may = linked kept
-names-linked ledger place keys more made linked kept false (Some o) is may = linked kept
-names-linked ledger place keys more made linked kept true (Some o) (inl is) may = subst (λ (t : NameTable). LinkedTables ledger place keys t) (sym (kept-after-all made kept more o is.0 is.1)) (linked true)
-names-linked ledger place keys more made linked kept true (Some o) (inr is) may =
-    next-linked ledger place keys (settled_log kept more made).table o is (both (allows (settled_log kept more made).table o) (is_fresh (settled_log kept more made).used o) may).0 (linked kept)
+    → LinkedTables past keys (settled_log found behind (settled_log kept more made)).table
+names-linked past keys more made linked kept found None is may = linked kept
+names-linked past keys more made linked kept false (Some o) is may = linked kept
+names-linked past keys more made linked kept true (Some o) (inl is) may = subst (λ (t : NameTable). LinkedTables past keys t) (sym (kept-after-all made kept more o is.0 is.1)) (linked true)
+names-linked past keys more made linked kept true (Some o) (inr is) may =
+    next-linked past keys (settled_log kept more made).table o is (both (allows (settled_log kept more made).table o) (is_fresh (settled_log kept more made).used o) may).0 (linked kept)
 
-names-started : (ledger : Ledger) (place : ℕ) (a b left : List ℕ) → SoundFiles ledger place (pair a b) → IsLeftByNameStart b left → SoundFiles ledger place (pair a left)
-names-started ledger place a b left s l =
+names-started : (past : Past) (a b left : List ℕ) → SoundFiles past (pair a b) → IsLeftByNameStart b left → SoundFiles past (pair a left)
+names-started past a b left s l =
     let n = names_left_by_start b s.ops s.more_ops s.made s.names left l in
     record {
       commands = s.commands;
@@ -146,7 +154,7 @@ names-started ledger place a b left s l =
       made = settled_log n.kept s.more_ops s.made;
       keys = s.keys;
       names = sound_names_left s.made s.more_ops AnOpening s.ops left s.names.spelled s.names.spelled_more s.names.makes s.names.fits n;
-      linked = λ found found_names. names-linked ledger place (settled_table found s.more s.table) s.more_ops s.made (s.linked found) n.kept found_names n.more n.more_is n.fits;
+      linked = λ found found_names. names-linked past (settled_table found s.more s.table) s.more_ops s.made (s.linked found) n.kept found_names n.more n.more_is n.fits;
     }
 
 -- the laws of a disk at a moment, as a start needs them
@@ -156,8 +164,15 @@ pub record Moment (d : DiskState) : Type 0 where
   pub only : (c : Image) → d.left_since d.moment c → IsImage d c
   pub is_one : Tells d → (file : ℕ) → file < 2 → d.leaves file (d.reads file)
 
-left-sound : (old : DiskState) (ledger : Ledger) (place : ℕ) → Moment old → Tells old → StartsSound old ledger place → (c : Image) → LeftByStarts old c → SoundFiles ledger place c
-left-sound old ledger place m told sound c left = pair-sound ledger place c (go left.keys left.names)
+-- what an opened key log is, it is by its start
+by-start : (found bytes : List ℕ) → IsOpenedLog found bytes → IsLeftByStart found bytes
+by-start found bytes o =
+    let command : KeyCommand = next_opening o.table in
+    Opening o.commands o.table o.log
+    (last-has o.commands command o.sound.spelled, inr (inl (subst (λ (payloads : List (List ℕ)). IsAtRest 0 payloads bytes) (map-append spelling o.commands (command ∷ [])) o.sound.log)))
+
+left-sound : (old : DiskState) (past : Past) → Moment old → Tells old → StartsSound old past → (c : Image) → LeftByFirst old c ⊎ LeftBySecond old c → SoundFiles past c
+left-sound old past m told sound c left = pair-sound past c (go left)
   where
     keys-one : old.leaves 0 (old.reads 0)
     keys-one = m.is_one told 0 (omega arith)
@@ -165,17 +180,21 @@ left-sound old ledger place m told sound c left = pair-sound ledger place c (go 
     names-one : old.leaves 1 (old.reads 1)
     names-one = m.is_one told 1 (omega arith)
 
-    go : old.leaves 0 (c 0) ⊎ IsLeftByStart (old.reads 0) (c 0) → old.leaves 1 (c 1) ⊎ IsLeftByNameStart (old.reads 1) (c 1) → SoundFiles ledger place (pair (c 0) (c 1))
-    go (inl a) (inl b) = sound (pair (c 0) (c 1)) (pair-image old (c 0) (c 1) a b)
-    go (inl a) (inr b) = names-started ledger place (c 0) (old.reads 1) (c 1) (sound (pair (c 0) (old.reads 1)) (pair-image old (c 0) (old.reads 1) a names-one)) b
-    go (inr a) (inl b) = keys-started ledger place (old.reads 0) (c 1) (c 0) (sound (pair (old.reads 0) (c 1)) (pair-image old (old.reads 0) (c 1) keys-one b)) a
-    go (inr a) (inr b) =
-        names-started ledger place (c 0) (old.reads 1) (c 1)
-        (keys-started ledger place (old.reads 0) (old.reads 1) (c 0) (sound (pair (old.reads 0) (old.reads 1)) (pair-image old (old.reads 0) (old.reads 1) keys-one names-one)) a) b
+    second : IsLeftByStart (old.reads 0) (c 0) → old.leaves 1 (c 1) ⊎ IsLeftByNameStart (old.reads 1) (c 1) → SoundFiles past (pair (c 0) (c 1))
+    second a (inl b) = keys-started past (old.reads 0) (c 1) (c 0) (sound (pair (old.reads 0) (c 1)) (pair-image old (old.reads 0) (c 1) keys-one b)) a
+    second a (inr b) =
+        names-started past (c 0) (old.reads 1) (c 1)
+        (keys-started past (old.reads 0) (old.reads 1) (c 0) (sound (pair (old.reads 0) (old.reads 1)) (pair-image old (old.reads 0) (old.reads 1) keys-one names-one)) a) b
 
--- whatever was left at each moment
-all-sound : (old new : DiskState) (ledger : Ledger) (place : ℕ) → Moment old → Tells old → LeavesBoth old new (LeftByStarts old) → StartsSound old ledger place → LeavesBoth old new (SoundFiles ledger place)
-all-sound old new ledger place m told moments sound = leaves-weaker old new (LeftByStarts old) (SoundFiles ledger place) (left-sound old ledger place m told sound) moments
+    go : LeftByFirst old c ⊎ LeftBySecond old c → SoundFiles past (pair (c 0) (c 1))
+    go (inl f) = elim f.keys [
+      | inl a ↦ sound (pair (c 0) (c 1)) (pair-image old (c 0) (c 1) a f.names)
+      | inr a ↦ second a (inl f.names)
+    ]
+    go (inr s) = second (by-start (old.reads 0) (c 0) s.keys) s.names
+
+left-by : (old : DiskState) → Moment old → Tells old → (c : Image) → LeftByFirst old c ⊎ LeftBySecond old c → LeftByStarts old c
+left-by old m told c left = record { left = left; sound = λ past sound. left-sound old past m told sound c left }
 
 -- what a crash leaves while both logs are opened
 
@@ -188,21 +207,15 @@ NamesMoments mid new = LeavesOnly 1 mid new (λ c. mid.leaves 1 c ⊎ IsLeftByNa
 tells-on : (file : ℕ) (old mid : DiskState) → RunOn file old mid → Tells old → Tells mid
 tells-on file old mid run told = run.tells ∙ told
 
--- at the end of the first opening
-keys-then : (old mid : DiskState) → Moment old → Moment mid → RunOn 0 old mid → Tells old → KeysMoments old mid → (bytes : List ℕ) → mid.leaves 0 bytes → old.leaves 0 bytes ⊎ IsLeftByStart (old.reads 0) bytes
-keys-then old mid m n run told moments bytes left =
-    let c = pair bytes (mid.reads 1) in
-    ⊎_elim (λ past. inl (m.only c past 0 (omega arith))) (λ now. now.0)
-    (moments.before old.moment c (omega arith) (n.counts old.moment c run.later (pair-image mid bytes (mid.reads 1) left (n.is_one (tells-on 0 old mid run told) 1 (omega arith)))))
+keys-opened : (old new : DiskState) → Moment old → Tells old → KeysMoments old new → LeavesBoth old new (LeftByStarts old)
+keys-opened old new m told moments =
+    leaves-keys old new (λ c. old.leaves 0 c ⊎ IsLeftByStart (old.reads 0) c) (LeftByStarts old) (λ c keys names. left-by old m told c (inl (record { keys = keys; names = names }))) moments
 
-keys-opened : (old new : DiskState) → KeysMoments old new → LeavesBoth old new (LeftByStarts old)
-keys-opened old new moments = leaves-keys old new (λ c. old.leaves 0 c ⊎ IsLeftByStart (old.reads 0) c) (LeftByStarts old) (λ c keys names. record { keys = keys; names = inl names }) moments
-
-both-opened : (old mid new : DiskState) → Moment old → Moment mid → RunOn 0 old mid → Tells old → KeysMoments old mid → NamesMoments mid new → LeavesBoth old new (LeftByStarts old)
-both-opened old mid new m n run told first second = record {
+both-opened : (old mid new : DiskState) → Moment old → RunOn 0 old mid → Tells old → KeysOpened old mid → KeysMoments old mid → NamesMoments mid new → LeavesBoth old new (LeftByStarts old)
+both-opened old mid new m run told opened first second = record {
   before = λ t c le left. ⊎_elim
-      (λ past. ⊎_elim (λ before. inl before) (λ now. inr (record { keys = now.0; names = inl now.1 })) (first.before t c le past))
-      (λ now. inr (record { keys = keys-then old mid m n run told first (c 0) now.1; names = names-then (c 1) now.0 }))
+      (λ past. ⊎_elim (λ before. inl before) (λ now. inr (left-by old m told c (inl (record { keys = now.0; names = now.1 })))) (first.before t c le past))
+      (λ now. inr (left-by old m told c (inr (record { keys = opened (c 0) now.1; names = names-then (c 1) now.0 }))))
       (second.before t c (let later = run.later in omega (arith, le, later)) left);
 }
   where
@@ -269,24 +282,40 @@ names-as-before old mid new run first only = record {
       (only.before t c (omega (arith, le, run.later)) left);
 }
 
+-- a log that was opened has room for its new opening
+
+last-name : (ops : List EditOp) (o : EditOp) → AllByRecursion HasNameSpelling (ops ++ o ∷ []) → HasNameSpelling o
+last-name [] o all = all.0
+last-name (x ∷ xs) o all = last-name xs o all.1
+
+keys-room : (old new : DiskState) (r : Running) → (s : Starts old new r) → Tells old → s.table.opening < 4294967295
+keys-room old new r s told =
+    let k = s.log told in
+    let fits : s.table.opening + 1 < 2 ^ 32 = last-has k.0 (next_opening s.table) k.2.spelled in omega (arith, fits)
+
+names-room : (old new : DiskState) (r : RunningNames) → (s : NamesStart old new r) → Tells old → s.found.opening < 4294967295
+names-room old new r s told =
+    let n = s.log told in
+    let fits : s.found.opening + 1 < 2 ^ 32 = last-name n.0 (next_opening_of_names s.found) n.3.store.log.spelled in omega (arith, fits)
+
 -- the first world
 
-first-linked : (ledger : Ledger) (place : ℕ) (table : Table) (names : NameTable) → LinkedTables ledger place table names → LinkedWorld (first_world table names) (drawn_before place ledger)
-first-linked ledger place table names l = record {
+first-linked : (past : Past) (table : Table) (names : NameTable) → LinkedTables past table names → LinkedWorld (first_world table names) (drawn_before past)
+first-linked past table names l = record {
   files = λ kept. l.files;
   replies = record { as_many = refl; keys_open = λ r o at. absurd (none-replied r o at); one_reply = λ n m d at other. absurd (numbered-in [] n (Some d) at) };
-  draws = draws-later ledger [] place (IsRecordedBirth table) (IsOldBirth (first_world table names).keys.keys.table) (λ b h. inl h) l.draws;
-  ledger = ledger-more ledger [] [] [] ((names.opening + 1) * 2 ^ 32) ((names.opening + 1) * 2 ^ 32 + 1) (omega arith) l.fits;
+  draws = draws-later past.ledger [] past.place (IsRecordedBirth table) (IsOldBirth (first_world table names).keys.keys.table) (λ b h. inl h) l.draws;
+  ledger = ledger-more past.ledger [] [] [] ((names.opening + 1) * 2 ^ 32) ((names.opening + 1) * 2 ^ 32 + 1) (omega arith) l.fits;
 }
 
 -- the two tables that are found in sound files are linked
-found-linked : (ledger : Ledger) (place : ℕ) (a b : List ℕ) (commands : List KeyCommand) (table : Table) (ops : List EditOp) (made : Replayed) → SoundFiles ledger place (pair a b) → IsKeyLog a commands table → IsNameLog b ops made
-    → LinkedTables ledger place table made.table
-found-linked ledger place a b commands table ops made s keys names =
+found-linked : (past : Past) (a b : List ℕ) (commands : List KeyCommand) (table : Table) (ops : List EditOp) (made : Replayed) → SoundFiles past (pair a b) → IsKeyLog a commands table → IsNameLog b ops made
+    → LinkedTables past table made.table
+found-linked past a b commands table ops made s keys names =
     let f = finds a s.commands s.more s.table commands table s.keys keys in
     let g = finds_names b s.ops s.more_ops s.made ops made s.names names in
-    subst (λ (t : Table). LinkedTables ledger place t made.table) (sym f.table_is)
-    (subst (λ (m : Replayed). LinkedTables ledger place (settled_table f.kept s.more s.table) m.table) (sym g.made_is) (s.linked f.kept g.kept))
+    subst (λ (t : Table). LinkedTables past t made.table) (sym f.table_is)
+    (subst (λ (m : Replayed). LinkedTables past (settled_table f.kept s.more s.table) m.table) (sym g.made_is) (s.linked f.kept g.kept))
 
 begins : (old mid new : DiskState) (r : RunningWorld) → Moment old → r.keys.store.log.file ≡ 0 → r.names.store.log.log.file ≡ 1 → ServicesFit (world_of r) → r.kept ≡ record { notes = []; replies = [] }
     → RunOn 0 old mid → RunOn 1 mid new → Starts old mid (running r.keys) → NamesStart mid new r.names → Begins old new r
@@ -303,11 +332,13 @@ begins old mid new r m keys_file names_file fit nothing run other_run ks ns = re
         used = n.1;
         keys = k.1;
         edits = edits told;
+        keys_room = keys-room old mid (running r.keys) ks told;
+        names_room = names-room mid new r.names ns (tells-on 0 old mid run told);
         holds = record { keys = keys-beside mid new r.keys.store _ keys_file other_run (tells-on 0 old mid run told) k.2; names = n.3 };
       };
   linked = linked;
-  survives_then = survives-now new r keys_file names_file fit;
-  sound_then = λ told ledger place sound. sound-now new r (drawn_before place ledger) keys_file names_file fit (linked told ledger place sound);
+  files_open = λ told past sound. linked-promise (world_of r) (drawn_before past) fit.keys (linked told past sound);
+  rests = rests-now new r keys_file names_file fit;
 }
   where
     first : world_of r ≡ first_world ks.table ns.found
@@ -316,11 +347,11 @@ begins old mid new r m keys_file names_file fit nothing run other_run ks ns = re
     edits : (told : Tells old) → IsNameLog (old.reads 1) (ns.log (tells-on 0 old mid run told)).0 (record { table = ns.found; used = (ns.log (tells-on 0 old mid run told)).1 })
     edits told = subst (λ (b : List ℕ). IsNameLog b (ns.log (tells-on 0 old mid run told)).0 (record { table = ns.found; used = (ns.log (tells-on 0 old mid run told)).1 })) (run.other_reads told) (ns.log (tells-on 0 old mid run told)).2
 
-    linked : Tells old → (ledger : Ledger) (place : ℕ) → StartsSound old ledger place → LinkedWorld (world_of r) (drawn_before place ledger)
-    linked told ledger place sound =
-        subst (λ (w : WorldState). LinkedWorld w (drawn_before place ledger)) (sym first)
-        (first-linked ledger place ks.table ns.found
-        (found-linked ledger place (old.reads 0) (old.reads 1) (ks.log told).0 ks.table (ns.log (tells-on 0 old mid run told)).0 _
+    linked : Tells old → (past : Past) → StartsSound old past → LinkedWorld (world_of r) (drawn_before past)
+    linked told past sound =
+        subst (λ (w : WorldState). LinkedWorld w (drawn_before past)) (sym first)
+        (first-linked past ks.table ns.found
+        (found-linked past (old.reads 0) (old.reads 1) (ks.log told).0 ks.table (ns.log (tells-on 0 old mid run told)).0 _
         (sound (pair (old.reads 0) (old.reads 1)) (pair-image old (old.reads 0) (old.reads 1) (m.is_one told 0 (omega arith)) (m.is_one told 1 (omega arith)))) (ks.log told).1 (edits told)))
 
 -- a start, by how it came out
@@ -342,16 +373,27 @@ both-runs old mid new a b = record {
   later = let f = a.later in let g = b.later in omega (arith, f, g);
 }
 
--- a key log that was opened has room for its new opening
-last-has : (commands : List KeyCommand) (command : KeyCommand) → AllByRecursion HasSpelling (commands ++ command ∷ []) → HasSpelling command
-last-has [] command all = all.0
-last-has (x ∷ xs) command all = last-has xs command all.1
-
-pub may-open : (old new : DiskState) (r : Running) → Starts old new r → Tells old → MayOpenKeys (old.reads 0)
-may-open old new r s told =
+-- a key log that was opened has its new opening, and no record is pending
+pub keys-are-opened : (old new : DiskState) (r : Running) → r.store.log.file ≡ 0 → Starts old new r → Tells old → KeysOpened old new
+keys-are-opened old new r of_file s told bytes left =
     let k = s.log told in
-    let fits : s.table.opening + 1 < 2 ^ 32 = last-has k.0 (next_opening s.table) k.2.spelled in
-    (k.0, s.table, k.1, omega (arith, fits))
+    let commands : List KeyCommand = k.0 ++ next_opening s.table ∷ [] in
+    let none : r.store.pending ≡ None = ap (λ (v : ServiceState). v.pending) s.opens in
+    let made : r.store.table.keys ≡ after s.table (next_opening s.table) = ap (λ (v : ServiceState). v.keys.table) s.opens in
+    record {
+      commands = k.0;
+      table = s.table;
+      log = k.1;
+      room = keys-room old new r s told;
+      sound = record {
+        spelled = k.2.spelled;
+        spelled_more = tt;
+        makes = k.2.makes ∙ ap Some made;
+        fits = tt;
+        log = subst (λ (o : Option KeyCommand). IsLogOf commands o bytes) none
+            (log_of_store new r.store commands of_file k.2 bytes (k.2.log.leaves bytes (subst (λ (file : ℕ). new.leaves file bytes) (sym of_file) left)));
+      };
+    }
 
 -- memory is wanting before a log is opened
 pub no-start : (old : DiskState) (lines : List PropLine) → StartHappens old old lines (Err (record { file = 0; fault = start.NoMemory }))
@@ -368,7 +410,6 @@ no-start old lines = record {
   any_moment = λ told. record { before = λ t c le left. inl left };
   since_sync_keys = λ told. inl (inr refl, (begin 0 old (old.leaves 0)).moments);
   since_sync_names = λ told. inl (inl (start.NoMemory, refl), record { before = λ t c le left. inl left });
-  sound = λ told ledger place sound. record { before = λ t c le left. inl left };
   run = both-of 0 old old (begin 0 old (λ c. ⊤)).run;
   cause = λ file is. absurd (no-fault (ap (λ (f : WorldFault). f.fault) (one-fault _ _ is)));
 }
@@ -400,10 +441,9 @@ keys-not-started old new lines fault m damaged spent cause moments since run = r
   spent_names = λ is. absurd (other (ap (λ (f : WorldFault). f.file) (one-fault _ _ is)));
   first_keys = λ fault is. absurd (other (ap (λ (f : WorldFault). f.file) (one-fault _ _ is)));
   first_names = λ fault is. run;
-  any_moment = λ told. keys-opened old new (moments told);
+  any_moment = λ told. keys-opened old new m told (moments told);
   since_sync_keys = λ told. keys (since told);
   since_sync_names = λ told. inl (inl (fault, refl), names-beside-keys old new (moments told));
-  sound = λ told ledger place sound. all-sound old new ledger place m told (keys-opened old new (moments told)) sound;
   run = both-of 0 old new run;
   cause = λ file is. cause (ap (λ (f : WorldFault). f.fault) (one-fault _ _ is));
 }
@@ -425,7 +465,7 @@ pub names-not-started : (old mid new : DiskState) (lines : List PropLine) (keys 
     → ((at : ℕ) → fault ≡ start.Damaged at → Tells mid → IsDamagedName (mid.reads 1) at)
     → (fault ≡ start.Spent → Tells mid → (ops : List EditOp) × (made : Replayed) × IsNameLog (mid.reads 1) ops made × (made.table.opening ≡ 4294967295))
     → (fault ≡ start.StoreFault → Rose mid.faults new.faults)
-    → (Tells old → MayOpenKeys (old.reads 0))
+    → (Tells old → KeysOpened old mid)
     → (Tells old → KeysMoments old mid) → (Tells old → KeysSince old mid (Ok keys)) → RunOn 0 old mid → (Tells mid → NamesMoments mid new) → (Tells mid → NamesSince mid new (no-names fault)) → RunOn 1 mid new
     → StartHappens old new lines (Err (record { file = 1; fault = fault }))
 names-not-started old mid new lines keys fault m n damaged spent cause good first since run second then other_run = record {
@@ -438,12 +478,11 @@ names-not-started old mid new lines keys fault m n damaged spent cause good firs
   spent_names = λ is told.
       let s = spent (ap (λ (f : WorldFault). f.fault) (one-fault _ _ is)) (tells-on 0 old mid run told) in
       record { ops = s.0; made = s.1; log = subst (λ (b : List ℕ). IsNameLog b s.0 s.1) (run.other_reads told) s.2; last = s.3 };
-  first_keys = λ fault is. good;
+  first_keys = λ fault is told bytes left. good told bytes ((other_run.other_leaves bytes).0 left);
   first_names = λ fault is. absurd (other (ap (λ (f : WorldFault). f.file) (one-fault _ _ is)));
   any_moment = moments;
   since_sync_keys = λ told. inr (keys-since old mid new n run told (keys-synced old mid keys (since told)) (second (tells-on 0 old mid run told)) other_run);
   since_sync_names = λ told. names told (then (tells-on 0 old mid run told));
-  sound = λ told ledger place sound. all-sound old new ledger place m told (moments told) sound;
   run = both-runs old mid new run other_run;
   cause = λ file is. rose-since old.faults mid.faults new.faults run.faults (cause (ap (λ (f : WorldFault). f.fault) (one-fault _ _ is)));
 }
@@ -459,7 +498,7 @@ names-not-started old mid new lines keys fault m n damaged spent cause good firs
     names told (inr synced) = inr (names-since old mid new run told synced)
 
     moments : Tells old → LeavesBoth old new (LeftByStarts old)
-    moments told = both-opened old mid new m n run told (first told) (second (tells-on 0 old mid run told))
+    moments told = both-opened old mid new m run told (good told) (first told) (second (tells-on 0 old mid run told))
 
 pub started : (old mid new : DiskState) (lines : List PropLine) (r : RunningWorld) → Moment old → Moment mid → r.keys.store.log.file ≡ 0 → r.names.store.log.log.file ≡ 1 → ServicesFit (world_of r)
     → r.kept ≡ record { notes = []; replies = [] } → ListsFor r.keys.acls lines → Starts old mid (running r.keys) → NamesStart mid new r.names
@@ -478,10 +517,9 @@ started old mid new lines r m n keys_file names_file fit nothing lists ks ns fir
   any_moment = moments;
   since_sync_keys = λ told. inr (keys-since old mid new n run told (keys-synced old mid r.keys (since told)) (second (tells-on 0 old mid run told)) other_run);
   since_sync_names = λ told. inr (names-since old mid new run told (names-synced mid new r.names (then (tells-on 0 old mid run told))));
-  sound = λ told ledger place sound. all-sound old new ledger place m told (moments told) sound;
   run = both-runs old mid new run other_run;
   cause = λ file is. absurd (cc is);
 }
   where
     moments : Tells old → LeavesBoth old new (LeftByStarts old)
-    moments told = both-opened old mid new m n run told (first told) (second (tells-on 0 old mid run told))
+    moments told = both-opened old mid new m run told (keys-are-opened old mid (running r.keys) keys_file ks told) (first told) (second (tells-on 0 old mid run told))

@@ -36,7 +36,7 @@ use Rattle.name_calls.specs.declared.calls.Want.{Want}
 use Rattle.name_calls.specs.declared.calls.Want.TheVariants as want
 use Rattle.name_core.specs.Asks.{Asks}
 use Rattle.name_core.specs.Calls.{superuser}
-use Rattle.name_core.specs.Service.{Acts, FinishActs, Logs as NameLogs}
+use Rattle.name_core.specs.Service.{Acts, FinishActs, Logs as NameLogs, OwnOf}
 use Rattle.name_core.specs.State.{NameState, RunningNames, StandsFor as NamesStandFor, names_of, service_of as names_service}
 use Rattle.hk_events.specs.declared.event.Event.{Event}
 use Rattle.hk_events.specs.declared.event.Event.TheVariants as event
@@ -46,12 +46,12 @@ use Rattle.world_run.specs.declared.fault.WorldFault.{WorldFault}
 use Rattle.world_run.specs.declared.kept.KeptReply.{KeptReply}
 use Rattle.world_run.specs.Acknowledged.{Acknowledged, nothing_acknowledged, of_keys, of_names}
 use Rattle.world_run.specs.Does.{CallHappens, Does, DrawHappens, FinishHappens, Happens, PathHappens, WantHappens}
-use Rattle.world_run.specs.Own.{OwnOfReply}
+use Rattle.world_run.specs.Own.{OwnOfNamesCall, OwnOfReply}
 use Rattle.world_run.specs.Keeps.{Fails}
 use Rattle.world_run.specs.Step.{AskAt, PathActs, Step, after_ask, finish_line, kept_reply, unread_reply, zone_with}
 use Rattle.world_run.specs.World.{RunningWorld, WorldState, numbered, with_names, world_of}
 use Rattle.world_run.proofs.AskLemmas.{ask-stands}
-use Rattle.world_run.proofs.KeyLemmas.{generate-logs, metadata-logs}
+use Rattle.world_run.proofs.KeyLemmas.{call-logs, generate-logs, metadata-logs}
 
 abbrev pub parts : RunningKms → RunningNames → List AskNote → List KeptReply → RunningWorld
 parts keys names notes replies = record { keys = keys; names = names; kept = record { notes = notes; replies = replies } }
@@ -165,6 +165,15 @@ own-weaker own other r used ops bytes f left = record {
 
 -- calls of the namesystem
 
+-- what may be written, beside the line that tells the reply
+own-told : (old new : DiskState) (names names' : RunningNames) (c : NameCall) (told : NameReply) (logged : List EditOp) → NameLogs old new names names' (OwnOf (names_service names) c told (names_service names')) logged
+    → NameLogs old new names names' (OwnOfNamesCall (names_service names) c (line.Name told) (names_service names')) logged
+own-told old new names names' c told logged l = record {
+  stands = l.stands;
+  moments = λ tells ops s. weaker (λ c left. own-weaker _ _ names s.used ops c (λ k op own. record { reply = told; told_is = refl; own = own }) left) (l.moments tells ops s);
+  run = l.run;
+}
+
 pub called : (old new : DiskState) (w : RunningWorld) (keys : RunningKms) (names names' : RunningNames) (notes : List AskNote) (replies : List KeptReply) (user : Text) (c : NameCall) (told : NameReply)
     → parts keys names notes replies ≡ w → Acts old new names user c told names' → CallHappens old new w user c (line.Name told) (parts keys names' notes replies)
 called old new w keys names names' notes replies user c told view acts =
@@ -174,7 +183,7 @@ called old new w keys names names' notes replies user c told view acts =
       logged = of_names acts.logged;
       acts = record { reply = told; names = names_service names'; ops = acts.logged; serves = acts.serves; logged_is = refl; told_is = refl; none_drawn = refl; left = refl };
       rest = λ k. ap words (omega arith);
-      disk = inr (record { ops = acts.logged; logged_is = refl; log = acts.disk; keys = refl });
+      disk = inr (record { ops = acts.logged; logged_is = refl; log = own-told old new names names' c told acts.logged acts.disk; keys = refl });
       lists = refl;
     })
 
@@ -280,7 +289,7 @@ generate-wanted lines old new r r' words words' now user wanted name told as_sup
     (made (subst (λ (u : Text). ActsFor lines u old new r words now (call.Generate name 1) told r' words') as_superuser acts))
   where
     made : ActsFor lines superuser old new r words now (call.Generate name 1) told r' words' → WantHappens lines old new r words now (want.Generate name) (Some told) r' words'
-    made a = record { drawn = a.drawn; commands = a.logged; acts = record { reply = told; serves = a.serves; told_is = refl }; rest = a.rest; log = generate-logs old new r.store r'.store (service_of (running r)) words now name a.logged a.disk; lists = a.lists }
+    made a = record { drawn = a.drawn; commands = a.logged; acts = record { reply = told; serves = a.serves; told_is = refl }; rest = a.rest; log = generate-logs old new r.store r'.store (service_of (running r)) words now name told (service_of (running r')) a.logged a.disk; lists = a.lists }
 
 pub metadata-wanted : (lines : List PropLine) (old new : DiskState) (r r' : RunningKms) (words words' : ℕ → ℕ) (now : ℕ) (user : Text) (wanted : Want) (name : KeyName) (told : KmsReply) → user ≡ superuser → wanted ≡ want.Metadata name
     → ActsFor lines user old new r words now (call.Metadata name) told r' words' → WantHappens lines old new r words now wanted (Some told) r' words'
@@ -289,7 +298,7 @@ metadata-wanted lines old new r r' words words' now user wanted name told as_sup
     (made (subst (λ (u : Text). ActsFor lines u old new r words now (call.Metadata name) told r' words') as_superuser acts))
   where
     made : ActsFor lines superuser old new r words now (call.Metadata name) told r' words' → WantHappens lines old new r words now (want.Metadata name) (Some told) r' words'
-    made a = record { drawn = a.drawn; commands = a.logged; acts = record { reply = told; serves = a.serves; told_is = refl }; rest = a.rest; log = metadata-logs old new r.store r'.store (service_of (running r)) words now name a.logged a.disk; lists = a.lists }
+    made a = record { drawn = a.drawn; commands = a.logged; acts = record { reply = told; serves = a.serves; told_is = refl }; rest = a.rest; log = metadata-logs old new r.store r'.store (service_of (running r)) words now name told (service_of (running r')) a.logged a.disk; lists = a.lists }
 
 -- an event, by what it was
 
@@ -304,7 +313,7 @@ kms-happens lines old new w keys keys' names notes replies words words' now e us
       logged = of_keys acts.logged;
       acts = record { reply = reply; keys = service_of (running keys'); commands = acts.logged; serves = acts.serves; logged_is = refl; told_is = refl; left = refl };
       rest = acts.rest;
-      disk = inl (record { commands = acts.logged; logged_is = refl; log = acts.disk; names = refl });
+      disk = inl (record { commands = acts.logged; logged_is = refl; log = call-logs old new keys.store keys'.store (service_of (running keys)) words now c reply (service_of (running keys')) acts.logged acts.disk; names = refl });
       lists = acts.lists;
     }))
 

@@ -50,7 +50,7 @@ replies-later ledger replied place IsBirth olds keys replies draws later l =
     }
 
 pub draws-later : (ledger : Ledger) (replied : List (Option Draw)) (place : ℕ) (IsBirth IsLater : ℕ → Type 0) → ((b : ℕ) → IsBirth b → IsLater b) → DrawsFit ledger replied place IsBirth → DrawsFit ledger replied place IsLater
-draws-later ledger replied place IsBirth IsLater later d = record { taken = d.taken; born = λ x i. later x.birth (d.born x i); apart = d.apart }
+draws-later ledger replied place IsBirth IsLater later d = record { taken = d.taken; born = λ x i. later x.birth (d.born x i); recent = d.recent; apart = d.apart }
 
 pub linked-keys : (w : WorldState) (h : Hidden) (keys : ServiceState) → KeysLater w.keys.keys.table keys.keys.table → LinkedWorld w h → LinkedWorld (record w { keys = keys }) h
 linked-keys w h keys later l =
@@ -66,7 +66,7 @@ linked-words w h drawn l =
     record {
       files = l.files;
       replies = l.replies;
-      draws = record { taken = λ x i. let t = l.draws.taken x i in omega (arith, t); born = l.draws.born; apart = l.draws.apart };
+      draws = record { taken = λ x i. let t = l.draws.taken x i in omega (arith, t); born = l.draws.born; recent = l.draws.recent; apart = l.draws.apart };
       ledger = l.ledger;
     }
 
@@ -114,7 +114,7 @@ next-settled kept s fit = ap (λ (n : ℕ). n * 2 ^ 32 + s.names.next) (opening-
 pub ledger-more : (ledger : Ledger) (replies : List KeptReply) (replied : List (Option Draw)) (asks : List OpenAsk) (next more : ℕ) → next ≤ more
     → LedgerFits ledger replies replied asks next → LedgerFits ledger replies replied asks more
 ledger-more ledger replies replied asks next more over f =
-    record { one_draw = f.one_draw; one_file = f.one_file; below = λ id d i. let h = f.below id d i in omega (arith, h, over); not_open = f.not_open; its_ask = f.its_ask }
+    record { one_draw = f.one_draw; one_file = f.one_file; below = λ id d i. let h = f.below id d i in omega (arith, h, over); recent = f.recent; not_open = f.not_open; its_ask = f.its_ask }
 
 pub linked-names : (w : WorldState) (h : Hidden) (names : NameService) → ((kept : Bool) → FilesLinked h.ledger w.keys.keys.table.rows (settled_names kept names).table.rows)
     → LedgerFits h.ledger w.kept.replies h.replied names.names.asks (next_id names.names) → LinkedWorld w h → LinkedWorld (record w { names = names }) h
@@ -131,6 +131,7 @@ linked-reopened w h kept table is fit l =
           let low = l.ledger.below id d i in
           let few = fit.few in
           later id w.names.names.table.opening table.opening w.names.names.next low few (ap (λ (t : NameTable). t.opening) is ∙ opening-settled kept w.names fit);
+      recent = l.ledger.recent;
       not_open = λ a d i j. absurd i;
       its_ask = l.ledger.its_ask;
     }) l
@@ -147,6 +148,7 @@ asks-more ledger replies replied asks q next new f =
       one_draw = f.one_draw;
       one_file = f.one_file;
       below = λ id d i. let h = f.below id d i in omega (arith, h);
+      recent = f.recent;
       not_open = λ a d i k. elim (in-more a q asks i) [
         | inl old ↦ f.not_open a d old k
         | inr is ↦ let h = f.below a.id d k in absurd (omega (arith, h, new, ap (λ (b : OpenAsk). b.id) is))
@@ -173,6 +175,7 @@ pub record NewReply (h : Hidden) (keys : ServiceState) (drawn : ℕ) (r : KeptRe
   pub begins : (d : Draw) → o ≡ Some d → h.place ≤ d.place
   pub ends : (d : Draw) → o ≡ Some d → d.place + words_of_draw (length d.dek) ≤ h.place + drawn
   pub born : (d : Draw) → o ≡ Some d → d.birth ≤ keys.keys.table.greatest
+  pub recent : (d : Draw) → o ≡ Some d → 2 ^ 32 ≤ d.birth
 
 drawn-before : (ledger : Ledger) (replied : List (Option Draw)) (o : Option Draw) (d : Draw) → IsDrawn ledger (replied ++ o ∷ []) d → IsDrawn ledger replied d ⊎ (Some d ≡ o)
 drawn-before ledger replied o d (inl i) = inl (inl i)
@@ -188,6 +191,7 @@ draws-reply w h keys drawn r o births n f =
     record {
       taken = λ d i. elim (drawn-before h.ledger h.replied o d i) [ inl old ↦ let t = f.taken d old in omega (arith, t) | inr is ↦ n.ends d (sym is) ];
       born = λ d i. elim (drawn-before h.ledger h.replied o d i) [ inl old ↦ births d.birth (f.born d old) | inr is ↦ inr (n.born d (sym is)) ];
+      recent = λ d i. elim (drawn-before h.ledger h.replied o d i) [ inl old ↦ f.recent d old | inr is ↦ n.recent d (sym is) ];
       apart = λ d g i j. elim (drawn-before h.ledger h.replied o d i) [
         | inl old ↦ elim (drawn-before h.ledger h.replied o g j) [
           | inl other ↦ f.apart d g old other
@@ -244,6 +248,7 @@ ledger-reply w h keys drawn r o n f l g =
       one_draw = g.one_draw;
       one_file = g.one_file;
       below = g.below;
+      recent = g.recent;
       not_open = g.not_open;
       its_ask = λ id q d i at. elim (replied-before w.kept.replies h.replied r o q (Some d) l.as_many at) [
         | inl old ↦ g.its_ask id q d i old

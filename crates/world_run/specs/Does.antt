@@ -16,13 +16,13 @@ use Rattle.name_store.specs.Store.{NothingMore}
 use Rattle.name_calls.specs.declared.calls.AskNote.{AskNote}
 use Rattle.name_calls.specs.declared.calls.NameCall.{NameCall}
 use Rattle.name_calls.specs.declared.calls.Want.{Want}
-use Rattle.name_core.specs.Service.{Logs as NameLogs, OwnOf}
+use Rattle.name_core.specs.Service.{Logs as NameLogs}
 use Rattle.hk_events.specs.declared.event.Event.{Event}
 use Rattle.hk_events.specs.declared.event.Line.{Line}
 use Rattle.world_run.specs.declared.kept.KeptReply.{KeptReply}
 use Rattle.world_run.specs.Acknowledged.{Acknowledged, of_keys, of_names}
 use Rattle.world_run.specs.Step.{DrawActs, FinishReply, NamesAct, PathActs, Step, WantActs}
-use Rattle.world_run.specs.Own.{OwnKeysOfEvent, OwnOfEvent, OwnOfPath, OwnOfReply}
+use Rattle.world_run.specs.Own.{OwnKeysOfEvent, OwnOfEvent, OwnOfNamesCall, OwnOfPath, OwnOfReply}
 use Rattle.world_run.specs.World.{RunningWorld, world_of}
 
 -- The key log grew by the commands acknowledged, and the namesystem is as it was.
@@ -52,19 +52,19 @@ pub record Does (old new : DiskState) (r r' : RunningWorld) (words words' : ℕ 
 -- an event that happens so
 abbrev pub Happens : List PropLine → DiskState → DiskState → RunningWorld → (ℕ → ℕ) → ℕ → Event → Line → RunningWorld → (ℕ → ℕ) → Type 0
 Happens lines old new r words now e told r' words' =
-    Does old new r r' words words' (OwnKeysOfEvent (world_of r) words now e) (OwnOfEvent (world_of r) e told (world_of r'))
+    Does old new r r' words words' (OwnKeysOfEvent (world_of r) words now e told (world_of r')) (OwnOfEvent (world_of r) e told (world_of r'))
     (λ drawn logged. Step lines (world_of r) words now e (Rose old.faults new.faults) (Tells old) told drawn logged (world_of r'))
 
 -- calls of the namesystem
 
 abbrev pub CallHappens : DiskState → DiskState → RunningWorld → Text → NameCall → Line → RunningWorld → Type 0
 CallHappens old new r user c told r' =
-    (words : ℕ → ℕ) → Does old new r r' words words NoCommand (OwnOf (world_of r).names c)
+    (words : ℕ → ℕ) → Does old new r r' words words NoCommand (OwnOfNamesCall (world_of r).names c told (world_of r').names)
     (λ drawn logged. NamesAct (world_of r) user c (Rose old.faults new.faults) told drawn logged (world_of r'))
 
 abbrev pub PathHappens : DiskState → DiskState → RunningWorld → Text → (NPath → NameCall) → Option NPath → Line → RunningWorld → Type 0
 PathHappens old new r user c path told r' =
-    (words : ℕ → ℕ) → Does old new r r' words words NoCommand (OwnOfPath (world_of r).names c path)
+    (words : ℕ → ℕ) → Does old new r r' words words NoCommand (OwnOfPath (world_of r).names c path told (world_of r').names)
     (λ drawn logged. PathActs (world_of r) user c path (Rose old.faults new.faults) told drawn logged (world_of r'))
 
 abbrev pub FinishHappens : DiskState → DiskState → RunningWorld → Option KeptReply → Line → RunningWorld → Type 0

@@ -1,15 +1,15 @@
 -- An event over the disk, and what it keeps.
-use Rattle.std.specs.Prelude.{◌≡◌, ◌⊎◌, ℕ, ◌+◌, Bool, List, ◌∷◌, [], ◌++◌}
+use Rattle.std.specs.Prelude.{◌≡◌, ◌⊎◌, ℕ, ◌+◌, ◌<◌, Bool, List, ◌∷◌, [], ◌++◌, None}
 use Rattle.hk_base.specs.Disk.{DiskState, Image, IsImage, Tells}
 use Rattle.hk_base.specs.Faults.{Rose}
 use Rattle.frame_log.specs.declared.fault.StartFault.{StartFault}
 use Rattle.frame_log.specs.declared.fault.StartFault.TheVariants as start
 use Rattle.edit_ops.specs.declared.ops.EditOp.{EditOp}
 use Rattle.key_rows.specs.declared.rows.KeyCommand.{KeyCommand}
-use Rattle.key_rows.specs.Table.{Table}
+use Rattle.key_rows.specs.Table.{Table, after}
 use Rattle.prop_text.specs.declared.lines.PropLine.{PropLine}
 use Rattle.kms_core.specs.State.{settled}
-use Rattle.kms_store.specs.Store.{IsKeyLog, IsLeftByStart, next_opening}
+use Rattle.kms_store.specs.Store.{IsKeyLog, IsLeftByStart, IsSoundLog, next_opening}
 use Rattle.name_core.specs.State.{settled as settled_names}
 use Rattle.name_store.specs.Table.{NameTable, next_opening as next_opening_of_names}
 use Rattle.name_store.specs.Store.{IsNameLog, IsLeftByStart as IsLeftByNameStart}
@@ -20,7 +20,7 @@ use Rattle.world_run.specs.World.{RunningWorld, WorldState, first_world, world_o
 use Rattle.world_run.specs.Acknowledged.{Acknowledged, HoldsLogs, LeavesBoth, RunBoth, also}
 use Rattle.world_run.specs.Own.{SurvivesAtRest, SurvivesEvent, SurvivesRestart}
 use Rattle.world_run.specs.Step.{Step}
-use Rattle.world_run.specs.Ledger.{Hidden, Ledger, drawn_before, hidden_after}
+use Rattle.world_run.specs.Ledger.{Hidden, Past, drawn_before, hidden_after, past_of}
 use Rattle.world_run.specs.Linked.{LinkedWorld, SoundFiles, StartsSound}
 use Rattle.world_run.specs.Promise.{ZoneFilesOpen}
 
@@ -37,20 +37,18 @@ pub record LinkedStep (lines : List PropLine) (w : WorldState) (words : ℕ → 
   pub linked : KnowsWorld e tells → (h : Hidden) → LinkedWorld w h → LinkedWorld w' (hidden_after w words e told drawn w' h)
   pub files_open : KnowsWorld e tells → (h : Hidden) → LinkedWorld w h → ZoneFilesOpen w' (hidden_after w words e told drawn w' h)
 
+-- files that a run may start from, with what is hidden afterwards, whatever was hidden before
+abbrev pub SoundFrom : (Hidden → Type 0) → (Hidden → Hidden) → Image → Type 0
+SoundFrom Before after c = (h : Hidden) → Before h → SoundFiles (past_of (after h)) c
+
 -- a crash at any moment since leaves what `left` says of what was acknowledged before
 abbrev pub SurvivesThrough : DiskState → DiskState → RunningWorld → (Acknowledged → Image → Type 0) → Type 0
 SurvivesThrough old new r left = Tells old → (done : Acknowledged) → HoldsLogs old r done → LeavesBoth old new (left done)
 
--- a crash at this moment, while nothing is written, leaves both logs, with what was acknowledged
-abbrev pub SurvivesNow : DiskState → RunningWorld → Type 0
-SurvivesNow disk r = (done : Acknowledged) → HoldsLogs disk r done → (c : Image) → IsImage disk c → SurvivesAtRest (world_of r) done c
-
--- a crash leaves files that the next run may start from, with this ledger of draws
-abbrev pub SoundThrough : DiskState → DiskState → RunningWorld → Hidden → Type 0
-SoundThrough old new r h = (done : Acknowledged) → HoldsLogs old r done → LeavesBoth old new (SoundFiles h.ledger h.place)
-
-abbrev pub SoundNow : DiskState → RunningWorld → Hidden → Type 0
-SoundNow disk r h = (done : Acknowledged) → HoldsLogs disk r done → (c : Image) → IsImage disk c → SoundFiles h.ledger h.place c
+-- a crash at this moment, while nothing is written, leaves both logs, with what was acknowledged, and files that a run may start from
+abbrev pub RestsNow : DiskState → RunningWorld → Type 0
+RestsNow disk r =
+    (done : Acknowledged) → HoldsLogs disk r done → (c : Image) → IsImage disk c → SurvivesAtRest (world_of r) done c × SoundFrom (LinkedWorld (world_of r)) (λ h. h) c
 
 -- An event of a world over its disk, under the properties of these lines. What is acknowledged is in the logs behind what was
 -- before, the next event begins with the words that are left, and the access control lists stay as they are.
@@ -60,12 +58,10 @@ pub record Steps (lines : List PropLine) (old new : DiskState) (r : RunningWorld
   pub step : LinkedStep lines (world_of r) words now e (Rose old.faults new.faults) (Tells old) told drawn logged (world_of r')
   pub rest : (k : ℕ) → words' k ≡ words (drawn + k)
   pub stands : Tells old → (done : Acknowledged) → HoldsLogs old r done → HoldsLogs new r' (also done logged)
-  -- a crash in the event leaves both logs, with what was acknowledged before it, and at most one record more: its own, or the pending one
-  pub survives : SurvivesThrough old new r (SurvivesEvent (world_of r) words now e told (world_of r'))
-  pub survives_then : SurvivesNow new r'
-  -- whatever is hidden beside a linked world, the files that a crash leaves are sound, with what is hidden after the event
-  pub sound : Tells old → (h : Hidden) → LinkedWorld (world_of r) h → SoundThrough old new r (hidden_after (world_of r) words e told drawn (world_of r') h)
-  pub sound_then : KnowsWorld e (Tells old) → (h : Hidden) → LinkedWorld (world_of r) h → SoundNow new r' (hidden_after (world_of r) words e told drawn (world_of r') h)
+  -- a crash in the event leaves both logs, with what was acknowledged before it, and at most one record more: its own, or the pending
+  -- one; and these files are sound, with what is hidden after the event
+  pub survives : SurvivesThrough old new r (λ done c. SurvivesEvent (world_of r) words now e told (world_of r') done c × SoundFrom (LinkedWorld (world_of r)) (hidden_after (world_of r) words e told drawn (world_of r')) c)
+  pub rests : RestsNow new r'
   pub run : RunBoth old new
   pub lists : r'.keys.acls ≡ r.keys.acls
 
@@ -79,6 +75,10 @@ abbrev pub last_opening : WorldState → Event → Bool → ℕ
 last_opening w event.RestartKms kept = (settled kept w.keys).table.opening
 last_opening w _ kept = (settled_names kept w.names).table.opening
 
+-- what a crash leaves during a restart that fails: nothing was acknowledged, and nothing was drawn
+abbrev pub LeftByRestart : WorldState → Event → Acknowledged → Image → Type 0
+LeftByRestart w e done c = SurvivesRestart w e done c × SoundFrom (LinkedWorld w) (λ h. h) c
+
 -- A restart whose opening failed. The log was opened before, so it is not damaged. The world is as it was, but its log may have
 -- grown: it is not to go on with this disk.
 pub record Fails (old new : DiskState) (r : RunningWorld) (words : ℕ → ℕ) (e : Event) (file : ℕ) (fault : StartFault) (r' : RunningWorld) (words' : ℕ → ℕ) : Type 0 where
@@ -88,8 +88,9 @@ pub record Fails (old new : DiskState) (r : RunningWorld) (words : ℕ → ℕ) 
   pub never_damaged : Tells old → (at : ℕ) → fault ≡ start.Damaged at → ⊥
   pub spent : fault ≡ start.Spent → Tells old → (kept : Bool) × (last_opening (world_of r) e kept ≡ 4294967295)
   pub cause : fault ≡ start.StoreFault → Rose old.faults new.faults
-  pub survives : SurvivesThrough old new r (SurvivesRestart (world_of r) e)
-  pub sound : Tells old → (h : Hidden) → LinkedWorld (world_of r) h → SoundThrough old new r h
+  pub survives : SurvivesThrough old new r (LeftByRestart (world_of r) e)
+  -- and a crash at the end of it leaves no less than what is acknowledged
+  pub survives_then : Tells old → (done : Acknowledged) → HoldsLogs old r done → (c : Image) → IsImage new c → LeftByRestart (world_of r) e done c
   pub run : RunBoth old new
 
 -- What a start found in both logs, where the disk tells it, and what they hold behind it: what was found, and the next openings.
@@ -99,6 +100,9 @@ pub record BeganLogs (old new : DiskState) (r : RunningWorld) (table : Table) (n
   pub used : List ℕ
   pub keys : IsKeyLog (old.reads 0) commands table
   pub edits : IsNameLog (old.reads 1) ops (record { table = names; used = used })
+  -- neither of the openings found was the last one
+  pub keys_room : table.opening < 4294967295
+  pub names_room : names.opening < 4294967295
   pub holds : HoldsLogs new r (record { keys = commands ++ next_opening table ∷ []; names = ops ++ next_opening_of_names names ∷ [] })
 
 -- A start found a table in each log, and recorded the next opening behind its records. Where every image of the files was one that
@@ -108,11 +112,31 @@ pub record Begins (old new : DiskState) (r : RunningWorld) : Type 0 where
   pub names : NameTable
   pub first : world_of r ≡ first_world table names
   pub log : Tells old → BeganLogs old new r table names
-  pub linked : Tells old → (ledger : Ledger) (place : ℕ) → StartsSound old ledger place → LinkedWorld (world_of r) (drawn_before place ledger)
-  pub survives_then : SurvivesNow new r
-  pub sound_then : Tells old → (ledger : Ledger) (place : ℕ) → StartsSound old ledger place → SoundNow new r (drawn_before place ledger)
+  pub linked : Tells old → (past : Past) → StartsSound old past → LinkedWorld (world_of r) (drawn_before past)
+  pub files_open : Tells old → (past : Past) → StartsSound old past → ZoneFilesOpen (world_of r) (drawn_before past)
+  pub rests : RestsNow new r
 
--- what openings leave of each file: what it may have been before, or what its start leaves of the log found
-pub record LeftByStarts (old : DiskState) (c : Image) : Type 0 where
+-- The key log is opened first: it is what it may have been before, or what its start leaves of the log found, and the edit log is as
+-- it was.
+pub record LeftByFirst (old : DiskState) (c : Image) : Type 0 where
   pub keys : old.leaves 0 (c 0) ⊎ IsLeftByStart (old.reads 0) (c 0)
+  pub names : old.leaves 1 (c 1)
+
+-- the file is the key log that was found, and the next opening is recorded in it
+pub record IsOpenedLog (found bytes : List ℕ) : Type 0 where
+  pub commands : List KeyCommand
+  pub table : Table
+  pub log : IsKeyLog found commands table
+  pub room : table.opening < 4294967295
+  pub sound : IsSoundLog bytes (commands ++ next_opening table ∷ []) None (after table (next_opening table))
+
+-- Then the edit log is opened: it is what it may have been before, or what its start leaves of the log found, beside the key log with
+-- its opening.
+pub record LeftBySecond (old : DiskState) (c : Image) : Type 0 where
+  pub keys : IsOpenedLog (old.reads 0) (c 0)
   pub names : old.leaves 1 (c 1) ⊎ IsLeftByNameStart (old.reads 1) (c 1)
+
+-- Files that openings leave. A run may start from them if it may start from each image of the files before.
+pub record LeftByStarts (old : DiskState) (c : Image) : Type 0 where
+  pub left : LeftByFirst old c ⊎ LeftBySecond old c
+  pub sound : (past : Past) → StartsSound old past → SoundFiles past c

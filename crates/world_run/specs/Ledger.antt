@@ -43,9 +43,18 @@ pub record Hidden : Type 0 where
   pub replied : List (Option Draw)
   pub ledger : Ledger
 
--- Before the first event: so many words were drawn by then, in earlier runs, and files got draws of that time.
-abbrev pub drawn_before : ℕ → Ledger → Hidden
-drawn_before place ledger = record { place = place; replied = []; ledger = ledger }
+-- what is hidden of the runs before: which draw the file of each id got, and how many words were drawn by then
+pub record Past : Type 0 where
+  pub ledger : Ledger
+  pub place : ℕ
+
+-- what is left of what is hidden by now, once the replies that were kept are lost
+abbrev pub past_of : Hidden → Past
+past_of h = record { ledger = h.ledger; place = h.place }
+
+-- before the first event
+abbrev pub drawn_before : Past → Hidden
+drawn_before past = record { place = past.place; replied = []; ledger = past.ledger }
 
 -- the draw of a generate of one key
 abbrev pub draw_of : KmsState → (ℕ → ℕ) → ℕ → KeyName → Draw

@@ -19,7 +19,7 @@ use Rattle.name_calls.specs.declared.calls.KeyAnswer.TheVariants.{Given, Refused
 use Rattle.name_core.specs.State.{IsNames, next_id, settled as settled_names}
 use Rattle.world_run.specs.declared.kept.KeptReply.{KeptReply}
 use Rattle.world_run.specs.World.{WorldState, numbered}
-use Rattle.world_run.specs.Ledger.{Draw, Hidden, Ledger}
+use Rattle.world_run.specs.Ledger.{Draw, Hidden, Ledger, Past}
 use Rattle.world_run.specs.Promise.{Apart, FitsZone, In, edek_of}
 
 -- what both services keep by themselves
@@ -75,16 +75,19 @@ IsOldBirth t birth = (birth < t.opening * 2 ^ 32) ⊎ (birth ≤ t.greatest)
 abbrev pub IsRecordedBirth : Table → ℕ → Type 0
 IsRecordedBirth t birth = birth < (t.opening + 1) * 2 ^ 32
 
--- draws: each of words that were drawn, under a key of such a birth, and no two with a word in common
+-- draws: each of words that were drawn, under a key of such a birth, which is of an opening from 1 on, and no two with a word in common
 pub record DrawsFit (ledger : Ledger) (replied : List (Option Draw)) (place : ℕ) (IsBirth : ℕ → Type 0) : Type 0 where
   pub taken : (d : Draw) → IsDrawn ledger replied d → d.place + words_of_draw (length d.dek) ≤ place
   pub born : (d : Draw) → IsDrawn ledger replied d → IsBirth d.birth
+  pub recent : (d : Draw) → IsDrawn ledger replied d → 2 ^ 32 ≤ d.birth
   pub apart : (d f : Draw) → IsDrawn ledger replied d → IsDrawn ledger replied f → (d ≡ f) ⊎ Apart d f
 
 pub record LedgerFits (ledger : Ledger) (replies : List KeptReply) (replied : List (Option Draw)) (asks : List OpenAsk) (next : ℕ) : Type 0 where
   pub one_draw : (id : ℕ) (d f : Draw) → In (id, d) ledger → In (id, f) ledger → d ≡ f
   pub one_file : (i j : ℕ) (d : Draw) → In (i, d) ledger → In (j, d) ledger → i ≡ j
   pub below : (id : ℕ) (d : Draw) → In (id, d) ledger → id < next
+  -- each id is of an opening from 1 on
+  pub recent : (id : ℕ) (d : Draw) → In (id, d) ledger → 2 ^ 32 ≤ id
   -- an open ask has no entry
   pub not_open : (a : OpenAsk) (d : Draw) → In a asks → In (a.id, d) ledger → ⊥
   -- the draw of an entry is of no other ask's reply
@@ -99,14 +102,14 @@ pub record LinkedWorld (w : WorldState) (h : Hidden) : Type 0 where
 
 -- What holds of two tables that are found in the files, while nothing is kept: files are linked, the births of the ledger are of
 -- openings that the key log records, and its ids of openings that the edit log records.
-pub record LinkedTables (ledger : Ledger) (place : ℕ) (keys : Table) (names : NameTable) : Type 0 where
-  pub files : FilesLinked ledger keys.rows names.rows
-  pub draws : DrawsFit ledger [] place (IsRecordedBirth keys)
-  pub fits : LedgerFits ledger [] [] [] ((names.opening + 1) * 2 ^ 32)
+pub record LinkedTables (past : Past) (keys : Table) (names : NameTable) : Type 0 where
+  pub files : FilesLinked past.ledger keys.rows names.rows
+  pub draws : DrawsFit past.ledger [] past.place (IsRecordedBirth keys)
+  pub fits : LedgerFits past.ledger [] [] [] ((names.opening + 1) * 2 ^ 32)
 
--- Files that a run may start from, with a ledger of draws among so many words: two logs, and one more record may be behind each,
+-- Files that a run may start from, with what is hidden of the runs before: two logs, and one more record may be behind each,
 -- which applies. The two tables are linked with those records and without them.
-pub record SoundFiles (ledger : Ledger) (place : ℕ) (image : Image) : Type 0 where
+pub record SoundFiles (past : Past) (image : Image) : Type 0 where
   pub commands : List KeyCommand
   pub more : Option KeyCommand
   pub table : Table
@@ -115,8 +118,8 @@ pub record SoundFiles (ledger : Ledger) (place : ℕ) (image : Image) : Type 0 w
   pub made : Replayed
   pub keys : IsSoundLog (image 0) commands more table
   pub names : IsSoundNames (image 1) ops more_ops made
-  pub linked : (found found_names : Bool) → LinkedTables ledger place (settled_table found more table) (settled_log found_names more_ops made).table
+  pub linked : (found found_names : Bool) → LinkedTables past (settled_table found more table) (settled_log found_names more_ops made).table
 
 -- every image of a moment is such files
-abbrev pub StartsSound : DiskState → Ledger → ℕ → Type 0
-StartsSound old ledger place = (c : Image) → IsImage old c → SoundFiles ledger place c
+abbrev pub StartsSound : DiskState → Past → Type 0
+StartsSound old past = (c : Image) → IsImage old c → SoundFiles past c

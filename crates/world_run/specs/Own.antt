@@ -5,17 +5,22 @@ use Rattle.name_calls.specs.declared.paths.NPath.{NPath}
 use Rattle.name_calls.specs.Paths.{read_path}
 use Rattle.edit_ops.specs.declared.ops.EditOp.{EditOp}
 use Rattle.key_rows.specs.declared.rows.KeyCommand.{KeyCommand}
+use Rattle.kms_calls.specs.declared.calls.KmsCall.{KmsCall}
+use Rattle.kms_calls.specs.declared.calls.KmsReply.{KmsReply}
 use Rattle.kms_store.specs.Store.{AKeyOpening, NoCommand}
 use Rattle.kms_core.specs.Service.{OwnOf as OwnOfKeys}
+use Rattle.kms_core.specs.State.{ServiceState}
 use Rattle.name_store.specs.Store.{AnOpening, NothingMore}
 use Rattle.name_calls.specs.declared.calls.NameCall.{NameCall}
 use Rattle.name_calls.specs.declared.calls.NameCall.TheVariants as call
 use Rattle.name_calls.specs.declared.calls.NameRefusal.{NameRefusal}
+use Rattle.name_calls.specs.declared.calls.NameReply.{NameReply}
 use Rattle.name_core.specs.Service.{OwnOf, OwnOfFinish}
 use Rattle.name_core.specs.State.{NameService}
 use Rattle.hk_events.specs.declared.event.Event.{Event}
 use Rattle.hk_events.specs.declared.event.Event.TheVariants as event
 use Rattle.hk_events.specs.declared.event.Line.{Line}
+use Rattle.hk_events.specs.declared.event.Line.TheVariants as line
 use Rattle.world_run.specs.declared.kept.KeptReply.{KeptReply}
 use Rattle.world_run.specs.Acknowledged.{Acknowledged, Survives}
 use Rattle.world_run.specs.Step.{delete_with, finish_line}
@@ -23,12 +28,19 @@ use Rattle.world_run.specs.World.{WorldState, numbered}
 
 -- the key log
 
--- What an event may write there: an opening, where it restarts the key management service, and the command of its own call, where it
--- makes one of it. The call that a draw makes changes no key, and writes nothing.
-abbrev pub OwnKeysOfEvent : WorldState → (ℕ → ℕ) → ℕ → Event → Bool → KeyCommand → Type 0
-OwnKeysOfEvent w words now (event.Kms user c) kept command = OwnOfKeys w.keys words now c kept command
-OwnKeysOfEvent w words now event.RestartKms kept command = AKeyOpening kept command
-OwnKeysOfEvent w words now _ kept command = NoCommand kept command
+-- what a call that was answered by this line, and left this, may write there
+pub record OwnOfKeysCall (s : ServiceState) (words : ℕ → ℕ) (now : ℕ) (c : KmsCall) (told : Line) (s' : ServiceState) (kept : Bool) (command : KeyCommand) : Type 0 where
+  pub reply : KmsReply
+  pub told_is : told ≡ line.Kms reply
+  pub own : OwnOfKeys s words now c reply s' kept command
+
+-- What an event may write there that was answered so and left this world: an opening, where it restarts the key management service,
+-- and the command of its own call, where that is acknowledged, or is pending afterwards. The call that a draw makes changes no key,
+-- and writes nothing.
+abbrev pub OwnKeysOfEvent : WorldState → (ℕ → ℕ) → ℕ → Event → Line → WorldState → Bool → KeyCommand → Type 0
+OwnKeysOfEvent w words now (event.Kms user c) told w' kept command = OwnOfKeysCall w.keys words now c told w'.keys kept command
+OwnKeysOfEvent w words now event.RestartKms told w' kept command = AKeyOpening kept command
+OwnKeysOfEvent w words now _ told w' kept command = NoCommand kept command
 
 -- and a restart that failed
 abbrev pub OwnKeysOfRestart : Event → Bool → KeyCommand → Type 0
@@ -37,10 +49,16 @@ OwnKeysOfRestart _ kept command = NoCommand kept command
 
 -- the edit log
 
--- what a call at a path as it was given may write behind the settled edit log
-abbrev pub OwnOfPath : NameService → (NPath → NameCall) → Option NPath → Bool → EditOp → Type 0
-OwnOfPath s c None kept op = ⊥
-OwnOfPath s c (Some path) kept op = OwnOf s (c path) kept op
+-- what a call that was answered by this line, and left this, may write behind the settled edit log
+pub record OwnOfNamesCall (s : NameService) (c : NameCall) (told : Line) (s' : NameService) (kept : Bool) (op : EditOp) : Type 0 where
+  pub reply : NameReply
+  pub told_is : told ≡ line.Name reply
+  pub own : OwnOf s c reply s' kept op
+
+-- the same of a call at a path as it was given
+abbrev pub OwnOfPath : NameService → (NPath → NameCall) → Option NPath → Line → NameService → Bool → EditOp → Type 0
+OwnOfPath s c None told s' kept op = ⊥
+OwnOfPath s c (Some path) told s' kept op = OwnOfNamesCall s (c path) told s' kept op
 
 -- what a finish by a kept reply may write there that was answered by this line
 pub record OwnOfKept (s : NameService) (reply : KeptReply) (told : Line) (s' : NameService) (kept : Bool) (op : EditOp) : Type 0 where
@@ -57,11 +75,11 @@ abbrev pub OwnOfEvent : WorldState → Event → Line → WorldState → Bool �
 OwnOfEvent w (event.Kms user c) told w' kept op = NothingMore kept op
 OwnOfEvent w event.RestartKms told w' kept op = NothingMore kept op
 OwnOfEvent w event.RestartName told w' kept op = AnOpening kept op
-OwnOfEvent w (event.Mkdir user path) told w' kept op = OwnOfPath w.names call.Mkdir (read_path path) kept op
-OwnOfEvent w (event.Delete user path recursive) told w' kept op = OwnOfPath w.names (delete_with recursive) (read_path path) kept op
-OwnOfEvent w (event.Info user path) told w' kept op = OwnOfPath w.names call.Info (read_path path) kept op
-OwnOfEvent w (event.List user path) told w' kept op = OwnOfPath w.names call.List (read_path path) kept op
-OwnOfEvent w (event.Zones user) told w' kept op = OwnOf w.names call.Zones kept op
+OwnOfEvent w (event.Mkdir user path) told w' kept op = OwnOfPath w.names call.Mkdir (read_path path) told w'.names kept op
+OwnOfEvent w (event.Delete user path recursive) told w' kept op = OwnOfPath w.names (delete_with recursive) (read_path path) told w'.names kept op
+OwnOfEvent w (event.Info user path) told w' kept op = OwnOfPath w.names call.Info (read_path path) told w'.names kept op
+OwnOfEvent w (event.List user path) told w' kept op = OwnOfPath w.names call.List (read_path path) told w'.names kept op
+OwnOfEvent w (event.Zones user) told w' kept op = OwnOfNamesCall w.names call.Zones told w'.names kept op
 OwnOfEvent w (event.AskCreate user path) told w' kept op = NothingMore kept op
 OwnOfEvent w (event.AskZone user path key) told w' kept op = NothingMore kept op
 OwnOfEvent w (event.Draw number) told w' kept op = NothingMore kept op
@@ -80,7 +98,7 @@ SurvivesAtRest w done image = Survives w done NoCommand NothingMore image
 
 -- during an event that begins in this world at this moment, with these words to come, is answered so, and leaves that world
 abbrev pub SurvivesEvent : WorldState → (ℕ → ℕ) → ℕ → Event → Line → WorldState → Acknowledged → Image → Type 0
-SurvivesEvent w words now e told w' done image = Survives w done (OwnKeysOfEvent w words now e) (OwnOfEvent w e told w') image
+SurvivesEvent w words now e told w' done image = Survives w done (OwnKeysOfEvent w words now e told w') (OwnOfEvent w e told w') image
 
 -- during a restart that fails
 abbrev pub SurvivesRestart : WorldState → Event → Acknowledged → Image → Type 0

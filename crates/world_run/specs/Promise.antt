@@ -1,5 +1,5 @@
 -- What is promised of files in encryption zones.
-use Rattle.std.specs.Prelude.{◌≡◌, ◌⊎◌, ◌+◌, ◌≤◌, ℕ, ⊤, List, [], ◌∷◌, length, Option, None, Some}
+use Rattle.std.specs.Prelude.{◌≡◌, ◌⊎◌, ◌+◌, ◌≤◌, ℕ, ⊤, Bool, List, [], ◌∷◌, length, Option, None, Some}
 use Rattle.hk_base.specs.declared.names.Edek.{Edek}
 use Rattle.hk_base.specs.declared.names.KeyName.{KeyName}
 use Rattle.inode_tree.specs.declared.rows.Kind.{Kind}
@@ -8,7 +8,9 @@ use Rattle.inode_tree.specs.Rows.{Entry}
 use Rattle.key_rows.specs.declared.rows.KeyRow.{KeyRow}
 use Rattle.kms_core.specs.Draws.{words_of_draw}
 use Rattle.kms_core.specs.Opening.{unseals}
+use Rattle.kms_core.specs.State.{settled}
 use Rattle.name_store.specs.Table.{key_of_zone}
+use Rattle.name_core.specs.State.{settled as settled_names}
 use Rattle.world_run.specs.World.{WorldState}
 use Rattle.world_run.specs.Ledger.{Draw, Hidden, Ledger}
 
@@ -36,12 +38,13 @@ FitsZone None (File edek) = edek ≡ None
 FitsZone (Some key) (File None) = ⊥
 FitsZone (Some key) (File (Some edek)) = edek.version.key ≡ key
 
--- the encrypted key of a file opens to the data key of a draw in the ledger, while the key stands under which that was drawn
+-- The encrypted key of a file opens to the data key of a draw in the ledger, as long as the key exists under which that was drawn:
+-- the row with the draw's birth has the name of that key.
 pub record OpensToItsDraw (ledger : Ledger) (rows : List KeyRow) (id : ℕ) (edek : Edek) : Type 0 where
   pub draw : Draw
   pub entered : In (id, draw) ledger
   pub of_key : edek.version.key ≡ draw.version.key
-  pub opens : (row : KeyRow) → In row rows → row.birth ≡ draw.birth → unseals rows edek ≡ Some draw.dek
+  pub opens : (row : KeyRow) → In row rows → row.birth ≡ draw.birth → (row.name ≡ draw.version.key) × (unseals rows edek ≡ Some draw.dek)
 
 -- The promise on zone files, of the rows of the namesystem beside the rows of the keys.
 pub record FilesOpen (ledger : Ledger) (keys : List KeyRow) (rows : List Entry) : Type 0 where
@@ -53,5 +56,6 @@ pub record FilesOpen (ledger : Ledger) (keys : List KeyRow) (rows : List Entry) 
   -- a file has an encrypted key exactly where it lies in a zone, and then of that zone's key
   pub of_zone : (file : Entry) → In file rows → FitsZone (key_of_zone rows file.path) file.row.kind
 
+-- with and without the pending command, and with and without the pending operation
 abbrev pub ZoneFilesOpen : WorldState → Hidden → Type 0
-ZoneFilesOpen w h = FilesOpen h.ledger w.keys.keys.table.rows w.names.names.table.rows
+ZoneFilesOpen w h = (kept_keys kept_names : Bool) → FilesOpen h.ledger (settled kept_keys w.keys).table.rows (settled_names kept_names w.names).table.rows

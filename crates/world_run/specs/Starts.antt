@@ -1,5 +1,5 @@
 -- What a start of both services does, done or not.
-use Rattle.std.specs.Prelude.{◌≡◌, ◌⊎◌, ◌<◌, ℕ, List, IfOk, IsErrOf, Result}
+use Rattle.std.specs.Prelude.{◌≡◌, ◌⊎◌, ℕ, List, IfOk, IsErrOf, Result}
 use Rattle.hk_base.specs.Disk.{DiskState, LeavesOnly, RunOn, Tells}
 use Rattle.hk_base.specs.Faults.{Rose}
 use Rattle.frame_log.specs.Stands.{LeavesFrom}
@@ -15,9 +15,7 @@ use Rattle.name_store.specs.Table.{Replayed}
 use Rattle.name_store.specs.Store.{IsDamagedAt as IsDamagedName, IsLeftByStart as IsLeftByNameStart, IsNameLog}
 use Rattle.world_run.specs.declared.fault.WorldFault.{WorldFault}
 use Rattle.world_run.specs.Acknowledged.{LeavesBoth, RunBoth}
-use Rattle.world_run.specs.Ledger.{Ledger}
-use Rattle.world_run.specs.Linked.{SoundFiles, StartsSound}
-use Rattle.world_run.specs.Keeps.{Begins, LeftByStarts}
+use Rattle.world_run.specs.Keeps.{Begins, IsOpenedLog, LeftByStarts}
 use Rattle.world_run.specs.World.{RunningWorld}
 
 -- the last opening of the key log is recorded, and of the edit log
@@ -34,9 +32,9 @@ pub record SpentNames (bytes : List ℕ) : Type 0 where
   pub log : IsNameLog bytes ops made
   pub last : made.table.opening ≡ 4294967295
 
--- the file is a key log, whose last opening is not recorded: a start may open it
-abbrev pub MayOpenKeys : List ℕ → Type 0
-MayOpenKeys bytes = (commands : List KeyCommand) × (table : Table) × IsKeyLog bytes commands table × (table.opening < 4294967295)
+-- The key log was found good and opened: its opening is acknowledged.
+abbrev pub KeysOpened : DiskState → DiskState → Type 0
+KeysOpened old new = (bytes : List ℕ) → new.leaves 0 bytes → IsOpenedLog (old.reads 0) bytes
 
 -- A start under the properties of these lines came to this: a world, or the first file that has a fault, and the fault. Where that is
 -- the second file, the first was found to be a key log and opened; where it is the first, the second was not touched.
@@ -48,7 +46,7 @@ pub record StartHappens (old new : DiskState) (lines : List PropLine) (result : 
   pub damaged_names : (at : ℕ) → IsErrOf result (record { file = 1; fault = start.Damaged at }) → Tells old → IsDamagedName (old.reads 1) at
   pub spent_keys : IsErrOf result (record { file = 0; fault = start.Spent }) → Tells old → SpentKeys (old.reads 0)
   pub spent_names : IsErrOf result (record { file = 1; fault = start.Spent }) → Tells old → SpentNames (old.reads 1)
-  pub first_keys : (fault : StartFault) → IsErrOf result (record { file = 1; fault = fault }) → Tells old → MayOpenKeys (old.reads 0)
+  pub first_keys : (fault : StartFault) → IsErrOf result (record { file = 1; fault = fault }) → Tells old → KeysOpened old new
   pub first_names : (fault : StartFault) → IsErrOf result (record { file = 0; fault = fault }) → RunOn 0 old new
   pub any_moment : Tells old → LeavesBoth old new (LeftByStarts old)
   -- of each file a crash leaves only what its opening leaves of the log found, since its first sync; without that, what it might have
@@ -59,6 +57,5 @@ pub record StartHappens (old new : DiskState) (lines : List PropLine) (result : 
   pub since_sync_names : Tells old →
       ((((fault : StartFault) × IsErrOf result (record { file = 0; fault = fault })) ⊎ IsErrOf result (record { file = 1; fault = start.StoreFault })) × LeavesBoth old new (λ c. old.leaves 1 (c 1)))
       ⊎ LeavesFrom 1 old new (IsLeftByNameStart (old.reads 1))
-  pub sound : Tells old → (ledger : Ledger) (place : ℕ) → StartsSound old ledger place → LeavesBoth old new (SoundFiles ledger place)
   pub run : RunBoth old new
   pub cause : (file : ℕ) → IsErrOf result (record { file = file; fault = start.StoreFault }) → Rose old.faults new.faults

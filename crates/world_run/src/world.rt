@@ -22,9 +22,8 @@ ghost use Rattle.hk_events.specs.declared.event.Event.TheVariants as event;
 ghost use Rattle.world_run.specs.Acknowledged.{Acknowledged, HoldsLogs, LeavesBoth, RunBoth};
 ghost use Rattle.world_run.specs.Does.{CallHappens, DrawHappens, FinishHappens, Happens, PathHappens, WantHappens};
 ghost use Rattle.world_run.specs.Keeps.{Begins, Fails, LeftByStarts, Steps};
-ghost use Rattle.world_run.specs.Ledger.{Ledger};
-ghost use Rattle.world_run.specs.Linked.{ServicesFit, SoundFiles, StartsSound};
-ghost use Rattle.world_run.specs.Starts.{StartHappens};
+ghost use Rattle.world_run.specs.Linked.{ServicesFit};
+ghost use Rattle.world_run.specs.Starts.{KeysOpened, StartHappens};
 ghost use Rattle.world_run.specs.Step.{AskActs, AskAt, Refuses, delete_with, finish_line, unread_refusal, unread_reply, zone_with};
 ghost use Rattle.world_run.specs.World.{numbered, world_of};
 
@@ -155,13 +154,14 @@ impl World {
         ensures spent_names { IsErrOf result (record { file = 1; fault = start.Spent }) → Tells (D.state disk.old) → ((ops : List EditOp) × (made : Replayed)
             × IsNameLog ((D.state disk.old).reads 1) ops made × (made.table.opening ≡ 4294967295)) }
 
-        // The first file that has a fault counts.
-        ensures first_keys { (fault : StartFault) → IsErrOf result (record { file = 1; fault = fault }) → Tells (D.state disk.old) → ((commands : List KeyCommand) × (table : Table)
-            × IsKeyLog ((D.state disk.old).reads 0) commands table × (table.opening < 4294967295)) }
+        // The first file that has a fault counts. If it is the second, a crash leaves the key log with its
+        // new opening.
+        ensures first_keys { (fault : StartFault) → IsErrOf result (record { file = 1; fault = fault }) → Tells (D.state disk.old) → KeysOpened (D.state disk.old) (D.state disk.new) }
         ensures first_names { (fault : StartFault) → IsErrOf result (record { file = 0; fault = fault }) → RunOn 0 (D.state disk.old) (D.state disk.new) }
 
-        // A crash at any moment leaves of each file what it might have left before, or the log found, as it is
-        // or with its end gate read as 1, or its records with the new opening or without it.
+        // A crash at any moment leaves what it might have left before, or files on the way: first the key log
+        // is opened, and then the edit log. If a run may start from every image before, with a ledger, it
+        // may start from every image since.
         ensures any_moment { Tells (D.state disk.old) → LeavesBoth (D.state disk.old) (D.state disk.new) (LeftByStarts (D.state disk.old)) }
 
         // Since the first sync of its opening, a crash leaves of each file the latter alone, whatever the answer.
@@ -175,10 +175,6 @@ impl World {
             ((((fault : StartFault) × IsErrOf result (record { file = 0; fault = fault })) ⊎ IsErrOf result (record { file = 1; fault = start.StoreFault }))
             × LeavesBoth (D.state disk.old) (D.state disk.new) (λ c. (D.state disk.old).leaves 1 (c 1)))
             ⊎ LeavesFrom 1 (D.state disk.old) (D.state disk.new) (IsLeftByNameStart ((D.state disk.old).reads 1)) }
-
-        // If a run may start from every image before, with a ledger, it may start from every image since.
-        ensures sound { Tells (D.state disk.old) → (ledger : Ledger) (place : ℕ) → StartsSound (D.state disk.old) ledger place
-            → LeavesBoth (D.state disk.old) (D.state disk.new) (SoundFiles ledger place) }
 
         ensures run { RunBoth (D.state disk.old) (D.state disk.new) }
         ensures cause { (file : ℕ) → IsErrOf result (record { file = file; fault = start.StoreFault }) → Rose (D.state disk.old).faults (D.state disk.new).faults }
@@ -203,11 +199,12 @@ impl World {
             Ok(keys) => keys,
             Err(fault) => return Err(WorldFault { file: KEYS, fault }),
         };
+        // The key log is on file 0.
+        let _ = keys.count();
         let names = match Name::start(alloc, disk) {
             Ok(names) => names,
             Err(fault) => return Err(WorldFault { file: NAMES, fault }),
         };
-        let _ = keys.count();
         let _ = names.count();
         Ok(World {
             alloc,

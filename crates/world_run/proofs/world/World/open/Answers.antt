@@ -1,6 +1,6 @@
 use Rattle.std.proofs.Common.{Err, ap}
 use Rattle.kms_core.specs.Users.{running}
-use Rattle.world_run.proofs.StartLemmas.{keys-not-started, may-open, names-not-started, no-start, started}
+use Rattle.world_run.proofs.StartLemmas.{keys-not-started, keys-are-opened, names-not-started, no-start, started}
 use Rattle.world_run.proofs.StepLemmas.{parts}
 use Rattle.world_run.proofs.world.World.open.Goals as goal
 
@@ -19,7 +19,7 @@ returns-in-Err-start g c =
     (record { counts = g.met.D.Disk.counts_now c.args.disk.now; only = g.met.D.Disk.only_now c.args.disk.now; is_one = λ told file lt. g.met.D.Disk.is_one c.args.disk.now file told lt })
     (record { counts = g.met.D.Disk.counts_now c.open_keys.new.disk; only = g.met.D.Disk.only_now c.open_keys.new.disk; is_one = λ told file lt. g.met.D.Disk.is_one c.open_keys.new.disk file told lt })
     (λ at is. c.in-Err-start.ensures.damaged at (ap Err is)) (λ is. c.in-Err-start.ensures.spent (ap Err is)) (λ is. c.in-Err-start.ensures.cause (ap Err is))
-    (may-open (g.D.Disk.state c.args.disk.now) (g.D.Disk.state c.open_keys.new.disk) (running c.in-Ok-open_keys.keys) c.in-Ok-open_keys.ensures.started) c.open_keys.ensures.any_moment c.in-Ok-open_keys.ensures.since_sync
+    (keys-are-opened (g.D.Disk.state c.args.disk.now) (g.D.Disk.state c.open_keys.new.disk) (running c.in-Ok-open_keys.keys) c.count.ensures.file c.in-Ok-open_keys.ensures.started) c.open_keys.ensures.any_moment c.in-Ok-open_keys.ensures.since_sync
     c.open_keys.ensures.run c.start.ensures.any_moment c.in-Err-start.ensures.since_sync c.start.ensures.run
 
 pub returns : goal.returns

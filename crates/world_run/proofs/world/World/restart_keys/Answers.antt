@@ -8,6 +8,7 @@ use Rattle.world_run.proofs.world.World.restart_keys.Goals as goal
 pub returns-in-Err : goal.returns-in-Err
 returns-in-Err g c words =
     keys-fail (g.D.Disk.state c.args.disk.now) (g.D.Disk.state c.restart.new.disk) c.args.self.now _ words c.in-Err.fault
+    (record { counts = g.met.D.Disk.counts_now c.args.disk.now; only = g.met.D.Disk.only_now c.args.disk.now; is_one = λ told file lt. g.met.D.Disk.is_one c.args.disk.now file told lt }) (record { counts = g.met.D.Disk.counts_now c.restart.new.disk; only = g.met.D.Disk.only_now c.restart.new.disk; is_one = λ told file lt. g.met.D.Disk.is_one c.restart.new.disk file told lt })
     (ap (λ (keys : RunningKms). parts keys c.self.inside.names c.self.inside.notes.items c.self.inside.replies.items) c.in-Err.ensures.started ∙ c.self.view_is) c.fits.ensures.keys_file c.fits.ensures.names_file c.fits.ensures.fits c.requires.stands
     (λ at is. c.in-Err.ensures.damaged at (ap Err is)) (λ is. c.in-Err.ensures.spent (ap Err is)) (λ is. c.in-Err.ensures.cause (ap Err is)) c.restart.ensures.any_moment c.restart.ensures.run
 

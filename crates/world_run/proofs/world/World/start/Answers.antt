@@ -14,7 +14,6 @@ returns g c = record {
   any_moment = c.open.ensures.any_moment;
   since_sync_keys = c.open.ensures.since_sync_keys;
   since_sync_names = c.open.ensures.since_sync_names;
-  sound = c.open.ensures.sound;
   run = c.open.ensures.run;
   cause = c.open.ensures.cause;
 }
