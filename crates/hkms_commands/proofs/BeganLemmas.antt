@@ -1,55 +1,70 @@
 -- A start, and a history behind it.
-use Rattle.std.proofs.Common.{◌≡◌, ◌⊎◌, inl, inr, ⊎_elim, ℕ, List, Ok, Err, ap, arith, subst, ◌∙◌}
-use Rattle.std.specs.Prelude.{IfOk, IsErrOf}
+use Rattle.std.proofs.Common.{◌≡◌, ◌⊎◌, inl, inr, ℕ, [], ◌∷◌, Err, ap, subst, sym, ◌∙◌}
+use Rattle.std.specs.Prelude.{IsErrOf}
 use Rattle.std.specs.declared.result.Result.{Result}
-use Rattle.hk_base.specs.Disk.{DiskState, LeavesOnly, Tells}
+use Rattle.hk_base.specs.Disk.{DiskState, Image, LeavesOnly, Tells}
 use Rattle.frame_log.specs.Stands.{LeavesFrom}
 use Rattle.frame_log.specs.declared.fault.StartFault.{StartFault}
 use Rattle.frame_log.specs.declared.fault.StartFault.TheVariants as start
 use Rattle.kms_store.specs.Store.{IsLeftByStart}
 use Rattle.name_store.specs.Store.{IsLeftByStart as IsLeftByNameStart}
 use Rattle.world_run.specs.declared.fault.WorldFault.{WorldFault}
-use Rattle.world_run.specs.Acknowledged.{Acknowledged, HoldsLogs, LeavesBoth, RunBoth}
+use Rattle.world_run.specs.Acknowledged.{Acknowledged, LeavesBoth, RunBoth}
 use Rattle.world_run.specs.Keeps.{Begins, LeftByStarts}
-use Rattle.world_run.specs.Ledger.{Hidden, Ledger, drawn_before}
-use Rattle.world_run.specs.Linked.{SoundFiles, StartsSound}
+use Rattle.world_run.specs.Ledger.{Hidden}
+use Rattle.world_run.specs.Linked.{LinkedWorld}
 use Rattle.world_run.specs.World.{RunningWorld, WorldState, first_world, world_of}
 use Rattle.hkms_commands.specs.declared.replay.Ended.{Ended}
-use Rattle.hkms_commands.specs.Replay.{LeavesBothFrom, Promised, SurvivesUntil}
-use Rattle.hkms_commands.specs.Run.{FilesOpen, History, SoundIn}
-use Rattle.hkms_commands.specs.Steps.{IsHidden, KeptOpen}
-use Rattle.hkms_commands.proofs.FirstLemmas.{first_hidden}
-use Rattle.hkms_commands.proofs.LivedLemmas.{leaves_on, sound_from, weaker}
+use Rattle.hkms_commands.specs.Replay.{HiddenBefore, LeftByStop, SurvivesLast, SurvivesUntil}
+use Rattle.hkms_commands.specs.Run.{FilesOpen, History, IsHidden, RestsAfter, SurvivesIn}
+use Rattle.hkms_commands.proofs.LivedLemmas.{leaves_on, weaker}
 
--- what the start and the history left of both files, where this was acknowledged by the start
-pub survives_kept : (old mid new : DiskState) (r : RunningWorld) (words : ℕ → ℕ) (h : History) (stop : Ended) (first : WorldState) (done : Acknowledged) → world_of r ≡ first → LeavesBoth old mid (LeftByStarts old) → RunBoth old mid
-    → LeavesBoth mid new (SurvivesUntil stop done (world_of r) words h) → LeavesBoth old new (λ image. LeftByStarts old image ⊎ SurvivesUntil stop done first words h image)
-survives_kept old mid new r words h stop first done is moments run survives =
-    leaves_on run (weaker (λ image left. inl left) moments) (weaker (λ image left. inr (subst (λ (w : WorldState). SurvivesUntil stop done w words h image) is left)) survives)
+-- what may be hidden before a run is hidden beside the first world, which is linked, and whose zone files open
+first_hidden : (old new : DiskState) (r : RunningWorld) → Begins old new r → Tells old → (h : Hidden) → HiddenBefore old h → IsHidden (world_of r) h
+first_hidden old new r b told h before =
+    subst (IsHidden (world_of r)) (sym before.is) (record { linked = b.linked told before.past before.sound; files_open = b.files_open told before.past before.sound })
 
--- the same since the first sync of the opening of a file
-pub since_kept : (file : ℕ) (P : List ℕ → Type 0) (old mid new : DiskState) (r : RunningWorld) (words : ℕ → ℕ) (h : History) (stop : Ended) (first : WorldState) (done : Acknowledged) → world_of r ≡ first → LeavesFrom file old mid P → RunBoth mid new
-    → LeavesBoth mid new (SurvivesUntil stop done (world_of r) words h) → LeavesBothFrom old new (λ image. P (image file) ⊎ SurvivesUntil stop done first words h image)
-since_kept file P old mid new r words h stop first done is since run survives = record {
-  moment = since.moment;
-  begun = since.begun;
-  reached = omega (arith, since.reached, run.later);
-  only = λ c left. ⊎_elim (λ past. inl (since.only c past)) (λ now. inr (subst (λ (w : WorldState). SurvivesUntil stop done w words h c) is now)) (survives.before since.moment c since.reached left);
-}
+-- fewer may have been hidden before
 
--- the promise on zone files, with a ledger that the files at the start allow
-pub promise_kept : (old mid new : DiskState) (r : RunningWorld) (words : ℕ → ℕ) (h : History) (b : Begins old mid r) → Tells old → RunBoth old mid
-    → ((ledger : Ledger) (place : ℕ) → StartsSound old ledger place → LeavesBoth old mid (SoundFiles ledger place))
-    → ((done : Acknowledged) → HoldsLogs mid r done → (before : Hidden) → IsHidden (world_of r) before → KeptOpen mid new (world_of r) words h before)
-    → (ledger : Ledger) (place : ℕ) → StartsSound old ledger place → Promised old new words b.table b.names ledger place h
-promise_kept old mid new r words h b told run sound kept ledger place start =
-    let before : Hidden = drawn_before place ledger in
-    let later = kept _ (b.log told).holds before (first_hidden old mid r b told ledger place start) in
-    record {
-      files_open = subst (λ (w : WorldState). FilesOpen before w words h) b.first later.files_open;
-      sound = leaves_on run (weaker (sound_from before (first_world b.table b.names) words h) (sound ledger place start))
-          (weaker (λ image left. subst (λ (w : WorldState). SoundIn before w words h image) b.first left) later.sound);
-    }
+rests_weaker : (A B : Hidden → Type 0) → ((h : Hidden) → B h → A h) → (done : Acknowledged) (first : WorldState) (words : ℕ → ℕ) (history : History) (image : Image) → RestsAfter done A first words history image → RestsAfter done B first words history image
+rests_weaker A B f done first words history image left = (left.0, λ h is. left.1 h (f h is))
+
+stop_weaker : (A B : Hidden → Type 0) → ((h : Hidden) → B h → A h) → (stop : Ended) (done : Acknowledged) (first : WorldState) (words : ℕ → ℕ) (history : History) (image : Image) → LeftByStop stop done A first words history image → LeftByStop stop done B first words history image
+stop_weaker A B f stop done first words history image left = (left.0, λ h is. left.1 h (f h is))
+
+in_weaker : (A B : Hidden → Type 0) → ((h : Hidden) → B h → A h) → (done : Acknowledged) (first : WorldState) (words : ℕ → ℕ) (history : History) (image : Image) → SurvivesIn done A first words history image → SurvivesIn done B first words history image
+in_weaker A B f done first words [] image left = rests_weaker A B f done first words [] image left
+in_weaker A B f done first words (x ∷ earlier) image (inl left) = inl (rests_weaker A B f done first words (x ∷ earlier) image left)
+in_weaker A B f done first words (x ∷ earlier) image (inr (inl left)) = inr (inl (left.0, λ h is. left.1 h (f h is)))
+in_weaker A B f done first words (x ∷ earlier) image (inr (inr left)) = inr (inr (in_weaker A B f done first words earlier image left))
+
+module _ (old mid new : DiskState) (r : RunningWorld) (b : Begins old mid r) (told : Tells old) (words : ℕ → ℕ) (h : History) (stop : Ended) (done : Acknowledged) where
+  linked : (x : Hidden) → HiddenBefore old x → LinkedWorld (world_of r) x
+  linked x before = (first_hidden old mid r b told x before).linked
+
+  until_kept : (image : Image) → SurvivesUntil stop done (LinkedWorld (world_of r)) (world_of r) words h image → SurvivesUntil stop done (HiddenBefore old) (first_world b.table b.names) words h image
+  until_kept image left = subst (λ (w : WorldState). SurvivesUntil stop done (HiddenBefore old) w words h image) b.first (go left)
+    where
+      go : SurvivesUntil stop done (LinkedWorld (world_of r)) (world_of r) words h image → SurvivesUntil stop done (HiddenBefore old) (world_of r) words h image
+      go (inl way) = inl (in_weaker (LinkedWorld (world_of r)) (HiddenBefore old) linked done (world_of r) words h image way)
+      go (inr end) = inr (stop_weaker (LinkedWorld (world_of r)) (HiddenBefore old) linked stop done (world_of r) words h image end)
+
+  -- what the start and the history left of both files, where this was acknowledged by the start
+  pub survives_kept : LeavesBoth old mid (LeftByStarts old) → RunBoth old mid → LeavesBoth mid new (SurvivesUntil stop done (LinkedWorld (world_of r)) (world_of r) words h)
+      → LeavesBoth old new (λ image. LeftByStarts old image ⊎ SurvivesUntil stop done (HiddenBefore old) (first_world b.table b.names) words h image)
+  survives_kept moments run survives = leaves_on run (weaker (λ image left. inl left) moments) (weaker (λ image left. inr (until_kept image left)) survives)
+
+  -- and what is left in the end
+  pub last_kept : (image : Image) → SurvivesLast stop done (LinkedWorld (world_of r)) (world_of r) words h image → SurvivesLast stop done (HiddenBefore old) (first_world b.table b.names) words h image
+  last_kept image left = subst (λ (w : WorldState). SurvivesLast stop done (HiddenBefore old) w words h image) b.first (go left)
+    where
+      go : SurvivesLast stop done (LinkedWorld (world_of r)) (world_of r) words h image → SurvivesLast stop done (HiddenBefore old) (world_of r) words h image
+      go (inl rest) = inl (rests_weaker (LinkedWorld (world_of r)) (HiddenBefore old) linked done (world_of r) words h image rest)
+      go (inr end) = inr (stop_weaker (LinkedWorld (world_of r)) (HiddenBefore old) linked stop done (world_of r) words h image end)
+
+  -- the promise on zone files, with a ledger that the files at the start allow
+  pub promise_kept : ((x : Hidden) → IsHidden (world_of r) x → FilesOpen x (world_of r) words h) → (x : Hidden) → HiddenBefore old x → FilesOpen x (first_world b.table b.names) words h
+  promise_kept opens x before = subst (λ (w : WorldState). FilesOpen x w words h) b.first (opens x (first_hidden old mid r b told x before))
 
 -- which fault a start had
 
@@ -90,21 +105,3 @@ names_fail old new result why is (inl (inr that, only)) =
     let same = one_fault result why (record { file = 1; fault = start.StoreFault }) is that in
     inl (inr (ap (λ (f : WorldFault). f.file) same, ap (λ (f : WorldFault). f.fault) same), only)
 names_fail old new result why is (inr since) = inr since
-
--- both files of a start that was done
-abbrev pub Synced : DiskState → DiskState → Type 0
-Synced old new = LeavesFrom 0 old new (IsLeftByStart (old.reads 0)) × LeavesFrom 1 old new (IsLeftByNameStart (old.reads 1))
-
-keys_open : (old new : DiskState) (r : RunningWorld) → KeysSince old new (Ok r) → LeavesFrom 0 old new (IsLeftByStart (old.reads 0))
-keys_open old new r (inl (inl is, only)) = absurd (cc is)
-keys_open old new r (inl (inr is, only)) = absurd (cc is)
-keys_open old new r (inr since) = since
-
-names_open : (old new : DiskState) (r : RunningWorld) → NamesSince old new (Ok r) → LeavesFrom 1 old new (IsLeftByNameStart (old.reads 1))
-names_open old new r (inl (inl (fault, is), only)) = absurd (cc is)
-names_open old new r (inl (inr is, only)) = absurd (cc is)
-names_open old new r (inr since) = since
-
-pub both_open : (old new : DiskState) (result : Result RunningWorld WorldFault) → (Tells old → KeysSince old new result) → (Tells old → NamesSince old new result) → IfOk result (λ (world : RunningWorld). Tells old → Synced old new)
-both_open old new (Ok r) keys names = λ told. (keys_open old new r (keys told), names_open old new r (names told))
-both_open old new (Err why) keys names = tt

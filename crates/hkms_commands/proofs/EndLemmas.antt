@@ -15,7 +15,8 @@ use Rattle.hk_events.specs.declared.event.Event.{Event}
 use Rattle.hk_events.specs.declared.event.Event.TheVariants as event
 use Rattle.world_run.specs.declared.fault.WorldFault.{WorldFault}
 use Rattle.world_run.specs.Acknowledged.{Acknowledged, HoldsLogs, also}
-use Rattle.world_run.specs.Keeps.{is_restart, last_opening}
+use Rattle.world_run.specs.Keeps.{LeftByRestart, is_restart, last_opening}
+use Rattle.world_run.specs.Linked.{LinkedWorld}
 use Rattle.world_run.specs.Own.{SurvivesRestart}
 use Rattle.world_run.specs.World.{WorldState, world_of}
 use Rattle.hkms_commands.specs.declared.lines.Got.{Got}
@@ -26,10 +27,10 @@ use Rattle.hkms_commands.specs.declared.stage.Play.{Play}
 use Rattle.hkms_commands.specs.declared.stage.Play.TheVariants.{Played, BadLine, Unread, Untold, Unwritten, Unopened}
 use Rattle.hkms_commands.specs.Lines.{is_line, is_lf, lines_of, text_of}
 use Rattle.hkms_commands.specs.Run.{Happened, History, events_in, hidden_in, lines_in, logged_in, told_of, transcript, world_after}
-use Rattle.hkms_commands.specs.Replay.{BadNext, ComesNext, HasProperties, IsCut, IsSpent, IsTold, NextSpells, ReadsAs, ReadsAt, RestartStops, Starts, Stops, SurvivesStop, ended_by, longest_input}
+use Rattle.hkms_commands.specs.Replay.{BadNext, ComesNext, HasProperties, IsCut, IsSpent, IsTold, LeftByStop, NextSpells, ReadsAs, ReadsAt, RestartStops, Starts, Stops, SurvivesStop, ended_by, longest_input}
 use Rattle.hkms_commands.specs.Steps.{Caused, HasLists, LinePlayed, Next, NextSo, PlaysLine, PlaysSo, Ran, Read, Stand, StopsAtRestart, StopsReading, Untouched, View, counts, end_of_play}
 use Rattle.hkms_commands.proofs.HistoryLemmas.{Begin, Course, SoFar, course_line, course_line_is, course_untouched, course_untouched_is, so_far_line}
-use Rattle.hkms_commands.proofs.LivedLemmas.{Lived, has_lists, leaves_on, run_on, sound_last, tells_now, weaker}
+use Rattle.hkms_commands.proofs.LivedLemmas.{Lived, has_lists, leaves_on, rests_after, run_on, tells_now, weaker}
 use Rattle.hkms_commands.proofs.SplitLemmas.{split_text, split_last, split_on, split_ended, parts, count_lf}
 
 -- the lines of the input
@@ -145,19 +146,18 @@ IsPlain stop = ((left : Option (List ℕ)) (lines : List (List ℕ)) (w : WorldS
 
 ran : (props : List PropLine) (old new : DiskState) (b : Begin) (v : View) (count : ℕ) (stop : Ended) (so : Course props old new b v count) (h : History) → so.history ≡ h → (text : List ℕ) (now : Option (List ℕ)) → IsPlain stop
     → Appends b.written now text → IsTold stop text (transcript h) → ((all : List ℕ) → b.left ≡ Some all → Stops stop all (lines_in h))
-    → Ran props old new b.world b.words b.left b.written now stop count
+    → Ran props old new b.world b.words v.words b.left b.written now stop count
 unfolding IsPlain
 ran props old new b v count stop so h is text now plain wrote told here = record {
   history = so.history;
   runs = so.runs;
-  kept = λ tells done holds. record {
+  rest = so.lived.rest;
+  kept = λ tells now done holds. record {
     moments = weaker (λ image left. inl left) (so.lived.survives tells done holds);
+    last = λ image is. inl (rests_after old new b.world v.world b.words v.words so.history so.lived tells now done holds image is);
     reads = reads_at stop b.left (lines_in so.history) new (also done (logged_in so.history)) (world_after (world_of b.world) so.history) (v.world, so.lived.world_is, so.lived.stands tells done holds);
   };
-  promise = λ tells done holds before hidden. record {
-    files_open = so.lived.files_open tells before hidden;
-    sound = so.lived.sound tells done holds before hidden.linked;
-  };
+  promise = so.lived.files_open;
   run = so.lived.run;
   counted_faults = omega (arith, so.lived.faults_are);
   restart = λ tells. plain.0 b.left (lines_in so.history) (world_after (world_of b.world) so.history);
@@ -171,10 +171,10 @@ ran props old new b v count stop so h is text now plain wrote told here = record
 
 -- before a line is played
 stops_before : (props : List PropLine) (old mid new : DiskState) (b : Begin) (s : Stand) (stop : Ended) (v : View) (so : SoFar props old mid b s) → Untouched mid new s.view v → IsPlain stop
-    → ((all : List ℕ) → b.left ≡ Some all → Stops stop all (lines_in so.course.history)) → Ran props old new b.world b.words b.left b.written v.written stop s.count
+    → ((all : List ℕ) → b.left ≡ Some all → Stops stop all (lines_in so.course.history)) → Ran props old new b.world b.words v.words b.left b.written v.written stop s.count
 stops_before props old mid new b s stop v so u plain here =
     let told : List ℕ = transcript so.course.history in
-    ran props old new b (record s.view { world = v.world }) s.count stop (course_untouched props old mid new b s.view v s.count so.course u) so.course.history
+    ran props old new b (record s.view { world = v.world; words = v.words }) s.count stop (course_untouched props old mid new b s.view v s.count so.course u) so.course.history
     (course_untouched_is props old mid new b s.view v s.count so.course u) told v.written plain
     (subst (Appends b.written v.written) (append-nil told) (Appends-trans b.written s.view.written v.written _ _ so.wrote u.wrote)) (all_told stop told told refl) here
 
@@ -182,7 +182,7 @@ stops_before props old mid new b s stop v so u plain here =
 stops_behind : (props : List PropLine) (old mid new : DiskState) (b : Begin) (s : Stand) (stop : Ended) (line : List ℕ) (event : Option Happened) (v : View) (text : List ℕ) (so : SoFar props old mid b s) → PlaysLine props mid new s.view line event v
     → is_line line ≡ true → IsPlain stop → Appends s.view.written v.written text → IsTold stop (transcript so.course.history ++ text) (transcript so.course.history ++ told_of (events_in so.course.history) event)
     → ((all : List ℕ) → b.left ≡ Some all → Stops stop all (lines_in so.course.history ++ line ∷ []))
-    → Ran props old new b.world b.words b.left b.written v.written stop (s.count + 1)
+    → Ran props old new b.world b.words v.words b.left b.written v.written stop (s.count + 1)
 stops_behind props old mid new b s stop line event v text so plays is plain wrote told here =
     ran props old new b v (s.count + 1) stop (course_line props old mid new b s.view v s.count line event so.course plays is) (record { line = line; event = event } ∷ so.course.history)
     (course_line_is props old mid new b s.view v s.count line event so.course plays is) (transcript so.course.history ++ text) v.written plain
@@ -278,23 +278,18 @@ cut_next : (left : Option (List ℕ)) (lines : List (List ℕ)) (e : Event) (fil
 cut_next left lines e file r next = ⊎_elim (λ keys. inl (subst (ComesNext left lines) keys.0 next)) (λ names. inr (subst (ComesNext left lines) names.0 next)) (which_restart e file r)
 
 stops_at_restart : (props : List PropLine) (old mid new : DiskState) (b : Begin) (s : Stand) (line : List ℕ) (fault : WorldFault) (v : View) (so : SoFar props old mid b s) → StopsAtRestart mid new s.view line fault v
-    → Appends s.view.written v.written [] → IsNext b.left (lines_in so.course.history) line → Ran props old new b.world b.words b.left b.written v.written (ended_by fault.file fault.fault) s.count
+    → Appends s.view.written v.written [] → IsNext b.left (lines_in so.course.history) line → Ran props old new b.world b.words v.words b.left b.written v.written (ended_by fault.file fault.fault) s.count
 stops_at_restart props old mid new b s line fault v so at wrote next = record {
   history = h;
   runs = so.course.runs;
-  kept = λ tells done holds. record {
+  rest = λ k. ap (λ (x : ℕ → ℕ). x k) at.fails.same_words ∙ lived.rest k;
+  kept = λ tells now done holds. record {
     moments = leaves_on lived.run (weaker (λ image left. inl left) (lived.survives tells done holds))
-        (weaker (λ image left. inr (stop_left at.restart fault.file fault.fault (world_after (world_of b.world) h) (also done (logged_in h)) image at.fails.restart (at.fails.never_damaged (tells_now old mid lived.run tells))
-        (subst (λ (w : WorldState). SurvivesRestart w at.restart (also done (logged_in h)) image) lived.world_is left)))
-        (at.fails.survives (tells_now old mid lived.run tells) (also done (logged_in h)) (lived.stands tells done holds)));
+        (weaker (λ image left. inr (stopped tells done image left)) (at.fails.survives (tells_now old mid lived.run tells) (also done (logged_in h)) (lived.stands tells done holds)));
+    last = λ image is. inr (stopped tells done image (at.fails.survives_then (tells_now old mid lived.run tells) (also done (logged_in h)) (lived.stands tells done holds) image is));
     reads = unread fault.file fault.fault b.left (lines_in h) new (also done (logged_in h)) (world_after (world_of b.world) h) (cut_next b.left (lines_in h) at.restart fault.file at.fails.restart comes);
   };
-  promise = λ tells done holds before hidden. record {
-    files_open = lived.files_open tells before hidden;
-    sound = leaves_on lived.run (lived.sound tells done holds before hidden.linked)
-        (weaker (sound_last before (world_of b.world) b.words h)
-        (at.fails.sound (tells_now old mid lived.run tells) (hidden_in before (world_of b.world) b.words h) (lived.linked tells before hidden.linked) (also done (logged_in h)) (lived.stands tells done holds)));
-  };
+  promise = lived.files_open;
   run = run_on old mid new lived.run at.fails.run;
   counted_faults = omega (arith, lived.faults_are, at.fails.run.faults);
   restart = λ tells. why_stopped fault.file fault.fault b.left (lines_in h) (world_after (world_of b.world) h) (at.fails.never_damaged (tells_now old mid lived.run tells))
@@ -315,6 +310,15 @@ stops_at_restart props old mid new b s line fault v so at wrote next = record {
     lived : Lived old mid b.world b.words s.view.world s.view.words h
     lived = so.course.lived
 
+    -- what the restart leaves
+    stopped : Tells old → (done : Acknowledged) (image : Image) → LeftByRestart (world_of s.view.world) at.restart (also done (logged_in h)) image
+        → LeftByStop (ended_by fault.file fault.fault) done (LinkedWorld (world_of b.world)) (world_of b.world) b.words h image
+    stopped tells done image left = (
+      stop_left at.restart fault.file fault.fault (world_after (world_of b.world) h) (also done (logged_in h)) image at.fails.restart (at.fails.never_damaged (tells_now old mid lived.run tells))
+          (subst (λ (w : WorldState). SurvivesRestart w at.restart (also done (logged_in h)) image) lived.world_is left.0),
+      λ hidden linked. left.1 (hidden_in hidden (world_of b.world) b.words h) (lived.linked tells hidden linked),
+    )
+
     comes : ComesNext b.left (lines_in h) at.restart
     comes = spelled_next b.left (lines_in h) line at.restart next at.spells
 
@@ -327,7 +331,7 @@ the_end a b is = cc
 -- a line that was played, or not, ends the replay
 line_stops : (props : List PropLine) (old mid new : DiskState) (b : Begin) (s : Stand) (line : List ℕ) (last : Bool) (v : View) (count : ℕ) (stop : Ended) (so : SoFar props old mid b s) → LinePlayed props mid new s.view line last (Some stop) v s.count count
     → is_line line ≡ true → IsNext b.left (lines_in so.course.history) line → (last ≡ true → (all : List ℕ) → b.left ≡ Some all → lines_of all ≡ lines_in so.course.history ++ line ∷ [])
-    → Ran props old new b.world b.words b.left b.written v.written stop count
+    → Ran props old new b.world b.words v.words b.left b.written v.written stop count
 unfolding IsPlain
 line_stops props old mid new b s line last v count stop so p is next whole = go p.play last p.plays p.result_is p.counted whole
   where
@@ -338,10 +342,10 @@ line_stops props old mid new b s line last v count stop so p is next whole = go 
     told_here event = ap (λ (n : ℕ). told_of n event) so.course.numbered
 
     Goal : ℕ → Ended → Type 0
-    Goal n e = Ran props old new b.world b.words b.left b.written v.written e n
+    Goal n e = Ran props old new b.world b.words v.words b.left b.written v.written e n
 
     go : (play : Play) (last : Bool) → PlaysSo props mid new s.view line play v → Some stop ≡ end_of_play last play → count ≡ s.count + counts play
-        → (last ≡ true → (all : List ℕ) → b.left ≡ Some all → lines_of all ≡ lines_in h ++ line ∷ []) → Ran props old new b.world b.words b.left b.written v.written stop count
+        → (last ≡ true → (all : List ℕ) → b.left ≡ Some all → lines_of all ≡ lines_in h ++ line ∷ []) → Ran props old new b.world b.words v.words b.left b.written v.written stop count
     go Played false (event, plays, wrote) is_end n whole = absurd cc
     go Played true (event, plays, wrote) is_end n whole =
         subst (λ (e : Ended). Goal count e) (sym (the_end stop ended.Done is_end)) (subst (λ (k : ℕ). Goal k ended.Done) (sym n)
@@ -389,7 +393,7 @@ ahead_of : (props : List PropLine) (old mid : DiskState) (b : Begin) (s : Stand)
 ahead_of props old mid b s so = record { whole = so.course.whole; consumed = so.consumed }
 
 -- the next line ends the replay
-pub next_stops : (props : List PropLine) (old mid new : DiskState) (b : Begin) (s s' : Stand) (stop : Ended) → SoFar props old mid b s → Next props mid new s (Some stop) s' → Ran props old new b.world b.words b.left b.written s'.view.written stop s'.count
+pub next_stops : (props : List PropLine) (old mid new : DiskState) (b : Begin) (s s' : Stand) (stop : Ended) → SoFar props old mid b s → Next props mid new s (Some stop) s' → Ran props old new b.world b.words s'.view.words b.left b.written s'.view.written stop s'.count
 unfolding IsPlain
 next_stops props old mid new b s s' stop so n = go n.how n.read n.next
   where
@@ -400,16 +404,16 @@ next_stops props old mid new b s s' stop so n = go n.how n.read n.next
     ahead = ahead_of props old mid b s so
 
     ends : (e : Ended) → IsPlain e → StopsReading mid new s.view s'.view s.count s'.count e (Some stop)
-        → ((all : List ℕ) → b.left ≡ Some all → Stops e all lines) → Ran props old new b.world b.words b.left b.written s'.view.written stop s'.count
+        → ((all : List ℕ) → b.left ≡ Some all → Stops e all lines) → Ran props old new b.world b.words s'.view.words b.left b.written s'.view.written stop s'.count
     ends e plain r here =
-        subst (λ (x : Ended). Ran props old new b.world b.words b.left b.written s'.view.written x s'.count) (sym (the_end stop e r.result_is))
-        (subst (λ (k : ℕ). Ran props old new b.world b.words b.left b.written s'.view.written e k) (sym r.counted) (before e plain r here))
+        subst (λ (x : Ended). Ran props old new b.world b.words s'.view.words b.left b.written s'.view.written x s'.count) (sym (the_end stop e r.result_is))
+        (subst (λ (k : ℕ). Ran props old new b.world b.words s'.view.words b.left b.written s'.view.written e k) (sym r.counted) (before e plain r here))
       where
         before : (e : Ended) → IsPlain e → StopsReading mid new s.view s'.view s.count s'.count e (Some stop)
-            → ((all : List ℕ) → b.left ≡ Some all → Stops e all lines) → Ran props old new b.world b.words b.left b.written s'.view.written e s.count
+            → ((all : List ℕ) → b.left ≡ Some all → Stops e all lines) → Ran props old new b.world b.words s'.view.words b.left b.written s'.view.written e s.count
         before e plain r here = stops_before props old mid new b s e s'.view so r.untouched plain here
 
-    go : (how : Got) → Read s how n.line s' → NextSo props mid new s how n.line (Some stop) s' → Ran props old new b.world b.words b.left b.written s'.view.written stop s'.count
+    go : (how : Got) → Read s how n.line s' → NextSo props mid new s how n.line (Some stop) s' → Ran props old new b.world b.words s'.view.words b.left b.written s'.view.written stop s'.count
     go got.Line read played =
         line_stops props old mid new b s n.line false s'.view s'.count stop so played read.is_line
         (record { next = λ all told. next_is b.left s.ahead s'.ahead lines n.line ahead read.is_line (read.consumed (λ e. cc)) all told }) (λ e. absurd cc)
@@ -486,7 +490,7 @@ goes_on_under old mid new b s s' so next props has =
     next_goes_on props old mid new b s s' here (next props (has_lists b.world s.view.world props here.course.lived.lists has))
 
 pub stops_under : (old mid new : DiskState) (b : Begin) (s s' : Stand) (stop : Ended) → SoFarUnder old mid b s → ((props : List PropLine) → HasLists s.view.world props → Next props mid new s (Some stop) s')
-    → (props : List PropLine) → HasLists b.world props → Ran props old new b.world b.words b.left b.written s'.view.written stop s'.count
+    → (props : List PropLine) → HasLists b.world props → Ran props old new b.world b.words s'.view.words b.left b.written s'.view.written stop s'.count
 stops_under old mid new b s s' stop so next props has =
     let here = so props has in
     next_stops props old mid new b s s' stop here (next props (has_lists b.world s.view.world props here.course.lived.lists has))

@@ -13,8 +13,8 @@ use Rattle.world_run.specs.Ledger.{Hidden}
 use Rattle.world_run.specs.Linked.{LinkedWorld}
 use Rattle.world_run.specs.Promise.{ZoneFilesOpen}
 use Rattle.hkms_commands.specs.Lines.{is_line, text_of}
-use Rattle.hkms_commands.specs.Run.{Happened, History, LineRuns, Runs, behind, drawn_in, events_in, faults_after, hidden_of, lines_in, told_of, transcript, world_after, world_of_line}
-use Rattle.hkms_commands.specs.Steps.{IsHidden, PlaysLine, Stand, Untouched, View}
+use Rattle.hkms_commands.specs.Run.{Happened, History, IsHidden, LineRuns, Runs, behind, drawn_in, events_in, faults_after, hidden_of, lines_in, told_of, transcript, world_after, world_of_line}
+use Rattle.hkms_commands.specs.Steps.{PlaysLine, Stand, Untouched, View}
 use Rattle.hkms_commands.proofs.LivedLemmas.{Adds, Lived, lived_more, lived_nothing, lived_on}
 use Rattle.hkms_commands.proofs.SplitLemmas.{text_more, whole_more}
 
@@ -125,11 +125,11 @@ unfolding course_line
 course_line_is props old mid new b s v count line event so plays is = refl
 
 -- the same where nothing was done
-pub course_untouched : (props : List PropLine) (old mid new : DiskState) (b : Begin) (s v : View) (count : ℕ) → Course props old mid b s count → Untouched mid new s v → Course props old new b (record s { world = v.world }) count
+pub course_untouched : (props : List PropLine) (old mid new : DiskState) (b : Begin) (s v : View) (count : ℕ) → Course props old mid b s count → Untouched mid new s v → Course props old new b (record s { world = v.world; words = v.words }) count
 course_untouched props old mid new b s v count so u = record {
   history = so.history;
   runs = so.runs;
-  lived = lived_on old mid new b.world s.world v.world b.words s.words so.history so.lived u.world_is u.faults_are u.goes_on;
+  lived = subst (λ (x : ℕ → ℕ). Lived old new b.world b.words v.world x so.history) (sym u.same_words) (lived_on old mid new b.world s.world v.world b.words s.words so.history so.lived u.world_is u.faults_are u.goes_on);
   numbered = so.numbered;
   counted = so.counted;
   whole = so.whole;

@@ -7,26 +7,22 @@ use Rattle.hk_base.specs.Faults.{Rose}
 use Rattle.hk_base.specs.Writing.{WroteFront}
 use Rattle.frame_log.specs.declared.fault.StartFault.{StartFault}
 use Rattle.frame_log.specs.declared.fault.StartFault.TheVariants as start
-use Rattle.kms_store.specs.Store.{IsLeftByStart}
-use Rattle.name_store.specs.Store.{IsLeftByStart as IsLeftByNameStart}
 use Rattle.kms_core.proofs.ServiceLemmas.{rose_before, rose_since}
 use Rattle.prop_text.specs.declared.lines.PropLine.{PropLine}
 use Rattle.prop_text.specs.declared.faults.PropFault.{PropFault}
 use Rattle.prop_text.specs.declared.faults.PropFault.TheVariants as prop_fault
 use Rattle.world_run.specs.Acknowledged.{Acknowledged, LeavesBoth, RunBoth, also}
 use Rattle.world_run.specs.Keeps.{Begins, LeftByStarts}
-use Rattle.world_run.specs.Ledger.{Ledger}
-use Rattle.world_run.specs.Linked.{SoundFiles, StartsSound}
-use Rattle.world_run.specs.World.{RunningWorld, WorldState, first_world, world_of}
+use Rattle.world_run.specs.World.{RunningWorld, WorldState, first_world}
 use Rattle.hkms_commands.specs.declared.replay.Ended.{Ended}
 use Rattle.hkms_commands.specs.declared.replay.Ended.TheVariants as ended
 use Rattle.hkms_commands.specs.declared.props.PropsFault.{PropsFault}
 use Rattle.hkms_commands.specs.declared.props.PropsFault.TheVariants as props_fault
 use Rattle.hkms_commands.specs.Properties.{HasPropsFault, ReadsProperties}
 use Rattle.hkms_commands.specs.Run.{History, Runs, lines_in, logged_in, transcript, world_after}
-use Rattle.hkms_commands.specs.Replay.{IsTold, NotOpened, OnDisk, Played, ReadsAt, Replay, ReplayUnder, RestartStops, Says, SurvivesUntil, ended_by, ended_by_props, ended_by_text, last_line, opened_logs, status_of}
+use Rattle.hkms_commands.specs.Replay.{IsTold, NotOpened, OnDisk, Played, ReadsAt, Replay, ReplayUnder, RestartStops, Says, ended_by, ended_by_props, ended_by_text, last_line, opened_logs, status_of}
 use Rattle.hkms_commands.specs.Steps.{Caused, Closes, Ran}
-use Rattle.hkms_commands.proofs.BeganLemmas.{Synced, promise_kept, since_kept, survives_kept}
+use Rattle.hkms_commands.proofs.BeganLemmas.{last_kept, promise_kept, survives_kept}
 use Rattle.hkms_commands.proofs.LivedLemmas.{tells_now}
 
 -- what is written behind a body
@@ -79,11 +75,11 @@ nothing_told file start.StoreFault = refl
 nothing_told file start.NoMemory = ([], refl)
 nothing_told file start.Spent = refl
 
-pub unopened : (lines : List PropLine) (old new : DiskState) (words : ℕ → ℕ) (left written now : Option (List ℕ)) (file : ℕ) (fault : StartFault) (how : Ended) → NotOpened old new file fault → Closes (ended_by file fault) 0 written now how
-    → ReplayUnder lines old new words left written now how
-unopened lines old new words left written now file fault how not c =
+pub unopened : (lines : List PropLine) (same : Type 0) (old new : DiskState) (words words' : ℕ → ℕ) (left written now : Option (List ℕ)) (file : ℕ) (fault : StartFault) (how : Ended) → NotOpened old new file fault → same
+    → Closes (ended_by file fault) 0 written now how → ReplayUnder lines same old new words words' left written now how
+unopened lines same old new words words' left written now file fault how not untouched c =
     let w = closed (ended_by file fault) how 0 [] [] written written now (nothing_told file fault) (Appends-nil written) c in
-    inl (record { file = file; fault = fault; not_opened = not; text = w.text; wrote = w.wrote; says = w.says })
+    inl (record { file = file; fault = fault; not_opened = not; untouched = untouched; text = w.text; wrote = w.wrote; says = w.says })
 
 -- the properties could not be read
 
@@ -98,25 +94,25 @@ nothing_told_of_props : (f : PropsFault) → IsTold (ended_by_props f) [] []
 nothing_told_of_props props_fault.ReadFault = refl
 nothing_told_of_props (props_fault.TextFault f) = nothing_told_of_text f
 
-pub bad_properties : (same : Type 0) (old new : DiskState) (acls acls' : Option (List ℕ)) (words : ℕ → ℕ) (left written now : Option (List ℕ)) (fault : PropsFault) (how : Ended)
-    → HasPropsFault acls fault → same → Closes (ended_by_props fault) 0 written now how → Replay same old new acls acls' words left written now how
-bad_properties same old new acls acls' words left written now fault how has untouched c =
+pub bad_properties : (same_disk same : Type 0) (old new : DiskState) (acls acls' : Option (List ℕ)) (words words' : ℕ → ℕ) (left written now : Option (List ℕ)) (fault : PropsFault) (how : Ended)
+    → HasPropsFault acls fault → same_disk × same → Closes (ended_by_props fault) 0 written now how → Replay same_disk same old new acls acls' words words' left written now how
+bad_properties same_disk same old new acls acls' words words' left written now fault how has untouched c =
     let w = closed (ended_by_props fault) how 0 [] [] written written now (nothing_told_of_props fault) (Appends-nil written) c in
     inl (record { fault = fault; has_fault = has; untouched = untouched; text = w.text; wrote = w.wrote; says = w.says })
 
-pub has_read : (same : Type 0) (old new : DiskState) (acls acls' : Option (List ℕ)) (words : ℕ → ℕ) (left written now : Option (List ℕ)) (how : Ended) (lines : List PropLine)
-    → ReadsProperties acls acls' lines → ReplayUnder lines old new words left written now how → Replay same old new acls acls' words left written now how
-has_read same old new acls acls' words left written now how lines read replay = inr (record { lines = lines; read = read; replay = replay })
+pub has_read : (same_disk same : Type 0) (old new : DiskState) (acls acls' : Option (List ℕ)) (words words' : ℕ → ℕ) (left written now : Option (List ℕ)) (how : Ended) (lines : List PropLine)
+    → ReadsProperties acls acls' lines → ReplayUnder lines same old new words words' left written now how → Replay same_disk same old new acls acls' words words' left written now how
+has_read same_disk same old new acls acls' words words' left written now how lines read replay = inr (record { lines = lines; read = read; replay = replay })
 
 -- lines were played
 
 -- lines were played
 
-pub played : (lines : List PropLine) (old mid new : DiskState) (r : RunningWorld) (words : ℕ → ℕ) (left written told now : Option (List ℕ)) (stop how : Ended) (count : ℕ) → Begins old mid r
-    → (Tells old → LeavesBoth old mid (LeftByStarts old)) → (Tells old → Synced old mid) → (Tells old → (ledger : Ledger) (place : ℕ) → StartsSound old ledger place → LeavesBoth old mid (SoundFiles ledger place)) → RunBoth old mid
-    → Ran lines mid new r words left written told stop count → Closes stop count told now how → ReplayUnder lines old new words left written now how
-played lines old mid new r words left written told now stop how count b moments since sound run ran c =
-    inr (record { history = h; stop = stop; played = whole; text = w.text; wrote = w.wrote; says = w.says })
+pub played : (lines : List PropLine) (same : Type 0) (old mid new : DiskState) (r : RunningWorld) (words words' : ℕ → ℕ) (left written told now : Option (List ℕ)) (stop how : Ended) (count : ℕ) → Begins old mid r
+    → (Tells old → LeavesBoth old mid (LeftByStarts old)) → RunBoth old mid
+    → Ran lines mid new r words words' left written told stop count → Closes stop count told now how → ReplayUnder lines same old new words words' left written now how
+played lines same old mid new r words words' left written told now stop how count b moments run ran c =
+    inr (record { history = h; stop = stop; played = whole; rest = ran.rest; text = w.text; wrote = w.wrote; says = w.says })
   where
     h : History
     h = ran.history
@@ -136,16 +132,17 @@ played lines old mid new r words left written told now stop how count b moments 
     disk : Tells old → OnDisk old new words b.table b.names h stop
     disk tells =
         let log = b.log tells in
-        let later : LeavesBoth mid new (SurvivesUntil stop (found tells) (world_of r) words h) = (ran.kept (tells_now old mid run tells) (found tells) log.holds).moments in
+        let kept = ran.kept (tells_now old mid run tells) b.rests (found tells) log.holds in
         record {
           commands = log.commands;
           ops = log.ops;
           used = log.used;
           keys = log.keys;
           edits = log.edits;
-          moments = survives_kept old mid new r words h stop first (found tells) b.first (moments tells) run later;
-          since_sync_keys = since_kept 0 (IsLeftByStart (old.reads 0)) old mid new r words h stop first (found tells) b.first (since tells).0 ran.run later;
-          since_sync_names = since_kept 1 (IsLeftByNameStart (old.reads 1)) old mid new r words h stop first (found tells) b.first (since tells).1 ran.run later;
+          keys_room = log.keys_room;
+          names_room = log.names_room;
+          moments = survives_kept old mid new r b tells words h stop (found tells) (moments tells) run kept.moments;
+          last = λ image is. last_kept old mid new r b tells words h stop (found tells) image (kept.last image is);
         }
 
     whole : Played lines old new words left stop h
@@ -157,8 +154,8 @@ played lines old mid new r words left written told now stop how count b moments 
       began = run.faults;
       ended = ran.counted_faults;
       on_disk = disk;
-      promise = λ tells. promise_kept old mid new r words h b tells run (sound tells) (ran.promise (tells_now old mid run tells));
-      reads = λ tells. subst (λ (v : WorldState). ReadsAt stop left (lines_in h) new (also (found tells) (logged_in h)) (world_after v h)) b.first (ran.kept (tells_now old mid run tells) (found tells) (b.log tells).holds).reads;
+      promise = λ tells. promise_kept old mid new r b tells words h stop (found tells) (ran.promise (tells_now old mid run tells));
+      reads = λ tells. subst (λ (v : WorldState). ReadsAt stop left (lines_in h) new (also (found tells) (logged_in h)) (world_after v h)) b.first (ran.kept (tells_now old mid run tells) b.rests (found tells) (b.log tells).holds).reads;
       restart = λ tells. subst (λ (v : WorldState). RestartStops stop left (lines_in h) (world_after v h)) b.first (ran.restart (tells_now old mid run tells));
       stops = ran.stops;
       has_properties = ran.has_properties;

@@ -1,6 +1,5 @@
 mod BeganLemmas
 pub mod EndLemmas
-mod FirstLemmas
 mod FollowLemmas
 pub mod HistoryLemmas
 mod LastLemmas

@@ -1,17 +1,18 @@
 -- What a history of events, of lines or of calls, keeps of both logs and of zone files.
 use Rattle.std.proofs.Common.{◌≡◌, inl, inr, ℕ, ◌+◌, List, [], ◌∷◌, refl, ap, sym, ◌∙◌, subst, IsTrue, Option, ⊎_elim, arith, append_assoc, append-nil}
-use Rattle.hk_base.specs.Disk.{DiskState, Image, Tells}
+use Rattle.hk_base.specs.Disk.{DiskState, Image, IsImage, Tells}
 use Rattle.kms_acls.specs.Lists.{Lists}
 use Rattle.kms_acls.specs.StandsFor.{StandsFor as ListsFor}
 use Rattle.prop_text.specs.declared.lines.PropLine.{PropLine}
 use Rattle.world_run.specs.Acknowledged.{Acknowledged, HoldsLogs, LeavesBoth, RunBoth, also, nothing_acknowledged}
 use Rattle.world_run.specs.World.{RunningWorld, WorldState, world_of}
-use Rattle.world_run.specs.Ledger.{Hidden}
-use Rattle.world_run.specs.Linked.{LinkedWorld}
+use Rattle.world_run.specs.Ledger.{Hidden, past_of}
+use Rattle.world_run.specs.Keeps.{RestsNow, SoundFrom}
+use Rattle.world_run.specs.Linked.{LinkedWorld, SoundFiles}
 use Rattle.world_run.specs.Own.{SurvivesAtRest}
 use Rattle.world_run.specs.Promise.{ZoneFilesOpen}
-use Rattle.hkms_commands.specs.Run.{FilesOpen, Happened, History, SoundIn, SoundWith, SurvivesIn, SurvivesLine, behind, drawn_in, drawn_of, faults_after, faults_of, hidden_in, hidden_of, logged_in, logged_of, world_after, world_of_line}
-use Rattle.hkms_commands.specs.Steps.{GoesOn, HasLists, IsHidden, SameLists}
+use Rattle.hkms_commands.specs.Run.{FilesOpen, Happened, History, IsHidden, RestsAfter, SurvivesIn, SurvivesLine, behind, drawn_in, drawn_of, faults_after, faults_of, hidden_in, hidden_of, logged_in, logged_of, world_after, world_of_line}
+use Rattle.hkms_commands.specs.Steps.{GoesOn, HasLists, SameLists}
 
 -- runs of calls on both files
 
@@ -62,22 +63,13 @@ has_lists r r' props same has = subst (λ (l : Lists). ListsFor l props) (sym sa
 
 -- the last world of a history
 
-pub open_last : (before : Hidden) (first : WorldState) (words : ℕ → ℕ) (history : History) → FilesOpen before first words history → ZoneFilesOpen (world_after first history) (hidden_in before first words history)
+pub open_last : (before : Hidden) (first : WorldState) (words : ℕ → ℕ) (history : History) → FilesOpen before first words history → IsHidden (world_after first history) (hidden_in before first words history)
 open_last before first words [] f = f
 open_last before first words (x ∷ earlier) f = f.0
 
-pub survives_last : (done : Acknowledged) (first : WorldState) (words : ℕ → ℕ) (history : History) (image : Image) → SurvivesAtRest (world_after first history) (also done (logged_in history)) image → SurvivesIn done first words history image
-survives_last done first words [] image s = subst (λ (a : Acknowledged). SurvivesAtRest first a image) (also_nothing done) s
-survives_last done first words (x ∷ earlier) image s = inl s
-
-pub sound_last : (before : Hidden) (first : WorldState) (words : ℕ → ℕ) (history : History) (image : Image) → SoundWith (hidden_in before first words history) image → SoundIn before first words history image
-sound_last before first words [] image s = s
-sound_last before first words (x ∷ earlier) image s = inl s
-
--- files that were sound with what was hidden before the history are so on the way
-pub sound_from : (before : Hidden) (first : WorldState) (words : ℕ → ℕ) (history : History) (image : Image) → SoundWith before image → SoundIn before first words history image
-sound_from before first words [] image s = s
-sound_from before first words (x ∷ earlier) image s = inr (sound_from before first words earlier image s)
+pub rests_last : (done : Acknowledged) (Before : Hidden → Type 0) (first : WorldState) (words : ℕ → ℕ) (history : History) (image : Image) → RestsAfter done Before first words history image → SurvivesIn done Before first words history image
+rests_last done Before first words [] image s = s
+rests_last done Before first words (x ∷ earlier) image s = inl s
 
 -- What a line or a call adds to a history, from one world to the next.
 pub record Adds (old new : DiskState) (r : RunningWorld) (words : ℕ → ℕ) (event : Option Happened) (r' : RunningWorld) (words' : ℕ → ℕ) : Type 0 where
@@ -94,8 +86,8 @@ pub record Lived (old new : DiskState) (first : RunningWorld) (words : ℕ → �
   pub linked : Tells old → (h : Hidden) → LinkedWorld (world_of first) h → LinkedWorld (world_of r) (hidden_in h (world_of first) words history)
   pub files_open : Tells old → (h : Hidden) → IsHidden (world_of first) h → FilesOpen h (world_of first) words history
   pub stands : Tells old → (done : Acknowledged) → HoldsLogs old first done → HoldsLogs new r (also done (logged_in history))
-  pub survives : Tells old → (done : Acknowledged) → HoldsLogs old first done → LeavesBoth old new (SurvivesIn done (world_of first) words history)
-  pub sound : Tells old → (done : Acknowledged) → HoldsLogs old first done → (h : Hidden) → LinkedWorld (world_of first) h → LeavesBoth old new (SoundIn h (world_of first) words history)
+  pub survives : Tells old → (done : Acknowledged) → HoldsLogs old first done → LeavesBoth old new (SurvivesIn done (LinkedWorld (world_of first)) (world_of first) words history)
+  pub rests : RestsNow old first → RestsNow new r
   pub run : RunBoth old new
   pub world_is : world_of r ≡ world_after (world_of first) history
   pub lists : SameLists first r
@@ -106,10 +98,10 @@ pub record Lived (old new : DiskState) (first : RunningWorld) (words : ℕ → �
 pub lived_nothing : (d : DiskState) (r : RunningWorld) (words words' : ℕ → ℕ) → ((k : ℕ) → words' k ≡ words k) → Lived d d r words r words' []
 lived_nothing d r words words' same = record {
   linked = λ told h linked. linked;
-  files_open = λ told h hidden. hidden.files_open;
+  files_open = λ told h hidden. hidden;
   stands = λ told done holds. subst (λ (a : Acknowledged). HoldsLogs d r a) (sym (also_nothing done)) holds;
-  survives = λ told done holds. nothing_left d (SurvivesIn done (world_of r) words []);
-  sound = λ told done holds h linked. nothing_left d (SoundIn h (world_of r) words []);
+  survives = λ told done holds. nothing_left d (SurvivesIn done (LinkedWorld (world_of r)) (world_of r) words []);
+  rests = λ now. now;
   run = no_run d;
   world_is = refl;
   lists = refl;
@@ -119,14 +111,23 @@ lived_nothing d r words words' same = record {
 
 -- what a crash in further calls left, which began in the last world
 pub survives_on : (old mid new : DiskState) (first r r' : RunningWorld) (words words' : ℕ → ℕ) (history : History) (logged : Acknowledged) (after : Hidden → Hidden) (left : Acknowledged → Image → Type 0) → Lived old mid first words r words' history
-    → GoesOn mid new r r' logged after left → Tells old → (done : Acknowledged) → HoldsLogs old first done → LeavesBoth mid new (left (also done (logged_in history)))
+    → GoesOn mid new r r' logged after left → Tells old → (done : Acknowledged) → HoldsLogs old first done
+    → LeavesBoth mid new (λ image. left (also done (logged_in history)) image × SoundFrom (LinkedWorld (world_of r)) after image)
 survives_on old mid new first r r' words words' history logged after left so on told done holds = on.survives (tells_now old mid so.run told) (also done (logged_in history)) (so.stands told done holds)
 
--- the same of what the next run may start from, with what is hidden then
-pub sound_on : (old mid new : DiskState) (first r r' : RunningWorld) (words words' : ℕ → ℕ) (history : History) (logged : Acknowledged) (after : Hidden → Hidden) (left : Acknowledged → Image → Type 0) → Lived old mid first words r words' history → GoesOn mid new r r' logged after left
-    → Tells old → (done : Acknowledged) → HoldsLogs old first done → (h : Hidden) → LinkedWorld (world_of first) h → LeavesBoth mid new (SoundWith (after (hidden_in h (world_of first) words history)))
-sound_on old mid new first r r' words words' history logged after left so on told done holds h linked =
-    on.sound (tells_now old mid so.run told) (hidden_in h (world_of first) words history) (so.linked told h linked) (also done (logged_in history)) (so.stands told done holds)
+-- files left at rest in the last world
+pub rested : (old new : DiskState) (first r : RunningWorld) (words words' : ℕ → ℕ) (history : History) → Lived old new first words r words' history → Tells old → (done : Acknowledged) (image : Image)
+    → SurvivesAtRest (world_of r) (also done (logged_in history)) image × SoundFrom (LinkedWorld (world_of r)) (λ h. h) image → RestsAfter done (LinkedWorld (world_of first)) (world_of first) words history image
+rested old new first r words words' history so told done image left = (
+  subst (λ (w : WorldState). SurvivesAtRest w (also done (logged_in history)) image) so.world_is left.0,
+  λ h linked. left.1 (hidden_in h (world_of first) words history) (so.linked told h linked),
+)
+
+-- and those that are left in the end
+pub rests_after : (old new : DiskState) (first r : RunningWorld) (words words' : ℕ → ℕ) (history : History) → Lived old new first words r words' history → Tells old → RestsNow old first → (done : Acknowledged) → HoldsLogs old first done
+    → (image : Image) → IsImage new image → RestsAfter done (LinkedWorld (world_of first)) (world_of first) words history image
+rests_after old new first r words words' history so told now done holds image is =
+    rested old new first r words words' history so told done image (so.rests now (also done (logged_in history)) (so.stands told done holds) image is)
 
 -- nothing happened, but calls may have been made
 pub lived_on : (old mid new : DiskState) (first r r' : RunningWorld) (words words' : ℕ → ℕ) (history : History) → Lived old mid first words r words' history → r' ≡ r → new.faults ≡ mid.faults
@@ -137,10 +138,9 @@ lived_on old mid new first r r' words words' history so same faults on = record 
   stands = λ told done holds. subst (λ (a : Acknowledged). HoldsLogs new r' a) (also_nothing (also done (logged_in history)))
       (on.stands (tells_now old mid so.run told) (also done (logged_in history)) (so.stands told done holds));
   survives = λ told done holds. leaves_on so.run (so.survives told done holds)
-      (weaker (λ image left. survives_last done (world_of first) words history image (subst (λ (w : WorldState). SurvivesAtRest w (also done (logged_in history)) image) so.world_is left))
+      (weaker (λ image left. rests_last done (LinkedWorld (world_of first)) (world_of first) words history image (rested old mid first r words words' history so told done image left))
       (survives_on old mid new first r r' words words' history nothing_acknowledged (λ h. h) (SurvivesAtRest (world_of r)) so on told done holds));
-  sound = λ told done holds h linked. leaves_on so.run (so.sound told done holds h linked)
-      (weaker (sound_last h (world_of first) words history) (sound_on old mid new first r r' words words' history nothing_acknowledged (λ x. x) (SurvivesAtRest (world_of r)) so on told done holds h linked));
+  rests = λ now. on.rests (so.rests now);
   run = run_on old mid new so.run on.run;
   world_is = ap world_of same ∙ so.world_is;
   lists = lists_on first r r' so.lists (same_lists r r' same);
@@ -154,19 +154,20 @@ pub lived_more : (old mid new : DiskState) (first r r' : RunningWorld) (words wo
 lived_more old mid new first r r' words words' words'' earlier line event so a = record {
   linked = λ told h linked. linked_there told h linked;
   files_open = λ told h hidden. (
-    open_there (hidden_in h one words earlier)
-        (a.files_open (tells_now old mid so.run told) (hidden_in h one words earlier)
-        (record { linked = so.linked told h hidden.linked; files_open = subst (λ (w : WorldState). ZoneFilesOpen w (hidden_in h one words earlier)) (sym so.world_is) (open_last h one words earlier (so.files_open told h hidden)) })),
+    record {
+      linked = subst (λ (w : WorldState). LinkedWorld w (hidden_of (world_after one earlier) (behind (drawn_in earlier) words) event (hidden_in h one words earlier))) there (linked_there told h hidden.linked);
+      files_open = open_there (hidden_in h one words earlier)
+          (a.files_open (tells_now old mid so.run told) (hidden_in h one words earlier)
+          (subst (λ (w : WorldState). IsHidden w (hidden_in h one words earlier)) (sym so.world_is) (open_last h one words earlier (so.files_open told h hidden))));
+    },
     so.files_open told h hidden,
   );
   stands = λ told done holds. subst (λ (l : Acknowledged). HoldsLogs new r' l) (also_also done (logged_in earlier) (logged_of event))
       (a.goes_on.stands (tells_now old mid so.run told) (also done (logged_in earlier)) (so.stands told done holds));
   survives = λ told done holds. leaves_on so.run (weaker (λ image left. inr (inr left)) (so.survives told done holds))
-      (weaker (λ image left. inr (inl (same_left (also done (logged_in earlier)) image left)))
+      (weaker (λ image left. inr (inl (same_left (also done (logged_in earlier)) image left.0, λ h linked. same_sound image (hidden_in h one words earlier) (left.1 (hidden_in h one words earlier) (so.linked told h linked)))))
       (survives_on old mid new first r r' words words' earlier (logged_of event) (hidden_of (world_of r) words' event) (SurvivesLine (world_of r) words' event) so a.goes_on told done holds));
-  sound = λ told done holds h linked. leaves_on so.run (weaker (λ image left. inr left) (so.sound told done holds h linked))
-      (weaker (λ image left. inl (subst (λ (x : Hidden). SoundWith x image) (same_hidden (hidden_in h one words earlier)) left))
-      (sound_on old mid new first r r' words words' earlier (logged_of event) (hidden_of (world_of r) words' event) (SurvivesLine (world_of r) words' event) so a.goes_on told done holds h linked));
+  rests = λ now. a.goes_on.rests (so.rests now);
   run = run_on old mid new so.run a.goes_on.run;
   world_is = there;
   lists = lists_on first r r' so.lists a.lists;
@@ -182,6 +183,10 @@ lived_more old mid new first r r' words words' words'' earlier line event so a =
 
     same_hidden : (h : Hidden) → hidden_of (world_of r) words' event h ≡ hidden_of (world_after one earlier) (behind (drawn_in earlier) words) event h
     same_hidden h = λ i. hidden_of (so.world_is i) (λ k. so.rest k i) event h
+
+    same_sound : (image : Image) (h : Hidden) → SoundFiles (past_of (hidden_of (world_of r) words' event h)) image
+        → SoundFiles (past_of (hidden_of (world_after one earlier) (behind (drawn_in earlier) words) event h)) image
+    same_sound image h left = subst (λ (x : Hidden). SoundFiles (past_of x) image) (same_hidden h) left
 
     same_left : (logs : Acknowledged) (image : Image) → SurvivesLine (world_of r) words' event logs image → SurvivesLine (world_after one earlier) (behind (drawn_in earlier) words) event logs image
     same_left logs image left =

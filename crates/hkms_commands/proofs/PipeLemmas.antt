@@ -4,8 +4,6 @@ use Rattle.hk_base.specs.Disk.{DiskState, Tells}
 use Rattle.hk_base.specs.Faults.{Rose}
 use Rattle.kms_calls.specs.declared.calls.KmsCall.{KmsCall}
 use Rattle.kms_calls.specs.declared.calls.KmsReply.{KmsReply}
-use Rattle.kms_store.specs.Store.{IsLeftByStart}
-use Rattle.name_store.specs.Store.{IsLeftByStart as IsLeftByNameStart}
 use Rattle.prop_text.specs.declared.lines.PropLine.{PropLine}
 use Rattle.hk_events.specs.declared.event.Event.{Event}
 use Rattle.hk_events.specs.declared.event.Event.TheVariants as event
@@ -14,8 +12,6 @@ use Rattle.hk_events.specs.declared.event.Line.TheVariants as line
 use Rattle.world_run.specs.Acknowledged.{Acknowledged, LeavesBoth, RunBoth}
 use Rattle.world_run.specs.World.{RunningWorld, WorldState, first_world, world_of}
 use Rattle.world_run.specs.Keeps.{Begins, LeftByStarts, LinkedStep, Steps}
-use Rattle.world_run.specs.Ledger.{Ledger}
-use Rattle.world_run.specs.Linked.{SoundFiles, StartsSound}
 use Rattle.hk_serve.specs.declared.ended.Ended.{Ended}
 use Rattle.hk_serve.specs.declared.ended.Ended.TheVariants as ended
 use Rattle.hk_serve.specs.Exchanges.{Stand}
@@ -25,12 +21,12 @@ use Rattle.http_wire.specs.Reading.{ahead}
 use Rattle.hkms_commands.specs.declared.replay.Ended.{Ended as Replayed}
 use Rattle.hkms_commands.specs.declared.replay.Ended.TheVariants as replayed
 use Rattle.hkms_commands.specs.Pipe.{Asks, Converses, Pipe, PipeUnder, connection_status}
-use Rattle.hkms_commands.specs.Replay.{SurvivesUntil, ended_by, ended_by_props, opened_logs, status_of}
+use Rattle.hkms_commands.specs.Replay.{ended_by, ended_by_props, opened_logs, status_of}
 use Rattle.hkms_commands.specs.Run.{Happened, History, behind, drawn_in, faults_after, world_after}
 use Rattle.hkms_commands.specs.Steps.{HasLists}
-use Rattle.hkms_commands.proofs.BeganLemmas.{Synced, promise_kept, since_kept, survives_kept}
+use Rattle.hkms_commands.proofs.BeganLemmas.{last_kept, promise_kept, survives_kept}
 use Rattle.hkms_commands.proofs.FollowLemmas.{ServedSo, served_so}
-use Rattle.hkms_commands.proofs.LivedLemmas.{Adds, Lived, has_lists, lived_more, lived_nothing, tells_now, weaker}
+use Rattle.hkms_commands.proofs.LivedLemmas.{Adds, Lived, has_lists, lived_more, lived_nothing, rests_after, tells_now, weaker}
 
 -- where a connection began: what the disk was, the services, and the words to come
 pub record Opened : Type 1 where
@@ -88,7 +84,7 @@ call_more props o mid new r s words words' earlier now user asked reply so steps
       lists = steps.lists;
       faults_are = refl;
       rest = steps.rest;
-      goes_on = record { stands = steps.stands; survives = steps.survives; sound = steps.sound; run = steps.run };
+      goes_on = record { stands = steps.stands; survives = steps.survives; rests = λ now. steps.rests; run = steps.run };
     }
 
 -- the services talk as their history says
@@ -97,11 +93,10 @@ TalksAs state to_come o v history = Talked o (state v.disk) v.world (to_come v.w
 
 -- a connection was served, once both logs were opened
 pub converses : {D W : Type 0} (state : D → DiskState) (to_come : W → ℕ → ℕ) (props : List PropLine) (old : DiskState) (v v' : WorldView D W) (left left' written now : Option (List ℕ)) (unused : List ℕ) (how : Ended)
-    → Begins old (state v.disk) v.world → (Tells old → LeavesBoth old (state v.disk) (LeftByStarts old)) → (Tells old → Synced old (state v.disk))
-    → (Tells old → (ledger : Ledger) (place : ℕ) → StartsSound old ledger place → LeavesBoth old (state v.disk) (SoundFiles ledger place)) → RunBoth old (state v.disk) → HasLists v.world props
+    → Begins old (state v.disk) v.world → (Tells old → LeavesBoth old (state v.disk) (LeftByStarts old)) → RunBoth old (state v.disk) → HasLists v.world props
     → Served (Happens state to_come) (record { ahead = left; desk = v; written = written }) (record { ahead = ahead unused left'; desk = v'; written = now }) how
-    → Converses props old (state v'.disk) (to_come v.words) left left' written now how
-converses {D} {W} state to_come props old v v' left left' written now unused how b moments since sound run has served = record {
+    → Converses props old (state v'.disk) (to_come v.words) (to_come v'.words) left left' written now how
+converses {D} {W} state to_come props old v v' left left' written now unused how b moments run has served = record {
   table = b.table;
   names = b.names;
   before = mid.faults;
@@ -109,32 +104,30 @@ converses {D} {W} state to_come props old v v' left left' written now unused how
   unused = unused;
   served = subst (λ (T : Type 0). Served (Asks props T (first_world b.table b.names) words mid.faults) begun ended_so how) (ap (λ (t : Bool). IsTrue t) run.tells)
       (subst (λ (w : WorldState). Served (Asks props (Tells mid) w words mid.faults) begun ended_so how) b.first so.served);
+  rest = talked.rest;
   began = run.faults;
   ended = omega (arith, talked.faults_are);
   on_disk = λ told.
       let log = b.log told in
-      let found : Acknowledged = opened_logs log.commands b.table log.ops b.names in
-      let later : LeavesBoth mid (state v'.disk) (SurvivesUntil replayed.Done found (world_of v.world) words h) = weaker (λ image left. inl left) (talked.survives (tells_now old mid run told) found log.holds) in
+      let tells = tells_now old mid run told in
       record {
         commands = log.commands;
         ops = log.ops;
         used = log.used;
         keys = log.keys;
         edits = log.edits;
-        moments = survives_kept old mid (state v'.disk) v.world words h replayed.Done (first_world b.table b.names) found b.first (moments told) run later;
-        since_sync_keys = since_kept 0 (IsLeftByStart (old.reads 0)) old mid (state v'.disk) v.world words h replayed.Done (first_world b.table b.names) found b.first (since told).0 talked.run later;
-        since_sync_names = since_kept 1 (IsLeftByNameStart (old.reads 1)) old mid (state v'.disk) v.world words h replayed.Done (first_world b.table b.names) found b.first (since told).1 talked.run later;
+        keys_room = log.keys_room;
+        names_room = log.names_room;
+        moments = survives_kept old mid (state v'.disk) v.world b told words h replayed.Done (found told) (moments told) run (weaker (λ image left. inl left) (talked.survives tells (found told) log.holds));
+        last = λ image is. last_kept old mid (state v'.disk) v.world b told words h replayed.Done (found told) image
+            (inl (rests_after mid (state v'.disk) v.world v'.world words (to_come v'.words) h talked tells b.rests (found told) log.holds image is));
       };
-  promise = λ told. promise_kept old mid (state v'.disk) v.world words h b told run (sound told)
-      (λ done holds before hidden. record {
-        files_open = talked.files_open (tells_now old mid run told) before hidden;
-        sound = talked.sound (tells_now old mid run told) done holds before hidden.linked;
-      });
+  promise = λ told. promise_kept old mid (state v'.disk) v.world b told words h replayed.Done (found told) (talked.files_open (tells_now old mid run told));
   reads = λ told.
       let log = b.log told in (
         v'.world,
         subst (λ (w : WorldState). world_of v'.world ≡ world_after w h) b.first talked.world_is,
-        talked.stands (tells_now old mid run told) (opened_logs log.commands b.table log.ops b.names) log.holds,
+        talked.stands (tells_now old mid run told) (found told) log.holds,
       );
 }
   where
@@ -167,6 +160,9 @@ converses {D} {W} state to_come props old v v' left left' written now unused how
     talked : Talked o (state v'.disk) v'.world (to_come v'.words) h
     talked = so.follows
 
+    found : Tells old → Acknowledged
+    found told = let log = b.log told in opened_logs log.commands b.table log.ops b.names
+
 -- no replay and no connection has the status of refused words
 
 connection_usage : (how : Ended) → connection_status how ≡ 2 → ⊥
@@ -196,11 +192,11 @@ replay_usage replayed.Spent h = absurd cc
 pub replay_is_no_usage : (status : ℕ) (how : Replayed) → status ≡ status_of how → status ≢ 2
 replay_is_no_usage status how is two = replay_usage how (sym is ∙ two)
 
-pub pipe_is_no_usage : (same_disk same : Type 0) (old new : DiskState) (acls acls' : Option (List ℕ)) (words : ℕ → ℕ) (left left' written now : Option (List ℕ)) (status : ℕ)
-    → Pipe same_disk same old new acls acls' words left left' written now status → status ≢ 2
-pipe_is_no_usage same_disk same old new acls acls' words left left' written now status (inl refused) two = replay_usage (ended_by_props refused.fault) (sym refused.status_is ∙ two)
-pipe_is_no_usage same_disk same old new acls acls' words left left' written now status (inr pipes) two = go pipes.pipe
+pub pipe_is_no_usage : (same_disk same : Type 0) (old new : DiskState) (acls acls' : Option (List ℕ)) (words words' : ℕ → ℕ) (left left' written now : Option (List ℕ)) (status : ℕ)
+    → Pipe same_disk same old new acls acls' words words' left left' written now status → status ≢ 2
+pipe_is_no_usage same_disk same old new acls acls' words words' left left' written now status (inl refused) two = replay_usage (ended_by_props refused.fault) (sym refused.status_is ∙ two)
+pipe_is_no_usage same_disk same old new acls acls' words words' left left' written now status (inr pipes) two = go pipes.pipe
   where
-    go : PipeUnder pipes.lines same old new words left left' written now status → ⊥
+    go : PipeUnder pipes.lines same old new words words' left left' written now status → ⊥
     go (inl cannot) = replay_usage (ended_by cannot.file cannot.fault) (sym cannot.status_is ∙ two)
     go (inr connects) = connection_usage connects.how (sym connects.status_is ∙ two)

@@ -10,14 +10,14 @@ use Rattle.hk_events.specs.declared.event.Event.{Event}
 use Rattle.hk_events.specs.declared.event.Line.{Line}
 use Rattle.world_run.specs.Acknowledged.{Acknowledged, HoldsLogs}
 use Rattle.world_run.specs.World.{RunningWorld, world_of}
-use Rattle.world_run.specs.Keeps.{Steps}
+use Rattle.world_run.specs.Keeps.{SoundFrom, Steps}
+use Rattle.world_run.specs.Linked.{LinkedWorld}
 use Rattle.world_run.specs.Own.{SurvivesAtRest}
 use Rattle.hkms_commands.specs.declared.replay.Ended.{Ended}
 use Rattle.hkms_commands.specs.declared.replay.Ended.TheVariants as ended
 use Rattle.hkms_commands.specs.declared.stage.Play.{Play}
 use Rattle.hkms_commands.specs.declared.stage.Play.TheVariants.{Played, BadLine, Unread, Untold, Unwritten, Unopened}
 use Rattle.hkms_commands.specs.Replay.{last_line}
-use Rattle.hkms_commands.specs.Run.{SoundWith}
 use Rattle.hkms_commands.specs.Steps.{Closes, PlaysLine, PlaysSo, TellsSo, Untouched, View, WritesLast}
 use Rattle.hkms_commands.proofs.LivedLemmas.{also_nothing, no_run, nothing_left}
 
@@ -33,7 +33,7 @@ event_played props old new r r' words words' events written now event told line 
   faults_are = refl;
   rest = s.rest;
   counted = refl;
-  goes_on = record { stands = s.stands; survives = s.survives; sound = s.sound; run = s.run };
+  goes_on = record { stands = s.stands; survives = s.survives; rests = λ now. s.rests; run = s.run };
 }
 
 told_so : (props : List PropLine) (old new : DiskState) (r r' : RunningWorld) (words words' : ℕ → ℕ) (events : ℕ) (written now : Option (List ℕ)) (event : Event) (told : Line) (play : Play)
@@ -59,10 +59,11 @@ pub untouched : (d : DiskState) (v : View) → Untouched d d v v
 untouched d v = record {
   wrote = Appends-nil v.written;
   world_is = refl;
+  same_words = refl;
   goes_on = record {
     stands = λ told done holds. subst (λ (a : Acknowledged). HoldsLogs d v.world a) (sym (also_nothing done)) holds;
-    survives = λ told done holds. nothing_left d (SurvivesAtRest (world_of v.world) done);
-    sound = λ told h linked done holds. nothing_left d (SoundWith h);
+    survives = λ told done holds. nothing_left d (λ image. SurvivesAtRest (world_of v.world) done image × SoundFrom (LinkedWorld (world_of v.world)) (λ h. h) image);
+    rests = λ now. now;
     run = no_run d;
   };
   faults_are = refl;

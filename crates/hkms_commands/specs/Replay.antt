@@ -2,7 +2,7 @@
 use Rattle.std.specs.Prelude.{◌≡◌, ◌⊎◌, ℕ, zero, suc, ◌+◌, ◌<◌, ◌≤◌, ◌^◌, Bool, List, [], ◌∷◌, ◌++◌, length, count_by, take, codes, Option, Some}
 use Rattle.std.specs.Fmt.{decimal}
 use Rattle.std.specs.Io.KnownBytes.{Appends}
-use Rattle.hk_base.specs.Disk.{DiskState, Image, LeavesOnly, RunOn, Tells}
+use Rattle.hk_base.specs.Disk.{DiskState, Image, IsImage, LeavesOnly, RunOn, Tells}
 use Rattle.frame_log.specs.Stands.{LeavesFrom}
 use Rattle.frame_log.specs.declared.fault.StartFault.{StartFault}
 use Rattle.frame_log.specs.declared.fault.StartFault.TheVariants as start
@@ -22,10 +22,10 @@ use Rattle.hk_events.specs.declared.event.Event.{Event}
 use Rattle.hk_events.specs.declared.event.Event.TheVariants.{RestartKms, RestartName}
 use Rattle.world_run.specs.Acknowledged.{Acknowledged, HoldsLogs, LeavesBoth, also}
 use Rattle.world_run.specs.Keeps.{LeftByStarts}
-use Rattle.world_run.specs.Ledger.{Ledger, drawn_before}
-use Rattle.world_run.specs.Linked.{SoundFiles, StartsSound}
+use Rattle.world_run.specs.Ledger.{Hidden, Past, drawn_before}
+use Rattle.world_run.specs.Linked.{StartsSound}
 use Rattle.world_run.specs.Own.{SurvivesRestart}
-use Rattle.world_run.specs.Starts.{MayOpenKeys}
+use Rattle.world_run.specs.Starts.{KeysOpened}
 use Rattle.world_run.specs.World.{RunningWorld, WorldState, first_world, world_of}
 use Rattle.hkms_commands.specs.declared.replay.Ended.{Ended}
 use Rattle.hkms_commands.specs.declared.replay.Ended.TheVariants.{Done, AclRefused, AclRepeated, AclUnknown, AclTooLong, BadLine, DamagedKeys, DamagedNames, StoreFault, NoMemory, ReadFault, WriteFault, Spent}
@@ -33,7 +33,7 @@ use Rattle.hkms_commands.specs.declared.props.PropsFault.{PropsFault}
 use Rattle.hkms_commands.specs.declared.props.PropsFault.TheVariants as props_fault
 use Rattle.hkms_commands.specs.Lines.{lines_of, is_lf}
 use Rattle.hkms_commands.specs.Properties.{HasPropsFault, ReadsProperties}
-use Rattle.hkms_commands.specs.Run.{FilesOpen, History, Runs, SoundIn, SurvivesIn, faults_after, lines_in, logged_in, transcript, world_after}
+use Rattle.hkms_commands.specs.Run.{FilesOpen, History, RestsAfter, Runs, SoundAfter, SurvivesIn, behind, drawn_in, faults_after, lines_in, logged_in, transcript, world_after}
 
 -- an input has at most 2^40 bytes
 abbrev pub longest_input : ℕ
@@ -163,30 +163,29 @@ ended_by file start.StoreFault = StoreFault
 ended_by file start.NoMemory = NoMemory
 ended_by file start.Spent = Spent
 
--- The log of a file could not be opened: the key log on file 0, or the edit log on file 1. A crash at any moment since left of each
--- file what it may have left before, or what its opening leaves of the log found; and files that a run may start from, if it left
--- such files before.
+-- The log of a file could not be opened: the key log on file 0, or the edit log on file 1. A crash at any moment since left what it may
+-- have left before, or files on the way: first the key log is opened, and then the edit log.
 pub record NotOpened (old new : DiskState) (file : ℕ) (fault : StartFault) : Type 0 where
   pub which : (file ≡ 0) ⊎ (file ≡ 1)
   pub damaged_keys : (at : ℕ) → file ≡ 0 → fault ≡ start.Damaged at → Tells old → IsDamagedAt (old.reads 0) at
   pub damaged_names : (at : ℕ) → file ≡ 1 → fault ≡ start.Damaged at → Tells old → IsDamagedName (old.reads 1) at
   pub spent_keys : file ≡ 0 → fault ≡ start.Spent → Tells old → (commands : List KeyCommand) × (table : Table) × IsKeyLog (old.reads 0) commands table × (table.opening ≡ 4294967295)
   pub spent_names : file ≡ 1 → fault ≡ start.Spent → Tells old → (ops : List EditOp) × (made : Replayed) × IsNameLog (old.reads 1) ops made × (made.table.opening ≡ 4294967295)
-  -- the first file that has a fault counts: the key log was found good and opened, or the edit log was not touched
-  pub first_keys : file ≡ 1 → Tells old → MayOpenKeys (old.reads 0)
+  -- the first file that has a fault counts: the key log was found good and its opening is acknowledged, or the edit log was not touched
+  pub first_keys : file ≡ 1 → Tells old → KeysOpened old new
   pub first_names : file ≡ 0 → RunOn 0 old new
   pub moments : Tells old → LeavesBoth old new (LeftByStarts old)
   -- Since the first sync of its opening a crash left of each file the latter alone. Where that sync failed, or the opening wasn't
   -- reached, it left what it may have left before.
   pub since_sync_keys : Tells old → ((file ≡ 0) × ((fault ≡ start.StoreFault) ⊎ (fault ≡ start.NoMemory)) × LeavesOnly 0 old new (old.leaves 0)) ⊎ LeavesFrom 0 old new (IsLeftByStart (old.reads 0))
   pub since_sync_names : Tells old → (((file ≡ 0) ⊎ ((file ≡ 1) × (fault ≡ start.StoreFault))) × LeavesBoth old new (λ c. old.leaves 1 (c 1))) ⊎ LeavesFrom 1 old new (IsLeftByNameStart (old.reads 1))
-  pub sound : Tells old → (ledger : Ledger) (place : ℕ) → StartsSound old ledger place → LeavesBoth old new (SoundFiles ledger place)
 
--- The logs could not be opened, and nothing was played.
-pub record Unopened (old new : DiskState) (written now : Option (List ℕ)) (how : Ended) : Type 0 where
+-- The logs could not be opened, and nothing was played: `same` says that input and random source are as they were.
+pub record Unopened (same : Type 0) (old new : DiskState) (written now : Option (List ℕ)) (how : Ended) : Type 0 where
   pub file : ℕ
   pub fault : StartFault
   pub not_opened : NotOpened old new file fault
+  pub untouched : same
   pub text : List ℕ
   pub wrote : Appends written now text
   pub says : Says (ended_by file fault) how 0 [] text
@@ -202,35 +201,39 @@ SurvivesStop NoMemory w done image = SurvivesRestart w RestartKms done image ⊎
 SurvivesStop Spent w done image = SurvivesRestart w RestartKms done image ⊎ SurvivesRestart w RestartName done image
 SurvivesStop _ w done image = ⊥
 
+-- and files that the next run may start from, with what is hidden behind the history
+abbrev pub LeftByStop : Ended → Acknowledged → (Hidden → Type 0) → WorldState → (ℕ → ℕ) → History → Image → Type 0
+LeftByStop stop before Before first words history image =
+    SurvivesStop stop (world_after first history) (also before (logged_in history)) image × SoundAfter Before first words history image
+
 -- the two files are what a crash may leave on the way, or in the end
-abbrev pub SurvivesUntil : Ended → Acknowledged → WorldState → (ℕ → ℕ) → History → Image → Type 0
-SurvivesUntil stop before first words history image = SurvivesIn before first words history image ⊎ SurvivesStop stop (world_after first history) (also before (logged_in history)) image
+abbrev pub SurvivesUntil : Ended → Acknowledged → (Hidden → Type 0) → WorldState → (ℕ → ℕ) → History → Image → Type 0
+SurvivesUntil stop before Before first words history image = SurvivesIn before Before first words history image ⊎ LeftByStop stop before Before first words history image
 
--- from some moment of a run on, a crash leaves of both files only what has P
-pub record LeavesBothFrom (old new : DiskState) (P : Image → Type 0) : Type 0 where
-  pub moment : ℕ
-  pub begun : old.moment ≤ moment
-  pub reached : moment ≤ new.moment
-  pub only : (c : Image) → new.left_since moment c → P c
+-- the two files are what a crash may leave in the end: nothing of what was acknowledged is missing
+abbrev pub SurvivesLast : Ended → Acknowledged → (Hidden → Type 0) → WorldState → (ℕ → ℕ) → History → Image → Type 0
+SurvivesLast stop before Before first words history image = RestsAfter before Before first words history image ⊎ LeftByStop stop before Before first words history image
 
--- Both files were found to be logs, of these commands and operations. A crash at any moment since left of each file what it may have
--- left before, or what its opening leaves of the log found; or both logs, with the records acknowledged in a world on the way.
+-- what is hidden before a run: draws of the runs before, with which it may start from every image of the files
+pub record HiddenBefore (old : DiskState) (h : Hidden) : Type 0 where
+  pub past : Past
+  pub sound : StartsSound old past
+  pub is : h ≡ drawn_before past
+
+-- Both files were found to be logs, of these commands and operations. A crash at any moment since left what it may have left before,
+-- or files on the way of the openings; or both logs, with the records acknowledged in a world on the way. A crash in the end leaves
+-- all that was acknowledged.
 pub record OnDisk (old new : DiskState) (words : ℕ → ℕ) (table : Table) (names : NameTable) (history : History) (stop : Ended) : Type 0 where
   pub commands : List KeyCommand
   pub ops : List EditOp
   pub used : List ℕ
   pub keys : IsKeyLog (old.reads 0) commands table
   pub edits : IsNameLog (old.reads 1) ops (record { table = names; used = used })
-  pub moments : LeavesBoth old new (λ image. LeftByStarts old image ⊎ SurvivesUntil stop (opened_logs commands table ops names) (first_world table names) words history image)
-  -- since the first sync of its opening, no file is what it may have been before
-  pub since_sync_keys : LeavesBothFrom old new (λ image. IsLeftByStart (old.reads 0) (image 0) ⊎ SurvivesUntil stop (opened_logs commands table ops names) (first_world table names) words history image)
-  pub since_sync_names : LeavesBothFrom old new (λ image. IsLeftByNameStart (old.reads 1) (image 1) ⊎ SurvivesUntil stop (opened_logs commands table ops names) (first_world table names) words history image)
-
--- The promise on zone files, with a ledger of draws among so many words that the files at the start allow: in each world on the way
--- the zone files open, and a crash at any moment since left files that the next run may start from, with what was hidden on the way.
-pub record Promised (old new : DiskState) (words : ℕ → ℕ) (table : Table) (names : NameTable) (ledger : Ledger) (place : ℕ) (history : History) : Type 0 where
-  pub files_open : FilesOpen (drawn_before place ledger) (first_world table names) words history
-  pub sound : LeavesBoth old new (SoundIn (drawn_before place ledger) (first_world table names) words history)
+  -- neither of the openings found was the last one
+  pub keys_room : table.opening < 4294967295
+  pub names_room : names.opening < 4294967295
+  pub moments : LeavesBoth old new (λ image. LeftByStarts old image ⊎ SurvivesUntil stop (opened_logs commands table ops names) (HiddenBefore old) (first_world table names) words history image)
+  pub last : (image : Image) → IsImage new image → SurvivesLast stop (opened_logs commands table ops names) (HiddenBefore old) (first_world table names) words history image
 
 -- the disk holds both logs of the records acknowledged by now, beside those that are pending in this world
 abbrev pub ReadsAs : DiskState → Acknowledged → WorldState → Type 0
@@ -284,32 +287,37 @@ pub record Played (lines : List PropLine) (old new : DiskState) (words : ℕ →
   pub began : old.faults ≤ before
   pub ended : faults_after before history ≤ new.faults
   pub on_disk : Tells old → OnDisk old new words table names history stop
-  pub promise : Tells old → (ledger : Ledger) (place : ℕ) → StartsSound old ledger place → Promised old new words table names ledger place history
+  -- with a ledger of draws that the files at the start allow, each world on the way is linked, and its zone files open
+  pub promise : Tells old → (h : Hidden) → HiddenBefore old h → FilesOpen h (first_world table names) words history
   pub reads : (told : Tells old) → let found = on_disk told in ReadsAt stop left (lines_in history) new (also (opened_logs found.commands table found.ops names) (logged_in history)) (world_after (first_world table names) history)
   pub restart : Tells old → RestartStops stop left (lines_in history) (world_after (first_world table names) history)
   pub stops : (all : List ℕ) → left ≡ Some all → Stops stop all (lines_in history)
   pub has_properties : HasProperties stop
 
-pub record PlaysOn (lines : List PropLine) (old new : DiskState) (words : ℕ → ℕ) (left written now : Option (List ℕ)) (how : Ended) : Type 0 where
+-- Lines were played: `words` were to come before, and `words'` are to come now.
+pub record PlaysOn (lines : List PropLine) (old new : DiskState) (words words' : ℕ → ℕ) (left written now : Option (List ℕ)) (how : Ended) : Type 0 where
   pub history : History
   pub stop : Ended
   pub played : Played lines old new words left stop history
+  -- the words to come are those after the words that its events drew
+  pub rest : (k : ℕ) → words' k ≡ behind (drawn_in history) words k
   pub text : List ℕ
   pub wrote : Appends written now text
   pub says : Says stop how (length (lines_in history)) (transcript history) text
 
 -- Under properties of these lines, a replay of what was left of an input, with these words to come, wrote behind the old output
--- and ended so.
-abbrev pub ReplayUnder : List PropLine → DiskState → DiskState → (ℕ → ℕ) → Option (List ℕ) → Option (List ℕ) → Option (List ℕ) → Ended → Type 0
-ReplayUnder lines old new words left written now how = Unopened old new written now how ⊎ PlaysOn lines old new words left written now how
+-- and ended so; `words'` are to come now. `same` says that input and random source are as they were.
+abbrev pub ReplayUnder : List PropLine → Type 0 → DiskState → DiskState → (ℕ → ℕ) → (ℕ → ℕ) → Option (List ℕ) → Option (List ℕ) → Option (List ℕ) → Ended → Type 0
+ReplayUnder lines same old new words words' left written now how = Unopened same old new written now how ⊎ PlaysOn lines old new words words' left written now how
 
 -- The properties were read. Each call of the key management service is judged by their lines.
-pub record HasRead (old new : DiskState) (acls acls' : Option (List ℕ)) (words : ℕ → ℕ) (left written now : Option (List ℕ)) (how : Ended) : Type 0 where
+pub record HasRead (same : Type 0) (old new : DiskState) (acls acls' : Option (List ℕ)) (words words' : ℕ → ℕ) (left written now : Option (List ℕ)) (how : Ended) : Type 0 where
   pub lines : List PropLine
   pub read : ReadsProperties acls acls' lines
-  pub replay : ReplayUnder lines old new words left written now how
+  pub replay : ReplayUnder lines same old new words words' left written now how
 
--- A replay read the properties first, and replayed the input under their lines; or it ended where they could not be read, and
--- `same` says that all else is as it was.
-abbrev pub Replay : Type 0 → DiskState → DiskState → Option (List ℕ) → Option (List ℕ) → (ℕ → ℕ) → Option (List ℕ) → Option (List ℕ) → Option (List ℕ) → Ended → Type 0
-Replay same old new acls acls' words left written now how = BadProperties same acls written now how ⊎ HasRead old new acls acls' words left written now how
+-- A replay read the properties first, and replayed the input under their lines; or it ended where they could not be read.
+-- `same_disk` says that the disk is as it was, and `same` that input and random source are.
+abbrev pub Replay : Type 0 → Type 0 → DiskState → DiskState → Option (List ℕ) → Option (List ℕ) → (ℕ → ℕ) → (ℕ → ℕ) → Option (List ℕ) → Option (List ℕ) → Option (List ℕ) → Ended → Type 0
+Replay same_disk same old new acls acls' words words' left written now how =
+    BadProperties (same_disk × same) acls written now how ⊎ HasRead same old new acls acls' words words' left written now how

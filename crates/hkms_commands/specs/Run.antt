@@ -9,9 +9,9 @@ use Rattle.hk_events.specs.declared.event.Event.{Event}
 use Rattle.hk_events.specs.declared.event.Line.{Line}
 use Rattle.world_run.specs.World.{WorldState}
 use Rattle.world_run.specs.Acknowledged.{Acknowledged, also, nothing_acknowledged}
-use Rattle.world_run.specs.Keeps.{LinkedStep}
+use Rattle.world_run.specs.Keeps.{LinkedStep, SoundFrom}
 use Rattle.world_run.specs.Ledger.{Hidden, hidden_after}
-use Rattle.world_run.specs.Linked.{SoundFiles}
+use Rattle.world_run.specs.Linked.{LinkedWorld}
 use Rattle.world_run.specs.Own.{SurvivesAtRest, SurvivesEvent}
 use Rattle.world_run.specs.Promise.{ZoneFilesOpen}
 
@@ -130,11 +130,16 @@ Runs lines tells first words before (x ∷ earlier) =
     LineRuns lines tells (world_after first earlier) (behind (drawn_in earlier) words) (events_in earlier) (faults_after before earlier) x.line x.event
     × Runs lines tells first words before earlier
 
--- In each world on the way the zone files open, with what is hidden by then.
+-- what is hidden beside a world that is linked, and whose zone files open
+pub record IsHidden (w : WorldState) (h : Hidden) : Type 0 where
+  pub linked : LinkedWorld w h
+  pub files_open : ZoneFilesOpen w h
+
+-- Each world on the way is linked with what is hidden by then, and its zone files open.
 abbrev pub FilesOpen : Hidden → WorldState → (ℕ → ℕ) → History → Type 0
-FilesOpen before first words [] = ZoneFilesOpen first before
+FilesOpen before first words [] = IsHidden first before
 FilesOpen before first words (x ∷ earlier) =
-    ZoneFilesOpen (world_after first (x ∷ earlier)) (hidden_in before first words (x ∷ earlier)) × FilesOpen before first words earlier
+    IsHidden (world_after first (x ∷ earlier)) (hidden_in before first words (x ∷ earlier)) × FilesOpen before first words earlier
 
 -- what a crash may leave while a line is played in this world, with these words to come, these records being acknowledged before it;
 -- a quiet line writes nothing
@@ -142,19 +147,23 @@ abbrev pub SurvivesLine : WorldState → (ℕ → ℕ) → Option Happened → A
 SurvivesLine w words None done image = ⊥
 SurvivesLine w words (Some h) done image = SurvivesEvent w words h.now h.event h.reply h.world done image
 
--- The two files are what a crash may leave in a world on the way, at rest, or during the event of a line on the way: logs of the
--- records acknowledged by then, those before the run first.
-abbrev pub SurvivesIn : Acknowledged → WorldState → (ℕ → ℕ) → History → Image → Type 0
-SurvivesIn before first words [] image = SurvivesAtRest first before image
-SurvivesIn before first words (x ∷ earlier) image =
-    SurvivesAtRest (world_after first (x ∷ earlier)) (also before (logged_in (x ∷ earlier))) image
-    ⊎ (SurvivesLine (world_after first earlier) (behind (drawn_in earlier) words) x.event (also before (logged_in earlier)) image ⊎ SurvivesIn before first words earlier image)
+-- files that the next run may start from, with what is hidden behind a history; `Before` says what may have been hidden before it
+abbrev pub SoundAfter : (Hidden → Type 0) → WorldState → (ℕ → ℕ) → History → Image → Type 0
+SoundAfter Before first words history image = SoundFrom Before (λ h. hidden_in h first words history) image
 
--- files that a run may start from, with what is hidden by now
-abbrev pub SoundWith : Hidden → Image → Type 0
-SoundWith hidden image = SoundFiles hidden.ledger hidden.place image
+-- The two files are what a crash may leave at rest in the last world of a history: logs of the records acknowledged by then, those
+-- before the run first, and files that the next run may start from.
+abbrev pub RestsAfter : Acknowledged → (Hidden → Type 0) → WorldState → (ℕ → ℕ) → History → Image → Type 0
+RestsAfter before Before first words history image =
+    SurvivesAtRest (world_after first history) (also before (logged_in history)) image × SoundAfter Before first words history image
 
--- The two files are such as a run may start from, with what is hidden at a world on the way.
-abbrev pub SoundIn : Hidden → WorldState → (ℕ → ℕ) → History → Image → Type 0
-SoundIn before first words [] image = SoundWith before image
-SoundIn before first words (x ∷ earlier) image = SoundWith (hidden_in before first words (x ∷ earlier)) image ⊎ SoundIn before first words earlier image
+-- the same during the event of the last line
+abbrev pub LeftByLine : Acknowledged → (Hidden → Type 0) → WorldState → (ℕ → ℕ) → PlayedLine → History → Image → Type 0
+LeftByLine before Before first words x earlier image =
+    SurvivesLine (world_after first earlier) (behind (drawn_in earlier) words) x.event (also before (logged_in earlier)) image × SoundAfter Before first words (x ∷ earlier) image
+
+-- the same in some world on the way, at rest, or during the event of a line on the way
+abbrev pub SurvivesIn : Acknowledged → (Hidden → Type 0) → WorldState → (ℕ → ℕ) → History → Image → Type 0
+SurvivesIn before Before first words [] image = RestsAfter before Before first words [] image
+SurvivesIn before Before first words (x ∷ earlier) image =
+    RestsAfter before Before first words (x ∷ earlier) image ⊎ (LeftByLine before Before first words x earlier image ⊎ SurvivesIn before Before first words earlier image)

@@ -1,7 +1,7 @@
 -- One line of a replay.
 use Rattle.std.specs.Prelude.{◌≡◌, ◌⊎◌, ◌≤◌, ◌≢◌, ℕ, ◌+◌, ◌^◌, Bool, true, false, List, [], length, Option, None, Some, IsTrue}
 use Rattle.std.specs.Io.KnownBytes.{Appends, Consumes, IsAtEnd}
-use Rattle.hk_base.specs.Disk.{DiskState, Image, Tells}
+use Rattle.hk_base.specs.Disk.{DiskState, Image, IsImage, Tells}
 use Rattle.hk_base.specs.Faults.{Rose}
 use Rattle.hk_base.specs.Reading.{IsMore}
 use Rattle.hk_base.specs.Writing.{WroteFront}
@@ -14,11 +14,10 @@ use Rattle.hk_events.specs.declared.event.Line.{Line}
 use Rattle.world_run.specs.declared.fault.WorldFault.{WorldFault}
 use Rattle.world_run.specs.Acknowledged.{Acknowledged, HoldsLogs, LeavesBoth, RunBoth, also, nothing_acknowledged}
 use Rattle.world_run.specs.World.{RunningWorld, WorldState, world_of}
-use Rattle.world_run.specs.Keeps.{Fails, SoundThrough, SurvivesThrough}
+use Rattle.world_run.specs.Keeps.{Fails, RestsNow, SoundFrom, SurvivesThrough}
 use Rattle.world_run.specs.Ledger.{Hidden}
 use Rattle.world_run.specs.Linked.{LinkedWorld}
 use Rattle.world_run.specs.Own.{SurvivesAtRest}
-use Rattle.world_run.specs.Promise.{ZoneFilesOpen}
 use Rattle.hkms_commands.specs.declared.lines.Got.{Got}
 use Rattle.hkms_commands.specs.declared.lines.Got.TheVariants as got
 use Rattle.hkms_commands.specs.declared.replay.Ended.{Ended}
@@ -26,8 +25,8 @@ use Rattle.hkms_commands.specs.declared.replay.Ended.TheVariants as ended
 use Rattle.hkms_commands.specs.declared.stage.Play.{Play}
 use Rattle.hkms_commands.specs.declared.stage.Play.TheVariants.{Played, BadLine, Unread, Untold, Unwritten, Unopened}
 use Rattle.hkms_commands.specs.Lines.{is_line, line_used}
-use Rattle.hkms_commands.specs.Replay.{HasProperties, IsTold, ReadsAt, RestartStops, Stops, SurvivesUntil, ended_by, last_line}
-use Rattle.hkms_commands.specs.Run.{FilesOpen, Happened, History, LineRuns, Runs, SoundIn, SurvivesLine, drawn_of, events_of, faults_after, faults_of, hidden_of, lines_in, logged_in, logged_of, told_of, transcript, world_after, world_of_line}
+use Rattle.hkms_commands.specs.Replay.{HasProperties, IsTold, ReadsAt, RestartStops, Stops, SurvivesLast, SurvivesUntil, ended_by, last_line}
+use Rattle.hkms_commands.specs.Run.{FilesOpen, Happened, History, IsHidden, LineRuns, Runs, SurvivesLine, behind, drawn_in, drawn_of, events_of, faults_after, faults_of, hidden_of, lines_in, logged_in, logged_of, told_of, transcript, world_after, world_of_line}
 
 -- the access control lists of the world stand for these lines
 abbrev pub HasLists : RunningWorld → List PropLine → Type 0
@@ -44,12 +43,12 @@ pub record View : Type 0 where
   pub events : ℕ
   pub written : Option (List ℕ)
 
--- What the layer above needs of the logs: the records acknowledged are behind those before, and what a crash may leave, as `left`
--- says of the records acknowledged before, with what is hidden before made into what is hidden after.
+-- What the layer above needs of the logs: the records acknowledged are behind those before. A crash leaves what `left` says of the
+-- records acknowledged before, and files that a run may start from, with what is hidden before made into what is hidden after.
 pub record GoesOn (old new : DiskState) (r r' : RunningWorld) (logged : Acknowledged) (after : Hidden → Hidden) (left : Acknowledged → Image → Type 0) : Type 0 where
   pub stands : Tells old → (done : Acknowledged) → HoldsLogs old r done → HoldsLogs new r' (also done logged)
-  pub survives : SurvivesThrough old new r left
-  pub sound : Tells old → (h : Hidden) → LinkedWorld (world_of r) h → SoundThrough old new r (after h)
+  pub survives : SurvivesThrough old new r (λ done image. left done image × SoundFrom (LinkedWorld (world_of r)) after image)
+  pub rests : RestsNow old r → RestsNow new r'
   pub run : RunBoth old new
 
 -- under properties of these lines a line was played, with its event if it has one
@@ -72,6 +71,7 @@ pub record StopsAtRestart (old new : DiskState) (v : View) (line : List ℕ) (fa
 pub record Untouched (old new : DiskState) (v v' : View) : Type 0 where
   pub wrote : Appends v.written v'.written []
   pub world_is : v'.world ≡ v.world
+  pub same_words : v'.words ≡ v.words
   pub goes_on : GoesOn old new v.world v'.world nothing_acknowledged (λ h. h) (SurvivesAtRest (world_of v.world))
   pub faults_are : new.faults ≡ old.faults
 
@@ -177,25 +177,18 @@ WritesLast written now last end how = ((how ≡ end) × Appends written now last
 
 -- what is known of the logs, which held these records before the lines of this input, once they were played
 pub record Kept (old new : DiskState) (first : WorldState) (words : ℕ → ℕ) (left : Option (List ℕ)) (history : History) (stop : Ended) (done : Acknowledged) : Type 0 where
-  pub moments : LeavesBoth old new (SurvivesUntil stop done first words history)
+  pub moments : LeavesBoth old new (SurvivesUntil stop done (LinkedWorld first) first words history)
+  pub last : (image : Image) → IsImage new image → SurvivesLast stop done (LinkedWorld first) first words history image
   pub reads : ReadsAt stop left (lines_in history) new (also done (logged_in history)) (world_after first history)
 
--- what is hidden beside a world that is linked, and whose zone files open
-pub record IsHidden (w : WorldState) (h : Hidden) : Type 0 where
-  pub linked : LinkedWorld w h
-  pub files_open : ZoneFilesOpen w h
-
--- what is known of zone files once the lines were played, with what was hidden before them
-pub record KeptOpen (old new : DiskState) (first : WorldState) (words : ℕ → ℕ) (history : History) (before : Hidden) : Type 0 where
-  pub files_open : FilesOpen before first words history
-  pub sound : LeavesBoth old new (SoundIn before first words history)
-
 -- Lines were played, until one of them ended the replay; nothing was written of a last line yet.
-pub record Ran (lines : List PropLine) (old new : DiskState) (r : RunningWorld) (words : ℕ → ℕ) (left written now : Option (List ℕ)) (stop : Ended) (count : ℕ) : Type 0 where
+pub record Ran (lines : List PropLine) (old new : DiskState) (r : RunningWorld) (words words' : ℕ → ℕ) (left written now : Option (List ℕ)) (stop : Ended) (count : ℕ) : Type 0 where
   pub history : History
   pub runs : Runs lines (Tells old) (world_of r) words old.faults history
-  pub kept : Tells old → (done : Acknowledged) → HoldsLogs old r done → Kept old new (world_of r) words left history stop done
-  pub promise : Tells old → (done : Acknowledged) → HoldsLogs old r done → (before : Hidden) → IsHidden (world_of r) before → KeptOpen old new (world_of r) words history before
+  -- the words to come are those after the words that its events drew
+  pub rest : (k : ℕ) → words' k ≡ behind (drawn_in history) words k
+  pub kept : Tells old → RestsNow old r → (done : Acknowledged) → HoldsLogs old r done → Kept old new (world_of r) words left history stop done
+  pub promise : Tells old → (before : Hidden) → IsHidden (world_of r) before → FilesOpen before (world_of r) words history
   pub run : RunBoth old new
   -- the disk counts each fault of the history
   pub counted_faults : faults_after old.faults history ≤ new.faults
@@ -208,9 +201,9 @@ pub record Ran (lines : List PropLine) (old new : DiskState) (r : RunningWorld) 
   pub counted : count ≡ length (lines_in history)
 
 -- Lines were played, until one of them ended the replay, and its last line was written behind them.
-pub record RanToEnd (lines : List PropLine) (old new : DiskState) (r : RunningWorld) (words : ℕ → ℕ) (left written now : Option (List ℕ)) (how : Ended) : Type 0 where
+pub record RanToEnd (lines : List PropLine) (old new : DiskState) (r : RunningWorld) (words words' : ℕ → ℕ) (left written now : Option (List ℕ)) (how : Ended) : Type 0 where
   pub body : Option (List ℕ)
   pub stop : Ended
   pub count : ℕ
-  pub ran : Ran lines old new r words left written body stop count
+  pub ran : Ran lines old new r words words' left written body stop count
   pub closes : Closes stop count body now how

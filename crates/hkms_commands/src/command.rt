@@ -41,8 +41,8 @@ fn obey<A: Source, S: Source, K: Sink, D: Disk, W: Words, C: Clock>(
     clock: &mut C,
 ) -> u8
     ensures obeys { Obeys told
-        ((how : Ended) × (result ≡ status_of how) × Replay ((disk.new ≡ disk.old) × (input.new ≡ input.old) × (rand.new ≡ rand.old)) (D.state disk.old) (D.state disk.new) (A.left acls.old) (A.left acls.new) (W.to_come rand.old) (S.left input.old) (K.written out.old) (K.written out.new) how × (result ≡ 0 → IsAtEnd (S.left input.new)))
-        (Pipe (disk.new ≡ disk.old) ((input.new ≡ input.old) × (out.new ≡ out.old) × (rand.new ≡ rand.old) × (clock.new ≡ clock.old)) (D.state disk.old) (D.state disk.new) (A.left acls.old) (A.left acls.new) (W.to_come rand.old) (S.left input.old) (S.left input.new) (K.written out.old) (K.written out.new) result)
+        ((how : Ended) × (result ≡ status_of how) × Replay (disk.new ≡ disk.old) ((input.new ≡ input.old) × (rand.new ≡ rand.old)) (D.state disk.old) (D.state disk.new) (A.left acls.old) (A.left acls.new) (W.to_come rand.old) (W.to_come rand.new) (S.left input.old) (K.written out.old) (K.written out.new) how × (result ≡ 0 → IsAtEnd (S.left input.new)))
+        (Pipe (disk.new ≡ disk.old) ((input.new ≡ input.old) × (out.new ≡ out.old) × (rand.new ≡ rand.old) × (clock.new ≡ clock.old)) (D.state disk.old) (D.state disk.new) (A.left acls.old) (A.left acls.new) (W.to_come rand.old) (W.to_come rand.new) (S.left input.old) (S.left input.new) (K.written out.old) (K.written out.new) result)
         ((disk.new ≡ disk.old) × (acls.new ≡ acls.old) × (input.new ≡ input.old) × (rand.new ≡ rand.old) × (clock.new ≡ clock.old))
         (K.written out.old) (K.written out.new) result }
     ensures read { result ≡ 7 → Rose (S.faults input.old) (S.faults input.new) ⊎ Rose (A.faults acls.old) (A.faults acls.new) }
@@ -84,10 +84,10 @@ pub fn hkms<A: Source, S: Source, K: Sink, D: Disk, W: Words, C: Clock>(
         ShowsText ((disk.new ≡ disk.old) × (acls.new ≡ acls.old) × (input.new ≡ input.old) × (rand.new ≡ rand.old) × (clock.new ≡ clock.old)) (K.written out.old) (K.written out.new) result
         ⊎ WantsMemory ((disk.new ≡ disk.old) × (acls.new ≡ acls.old) × (input.new ≡ input.old) × (rand.new ≡ rand.old) × (clock.new ≡ clock.old)) (K.written out.old) (K.written out.new) result }
     ensures replay { Names order.Replay words.now →
-        ((how : Ended) × (result ≡ status_of how) × Replay ((disk.new ≡ disk.old) × (input.new ≡ input.old) × (rand.new ≡ rand.old)) (D.state disk.old) (D.state disk.new) (A.left acls.old) (A.left acls.new) (W.to_come rand.old) (S.left input.old) (K.written out.old) (K.written out.new) how × (result ≡ 0 → IsAtEnd (S.left input.new)))
+        ((how : Ended) × (result ≡ status_of how) × Replay (disk.new ≡ disk.old) ((input.new ≡ input.old) × (rand.new ≡ rand.old)) (D.state disk.old) (D.state disk.new) (A.left acls.old) (A.left acls.new) (W.to_come rand.old) (W.to_come rand.new) (S.left input.old) (K.written out.old) (K.written out.new) how × (result ≡ 0 → IsAtEnd (S.left input.new)))
         ⊎ WantsMemory ((disk.new ≡ disk.old) × (acls.new ≡ acls.old) × (input.new ≡ input.old) × (rand.new ≡ rand.old) × (clock.new ≡ clock.old)) (K.written out.old) (K.written out.new) result }
     ensures pipe { Names order.Pipe words.now →
-        Pipe (disk.new ≡ disk.old) ((input.new ≡ input.old) × (out.new ≡ out.old) × (rand.new ≡ rand.old) × (clock.new ≡ clock.old)) (D.state disk.old) (D.state disk.new) (A.left acls.old) (A.left acls.new) (W.to_come rand.old) (S.left input.old) (S.left input.new) (K.written out.old) (K.written out.new) result
+        Pipe (disk.new ≡ disk.old) ((input.new ≡ input.old) × (out.new ≡ out.old) × (rand.new ≡ rand.old) × (clock.new ≡ clock.old)) (D.state disk.old) (D.state disk.new) (A.left acls.old) (A.left acls.new) (W.to_come rand.old) (W.to_come rand.new) (S.left input.old) (S.left input.new) (K.written out.old) (K.written out.new) result
         ⊎ WantsMemory ((disk.new ≡ disk.old) × (acls.new ≡ acls.old) × (input.new ≡ input.old) × (rand.new ≡ rand.old) × (clock.new ≡ clock.old)) (K.written out.old) (K.written out.new) result }
     ensures read { result ≡ 7 → Rose (S.faults input.old) (S.faults input.new) ⊎ Rose (A.faults acls.old) (A.faults acls.new) }
     ensures write { result ≡ 8 → Rose (K.faults out.old) (K.faults out.new) }

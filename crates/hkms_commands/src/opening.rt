@@ -1,16 +1,11 @@
 //! Opens both logs.
-ghost use Rattle.std.specs.Prelude.{◌≡◌, ℕ, IfOk, IsErrOf};
+ghost use Rattle.std.specs.Prelude.{◌≡◌, IfOk, IsErrOf};
 ghost use Rattle.hk_base.specs.Disk.{Tells};
 ghost use Rattle.hk_base.specs.Faults.{Rose};
-ghost use Rattle.frame_log.specs.Stands.{LeavesFrom};
 ghost use Rattle.frame_log.specs.declared.fault.StartFault.TheVariants as start;
-ghost use Rattle.kms_store.specs.Store.{IsLeftByStart};
-ghost use Rattle.name_store.specs.Store.{IsLeftByStart as IsLeftByNameStart};
 ghost use Rattle.world_run.specs.declared.fault.WorldFault.{WorldFault};
 ghost use Rattle.world_run.specs.Acknowledged.{LeavesBoth, RunBoth};
 ghost use Rattle.world_run.specs.Keeps.{Begins, LeftByStarts};
-ghost use Rattle.world_run.specs.Ledger.{Ledger};
-ghost use Rattle.world_run.specs.Linked.{SoundFiles, StartsSound};
 ghost use Rattle.hkms_commands.specs.Replay.{NotOpened};
 ghost use Rattle.hkms_commands.specs.Steps.{HasLists};
 
@@ -26,10 +21,6 @@ pub fn open_logs<D: Disk>(alloc: Global, disk: &mut D, props: &Props) -> Result<
     ensures lists { IfOk result (λ world. HasLists world props.now.lines) }
     ensures not_opened { (why : WorldFault) → IsErrOf result why → NotOpened (D.state disk.old) (D.state disk.new) why.file why.fault }
     ensures moments { Tells (D.state disk.old) → LeavesBoth (D.state disk.old) (D.state disk.new) (LeftByStarts (D.state disk.old)) }
-    ensures since_sync { IfOk result (λ _. Tells (D.state disk.old) → LeavesFrom 0 (D.state disk.old) (D.state disk.new) (IsLeftByStart ((D.state disk.old).reads 0))
-        × LeavesFrom 1 (D.state disk.old) (D.state disk.new) (IsLeftByNameStart ((D.state disk.old).reads 1))) }
-    ensures sound { Tells (D.state disk.old) → (ledger : Ledger) (place : ℕ) → StartsSound (D.state disk.old) ledger place
-        → LeavesBoth (D.state disk.old) (D.state disk.new) (SoundFiles ledger place) }
     ensures run { RunBoth (D.state disk.old) (D.state disk.new) }
     ensures cause { (why : WorldFault) → IsErrOf result why → why.fault ≡ start.StoreFault → Rose (D.state disk.old).faults (D.state disk.new).faults }
 {

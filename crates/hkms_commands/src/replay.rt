@@ -135,7 +135,7 @@ impl Replaying {
         requires fresh { (self.old.stage.events ≡ 0) × (self.old.count ≡ 0) × (self.old.reader.used ≡ 0) × (self.old.reader.bytes ≡ []) }
         requires lists { (lines : List PropLine) × HasLists self.old.stage.world lines }
         requires stands { Tells (D.state disk.old) → ((done : Acknowledged) × HoldsLogs (D.state disk.old) self.old.stage.world done) }
-        ensures ran { (lines : List PropLine) → HasLists self.old.stage.world lines → Ran lines (D.state disk.old) (D.state disk.new) self.old.stage.world (W.to_come words.old) (S.left input.old) (K.written out.old) (K.written out.new) result self.new.count }
+        ensures ran { (lines : List PropLine) → HasLists self.old.stage.world lines → Ran lines (D.state disk.old) (D.state disk.new) self.old.stage.world (W.to_come words.old) (W.to_come words.new) (S.left input.old) (K.written out.old) (K.written out.new) result self.new.count }
         ensures end { result ≡ Ended.Done → IsAtEnd (S.left input.new) }
         ensures count { self.new.count < 2 ^ 41 }
         ensures caused { Caused (S.faults input.old) (S.faults input.new) (K.faults out.old) (K.faults out.new) (D.state disk.old).faults (D.state disk.new).faults (Some result) }
@@ -159,7 +159,7 @@ impl Replaying {
         requires fresh { (self.old.stage.events ≡ 0) × (self.old.count ≡ 0) × (self.old.reader.used ≡ 0) × (self.old.reader.bytes ≡ []) }
         requires lists { (lines : List PropLine) × HasLists self.old.stage.world lines }
         requires stands { Tells (D.state disk.old) → ((done : Acknowledged) × HoldsLogs (D.state disk.old) self.old.stage.world done) }
-        ensures ran { (lines : List PropLine) → HasLists self.old.stage.world lines → RanToEnd lines (D.state disk.old) (D.state disk.new) self.old.stage.world (W.to_come words.old) (S.left input.old) (K.written out.old) (K.written out.new) result }
+        ensures ran { (lines : List PropLine) → HasLists self.old.stage.world lines → RanToEnd lines (D.state disk.old) (D.state disk.new) self.old.stage.world (W.to_come words.old) (W.to_come words.new) (S.left input.old) (K.written out.old) (K.written out.new) result }
         ensures end { result ≡ Ended.Done → IsAtEnd (S.left input.new) }
         ensures caused { Caused (S.faults input.old) (S.faults input.new) (K.faults out.old) (K.faults out.new) (D.state disk.old).faults (D.state disk.new).faults (Some result) }
     {
@@ -331,7 +331,7 @@ fn replay_under<S: Source, D: Disk, K: Sink, W: Words>(
     disk: &mut D,
     rand: &mut W,
 ) -> Ended
-    ensures replay { ReplayUnder props.now.lines (D.state disk.old) (D.state disk.new) (W.to_come rand.old) (S.left input.old) (K.written out.old) (K.written out.new) result }
+    ensures replay { ReplayUnder props.now.lines ((input.new ≡ input.old) × (rand.new ≡ rand.old)) (D.state disk.old) (D.state disk.new) (W.to_come rand.old) (W.to_come rand.new) (S.left input.old) (K.written out.old) (K.written out.new) result }
     ensures end { result ≡ Ended.Done → IsAtEnd (S.left input.new) }
     ensures read { result ≡ Ended.ReadFault → Rose (S.faults input.old) (S.faults input.new) }
     ensures write { result ≡ Ended.WriteFault → Rose (K.faults out.old) (K.faults out.new) }
@@ -354,7 +354,7 @@ fn replay_in<S: Source, D: Disk, K: Sink, W: Words>(
 ) -> Ended
     requires lists { (lines : List PropLine) × HasLists world lines }
     requires stands { Tells (D.state disk.old) → ((done : Acknowledged) × HoldsLogs (D.state disk.old) world done) }
-    ensures ran { (lines : List PropLine) → HasLists world lines → RanToEnd lines (D.state disk.old) (D.state disk.new) world (W.to_come rand.old) (S.left input.old) (K.written out.old) (K.written out.new) result }
+    ensures ran { (lines : List PropLine) → HasLists world lines → RanToEnd lines (D.state disk.old) (D.state disk.new) world (W.to_come rand.old) (W.to_come rand.new) (S.left input.old) (K.written out.old) (K.written out.new) result }
     ensures end { result ≡ Ended.Done → IsAtEnd (S.left input.new) }
     ensures caused { Caused (S.faults input.old) (S.faults input.new) (K.faults out.old) (K.faults out.new) (D.state disk.old).faults (D.state disk.new).faults (Some result) }
 {
@@ -389,7 +389,7 @@ pub fn run_replay<A: Source, S: Source, D: Disk, K: Sink, W: Words>(
     disk: &mut D,
     rand: &mut W,
 ) -> u8
-    ensures replay { (how : Ended) × (result ≡ status_of how) × Replay ((disk.new ≡ disk.old) × (input.new ≡ input.old) × (rand.new ≡ rand.old)) (D.state disk.old) (D.state disk.new) (A.left acls.old) (A.left acls.new) (W.to_come rand.old) (S.left input.old) (K.written out.old) (K.written out.new) how }
+    ensures replay { (how : Ended) × (result ≡ status_of how) × Replay (disk.new ≡ disk.old) ((input.new ≡ input.old) × (rand.new ≡ rand.old)) (D.state disk.old) (D.state disk.new) (A.left acls.old) (A.left acls.new) (W.to_come rand.old) (W.to_come rand.new) (S.left input.old) (K.written out.old) (K.written out.new) how }
     ensures end { result ≡ 0 → IsAtEnd (S.left input.new) }
     ensures read { result ≡ 7 → Rose (S.faults input.old) (S.faults input.new) ⊎ Rose (A.faults acls.old) (A.faults acls.new) }
     ensures write { result ≡ 8 → Rose (K.faults out.old) (K.faults out.new) }

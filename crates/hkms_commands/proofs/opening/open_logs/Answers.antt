@@ -1,6 +1,6 @@
 use Rattle.std.proofs.Common.{refl}
 use Rattle.frame_log.specs.declared.fault.StartFault.TheVariants as start
-use Rattle.hkms_commands.proofs.BeganLemmas.{both_open, fails_so, keys_fail, names_fail}
+use Rattle.hkms_commands.proofs.BeganLemmas.{fails_so, keys_fail, names_fail}
 use Rattle.hkms_commands.proofs.opening.open_logs.Goals as goal
 
 pub returns-clause-not_opened : goal.returns-clause-not_opened
@@ -15,8 +15,4 @@ returns-clause-not_opened g c why is = record {
   moments = c.start.ensures.any_moment;
   since_sync_keys = λ told. keys_fail (g.D.Disk.state c.args.disk.now) (g.D.Disk.state c.start.new.disk) c.start.result why is (c.start.ensures.since_sync_keys told);
   since_sync_names = λ told. names_fail (g.D.Disk.state c.args.disk.now) (g.D.Disk.state c.start.new.disk) c.start.result why is (c.start.ensures.since_sync_names told);
-  sound = c.start.ensures.sound;
 }
-
-pub returns-clause-since_sync : goal.returns-clause-since_sync
-returns-clause-since_sync g c = both_open (g.D.Disk.state c.args.disk.now) (g.D.Disk.state c.start.new.disk) c.start.result c.start.ensures.since_sync_keys c.start.ensures.since_sync_names

@@ -18,6 +18,6 @@ returns-in-Ok-clause-pipe g c =
     inr (record {
       how = c.serve_in.result;
       converses = converses g.D.Disk.state g.W.Words.to_come c.args.props.now.lines (g.D.Disk.state c.args.disk.now) _ _ _ _ _ _ served.0 c.serve_in.result
-          c.in-Ok.ensures.began c.open_logs.ensures.moments c.in-Ok.ensures.since_sync c.open_logs.ensures.sound c.open_logs.ensures.run c.in-Ok.ensures.lists served.2;
+          c.in-Ok.ensures.began c.open_logs.ensures.moments c.open_logs.ensures.run c.in-Ok.ensures.lists served.2;
       status_is = c.connection_status.ensures;
     })

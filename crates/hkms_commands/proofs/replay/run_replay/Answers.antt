@@ -8,9 +8,9 @@ pub returns-in-Err-clause-replay : goal.returns-in-Err-clause-replay
 returns-in-Err-clause-replay g c = (
   c.finish.result,
   c.status_of.ensures,
-  bad_properties _ _ _ _ _ _ _ _ _ c.in-Err.fault c.finish.result (c.read_properties.ensures.fault c.in-Err.fault c.in-Err.is) (refl, refl, refl)
+  bad_properties _ _ _ _ _ _ _ _ _ _ _ c.in-Err.fault c.finish.result (c.read_properties.ensures.fault c.in-Err.fault c.in-Err.is) (refl, (refl, refl))
       (subst (λ (e : Ended). Closes e 0 (g.K.Sink.written c.args.out.now) (g.K.Sink.written c.finish.new.out) c.finish.result) c.ended_by_props.ensures c.finish.ensures.closes),
 )
 
 pub returns-clause-replay : goal.returns-clause-replay
-returns-clause-replay g c = (c.replay_under.result, c.status_of-2.ensures, has_read _ _ _ _ _ _ _ _ _ _ _ c.in-Ok.ensures.read c.replay_under.ensures.replay)
+returns-clause-replay g c = (c.replay_under.result, c.status_of-2.ensures, has_read _ _ _ _ _ _ _ _ _ _ _ _ _ c.in-Ok.ensures.read c.replay_under.ensures.replay)
