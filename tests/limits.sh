@@ -53,12 +53,23 @@ while IFS= read -r -n 1 -d '' byte; do
     printf '%s' "$byte"
 done <examples/first-key.events | expect 'single bytes' 0 '5 refused K4 NoSuchKey'
 
-# ---- times
+# ---- memory that is given back
 
-# Times are the program's processor time, without the script that builds it, and the least of three.
+# The program, without the script that builds it.
 program=$PWD/crates/hkms_tool/out/hkms_tool
 
-# takes COMMAND..: runs a command three times, whose output goes to a file, and leaves the least of its times in seconds.
+# 300,000 directories that are made and deleted in turn, in 32 MB of memory.
+room=$(mktemp -d -p "$quick") || exit 1
+last=$(cd "$room" && yes $'nn a mkdir /a\nnn a delete /a' | head -n 600000 | (ulimit -v 32768; exec "$program" replay) | tail -n 1)
+if [ "$last" != '600000 done' ]; then
+    echo "tests/limits.sh: a directory that is made and deleted 300000 times: last line $last"
+    failures=$((failures + 1))
+fi
+rm -rf "$room"
+
+# ---- times
+
+# takes COMMAND..: runs a command three times, whose output goes to a file, and leaves the least of its processor times in seconds.
 takes() {
     local TIMEFORMAT=%U time
     seconds=
