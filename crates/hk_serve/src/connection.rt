@@ -15,7 +15,7 @@ use crate::refusals::{ended_by, stop};
 use hk_base::{NoMemory, Sink, Source, Text};
 use http_wire::{Request, Scratch, read_request, write_response};
 use kms_calls::KmsCall;
-use kms_rest::{KeptRouter, Response, respond, respond_fault, to_call_with};
+use kms_rest::{LazyRouter, Response, respond, respond_fault, to_call_with};
 use std::alloc::Global;
 
 /// The number of bytes at which a connection ends: 2^40 in all its requests.
@@ -26,7 +26,7 @@ const LONGEST_CONNECTION: u64 = 1 << 40;
 struct Connection {
     alloc: Global,
     scratch: Scratch,
-    router: KeptRouter,
+    router: LazyRouter,
     /// The length of its requests so far.
     bytes: u64,
 }
@@ -61,7 +61,7 @@ impl Connection {
         Connection {
             alloc,
             scratch: Scratch::new(),
-            router: KeptRouter::new(alloc),
+            router: LazyRouter::new(alloc),
             bytes: 0,
         }
     }

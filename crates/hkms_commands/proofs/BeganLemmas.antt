@@ -14,7 +14,7 @@ use Rattle.world_run.specs.Keeps.{Begins, LeftByStarts}
 use Rattle.world_run.specs.Ledger.{Hidden}
 use Rattle.world_run.specs.Linked.{LinkedWorld}
 use Rattle.world_run.specs.World.{RunningWorld, WorldState, first_world, world_of}
-use Rattle.hkms_commands.specs.declared.replay.Ended.{Ended}
+use Rattle.hkms_commands.specs.declared.replay.ReplayEnd.{ReplayEnd}
 use Rattle.hkms_commands.specs.Replay.{HiddenBefore, LeftByStop, SurvivesLast, SurvivesUntil}
 use Rattle.hkms_commands.specs.Run.{FilesOpen, History, IsHidden, RestsAfter, SurvivesIn}
 use Rattle.hkms_commands.proofs.LivedLemmas.{leaves_on, weaker}
@@ -29,7 +29,7 @@ first_hidden old new r b told h before =
 rests_weaker : (A B : Hidden → Type 0) → ((h : Hidden) → B h → A h) → (done : Acknowledged) (first : WorldState) (words : ℕ → ℕ) (history : History) (image : Image) → RestsAfter done A first words history image → RestsAfter done B first words history image
 rests_weaker A B f done first words history image left = (left.0, λ h is. left.1 h (f h is))
 
-stop_weaker : (A B : Hidden → Type 0) → ((h : Hidden) → B h → A h) → (stop : Ended) (done : Acknowledged) (first : WorldState) (words : ℕ → ℕ) (history : History) (image : Image) → LeftByStop stop done A first words history image → LeftByStop stop done B first words history image
+stop_weaker : (A B : Hidden → Type 0) → ((h : Hidden) → B h → A h) → (stop : ReplayEnd) (done : Acknowledged) (first : WorldState) (words : ℕ → ℕ) (history : History) (image : Image) → LeftByStop stop done A first words history image → LeftByStop stop done B first words history image
 stop_weaker A B f stop done first words history image left = (left.0, λ h is. left.1 h (f h is))
 
 in_weaker : (A B : Hidden → Type 0) → ((h : Hidden) → B h → A h) → (done : Acknowledged) (first : WorldState) (words : ℕ → ℕ) (history : History) (image : Image) → SurvivesIn done A first words history image → SurvivesIn done B first words history image
@@ -38,7 +38,7 @@ in_weaker A B f done first words (x ∷ earlier) image (inl left) = inl (rests_w
 in_weaker A B f done first words (x ∷ earlier) image (inr (inl left)) = inr (inl (left.0, λ h is. left.1 h (f h is)))
 in_weaker A B f done first words (x ∷ earlier) image (inr (inr left)) = inr (inr (in_weaker A B f done first words earlier image left))
 
-module _ (old mid new : DiskState) (r : RunningWorld) (b : Begins old mid r) (told : Tells old) (words : ℕ → ℕ) (h : History) (stop : Ended) (done : Acknowledged) where
+module _ (old mid new : DiskState) (r : RunningWorld) (b : Begins old mid r) (told : Tells old) (words : ℕ → ℕ) (h : History) (stop : ReplayEnd) (done : Acknowledged) where
   linked : (x : Hidden) → HiddenBefore old x → LinkedWorld (world_of r) x
   linked x before = (first_hidden old mid r b told x before).linked
 

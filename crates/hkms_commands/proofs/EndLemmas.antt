@@ -19,12 +19,12 @@ use Rattle.world_run.specs.Keeps.{LeftByRestart, is_restart, last_opening}
 use Rattle.world_run.specs.Linked.{LinkedWorld}
 use Rattle.world_run.specs.Own.{SurvivesRestart}
 use Rattle.world_run.specs.World.{WorldState, world_of}
-use Rattle.hkms_commands.specs.declared.lines.Got.{Got}
-use Rattle.hkms_commands.specs.declared.lines.Got.TheVariants as got
-use Rattle.hkms_commands.specs.declared.replay.Ended.{Ended}
-use Rattle.hkms_commands.specs.declared.replay.Ended.TheVariants as ended
-use Rattle.hkms_commands.specs.declared.stage.Play.{Play}
-use Rattle.hkms_commands.specs.declared.stage.Play.TheVariants.{Played, BadLine, Unread, Untold, Unwritten, Unopened}
+use Rattle.hkms_commands.specs.declared.lines.LineEnd.{LineEnd}
+use Rattle.hkms_commands.specs.declared.lines.LineEnd.TheVariants as line_end
+use Rattle.hkms_commands.specs.declared.replay.ReplayEnd.{ReplayEnd}
+use Rattle.hkms_commands.specs.declared.replay.ReplayEnd.TheVariants as ended
+use Rattle.hkms_commands.specs.declared.stage.LineOutcome.{LineOutcome}
+use Rattle.hkms_commands.specs.declared.stage.LineOutcome.TheVariants.{Played, BadLine, Unread, Untold, Unwritten, Unopened}
 use Rattle.hkms_commands.specs.Lines.{is_line, is_lf, lines_of, text_of}
 use Rattle.hkms_commands.specs.Run.{Happened, History, events_in, hidden_in, lines_in, logged_in, told_of, transcript, world_after}
 use Rattle.hkms_commands.specs.Replay.{BadNext, ComesNext, HasProperties, IsCut, IsSpent, IsTold, LeftByStop, NextSpells, ReadsAs, ReadsAt, RestartStops, Starts, Stops, SurvivesStop, ended_by, longest_input}
@@ -109,7 +109,7 @@ past left before ahead lines line used0 used so is consumed used0_is used_is lon
 
 -- where the replay stops
 
-reads_at : (stop : Ended) (left : Option (List ℕ)) (lines : List (List ℕ)) (d : DiskState) (done : Acknowledged) (w : WorldState) → ReadsAs d done w → ReadsAt stop left lines d done w
+reads_at : (stop : ReplayEnd) (left : Option (List ℕ)) (lines : List (List ℕ)) (d : DiskState) (done : Acknowledged) (w : WorldState) → ReadsAs d done w → ReadsAt stop left lines d done w
 reads_at ended.Done left lines d done w r = r
 reads_at (ended.AclRefused number) left lines d done w r = r
 reads_at (ended.AclRepeated number) left lines d done w r = r
@@ -125,7 +125,7 @@ reads_at ended.WriteFault left lines d done w r = r
 reads_at ended.Spent left lines d done w r = tt
 
 -- a front of the transcript that is all of it
-all_told : (stop : Ended) (text told : List ℕ) → text ≡ told → IsTold stop text told
+all_told : (stop : ReplayEnd) (text told : List ℕ) → text ≡ told → IsTold stop text told
 all_told ended.Done text told is = is
 all_told (ended.AclRefused number) text told is = is
 all_told (ended.AclRepeated number) text told is = is
@@ -141,10 +141,10 @@ all_told ended.WriteFault text told is = ([], append-nil text ∙ is)
 all_told ended.Spent text told is = is
 
 -- an end that neither a restart nor the properties bring about
-IsPlain : Ended → Type 0
+IsPlain : ReplayEnd → Type 0
 IsPlain stop = ((left : Option (List ℕ)) (lines : List (List ℕ)) (w : WorldState) → RestartStops stop left lines w) × HasProperties stop
 
-ran : (props : List PropLine) (old new : DiskState) (b : Begin) (v : View) (count : ℕ) (stop : Ended) (so : Course props old new b v count) (h : History) → so.history ≡ h → (text : List ℕ) (now : Option (List ℕ)) → IsPlain stop
+ran : (props : List PropLine) (old new : DiskState) (b : Begin) (v : View) (count : ℕ) (stop : ReplayEnd) (so : Course props old new b v count) (h : History) → so.history ≡ h → (text : List ℕ) (now : Option (List ℕ)) → IsPlain stop
     → Appends b.written now text → IsTold stop text (transcript h) → ((all : List ℕ) → b.left ≡ Some all → Stops stop all (lines_in h))
     → Ran props old new b.world b.words v.words b.left b.written now stop count
 unfolding IsPlain
@@ -170,7 +170,7 @@ ran props old new b v count stop so h is text now plain wrote told here = record
 }
 
 -- before a line is played
-stops_before : (props : List PropLine) (old mid new : DiskState) (b : Begin) (s : Stand) (stop : Ended) (v : View) (so : SoFar props old mid b s) → Untouched mid new s.view v → IsPlain stop
+stops_before : (props : List PropLine) (old mid new : DiskState) (b : Begin) (s : Stand) (stop : ReplayEnd) (v : View) (so : SoFar props old mid b s) → Untouched mid new s.view v → IsPlain stop
     → ((all : List ℕ) → b.left ≡ Some all → Stops stop all (lines_in so.course.history)) → Ran props old new b.world b.words v.words b.left b.written v.written stop s.count
 stops_before props old mid new b s stop v so u plain here =
     let told : List ℕ = transcript so.course.history in
@@ -179,7 +179,7 @@ stops_before props old mid new b s stop v so u plain here =
     (subst (Appends b.written v.written) (append-nil told) (Appends-trans b.written s.view.written v.written _ _ so.wrote u.wrote)) (all_told stop told told refl) here
 
 -- behind a line that was played, of whose answer this much was written
-stops_behind : (props : List PropLine) (old mid new : DiskState) (b : Begin) (s : Stand) (stop : Ended) (line : List ℕ) (event : Option Happened) (v : View) (text : List ℕ) (so : SoFar props old mid b s) → PlaysLine props mid new s.view line event v
+stops_behind : (props : List PropLine) (old mid new : DiskState) (b : Begin) (s : Stand) (stop : ReplayEnd) (line : List ℕ) (event : Option Happened) (v : View) (text : List ℕ) (so : SoFar props old mid b s) → PlaysLine props mid new s.view line event v
     → is_line line ≡ true → IsPlain stop → Appends s.view.written v.written text → IsTold stop (transcript so.course.history ++ text) (transcript so.course.history ++ told_of (events_in so.course.history) event)
     → ((all : List ℕ) → b.left ≡ Some all → Stops stop all (lines_in so.course.history ++ line ∷ []))
     → Ran props old new b.world b.words v.words b.left b.written v.written stop (s.count + 1)
@@ -325,11 +325,11 @@ stops_at_restart props old mid new b s line fault v so at wrote next = record {
 -- how the loop goes on and stops
 
 -- the end that is answered
-the_end : (a b : Ended) → Some a ≡ Some b → a ≡ b
+the_end : (a b : ReplayEnd) → Some a ≡ Some b → a ≡ b
 the_end a b is = cc
 
 -- a line that was played, or not, ends the replay
-line_stops : (props : List PropLine) (old mid new : DiskState) (b : Begin) (s : Stand) (line : List ℕ) (last : Bool) (v : View) (count : ℕ) (stop : Ended) (so : SoFar props old mid b s) → LinePlayed props mid new s.view line last (Some stop) v s.count count
+line_stops : (props : List PropLine) (old mid new : DiskState) (b : Begin) (s : Stand) (line : List ℕ) (last : Bool) (v : View) (count : ℕ) (stop : ReplayEnd) (so : SoFar props old mid b s) → LinePlayed props mid new s.view line last (Some stop) v s.count count
     → is_line line ≡ true → IsNext b.left (lines_in so.course.history) line → (last ≡ true → (all : List ℕ) → b.left ≡ Some all → lines_of all ≡ lines_in so.course.history ++ line ∷ [])
     → Ran props old new b.world b.words v.words b.left b.written v.written stop count
 unfolding IsPlain
@@ -341,31 +341,31 @@ line_stops props old mid new b s line last v count stop so p is next whole = go 
     told_here : (event : Option Happened) → told_of s.view.events event ≡ told_of (events_in h) event
     told_here event = ap (λ (n : ℕ). told_of n event) so.course.numbered
 
-    Goal : ℕ → Ended → Type 0
+    Goal : ℕ → ReplayEnd → Type 0
     Goal n e = Ran props old new b.world b.words v.words b.left b.written v.written e n
 
-    go : (play : Play) (last : Bool) → PlaysSo props mid new s.view line play v → Some stop ≡ end_of_play last play → count ≡ s.count + counts play
+    go : (play : LineOutcome) (last : Bool) → PlaysSo props mid new s.view line play v → Some stop ≡ end_of_play last play → count ≡ s.count + counts play
         → (last ≡ true → (all : List ℕ) → b.left ≡ Some all → lines_of all ≡ lines_in h ++ line ∷ []) → Ran props old new b.world b.words v.words b.left b.written v.written stop count
     go Played false (event, plays, wrote) is_end n whole = absurd cc
     go Played true (event, plays, wrote) is_end n whole =
-        subst (λ (e : Ended). Goal count e) (sym (the_end stop ended.Done is_end)) (subst (λ (k : ℕ). Goal k ended.Done) (sym n)
+        subst (λ (e : ReplayEnd). Goal count e) (sym (the_end stop ended.Done is_end)) (subst (λ (k : ℕ). Goal k ended.Done) (sym n)
         (stops_behind props old mid new b s ended.Done line event v (told_of s.view.events event) so plays is ((λ left lines w. tt), tt) wrote (ap (λ (t : List ℕ). transcript h ++ t) (told_here event)) (whole refl)))
     go BadLine last (bad, u) is_end n whole =
-        subst (λ (e : Ended). Goal count e) (sym (the_end stop ended.BadLine (is_end ∙ bad_end last))) (subst (λ (k : ℕ). Goal k ended.BadLine) (sym (n ∙ omega arith))
+        subst (λ (e : ReplayEnd). Goal count e) (sym (the_end stop ended.BadLine (is_end ∙ bad_end last))) (subst (λ (k : ℕ). Goal k ended.BadLine) (sym (n ∙ omega arith))
         (stops_before props old mid new b s ended.BadLine v so u ((λ left lines w. tt), tt) (λ all told. let at = next.next all told in inl (line, at.0, at.1, bad))))
       where
         bad_end : (l : Bool) → end_of_play l BadLine ≡ Some ended.BadLine
         bad_end true = refl
         bad_end false = refl
     go Unread last u is_end n whole =
-        subst (λ (e : Ended). Goal count e) (sym (the_end stop ended.NoMemory (is_end ∙ no_end last))) (subst (λ (k : ℕ). Goal k ended.NoMemory) (sym (n ∙ omega arith))
+        subst (λ (e : ReplayEnd). Goal count e) (sym (the_end stop ended.NoMemory (is_end ∙ no_end last))) (subst (λ (k : ℕ). Goal k ended.NoMemory) (sym (n ∙ omega arith))
         (stops_before props old mid new b s ended.NoMemory v so u ((λ left lines w. tt), tt) (λ all told. let at = next.next all told in (line ∷ at.0, at.1))))
       where
         no_end : (l : Bool) → end_of_play l Unread ≡ Some ended.NoMemory
         no_end true = refl
         no_end false = refl
     go Untold last (event, plays, wrote) is_end n whole =
-        subst (λ (e : Ended). Goal count e) (sym (the_end stop ended.NoMemory (is_end ∙ no_end last))) (subst (λ (k : ℕ). Goal k ended.NoMemory) (sym n)
+        subst (λ (e : ReplayEnd). Goal count e) (sym (the_end stop ended.NoMemory (is_end ∙ no_end last))) (subst (λ (k : ℕ). Goal k ended.NoMemory) (sym n)
         (stops_behind props old mid new b s ended.NoMemory line event v [] so plays is ((λ left lines w. tt), tt) wrote (told_of (events_in h) event, ap (λ (t : List ℕ). t ++ told_of (events_in h) event) (append-nil (transcript h)))
         (λ all told. begins b.left (lines_in h) line next all told)))
       where
@@ -373,7 +373,7 @@ line_stops props old mid new b s line last v count stop so p is next whole = go 
         no_end true = refl
         no_end false = refl
     go Unwritten last (event, plays, wrote) is_end n whole =
-        subst (λ (e : Ended). Goal count e) (sym (the_end stop ended.WriteFault (is_end ∙ no_end last))) (subst (λ (k : ℕ). Goal k ended.WriteFault) (sym n)
+        subst (λ (e : ReplayEnd). Goal count e) (sym (the_end stop ended.WriteFault (is_end ∙ no_end last))) (subst (λ (k : ℕ). Goal k ended.WriteFault) (sym n)
         (stops_behind props old mid new b s ended.WriteFault line event v wrote.front so plays is ((λ left lines w. tt), tt) wrote.wrote
         (wrote.more, append_assoc (transcript h) wrote.front wrote.more ∙ ap (λ (t : List ℕ). transcript h ++ t) (wrote.whole ∙ told_here event))
         (λ all told. begins b.left (lines_in h) line next all told)))
@@ -382,7 +382,7 @@ line_stops props old mid new b s line last v count stop so p is next whole = go 
         no_end true = refl
         no_end false = refl
     go (Unopened fault) last (at, wrote) is_end n whole =
-        subst (λ (e : Ended). Goal count e) (sym (the_end stop (ended_by fault.file fault.fault) (is_end ∙ no_end last))) (subst (λ (k : ℕ). Goal k (ended_by fault.file fault.fault)) (sym (n ∙ omega arith))
+        subst (λ (e : ReplayEnd). Goal count e) (sym (the_end stop (ended_by fault.file fault.fault) (is_end ∙ no_end last))) (subst (λ (k : ℕ). Goal k (ended_by fault.file fault.fault)) (sym (n ∙ omega arith))
         (stops_at_restart props old mid new b s line fault v so at wrote next))
       where
         no_end : (l : Bool) → end_of_play l (Unopened fault) ≡ Some (ended_by fault.file fault.fault)
@@ -393,7 +393,7 @@ ahead_of : (props : List PropLine) (old mid : DiskState) (b : Begin) (s : Stand)
 ahead_of props old mid b s so = record { whole = so.course.whole; consumed = so.consumed }
 
 -- the next line ends the replay
-pub next_stops : (props : List PropLine) (old mid new : DiskState) (b : Begin) (s s' : Stand) (stop : Ended) → SoFar props old mid b s → Next props mid new s (Some stop) s' → Ran props old new b.world b.words s'.view.words b.left b.written s'.view.written stop s'.count
+pub next_stops : (props : List PropLine) (old mid new : DiskState) (b : Begin) (s s' : Stand) (stop : ReplayEnd) → SoFar props old mid b s → Next props mid new s (Some stop) s' → Ran props old new b.world b.words s'.view.words b.left b.written s'.view.written stop s'.count
 unfolding IsPlain
 next_stops props old mid new b s s' stop so n = go n.how n.read n.next
   where
@@ -403,28 +403,28 @@ next_stops props old mid new b s s' stop so n = go n.how n.read n.next
     ahead : IsAhead b.left s.ahead lines
     ahead = ahead_of props old mid b s so
 
-    ends : (e : Ended) → IsPlain e → StopsReading mid new s.view s'.view s.count s'.count e (Some stop)
+    ends : (e : ReplayEnd) → IsPlain e → StopsReading mid new s.view s'.view s.count s'.count e (Some stop)
         → ((all : List ℕ) → b.left ≡ Some all → Stops e all lines) → Ran props old new b.world b.words s'.view.words b.left b.written s'.view.written stop s'.count
     ends e plain r here =
-        subst (λ (x : Ended). Ran props old new b.world b.words s'.view.words b.left b.written s'.view.written x s'.count) (sym (the_end stop e r.result_is))
+        subst (λ (x : ReplayEnd). Ran props old new b.world b.words s'.view.words b.left b.written s'.view.written x s'.count) (sym (the_end stop e r.result_is))
         (subst (λ (k : ℕ). Ran props old new b.world b.words s'.view.words b.left b.written s'.view.written e k) (sym r.counted) (before e plain r here))
       where
-        before : (e : Ended) → IsPlain e → StopsReading mid new s.view s'.view s.count s'.count e (Some stop)
+        before : (e : ReplayEnd) → IsPlain e → StopsReading mid new s.view s'.view s.count s'.count e (Some stop)
             → ((all : List ℕ) → b.left ≡ Some all → Stops e all lines) → Ran props old new b.world b.words s'.view.words b.left b.written s'.view.written e s.count
         before e plain r here = stops_before props old mid new b s e s'.view so r.untouched plain here
 
-    go : (how : Got) → Read s how n.line s' → NextSo props mid new s how n.line (Some stop) s' → Ran props old new b.world b.words s'.view.words b.left b.written s'.view.written stop s'.count
-    go got.Line read played =
+    go : (how : LineEnd) → Read s how n.line s' → NextSo props mid new s how n.line (Some stop) s' → Ran props old new b.world b.words s'.view.words b.left b.written s'.view.written stop s'.count
+    go line_end.Line read played =
         line_stops props old mid new b s n.line false s'.view s'.count stop so played read.is_line
         (record { next = λ all told. next_is b.left s.ahead s'.ahead lines n.line ahead read.is_line (read.consumed (λ e. cc)) all told }) (λ e. absurd cc)
-    go got.End read played =
+    go line_end.End read played =
         let whole = λ (all : List ℕ) (told : b.left ≡ Some all). last_is b.left s.ahead s'.ahead lines n.line ahead read.is_line (read.consumed (λ e. cc)) (read.end refl) all told in
         line_stops props old mid new b s n.line true s'.view s'.count stop so played read.is_line (record { next = λ all told. ([], whole all told) }) (λ e. whole)
-    go got.TooLong read r = ends ended.BadLine ((λ left lines w. tt), tt) r (λ all told. too_long b.left s.ahead s'.ahead lines n.line ahead read.is_line (read.consumed (λ e. cc)) (read.long refl) all told)
-    go got.Past read r =
+    go line_end.TooLong read r = ends ended.BadLine ((λ left lines w. tt), tt) r (λ all told. too_long b.left s.ahead s'.ahead lines n.line ahead read.is_line (read.consumed (λ e. cc)) (read.long refl) all told)
+    go line_end.Past read r =
         ends ended.BadLine ((λ left lines w. tt), tt) r (λ all told. past b.left s.ahead s'.ahead lines n.line s.used s'.used ahead read.is_line (read.consumed (λ e. cc)) so.used_is (read.used (λ e. cc)) (read.past refl).0 (read.past refl).1 all told)
-    go got.Fault read r = ends ended.ReadFault ((λ left lines w. tt), tt) r (λ all told. starts b.left s.ahead lines ahead all told)
-    go got.NoMemory read r = ends ended.NoMemory ((λ left lines w. tt), tt) r (λ all told. starts b.left s.ahead lines ahead all told)
+    go line_end.Fault read r = ends ended.ReadFault ((λ left lines w. tt), tt) r (λ all told. starts b.left s.ahead lines ahead all told)
+    go line_end.NoMemory read r = ends ended.NoMemory ((λ left lines w. tt), tt) r (λ all told. starts b.left s.ahead lines ahead all told)
 
 -- the next line was played, and the replay goes on
 pub record GoesFurther (props : List PropLine) (old new : DiskState) (b : Begin) (s s' : Stand) : Type 0 where
@@ -435,7 +435,7 @@ pub record GoesFurther (props : List PropLine) (old new : DiskState) (b : Begin)
 pub next_goes_on : (props : List PropLine) (old mid new : DiskState) (b : Begin) (s s' : Stand) → SoFar props old mid b s → Next props mid new s None s' → GoesFurther props old new b s s'
 next_goes_on props old mid new b s s' so n = go n.how n.read n.next
   where
-    played : (play : Play) → PlaysSo props mid new s.view n.line play s'.view → None ≡ end_of_play false play → s'.count ≡ s.count + counts play → Read s got.Line n.line s' → GoesFurther props old new b s s'
+    played : (play : LineOutcome) → PlaysSo props mid new s.view n.line play s'.view → None ≡ end_of_play false play → s'.count ≡ s.count + counts play → Read s line_end.Line n.line s' → GoesFurther props old new b s s'
     played Played (event, plays, wrote) is_end count read =
         let used = read.used (λ e. cc) in
         record {
@@ -450,7 +450,7 @@ next_goes_on props old mid new b s s' so n = go n.how n.read n.next
     played Unwritten p is_end count read = absurd cc
     played (Unopened fault) p is_end count read = absurd cc
 
-    not_last : (play : Play) → None ≡ end_of_play true play → ⊥
+    not_last : (play : LineOutcome) → None ≡ end_of_play true play → ⊥
     not_last Played e = absurd cc
     not_last BadLine e = absurd cc
     not_last Unread e = absurd cc
@@ -458,13 +458,13 @@ next_goes_on props old mid new b s s' so n = go n.how n.read n.next
     not_last Unwritten e = absurd cc
     not_last (Unopened fault) e = absurd cc
 
-    go : (how : Got) → Read s how n.line s' → NextSo props mid new s how n.line None s' → GoesFurther props old new b s s'
-    go got.Line read p = played p.play p.plays p.result_is p.counted read
-    go got.End read p = absurd (not_last p.play p.result_is)
-    go got.TooLong read r = let no = r.result_is in absurd cc
-    go got.Past read r = let no = r.result_is in absurd cc
-    go got.Fault read r = let no = r.result_is in absurd cc
-    go got.NoMemory read r = let no = r.result_is in absurd cc
+    go : (how : LineEnd) → Read s how n.line s' → NextSo props mid new s how n.line None s' → GoesFurther props old new b s s'
+    go line_end.Line read p = played p.play p.plays p.result_is p.counted read
+    go line_end.End read p = absurd (not_last p.play p.result_is)
+    go line_end.TooLong read r = let no = r.result_is in absurd cc
+    go line_end.Past read r = let no = r.result_is in absurd cc
+    go line_end.Fault read r = let no = r.result_is in absurd cc
+    go line_end.NoMemory read r = let no = r.result_is in absurd cc
 
 -- under properties that the lists stand for
 
@@ -489,7 +489,7 @@ goes_on_under old mid new b s s' so next props has =
     let here = so props has in
     next_goes_on props old mid new b s s' here (next props (has_lists b.world s.view.world props here.course.lived.lists has))
 
-pub stops_under : (old mid new : DiskState) (b : Begin) (s s' : Stand) (stop : Ended) → SoFarUnder old mid b s → ((props : List PropLine) → HasLists s.view.world props → Next props mid new s (Some stop) s')
+pub stops_under : (old mid new : DiskState) (b : Begin) (s s' : Stand) (stop : ReplayEnd) → SoFarUnder old mid b s → ((props : List PropLine) → HasLists s.view.world props → Next props mid new s (Some stop) s')
     → (props : List PropLine) → HasLists b.world props → Ran props old new b.world b.words s'.view.words b.left b.written s'.view.written stop s'.count
 stops_under old mid new b s s' stop so next props has =
     let here = so props has in
@@ -497,7 +497,7 @@ stops_under old mid new b s s' stop so next props has =
 
 -- the causes of faults
 
-no_end : (e : Ended) → None ≡ Some e → ⊥
+no_end : (e : ReplayEnd) → None ≡ Some e → ⊥
 no_end e is = absurd cc
 
 pub goes_on_untroubled : (input input' out out' disk disk' : ℕ) → input ≤ input' → out ≤ out' → disk ≤ disk' → Caused input input' out out' disk disk' None
@@ -511,7 +511,7 @@ goes_on_untroubled input input' out out' disk disk' read write store = record {
 }
 
 -- the count of the disk's faults never falls
-disk_later : (props : List PropLine) (old new : DiskState) (v v' : View) (line : List ℕ) (play : Play) → PlaysSo props old new v line play v' → old.faults ≤ new.faults
+disk_later : (props : List PropLine) (old new : DiskState) (v v' : View) (line : List ℕ) (play : LineOutcome) → PlaysSo props old new v line play v' → old.faults ≤ new.faults
 disk_later props old new v v' line Played (event, plays, wrote) = plays.goes_on.run.faults
 disk_later props old new v v' line BadLine (bad, u) = u.goes_on.run.faults
 disk_later props old new v v' line Unread u = u.goes_on.run.faults
@@ -534,7 +534,7 @@ is_store_fault file start.NoMemory e = absurd cc
 is_store_fault file start.Spent e = absurd cc
 
 -- no line that was read is a fault of the input
-never_read : (last : Bool) (play : Play) → end_of_play last play ≡ Some ended.ReadFault → ⊥
+never_read : (last : Bool) (play : LineOutcome) → end_of_play last play ≡ Some ended.ReadFault → ⊥
 never_read true Played e = absurd cc
 never_read false Played e = absurd cc
 never_read true BadLine e = absurd cc
@@ -549,7 +549,7 @@ never_read true (Unopened fault) e = never_opened fault.file fault.fault e
 never_read false (Unopened fault) e = never_opened fault.file fault.fault e
 
 -- a store fault comes where a restart failed
-store_rose : (props : List PropLine) (old new : DiskState) (v v' : View) (line : List ℕ) (last : Bool) (play : Play) → PlaysSo props old new v line play v' → end_of_play last play ≡ Some ended.StoreFault
+store_rose : (props : List PropLine) (old new : DiskState) (v v' : View) (line : List ℕ) (last : Bool) (play : LineOutcome) → PlaysSo props old new v line play v' → end_of_play last play ≡ Some ended.StoreFault
     → Rose old.faults new.faults
 store_rose props old new v v' line true Played p e = absurd cc
 store_rose props old new v v' line false Played p e = absurd cc
@@ -564,7 +564,7 @@ store_rose props old new v v' line false Unwritten p e = absurd cc
 store_rose props old new v v' line true (Unopened fault) (at, wrote) e = at.fails.cause (is_store_fault fault.file fault.fault e)
 store_rose props old new v v' line false (Unopened fault) (at, wrote) e = at.fails.cause (is_store_fault fault.file fault.fault e)
 
-pub line_caused : (props : List PropLine) (old new : DiskState) (v v' : View) (line : List ℕ) (last : Bool) (result : Option Ended) (count count' input input' out out' : ℕ)
+pub line_caused : (props : List PropLine) (old new : DiskState) (v v' : View) (line : List ℕ) (last : Bool) (result : Option ReplayEnd) (count count' input input' out out' : ℕ)
     → LinePlayed props old new v line last result v' count count' → input ≤ input' → out ≤ out' → (result ≡ Some ended.WriteFault → Rose out out') → Caused input input' out out' old.faults new.faults result
 line_caused props old new v v' line last result count count' input input' out out' p read write wrote = record {
   read_later = read;

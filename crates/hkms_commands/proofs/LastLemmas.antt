@@ -14,8 +14,8 @@ use Rattle.prop_text.specs.declared.faults.PropFault.TheVariants as prop_fault
 use Rattle.world_run.specs.Acknowledged.{Acknowledged, LeavesBoth, RunBoth, also}
 use Rattle.world_run.specs.Keeps.{Begins, LeftByStarts}
 use Rattle.world_run.specs.World.{RunningWorld, WorldState, first_world}
-use Rattle.hkms_commands.specs.declared.replay.Ended.{Ended}
-use Rattle.hkms_commands.specs.declared.replay.Ended.TheVariants as ended
+use Rattle.hkms_commands.specs.declared.replay.ReplayEnd.{ReplayEnd}
+use Rattle.hkms_commands.specs.declared.replay.ReplayEnd.TheVariants as ended
 use Rattle.hkms_commands.specs.declared.props.PropsFault.{PropsFault}
 use Rattle.hkms_commands.specs.declared.props.PropsFault.TheVariants as props_fault
 use Rattle.hkms_commands.specs.Properties.{HasPropsFault, ReadsProperties}
@@ -28,12 +28,12 @@ use Rattle.hkms_commands.proofs.LivedLemmas.{tells_now}
 -- what is written behind a body
 
 -- all that is written in a replay
-record Wrote (stop how : Ended) (lines : ℕ) (told : List ℕ) (written now : Option (List ℕ)) : Type 0 where
+record Wrote (stop how : ReplayEnd) (lines : ℕ) (told : List ℕ) (written now : Option (List ℕ)) : Type 0 where
   text : List ℕ
   wrote : Appends written now text
   says : Says stop how lines told text
 
-closed : (stop how : Ended) (lines : ℕ) (told body : List ℕ) (written mid now : Option (List ℕ)) → IsTold stop body told → Appends written mid body → Closes stop lines mid now how → Wrote stop how lines told written now
+closed : (stop how : ReplayEnd) (lines : ℕ) (told body : List ℕ) (written mid now : Option (List ℕ)) → IsTold stop body told → Appends written mid body → Closes stop lines mid now how → Wrote stop how lines told written now
 closed stop how lines told body written mid now is wrote c = go c.writes
   where
     go : ((how ≡ c.last) × Appends mid now (last_line c.last lines)) ⊎ ((how ≡ ended.WriteFault) × WroteFront mid now (last_line c.last lines)) → Wrote stop how lines told written now
@@ -55,7 +55,7 @@ closed stop how lines told body written mid now is wrote c = go c.writes
     }
 
 -- a replay that ends by another cause than want of memory or a fault of the output was stopped by it
-pub stopped_by : (stop : Ended) (lines : ℕ) (written now : Option (List ℕ)) (how fault : Ended) → Closes stop lines written now how → (fault ≡ ended.NoMemory → ⊥) → (fault ≡ ended.WriteFault → ⊥) → how ≡ fault → stop ≡ fault
+pub stopped_by : (stop : ReplayEnd) (lines : ℕ) (written now : Option (List ℕ)) (how fault : ReplayEnd) → Closes stop lines written now how → (fault ≡ ended.NoMemory → ⊥) → (fault ≡ ended.WriteFault → ⊥) → how ≡ fault → stop ≡ fault
 stopped_by stop lines written now how fault c no_memory no_write is = go c.writes
   where
     by_last : how ≡ c.last → (c.last ≡ stop) ⊎ (c.last ≡ ended.NoMemory) → stop ≡ fault
@@ -75,7 +75,7 @@ nothing_told file start.StoreFault = refl
 nothing_told file start.NoMemory = ([], refl)
 nothing_told file start.Spent = refl
 
-pub unopened : (lines : List PropLine) (same : Type 0) (old new : DiskState) (words words' : ℕ → ℕ) (left written now : Option (List ℕ)) (file : ℕ) (fault : StartFault) (how : Ended) → NotOpened old new file fault → same
+pub unopened : (lines : List PropLine) (same : Type 0) (old new : DiskState) (words words' : ℕ → ℕ) (left written now : Option (List ℕ)) (file : ℕ) (fault : StartFault) (how : ReplayEnd) → NotOpened old new file fault → same
     → Closes (ended_by file fault) 0 written now how → ReplayUnder lines same old new words words' left written now how
 unopened lines same old new words words' left written now file fault how not untouched c =
     let w = closed (ended_by file fault) how 0 [] [] written written now (nothing_told file fault) (Appends-nil written) c in
@@ -94,13 +94,13 @@ nothing_told_of_props : (f : PropsFault) → IsTold (ended_by_props f) [] []
 nothing_told_of_props props_fault.ReadFault = refl
 nothing_told_of_props (props_fault.TextFault f) = nothing_told_of_text f
 
-pub bad_properties : (same_disk same : Type 0) (old new : DiskState) (acls acls' : Option (List ℕ)) (words words' : ℕ → ℕ) (left written now : Option (List ℕ)) (fault : PropsFault) (how : Ended)
+pub bad_properties : (same_disk same : Type 0) (old new : DiskState) (acls acls' : Option (List ℕ)) (words words' : ℕ → ℕ) (left written now : Option (List ℕ)) (fault : PropsFault) (how : ReplayEnd)
     → HasPropsFault acls fault → same_disk × same → Closes (ended_by_props fault) 0 written now how → Replay same_disk same old new acls acls' words words' left written now how
 bad_properties same_disk same old new acls acls' words words' left written now fault how has untouched c =
     let w = closed (ended_by_props fault) how 0 [] [] written written now (nothing_told_of_props fault) (Appends-nil written) c in
     inl (record { fault = fault; has_fault = has; untouched = untouched; text = w.text; wrote = w.wrote; says = w.says })
 
-pub has_read : (same_disk same : Type 0) (old new : DiskState) (acls acls' : Option (List ℕ)) (words words' : ℕ → ℕ) (left written now : Option (List ℕ)) (how : Ended) (lines : List PropLine)
+pub has_read : (same_disk same : Type 0) (old new : DiskState) (acls acls' : Option (List ℕ)) (words words' : ℕ → ℕ) (left written now : Option (List ℕ)) (how : ReplayEnd) (lines : List PropLine)
     → ReadsProperties acls acls' lines → ReplayUnder lines same old new words words' left written now how → Replay same_disk same old new acls acls' words words' left written now how
 has_read same_disk same old new acls acls' words words' left written now how lines read replay = inr (record { lines = lines; read = read; replay = replay })
 
@@ -108,7 +108,7 @@ has_read same_disk same old new acls acls' words words' left written now how lin
 
 -- lines were played
 
-pub played : (lines : List PropLine) (same : Type 0) (old mid new : DiskState) (r : RunningWorld) (words words' : ℕ → ℕ) (left written told now : Option (List ℕ)) (stop how : Ended) (count : ℕ) → Begins old mid r
+pub played : (lines : List PropLine) (same : Type 0) (old mid new : DiskState) (r : RunningWorld) (words words' : ℕ → ℕ) (left written told now : Option (List ℕ)) (stop how : ReplayEnd) (count : ℕ) → Begins old mid r
     → (Tells old → LeavesBoth old mid (LeftByStarts old)) → RunBoth old mid
     → Ran lines mid new r words words' left written told stop count → Closes stop count told now how → ReplayUnder lines same old new words words' left written now how
 played lines same old mid new r words words' left written told now stop how count b moments run ran c =
@@ -163,7 +163,7 @@ played lines same old mid new r words words' left written told now stop how coun
 
 -- statuses and their causes
 
-pub is_done : (how : Ended) → status_of how ≡ 0 → how ≡ ended.Done
+pub is_done : (how : ReplayEnd) → status_of how ≡ 0 → how ≡ ended.Done
 is_done ended.Done h = refl
 is_done (ended.AclRefused number) h = absurd cc
 is_done (ended.AclRepeated number) h = absurd cc
@@ -178,7 +178,7 @@ is_done ended.ReadFault h = absurd cc
 is_done ended.WriteFault h = absurd cc
 is_done ended.Spent h = absurd cc
 
-pub is_store : (how : Ended) → status_of how ≡ 5 → how ≡ ended.StoreFault
+pub is_store : (how : ReplayEnd) → status_of how ≡ 5 → how ≡ ended.StoreFault
 is_store ended.Done h = absurd cc
 is_store (ended.AclRefused number) h = absurd cc
 is_store (ended.AclRepeated number) h = absurd cc
@@ -193,7 +193,7 @@ is_store ended.ReadFault h = absurd cc
 is_store ended.WriteFault h = absurd cc
 is_store ended.Spent h = absurd cc
 
-pub is_read : (how : Ended) → status_of how ≡ 7 → how ≡ ended.ReadFault
+pub is_read : (how : ReplayEnd) → status_of how ≡ 7 → how ≡ ended.ReadFault
 is_read ended.Done h = absurd cc
 is_read (ended.AclRefused number) h = absurd cc
 is_read (ended.AclRepeated number) h = absurd cc
@@ -208,7 +208,7 @@ is_read ended.ReadFault h = refl
 is_read ended.WriteFault h = absurd cc
 is_read ended.Spent h = absurd cc
 
-pub is_write : (how : Ended) → status_of how ≡ 8 → how ≡ ended.WriteFault
+pub is_write : (how : ReplayEnd) → status_of how ≡ 8 → how ≡ ended.WriteFault
 is_write ended.Done h = absurd cc
 is_write (ended.AclRefused number) h = absurd cc
 is_write (ended.AclRepeated number) h = absurd cc
@@ -224,7 +224,7 @@ is_write ended.WriteFault h = refl
 is_write ended.Spent h = absurd cc
 
 -- an end that is neither want of memory nor a fault of the output is the one for which the replay stopped
-pub stopped : (stop how : Ended) (lines : ℕ) (written now : Option (List ℕ)) → Closes stop lines written now how → (how ≡ ended.NoMemory → ⊥) → (how ≡ ended.WriteFault → ⊥) → stop ≡ how
+pub stopped : (stop how : ReplayEnd) (lines : ℕ) (written now : Option (List ℕ)) → Closes stop lines written now how → (how ≡ ended.NoMemory → ⊥) → (how ≡ ended.WriteFault → ⊥) → stop ≡ how
 stopped stop how lines written now c no_memory no_write = go c.last_is c.writes
   where
     go : (c.last ≡ stop) ⊎ (c.last ≡ ended.NoMemory) → ((how ≡ c.last) × Appends written now (last_line c.last lines)) ⊎ ((how ≡ ended.WriteFault) × WroteFront written now (last_line c.last lines)) → stop ≡ how
@@ -233,7 +233,7 @@ stopped stop how lines written now c no_memory no_write = go c.last_is c.writes
     go (inr is) (inl (end, more)) = absurd (no_memory (end ∙ is))
 
 -- the causes of an end for which a replay stopped are those of the end once its last line was written
-pub closed_cause : (input input' out mid out' disk disk' : ℕ) (stop how : Ended) (lines : ℕ) (written now : Option (List ℕ)) → Closes stop lines written now how → Caused input input' out mid disk disk' (Some stop)
+pub closed_cause : (input input' out mid out' disk disk' : ℕ) (stop how : ReplayEnd) (lines : ℕ) (written now : Option (List ℕ)) → Closes stop lines written now how → Caused input input' out mid disk disk' (Some stop)
     → mid ≤ out' → (how ≡ ended.WriteFault → (stop ≡ ended.WriteFault) ⊎ Rose mid out') → Caused input input' out out' disk disk' (Some how)
 closed_cause input input' out mid out' disk disk' stop how lines written now c caused later write = record {
   read_later = caused.read_later;
@@ -244,7 +244,7 @@ closed_cause input input' out mid out' disk disk' stop how lines written now c c
   store = λ e. let is : how ≡ ended.StoreFault = cc in caused.store (ap some_end (stopped_by stop lines written now how ended.StoreFault c (λ e. cc e) (λ e. cc e) is));
 }
   where
-    some_end : Ended → Option Ended
+    some_end : ReplayEnd → Option ReplayEnd
     some_end e = Some e
 
     by_output : (stop ≡ ended.WriteFault) ⊎ Rose mid out' → Rose out out'

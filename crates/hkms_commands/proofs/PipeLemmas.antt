@@ -18,8 +18,8 @@ use Rattle.hk_serve.specs.Exchanges.{Stand}
 use Rattle.hk_serve.specs.Served.{Served}
 use Rattle.hk_serve.specs.Worlds.{Happens, WorldView}
 use Rattle.http_wire.specs.Reading.{ahead}
-use Rattle.hkms_commands.specs.declared.replay.Ended.{Ended as Replayed}
-use Rattle.hkms_commands.specs.declared.replay.Ended.TheVariants as replayed
+use Rattle.hkms_commands.specs.declared.replay.ReplayEnd.{ReplayEnd}
+use Rattle.hkms_commands.specs.declared.replay.ReplayEnd.TheVariants as replayed
 use Rattle.hkms_commands.specs.Pipe.{Asks, Converses, Pipe, PipeUnder, connection_status}
 use Rattle.hkms_commands.specs.Replay.{ended_by, ended_by_props, opened_logs, status_of}
 use Rattle.hkms_commands.specs.Run.{Happened, History, behind, drawn_in, faults_after, world_after}
@@ -174,7 +174,7 @@ connection_usage ended.ReadFault h = absurd cc
 connection_usage ended.WriteFault h = absurd cc
 connection_usage ended.NoMemory h = absurd cc
 
-replay_usage : (how : Replayed) → status_of how ≡ 2 → ⊥
+replay_usage : (how : ReplayEnd) → status_of how ≡ 2 → ⊥
 replay_usage replayed.Done h = absurd cc
 replay_usage (replayed.AclRefused number) h = absurd cc
 replay_usage (replayed.AclRepeated number) h = absurd cc
@@ -189,7 +189,7 @@ replay_usage replayed.ReadFault h = absurd cc
 replay_usage replayed.WriteFault h = absurd cc
 replay_usage replayed.Spent h = absurd cc
 
-pub replay_is_no_usage : (status : ℕ) (how : Replayed) → status ≡ status_of how → status ≢ 2
+pub replay_is_no_usage : (status : ℕ) (how : ReplayEnd) → status ≡ status_of how → status ≢ 2
 replay_is_no_usage status how is two = replay_usage how (sym is ∙ two)
 
 pub pipe_is_no_usage : (same_disk same : Type 0) (old new : DiskState) (acls acls' : Option (List ℕ)) (words words' : ℕ → ℕ) (left left' written now : Option (List ℕ)) (status : ℕ)

@@ -13,10 +13,10 @@ use Rattle.world_run.specs.World.{RunningWorld, world_of}
 use Rattle.world_run.specs.Keeps.{SoundFrom, Steps}
 use Rattle.world_run.specs.Linked.{LinkedWorld}
 use Rattle.world_run.specs.Own.{SurvivesAtRest}
-use Rattle.hkms_commands.specs.declared.replay.Ended.{Ended}
-use Rattle.hkms_commands.specs.declared.replay.Ended.TheVariants as ended
-use Rattle.hkms_commands.specs.declared.stage.Play.{Play}
-use Rattle.hkms_commands.specs.declared.stage.Play.TheVariants.{Played, BadLine, Unread, Untold, Unwritten, Unopened}
+use Rattle.hkms_commands.specs.declared.replay.ReplayEnd.{ReplayEnd}
+use Rattle.hkms_commands.specs.declared.replay.ReplayEnd.TheVariants as ended
+use Rattle.hkms_commands.specs.declared.stage.LineOutcome.{LineOutcome}
+use Rattle.hkms_commands.specs.declared.stage.LineOutcome.TheVariants.{Played, BadLine, Unread, Untold, Unwritten, Unopened}
 use Rattle.hkms_commands.specs.Replay.{last_line}
 use Rattle.hkms_commands.specs.Steps.{Closes, PlaysLine, PlaysSo, TellsSo, Untouched, View, WritesLast}
 use Rattle.hkms_commands.proofs.LivedLemmas.{also_nothing, no_run, nothing_left}
@@ -36,7 +36,7 @@ event_played props old new r r' words words' events written now event told line 
   goes_on = record { stands = s.stands; survives = s.survives; rests = λ now. s.rests; run = s.run };
 }
 
-told_so : (props : List PropLine) (old new : DiskState) (r r' : RunningWorld) (words words' : ℕ → ℕ) (events : ℕ) (written now : Option (List ℕ)) (event : Event) (told : Line) (play : Play)
+told_so : (props : List PropLine) (old new : DiskState) (r r' : RunningWorld) (words words' : ℕ → ℕ) (events : ℕ) (written now : Option (List ℕ)) (event : Event) (told : Line) (play : LineOutcome)
     → Steps props old new r words (events + 1) event told r' words' → TellsSo (events + 1) told written now play → (line : List ℕ) → Spells line event
     → PlaysSo props old new (record { world = r; words = words; events = events; written = written }) line play (record { world = r'; words = words'; events = events + 1; written = now })
 told_so props old new r r' words words' events written now event told Played s wrote line spells = (_, event_played props old new r r' words words' events written now event told line s spells, wrote)
@@ -46,7 +46,7 @@ told_so props old new r r' words words' events written now event told Untold s w
 told_so props old new r r' words words' events written now event told Unwritten s wrote line spells = (_, event_played props old new r r' words words' events written now event told line s spells, wrote)
 told_so props old new r r' words words' events written now event told (Unopened fault) s wrote line spells = absurd wrote
 
-pub event_plays : (props : List PropLine) (old new : DiskState) (r r' r'' : RunningWorld) (words words' : ℕ → ℕ) (events count : ℕ) (written now : Option (List ℕ)) (event : Event) (told : Line) (play : Play)
+pub event_plays : (props : List PropLine) (old new : DiskState) (r r' r'' : RunningWorld) (words words' : ℕ → ℕ) (events count : ℕ) (written now : Option (List ℕ)) (event : Event) (told : Line) (play : LineOutcome)
     → Steps props old new r words (events + 1) event told r' words' → TellsSo (events + 1) told written now play → r'' ≡ r' → count ≡ events + 1 → (line : List ℕ) → Spells line event
     → PlaysSo props old new (record { world = r; words = words; events = events; written = written }) line play (record { world = r''; words = words'; events = count; written = now })
 event_plays props old new r r' r'' words words' events count written now event told play s wrote same counted line spells =
@@ -71,15 +71,15 @@ untouched d v = record {
 
 -- the end of a replay
 
-pub closes_with_nothing : (stop last : Ended) (lines : ℕ) (written : Option (List ℕ)) → stop ≡ last → last_line last lines ≡ [] → Closes stop lines written written last
+pub closes_with_nothing : (stop last : ReplayEnd) (lines : ℕ) (written : Option (List ℕ)) → stop ≡ last → last_line last lines ≡ [] → Closes stop lines written written last
 closes_with_nothing stop last lines written is none = record { last = last; last_is = inl (sym is); writes = inl (refl, subst (Appends written written) (sym none) (Appends-nil written)) }
 
-pub closes_with : (stop last how : Ended) (lines : ℕ) (written now : Option (List ℕ)) (text : List ℕ) → stop ≡ last → text ≡ last_line last lines → WritesLast written now text last how → Closes stop lines written now how
+pub closes_with : (stop last how : ReplayEnd) (lines : ℕ) (written now : Option (List ℕ)) (text : List ℕ) → stop ≡ last → text ≡ last_line last lines → WritesLast written now text last how → Closes stop lines written now how
 closes_with stop last how lines written now text is says (inl h) = record { last = last; last_is = inl (sym is); writes = inl (h.0, subst (Appends written now) says h.1) }
 closes_with stop last how lines written now text is says (inr h) = record { last = last; last_is = inl (sym is); writes = inr (h.0, subst (WroteFront written now) says h.1) }
 
 -- a last line with a number, where there was memory for it
-pub closes_numbered : {S E : Type 0} (bytes : S → List ℕ) (line : Result S E) (stop last how : Ended) (lines : ℕ) (written now : Option (List ℕ)) → stop ≡ last → IfOk line (λ text. bytes text ≡ last_line last lines)
+pub closes_numbered : {S E : Type 0} (bytes : S → List ℕ) (line : Result S E) (stop last how : ReplayEnd) (lines : ℕ) (written now : Option (List ℕ)) → stop ≡ last → IfOk line (λ text. bytes text ≡ last_line last lines)
     → MatchResult line (λ text. WritesLast written now (bytes text) last how) (λ _. WritesLast written now (codes "no memory\n") ended.NoMemory how) → Closes stop lines written now how
 closes_numbered bytes (Ok text) stop last how lines written now is says w = closes_with stop last how lines written now (bytes text) is says w
 closes_numbered bytes (Err e) stop last how lines written now is says w = record { last = ended.NoMemory; last_is = inr refl; writes = w }

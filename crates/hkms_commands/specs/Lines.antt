@@ -1,8 +1,8 @@
 -- The lines of a text.
 use Rattle.std.specs.Prelude.{ℕ, ◌==◌, not, Bool, List, [], ◌∷◌, ◌++◌}
 use Rattle.std.specs.List.{list_all, flat_map, slice_split}
-use Rattle.hkms_commands.specs.declared.lines.Got.{Got}
-use Rattle.hkms_commands.specs.declared.lines.Got.TheVariants.{Line, End, TooLong, Past, Fault, NoMemory}
+use Rattle.hkms_commands.specs.declared.lines.LineEnd.{LineEnd}
+use Rattle.hkms_commands.specs.declared.lines.LineEnd.TheVariants.{Line, End, TooLong, Past, Fault, NoMemory}
 
 abbrev pub is_lf : ℕ → Bool
 is_lf b = b == 10
@@ -20,7 +20,7 @@ abbrev pub text_of : List (List ℕ) → List ℕ
 text_of lines = flat_map (λ line. line ++ 10 ∷ []) lines
 
 -- what was used of the text for a line
-abbrev pub line_used : Got → List ℕ → List ℕ
+abbrev pub line_used : LineEnd → List ℕ → List ℕ
 line_used Line line = line ++ 10 ∷ []
 line_used End line = line
 line_used TooLong line = line

@@ -19,7 +19,7 @@ use Rattle.hk_serve.specs.declared.ended.Ended.{Ended}
 use Rattle.hk_serve.specs.declared.ended.Ended.TheVariants.{End, Closed, TooLong, Wire, ReadFault, WriteFault, NoMemory}
 use Rattle.hk_serve.specs.Served.{Served}
 use Rattle.hkms_commands.specs.declared.props.PropsFault.{PropsFault}
-use Rattle.hkms_commands.specs.declared.replay.Ended.TheVariants.{Done}
+use Rattle.hkms_commands.specs.declared.replay.ReplayEnd.TheVariants.{Done}
 use Rattle.hkms_commands.specs.Properties.{HasPropsFault, ReadsProperties}
 use Rattle.hkms_commands.specs.Replay.{HiddenBefore, NotOpened, OnDisk, ReadsAs, ended_by, ended_by_props, opened_logs, status_of}
 use Rattle.hkms_commands.specs.Run.{FilesOpen, Happened, History, behind, drawn_in, faults_after, logged_in, world_after}

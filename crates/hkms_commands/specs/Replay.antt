@@ -27,8 +27,8 @@ use Rattle.world_run.specs.Linked.{StartsSound}
 use Rattle.world_run.specs.Own.{SurvivesRestart}
 use Rattle.world_run.specs.Starts.{KeysOpened}
 use Rattle.world_run.specs.World.{RunningWorld, WorldState, first_world, world_of}
-use Rattle.hkms_commands.specs.declared.replay.Ended.{Ended}
-use Rattle.hkms_commands.specs.declared.replay.Ended.TheVariants.{Done, AclRefused, AclRepeated, AclUnknown, AclTooLong, BadLine, DamagedKeys, DamagedNames, StoreFault, NoMemory, ReadFault, WriteFault, Spent}
+use Rattle.hkms_commands.specs.declared.replay.ReplayEnd.{ReplayEnd}
+use Rattle.hkms_commands.specs.declared.replay.ReplayEnd.TheVariants.{Done, AclRefused, AclRepeated, AclUnknown, AclTooLong, BadLine, DamagedKeys, DamagedNames, StoreFault, NoMemory, ReadFault, WriteFault, Spent}
 use Rattle.hkms_commands.specs.declared.props.PropsFault.{PropsFault}
 use Rattle.hkms_commands.specs.declared.props.PropsFault.TheVariants as props_fault
 use Rattle.hkms_commands.specs.Lines.{lines_of, is_lf}
@@ -61,7 +61,7 @@ NextSpells all lines e = (line : List ℕ) × (more : List (List ℕ)) × (lines
 abbrev pub RestartNext : List ℕ → List (List ℕ) → Type 0
 RestartNext all lines = NextSpells all lines RestartKms ⊎ NextSpells all lines RestartName
 
-abbrev pub status_of : Ended → ℕ
+abbrev pub status_of : ReplayEnd → ℕ
 status_of Done = 0
 status_of (AclRefused number) = 3
 status_of (AclRepeated number) = 3
@@ -77,7 +77,7 @@ status_of WriteFault = 8
 status_of Spent = 10
 
 -- the last line, after so many lines
-abbrev pub last_line : Ended → ℕ → List ℕ
+abbrev pub last_line : ReplayEnd → ℕ → List ℕ
 last_line Done lines = []
 last_line (AclRefused number) lines = codes "acl line " ++ decimal number ++ codes " refused\n"
 last_line (AclRepeated number) lines = codes "acl line " ++ decimal number ++ codes " repeated\n"
@@ -93,7 +93,7 @@ last_line WriteFault lines = []
 last_line Spent lines = codes "openings spent\n"
 
 -- where the input stands at an end, after these lines
-abbrev pub Stops : Ended → List ℕ → List (List ℕ) → Type 0
+abbrev pub Stops : ReplayEnd → List ℕ → List (List ℕ) → Type 0
 Stops Done all lines = lines_of all ≡ lines
 Stops BadLine all lines = BadNext all lines
 Stops (DamagedKeys at) all lines = NextSpells all lines RestartKms
@@ -107,22 +107,22 @@ abbrev pub IsFront : List ℕ → List ℕ → Type 0
 IsFront text whole = (more : List ℕ) × (text ++ more ≡ whole)
 
 -- What is written of a transcript at an end: all of it, but where memory was wanting for an answer or the output failed.
-abbrev pub IsTold : Ended → List ℕ → List ℕ → Type 0
+abbrev pub IsTold : ReplayEnd → List ℕ → List ℕ → Type 0
 IsTold NoMemory text told = IsFront text told
 IsTold WriteFault text told = IsFront text told
 IsTold _ text told = text ≡ told
 
 -- The replay stopped for the one cause, after so many lines, and ended so. Behind what was told stands the last line of that
 -- cause, or the one of want of memory, where there was none for it; or a front of this, and the output failed.
-pub record Says (stop how : Ended) (lines : ℕ) (told text : List ℕ) : Type 0 where
+pub record Says (stop how : ReplayEnd) (lines : ℕ) (told text : List ℕ) : Type 0 where
   pub body : List ℕ
   pub is_told : IsTold stop body told
-  pub last : Ended
+  pub last : ReplayEnd
   pub last_is : (last ≡ stop) ⊎ (last ≡ NoMemory)
   pub closes : ((how ≡ last) × (text ≡ body ++ last_line last lines)) ⊎ ((how ≡ WriteFault) × IsFront text (body ++ last_line last lines))
 
 -- how a replay ends where the text has a fault
-abbrev pub ended_by_text : PropFault → Ended
+abbrev pub ended_by_text : PropFault → ReplayEnd
 ended_by_text (prop_fault.BadLine number) = AclRefused number
 ended_by_text (prop_fault.Repeated number) = AclRepeated number
 ended_by_text (prop_fault.UnknownName number) = AclUnknown number
@@ -130,12 +130,12 @@ ended_by_text prop_fault.TooLong = AclTooLong
 ended_by_text prop_fault.NoMemory = NoMemory
 
 -- how a replay ends where the properties could not be read
-abbrev pub ended_by_props : PropsFault → Ended
+abbrev pub ended_by_props : PropsFault → ReplayEnd
 ended_by_props props_fault.ReadFault = ReadFault
 ended_by_props (props_fault.TextFault fault) = ended_by_text fault
 
 -- The properties could not be read, and nothing else was done: `same` says that all else is as it was.
-pub record BadProperties (same : Type 0) (acls written now : Option (List ℕ)) (how : Ended) : Type 0 where
+pub record BadProperties (same : Type 0) (acls written now : Option (List ℕ)) (how : ReplayEnd) : Type 0 where
   pub fault : PropsFault
   pub has_fault : HasPropsFault acls fault
   pub untouched : same
@@ -144,7 +144,7 @@ pub record BadProperties (same : Type 0) (acls written now : Option (List ℕ)) 
   pub says : Says (ended_by_props fault) how 0 [] text
 
 -- the end is none of those that only a fault of the properties brings about
-abbrev pub HasProperties : Ended → Type 0
+abbrev pub HasProperties : ReplayEnd → Type 0
 HasProperties (AclRefused number) = ⊥
 HasProperties (AclRepeated number) = ⊥
 HasProperties (AclUnknown number) = ⊥
@@ -152,12 +152,12 @@ HasProperties AclTooLong = ⊥
 HasProperties _ = Unit {0}
 
 -- the end that goes with damage in the log of a file
-abbrev pub damaged_in : ℕ → ℕ → Ended
+abbrev pub damaged_in : ℕ → ℕ → ReplayEnd
 damaged_in zero at = DamagedKeys at
 damaged_in (suc n) at = DamagedNames at
 
 -- how a replay ends where the log of a file could not be opened
-abbrev pub ended_by : ℕ → StartFault → Ended
+abbrev pub ended_by : ℕ → StartFault → ReplayEnd
 ended_by file (start.Damaged at) = damaged_in file at
 ended_by file start.StoreFault = StoreFault
 ended_by file start.NoMemory = NoMemory
@@ -181,7 +181,7 @@ pub record NotOpened (old new : DiskState) (file : ℕ) (fault : StartFault) : T
   pub since_sync_names : Tells old → (((file ≡ 0) ⊎ ((file ≡ 1) × (fault ≡ start.StoreFault))) × LeavesBoth old new (λ c. old.leaves 1 (c 1))) ⊎ LeavesFrom 1 old new (IsLeftByNameStart (old.reads 1))
 
 -- The logs could not be opened, and nothing was played: `same` says that input and random source are as they were.
-pub record Unopened (same : Type 0) (old new : DiskState) (written now : Option (List ℕ)) (how : Ended) : Type 0 where
+pub record Unopened (same : Type 0) (old new : DiskState) (written now : Option (List ℕ)) (how : ReplayEnd) : Type 0 where
   pub file : ℕ
   pub fault : StartFault
   pub not_opened : NotOpened old new file fault
@@ -195,23 +195,23 @@ abbrev pub opened_logs : List KeyCommand → Table → List EditOp → NameTable
 opened_logs commands table ops names = record { keys = commands ++ next_opening table ∷ []; names = ops ++ next_opening_of_names names ∷ [] }
 
 -- what a crash may leave during the restart of either service in this world, where that ended the replay
-abbrev pub SurvivesStop : Ended → WorldState → Acknowledged → Image → Type 0
+abbrev pub SurvivesStop : ReplayEnd → WorldState → Acknowledged → Image → Type 0
 SurvivesStop StoreFault w done image = SurvivesRestart w RestartKms done image ⊎ SurvivesRestart w RestartName done image
 SurvivesStop NoMemory w done image = SurvivesRestart w RestartKms done image ⊎ SurvivesRestart w RestartName done image
 SurvivesStop Spent w done image = SurvivesRestart w RestartKms done image ⊎ SurvivesRestart w RestartName done image
 SurvivesStop _ w done image = ⊥
 
 -- and files that the next run may start from, with what is hidden behind the history
-abbrev pub LeftByStop : Ended → Acknowledged → (Hidden → Type 0) → WorldState → (ℕ → ℕ) → History → Image → Type 0
+abbrev pub LeftByStop : ReplayEnd → Acknowledged → (Hidden → Type 0) → WorldState → (ℕ → ℕ) → History → Image → Type 0
 LeftByStop stop before Before first words history image =
     SurvivesStop stop (world_after first history) (also before (logged_in history)) image × SoundAfter Before first words history image
 
 -- the two files are what a crash may leave on the way, or in the end
-abbrev pub SurvivesUntil : Ended → Acknowledged → (Hidden → Type 0) → WorldState → (ℕ → ℕ) → History → Image → Type 0
+abbrev pub SurvivesUntil : ReplayEnd → Acknowledged → (Hidden → Type 0) → WorldState → (ℕ → ℕ) → History → Image → Type 0
 SurvivesUntil stop before Before first words history image = SurvivesIn before Before first words history image ⊎ LeftByStop stop before Before first words history image
 
 -- the two files are what a crash may leave in the end: nothing of what was acknowledged is missing
-abbrev pub SurvivesLast : Ended → Acknowledged → (Hidden → Type 0) → WorldState → (ℕ → ℕ) → History → Image → Type 0
+abbrev pub SurvivesLast : ReplayEnd → Acknowledged → (Hidden → Type 0) → WorldState → (ℕ → ℕ) → History → Image → Type 0
 SurvivesLast stop before Before first words history image = RestsAfter before Before first words history image ⊎ LeftByStop stop before Before first words history image
 
 -- what is hidden before a run: draws of the runs before, with which it may start from every image of the files
@@ -223,7 +223,7 @@ pub record HiddenBefore (old : DiskState) (h : Hidden) : Type 0 where
 -- Both files were found to be logs, of these commands and operations. A crash at any moment since left what it may have left before,
 -- or files on the way of the openings; or both logs, with the records acknowledged in a world on the way. A crash in the end leaves
 -- all that was acknowledged.
-pub record OnDisk (old new : DiskState) (words : ℕ → ℕ) (table : Table) (names : NameTable) (history : History) (stop : Ended) : Type 0 where
+pub record OnDisk (old new : DiskState) (words : ℕ → ℕ) (table : Table) (names : NameTable) (history : History) (stop : ReplayEnd) : Type 0 where
   pub commands : List KeyCommand
   pub ops : List EditOp
   pub used : List ℕ
@@ -249,7 +249,7 @@ IsCut left lines = ComesNext left lines RestartKms ⊎ ComesNext left lines Rest
 
 -- The same at an end behind these lines of the input, but where a restart may have been cut short. Want of memory leaves the logs too,
 -- unless a restart comes next.
-abbrev pub ReadsAt : Ended → Option (List ℕ) → List (List ℕ) → DiskState → Acknowledged → WorldState → Type 0
+abbrev pub ReadsAt : ReplayEnd → Option (List ℕ) → List (List ℕ) → DiskState → Acknowledged → WorldState → Type 0
 ReadsAt (DamagedKeys at) left lines new done w = Unit {0}
 ReadsAt (DamagedNames at) left lines new done w = Unit {0}
 ReadsAt StoreFault left lines new done w = Unit {0}
@@ -271,14 +271,14 @@ IsSpent left lines w = (KeysSpent w × ComesNext left lines RestartKms) ⊎ (Nam
 
 -- why a restart behind these lines of the input could not open its log, where the disk tells what it holds: it is never damaged, and
 -- spent only with the last opening of that log
-abbrev pub RestartStops : Ended → Option (List ℕ) → List (List ℕ) → WorldState → Type 0
+abbrev pub RestartStops : ReplayEnd → Option (List ℕ) → List (List ℕ) → WorldState → Type 0
 RestartStops (DamagedKeys at) left lines w = ⊥
 RestartStops (DamagedNames at) left lines w = ⊥
 RestartStops Spent left lines w = IsSpent left lines w
 RestartStops _ left lines w = Unit {0}
 
 -- Under properties of these lines, lines of the input were played from the world on that the two logs were found to stand for.
-pub record Played (lines : List PropLine) (old new : DiskState) (words : ℕ → ℕ) (left : Option (List ℕ)) (stop : Ended) (history : History) : Type 0 where
+pub record Played (lines : List PropLine) (old new : DiskState) (words : ℕ → ℕ) (left : Option (List ℕ)) (stop : ReplayEnd) (history : History) : Type 0 where
   pub table : Table
   pub names : NameTable
   pub before : ℕ
@@ -295,9 +295,9 @@ pub record Played (lines : List PropLine) (old new : DiskState) (words : ℕ →
   pub has_properties : HasProperties stop
 
 -- Lines were played: `words` were to come before, and `words'` are to come now.
-pub record PlaysOn (lines : List PropLine) (old new : DiskState) (words words' : ℕ → ℕ) (left written now : Option (List ℕ)) (how : Ended) : Type 0 where
+pub record PlaysOn (lines : List PropLine) (old new : DiskState) (words words' : ℕ → ℕ) (left written now : Option (List ℕ)) (how : ReplayEnd) : Type 0 where
   pub history : History
-  pub stop : Ended
+  pub stop : ReplayEnd
   pub played : Played lines old new words left stop history
   -- the words to come are those after the words that its events drew
   pub rest : (k : ℕ) → words' k ≡ behind (drawn_in history) words k
@@ -307,17 +307,17 @@ pub record PlaysOn (lines : List PropLine) (old new : DiskState) (words words' :
 
 -- Under properties of these lines, a replay of what was left of an input, with these words to come, wrote behind the old output
 -- and ended so; `words'` are to come now. `same` says that input and random source are as they were.
-abbrev pub ReplayUnder : List PropLine → Type 0 → DiskState → DiskState → (ℕ → ℕ) → (ℕ → ℕ) → Option (List ℕ) → Option (List ℕ) → Option (List ℕ) → Ended → Type 0
+abbrev pub ReplayUnder : List PropLine → Type 0 → DiskState → DiskState → (ℕ → ℕ) → (ℕ → ℕ) → Option (List ℕ) → Option (List ℕ) → Option (List ℕ) → ReplayEnd → Type 0
 ReplayUnder lines same old new words words' left written now how = Unopened same old new written now how ⊎ PlaysOn lines old new words words' left written now how
 
 -- The properties were read. Each call of the key management service is judged by their lines.
-pub record HasRead (same : Type 0) (old new : DiskState) (acls acls' : Option (List ℕ)) (words words' : ℕ → ℕ) (left written now : Option (List ℕ)) (how : Ended) : Type 0 where
+pub record HasRead (same : Type 0) (old new : DiskState) (acls acls' : Option (List ℕ)) (words words' : ℕ → ℕ) (left written now : Option (List ℕ)) (how : ReplayEnd) : Type 0 where
   pub lines : List PropLine
   pub read : ReadsProperties acls acls' lines
   pub replay : ReplayUnder lines same old new words words' left written now how
 
 -- A replay read the properties first, and replayed the input under their lines; or it ended where they could not be read.
 -- `same_disk` says that the disk is as it was, and `same` that input and random source are.
-abbrev pub Replay : Type 0 → Type 0 → DiskState → DiskState → Option (List ℕ) → Option (List ℕ) → (ℕ → ℕ) → (ℕ → ℕ) → Option (List ℕ) → Option (List ℕ) → Option (List ℕ) → Ended → Type 0
+abbrev pub Replay : Type 0 → Type 0 → DiskState → DiskState → Option (List ℕ) → Option (List ℕ) → (ℕ → ℕ) → (ℕ → ℕ) → Option (List ℕ) → Option (List ℕ) → Option (List ℕ) → ReplayEnd → Type 0
 Replay same_disk same old new acls acls' words words' left written now how =
     BadProperties (same_disk × same) acls written now how ⊎ HasRead same old new acls acls' words words' left written now how

@@ -18,12 +18,12 @@ use Rattle.world_run.specs.Keeps.{Fails, RestsNow, SoundFrom, SurvivesThrough}
 use Rattle.world_run.specs.Ledger.{Hidden}
 use Rattle.world_run.specs.Linked.{LinkedWorld}
 use Rattle.world_run.specs.Own.{SurvivesAtRest}
-use Rattle.hkms_commands.specs.declared.lines.Got.{Got}
-use Rattle.hkms_commands.specs.declared.lines.Got.TheVariants as got
-use Rattle.hkms_commands.specs.declared.replay.Ended.{Ended}
-use Rattle.hkms_commands.specs.declared.replay.Ended.TheVariants as ended
-use Rattle.hkms_commands.specs.declared.stage.Play.{Play}
-use Rattle.hkms_commands.specs.declared.stage.Play.TheVariants.{Played, BadLine, Unread, Untold, Unwritten, Unopened}
+use Rattle.hkms_commands.specs.declared.lines.LineEnd.{LineEnd}
+use Rattle.hkms_commands.specs.declared.lines.LineEnd.TheVariants as line_end
+use Rattle.hkms_commands.specs.declared.replay.ReplayEnd.{ReplayEnd}
+use Rattle.hkms_commands.specs.declared.replay.ReplayEnd.TheVariants as ended
+use Rattle.hkms_commands.specs.declared.stage.LineOutcome.{LineOutcome}
+use Rattle.hkms_commands.specs.declared.stage.LineOutcome.TheVariants.{Played, BadLine, Unread, Untold, Unwritten, Unopened}
 use Rattle.hkms_commands.specs.Lines.{is_line, line_used}
 use Rattle.hkms_commands.specs.Replay.{HasProperties, IsTold, ReadsAt, RestartStops, Stops, SurvivesLast, SurvivesUntil, ended_by, last_line}
 use Rattle.hkms_commands.specs.Run.{FilesOpen, Happened, History, IsHidden, LineRuns, Runs, SurvivesLine, behind, drawn_in, drawn_of, events_of, faults_after, faults_of, hidden_of, lines_in, logged_in, logged_of, told_of, transcript, world_after, world_of_line}
@@ -76,7 +76,7 @@ pub record Untouched (old new : DiskState) (v v' : View) : Type 0 where
   pub faults_are : new.faults ≡ old.faults
 
 -- how a line came out
-abbrev pub PlaysSo : List PropLine → DiskState → DiskState → View → List ℕ → Play → View → Type 0
+abbrev pub PlaysSo : List PropLine → DiskState → DiskState → View → List ℕ → LineOutcome → View → Type 0
 PlaysSo lines old new v line Played v' = (event : Option Happened) × PlaysLine lines old new v line event v' × Appends v.written v'.written (told_of v.events event)
 PlaysSo lines old new v line BadLine v' = IsBad line × Untouched old new v v'
 PlaysSo lines old new v line Unread v' = Untouched old new v v'
@@ -85,7 +85,7 @@ PlaysSo lines old new v line Unwritten v' = (event : Option Happened) × PlaysLi
 PlaysSo lines old new v line (Unopened fault) v' = StopsAtRestart old new v line fault v' × Appends v.written v'.written []
 
 -- the end that goes with how a line came out, the last one or another
-abbrev pub end_of_play : Bool → Play → Option Ended
+abbrev pub end_of_play : Bool → LineOutcome → Option ReplayEnd
 end_of_play true Played = Some ended.Done
 end_of_play false Played = None
 end_of_play last BadLine = Some ended.BadLine
@@ -95,7 +95,7 @@ end_of_play last Unwritten = Some ended.WriteFault
 end_of_play last (Unopened fault) = Some (ended_by fault.file fault.fault)
 
 -- whether the line is counted as played
-abbrev pub counts : Play → ℕ
+abbrev pub counts : LineOutcome → ℕ
 counts Played = 1
 counts BadLine = 0
 counts Unread = 0
@@ -111,44 +111,44 @@ pub record Stand : Type 0 where
   pub count : ℕ
 
 -- a line was read and played
-pub record LinePlayed (lines : List PropLine) (old new : DiskState) (v : View) (line : List ℕ) (last : Bool) (result : Option Ended) (v' : View) (count count' : ℕ) : Type 0 where
-  pub play : Play
+pub record LinePlayed (lines : List PropLine) (old new : DiskState) (v : View) (line : List ℕ) (last : Bool) (result : Option ReplayEnd) (v' : View) (count count' : ℕ) : Type 0 where
+  pub play : LineOutcome
   pub plays : PlaysSo lines old new v line play v'
   pub result_is : result ≡ end_of_play last play
   pub counted : count' ≡ count + counts play
 
 -- what was read
-pub record Read (before : Stand) (how : Got) (line : List ℕ) (after : Stand) : Type 0 where
+pub record Read (before : Stand) (how : LineEnd) (line : List ℕ) (after : Stand) : Type 0 where
   pub is_line : IsTrue (is_line line)
-  pub consumed : how ≢ got.NoMemory → Consumes before.ahead after.ahead (line_used how line)
-  pub used : how ≢ got.NoMemory → after.used ≡ before.used + length (line_used how line)
-  pub end : how ≡ got.End → IsAtEnd after.ahead
-  pub long : how ≡ got.TooLong → length line ≡ 1048577
-  pub past : how ≡ got.Past → (after.used ≡ 2 ^ 40) × IsMore after.ahead
+  pub consumed : how ≢ line_end.NoMemory → Consumes before.ahead after.ahead (line_used how line)
+  pub used : how ≢ line_end.NoMemory → after.used ≡ before.used + length (line_used how line)
+  pub end : how ≡ line_end.End → IsAtEnd after.ahead
+  pub long : how ≡ line_end.TooLong → length line ≡ 1048577
+  pub past : how ≡ line_end.Past → (after.used ≡ 2 ^ 40) × IsMore after.ahead
 
 -- the replay stops before a line is played
-pub record StopsReading (old new : DiskState) (v v' : View) (count count' : ℕ) (how : Ended) (result : Option Ended) : Type 0 where
+pub record StopsReading (old new : DiskState) (v v' : View) (count count' : ℕ) (how : ReplayEnd) (result : Option ReplayEnd) : Type 0 where
   pub untouched : Untouched old new v v'
   pub counted : count' ≡ count
   pub result_is : result ≡ Some how
 
 -- the next line was read, and played where there was one
-abbrev pub NextSo : List PropLine → DiskState → DiskState → Stand → Got → List ℕ → Option Ended → Stand → Type 0
-NextSo lines old new s got.Line line result s' = LinePlayed lines old new s.view line false result s'.view s.count s'.count
-NextSo lines old new s got.End line result s' = LinePlayed lines old new s.view line true result s'.view s.count s'.count
-NextSo lines old new s got.TooLong line result s' = StopsReading old new s.view s'.view s.count s'.count ended.BadLine result
-NextSo lines old new s got.Past line result s' = StopsReading old new s.view s'.view s.count s'.count ended.BadLine result
-NextSo lines old new s got.Fault line result s' = StopsReading old new s.view s'.view s.count s'.count ended.ReadFault result
-NextSo lines old new s got.NoMemory line result s' = StopsReading old new s.view s'.view s.count s'.count ended.NoMemory result
+abbrev pub NextSo : List PropLine → DiskState → DiskState → Stand → LineEnd → List ℕ → Option ReplayEnd → Stand → Type 0
+NextSo lines old new s line_end.Line line result s' = LinePlayed lines old new s.view line false result s'.view s.count s'.count
+NextSo lines old new s line_end.End line result s' = LinePlayed lines old new s.view line true result s'.view s.count s'.count
+NextSo lines old new s line_end.TooLong line result s' = StopsReading old new s.view s'.view s.count s'.count ended.BadLine result
+NextSo lines old new s line_end.Past line result s' = StopsReading old new s.view s'.view s.count s'.count ended.BadLine result
+NextSo lines old new s line_end.Fault line result s' = StopsReading old new s.view s'.view s.count s'.count ended.ReadFault result
+NextSo lines old new s line_end.NoMemory line result s' = StopsReading old new s.view s'.view s.count s'.count ended.NoMemory result
 
-pub record Next (lines : List PropLine) (old new : DiskState) (s : Stand) (result : Option Ended) (s' : Stand) : Type 0 where
-  pub how : Got
+pub record Next (lines : List PropLine) (old new : DiskState) (s : Stand) (result : Option ReplayEnd) (s' : Stand) : Type 0 where
+  pub how : LineEnd
   pub line : List ℕ
   pub read : Read s how line s'
   pub next : NextSo lines old new s how line result s'
 
 -- the answer of an event was written, or there was no memory for it, or a front of it was written and the output failed
-abbrev pub TellsSo : ℕ → Line → Option (List ℕ) → Option (List ℕ) → Play → Type 0
+abbrev pub TellsSo : ℕ → Line → Option (List ℕ) → Option (List ℕ) → LineOutcome → Type 0
 TellsSo number told written now Played = Appends written now (line_text number told)
 TellsSo number told written now Untold = Appends written now []
 TellsSo number told written now Unwritten = WroteFront written now (line_text number told)
@@ -157,7 +157,7 @@ TellsSo number told written now Unread = ⊥
 TellsSo number told written now (Unopened fault) = ⊥
 
 -- Faults come only where the count of the object rose in the call: that of the input, of the output, of the disk.
-pub record Caused (input input' out out' disk disk' : ℕ) (how : Option Ended) : Type 0 where
+pub record Caused (input input' out out' disk disk' : ℕ) (how : Option ReplayEnd) : Type 0 where
   pub read_later : input ≤ input'
   pub write_later : out ≤ out'
   pub disk_later : disk ≤ disk'
@@ -166,23 +166,23 @@ pub record Caused (input input' out out' disk disk' : ℕ) (how : Option Ended) 
   pub store : how ≡ Some ended.StoreFault → Rose disk disk'
 
 -- the last line of a cause, or a front of it and the output failed; where there was no memory for it, the line that says so
-pub record Closes (stop : Ended) (lines : ℕ) (written now : Option (List ℕ)) (how : Ended) : Type 0 where
-  pub last : Ended
+pub record Closes (stop : ReplayEnd) (lines : ℕ) (written now : Option (List ℕ)) (how : ReplayEnd) : Type 0 where
+  pub last : ReplayEnd
   pub last_is : (last ≡ stop) ⊎ (last ≡ ended.NoMemory)
   pub writes : ((how ≡ last) × Appends written now (last_line last lines)) ⊎ ((how ≡ ended.WriteFault) × WroteFront written now (last_line last lines))
 
 -- a last line was written, or a front of it and the output failed
-abbrev pub WritesLast : Option (List ℕ) → Option (List ℕ) → List ℕ → Ended → Ended → Type 0
+abbrev pub WritesLast : Option (List ℕ) → Option (List ℕ) → List ℕ → ReplayEnd → ReplayEnd → Type 0
 WritesLast written now last end how = ((how ≡ end) × Appends written now last) ⊎ ((how ≡ ended.WriteFault) × WroteFront written now last)
 
 -- what is known of the logs, which held these records before the lines of this input, once they were played
-pub record Kept (old new : DiskState) (first : WorldState) (words : ℕ → ℕ) (left : Option (List ℕ)) (history : History) (stop : Ended) (done : Acknowledged) : Type 0 where
+pub record Kept (old new : DiskState) (first : WorldState) (words : ℕ → ℕ) (left : Option (List ℕ)) (history : History) (stop : ReplayEnd) (done : Acknowledged) : Type 0 where
   pub moments : LeavesBoth old new (SurvivesUntil stop done (LinkedWorld first) first words history)
   pub last : (image : Image) → IsImage new image → SurvivesLast stop done (LinkedWorld first) first words history image
   pub reads : ReadsAt stop left (lines_in history) new (also done (logged_in history)) (world_after first history)
 
 -- Lines were played, until one of them ended the replay; nothing was written of a last line yet.
-pub record Ran (lines : List PropLine) (old new : DiskState) (r : RunningWorld) (words words' : ℕ → ℕ) (left written now : Option (List ℕ)) (stop : Ended) (count : ℕ) : Type 0 where
+pub record Ran (lines : List PropLine) (old new : DiskState) (r : RunningWorld) (words words' : ℕ → ℕ) (left written now : Option (List ℕ)) (stop : ReplayEnd) (count : ℕ) : Type 0 where
   pub history : History
   pub runs : Runs lines (Tells old) (world_of r) words old.faults history
   -- the words to come are those after the words that its events drew
@@ -201,9 +201,9 @@ pub record Ran (lines : List PropLine) (old new : DiskState) (r : RunningWorld) 
   pub counted : count ≡ length (lines_in history)
 
 -- Lines were played, until one of them ended the replay, and its last line was written behind them.
-pub record RanToEnd (lines : List PropLine) (old new : DiskState) (r : RunningWorld) (words words' : ℕ → ℕ) (left written now : Option (List ℕ)) (how : Ended) : Type 0 where
+pub record RanToEnd (lines : List PropLine) (old new : DiskState) (r : RunningWorld) (words words' : ℕ → ℕ) (left written now : Option (List ℕ)) (how : ReplayEnd) : Type 0 where
   pub body : Option (List ℕ)
-  pub stop : Ended
+  pub stop : ReplayEnd
   pub count : ℕ
   pub ran : Ran lines old new r words words' left written body stop count
   pub closes : Closes stop count body now how

@@ -12,7 +12,7 @@ pub const LONGEST_LINE: usize = 1048576;
 
 /// How reading a line ended.
 #[derive(Clone, Copy, Debug, PartialEq, Eq)]
-pub enum Got {
+pub enum LineEnd {
     /// The line ends with an LF.
     Line,
     /// The input ended; the line is what followed the last LF.
@@ -28,33 +28,33 @@ pub enum Got {
 }
 
 /// Reads to the end of a line, and leaves the line in `line` without its LF.
-pub fn read_line<S: Source>(reader: &mut Reader, source: &mut S, line: &mut ByteList) -> Got
-    ensures consumed { result ≢ Got.NoMemory → Consumes (ahead reader.old (S.left source.old)) (ahead reader.new (S.left source.new)) (line_used result line.new) }
-    ensures used { result ≢ Got.NoMemory → reader.new.used ≡ reader.old.used + length (line_used result line.new) }
+pub fn read_line<S: Source>(reader: &mut Reader, source: &mut S, line: &mut ByteList) -> LineEnd
+    ensures consumed { result ≢ LineEnd.NoMemory → Consumes (ahead reader.old (S.left source.old)) (ahead reader.new (S.left source.new)) (line_used result line.new) }
+    ensures used { result ≢ LineEnd.NoMemory → reader.new.used ≡ reader.old.used + length (line_used result line.new) }
     ensures bounded { reader.new.used ≤ 2 ^ 40 }
     ensures line { IsTrue (is_line line.new) }
-    ensures short { result ≡ Got.Line → length line.new ≤ 1048576 }
-    ensures end { result ≡ Got.End → IsAtEnd (ahead reader.new (S.left source.new)) × (length line.new ≤ 1048576) }
-    ensures long { result ≡ Got.TooLong → length line.new ≡ 1048577 }
-    ensures past { result ≡ Got.Past → (reader.new.used ≡ 2 ^ 40) × IsMore (ahead reader.new (S.left source.new)) }
+    ensures short { result ≡ LineEnd.Line → length line.new ≤ 1048576 }
+    ensures end { result ≡ LineEnd.End → IsAtEnd (ahead reader.new (S.left source.new)) × (length line.new ≤ 1048576) }
+    ensures long { result ≡ LineEnd.TooLong → length line.new ≡ 1048577 }
+    ensures past { result ≡ LineEnd.Past → (reader.new.used ≡ 2 ^ 40) × IsMore (ahead reader.new (S.left source.new)) }
     ensures later { S.faults source.old ≤ S.faults source.new }
-    ensures fault { result ≡ Got.Fault → Rose (S.faults source.old) (S.faults source.new) }
+    ensures fault { result ≡ LineEnd.Fault → Rose (S.faults source.old) (S.faults source.new) }
 {
     line.clear();
     'bytes: while line.len() <= LONGEST_LINE {
         match reader.next(source) {
             Next::Byte(byte) => {
                 if byte == b'\n' {
-                    return Got::Line;
+                    return LineEnd::Line;
                 }
                 if line.push(byte).is_err() {
-                    return Got::NoMemory;
+                    return LineEnd::NoMemory;
                 }
             }
-            Next::End => return Got::End,
-            Next::Past => return Got::Past,
-            Next::Fault => return Got::Fault,
+            Next::End => return LineEnd::End,
+            Next::Past => return LineEnd::Past,
+            Next::Fault => return LineEnd::Fault,
         }
     }
-    Got::TooLong
+    LineEnd::TooLong
 }

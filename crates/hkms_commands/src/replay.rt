@@ -8,12 +8,12 @@ ghost use Rattle.prop_text.specs.declared.lines.PropLine.{PropLine};
 ghost use Rattle.world_run.specs.Acknowledged.{Acknowledged, HoldsLogs};
 ghost use Rattle.hkms_commands.specs.Replay.{Replay, ReplayUnder, damaged_in, ended_by, ended_by_props, ended_by_text, last_line, status_of};
 ghost use Rattle.hkms_commands.specs.Steps.{Caused, Closes, HasLists, LinePlayed, Next, Ran, RanToEnd, WritesLast};
-ghost use Rattle.hkms_commands.specs.declared.replay.Ended.{Ended};
+ghost use Rattle.hkms_commands.specs.declared.replay.ReplayEnd.{ReplayEnd};
 
-use crate::lines::{Got, read_line};
+use crate::lines::{LineEnd, read_line};
 use crate::opening::open_logs;
 use crate::props::{PropsFault, read_properties};
-use crate::stage::{Play, Stage};
+use crate::stage::{LineOutcome, Session};
 use frame_log::StartFault;
 use hk_base::{ByteList, Disk, Reader, Sink, Source, Words, write_all};
 use prop_text::{PropFault, Props};
@@ -22,7 +22,7 @@ use world_run::{World, WorldFault};
 
 /// How a replay ended.
 #[derive(Clone, Copy, Debug, PartialEq, Eq)]
-pub enum Ended {
+pub enum ReplayEnd {
     /// The input was read to its end.
     Done,
     /// This line of the properties is refused.
@@ -52,69 +52,69 @@ pub enum Ended {
 }
 
 /// How a replay ends if the text of the properties has a fault.
-fn ended_by_text(fault: PropFault) -> Ended
+fn ended_by_text(fault: PropFault) -> ReplayEnd
     ensures { result ≡ ended_by_text fault }
 {
     match fault {
-        PropFault::BadLine { number } => Ended::AclRefused { number },
-        PropFault::Repeated { number } => Ended::AclRepeated { number },
-        PropFault::UnknownName { number } => Ended::AclUnknown { number },
-        PropFault::TooLong => Ended::AclTooLong,
-        PropFault::NoMemory => Ended::NoMemory,
+        PropFault::BadLine { number } => ReplayEnd::AclRefused { number },
+        PropFault::Repeated { number } => ReplayEnd::AclRepeated { number },
+        PropFault::UnknownName { number } => ReplayEnd::AclUnknown { number },
+        PropFault::TooLong => ReplayEnd::AclTooLong,
+        PropFault::NoMemory => ReplayEnd::NoMemory,
     }
 }
 
 /// How a replay ends if the properties cannot be read.
-pub fn ended_by_props(fault: PropsFault) -> Ended
+pub fn ended_by_props(fault: PropsFault) -> ReplayEnd
     ensures { result ≡ ended_by_props fault }
 {
     match fault {
-        PropsFault::ReadFault => Ended::ReadFault,
+        PropsFault::ReadFault => ReplayEnd::ReadFault,
         PropsFault::TextFault(fault) => ended_by_text(fault),
     }
 }
 
 /// How a replay ends if the log on a file is damaged.
-fn damaged_in(file: u8, at: u64) -> Ended
+fn damaged_in(file: u8, at: u64) -> ReplayEnd
     ensures { result ≡ damaged_in file at }
 {
     match file {
-        0 => Ended::DamagedKeys { at },
-        _ => Ended::DamagedNames { at },
+        0 => ReplayEnd::DamagedKeys { at },
+        _ => ReplayEnd::DamagedNames { at },
     }
 }
 
 /// How a replay ends if a log cannot be opened.
-pub fn ended_by(why: WorldFault) -> Ended
+pub fn ended_by(why: WorldFault) -> ReplayEnd
     ensures { result ≡ ended_by why.file why.fault }
 {
     match why.fault {
         StartFault::Damaged { at } => damaged_in(why.file, at),
-        StartFault::StoreFault => Ended::StoreFault,
-        StartFault::NoMemory => Ended::NoMemory,
-        StartFault::Spent => Ended::Spent,
+        StartFault::StoreFault => ReplayEnd::StoreFault,
+        StartFault::NoMemory => ReplayEnd::NoMemory,
+        StartFault::Spent => ReplayEnd::Spent,
     }
 }
 
 /// A replay between two lines: what was read ahead, and the number of lines played.
 #[derive(Drop)]
-struct Replaying {
+struct ReplayRun {
     reader: Reader,
     line: ByteList,
-    stage: Stage,
+    stage: Session,
     count: u64,
 }
 
-impl Replaying {
+impl ReplayRun {
     /// A replay before its first line.
-    fn new(alloc: Global, world: World) -> Replaying
+    fn new(alloc: Global, world: World) -> ReplayRun
         ensures world { result.stage.world ≡ world }
         ensures fresh { (result.stage.events ≡ 0) × (result.count ≡ 0) × (result.reader.used ≡ 0) × (result.reader.bytes ≡ []) }
     {
-        Replaying {
+        ReplayRun {
             reader: Reader::new(),
             line: ByteList::new(alloc),
-            stage: Stage {
+            stage: Session {
                 alloc,
                 world,
                 events: 0,
@@ -131,12 +131,12 @@ impl Replaying {
         disk: &mut D,
         out: &mut K,
         words: &mut W,
-    ) -> Ended
+    ) -> ReplayEnd
         requires fresh { (self.old.stage.events ≡ 0) × (self.old.count ≡ 0) × (self.old.reader.used ≡ 0) × (self.old.reader.bytes ≡ []) }
         requires lists { (lines : List PropLine) × HasLists self.old.stage.world lines }
         requires stands { Tells (D.state disk.old) → ((done : Acknowledged) × HoldsLogs (D.state disk.old) self.old.stage.world done) }
         ensures ran { (lines : List PropLine) → HasLists self.old.stage.world lines → Ran lines (D.state disk.old) (D.state disk.new) self.old.stage.world (W.to_come words.old) (W.to_come words.new) (S.left input.old) (K.written out.old) (K.written out.new) result self.new.count }
-        ensures end { result ≡ Ended.Done → IsAtEnd (S.left input.new) }
+        ensures end { result ≡ ReplayEnd.Done → IsAtEnd (S.left input.new) }
         ensures count { self.new.count < 2 ^ 41 }
         ensures caused { Caused (S.faults input.old) (S.faults input.new) (K.faults out.old) (K.faults out.new) (D.state disk.old).faults (D.state disk.new).faults (Some result) }
     {
@@ -155,12 +155,12 @@ impl Replaying {
         disk: &mut D,
         out: &mut K,
         words: &mut W,
-    ) -> Ended
+    ) -> ReplayEnd
         requires fresh { (self.old.stage.events ≡ 0) × (self.old.count ≡ 0) × (self.old.reader.used ≡ 0) × (self.old.reader.bytes ≡ []) }
         requires lists { (lines : List PropLine) × HasLists self.old.stage.world lines }
         requires stands { Tells (D.state disk.old) → ((done : Acknowledged) × HoldsLogs (D.state disk.old) self.old.stage.world done) }
         ensures ran { (lines : List PropLine) → HasLists self.old.stage.world lines → RanToEnd lines (D.state disk.old) (D.state disk.new) self.old.stage.world (W.to_come words.old) (W.to_come words.new) (S.left input.old) (K.written out.old) (K.written out.new) result }
-        ensures end { result ≡ Ended.Done → IsAtEnd (S.left input.new) }
+        ensures end { result ≡ ReplayEnd.Done → IsAtEnd (S.left input.new) }
         ensures caused { Caused (S.faults input.old) (S.faults input.new) (K.faults out.old) (K.faults out.new) (D.state disk.old).faults (D.state disk.new).faults (Some result) }
     {
         let stop = self.run(input, disk, out, words);
@@ -174,7 +174,7 @@ impl Replaying {
         disk: &mut D,
         out: &mut K,
         words: &mut W,
-    ) -> Option<Ended>
+    ) -> Option<ReplayEnd>
         requires few { self.old.stage.events ≤ self.old.count }
         requires count { self.old.count ≤ 2 ^ 40 }
         requires lists { (lines : List PropLine) × HasLists self.old.stage.world lines }
@@ -185,12 +185,12 @@ impl Replaying {
         ensures caused { Caused (S.faults input.old) (S.faults input.new) (K.faults out.old) (K.faults out.new) (D.state disk.old).faults (D.state disk.new).faults result }
     {
         match read_line(&mut self.reader, input, &mut self.line) {
-            Got::Line => self.play(false, disk, out, words),
-            Got::End => self.play(true, disk, out, words),
-            Got::TooLong => Some(Ended::BadLine),
-            Got::Past => Some(Ended::BadLine),
-            Got::Fault => Some(Ended::ReadFault),
-            Got::NoMemory => Some(Ended::NoMemory),
+            LineEnd::Line => self.play(false, disk, out, words),
+            LineEnd::End => self.play(true, disk, out, words),
+            LineEnd::TooLong => Some(ReplayEnd::BadLine),
+            LineEnd::Past => Some(ReplayEnd::BadLine),
+            LineEnd::Fault => Some(ReplayEnd::ReadFault),
+            LineEnd::NoMemory => Some(ReplayEnd::NoMemory),
         }
     }
 
@@ -201,7 +201,7 @@ impl Replaying {
         disk: &mut D,
         out: &mut K,
         words: &mut W,
-    ) -> Option<Ended>
+    ) -> Option<ReplayEnd>
         requires short { length self.old.line ≤ 1048576 }
         requires few { self.old.stage.events ≤ self.old.count }
         requires count { self.old.count ≤ 2 ^ 40 }
@@ -210,115 +210,115 @@ impl Replaying {
         ensures same { (self.new.reader ≡ self.old.reader) × (self.new.line ≡ self.old.line) }
         ensures few { self.new.stage.events ≤ self.new.count }
         ensures later { K.faults out.old ≤ K.faults out.new }
-        ensures fault { result ≡ Some Ended.WriteFault → Rose (K.faults out.old) (K.faults out.new) }
+        ensures fault { result ≡ Some ReplayEnd.WriteFault → Rose (K.faults out.old) (K.faults out.new) }
     {
         match self.stage.play_line(self.line.as_slice(), disk, out, words) {
-            Play::Played => {
+            LineOutcome::Played => {
                 self.count += 1;
-                if last { Some(Ended::Done) } else { None }
+                if last { Some(ReplayEnd::Done) } else { None }
             }
-            Play::BadLine => Some(Ended::BadLine),
-            Play::Unread => Some(Ended::NoMemory),
-            Play::Untold => {
+            LineOutcome::BadLine => Some(ReplayEnd::BadLine),
+            LineOutcome::Unread => Some(ReplayEnd::NoMemory),
+            LineOutcome::Untold => {
                 self.count += 1;
-                Some(Ended::NoMemory)
+                Some(ReplayEnd::NoMemory)
             }
-            Play::Unwritten => {
+            LineOutcome::Unwritten => {
                 self.count += 1;
-                Some(Ended::WriteFault)
+                Some(ReplayEnd::WriteFault)
             }
-            Play::Unopened(why) => Some(ended_by(why)),
+            LineOutcome::Unopened(why) => Some(ended_by(why)),
         }
     }
 }
 
 /// Writes the last line if the end has one. Returns how the replay ends then.
-fn finish<K: Sink>(alloc: Global, out: &mut K, stop: Ended, count: u64) -> Ended
+fn finish<K: Sink>(alloc: Global, out: &mut K, stop: ReplayEnd, count: u64) -> ReplayEnd
     requires { count < 2 ^ 41 }
     ensures closes { Closes stop count (K.written out.old) (K.written out.new) result }
-    ensures write { result ≡ Ended.WriteFault → (stop ≡ Ended.WriteFault) ⊎ Rose (K.faults out.old) (K.faults out.new) }
+    ensures write { result ≡ ReplayEnd.WriteFault → (stop ≡ ReplayEnd.WriteFault) ⊎ Rose (K.faults out.old) (K.faults out.new) }
     ensures later { K.faults out.old ≤ K.faults out.new }
 {
     match stop {
-        Ended::Done => Ended::Done,
-        Ended::WriteFault => Ended::WriteFault,
-        Ended::NoMemory => written_or_fault(out, b"no memory\n", Ended::NoMemory),
-        Ended::ReadFault => written_or_fault(out, b"read fault\n", Ended::ReadFault),
-        Ended::StoreFault => written_or_fault(out, b"store fault\n", Ended::StoreFault),
-        Ended::Spent => written_or_fault(out, b"openings spent\n", Ended::Spent),
-        Ended::AclTooLong => written_or_fault(out, b"acl too long\n", Ended::AclTooLong),
-        Ended::BadLine => {
+        ReplayEnd::Done => ReplayEnd::Done,
+        ReplayEnd::WriteFault => ReplayEnd::WriteFault,
+        ReplayEnd::NoMemory => written_or_fault(out, b"no memory\n", ReplayEnd::NoMemory),
+        ReplayEnd::ReadFault => written_or_fault(out, b"read fault\n", ReplayEnd::ReadFault),
+        ReplayEnd::StoreFault => written_or_fault(out, b"store fault\n", ReplayEnd::StoreFault),
+        ReplayEnd::Spent => written_or_fault(out, b"openings spent\n", ReplayEnd::Spent),
+        ReplayEnd::AclTooLong => written_or_fault(out, b"acl too long\n", ReplayEnd::AclTooLong),
+        ReplayEnd::BadLine => {
             let line = count + 1;
             numbered(
                 out,
                 format!(in alloc; "line {line} refused\n"),
-                Ended::BadLine,
+                ReplayEnd::BadLine,
             )
         }
-        Ended::DamagedKeys { at } => {
+        ReplayEnd::DamagedKeys { at } => {
             let line = format!(in alloc; "damaged keys {at}\n");
-            numbered(out, line, Ended::DamagedKeys { at })
+            numbered(out, line, ReplayEnd::DamagedKeys { at })
         }
-        Ended::DamagedNames { at } => {
+        ReplayEnd::DamagedNames { at } => {
             let line = format!(in alloc; "damaged names {at}\n");
-            numbered(out, line, Ended::DamagedNames { at })
+            numbered(out, line, ReplayEnd::DamagedNames { at })
         }
-        Ended::AclRefused { number } => {
+        ReplayEnd::AclRefused { number } => {
             let line = format!(in alloc; "acl line {number} refused\n");
-            numbered(out, line, Ended::AclRefused { number })
+            numbered(out, line, ReplayEnd::AclRefused { number })
         }
-        Ended::AclRepeated { number } => {
+        ReplayEnd::AclRepeated { number } => {
             let line = format!(in alloc; "acl line {number} repeated\n");
-            numbered(out, line, Ended::AclRepeated { number })
+            numbered(out, line, ReplayEnd::AclRepeated { number })
         }
-        Ended::AclUnknown { number } => {
+        ReplayEnd::AclUnknown { number } => {
             let line = format!(in alloc; "acl line {number} unknown\n");
-            numbered(out, line, Ended::AclUnknown { number })
+            numbered(out, line, ReplayEnd::AclUnknown { number })
         }
     }
 }
 
 /// Writes a last line with a number, or `no memory` if its allocation failed.
-fn numbered<K: Sink>(out: &mut K, line: Result<String, AllocError>, ended: Ended) -> Ended
-    ensures wrote { MatchResult line (λ text. WritesLast (K.written out.old) (K.written out.new) (string_bytes text) ended result) (λ _. WritesLast (K.written out.old) (K.written out.new) (codes "no memory\n") Ended.NoMemory result) }
-    ensures write { result ≡ Ended.WriteFault → (ended ≡ Ended.WriteFault) ⊎ Rose (K.faults out.old) (K.faults out.new) }
+fn numbered<K: Sink>(out: &mut K, line: Result<String, AllocError>, ended: ReplayEnd) -> ReplayEnd
+    ensures wrote { MatchResult line (λ text. WritesLast (K.written out.old) (K.written out.new) (string_bytes text) ended result) (λ _. WritesLast (K.written out.old) (K.written out.new) (codes "no memory\n") ReplayEnd.NoMemory result) }
+    ensures write { result ≡ ReplayEnd.WriteFault → (ended ≡ ReplayEnd.WriteFault) ⊎ Rose (K.faults out.old) (K.faults out.new) }
     ensures later { K.faults out.old ≤ K.faults out.new }
 {
     match line {
-        Err(_) => written_or_fault(out, b"no memory\n", Ended::NoMemory),
+        Err(_) => written_or_fault(out, b"no memory\n", ReplayEnd::NoMemory),
         Ok(text) => written_or_fault(out, text.as_bytes(), ended),
     }
 }
 
 /// Writes a last line. Returns `ended`, or `WriteFault` if the output fails.
-fn written_or_fault<K: Sink>(out: &mut K, last: &[u8], ended: Ended) -> Ended
+fn written_or_fault<K: Sink>(out: &mut K, last: &[u8], ended: ReplayEnd) -> ReplayEnd
     ensures wrote { WritesLast (K.written out.old) (K.written out.new) last.now ended result }
-    ensures write { result ≡ Ended.WriteFault → (ended ≡ Ended.WriteFault) ⊎ Rose (K.faults out.old) (K.faults out.new) }
+    ensures write { result ≡ ReplayEnd.WriteFault → (ended ≡ ReplayEnd.WriteFault) ⊎ Rose (K.faults out.old) (K.faults out.new) }
     ensures later { K.faults out.old ≤ K.faults out.new }
 {
     match write_all(out, last) {
         Ok(()) => ended,
-        Err(_) => Ended::WriteFault,
+        Err(_) => ReplayEnd::WriteFault,
     }
 }
 
-pub fn status_of(ended: Ended) -> u8
+pub fn status_of(ended: ReplayEnd) -> u8
     ensures { result ≡ status_of ended }
 {
     match ended {
-        Ended::Done => 0,
-        Ended::AclRefused { number: _ } => 3,
-        Ended::AclRepeated { number: _ } => 3,
-        Ended::AclUnknown { number: _ } => 3,
-        Ended::AclTooLong => 3,
-        Ended::BadLine => 3,
-        Ended::DamagedKeys { at: _ } => 4,
-        Ended::DamagedNames { at: _ } => 4,
-        Ended::StoreFault => 5,
-        Ended::NoMemory => 6,
-        Ended::ReadFault => 7,
-        Ended::WriteFault => 8,
-        Ended::Spent => 10,
+        ReplayEnd::Done => 0,
+        ReplayEnd::AclRefused { number: _ } => 3,
+        ReplayEnd::AclRepeated { number: _ } => 3,
+        ReplayEnd::AclUnknown { number: _ } => 3,
+        ReplayEnd::AclTooLong => 3,
+        ReplayEnd::BadLine => 3,
+        ReplayEnd::DamagedKeys { at: _ } => 4,
+        ReplayEnd::DamagedNames { at: _ } => 4,
+        ReplayEnd::StoreFault => 5,
+        ReplayEnd::NoMemory => 6,
+        ReplayEnd::ReadFault => 7,
+        ReplayEnd::WriteFault => 8,
+        ReplayEnd::Spent => 10,
     }
 }
 
@@ -330,12 +330,12 @@ fn replay_under<S: Source, D: Disk, K: Sink, W: Words>(
     out: &mut K,
     disk: &mut D,
     rand: &mut W,
-) -> Ended
+) -> ReplayEnd
     ensures replay { ReplayUnder props.now.lines ((input.new ≡ input.old) × (rand.new ≡ rand.old)) (D.state disk.old) (D.state disk.new) (W.to_come rand.old) (W.to_come rand.new) (S.left input.old) (K.written out.old) (K.written out.new) result }
-    ensures end { result ≡ Ended.Done → IsAtEnd (S.left input.new) }
-    ensures read { result ≡ Ended.ReadFault → Rose (S.faults input.old) (S.faults input.new) }
-    ensures write { result ≡ Ended.WriteFault → Rose (K.faults out.old) (K.faults out.new) }
-    ensures store { result ≡ Ended.StoreFault → Rose (D.state disk.old).faults (D.state disk.new).faults }
+    ensures end { result ≡ ReplayEnd.Done → IsAtEnd (S.left input.new) }
+    ensures read { result ≡ ReplayEnd.ReadFault → Rose (S.faults input.old) (S.faults input.new) }
+    ensures write { result ≡ ReplayEnd.WriteFault → Rose (K.faults out.old) (K.faults out.new) }
+    ensures store { result ≡ ReplayEnd.StoreFault → Rose (D.state disk.old).faults (D.state disk.new).faults }
 {
     match open_logs(alloc, disk, props) {
         Err(why) => finish(alloc, out, ended_by(why), 0),
@@ -351,14 +351,14 @@ fn replay_in<S: Source, D: Disk, K: Sink, W: Words>(
     out: &mut K,
     disk: &mut D,
     rand: &mut W,
-) -> Ended
+) -> ReplayEnd
     requires lists { (lines : List PropLine) × HasLists world lines }
     requires stands { Tells (D.state disk.old) → ((done : Acknowledged) × HoldsLogs (D.state disk.old) world done) }
     ensures ran { (lines : List PropLine) → HasLists world lines → RanToEnd lines (D.state disk.old) (D.state disk.new) world (W.to_come rand.old) (W.to_come rand.new) (S.left input.old) (K.written out.old) (K.written out.new) result }
-    ensures end { result ≡ Ended.Done → IsAtEnd (S.left input.new) }
+    ensures end { result ≡ ReplayEnd.Done → IsAtEnd (S.left input.new) }
     ensures caused { Caused (S.faults input.old) (S.faults input.new) (K.faults out.old) (K.faults out.new) (D.state disk.old).faults (D.state disk.new).faults (Some result) }
 {
-    let mut replaying = Replaying::new(alloc, world);
+    let mut replaying = ReplayRun::new(alloc, world);
     let ended = replaying.run_to_end(input, disk, out, rand);
     drop(replaying);
     ended
@@ -389,7 +389,7 @@ pub fn run_replay<A: Source, S: Source, D: Disk, K: Sink, W: Words>(
     disk: &mut D,
     rand: &mut W,
 ) -> u8
-    ensures replay { (how : Ended) × (result ≡ status_of how) × Replay (disk.new ≡ disk.old) ((input.new ≡ input.old) × (rand.new ≡ rand.old)) (D.state disk.old) (D.state disk.new) (A.left acls.old) (A.left acls.new) (W.to_come rand.old) (W.to_come rand.new) (S.left input.old) (K.written out.old) (K.written out.new) how }
+    ensures replay { (how : ReplayEnd) × (result ≡ status_of how) × Replay (disk.new ≡ disk.old) ((input.new ≡ input.old) × (rand.new ≡ rand.old)) (D.state disk.old) (D.state disk.new) (A.left acls.old) (A.left acls.new) (W.to_come rand.old) (W.to_come rand.new) (S.left input.old) (K.written out.old) (K.written out.new) how }
     ensures end { result ≡ 0 → IsAtEnd (S.left input.new) }
     ensures read { result ≡ 7 → Rose (S.faults input.old) (S.faults input.new) ⊎ Rose (A.faults acls.old) (A.faults acls.new) }
     ensures write { result ≡ 8 → Rose (K.faults out.old) (K.faults out.new) }

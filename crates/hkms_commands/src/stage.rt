@@ -15,7 +15,7 @@ use world_run::{World, WorldFault};
 
 /// How a line was played.
 #[derive(Clone, Copy, Debug, PartialEq, Eq)]
-pub enum Play {
+pub enum LineOutcome {
     /// It has no event, or its event happened and the answer is written.
     Played,
     /// It is refused.
@@ -32,14 +32,14 @@ pub enum Play {
 
 /// Both services, and the number of events that they have answered.
 #[derive(Drop)]
-pub struct Stage {
+pub struct Session {
     pub alloc: Global,
     pub world: World,
     pub events: u64,
     pub answer: ByteList,
 }
 
-impl Stage {
+impl Session {
     /// Plays a line. If it has an event, writes the answer.
     pub fn play_line<D: Disk, K: Sink, W: Words>(
         &mut self,
@@ -47,19 +47,19 @@ impl Stage {
         disk: &mut D,
         out: &mut K,
         words: &mut W,
-    ) -> Play
+    ) -> LineOutcome
         requires short { length line.now ≤ 1048576 }
         requires few { self.old.events ≤ 2 ^ 40 }
         requires stands { Tells (D.state disk.old) → ((done : Acknowledged) × HoldsLogs (D.state disk.old) self.old.world done) }
         ensures plays { (lines : List PropLine) → HasLists self.old.world lines → PlaysSo lines (D.state disk.old) (D.state disk.new) (record { world = self.old.world; words = W.to_come words.old; events = self.old.events; written = K.written out.old }) line.now result (record { world = self.new.world; words = W.to_come words.new; events = self.new.events; written = K.written out.new }) }
         ensures few { self.new.events ≤ self.old.events + counts result }
         ensures later { K.faults out.old ≤ K.faults out.new }
-        ensures fault { result ≡ Play.Unwritten → Rose (K.faults out.old) (K.faults out.new) }
+        ensures fault { result ≡ LineOutcome.Unwritten → Rose (K.faults out.old) (K.faults out.new) }
     {
         let event = match read_event(self.alloc, line) {
-            Err(LineFault::BadLine) => return Play::BadLine,
-            Err(LineFault::NoMemory) => return Play::Unread,
-            Ok(None) => return Play::Played,
+            Err(LineFault::BadLine) => return LineOutcome::BadLine,
+            Err(LineFault::NoMemory) => return LineOutcome::Unread,
+            Ok(None) => return LineOutcome::Played,
             Ok(Some(event)) => event,
         };
         self.play_event(event, disk, out, words)
@@ -71,29 +71,29 @@ impl Stage {
         disk: &mut D,
         out: &mut K,
         words: &mut W,
-    ) -> Play
+    ) -> LineOutcome
         requires few { self.old.events ≤ 2 ^ 40 }
         requires stands { Tells (D.state disk.old) → ((done : Acknowledged) × HoldsLogs (D.state disk.old) self.old.world done) }
         ensures plays { (lines : List PropLine) → HasLists self.old.world lines → (line : List ℕ) → Spells line event → PlaysSo lines (D.state disk.old) (D.state disk.new) (record { world = self.old.world; words = W.to_come words.old; events = self.old.events; written = K.written out.old }) line result (record { world = self.new.world; words = W.to_come words.new; events = self.new.events; written = K.written out.new }) }
         ensures few { self.new.events ≤ self.old.events + counts result }
         ensures later { K.faults out.old ≤ K.faults out.new }
-        ensures fault { result ≡ Play.Unwritten → Rose (K.faults out.old) (K.faults out.new) }
+        ensures fault { result ≡ LineOutcome.Unwritten → Rose (K.faults out.old) (K.faults out.new) }
     {
         match self.world.step(disk, words, self.events + 1, event) {
-            Err(why) => Play::Unopened(why),
+            Err(why) => LineOutcome::Unopened(why),
             Ok(told) => self.tell_line(told, out),
         }
     }
 
     /// Counts an event, and writes and drops its answer.
-    fn tell_line<K: Sink>(&mut self, told: Line, out: &mut K) -> Play
+    fn tell_line<K: Sink>(&mut self, told: Line, out: &mut K) -> LineOutcome
         requires few { self.old.events ≤ 2 ^ 40 }
         ensures tells { TellsSo (self.old.events + 1) told (K.written out.old) (K.written out.new) result }
         ensures world { self.new.world ≡ self.old.world }
         ensures counted { self.new.events ≡ self.old.events + 1 }
         ensures counts { counts result ≡ 1 }
         ensures later { K.faults out.old ≤ K.faults out.new }
-        ensures fault { result ≡ Play.Unwritten → Rose (K.faults out.old) (K.faults out.new) }
+        ensures fault { result ≡ LineOutcome.Unwritten → Rose (K.faults out.old) (K.faults out.new) }
     {
         let play = self.tell(&told, out);
         drop(told);
@@ -101,22 +101,22 @@ impl Stage {
     }
 
     /// Counts an event, and writes its answer.
-    fn tell<K: Sink>(&mut self, told: &Line, out: &mut K) -> Play
+    fn tell<K: Sink>(&mut self, told: &Line, out: &mut K) -> LineOutcome
         requires few { self.old.events ≤ 2 ^ 40 }
         ensures tells { TellsSo (self.old.events + 1) told.now (K.written out.old) (K.written out.new) result }
         ensures world { self.new.world ≡ self.old.world }
         ensures counted { self.new.events ≡ self.old.events + 1 }
         ensures counts { counts result ≡ 1 }
         ensures later { K.faults out.old ≤ K.faults out.new }
-        ensures fault { result ≡ Play.Unwritten → Rose (K.faults out.old) (K.faults out.new) }
+        ensures fault { result ≡ LineOutcome.Unwritten → Rose (K.faults out.old) (K.faults out.new) }
     {
         self.events += 1;
         self.answer.clear();
         match write_line(self.alloc, self.events, told, &mut self.answer) {
-            Err(_) => Play::Untold,
+            Err(_) => LineOutcome::Untold,
             Ok(()) => match write_all(out, self.answer.as_slice()) {
-                Ok(()) => Play::Played,
-                Err(_) => Play::Unwritten,
+                Ok(()) => LineOutcome::Played,
+                Err(_) => LineOutcome::Unwritten,
             },
         }
     }

@@ -12,16 +12,16 @@ use std::alloc::Global;
 /// The routes of the service, which are built when they are first used and kept from then on. A
 /// connection has one, so that its requests don't each build the routes.
 #[derive(Drop)]
-pub struct KeptRouter {
+pub struct LazyRouter {
     alloc: Global,
     router: Option<Router<Place>>,
     ghost whole: { ForSome router (λ r. r ≡ table) },
 }
 
-impl KeptRouter {
+impl LazyRouter {
     /// Creates a router whose routes are not built yet. It does not allocate.
-    pub fn new(alloc: Global) -> KeptRouter {
-        KeptRouter {
+    pub fn new(alloc: Global) -> LazyRouter {
+        LazyRouter {
             alloc,
             router: None,
         }

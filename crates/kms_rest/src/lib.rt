@@ -14,7 +14,7 @@ mod responses;
 mod routes;
 
 pub use faults::RestFault;
-pub use kept::KeptRouter;
+pub use kept::LazyRouter;
 pub use laws::requests_have_one_answer;
 pub use operation::Operation;
 pub use requests::{to_call, to_call_with};

@@ -6,7 +6,7 @@ ghost use Rattle.path_routes.specs.Queries.{parameters, path_of, query_of};
 
 use crate::calls::read_call;
 use crate::faults::RestFault;
-use crate::kept::KeptRouter;
+use crate::kept::LazyRouter;
 use crate::operation::Operation;
 use crate::query::is_single;
 use crate::routes::route;
@@ -22,14 +22,14 @@ use std::alloc::Global;
 pub fn to_call(alloc: Global, request: &Request) -> Result<(Text, KmsCall), RestFault>
     ensures { spec.Says request.now result }
 {
-    let mut router = KeptRouter::new(alloc);
+    let mut router = LazyRouter::new(alloc);
     to_call_with(alloc, &mut router, request)
 }
 
 /// Returns the user and the call of a request, as `to_call` does, with a router that is kept.
 pub fn to_call_with(
     alloc: Global,
-    router: &mut KeptRouter,
+    router: &mut LazyRouter,
     request: &Request,
 ) -> Result<(Text, KmsCall), RestFault>
     ensures { spec.Says request.now result }

@@ -1,5 +1,5 @@
 use Rattle.std.proofs.Common.{refl, string_bytes}
-use Rattle.hkms_commands.specs.declared.replay.Ended.TheVariants.{Done, AclRefused, AclRepeated, AclUnknown, BadLine, DamagedKeys, DamagedNames, WriteFault}
+use Rattle.hkms_commands.specs.declared.replay.ReplayEnd.TheVariants.{Done, AclRefused, AclRepeated, AclUnknown, BadLine, DamagedKeys, DamagedNames, WriteFault}
 use Rattle.hkms_commands.proofs.StageLemmas.{closes_numbered, closes_with_nothing}
 use Rattle.hkms_commands.proofs.replay.finish.Goals as goal
 

@@ -1,5 +1,5 @@
 use Rattle.std.proofs.Common.{refl, subst}
-use Rattle.hkms_commands.specs.declared.replay.Ended.{Ended}
+use Rattle.hkms_commands.specs.declared.replay.ReplayEnd.{ReplayEnd}
 use Rattle.hkms_commands.specs.Steps.{Closes}
 use Rattle.hkms_commands.proofs.LastLemmas.{bad_properties, has_read}
 use Rattle.hkms_commands.proofs.replay.run_replay.Goals as goal
@@ -9,7 +9,7 @@ returns-in-Err-clause-replay g c = (
   c.finish.result,
   c.status_of.ensures,
   bad_properties _ _ _ _ _ _ _ _ _ _ _ c.in-Err.fault c.finish.result (c.read_properties.ensures.fault c.in-Err.fault c.in-Err.is) (refl, (refl, refl))
-      (subst (λ (e : Ended). Closes e 0 (g.K.Sink.written c.args.out.now) (g.K.Sink.written c.finish.new.out) c.finish.result) c.ended_by_props.ensures c.finish.ensures.closes),
+      (subst (λ (e : ReplayEnd). Closes e 0 (g.K.Sink.written c.args.out.now) (g.K.Sink.written c.finish.new.out) c.finish.result) c.ended_by_props.ensures c.finish.ensures.closes),
 )
 
 pub returns-clause-replay : goal.returns-clause-replay

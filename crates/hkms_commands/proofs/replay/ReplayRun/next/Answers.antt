@@ -1,5 +1,5 @@
 use Rattle.hkms_commands.proofs.EndLemmas.{line_caused}
-use Rattle.hkms_commands.proofs.replay.Replaying.next.Goals as goal
+use Rattle.hkms_commands.proofs.replay.ReplayRun.next.Goals as goal
 
 pub returns-in-Line-clause-caused : goal.returns-in-Line-clause-caused
 returns-in-Line-clause-caused g c =

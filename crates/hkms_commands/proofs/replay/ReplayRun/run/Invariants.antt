@@ -2,7 +2,7 @@ use Rattle.std.proofs.Common.{◌-◌, ◌≤◌, ◌^◌, None}
 use Rattle.hk_base.specs.Reading.{ahead}
 use Rattle.hkms_commands.specs.Steps.{Caused}
 use Rattle.hkms_commands.proofs.EndLemmas.{SoFarUnder}
-use Rattle.hkms_commands.proofs.replay.Replaying.run.Given as goal
+use Rattle.hkms_commands.proofs.replay.ReplayRun.run.Given as goal
 
 abbrev pub invariant-lines : goal.invariant-lines
 invariant-lines g l = record {

@@ -1,5 +1,5 @@
 use Rattle.hkms_commands.proofs.LastLemmas.{closed_cause}
-use Rattle.hkms_commands.proofs.replay.Replaying.run_to_end.Goals as goal
+use Rattle.hkms_commands.proofs.replay.ReplayRun.run_to_end.Goals as goal
 
 pub returns-clause-ran : goal.returns-clause-ran
 returns-clause-ran g c = λ lines has. record {

@@ -2,7 +2,7 @@ use Rattle.std.proofs.Common.{refl, arith}
 use Rattle.std.proofs.KnownBytes.{Appends-nil}
 use Rattle.hkms_commands.proofs.EndLemmas.{first_ahead, goes_on_under, goes_on_untroubled, lists_under, stands_under, stops_under}
 use Rattle.hkms_commands.proofs.HistoryLemmas.{nothing_yet}
-use Rattle.hkms_commands.proofs.replay.Replaying.run.Goals as goal
+use Rattle.hkms_commands.proofs.replay.ReplayRun.run.Goals as goal
 
 pub lines-init : goal.lines-init
 lines-init g c =

@@ -1,5 +1,5 @@
 use Rattle.hkms_commands.proofs.StageLemmas.{event_plays}
-use Rattle.hkms_commands.proofs.stage.Stage.play_event.Goals as goal
+use Rattle.hkms_commands.proofs.stage.Session.play_event.Goals as goal
 
 pub returns-in-Ok-clause-plays : goal.returns-in-Ok-clause-plays
 returns-in-Ok-clause-plays g c = λ lines has.
