@@ -3,6 +3,7 @@
 #![tactic(auto)]
 
 mod disk;
+mod ended;
 mod names;
 mod numbers;
 mod outside;
@@ -12,6 +13,7 @@ mod texts;
 mod writing;
 
 pub use disk::{Disk, LONGEST_FILE};
+pub use ended::Ended;
 pub use names::{Dek, Edek, Iv, KeyName, VersionName};
 pub use numbers::read_number;
 pub use outside::{Clock, Failed, Sink, Source, Words};

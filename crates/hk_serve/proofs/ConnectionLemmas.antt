@@ -11,7 +11,7 @@ use Rattle.kms_calls.specs.declared.calls.KmsReply.{KmsReply}
 use Rattle.http_wire.specs.Message.{Message}
 use Rattle.http_wire.specs.Reading.{ahead}
 use Rattle.http_wire.specs.Requests.{Takes}
-use Rattle.hk_serve.specs.declared.ended.Ended.{Ended}
+use Rattle.hk_base.specs.declared.ended.Ended.{Ended}
 use Rattle.hk_serve.specs.Ends.{Ends}
 use Rattle.hk_serve.specs.Exchanges.{AsksInOrder, Exchange, Leaves, ReadsInOrder, Stand, WentOn, bytes_in, response_of, responses_of}
 use Rattle.hk_serve.specs.Served.{Served}

@@ -5,8 +5,8 @@ use Rattle.http_wire.specs.declared.faults.WireFault.{WireFault}
 use Rattle.http_wire.specs.declared.faults.WireFault.TheVariants as wire
 use Rattle.http_wire.specs.Laws.{OneListOfRequests}
 use Rattle.http_wire.specs.Message.{Message}
-use Rattle.hk_serve.specs.declared.ended.Ended.{Ended}
-use Rattle.hk_serve.specs.declared.ended.Ended.TheVariants as ended
+use Rattle.hk_base.specs.declared.ended.Ended.{Ended}
+use Rattle.hk_base.specs.declared.ended.Ended.TheVariants as ended
 use Rattle.hk_serve.specs.Laws.{IsOfBytes}
 use Rattle.hk_serve.specs.Served.{AreRequestsOf, IsOfWire}
 

@@ -9,8 +9,8 @@ use Rattle.http_wire.specs.declared.faults.WireFault.{WireFault}
 use Rattle.http_wire.specs.declared.faults.WireFault.TheVariants as wire
 use Rattle.http_wire.specs.Message.{Message}
 use Rattle.http_wire.specs.Requests.{Begins, Ended, HasRequests, IsOfBytes, Stops, Takes}
-use Rattle.hk_serve.specs.declared.ended.Ended.{Ended as End}
-use Rattle.hk_serve.specs.declared.ended.Ended.TheVariants as ended
+use Rattle.hk_base.specs.declared.ended.Ended.{Ended as End}
+use Rattle.hk_base.specs.declared.ended.Ended.TheVariants as ended
 use Rattle.hk_serve.specs.Ends.{Ends, EndsThere}
 use Rattle.hk_serve.specs.Exchanges.{Exchange, ReadsInOrder, Stand}
 use Rattle.hk_serve.specs.Served.{AreRequestsOf, BeginsWith, IsOfWire, last_request}

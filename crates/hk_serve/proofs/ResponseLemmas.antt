@@ -4,7 +4,7 @@ use Rattle.std.specs.Prelude.{IfOk}
 use Rattle.hk_base.specs.declared.texts.NoMemory.{NoMemory}
 use Rattle.http_wire.specs.Responses.{IsStatus, response_text}
 use Rattle.kms_rest.specs.declared.faults.RestFault.{RestFault}
-use Rattle.kms_rest.specs.declared.responses.Response.{Response}
+use Rattle.http_wire.specs.declared.responses.Response.{Response}
 use Rattle.kms_rest.specs.Responses.{fault_status, fault_text}
 use Rattle.hk_serve.specs.Exchanges.{NoCall}
 use Rattle.hk_serve.specs.Turns.{Responds}

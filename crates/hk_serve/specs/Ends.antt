@@ -8,8 +8,8 @@ use Rattle.http_wire.specs.declared.faults.WireFault.{WireFault}
 use Rattle.http_wire.specs.declared.faults.WireFault.TheVariants as wire
 use Rattle.http_wire.specs.Requests.{Stops, Takes}
 use Rattle.http_wire.specs.Responses.{response_text}
-use Rattle.hk_serve.specs.declared.ended.Ended.{Ended}
-use Rattle.hk_serve.specs.declared.ended.Ended.TheVariants as ended
+use Rattle.hk_base.specs.declared.ended.Ended.{Ended}
+use Rattle.hk_base.specs.declared.ended.Ended.TheVariants as ended
 use Rattle.hk_serve.specs.Exchanges.{ComesOf, Exchange, Leaves, Stand, response_of}
 
 -- the status of the response to bytes that are no request, and 0 where there is none

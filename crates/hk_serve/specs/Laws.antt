@@ -1,8 +1,8 @@
 -- What the definitions keep.
 use Rattle.std.specs.Prelude.{◌≡◌, ℕ, List, ⊤}
 use Rattle.http_wire.specs.Message.{Message}
-use Rattle.hk_serve.specs.declared.ended.Ended.{Ended}
-use Rattle.hk_serve.specs.declared.ended.Ended.TheVariants as ended
+use Rattle.hk_base.specs.declared.ended.Ended.{Ended}
+use Rattle.hk_base.specs.declared.ended.Ended.TheVariants as ended
 use Rattle.hk_serve.specs.Served.{AreRequestsOf}
 
 -- the bytes end the connection, and not the outside or their count

@@ -9,9 +9,9 @@ use Rattle.http_wire.specs.declared.faults.SendFault.TheVariants as send
 use Rattle.http_wire.specs.Message.{Message}
 use Rattle.http_wire.specs.Requests.{Takes}
 use Rattle.http_wire.specs.Responses.{IsStatus, response_text}
-use Rattle.kms_rest.specs.declared.responses.Response.{Response}
-use Rattle.hk_serve.specs.declared.ended.Ended.{Ended}
-use Rattle.hk_serve.specs.declared.ended.Ended.TheVariants as ended
+use Rattle.http_wire.specs.declared.responses.Response.{Response}
+use Rattle.hk_base.specs.declared.ended.Ended.{Ended}
+use Rattle.hk_base.specs.declared.ended.Ended.TheVariants as ended
 use Rattle.hk_serve.specs.Ends.{Ends, EndsAfter}
 use Rattle.hk_serve.specs.Exchanges.{ComesOf, Exchange, Leaves, Outcome, Stand, response_of}
 

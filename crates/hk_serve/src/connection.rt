@@ -10,9 +10,8 @@ ghost use Rattle.hk_serve.specs.Served.{Served};
 ghost use Rattle.hk_serve.specs.Turns.{Answered, Responds, GoesOnAfter, Turns};
 
 use crate::desk::Desk;
-use crate::ended::Ended;
 use crate::refusals::{ended_by, stop};
-use hk_base::{NoMemory, Sink, Source, Text};
+use hk_base::{Ended, NoMemory, Sink, Source, Text};
 use http_wire::{Request, Scratch, read_request, write_response};
 use kms_calls::KmsCall;
 use kms_rest::{LazyRouter, Response, respond, respond_fault, to_call_with};

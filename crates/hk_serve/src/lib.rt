@@ -4,13 +4,12 @@
 
 mod connection;
 mod desk;
-mod ended;
 mod laws;
 mod refusals;
 mod world_desk;
 
 pub use connection::serve_conn;
 pub use desk::Desk;
-pub use ended::Ended;
+pub use hk_base::Ended;
 pub use laws::connections_are_those_of_the_bytes;
 pub use world_desk::{WorldDesk, serve_world};

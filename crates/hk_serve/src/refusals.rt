@@ -5,8 +5,7 @@ ghost use Rattle.http_wire.specs.Responses.{IsStatus, response_text};
 ghost use Rattle.hk_serve.specs.Ends.{EndsFor};
 ghost use Rattle.hk_serve.specs.Turns.{SentLast, send_ended};
 
-use crate::ended::Ended;
-use hk_base::Sink;
+use hk_base::{Ended, Sink};
 use http_wire::{SendFault, WireFault, write_response};
 use std::alloc::Global;
 

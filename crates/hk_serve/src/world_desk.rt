@@ -8,8 +8,7 @@ ghost use Rattle.hk_serve.specs.Worlds.{Happens, IsReady, WorldView};
 
 use crate::connection::serve_conn;
 use crate::desk::Desk;
-use crate::ended::Ended;
-use hk_base::{Clock, Disk, Sink, Source, Text, Words};
+use hk_base::{Clock, Disk, Ended, Sink, Source, Text, Words};
 use hk_events::{Event, Line};
 use kms_calls::{KmsCall, KmsReply};
 use std::alloc::Global;

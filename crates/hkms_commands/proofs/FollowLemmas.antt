@@ -3,7 +3,7 @@ use Rattle.std.proofs.Common.{◌≡◌, inl, inr, ℕ, List, [], ◌∷◌, ◌
 use Rattle.std.specs.Prelude.{Some}
 use Rattle.kms_calls.specs.declared.calls.KmsCall.{KmsCall}
 use Rattle.kms_calls.specs.declared.calls.KmsReply.{KmsReply}
-use Rattle.hk_serve.specs.declared.ended.Ended.{Ended}
+use Rattle.hk_base.specs.declared.ended.Ended.{Ended}
 use Rattle.hk_serve.specs.Ends.{Ends}
 use Rattle.hk_serve.specs.Exchanges.{AsksInOrder, Exchange, Leaves, NoCall, Outcome, Replied, Stand, WentOn, bytes_in}
 use Rattle.hk_serve.specs.Served.{AreRequestsOf, Served, last_request}

@@ -12,8 +12,8 @@ use Rattle.hk_events.specs.declared.event.Line.TheVariants as line
 use Rattle.world_run.specs.Acknowledged.{Acknowledged, LeavesBoth, RunBoth}
 use Rattle.world_run.specs.World.{RunningWorld, WorldState, first_world, world_of}
 use Rattle.world_run.specs.Keeps.{Begins, LeftByStarts, LinkedStep, Steps}
-use Rattle.hk_serve.specs.declared.ended.Ended.{Ended}
-use Rattle.hk_serve.specs.declared.ended.Ended.TheVariants as ended
+use Rattle.hk_base.specs.declared.ended.Ended.{Ended}
+use Rattle.hk_base.specs.declared.ended.Ended.TheVariants as ended
 use Rattle.hk_serve.specs.Exchanges.{Stand}
 use Rattle.hk_serve.specs.Served.{Served}
 use Rattle.hk_serve.specs.Worlds.{Happens, WorldView}

@@ -15,8 +15,8 @@ use Rattle.world_run.specs.Acknowledged.{also}
 use Rattle.world_run.specs.Keeps.{LinkedStep}
 use Rattle.world_run.specs.Ledger.{Hidden}
 use Rattle.http_wire.specs.Reading.{ahead}
-use Rattle.hk_serve.specs.declared.ended.Ended.{Ended}
-use Rattle.hk_serve.specs.declared.ended.Ended.TheVariants.{End, Closed, TooLong, Wire, ReadFault, WriteFault, NoMemory}
+use Rattle.hk_base.specs.declared.ended.Ended.{Ended}
+use Rattle.hk_base.specs.declared.ended.Ended.TheVariants.{End, Closed, TooLong, Wire, ReadFault, WriteFault, NoMemory}
 use Rattle.hk_serve.specs.Served.{Served}
 use Rattle.hkms_commands.specs.declared.props.PropsFault.{PropsFault}
 use Rattle.hkms_commands.specs.declared.replay.ReplayEnd.TheVariants.{Done}

@@ -3,7 +3,7 @@ ghost use Rattle.std.specs.Prelude.{◌≡◌, ◌⊎◌, ℕ, List};
 ghost use Rattle.hk_base.specs.Faults.{Rose};
 ghost use Rattle.http_wire.specs.Reading.{ahead};
 ghost use Rattle.world_run.specs.World.{RunningWorld};
-ghost use Rattle.hk_serve.specs.declared.ended.Ended.{Ended};
+ghost use Rattle.hk_base.specs.declared.ended.Ended.{Ended};
 ghost use Rattle.hk_serve.specs.Served.{Served};
 ghost use Rattle.hk_serve.specs.Worlds.{Happens, IsReady};
 ghost use Rattle.hkms_commands.specs.Pipe.{Pipe, PipeUnder, connection_status};

@@ -1,4 +1,4 @@
-//! Writing a response.
+//! Responses, and how they are written.
 ghost use Rattle.std.specs.Prelude.{◌≡◌, ◌≤◌, ◌++◌, OnOk, OnErr, IfOk, Err};
 ghost use Rattle.std.specs.Io.KnownBytes.{Appends};
 ghost use Rattle.hk_base.specs.Faults.{Rose};
@@ -10,6 +10,14 @@ use hk_base::{ByteList, NoMemory, Sink, write_all};
 use http::StatusCode;
 use itoa::Buffer;
 use std::alloc::Global;
+
+/// A response: its status, which is one of those that the services answer with, and its body, which
+/// is JSON unless it is empty.
+#[derive(Drop)]
+pub struct Response {
+    pub status: u16,
+    pub body: ByteList,
+}
 
 /// Returns the code of a status.
 fn code(status: u16) -> StatusCode
@@ -66,7 +74,7 @@ fn append_length(out: &mut ByteList, body: &[u8]) -> Result<(), NoMemory>
 
 /// Makes the text of a response.
 #[tactic(auto, unfolding(crate::specs::Responses::response_text))]
-fn response(alloc: Global, status: u16, body: &[u8]) -> Result<ByteList, NoMemory>
+fn text_of(alloc: Global, status: u16, body: &[u8]) -> Result<ByteList, NoMemory>
     requires { IsStatus status }
     ensures { IfOk result (λ text. text ≡ response_text status body.now) }
 {
@@ -96,7 +104,7 @@ pub fn write_response<K: Sink>(
     ensures later { K.faults sink.old ≤ K.faults sink.new }
     ensures write_fault { result ≡ Err SendFault.WriteFault → Rose (K.faults sink.old) (K.faults sink.new) }
 {
-    let Ok(text) = response(alloc, status, body) else {
+    let Ok(text) = text_of(alloc, status, body) else {
         return Err(SendFault::NoMemory);
     };
     match write_all(sink, text.as_slice()) {

@@ -14,8 +14,9 @@ mod responses;
 mod routes;
 
 pub use faults::RestFault;
+pub use http_wire::Response;
 pub use kept::LazyRouter;
 pub use laws::requests_have_one_answer;
 pub use operation::Operation;
 pub use requests::{to_call, to_call_with};
-pub use responses::{Response, respond, respond_fault};
+pub use responses::{respond, respond_fault};

@@ -6,6 +6,7 @@ ghost use Rattle.kms_rest.specs.Responses as spec;
 
 use crate::faults::RestFault;
 use hk_base::{ByteList, NoMemory};
+use http_wire::Response;
 use kms_calls::{KmsRefusal, KmsReply};
 use kms_json::write_reply;
 use std::alloc::Global;
@@ -14,14 +15,6 @@ const NO_ROUTE: &str = "{\"RemoteException\":{\"exception\":\"NoRoute\",\"messag
 
 const BAD_METHOD: &str =
     "{\"RemoteException\":{\"exception\":\"BadMethod\",\"message\":\"BadMethod\"}}";
-
-/// A response: its status, which is one of those that the services answer with, and its body, which
-/// is JSON unless it is empty.
-#[derive(Drop)]
-pub struct Response {
-    pub status: u16,
-    pub body: ByteList,
-}
 
 /// Returns the status of a refusal (RFC 9110).
 fn refusal_status(why: &KmsRefusal) -> u16

@@ -1,9 +1,10 @@
 -- The names of properties.
 use Rattle.std.specs.Prelude.{ℕ, ◌-◌, ◌&&◌, nat_le, nat_lt, Bool, List, length, take, drop, codes, Option, None, Some, if◌then◌else◌}
 use Rattle.std.specs.List.{list_all}
-use Rattle.std.specs.Option.{option_map, option_or}
+use Rattle.std.specs.Option.{option_and_then, option_map, option_or}
 use Rattle.std.specs.Str.{bytes_eq}
 use Rattle.hk_base.specs.Names.{is_key_name}
+use Rattle.kms_calls.specs.Acl.{op_text}
 use Rattle.prop_text.specs.Acls.{is_plain}
 use Rattle.kms_calls.specs.declared.acl.AclOp.{AclOp}
 use Rattle.kms_calls.specs.declared.acl.AclOp.TheVariants as op
@@ -25,24 +26,24 @@ before end bytes = if bytes_eq (drop (length bytes - length end) bytes) end then
 -- the operations of the service
 unfoldable pub service_op : List ℕ → Option AclOp
 service_op text =
-    if bytes_eq text (codes "CREATE") then Some op.Create
-    else if bytes_eq text (codes "DELETE") then Some op.Delete
-    else if bytes_eq text (codes "ROLLOVER") then Some op.Rollover
-    else if bytes_eq text (codes "GET") then Some op.Get
-    else if bytes_eq text (codes "GET_KEYS") then Some op.GetKeys
-    else if bytes_eq text (codes "GET_METADATA") then Some op.GetMetadata
-    else if bytes_eq text (codes "SET_KEY_MATERIAL") then Some op.SetKeyMaterial
-    else if bytes_eq text (codes "GENERATE_EEK") then Some op.GenerateEek
-    else if bytes_eq text (codes "DECRYPT_EEK") then Some op.DecryptEek
+    if bytes_eq text (op_text op.Create) then Some op.Create
+    else if bytes_eq text (op_text op.Delete) then Some op.Delete
+    else if bytes_eq text (op_text op.Rollover) then Some op.Rollover
+    else if bytes_eq text (op_text op.Get) then Some op.Get
+    else if bytes_eq text (op_text op.GetKeys) then Some op.GetKeys
+    else if bytes_eq text (op_text op.GetMetadata) then Some op.GetMetadata
+    else if bytes_eq text (op_text op.SetKeyMaterial) then Some op.SetKeyMaterial
+    else if bytes_eq text (op_text op.GenerateEek) then Some op.GenerateEek
+    else if bytes_eq text (op_text op.DecryptEek) then Some op.DecryptEek
     else None
 
 -- the operations on a key
 unfoldable pub key_op : List ℕ → Option AclOp
 key_op text =
-    if bytes_eq text (codes "MANAGEMENT") then Some op.Management
-    else if bytes_eq text (codes "GENERATE_EEK") then Some op.GenerateEek
-    else if bytes_eq text (codes "DECRYPT_EEK") then Some op.DecryptEek
-    else if bytes_eq text (codes "READ") then Some op.Read
+    if bytes_eq text (op_text op.Management) then Some op.Management
+    else if bytes_eq text (op_text op.GenerateEek) then Some op.GenerateEek
+    else if bytes_eq text (op_text op.DecryptEek) then Some op.DecryptEek
+    else if bytes_eq text (op_text op.Read) then Some op.Read
     else None
 
 abbrev pub service_op_in : Option (List ℕ) → Option AclOp
@@ -74,25 +75,25 @@ abbrev pub key_in : Option (List ℕ) → Option (List ℕ)
 key_in None = None
 key_in (Some bytes) = if is_key_name bytes then Some bytes else None
 
--- the key before an end
+-- the key before a dot and this name
 unfoldable pub key_before : List ℕ → List ℕ → Option (List ℕ)
-key_before end bytes = key_in (before end bytes)
+key_before name bytes = key_in (option_and_then (before (codes ".")) (before name bytes))
 
 -- `K.OP` for one operation
-unfoldable pub key_with : AclOp → List ℕ → List ℕ → Option AclPlace
-key_with op end bytes = option_map (λ key. place.Key key op) (key_before end bytes)
+unfoldable pub key_with : AclOp → List ℕ → Option AclPlace
+key_with op bytes = option_map (λ key. place.Key key op) (key_before (op_text op) bytes)
 
 -- `K.ALL`
 unfoldable pub key_all : List ℕ → Option AclPlace
-key_all bytes = option_map place.KeyAll (key_before (codes ".ALL") bytes)
+key_all bytes = option_map place.KeyAll (key_before (codes "ALL") bytes)
 
 -- `K.OP`: no operation has a dot, so what stands before the last dot is the key
 unfoldable pub key_place : List ℕ → Option AclPlace
 key_place bytes =
-    option_or (key_with op.Management (codes ".MANAGEMENT") bytes)
-    (option_or (key_with op.GenerateEek (codes ".GENERATE_EEK") bytes)
-    (option_or (key_with op.DecryptEek (codes ".DECRYPT_EEK") bytes)
-    (option_or (key_with op.Read (codes ".READ") bytes)
+    option_or (key_with op.Management bytes)
+    (option_or (key_with op.GenerateEek bytes)
+    (option_or (key_with op.DecryptEek bytes)
+    (option_or (key_with op.Read bytes)
     (key_all bytes))))
 
 abbrev pub key_place_in : Option (List ℕ) → Option AclPlace

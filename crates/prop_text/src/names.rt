@@ -14,31 +14,31 @@ use kms_calls::AclOp;
 fn service_op(text: &[u8]) -> Option<AclOp>
     ensures { result ≡ service_op text.now }
 {
-    if text == b"CREATE".as_slice() {
+    if text == AclOp::Create.name().as_bytes() {
         return Some(AclOp::Create);
     }
-    if text == b"DELETE".as_slice() {
+    if text == AclOp::Delete.name().as_bytes() {
         return Some(AclOp::Delete);
     }
-    if text == b"ROLLOVER".as_slice() {
+    if text == AclOp::Rollover.name().as_bytes() {
         return Some(AclOp::Rollover);
     }
-    if text == b"GET".as_slice() {
+    if text == AclOp::Get.name().as_bytes() {
         return Some(AclOp::Get);
     }
-    if text == b"GET_KEYS".as_slice() {
+    if text == AclOp::GetKeys.name().as_bytes() {
         return Some(AclOp::GetKeys);
     }
-    if text == b"GET_METADATA".as_slice() {
+    if text == AclOp::GetMetadata.name().as_bytes() {
         return Some(AclOp::GetMetadata);
     }
-    if text == b"SET_KEY_MATERIAL".as_slice() {
+    if text == AclOp::SetKeyMaterial.name().as_bytes() {
         return Some(AclOp::SetKeyMaterial);
     }
-    if text == b"GENERATE_EEK".as_slice() {
+    if text == AclOp::GenerateEek.name().as_bytes() {
         return Some(AclOp::GenerateEek);
     }
-    if text == b"DECRYPT_EEK".as_slice() {
+    if text == AclOp::DecryptEek.name().as_bytes() {
         return Some(AclOp::DecryptEek);
     }
     None
@@ -49,16 +49,16 @@ fn service_op(text: &[u8]) -> Option<AclOp>
 fn key_op(text: &[u8]) -> Option<AclOp>
     ensures { result ≡ key_op text.now }
 {
-    if text == b"MANAGEMENT".as_slice() {
+    if text == AclOp::Management.name().as_bytes() {
         return Some(AclOp::Management);
     }
-    if text == b"GENERATE_EEK".as_slice() {
+    if text == AclOp::GenerateEek.name().as_bytes() {
         return Some(AclOp::GenerateEek);
     }
-    if text == b"DECRYPT_EEK".as_slice() {
+    if text == AclOp::DecryptEek.name().as_bytes() {
         return Some(AclOp::DecryptEek);
     }
-    if text == b"READ".as_slice() {
+    if text == AclOp::Read.name().as_bytes() {
         return Some(AclOp::Read);
     }
     None
@@ -100,21 +100,22 @@ fn whitelist_place(name: &[u8]) -> Option<AclPlace>
     Some(AclPlace::Whitelist { op })
 }
 
-/// Parses a key name before a suffix.
+/// Parses a key name before a dot and a name.
 #[tactic(auto, unfolding(crate::specs::Names::key_before))]
-fn key_before(end: &[u8], bytes: &[u8]) -> Option<KeyName>
-    ensures { result ≡ key_before end.now bytes.now }
+fn key_before(name: &[u8], bytes: &[u8]) -> Option<KeyName>
+    ensures { result ≡ key_before name.now bytes.now }
 {
-    let name = before(end, bytes)?;
-    KeyName::read(name)
+    let text = before(name, bytes)?;
+    let key = before(b".", text)?;
+    KeyName::read(key)
 }
 
-/// Parses `K.OP` for one operation, given by its suffix.
+/// Parses `K.OP` for one operation.
 #[tactic(auto, unfolding(crate::specs::Names::key_with))]
-fn key_with(op: AclOp, end: &[u8], bytes: &[u8]) -> Option<AclPlace>
-    ensures { result ≡ key_with op end.now bytes.now }
+fn key_with(op: AclOp, bytes: &[u8]) -> Option<AclPlace>
+    ensures { result ≡ key_with op bytes.now }
 {
-    let key = key_before(end, bytes)?;
+    let key = key_before(op.name().as_bytes(), bytes)?;
     Some(AclPlace::Key { key, op })
 }
 
@@ -123,7 +124,7 @@ fn key_with(op: AclOp, end: &[u8], bytes: &[u8]) -> Option<AclPlace>
 fn key_all(bytes: &[u8]) -> Option<AclPlace>
     ensures { result ≡ key_all bytes.now }
 {
-    let key = key_before(b".ALL", bytes)?;
+    let key = key_before(b"ALL", bytes)?;
     Some(AclPlace::KeyAll { key })
 }
 
@@ -132,16 +133,16 @@ fn key_all(bytes: &[u8]) -> Option<AclPlace>
 fn key_and_op(bytes: &[u8]) -> Option<AclPlace>
     ensures { result ≡ key_place bytes.now }
 {
-    if let Some(place) = key_with(AclOp::Management, b".MANAGEMENT", bytes) {
+    if let Some(place) = key_with(AclOp::Management, bytes) {
         return Some(place);
     }
-    if let Some(place) = key_with(AclOp::GenerateEek, b".GENERATE_EEK", bytes) {
+    if let Some(place) = key_with(AclOp::GenerateEek, bytes) {
         return Some(place);
     }
-    if let Some(place) = key_with(AclOp::DecryptEek, b".DECRYPT_EEK", bytes) {
+    if let Some(place) = key_with(AclOp::DecryptEek, bytes) {
         return Some(place);
     }
-    if let Some(place) = key_with(AclOp::Read, b".READ", bytes) {
+    if let Some(place) = key_with(AclOp::Read, bytes) {
         return Some(place);
     }
     key_all(bytes)
