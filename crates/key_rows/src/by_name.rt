@@ -64,7 +64,7 @@ pub(crate) fn put(entries: &mut Vec<NamedBirth>, name: KeyName, birth: u64) -> R
 }
 
 /// Removes the name of a birth.
-pub(crate) fn take_out(entries: &mut Vec<NamedBirth>, birth: u64)
+pub(crate) fn remove_birth(entries: &mut Vec<NamedBirth>, birth: u64)
     ensures { entries.new.items ≡ filter (λ entry. not (entry.birth == birth)) entries.old.items }
 {
     entries.retain(|entry| entry.birth != birth);

@@ -8,7 +8,7 @@ ghost use Rattle.key_rows.specs.Table.{after, applies, find_birth, find_name, cu
 ghost use Rattle.key_rows.specs.Sound.{IsRow, IsTable, Rising};
 
 use crate::applying::applies_to;
-use crate::by_name::{NamedBirth, birth_of, copy_names, put, take_out};
+use crate::by_name::{NamedBirth, birth_of, copy_names, put, remove_birth};
 use crate::rows::{DekList, KeyCommand, KeyRow};
 use hk_base::{Dek, KeyName, NoMemory, VersionName};
 use kms_calls::NameList;
@@ -277,7 +277,7 @@ impl KeyTable {
             }
             KeyCommand::Delete { birth } => {
                 remove(&mut self.rows, birth);
-                take_out(&mut self.names, birth);
+                remove_birth(&mut self.names, birth);
                 Ok(())
             }
         }

@@ -10,7 +10,7 @@ use Rattle.prop_text.specs.declared.lines.PropLine.TheVariants as line
 use Rattle.prop_text.specs.Properties.{is_among}
 use Rattle.kms_acls.specs.declared.members.Members.{Members}
 use Rattle.kms_acls.specs.declared.lists.KeyLists.{KeyLists}
-use Rattle.kms_acls.specs.declared.lists.OpList.{OpList}
+use Rattle.kms_acls.specs.declared.lists.OpAcl.{OpAcl}
 use Rattle.kms_acls.specs.Lists.{Lists, acl_meaning, all_of_key, list_of, list_of_key, lists_of_key, members_meaning, named_in, users_of}
 use Rattle.kms_acls.specs.StandsFor.{StandsFor}
 use Rattle.kms_acls.specs.Verdict.{blacklist, default_list, given_if, is_of_key, key_all_list, key_list, same_op, service_list, users_of_group, whitelist}
@@ -28,7 +28,7 @@ nothing lists services blacklists defaults whitelists keys groups = record {
   groups = λ g. ap (option_map named_in) (groups g);
 }
 
-pub service_added : (old : Lists) (new : List OpList) (lines : List PropLine) (p : AclOp) (acl : Acl) (members : Members) → new ≡ old.services ++ record { op = p; members = members } ∷ [] → members_meaning members ≡ acl_meaning acl → StandsFor old lines → StandsFor (record old { services = new }) (lines ++ line.Service p acl ∷ [])
+pub service_added : (old : Lists) (new : List OpAcl) (lines : List PropLine) (p : AclOp) (acl : Acl) (members : Members) → new ≡ old.services ++ record { op = p; members = members } ∷ [] → members_meaning members ≡ acl_meaning acl → StandsFor old lines → StandsFor (record old { services = new }) (lines ++ line.Service p acl ∷ [])
 service_added old new lines p acl members is same s = record {
   services = λ o. added members_meaning acl_meaning (service_list o) lines (line.Service p acl) (list_of o old.services) (list_of o new) (given_if (same_op p o) members) (ap (list_of o) is ∙ list_more o old.services (record { op = p; members = members })) (s.services o) (map_given members_meaning acl_meaning (same_op p o) members acl same);
   blacklists = λ o. stays members_meaning acl_meaning (blacklist o) lines (line.Service p acl) (list_of o old.blacklists) (list_of o old.blacklists) refl refl (s.blacklists o);
@@ -40,7 +40,7 @@ service_added old new lines p acl members is same s = record {
   groups = λ g. stays named_in named_in (users_of_group g) lines (line.Service p acl) (users_of g old.groups) (users_of g old.groups) refl refl (s.groups g);
 }
 
-pub blacklist_added : (old : Lists) (new : List OpList) (lines : List PropLine) (p : AclOp) (acl : Acl) (members : Members) → new ≡ old.blacklists ++ record { op = p; members = members } ∷ [] → members_meaning members ≡ acl_meaning acl → StandsFor old lines → StandsFor (record old { blacklists = new }) (lines ++ line.Blacklist p acl ∷ [])
+pub blacklist_added : (old : Lists) (new : List OpAcl) (lines : List PropLine) (p : AclOp) (acl : Acl) (members : Members) → new ≡ old.blacklists ++ record { op = p; members = members } ∷ [] → members_meaning members ≡ acl_meaning acl → StandsFor old lines → StandsFor (record old { blacklists = new }) (lines ++ line.Blacklist p acl ∷ [])
 blacklist_added old new lines p acl members is same s = record {
   services = λ o. stays members_meaning acl_meaning (service_list o) lines (line.Blacklist p acl) (list_of o old.services) (list_of o old.services) refl refl (s.services o);
   blacklists = λ o. added members_meaning acl_meaning (blacklist o) lines (line.Blacklist p acl) (list_of o old.blacklists) (list_of o new) (given_if (same_op p o) members) (ap (list_of o) is ∙ list_more o old.blacklists (record { op = p; members = members })) (s.blacklists o) (map_given members_meaning acl_meaning (same_op p o) members acl same);
@@ -52,7 +52,7 @@ blacklist_added old new lines p acl members is same s = record {
   groups = λ g. stays named_in named_in (users_of_group g) lines (line.Blacklist p acl) (users_of g old.groups) (users_of g old.groups) refl refl (s.groups g);
 }
 
-pub default_added : (old : Lists) (new : List OpList) (lines : List PropLine) (p : AclOp) (acl : Acl) (members : Members) → new ≡ old.defaults ++ record { op = p; members = members } ∷ [] → members_meaning members ≡ acl_meaning acl → StandsFor old lines → StandsFor (record old { defaults = new }) (lines ++ line.Default p acl ∷ [])
+pub default_added : (old : Lists) (new : List OpAcl) (lines : List PropLine) (p : AclOp) (acl : Acl) (members : Members) → new ≡ old.defaults ++ record { op = p; members = members } ∷ [] → members_meaning members ≡ acl_meaning acl → StandsFor old lines → StandsFor (record old { defaults = new }) (lines ++ line.Default p acl ∷ [])
 default_added old new lines p acl members is same s = record {
   services = λ o. stays members_meaning acl_meaning (service_list o) lines (line.Default p acl) (list_of o old.services) (list_of o old.services) refl refl (s.services o);
   blacklists = λ o. stays members_meaning acl_meaning (blacklist o) lines (line.Default p acl) (list_of o old.blacklists) (list_of o old.blacklists) refl refl (s.blacklists o);
@@ -64,7 +64,7 @@ default_added old new lines p acl members is same s = record {
   groups = λ g. stays named_in named_in (users_of_group g) lines (line.Default p acl) (users_of g old.groups) (users_of g old.groups) refl refl (s.groups g);
 }
 
-pub whitelist_added : (old : Lists) (new : List OpList) (lines : List PropLine) (p : AclOp) (acl : Acl) (members : Members) → new ≡ old.whitelists ++ record { op = p; members = members } ∷ [] → members_meaning members ≡ acl_meaning acl → StandsFor old lines → StandsFor (record old { whitelists = new }) (lines ++ line.Whitelist p acl ∷ [])
+pub whitelist_added : (old : Lists) (new : List OpAcl) (lines : List PropLine) (p : AclOp) (acl : Acl) (members : Members) → new ≡ old.whitelists ++ record { op = p; members = members } ∷ [] → members_meaning members ≡ acl_meaning acl → StandsFor old lines → StandsFor (record old { whitelists = new }) (lines ++ line.Whitelist p acl ∷ [])
 whitelist_added old new lines p acl members is same s = record {
   services = λ o. stays members_meaning acl_meaning (service_list o) lines (line.Whitelist p acl) (list_of o old.services) (list_of o old.services) refl refl (s.services o);
   blacklists = λ o. stays members_meaning acl_meaning (blacklist o) lines (line.Whitelist p acl) (list_of o old.blacklists) (list_of o old.blacklists) refl refl (s.blacklists o);

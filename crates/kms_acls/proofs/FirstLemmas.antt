@@ -6,7 +6,7 @@ use Rattle.std.specs.Option.{option_or}
 use Rattle.std.proofs.lemmas.List.Folds.{list_any-append}
 use Rattle.kms_calls.specs.declared.acl.AclOp.{AclOp}
 use Rattle.prop_text.specs.declared.lines.PropLine.{PropLine}
-use Rattle.kms_acls.specs.declared.lists.OpList.{OpList}
+use Rattle.kms_acls.specs.declared.lists.OpAcl.{OpAcl}
 use Rattle.kms_acls.specs.Lists.{list_of}
 use Rattle.kms_acls.specs.Verdict.{first_of, given_if, same_op}
 
@@ -30,11 +30,11 @@ pub first_more : {X : Type 0} (gives : PropLine → Option X) (lines : List Prop
 first_more gives [] line = or_none (gives line)
 first_more gives (l ∷ ls) line = ap (option_or (gives l)) (first_more gives ls line) ∙ or_assoc (gives l) (first_of gives ls) (gives line)
 
-found_by : (b : Bool) (l : OpList) (rest : Option OpList) → option_map (λ x. x.members) (if b then Some l else rest) ≡ option_or (given_if b l.members) (option_map (λ x. x.members) rest)
+found_by : (b : Bool) (l : OpAcl) (rest : Option OpAcl) → option_map (λ x. x.members) (if b then Some l else rest) ≡ option_or (given_if b l.members) (option_map (λ x. x.members) rest)
 found_by true l rest = refl
 found_by false l rest = refl
 
-pub list_more : (o : AclOp) (lists : List OpList) (l : OpList) → list_of o (lists ++ l ∷ []) ≡ option_or (list_of o lists) (given_if (same_op l.op o) l.members)
+pub list_more : (o : AclOp) (lists : List OpAcl) (l : OpAcl) → list_of o (lists ++ l ∷ []) ≡ option_or (list_of o lists) (given_if (same_op l.op o) l.members)
 list_more o [] l = found_by (same_op l.op o) l None ∙ or_none (given_if (same_op l.op o) l.members)
 list_more o (x ∷ xs) l =
     found_by (same_op x.op o) x (find (λ y. same_op y.op o) (xs ++ l ∷ []))

@@ -10,16 +10,16 @@ use Rattle.kms_calls.specs.declared.acl.AclOp.{AclOp}
 use Rattle.prop_text.specs.declared.acls.Acl.{Acl}
 use Rattle.prop_text.specs.Properties.{is_among}
 use Rattle.kms_acls.specs.declared.members.Members.{Members}
-use Rattle.kms_acls.specs.declared.lists.OpList.{OpList}
+use Rattle.kms_acls.specs.declared.lists.OpAcl.{OpAcl}
 use Rattle.kms_acls.specs.declared.lists.KeyLists.{KeyLists}
 use Rattle.kms_acls.specs.Verdict.{Standing, names_user, same_op}
 
 -- the lists of an operation each, those of each key by its name, and the users of each group by its name
 pub record Lists : Type 0 where
-  pub services : List OpList
-  pub blacklists : List OpList
-  pub defaults : List OpList
-  pub whitelists : List OpList
+  pub services : List OpAcl
+  pub blacklists : List OpAcl
+  pub defaults : List OpAcl
+  pub whitelists : List OpAcl
   pub keys : List (KeyName × KeyLists)
   pub groups : List (Text × List Text)
 
@@ -38,7 +38,7 @@ acl_meaning acl = record { everybody = acl.everybody; users = named_in acl.users
 abbrev pub members_meaning : Members → Meaning
 members_meaning members = record { everybody = members.everybody; users = named_in members.users; groups = members.groups }
 
-abbrev pub list_of : AclOp → List OpList → Option Members
+abbrev pub list_of : AclOp → List OpAcl → Option Members
 list_of o lists = option_map (λ l. l.members) (find (λ l. same_op l.op o) lists)
 
 -- no list of any operation

@@ -14,7 +14,7 @@ use crate::answers::{Denied, Shown};
 use crate::asked::{Asked, asked_by};
 use crate::groups::Groups;
 use crate::keys::Keys;
-use crate::lists::{KeyLists, OpLists};
+use crate::lists::{AclsByOp, KeyLists};
 use crate::members::{Members, set_of};
 use hk_base::{KeyName, NoMemory, Text};
 use kms_calls::{AclOp, AclTable, KmsCall};
@@ -25,10 +25,10 @@ use std::marker::Model;
 /// The access control lists of the key management service.
 #[derive(Drop)]
 pub struct Acls {
-    services: OpLists,
-    blacklists: OpLists,
-    defaults: OpLists,
-    whitelists: OpLists,
+    services: AclsByOp,
+    blacklists: AclsByOp,
+    defaults: AclsByOp,
+    whitelists: AclsByOp,
     keys: Keys,
     groups: Groups,
 }
@@ -53,10 +53,10 @@ impl Acls {
         ensures { StandsFor result [] }
     {
         Acls {
-            services: OpLists::new(alloc),
-            blacklists: OpLists::new(alloc),
-            defaults: OpLists::new(alloc),
-            whitelists: OpLists::new(alloc),
+            services: AclsByOp::new(alloc),
+            blacklists: AclsByOp::new(alloc),
+            defaults: AclsByOp::new(alloc),
+            whitelists: AclsByOp::new(alloc),
             keys: Keys::new(alloc),
             groups: Groups::new(alloc),
         }

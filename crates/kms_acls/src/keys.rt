@@ -6,7 +6,7 @@ ghost use Rattle.kms_acls.specs.Lists.{all_of_key, list_of_key, lists_of_key, no
 ghost use Rattle.kms_acls.specs.Verdict.{given_if, same_op};
 ghost use Rattle.kms_calls.specs.declared.acl.AclOp.{AclOp};
 
-use crate::lists::{KeyLists, OpLists};
+use crate::lists::{AclsByOp, KeyLists};
 use crate::members::Members;
 use hk_base::NoMemory;
 use kms_calls::AclOp;
@@ -55,7 +55,7 @@ impl Keys {
         ensures others { (other : List ℕ) → bytes_eq other key.now ≡ false → lists_of_key other self.new ≡ lists_of_key other self.old }
     {
         let none = KeyLists {
-            by_op: OpLists::new(self.alloc),
+            by_op: AclsByOp::new(self.alloc),
             all: None,
         };
         self.lists.remove(key).unwrap_or(none)

@@ -12,22 +12,22 @@ use std::marker::Model;
 
 /// The list of users for an operation.
 #[derive(Drop)]
-pub struct OpList {
+pub struct OpAcl {
     pub op: AclOp,
     pub members: Members,
 }
 
 /// Lists for operations. Properties have at most one for each operation, so there are few.
 #[derive(Drop)]
-pub struct OpLists {
-    lists: Vec<OpList>,
+pub struct AclsByOp {
+    lists: Vec<OpAcl>,
 }
 
-impl Model for OpLists {
+impl Model for AclsByOp {
     ghost use Rattle.std.specs.Prelude.{List};
-    ghost use Rattle.kms_acls.specs.declared.lists.OpList.{OpList};
+    ghost use Rattle.kms_acls.specs.declared.lists.OpAcl.{OpAcl};
 
-    ghost Value = { List OpList };
+    ghost Value = { List OpAcl };
 
     ghost view = { λ a. a.lists.items };
 }
@@ -38,12 +38,12 @@ fn same_op(a: AclOp, b: AclOp) -> bool
     a == b
 }
 
-impl OpLists {
+impl AclsByOp {
     /// Creates an empty collection. Does not allocate.
-    pub fn new(alloc: Global) -> OpLists
+    pub fn new(alloc: Global) -> AclsByOp
         ensures { result ≡ [] }
     {
-        OpLists {
+        AclsByOp {
             lists: Vec::new(alloc),
         }
     }
@@ -52,7 +52,7 @@ impl OpLists {
     pub fn add(&mut self, op: AclOp, members: Members) -> Result<(), NoMemory>
         ensures { OnOk result (self.new ≡ self.old ++ record { op = op; members = members } ∷ []) }
     {
-        self.lists.push(OpList { op, members })?;
+        self.lists.push(OpAcl { op, members })?;
         Ok(())
     }
 
@@ -68,6 +68,6 @@ impl OpLists {
 /// The lists of a key: those for single operations, and the one for all operations.
 #[derive(Drop)]
 pub struct KeyLists {
-    pub by_op: OpLists,
+    pub by_op: AclsByOp,
     pub all: Option<Members>,
 }

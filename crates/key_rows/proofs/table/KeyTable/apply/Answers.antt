@@ -25,6 +25,6 @@ invariant_of-self-in-Roll c =
 pub invariant_of-self-in-Delete : goal.invariant_of-self-in-Delete
 invariant_of-self-in-Delete c = (
   rw c.remove.ensures (sound_delete _ c.in-Delete.birth c.self.invariant.0),
-  rw (c.remove.ensures, c.take_out.ensures) (index_left c.in-Delete.birth c.self.inside.rows.items c.self.inside.names.items c.self.invariant.0.names c.self.invariant.1),
+  rw (c.remove.ensures, c.remove_birth.ensures) (index_left c.in-Delete.birth c.self.inside.rows.items c.self.inside.names.items c.self.invariant.0.names c.self.invariant.1),
   c.self.invariant.2,
 )
