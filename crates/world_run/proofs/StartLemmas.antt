@@ -211,11 +211,19 @@ keys-opened : (old new : DiskState) → Moment old → Tells old → KeysMoments
 keys-opened old new m told moments =
     leaves-keys old new (λ c. old.leaves 0 c ⊎ IsLeftByStart (old.reads 0) c) (LeftByStarts old) (λ c keys names. left-by old m told c (inl (record { keys = keys; names = names }))) moments
 
+-- each image of an opened key log
+opened-log : (old new : DiskState) → KeysOpened old new → (bytes : List ℕ) → new.leaves 0 bytes → IsOpenedLog (old.reads 0) bytes
+opened-log old new o bytes left = record { commands = o.commands; table = o.table; log = o.log; room = o.room; sound = o.left bytes left }
+
+-- the opening of the edit log leaves the key log alone
+keys-still-opened : (old mid new : DiskState) → KeysOpened old mid → RunOn 1 mid new → KeysOpened old new
+keys-still-opened old mid new o run = record { commands = o.commands; table = o.table; log = o.log; room = o.room; left = λ bytes left. o.left bytes ((run.other_leaves bytes).0 left) }
+
 both-opened : (old mid new : DiskState) → Moment old → RunOn 0 old mid → Tells old → KeysOpened old mid → KeysMoments old mid → NamesMoments mid new → LeavesBoth old new (LeftByStarts old)
 both-opened old mid new m run told opened first second = record {
   before = λ t c le left. ⊎_elim
       (λ past. ⊎_elim (λ before. inl before) (λ now. inr (left-by old m told c (inl (record { keys = now.0; names = now.1 })))) (first.before t c le past))
-      (λ now. inr (left-by old m told c (inr (record { keys = opened (c 0) now.1; names = names-then (c 1) now.0 }))))
+      (λ now. inr (left-by old m told c (inr (record { keys = opened-log old mid opened (c 0) now.1; names = names-then (c 1) now.0 }))))
       (second.before t c (let later = run.later in omega (arith, le, later)) left);
 }
   where
@@ -375,7 +383,7 @@ both-runs old mid new a b = record {
 
 -- a key log that was opened has its new opening, and no record is pending
 pub keys-are-opened : (old new : DiskState) (r : Running) → r.store.log.file ≡ 0 → Starts old new r → Tells old → KeysOpened old new
-keys-are-opened old new r of_file s told bytes left =
+keys-are-opened old new r of_file s told =
     let k = s.log told in
     let commands : List KeyCommand = k.0 ++ next_opening s.table ∷ [] in
     let none : r.store.pending ≡ None = ap (λ (v : ServiceState). v.pending) s.opens in
@@ -385,14 +393,15 @@ keys-are-opened old new r of_file s told bytes left =
       table = s.table;
       log = k.1;
       room = keys-room old new r s told;
-      sound = record {
-        spelled = k.2.spelled;
-        spelled_more = tt;
-        makes = k.2.makes ∙ ap Some made;
-        fits = tt;
-        log = subst (λ (o : Option KeyCommand). IsLogOf commands o bytes) none
-            (log_of_store new r.store commands of_file k.2 bytes (k.2.log.leaves bytes (subst (λ (file : ℕ). new.leaves file bytes) (sym of_file) left)));
-      };
+      left = λ bytes left.
+          record {
+            spelled = k.2.spelled;
+            spelled_more = tt;
+            makes = k.2.makes ∙ ap Some made;
+            fits = tt;
+            log = subst (λ (o : Option KeyCommand). IsLogOf commands o bytes) none
+                (log_of_store new r.store commands of_file k.2 bytes (k.2.log.leaves bytes (subst (λ (file : ℕ). new.leaves file bytes) (sym of_file) left)));
+          };
     }
 
 -- memory is wanting before a log is opened
@@ -478,7 +487,7 @@ names-not-started old mid new lines keys fault m n damaged spent cause good firs
   spent_names = λ is told.
       let s = spent (ap (λ (f : WorldFault). f.fault) (one-fault _ _ is)) (tells-on 0 old mid run told) in
       record { ops = s.0; made = s.1; log = subst (λ (b : List ℕ). IsNameLog b s.0 s.1) (run.other_reads told) s.2; last = s.3 };
-  first_keys = λ fault is told bytes left. good told bytes ((other_run.other_leaves bytes).0 left);
+  first_keys = λ fault is told. keys-still-opened old mid new (good told) other_run;
   first_names = λ fault is. absurd (other (ap (λ (f : WorldFault). f.file) (one-fault _ _ is)));
   any_moment = moments;
   since_sync_keys = λ told. inr (keys-since old mid new n run told (keys-synced old mid keys (since told)) (second (tells-on 0 old mid run told)) other_run);

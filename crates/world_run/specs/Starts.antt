@@ -1,5 +1,5 @@
 -- What a start of both services does, done or not.
-use Rattle.std.specs.Prelude.{◌≡◌, ◌⊎◌, ℕ, List, IfOk, IsErrOf, Result}
+use Rattle.std.specs.Prelude.{◌≡◌, ◌⊎◌, ◌<◌, ℕ, List, [], ◌∷◌, ◌++◌, IfOk, IsErrOf, None, Result}
 use Rattle.hk_base.specs.Disk.{DiskState, LeavesOnly, RunOn, Tells}
 use Rattle.hk_base.specs.Faults.{Rose}
 use Rattle.frame_log.specs.Stands.{LeavesFrom}
@@ -7,15 +7,15 @@ use Rattle.frame_log.specs.declared.fault.StartFault.{StartFault}
 use Rattle.frame_log.specs.declared.fault.StartFault.TheVariants as start
 use Rattle.edit_ops.specs.declared.ops.EditOp.{EditOp}
 use Rattle.key_rows.specs.declared.rows.KeyCommand.{KeyCommand}
-use Rattle.key_rows.specs.Table.{Table}
+use Rattle.key_rows.specs.Table.{Table, after}
 use Rattle.prop_text.specs.declared.lines.PropLine.{PropLine}
 use Rattle.kms_acls.specs.StandsFor.{StandsFor as ListsFor}
-use Rattle.kms_store.specs.Store.{IsDamagedAt, IsKeyLog, IsLeftByStart}
+use Rattle.kms_store.specs.Store.{IsDamagedAt, IsKeyLog, IsLeftByStart, IsSoundLog, next_opening}
 use Rattle.name_store.specs.Table.{Replayed}
 use Rattle.name_store.specs.Store.{IsDamagedAt as IsDamagedName, IsLeftByStart as IsLeftByNameStart, IsNameLog}
 use Rattle.world_run.specs.declared.fault.WorldFault.{WorldFault}
 use Rattle.world_run.specs.Acknowledged.{LeavesBoth, RunBoth}
-use Rattle.world_run.specs.Keeps.{Begins, IsOpenedLog, LeftByStarts}
+use Rattle.world_run.specs.Keeps.{Begins, LeftByStarts}
 use Rattle.world_run.specs.World.{RunningWorld}
 
 -- the last opening of the key log is recorded, and of the edit log
@@ -32,9 +32,14 @@ pub record SpentNames (bytes : List ℕ) : Type 0 where
   pub log : IsNameLog bytes ops made
   pub last : made.table.opening ≡ 4294967295
 
--- The key log was found good and opened: its opening is acknowledged.
-abbrev pub KeysOpened : DiskState → DiskState → Type 0
-KeysOpened old new = (bytes : List ℕ) → new.leaves 0 bytes → IsOpenedLog (old.reads 0) bytes
+-- The key log was found good and opened: the commands found and the new opening are acknowledged, and the file holds them in whatever
+-- state a crash leaves it.
+pub record KeysOpened (old new : DiskState) : Type 0 where
+  pub commands : List KeyCommand
+  pub table : Table
+  pub log : IsKeyLog (old.reads 0) commands table
+  pub room : table.opening < 4294967295
+  pub left : (bytes : List ℕ) → new.leaves 0 bytes → IsSoundLog bytes (commands ++ next_opening table ∷ []) None (after table (next_opening table))
 
 -- A start under the properties of these lines came to this: a world, or the first file that has a fault, and the fault. Where that is
 -- the second file, the first was found to be a key log and opened; where it is the first, the second was not touched.
