@@ -30,7 +30,7 @@ word_bytes-bit_xor a b = simp byte_of-bit_xor
 pub sum_is : (a b : ℕ) (u v : List ℕ) → word_bytes a ≡ u → word_bytes b ≡ v → word_bytes (bit_xor a b) ≡ xor_word u v
 sum_is a b u v a_is b_is = rw (← a_is, ← b_is) (word_bytes-bit_xor a b)
 
--- the first of four summands goes last
+-- the first of four summands moves to the end
 turned : (p q r s : ℕ) → bit_xor (bit_xor (bit_xor p q) r) s ≡ bit_xor (bit_xor (bit_xor q r) s) p
 turned p q r s = rw (xor_assoc p q r, xor_assoc p (bit_xor q r) s, xor_comm (bit_xor (bit_xor q r) s) p) refl
 

@@ -24,7 +24,7 @@ key_words-suc key words i next within copied next_is =
     let more : i + 1 ≡ suc i = add-one i in
     rw (more, take-suc-set words i next within, copied, next_is, at_four_i) refl
 
--- one more word is made from the words before
+-- one more word is made from the earlier words
 pub expanded_key-suc : (nk : ℕ) (key : List ℕ) (words : List (List ℕ)) (i j : ℕ) (next : List ℕ) → 0 < nk → i < length words → i ≡ nk + j
     → take i words ≡ expanded_key nk key j
     → next ≡ xor_word (slice_index_or words (i - nk) []) (key_term nk i (slice_index_or words (i - 1) []))

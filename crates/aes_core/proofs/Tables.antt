@@ -1,4 +1,4 @@
--- The tables against the definitions, each by one computed test at all of its places.
+-- The tables agree with the definitions. Each is computed at all of its indices at once.
 use Rattle.std.proofs.Common.{◌≡◌, ℕ, ◌+◌, ◌-◌, ◌≤◌, ◌<◌, List, [], ◌∷◌, get_or, map, refl, sym, ap, ◌∙◌, arith}
 use Rattle.std.specs.List.{range_with_len}
 use Rattle.std.proofs.lemmas.List.FromFn.{get_or-map-range_with_len}
@@ -8,7 +8,7 @@ use Rattle.aes_core.specs.declared.key_schedule.TheConstants.{RCON}
 use Rattle.aes_core.specs.declared.round_tables.TheConstants.{PRODUCTS}
 use Rattle.aes_core.specs.declared.substitution.TheConstants.{S_BOX}
 
--- what one test over the numbers below n says of each of them
+-- equal lists of values below n give equal values at each number below n
 same_below : {A : Type 0} (default : A) (f g : ℕ → A) (n a : ℕ) → map f (range_with_len 0 n) ≡ map g (range_with_len 0 n) → a < n → f a ≡ g a
 same_below default f g n a same within =
     sym (get_or-map-range_with_len f 0 n a a default within (omega arith)) ∙ ap (λ xs. get_or xs a default) same ∙ get_or-map-range_with_len g 0 n a a default within (omega arith)
@@ -42,7 +42,7 @@ times_2 s = s ∷ field_product 3 s ∷ field_product 2 s ∷ s ∷ []
 abbrev pub times_3 : ℕ → List ℕ
 times_3 s = s ∷ s ∷ field_product 3 s ∷ field_product 2 s ∷ []
 
--- the tables of products against the table of the S-box
+-- the tables of products agree with the table of the S-box
 table_0 : map (λ x. word_bytes (get_or (get_or PRODUCTS 0 []) x 0)) (range_with_len 0 256) ≡ map (λ x. times_0 (get_or S_BOX x 0)) (range_with_len 0 256)
 unfolding field_product byte_of
 table_0 = refl

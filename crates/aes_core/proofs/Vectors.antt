@@ -1,4 +1,4 @@
--- The definitions give what FIPS 197 prints. Each vector is computed.
+-- The definitions give the values printed in FIPS 197. Each vector is computed.
 use Rattle.std.proofs.Common.{◌≡◌, ℕ, List, [], ◌∷◌, refl}
 use Rattle.std.specs.List.{range_with_len}
 use Rattle.aes_core.specs.Field.{field_product, s_box}
@@ -9,7 +9,7 @@ product : field_product 0x57 0x83 ≡ 0xc1
 unfolding field_product
 product = refl
 
--- and of the S-box
+-- the standard's example of the S-box
 substitution : s_box 0x53 ≡ 0xed
 unfolding s_box field_product
 substitution = refl

@@ -1,4 +1,4 @@
--- AES (FIPS 197) on lists of bytes. Byte r + 4 c of a block or state stands in row r and column c. Of the standard's
+-- AES (FIPS 197) on lists of bytes. Byte r + 4 c of a block or state is in row r and column c. Of the standard's
 -- parameters, nk is the number of words in the key, and nr the number of rounds.
 use Rattle.std.specs.Prelude.{◌≡◌, ◌≤◌, ℕ, zero, suc, ◌+◌, ◌-◌, ◌*◌, ◌/◌, ◌%◌, cond, eqb, ltb, ◌&&◌, List, [], ◌∷◌, ◌++◌, map, length, bit_xor, slice_index, slice_index_or}
 use Rattle.std.specs.List.{range_with_len}
@@ -52,13 +52,13 @@ xor_word a b = word (λ r. bit_xor (slice_index a r) (slice_index b r))
 abbrev pub rcon : ℕ → List ℕ
 rcon j = power_of_x (j - 1) ∷ 0 ∷ 0 ∷ 0 ∷ []
 
--- what is added to word i - nk to make word i, where the last word is word i - 1
+-- what is added to word i - nk to make word i, if the last word is word i - 1
 abbrev pub key_term : ℕ → ℕ → List ℕ → List ℕ
 key_term nk i last =
     cond (eqb (i % nk) 0) (xor_word (sub_word (rot_word last)) (rcon (i / nk)))
     (cond (ltb 6 nk && eqb (i % nk) 4) (sub_word last) last)
 
--- the words with the next one behind
+-- the words with the next one appended
 unfoldable pub with_next_word : ℕ → List (List ℕ) → List (List ℕ)
 with_next_word nk words = words ++ xor_word (slice_index_or words (length words - nk) []) (key_term nk (length words) (slice_index_or words (length words - 1) [])) ∷ []
 
@@ -72,16 +72,16 @@ unfoldable pub expanded_key : ℕ → List ℕ → ℕ → List (List ℕ)
 expanded_key nk key zero = key_words nk key
 expanded_key nk key (suc n) = with_next_word nk (expanded_key nk key n)
 
--- KeyExpansion: 4 (nr + 1) words, where nr is nk + 6
+-- KeyExpansion: 4 (nr + 1) words, with nr = nk + 6
 unfoldable pub key_expansion : List ℕ → List (List ℕ)
 key_expansion key = let nk = length key / 4 in expanded_key nk key (3 * nk + 28)
 
--- the state after the first round key is added and n full rounds are made
+-- the state after the first round key is added and n full rounds are done
 unfoldable pub state_after : List (List ℕ) → List ℕ → ℕ → List ℕ
 state_after words block zero = add_round_key words 0 block
 state_after words block (suc n) = add_round_key words (suc n) (mix_columns (shift_rows (sub_bytes (state_after words block n))))
 
--- a block after nr rounds, of which the last has no MixColumns
+-- a block after nr rounds, the last without MixColumns
 unfoldable pub encrypted : List (List ℕ) → ℕ → List ℕ → List ℕ
 encrypted words nr block = add_round_key words nr (shift_rows (sub_bytes (state_after words block (nr - 1))))
 
@@ -89,7 +89,7 @@ encrypted words nr block = add_round_key words nr (shift_rows (sub_bytes (state_
 unfoldable pub cipher : List ℕ → List ℕ → List ℕ
 cipher key block = encrypted (key_expansion key) (length key / 4 + 6) block
 
--- nk words of key and so many words of its expansion: 4 and 44, 6 and 52, or 8 and 60
+-- the number of words of a key and of its expansion: 4 and 44, 6 and 52, or 8 and 60
 abbrev pub IsKeySize : ℕ → ℕ → Type 0
 IsKeySize nk words = (4 ≤ nk) × (nk ≤ 8) × (nk % 2 ≡ 0) × (words ≡ 4 * nk + 28)
 

@@ -1,9 +1,9 @@
--- Arithmetic in GF(2^8) as FIPS 197 has it, and the S-box. A byte is a number below 256: its bit i is the
+-- Arithmetic in GF(2^8) as in FIPS 197, and the S-box. A byte is a number below 256: its bit i is the
 -- coefficient of x^i.
 use Rattle.std.specs.Prelude.{ℕ, zero, suc, ◌+◌, ◌*◌, ◌%◌, ◌^◌, cond, eqb, bit_xor}
 use Rattle.std.specs.Int.{bit_at}
 
--- the product of two polynomials over GF(2), of which the second has degree below n
+-- the product of two polynomials over GF(2); the second has degree below n
 abbrev pub polynomial_product : ℕ → ℕ → ℕ → ℕ
 polynomial_product zero a b = 0
 polynomial_product (suc n) a b = bit_xor (bit_at b n * (a * 2 ^ n)) (polynomial_product n a b)
@@ -17,7 +17,7 @@ polynomial_remainder (suc n) p = polynomial_remainder n (bit_xor p (bit_at p (n 
 unfoldable pub field_product : ℕ → ℕ → ℕ
 field_product a b = polynomial_remainder 7 (polynomial_product 8 a b)
 
--- the greatest b below n with a b = 1 in the field, or 0 where there is none
+-- the greatest b below n with a b = 1 in the field, or 0 if there is none
 abbrev pub inverse_below : ℕ → ℕ → ℕ
 inverse_below zero a = 0
 inverse_below (suc n) a = cond (eqb (field_product a n) 1) n (inverse_below n a)

@@ -1,4 +1,4 @@
--- A column of the state, or a word of a key, as one number of 32 bits, whose lowest byte is that of row 0.
+-- A column of the state, or a word of a key, as one 32-bit number, whose lowest byte is that of row 0.
 use Rattle.std.specs.Prelude.{ℕ, ◌*◌, ◌/◌, ◌%◌, ◌^◌, List, [], ◌∷◌, ◌++◌, slice_index}
 use Rattle.aes_core.specs.Aes.{mixed}
 

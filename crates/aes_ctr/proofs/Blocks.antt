@@ -13,7 +13,7 @@ pub length-cipher : (key block : List ℕ) → length (cipher key block) ≡ 16
 unfolding cipher encrypted add_round_key
 length-cipher key block = refl
 
--- a block of the stream, xored in at a border of blocks
+-- a block of the stream is xored in at a block boundary
 pub block_done : (key counter : List ℕ) (offset : ℕ) (old before after stream : List ℕ) (j at to : ℕ) → offset + at ≡ 16 * j → to ≡ at + 16 → to ≤ length before
     → stream ≡ cipher key (counter_block counter j)
     → after ≡ put_chunk at before (zip2 bit_xor (chunk at 16 before) stream)
@@ -41,7 +41,7 @@ block_done key counter offset old before after stream j at to border step room s
       rest = λ k behind. rw (is, get_or-put_chunk_above at before new k 0 (omega arith)) (h.rest k (omega arith));
     }
 
--- a byte, xored with its byte of the stream
+-- a byte is xored with its byte of the stream
 pub byte_done : (key counter : List ℕ) (offset : ℕ) (old bytes : List ℕ) (i byte : ℕ) → i < length bytes
     → byte ≡ stream_byte key counter (offset + i)
     → IsUpTo key counter offset old bytes i → IsUpTo key counter offset old (set bytes i (bit_xor (get_or bytes i 0) byte)) (i + 1)

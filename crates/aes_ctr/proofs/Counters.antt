@@ -1,4 +1,4 @@
--- The bytes of a number, turned around.
+-- The bytes of a number in reverse order.
 use Rattle.std.proofs.Common.{◌≡◌, ℕ, zero, suc, ◌+◌, ◌*◌, ◌/◌, ◌%◌, ◌^◌, ◌<◌, List, [], ◌∷◌, length, get_or, sym, ap, ◌∙◌, arith}
 use Rattle.std.specs.Int.{w128, from_be_bytes, swap_bytes, to_be_bytes, to_le_bytes}
 use Rattle.std.proofs.Math.Nat.{pow-succ', div-div-eq-div-mul}
@@ -7,7 +7,7 @@ abbrev AreBytes : List ℕ → Type 0
 AreBytes [] = Unit {0}
 AreBytes (b ∷ bs) = (b < 256) × AreBytes bs
 
--- the number of some bytes, the lowest first
+-- the number with these bytes, lowest first
 abbrev number : List ℕ → ℕ
 number [] = 0
 number (b ∷ bs) = b + 256 * number bs
@@ -21,7 +21,7 @@ byte_of-number (b ∷ bs) (suc i) small within =
     ap (λ (m : ℕ). (b + 256 * number bs) / m) (pow-succ' 256 i) ∙ sym (div-div-eq-div-mul (b + 256 * number bs) 256 (256 ^ i)) ∙ ap (λ (m : ℕ). m / 256 ^ i) rest in
     ap (λ (m : ℕ). m % 256) shifted ∙ byte_of-number bs i small.1 (omega arith)
 
--- what is read with the first byte highest, and written with the lowest byte first
+-- bytes read with the highest first and written with the lowest first are reversed
 read_and_written : (n0 n1 n2 n3 n4 n5 n6 n7 n8 n9 n10 n11 n12 n13 n14 n15 : ℕ) → AreBytes (n15 ∷ n14 ∷ n13 ∷ n12 ∷ n11 ∷ n10 ∷ n9 ∷ n8 ∷ n7 ∷ n6 ∷ n5 ∷ n4 ∷ n3 ∷ n2 ∷ n1 ∷ n0 ∷ [])
     → to_le_bytes w128 (from_be_bytes w128 (n0 ∷ n1 ∷ n2 ∷ n3 ∷ n4 ∷ n5 ∷ n6 ∷ n7 ∷ n8 ∷ n9 ∷ n10 ∷ n11 ∷ n12 ∷ n13 ∷ n14 ∷ n15 ∷ [])) ≡ n15 ∷ n14 ∷ n13 ∷ n12 ∷ n11 ∷ n10 ∷ n9 ∷ n8 ∷ n7 ∷ n6 ∷ n5 ∷ n4 ∷ n3 ∷ n2 ∷ n1 ∷ n0 ∷ []
 read_and_written n0 n1 n2 n3 n4 n5 n6 n7 n8 n9 n10 n11 n12 n13 n14 n15 small =

@@ -8,7 +8,7 @@ use Rattle.aes_core.specs.Aes.{cipher}
 unfoldable pub counter_block : List ℕ → ℕ → List ℕ
 counter_block counter j = to_be_bytes w128 ((from_be_bytes w128 counter + j) % 2 ^ 128)
 
--- byte i of the key stream from a counter on
+-- byte i of the key stream that starts at a counter
 unfoldable pub stream_byte : List ℕ → List ℕ → ℕ → ℕ
 stream_byte key counter i = slice_index (cipher key (counter_block counter (i / 16))) (i % 16)
 

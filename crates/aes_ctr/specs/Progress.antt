@@ -1,4 +1,4 @@
--- Bytes that are encrypted in place, from the front on.
+-- Bytes that are encrypted in place, from the first to the last.
 use Rattle.std.specs.Prelude.{◌≡◌, ℕ, ◌+◌, ◌<◌, ◌≤◌, List, length, bit_xor, slice_index}
 use Rattle.aes_ctr.specs.Ctr.{stream_byte}
 

@@ -1,4 +1,4 @@
--- The order of places is a total one.
+-- The order of places is total.
 use Rattle.std.proofs.Common.{◌≡◌, ℕ, true, false, cond, arith}
 use Rattle.std.specs.Prelude.{◌==◌, nat_lt}
 use Rattle.std.proofs.lemmas.Bool.Decides.{nat_tests}

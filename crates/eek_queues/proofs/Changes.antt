@@ -1,4 +1,4 @@
--- What stands in the queues after one of them was made, changed or dropped. A crate above cites these.
+-- The queues after one of them was made, changed or dropped. A crate above cites these.
 use Rattle.std.proofs.Common.{◌≡◌, ◌≢◌, ℕ, Bool, true, false, not, cond, List, [], ◌∷◌, refl, sym, ap, ◌∙◌}
 use Rattle.std.specs.Prelude.{◌==◌, nat_lt}
 use Rattle.hk_base.specs.declared.names.Edek.{Edek}
@@ -49,7 +49,7 @@ ready-dropped_other (q ∷ qs) birth b n = go (q.birth == birth) refl (ready-dro
         ih ∙ sym (ap (λ t. cond t q.ready (ready_in qs b)) (ap (λ (x : ℕ). x == b) (is-same q.birth birth e) ∙ other-is birth b (λ k. n (sym k))))
     go false e ih = ap (cond (q.birth == b) q.ready) ih
 
--- ---- a queue more
+-- ---- one more queue
 
 pub has-put : (q : Queue) (qs : List Queue) → has_queue (put_queue q qs) q.birth ≡ true
 has-put q [] = ap (λ t. cond t true false) (same-is q.birth q.birth refl)
@@ -79,7 +79,7 @@ ready-put_other q (x ∷ xs) b n = go (nat_lt x.birth q.birth) (ready-put_other 
     go true ih = ap (cond (x.birth == b) x.ready) ih
     go false ih = ap (λ t. cond t q.ready (ready_in (x ∷ xs) b)) (other-is q.birth b (λ k. n (sym k)))
 
--- the birth had no queue, so that none stands before the new one
+-- the birth had no queue, so there is none before the new one
 pub ready-put : (q : Queue) (qs : List Queue) → has_queue qs q.birth ≡ false → ready_in (put_queue q qs) q.birth ≡ q.ready
 ready-put q [] h = ap (λ t. cond t q.ready []) (same-is q.birth q.birth refl)
 ready-put q (x ∷ xs) h = go (nat_lt x.birth q.birth) (x.birth == q.birth) h (ready-put q xs)

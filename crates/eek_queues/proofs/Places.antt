@@ -1,4 +1,4 @@
--- The places of the low queues are in order, and one that enters or leaves keeps them so.
+-- The places of the low queues stay in order when one enters or leaves.
 use Rattle.std.proofs.Common.{◌≡◌, ℕ, ◌<◌, ◌≤◌, zero, suc, Bool, true, false, cond, List, [], ◌∷◌, length, get_or, refl, sym, ap, subst, ◌∙◌, arith}
 use Rattle.std.specs.Prelude.{nat_lt}
 use Rattle.std.specs.List.{AllByRecursion, insert, remove}
@@ -27,7 +27,7 @@ in_order-at (p ∷ ps) zero (suc j) d o l b = all-at (λ q. is_before q p ≡ fa
 in_order-at (p ∷ ps) (suc i) zero d o l b = absurd (omega arith)
 in_order-at (p ∷ ps) (suc i) (suc j) d o l b = in_order-at ps i j d o.1 (omega arith) (omega arith)
 
--- those before a place come first
+-- the places before a given place come first
 pub in_order-parts : (ps : List Place) (place : Place) → InOrder ps → IsPartitionedBy (λ p. is_before p place) ps
 in_order-parts ps place o i j d l b h = go (is_before (get_or ps i d) place) refl
   where
@@ -54,7 +54,7 @@ pub in_order-places_of : (n : ℕ) (qs : List Queue) → InOrder (places_of n qs
 in_order-places_of n [] = tt
 in_order-places_of n (q ∷ qs) = in_order-with n (place_of q) (places_of n qs) (in_order-places_of n qs)
 
--- two places may come in any order
+-- the order in which two places are added makes no difference
 pub with_place-two : (n : ℕ) (a b : Place) (ps : List Place) → with_place n a (with_place n b ps) ≡ with_place n b (with_place n a ps)
 with_place-two n a b ps = go (nat_lt a.count n) (nat_lt b.count n)
   where
@@ -69,11 +69,11 @@ low-place n place ps b =
     let low : nat_lt place.count n ≡ true = grind (arith, nat_tests) in
     ap (λ t. cond t (put is_before place ps) ps) low
 
--- a low place is put in where it parts the places
+-- a low place is inserted at its partition point
 pub with_place-insert : (n : ℕ) (place : Place) (ps : List Place) (at : ℕ) → place.count < n → at ≤ length ps → Parted is_before place ps at → insert ps at place ≡ with_place n place ps
 with_place-insert n place ps at b l h = sym (low-place n place ps b ∙ put-insert is_before place ps at l h)
 
--- a low place that was put in stands where it parts the places
+-- a low place that was inserted is at its partition point
 pub remove-with_place : (n : ℕ) (place : Place) (rest ps : List Place) (at : ℕ) → place.count < n → ps ≡ with_place n place rest → at ≤ length ps → Parted is_before place ps at → (remove ps at ≡ rest) × (at < length ps)
 remove-with_place n place rest ps at b e l h =
     let is : ps ≡ put is_before place rest = e ∙ low-place n place rest b in

@@ -1,11 +1,11 @@
--- An element put in at its place.
+-- Inserting an element at its place in an order.
 use Rattle.std.proofs.Common.{◌≡◌, ℕ, ◌<◌, ◌≤◌, zero, suc, Bool, true, false, cond, List, [], ◌∷◌, length, map, refl, sym, ap, subst, ◌∙◌, arith}
 use Rattle.std.specs.List.{insert, remove, AllByRecursion}
 use Rattle.std.specs.List.Sorted.{IsPartitionPoint}
 use Rattle.std.proofs.lemmas.Bool.{both_ways}
 use Rattle.eek_queues.specs.Queues.{put}
 
--- those at indices below i are before x, and those from i on are not
+-- the elements at indices below i are before x, and those from i on are not
 abbrev pub Parted : {X : Type 0} → (X → X → Bool) → X → List X → ℕ → Type 0
 Parted before x xs i = IsPartitionPoint (λ y. before y x ≡ true) (λ y. before y x ≡ false) xs i
 
@@ -30,7 +30,7 @@ module _ {X : Type 0} (before : X → X → Bool) where
       go true ih = omega (arith, ih)
       go false ih = refl
 
-  -- what was put in stands at the place that parts the others
+  -- the inserted element is at the partition point of the others
   pub remove-put : (x : X) (ys : List X) (i : ℕ) → before x x ≡ false → i ≤ length (put before x ys) → Parted before x (put before x ys) i → (remove (put before x ys) i ≡ ys) × (i < length (put before x ys))
   remove-put x [] zero n b h = (refl, omega arith)
   remove-put x [] (suc i) n b h = absurd (both_ways (before x x) n (h.0 0 x (omega arith) (omega arith)))
@@ -54,7 +54,7 @@ module _ {X : Type 0} (before : X → X → Bool) where
       go ih true = (all.0, ih)
       go ih false = (p, all)
 
--- an element may be put in before or after its image is taken
+-- inserting commutes with a map that keeps the order
 pub map-put : {X Y : Type 0} (before : Y → Y → Bool) (f : X → Y) (x : X) (ys : List X) → map f (put (λ a b. before (f a) (f b)) x ys) ≡ put before (f x) (map f ys)
 map-put {X} {Y} before f x [] = refl
 map-put {X} {Y} before f x (y ∷ ys) = go (map-put before f x ys) (before (f y) (f x))
@@ -63,7 +63,7 @@ map-put {X} {Y} before f x (y ∷ ys) = go (map-put before f x ys) (before (f y)
     go ih true = ap (λ (zs : List Y). f y ∷ zs) ih
     go ih false = refl
 
--- a list that goes along an order, in which no element is before itself or before one that is before it
+-- an order in which no element is before itself or before one that is before it
 module _ {X : Type 0} (before : X → X → Bool) (back : (a b : X) → before a b ≡ true → before b a ≡ false) (along : (a b c : X) → before b a ≡ false → before c b ≡ false → before c a ≡ false) where
   put-later : (a b : X) (ys : List X) → before a b ≡ true → put before b (put before a ys) ≡ put before a (put before b ys)
   put-later a b [] h = let k : before b a ≡ false = back a b h in simp (h, k)
@@ -78,7 +78,7 @@ module _ {X : Type 0} (before : X → X → Bool) (back : (a b : X) → before a
       go false e false f ih = simp (e, f, h, k)
       go true e false f ih = absurd (both_ways (before y a) (along a b y k f) e)
 
-  -- two elements may be put in one after the other in any order
+  -- the order in which two elements are inserted makes no difference
   pub put-put : (either : (a b : X) → before a b ≡ false → before b a ≡ false → a ≡ b) (a b : X) (ys : List X) → put before a (put before b ys) ≡ put before b (put before a ys)
   put-put either a b ys = go (before a b) refl (before b a) refl
     where

@@ -1,4 +1,4 @@
--- The rings and the queues that they hold.
+-- The rings and the queues in them.
 use Rattle.std.proofs.Common.{◌≡◌, ℕ, ◌<◌, ◌≤◌, zero, suc, Bool, true, false, not, cond, List, [], ◌∷◌, Option, Some, length, get_or, set, refl, sym, ap, subst, ◌∙◌, arith}
 use Rattle.std.specs.Prelude.{◌==◌, nat_lt, slice_get, IsNone}
 use Rattle.std.specs.List.{AllByRecursion, insert, remove}
@@ -16,7 +16,7 @@ use Rattle.eek_queues.proofs.Put.{length-put, map-put, put-insert}
 use Rattle.eek_queues.proofs.Places.{all-at, in_order-places_of}
 use Rattle.eek_queues.proofs.Births.{above-absent, absent-dropped, absent-ready, has-at, other-is, places-dropped, places-put, places-set, ready-at, rising-dropped, rising-put, rising-set, same-is, set-at}
 
--- ---- where a birth stands
+-- ---- the place of a birth
 
 birth-at : (rings : List Ring) (a k : ℕ) (d : Ring) → AllByRecursion (λ q. a < q.birth) (queues_of rings) → k < length rings → a < (get_or rings k d).birth
 birth-at [] a k d all b = absurd (omega arith)
@@ -30,7 +30,7 @@ births-rise (r ∷ rs) h zero (suc j) d l b = omega (arith, birth-at rs r.birth 
 births-rise (r ∷ rs) h (suc i) zero d l b = absurd (omega arith)
 births-rise (r ∷ rs) h (suc i) (suc j) d l b = births-rise rs h.1 i j d (omega arith) (omega arith)
 
--- the rings before the index have lesser births, and those from it on have not
+-- the rings before the index have lower births, and those from it on do not
 abbrev pub PartedAt : List Ring → ℕ → ℕ → Type 0
 PartedAt rings birth at = IsPartitionPoint (λ (r : Ring). nat_lt r.birth birth ≡ true) (λ (r : Ring). nat_lt r.birth birth ≡ false) rings at
 
@@ -43,14 +43,14 @@ lesser-other a b h = grind (arith, nat_tests)
 not-lesser : (a b : ℕ) → nat_lt a b ≡ false → b ≤ a
 not-lesser a b h = grind (arith, nat_tests)
 
--- past the last ring a birth has no queue
+-- a birth whose place is past the last ring has no queue
 pub absent-past : (rings : List Ring) (birth : ℕ) → PartedAt rings birth (length rings) → has_queue (queues_of rings) birth ≡ false
 absent-past [] birth h = refl
 absent-past (r ∷ rs) birth h =
     ap (λ t. cond t true (has_queue (queues_of rs) birth)) (lesser-other r.birth birth (h.0 0 r (omega arith) (omega arith)))
     ∙ absent-past rs birth (parted-next r rs birth (length rs) h)
 
--- where another birth stands at its place it has no queue
+-- a birth whose place has another birth has no queue
 pub absent-place : (rings : List Ring) (birth at : ℕ) (d : Ring) → Rising (queues_of rings) → at < length rings → PartedAt rings birth at → ((get_or rings at d).birth ≡ birth → ⊥) → has_queue (queues_of rings) birth ≡ false
 absent-place [] birth at d h b p n = absurd (omega arith)
 absent-place (r ∷ rs) birth zero d h b p n =
@@ -104,13 +104,13 @@ remove-rings (r ∷ rs) birth (suc at) d h b e =
 pub remove-ring : (rings : List Ring) (birth at : ℕ) (ring : Ring) → IsAt rings birth at ring → queues_of (remove rings at) ≡ dropped (queues_of rings) birth
 remove-ring rings birth at ring h = remove-rings rings birth at ring h.rising h.within (ap (λ (r : Ring). r.birth) (sym h.here) ∙ h.its_birth)
 
--- a ring put in at its place is a queue put in at its place
+-- inserting a ring at its place inserts its queue at its place
 pub insert-ring : (rings : List Ring) (at : ℕ) (new : Ring) → at ≤ length rings → PartedAt rings new.birth at → queues_of (insert rings at new) ≡ put_queue (queue_of new) (queues_of rings)
 insert-ring rings at new b p =
     ap queues_of (sym (put-insert (λ (r s : Ring). nat_lt r.birth s.birth) new rings at b p))
     ∙ map-put (λ (q r : Queue). nat_lt q.birth r.birth) queue_of new rings
 
--- what find and an index tell
+-- what `find` and an index give
 pub found : (rings : List Ring) (birth at : ℕ) (ring : Ring) → Rising (queues_of rings) → at < length rings → ring ≡ get_or rings at ring → ((d : Ring) → (get_or rings at d).birth ≡ birth) → IsAt rings birth at ring
 found rings birth at ring r b e f = record { rising = r; within = b; here = e; its_birth = ap (λ (x : Ring). x.birth) e ∙ f ring }
 
@@ -120,18 +120,18 @@ has-found (r ∷ rs) birth at h b f =
     has-at (queues_of (r ∷ rs)) birth at (queue_of r) h (omega (arith, length-map (r ∷ rs) queue_of, b))
     (ap (λ (q : Queue). q.birth) (get_or-map queue_of (r ∷ rs) at r (queue_of r) b) ∙ f r)
 
--- a ring whose keys are replaced is a queue whose keys are replaced
+-- replacing the keys of a ring replaces the keys of its queue
 pub replace-ring : (rings : List Ring) (birth at : ℕ) (ring new : Ring) (g : List Edek → List Edek) (size : ℕ) → IsAt rings birth at ring → new.birth ≡ ring.birth → new.ready ≡ buffer (g ring.ready.items) size
     → queues_of (set rings at new) ≡ set_ready (queues_of rings) birth (g (ready_in (queues_of rings) birth))
 replace-ring rings birth at ring new g size h b e =
     set-ring rings birth at ring h new (b ∙ h.its_birth)
     ∙ ap (set_ready (queues_of rings) birth) (ap (λ (x : Buffer Edek). x.items) e ∙ ap g (sym (ready-ring rings birth at ring h)))
 
--- what contracts see
+-- the view of the queues in contracts
 abbrev pub seen : ℕ → ℕ → List Queue → AllQueues
 seen size watermark qs = record { size = size; watermark = watermark; queues = qs }
 
--- a change of the rings is a change of the queues that contracts see
+-- a change of the rings is the same change of the view
 pub changed : (f : List Queue → List Queue) (old : AllQueues) (size watermark : ℕ) (rings rings' : List Ring) → seen size watermark (queues_of rings) ≡ old → queues_of rings' ≡ f (queues_of rings)
     → seen size watermark (queues_of rings') ≡ seen old.size old.watermark (f old.queues)
 changed f old size watermark rings rings' view e =
@@ -151,7 +151,7 @@ pub none-front : (xs : List Edek) (r : Option Edek) → r ≡ slice_get xs 0 →
 none-front [] r e = (λ h. refl, λ h. subst (λ (o : Option Edek). IsNone o) (sym e) refl)
 none-front (x ∷ xs) r e = (λ h. let k : IsNone (Some x) = subst (λ (o : Option Edek). IsNone o) e h in cc, λ h. cc)
 
--- ---- each ring has its room
+-- ---- each ring keeps its capacity
 
 module _ (P : Ring → Type 0) where
   pub all-set : (rings : List Ring) (at : ℕ) (new : Ring) → P new → AllByRecursion P rings → AllByRecursion P (set rings at new)
@@ -171,7 +171,7 @@ module _ (P : Ring → Type 0) where
   all-insert (r ∷ rs) zero new p all = (p, all)
   all-insert (r ∷ rs) (suc at) new p all = (all.0, all-insert rs at new p all.1)
 
--- ---- how many there are
+-- ---- the number of places
 
 length-with : (n : ℕ) (place : Place) (ps : List Place) → length (with_place n place ps) ≤ suc (length ps)
 length-with n place ps = go (nat_lt place.count n)
@@ -201,7 +201,7 @@ fewer-dropped (q ∷ qs) birth h = go (q.birth == birth) h (fewer-dropped qs bir
     go true k ih l = omega arith
     go false k ih l = omega (arith, ih k)
 
--- ---- what is kept
+-- ---- the invariant
 
 module _ (size n : ℕ) (rings : List Ring) (places : List Place) (spare : ℕ) (k : IsKept size n rings places spare) where
   pub room-at : (birth at : ℕ) (ring : Ring) → IsAt rings birth at ring → ring.ready.capacity ≡ size
@@ -211,7 +211,7 @@ module _ (size n : ℕ) (rings : List Ring) (places : List Place) (spare : ℕ) 
   stands-is birth count h e =
       k.order ∙ places-dropped n (queues_of rings) birth k.rising h ∙ (λ i. with_place n (record { count = sym e i; birth = birth }) (places_of n (dropped (queues_of rings) birth)))
 
-  -- the queue of a birth stands in the order where its ready keys are so many
+  -- the queue of a birth has its place in the order, with the number of its ready keys
   pub stands : (birth count : ℕ) → has_queue (queues_of rings) birth ≡ true → count ≡ length (ready_in (queues_of rings) birth) → Stands n (record { count = count; birth = birth }) places spare
   stands birth count h e =
       record {

@@ -1,4 +1,4 @@
--- What the fields of the queues keep.
+-- The invariant of the fields of the queues.
 use Rattle.std.specs.Prelude.{◌≡◌, ◌<◌, ◌≤◌, ℕ, List, [], ◌∷◌, length, map}
 use Rattle.std.specs.List.{AllByRecursion}
 use Rattle.eek_queues.specs.declared.order.Place.{Place}
@@ -17,7 +17,7 @@ abbrev pub Rising : List Queue → Type 0
 Rising [] = Unit {0}
 Rising (q ∷ qs) = AllByRecursion (λ r. q.birth < r.birth) qs × Rising qs
 
--- the queues stand by birth, each ring has room for n keys, the places are those of the low queues, and there is room for one of each queue
+-- queues in order of birth, rings of capacity `size`, the places of queues with fewer than n keys, and room for a place of each queue
 pub record IsKept (size n : ℕ) (rings : List Ring) (places : List Place) (spare : ℕ) : Type 0 where
   pub rising : Rising (queues_of rings)
   pub sized : AllByRecursion (λ r. r.ready.capacity ≡ size) rings

@@ -1,4 +1,4 @@
--- The low queues in order: fewest ready keys first, and of equally many the least birth first.
+-- The low queues in order: fewest ready keys first, then the lowest birth.
 use Rattle.std.specs.Prelude.{◌≡◌, ◌<◌, ℕ, nat_lt, ◌==◌, Bool, false, List, [], ◌∷◌, length, if◌then◌else◌}
 use Rattle.std.specs.List.{AllByRecursion}
 use Rattle.eek_queues.specs.declared.order.Place.{Place}
@@ -24,7 +24,7 @@ abbrev pub places_of : ℕ → List Queue → List Place
 places_of n [] = []
 places_of n (q ∷ qs) = with_place n (place_of q) (places_of n qs)
 
--- the places are these others and the place, if it is low, and there is room for more than the others
+-- the places are some others and this place, if it is low, and there is room for more than the others
 pub record Stands (n : ℕ) (place : Place) (places : List Place) (spare : ℕ) : Type 0 where
   pub others : List Place
   pub is : places ≡ with_place n place others

@@ -1,4 +1,4 @@
--- Opening undoes sealing, and both keep the length.
+-- Unsealing undoes sealing, and both keep the length.
 use Rattle.std.proofs.Common.{◌≡◌, ℕ, ◌+◌, List, length, get_or, bit_xor, refl, sym, ap, ◌∙◌, arith, map}
 use Rattle.std.specs.List.{range_with_len}
 use Rattle.std.proofs.lemmas.List.FromFn.{fill_by_all, get_or-map-range_with_len, length-map-range_with_len}

@@ -6,7 +6,7 @@ use Rattle.aes_ctr.specs.Ctr.{ctr}
 abbrev pub flipped : List ℕ → List ℕ
 flipped iv = map (λ byte. 255 - byte) iv
 
--- a data encryption key sealed under a key version's material: counter mode from the flipped initialization vector on
+-- a data encryption key sealed under a key version's material: counter mode that starts at the flipped initialization vector
 unfoldable pub seal : List ℕ → List ℕ → List ℕ → List ℕ
 seal material iv dek = ctr material (flipped iv) 0 dek
 

@@ -1,4 +1,4 @@
--- How a run of calls on one file goes on.
+-- Runs of calls on one file, call by call.
 use Rattle.std.specs.Prelude.{ℕ, ◌-◌, ◌<◌, List, refl, IsTrue}
 use Rattle.std.proofs.Common.{inl, inr, ⊎_elim, ◌∙◌, arith, subst, sym}
 use Rattle.hk_base.specs.Disk.{DiskState, CallOn, Reads, RunOn, LeavesOnly}
@@ -20,7 +20,7 @@ begin file old P = record {
   moments = record { before = λ t c le left. inl left };
 }
 
--- one call more, after which a crash leaves of the file what has P
+-- one more call, after which a crash leaves bytes of the file that satisfy P
 pub then : {file : ℕ} {old mid new : DiskState} {P : List ℕ → Type 0} → Going file old mid P → CallOn file mid new → file < 2 → ((c : List ℕ) → new.leaves file c → P c) → Going file old new P
 then {file} {old} {mid} {new} {P} so_far call file_in here = record {
   run = record {
@@ -40,7 +40,7 @@ weaker f moments = record {
   before = λ t c le left. ⊎_elim (λ past. inl past) (λ now. inr (f _ now.0, now.1)) (moments.before t c le left);
 }
 
--- a run of calls that only read
+-- one more call of a run that only reads
 pub read_on : {file : ℕ} {old mid new : DiskState} → Going file old mid (old.leaves file) → Reads file old mid → CallOn file mid new → Reads file mid new → file < 2 → Going file old new (old.leaves file)
 read_on so_far same call same_too file_in = then so_far call file_in (λ c h. same.leaves c (same_too.leaves c h))
 

@@ -1,4 +1,4 @@
--- Where the '@' stands in the spelling of a version.
+-- The place of the '@' in the text of a version.
 use Rattle.std.proofs.Common.{◌≡◌, ℕ, ◌+◌, ◌-◌, ◌^◌, ◌<◌, ap₂, List, ◌∷◌, ◌++◌, length, take, drop, get_or, Bool, true, false, ◌&&◌, Some, refl, ap, sym, ◌∙◌, arith, append_assoc, length-append, drop-cons, add-one, codes}
 use Rattle.std.specs.List.{list_all, All, position}
 use Rattle.std.specs.Fmt.{decimal}
@@ -16,11 +16,11 @@ and_both : (a b : Bool) → (a && b) ≡ true → (a ≡ true) × (b ≡ true)
 and_both true b h = (refl, h)
 and_both false b h = absurd cc
 
--- each byte of a name may stand in one
+-- each byte of a name is a name byte
 bytes_may_stand : (key : List ℕ) → IsKeyName key → list_all is_name_byte key ≡ true
 bytes_may_stand key name = (and_both _ _ name).1
 
--- an '@' may not
+-- a name byte is not '@'
 not_at_sign : (b : ℕ) → is_name_byte b ≡ true → is_at_sign b ≡ true → ⊥
 not_at_sign b may at = grind arith
 
@@ -36,7 +36,7 @@ no_at_sign key k name below at =
 whole_at : (key : List ℕ) (number : ℕ) → get_or (version_text key number) (length key) 0 ≡ 64
 whole_at key number = ap (λ l. get_or l (length key) 0) (append_assoc key (codes "@") (decimal number)) ∙ get_or-append_seam key 64 (decimal number) 0
 
--- the first '@' stands behind the key
+-- the first '@' comes right after the key
 pub place_is : (key : List ℕ) (number place : ℕ) → IsKeyName key → position is_at_sign (version_text key number) ≡ Some place → place ≡ length key
 place_is key number place name is =
     let found = position-Some is_at_sign (version_text key number) place 0 is in
@@ -53,7 +53,7 @@ has_at_sign key number none =
     let t : is_at_sign (get_or (version_text key number) (length key) 0) ≡ true = ap is_at_sign (whole_at key number) in
     cc
 
--- the key stands before the '@', and the number behind it
+-- the key is before the '@', and the number after it
 pub take_key : (key : List ℕ) (number : ℕ) → take (length key) (version_text key number) ≡ key
 take_key key number = ap (take (length key)) (append_assoc key (codes "@") (decimal number)) ∙ take-append_seam key (codes "@" ++ decimal number)
 
@@ -61,7 +61,7 @@ pub drop_key : (key : List ℕ) (number : ℕ) → drop (length key + 1) (versio
 drop_key key number =
     ap (λ n. drop n (version_text key number)) (sym (length-append key (codes "@"))) ∙ drop-append_seam (key ++ codes "@") (decimal number)
 
--- what is cut at the first '@'
+-- the two parts around the first '@'
 pub cut_is : (bytes key : List ℕ) (number place : ℕ) → IsKeyName key → bytes ≡ version_text key number → position is_at_sign bytes ≡ Some place
     → (take place bytes ≡ key) × (take (length bytes - (place + 1)) (drop (place + 1) bytes) ≡ decimal number)
 cut_is bytes key number place name is first =
@@ -70,11 +70,11 @@ cut_is bytes key number place name is first =
       take_rest bytes (place + 1) ∙ ap₂ (λ n l. drop (n + 1) l) at is ∙ drop_key key number,
     )
 
--- two numbers of one spelling are one
+-- two numbers with one text are equal
 pub decimal_once : (m n : ℕ) → m < 2 ^ 64 → n < 2 ^ 64 → decimal m ≡ decimal n → m ≡ n
 decimal_once m n small below same = sym (decimal_is_IsNumeral m small).1 ∙ ap (digits_value 10) same ∙ (decimal_is_IsNumeral n below).1
 
--- the parts round the first '@' make up the whole
+-- the parts around the first '@' make up the whole
 pub joined : (bytes key : List ℕ) (number place : ℕ) → position is_at_sign bytes ≡ Some place
     → take place bytes ≡ key → take (length bytes - (place + 1)) (drop (place + 1) bytes) ≡ decimal number → bytes ≡ version_text key number
 joined bytes key number place first front back =

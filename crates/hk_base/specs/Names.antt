@@ -1,4 +1,4 @@
--- Names of keys and of their versions, keys and encrypted keys, as bytes.
+-- Names of keys and of key versions, keys and encrypted keys, as bytes.
 use Rattle.std.specs.Prelude.{ℕ, ◌-◌, ◌&&◌, ◌||◌, ◌==◌, nat_le, nat_lt, Bool, List, ◌++◌, codes, length, replicate, IsTrue}
 use Rattle.std.specs.List.{list_all}
 use Rattle.std.specs.Fmt.{decimal}
@@ -18,16 +18,16 @@ IsKeyName bytes = IsTrue (is_key_name bytes)
 abbrev pub is_key_length : ℕ → Bool
 is_key_length n = n == 16 || n == 24 || n == 32
 
--- the bytes in an array of n, with zeros behind
+-- the bytes, padded with zeros to length n
 abbrev pub padded : ℕ → List ℕ → List ℕ
 padded n bytes = bytes ++ replicate (n - length bytes) 0
 
--- a version of a key: its name, and its number from 0
+-- a version of a key: the key's name, and its number from 0
 pub record Version : Type 0 where
   pub key : List ℕ
   pub number : ℕ
 
--- an encrypted data encryption key: the version that sealed it, the iv, and the sealed bytes
+-- an encrypted data encryption key: the version that sealed it, the initialization vector, and the sealed bytes
 pub record Encrypted : Type 0 where
   pub version : Version
   pub iv : List ℕ
@@ -36,6 +36,6 @@ pub record Encrypted : Type 0 where
 abbrev pub is_at_sign : ℕ → Bool
 is_at_sign b = b == 64
 
--- the one spelling of a version, `key@number`
+-- the one text of a version, `key@number`
 abbrev pub version_text : List ℕ → ℕ → List ℕ
 version_text key number = key ++ codes "@" ++ decimal number

@@ -1,4 +1,4 @@
--- A piece of which a front was written.
+-- A prefix of the bytes was written.
 use Rattle.std.specs.Prelude.{◌≡◌, ℕ, List, ◌++◌, Option}
 use Rattle.std.specs.Io.KnownBytes.{Appends}
 

@@ -3,7 +3,7 @@ use Rattle.std.proofs.lemmas.List.{ext_get_or, get_or-map, length-map}
 use Rattle.eek_seal.specs.Seal.{flipped}
 use Rattle.eek_seal.proofs.flipped.Goals as goal
 
--- the bytes of a counter that are a vector's, each flipped
+-- a counter whose bytes are those of a vector, each flipped
 flipped_by_all : (iv counter : List ℕ) → length iv ≡ 16 → length counter ≡ 16 → ((k : ℕ) → k < 16 → get_or counter k 0 ≡ 255 - get_or iv k 0) → counter ≡ flipped iv
 flipped_by_all iv counter iv_long counter_long each =
     ext_get_or 0 counter (flipped iv) (simp length-map (omega arith)) (λ k within. each k (omega arith) ∙ sym (get_or-map (λ byte. 255 - byte) iv k 0 0 (omega arith)))

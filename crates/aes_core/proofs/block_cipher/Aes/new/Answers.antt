@@ -5,7 +5,7 @@ use Rattle.aes_core.specs.Aes.{key_words, expanded_key}
 use Rattle.aes_core.proofs.Keys.{key_words-suc, expanded_key-suc, key_bytes-is, expanded_from_key_bytes}
 use Rattle.aes_core.proofs.block_cipher.Aes.new.Goals as goal
 
--- all words are made after the second loop
+-- all words are made once the second loop ends
 expanded : (g : _) (c : goal.After-more g) → c.more.words ≡ expanded_key g.row.NK c.args.key.now (3 * g.row.NK + 28)
 expanded g c =
     let size = c.requires.size in
