@@ -1,4 +1,4 @@
--- Rows of a table: births rise, names stand once, and each row is a key.
+-- Rows of a table: births increase, names are unique, and each row is a key.
 use Rattle.std.proofs.Common.{◌≡◌, ◌≢◌, ℕ, zero, suc, get_or, ◌<◌, ◌≤◌, List, [], ◌∷◌, ◌++◌, length, find, filter, Bool, true, false, ◌&&◌, cond, ◌==◌, Option, None, Some, is_none, IfSome, refl, ap, sym, ◌∙◌, arith}
 use Rattle.std.specs.List.{AllByRecursion}
 use Rattle.std.specs.Str.{bytes_eq}
@@ -12,7 +12,7 @@ pub both : (a b : Bool) → (a && b) ≡ true → (a ≡ true) × (b ≡ true)
 both true b h = (refl, h)
 both false b h = absurd cc
 
--- a fact of each element
+-- a property of each element
 
 pub each_more : {X : Type 0} (P : X → Type 0) (xs : List X) (x : X) → AllByRecursion P xs → P x → AllByRecursion P (xs ++ x ∷ [])
 each_more P [] x each here = (here, tt)
@@ -32,14 +32,14 @@ length-filter_le p (x ∷ xs) =
     let Q : Bool → Type 0 = λ b. length (cond b (x ∷ filter p xs) (filter p xs)) ≤ length (x ∷ xs) in
     elim (p x) as Q [ true ↦ omega arith | false ↦ omega arith ]
 
--- what is found has what each row has, and passes the test
+-- an element that is found has the property of all rows, and passes the test
 pub found_has : {X : Type 0} (P : X → Type 0) (p : X → Bool) (xs : List X) → AllByRecursion P xs → IfSome (find p xs) P
 found_has P p [] each = tt
 found_has P p (x ∷ xs) each =
     let Q : Bool → Type 0 = λ b. IfSome (cond b (Some x) (find p xs)) P in
     elim (p x) as Q [ true ↦ each.0 | false ↦ found_has P p xs each.1 ]
 
--- the first row that passes a test is the one found
+-- the first row that passes a test is found
 pub find_at : (p : KeyRow → Bool) (rows : List KeyRow) (i : ℕ) (d : KeyRow) → i < length rows → p (get_or rows i d) ≡ true → ((k : ℕ) → k < i → p (get_or rows k d) ≡ false) → find p rows ≡ Some (get_or rows i d)
 find_at p [] i d within here before = absurd (omega arith)
 find_at p (row ∷ rows) zero d within here before = ap (λ b. cond b (Some row) (find p rows)) here
@@ -69,13 +69,13 @@ other_number a b other =
     let cases : P (a == b) = elim (a == b) as P [ true ↦ λ e. absurd (other ((Decides-eqb a b).0 e)) | false ↦ λ e. e ] in
     cases refl
 
--- behind a row no other has its birth
+-- the rows after a row do not have its birth
 pub none_born : (low birth : ℕ) (rows : List KeyRow) (top : ℕ) → birth ≤ low → Rising low rows top → AllByRecursion (λ (row : KeyRow). is_born birth row ≡ false) rows
 none_born low birth [] top below rising = tt
 none_born low birth (r ∷ rows) top below rising =
     (other_number r.birth birth (λ e. absurd (omega (arith, rising.0))), none_born r.birth birth rows top (omega (arith, rising.0)) rising.1)
 
--- what is found is above low
+-- the birth of a row that is found is above `low`
 above_low : (low : ℕ) (p : KeyRow → Bool) (rows : List KeyRow) (top : ℕ) → Rising low rows top → IfSome (find p rows) (λ row. low < row.birth)
 above_low low p [] top rising = tt
 above_low low p (r ∷ rows) top rising =
@@ -84,7 +84,7 @@ above_low low p (r ∷ rows) top rising =
     let later : R (find p rows) = elim (find p rows) as R [ None ↦ λ h. tt | Some row ↦ λ h. omega (arith, h, rising.0) ] in
     elim (p r) as Q [ true ↦ rising.0 | false ↦ later (above_low r.birth p rows top rising.1) ]
 
--- a row that is found is the one of its birth
+-- a row that is found is also found by its birth
 pub by_birth : (low : ℕ) (p : KeyRow → Bool) (rows : List KeyRow) (top : ℕ) → Rising low rows top → IfSome (find p rows) (λ row. find_birth rows row.birth ≡ Some row)
 by_birth low p [] top rising = tt
 by_birth low p (r ∷ rows) top rising =

@@ -1,4 +1,4 @@
--- Names in order, and the births beside them.
+-- Names in order, and their births.
 use Rattle.std.proofs.Common.{◌≡◌, ◌≢◌, ℕ, zero, suc, ◌+◌, ◌<◌, ◌≤◌, List, [], ◌∷◌, ◌++◌, length, map, filter, get_or, Bool, true, false, not, cond, ◌==◌, ◌||◌, All, Option, None, Some, is_some, is_none, option_map, refl, ap, sym, ◌∙◌, subst, arith, Result, Ok, Err, inl, inr}
 use Rattle.std.specs.Prelude.{MatchResult, IfOk, IfSome}
 use Rattle.std.specs.List.{AllByRecursion, insert, HoldsAt}
@@ -34,7 +34,7 @@ back a b more = nat_list_cmp_total.antisymm b a ∙ ap ordering_reverse more
 same_cmp : (a : List ℕ) → name_cmp a a ≢ Less
 same_cmp a less = let no : Less ≡ Greater = sym less ∙ turned a a less in absurd cc
 
--- a name that comes before another is not that one
+-- a name that comes before another differs from it
 before_other : (a b : List ℕ) → name_cmp a b ≡ Less → a ≢ b
 before_other a b less same = same_cmp b (subst (λ (x : List ℕ). name_cmp x b ≡ Less) same less)
 
@@ -84,7 +84,7 @@ none_in : (entries : List NamedBirth) (name : List ℕ) → AllByRecursion (λ (
 none_in [] name others = refl
 none_in (entry ∷ entries) name others = ap (λ b. cond b (Some entry.birth) (birth_in entries name)) (not_same entry.name name others.0) ∙ none_in entries name others.1
 
--- at a place where a name is missing
+-- the place of a name that is absent
 
 others_at : (entries : List NamedBirth) (name : List ℕ) (i : ℕ) → IsPartitionPoint (λ (entry : NamedBirth). name_cmp entry.name name ≡ Less) (λ entry. name_cmp entry.name name ≡ Greater) entries i
     → AllByRecursion (λ (entry : NamedBirth). entry.name ≢ name) entries
@@ -171,7 +171,7 @@ birth_searched low rows top birth (Err place) rising parted =
       | inr more ↦ other_number (get_or rows k d).birth birth (λ same. let higher = ranked _ birth _ (sym (halves.1 k d more within)) in absurd (omega arith))
     ]
 
--- the row at the place of a birth is the first of it
+-- the row at the place of a birth is the first with it
 pub first_at : (low : ℕ) (rows : List KeyRow) (top birth i : ℕ) (d : KeyRow) → Rising low rows top → i < length rows → (get_or rows i d).birth ≡ birth → (k : ℕ) → k < i → is_born birth (get_or rows k d) ≡ false
 first_at low rows top birth i d rising within here k below = other_number (get_or rows k d).birth birth (λ same. absurd (omega (arith, rising_at low rows top k i d rising below within, here, same)))
 
@@ -185,7 +185,7 @@ pub row_missing : (birth : ℕ) (rows : List KeyRow) → AllByRecursion (λ (row
 row_missing birth [] none = refl
 row_missing birth (row ∷ rows) none = ap (λ b. cond b (Some row) (find_birth rows birth)) none.0 ∙ row_missing birth rows none.1
 
--- the birth beside a name is that of the key
+-- the birth of a name is that of its key
 
 abbrev birth_named : List KeyRow → List ℕ → Option ℕ
 birth_named rows name = option_map (λ row. row.birth) (find_name rows name)
@@ -211,7 +211,7 @@ absent_there rows entries name index none = index.births name ∙ mapped (find_n
     mapped None e = refl
     mapped (Some row) e = absurd cc
 
--- a key more
+-- one more key
 
 map_cond : (b : Bool) (row : KeyRow) (o : Option KeyRow) → option_map (λ (r : KeyRow). r.birth) (cond b (Some row) o) ≡ cond b (Some row.birth) (option_map (λ (r : KeyRow). r.birth) o)
 map_cond true row o = refl
@@ -248,7 +248,7 @@ births_rolled birth material (row ∷ rows) name =
 pub index_rolled : (birth : ℕ) (material : List ℕ) (rows : List KeyRow) (entries : List NamedBirth) → IsIndex rows entries → IsIndex (map (rolled birth material) rows) entries
 index_rolled birth material rows entries index = record { order = index.order; births = λ name. index.births name ∙ sym (births_rolled birth material rows name) }
 
--- a key less
+-- one key less
 
 abbrev unless : ℕ → Option ℕ → Option ℕ
 unless b None = None

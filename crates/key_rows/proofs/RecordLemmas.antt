@@ -1,4 +1,4 @@
--- Records both ways: what is read has the spelling that was read, and each spelling is read again.
+-- Records both ways: what is read has the encoding that was read, and each encoding is read back.
 use Rattle.std.proofs.Common.{◌≡◌, ℕ, ◌^◌, ◌<◌, ◌≤◌, ◌/◌, Bool, true, false, cond, eqb, ◌&&◌, ◌==◌, List, [], ◌∷◌, ◌++◌, length, Option, Some, None, Result, Ok, Err, refl, sym, ap, subst, ◌∙◌, arith, nat_lt, is_none}
 use Rattle.std.specs.Prelude.{IfOk}
 use Rattle.std.specs.Str.{is_utf8}
@@ -20,7 +20,7 @@ use Rattle.key_rows.proofs.Fields.{IsBytes, IsBytes-rest, bind_some, bind_is, wi
 use Rattle.std.specs.Int.{Width}
 use Rattle.key_rows.proofs.Fields.{IsWide}
 
--- a number that nothing follows
+-- a number that ends the record
 last_takes : (w : Width) (limit : ℕ) (wide : IsWide w limit) (bytes : List ℕ) (n : ℕ) → IsBytes bytes → last_number w bytes ≡ Some n → (bytes ≡ to_be_bytes w n) × (n < limit)
 last_takes w limit wide bytes n fits e =
     let b = bind_some (number_at w bytes) (λ x. cond (eqb (length x.1) 0) (Some x.0) None) n e in
@@ -63,7 +63,7 @@ roll_takes bytes command fits e =
     let long : is_key_length (length d.0) ≡ true = subst (λ (m : List ℕ). is_key_length (length m) ≡ true) g.1 g.0 in
     subst (λ (c : KeyCommand). HasSpelling c × (3 ∷ bytes ≡ spelling c)) (same_Some (Roll a.0.0 b.0.0 d.0) command d.2) ((t0.1, t1.1, long), ap (λ (w : List ℕ). 3 ∷ w) whole)
 
--- what is read of a create behind each of its fields
+-- what is read of a create, after each of its fields
 abbrev behind_created : ℕ → List ℕ → ℕ → List ℕ → ℕ × List ℕ → Option KeyCommand
 behind_created birth name bits description created = material_of_bits bits created.1 >>= λ material. Some (Create birth name bits description created.0 material)
 
@@ -137,7 +137,7 @@ create_takes bytes command fits e =
     } in
     subst (λ (c : KeyCommand). HasSpelling c × (2 ∷ bytes ≡ spelling c)) (same_Some (Create birth name bits.0 description created.0 material) command a7.2) (has, spelled)
 
--- what is read of a record's bytes has them as its spelling
+-- the encoding of the command that is read is the record's bytes
 pub command_takes : (bytes : List ℕ) (command : KeyCommand) → IsBytes bytes → command_at bytes ≡ Some command → HasSpelling command × (bytes ≡ spelling command)
 unfolding command_at
 command_takes [] command fits e = absurd cc
@@ -154,7 +154,7 @@ command_takes (tag ∷ bytes) command fits e =
     by_tag t false false false true one two three four rest e = subst (λ (n : ℕ). HasSpelling command × (n ∷ bytes ≡ spelling command)) (sym (four refl)) (delete_takes bytes command rest e)
     by_tag t false false false false one two three four rest e = absurd cc
 
--- a test that holds
+-- a test that is true
 if_true : {A : Type 0} (b : Bool) (x y : A) → b ≡ true → cond b x y ≡ x
 if_true b x y e = ap (λ t. cond t x y) e
 
@@ -191,7 +191,7 @@ roll_again birth number material small few long =
 bits_small : (bits : ℕ) (material : List ℕ) → fits_bits bits material ≡ true → bits < 2 ^ 16
 bits_small bits material fit = grind (arith, fit)
 
--- each spelling is read again
+-- each encoding is read back
 pub command_again : (command : KeyCommand) → HasSpelling command → command_at (spelling command) ≡ Some command
 unfolding command_at opened_at delete_at
 command_again (Opened opening) has = bind_is (last_number w32 (to_be_bytes w32 opening)) (λ n. Some (Opened n)) opening _ (last_again w32 (2 ^ 32) wide32 opening has) refl
@@ -199,7 +199,7 @@ command_again (Create birth name bits description created material) has = create
 command_again (Roll birth number material) has = roll_again birth number material has.0 has.1 has.2
 command_again (Delete birth) has = bind_is (last_number w64 (to_be_bytes w64 birth)) (λ n. Some (Delete n)) birth _ (last_again w64 (2 ^ 64) wide64 birth has) refl
 
--- two commands with one spelling are one
+-- two commands with the same encoding are equal
 pub one_spelling : (a b : KeyCommand) → HasSpelling a → HasSpelling b → spelling a ≡ spelling b → a ≡ b
 one_spelling a b of_a of_b same = same_Some a b (sym (command_again a of_a) ∙ ap command_at same ∙ command_again b of_b)
 
@@ -224,7 +224,7 @@ applying_fits t (Create birth name bits description created material) may =
 applying_fits t (Roll birth number material) may = refl
 applying_fits t (Delete birth) may = refl
 
--- a command that has a spelling fits
+-- a command that has an encoding fits
 pub spelled_fits : (command : KeyCommand) → HasSpelling command → fits command ≡ true
 spelled_fits (Opened opening) has = refl
 spelled_fits (Create birth name bits description created material) has = has.lengths

@@ -7,13 +7,13 @@ use Rattle.key_rows.specs.Table.{is_born, with_material, rolled, find_birth, may
 use Rattle.key_rows.specs.Sound.{Rising, NamesOnce, IsRow}
 use Rattle.key_rows.proofs.Births.{both, each_more, none_born}
 
--- rows of other births stay
+-- rows of other births are unchanged
 pub rolled_nowhere : (birth : ℕ) (material : List ℕ) (rows : List KeyRow) → AllByRecursion (λ (row : KeyRow). is_born birth row ≡ false) rows → map (rolled birth material) rows ≡ rows
 rolled_nowhere birth material [] none = refl
 rolled_nowhere birth material (row ∷ rows) none =
     ap (λ b. cond b (with_material material row) row ∷ map (rolled birth material) rows) none.0 ∙ ap (λ rest. row ∷ rest) (rolled_nowhere birth material rows none.1)
 
--- a write at the place of the birth is that
+-- it is one write, at the place of the birth
 pub rolled_at : (low birth : ℕ) (material : List ℕ) (rows : List KeyRow) (top i : ℕ) (d : KeyRow) → Rising low rows top → i < length rows
     → is_born birth (get_or rows i d) ≡ true → ((k : ℕ) → k < i → is_born birth (get_or rows k d) ≡ false)
     → set rows i (with_material material (get_or rows i d)) ≡ map (rolled birth material) rows
@@ -34,7 +34,7 @@ rolled_with birth material rows top i row more rising within is here before push
     ∙ ap (λ (r : KeyRow). set rows i (with_material material r)) is
     ∙ rolled_at 0 birth material rows top i row rising within here before
 
--- names and births stay
+-- names and births are unchanged
 
 pub length-rolled : (birth : ℕ) (material : List ℕ) (rows : List KeyRow) → length (map (rolled birth material) rows) ≡ length rows
 length-rolled birth material [] = refl
@@ -67,7 +67,7 @@ names_rolled birth material (r ∷ rows) once = (
   names_rolled birth material rows once.1,
 )
 
--- the key that gains the material stays a key
+-- the key that gains the material is still a key
 row_rolled : (row : KeyRow) (number : ℕ) (material : List ℕ) → may_roll (Some row) number material ≡ true → IsRow row → IsRow (with_material material row)
 row_rolled row number material may is =
     let first = both (number == length row.materials && nat_lt number 65535) (length material == row.bits / 8) may in

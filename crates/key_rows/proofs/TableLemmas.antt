@@ -1,4 +1,4 @@
--- A command that applies leaves a table of keys.
+-- A command that applies keeps the properties of a table.
 use Rattle.std.proofs.Common.{◌≡◌, ℕ, ◌/◌, ◌<◌, ◌^◌, List, [], ◌∷◌, length, Bool, true, not, ◌&&◌, ◌==◌, nat_lt, is_none, Option, None, Some, IfSome, sym, subst, arith, length-append}
 use Rattle.std.specs.Option.{option_copied}
 use Rattle.std.proofs.Common.{Bor}
@@ -33,7 +33,7 @@ sound_create t birth name bits description created material is may =
       rows = each_more IsRow t.rows row is.rows (record { born = omega (arith, here, opened); bits = f.1; some = omega arith; few = omega arith; materials = (long, tt) });
     }
 
--- the name of a create is the name of no key
+-- no key has the name that is created
 pub is_absent : (t : Table) (birth : ℕ) (name : List ℕ) (bits : ℕ) (description : List ℕ) (created : ℕ) (material : List ℕ) → applies t (Create birth name bits description created material) ≡ true → is_none (find_name t.rows name) ≡ true
 is_absent t birth name bits description created material may =
     let g = both (nat_lt 0 t.opening && is_none (find_name t.rows name) && opening_of birth == t.opening && nat_lt t.greatest birth && nat_lt (length t.rows) 10000 && is_length bits) (length material == bits / 8) may in
@@ -65,11 +65,11 @@ sound_delete t birth is =
       rows = each_filter IsRow p t.rows is.rows;
     }
 
--- a key that is found is a key
+-- a row that is found is a key
 pub found_row : (t : Table) (name : List ℕ) → IsTable t → IfSome (find_name t.rows name) IsRow
 found_row t name is = found_has IsRow (is_named name) t.rows is.rows
 
--- what is found among the rows has the birth of no other
+-- a row that is found has its birth alone
 pub found_birth : (t : Table) (name : List ℕ) → IsTable t → IfSome (find_name t.rows name) (λ row. find_birth t.rows row.birth ≡ Some row)
 found_birth t name is = by_birth 0 (is_named name) t.rows t.greatest is.births
 

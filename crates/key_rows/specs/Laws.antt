@@ -1,4 +1,4 @@
--- What follows for the records of the key log.
+-- Properties of the records of the key log.
 use Rattle.std.specs.Prelude.{◌≡◌, IsTrue}
 use Rattle.key_rows.specs.declared.rows.KeyCommand.{KeyCommand}
 use Rattle.key_rows.specs.Table.{Table, applies}

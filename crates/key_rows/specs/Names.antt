@@ -1,4 +1,4 @@
--- The names of the keys in order, and the births that stand beside them.
+-- The names of the keys in order, and their births.
 use Rattle.std.specs.Prelude.{◌≡◌, ℕ, Bool, List, [], ◌∷◌, map, option_map, Option, Some, None, is_some, bytes_eq, if◌then◌else◌}
 use Rattle.std.specs.List.{AllByRecursion, list_any}
 use Rattle.std.specs.Ordering.{nat_cmp}
@@ -14,7 +14,7 @@ use Rattle.key_rows.specs.Table.{find_name}
 abbrev pub name_cmp : KeyName → KeyName → Ordering
 name_cmp = slice_cmp nat_cmp
 
--- each name comes before those behind it
+-- each name comes before the later ones
 abbrev pub InOrder : List KeyName → Type 0
 InOrder [] = Unit {0}
 InOrder (name ∷ names) = AllByRecursion (λ (other : KeyName). name_cmp name other ≡ Less) names × InOrder names
@@ -30,7 +30,7 @@ pub record AreNames (rows : List KeyRow) (names : List KeyName) : Type 0 where
 abbrev pub names_of : List NamedBirth → List KeyName
 names_of entries = map (λ entry. entry.name) entries
 
--- the birth that stands beside a name
+-- the birth of a name
 abbrev pub birth_in : List NamedBirth → KeyName → Option ℕ
 birth_in [] name = None
 birth_in (entry ∷ entries) name = if bytes_eq entry.name name then Some entry.birth else birth_in entries name

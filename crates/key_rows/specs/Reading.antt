@@ -1,4 +1,4 @@
--- Records read from left to right: each field, and the bytes behind it.
+-- Records are read from left to right: each field, and the bytes after it.
 use Rattle.std.specs.Prelude.{◌≡◌, ℕ, List, [], ◌∷◌, length, take, drop, Option, Some, None, Result, Ok, Err, nat_lt, ◌==◌, if◌then◌else◌, option_and_then}
 use Rattle.std.specs.Int.{Width, w16, w32, w64, byte_len, from_be_bytes}
 use Rattle.std.specs.Str.{is_utf8}
@@ -13,7 +13,7 @@ infixl 10 ◌>>=◌
 abbrev pub ◌>>=◌ : {A B : Type 0} → Option A → (A → Option B) → Option B
 o >>= f = option_and_then f o
 
--- what a function returned, seen by view, is what reading gives, unless memory was wanting
+-- the result of a function, seen by `view`, is what reading gives, unless memory ran out
 abbrev pub Fails : {Y : Type 0} → RecordFault → Option Y → Type 0
 Fails NoRecord read = read ≡ None
 Fails NoMemory read = Unit {0}
@@ -28,32 +28,32 @@ number_at w bytes = if nat_lt (length bytes) (byte_len w) then None else Some (f
 abbrev pub bytes_at : ℕ → List ℕ → Option (List ℕ × List ℕ)
 bytes_at n bytes = if nat_lt (length bytes) n then None else Some (take n bytes, drop n bytes)
 
--- a byte of length, and so many bytes
+-- a byte with the length, and as many bytes
 unfoldable pub short_at : List ℕ → Option (List ℕ × List ℕ)
 short_at [] = None
 short_at (len ∷ bytes) = bytes_at len bytes
 
--- two bytes of length, and so many bytes
+-- two bytes with the length, and as many bytes
 unfoldable pub long_at : List ℕ → Option (List ℕ × List ℕ)
 long_at bytes = do
   len ← number_at w16 bytes
   bytes_at len.0 len.1
 
--- all of the bytes, where they are a name, and where they are a text
+-- all of the bytes, if they are a name, and if they are a text
 abbrev pub name_of : List ℕ → Option (List ℕ)
 name_of bytes = if is_key_name bytes then Some bytes else None
 
 abbrev pub text_of : List ℕ → Option (List ℕ)
 text_of bytes = if is_utf8 bytes then Some bytes else None
 
--- all of the bytes, where they are material, and where they are material of so many bits
+-- all of the bytes, if they are material, and if they are material of this number of bits
 abbrev pub material_of : List ℕ → Option (List ℕ)
 material_of bytes = if is_key_length (length bytes) then Some bytes else None
 
 abbrev pub material_of_bits : ℕ → List ℕ → Option (List ℕ)
 material_of_bits bits bytes = if fits_bits bits bytes then Some bytes else None
 
--- a number that nothing follows
+-- a number that ends the record
 abbrev pub last_number : Width → List ℕ → Option ℕ
 last_number w bytes = do
   number ← number_at w bytes

@@ -1,4 +1,4 @@
--- The records of the key log: the one spelling of each command. Numbers are big-endian.
+-- The records of the key log: the one encoding of each command. Numbers are big-endian.
 use Rattle.std.specs.Prelude.{ℕ, ◌<◌, ◌≤◌, ◌^◌, ◌/◌, Bool, true, ◌&&◌, ◌==◌, List, ◌∷◌, ◌++◌, length, IsTrue}
 use Rattle.std.specs.Int.{w16, w32, w64, to_be_bytes}
 use Rattle.std.specs.Str.{IsUtf8}
@@ -10,15 +10,15 @@ use Rattle.key_rows.specs.declared.rows.KeyCommand.{KeyCommand}
 use Rattle.key_rows.specs.declared.rows.KeyCommand.TheVariants.{Opened, Create, Roll, Delete}
 use Rattle.key_rows.specs.Table.{is_length}
 
--- a name is one byte of length and its bytes
+-- a name: one byte with its length, and its bytes
 abbrev pub name_field : List ℕ → List ℕ
 name_field name = length name ∷ name
 
--- a text is two bytes of length and its bytes
+-- a text: two bytes with its length, and its bytes
 abbrev pub text_field : List ℕ → List ℕ
 text_field text = to_be_bytes w16 (length text) ++ text
 
--- The bytes of a command. Material stands last and takes the rest of the record.
+-- The bytes of a command. Material comes last and takes the rest of the record.
 abbrev pub spelling : KeyCommand → List ℕ
 spelling (Opened opening) = 1 ∷ to_be_bytes w32 opening
 spelling (Create birth name bits description created material) =
@@ -26,7 +26,7 @@ spelling (Create birth name bits description created material) =
 spelling (Roll birth number material) = 3 ∷ (to_be_bytes w64 birth ++ to_be_bytes w16 number ++ material)
 spelling (Delete birth) = 4 ∷ to_be_bytes w64 birth
 
--- a length of a key, and material that is so long
+-- the length of a key in bits, and material of that length
 abbrev pub fits_bits : ℕ → Dek → Bool
 fits_bits bits material = is_length bits && length material == bits / 8
 
@@ -45,8 +45,8 @@ pub record CreateHasSpelling (birth : ℕ) (name : KeyName) (bits : ℕ) (descri
   pub created_fits : created < 2 ^ 64
   pub lengths : IsTrue (fits_bits bits material)
 
--- Which commands have a spelling: each number is in its range, names keep their rule, a description is
--- UTF-8 of at most 65,535 bytes, and material has 16, 24 or 32 bytes, at a create as its bits say.
+-- The commands that have an encoding: each number is in its range, names are key names, a description is
+-- UTF-8 of at most 65,535 bytes, and material has 16, 24 or 32 bytes, at a create as many as its bits say.
 abbrev pub HasSpelling : KeyCommand → Type 0
 HasSpelling (Opened opening) = opening < 2 ^ 32
 HasSpelling (Create birth name bits description created material) = CreateHasSpelling birth name bits description created material

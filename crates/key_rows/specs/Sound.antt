@@ -1,20 +1,20 @@
--- What every table of keys is.
+-- What is true of each table of keys.
 use Rattle.std.specs.Prelude.{◌≡◌, ◌≢◌, ℕ, ◌^◌, ◌/◌, ◌<◌, ◌≤◌, List, [], ◌∷◌, length, IsTrue}
 use Rattle.std.specs.List.{AllByRecursion}
 use Rattle.key_rows.specs.declared.rows.KeyRow.{KeyRow}
 use Rattle.key_rows.specs.Table.{Table, is_length}
 
--- births rise from above `low`, and end at or below `top`
+-- births increase, start above `low` and end at or below `top`
 abbrev pub Rising : ℕ → List KeyRow → ℕ → Type 0
 Rising low [] top = low ≤ top
 Rising low (row ∷ rows) top = (low < row.birth) × Rising row.birth rows top
 
--- no two rows have one name
+-- no two rows have the same name
 abbrev pub NamesOnce : List KeyRow → Type 0
 NamesOnce [] = Unit {0}
 NamesOnce (row ∷ rows) = AllByRecursion (λ (other : KeyRow). other.name ≢ row.name) rows × NamesOnce rows
 
--- a key was created in an opening, from 1 on, has one of the lengths, some versions, and each of its materials has its length
+-- a key has a birth of opening 1 or later, one of the lengths, 1 to 65,535 versions, and materials of its length
 pub record IsRow (row : KeyRow) : Type 0 where
   pub born : 2 ^ 32 ≤ row.birth
   pub bits : IsTrue (is_length row.bits)

@@ -1,4 +1,4 @@
--- The table of keys: what a list of commands stands for.
+-- The table of keys that a list of commands makes.
 use Rattle.std.specs.Prelude.{ℕ, ◌+◌, ◌-◌, ◌/◌, ◌^◌, Bool, false, not, ◌&&◌, ◌||◌, ◌==◌, nat_lt, List, [], ◌∷◌, ◌++◌, length, map, filter, find, Option, Some, None, is_none, is_some, if◌then◌else◌, bytes_eq, slice_get, option_and_then}
 use Rattle.hk_base.specs.declared.names.KeyName.{KeyName}
 use Rattle.hk_base.specs.declared.names.Dek.{Dek}
@@ -13,13 +13,13 @@ pub record Table : Type 0 where
   pub greatest : ℕ
   pub rows : List KeyRow
 
--- A table, and the room that it keeps for a command: one that applies and needs no more than `spare`
--- takes no memory. The room is no part of the table.
+-- A table, and the capacity that is reserved for a command: one that applies and needs at most `spare`
+-- allocates nothing. The capacity is not part of the table.
 pub record Kept : Type 0 where
   pub keys : Table
   pub spare : ℕ
 
--- what a command needs: room for the materials of the key that it makes or extends
+-- what a command needs: capacity for the materials of the key that it makes or extends
 abbrev pub need : KeyCommand → ℕ
 need (Opened opening) = 0
 need (Create birth name bits description created material) = 1
@@ -29,7 +29,7 @@ need (Delete birth) = 0
 abbrev pub no_keys : Table
 no_keys = record { opening = 0; greatest = 0; rows = [] }
 
--- the opening that a birth is of
+-- the opening in which a key of this birth was created
 abbrev pub opening_of : ℕ → ℕ
 opening_of birth = birth / 2 ^ 32
 
@@ -39,7 +39,7 @@ is_named name row = bytes_eq row.name name
 abbrev pub is_born : ℕ → KeyRow → Bool
 is_born birth row = row.birth == birth
 
--- the key of a name, and the key of a birth
+-- the key with a name, and the key with a birth
 abbrev pub find_name : List KeyRow → KeyName → Option KeyRow
 find_name rows name = find (is_named name) rows
 
@@ -58,7 +58,7 @@ abbrev pub may_roll : Option KeyRow → ℕ → Dek → Bool
 may_roll None number material = false
 may_roll (Some row) number material = number == length row.materials && nat_lt number 65535 && length material == row.bits / 8
 
--- where a command applies
+-- when a command applies
 abbrev pub applies : Table → KeyCommand → Bool
 applies t (Opened opening) = opening == t.opening + 1
 applies t (Create birth name bits description created material) =
@@ -70,7 +70,7 @@ applies t (Delete birth) = nat_lt 0 t.opening && is_some (find_birth t.rows birt
 abbrev pub with_material : Dek → KeyRow → KeyRow
 with_material material row = record row { materials = row.materials ++ material ∷ [] }
 
--- a row gains the material where it is of the birth
+-- the row gains the material if it has the birth
 abbrev pub rolled : ℕ → Dek → KeyRow → KeyRow
 rolled birth material row = if is_born birth row then with_material material row else row
 
@@ -86,6 +86,6 @@ after t (Create birth name bits description created material) =
 after t (Roll birth number material) = record t { rows = map (rolled birth material) t.rows }
 after t (Delete birth) = record t { rows = filter (λ row. not (is_born birth row)) t.rows }
 
--- the current version of a key is its newest one
+-- the current version of a key is its newest
 abbrev pub current_of : KeyRow → VersionName
 current_of row = record { key = row.name; number = length row.materials - 1 }

@@ -1,4 +1,4 @@
--- One line more, and what is kept of it.
+-- One more line, and the list that is stored for it.
 use Rattle.std.proofs.Common.{◌≡◌, ℕ, List, [], ◌∷◌, ◌++◌, refl, ap, sym, ◌∙◌, ◌&&◌, ◌||◌, None, is_some}
 use Rattle.std.specs.Prelude.{option_map}
 use Rattle.std.specs.Option.{option_and_then, option_or}

@@ -1,4 +1,4 @@
--- The first of several, and one more behind them.
+-- The first of several, with one more at the end.
 use Rattle.std.proofs.Common.{◌≡◌, List, [], ◌∷◌, ◌++◌, refl, ap, sym, ◌∙◌, Bool, true, false, ◌||◌, Option, None, Some, Result, Ok, Err, OnOk}
 use Rattle.std.specs.Prelude.{find, option_map, if◌then◌else◌}
 use Rattle.std.specs.List.{list_any}
@@ -42,7 +42,7 @@ list_more o (x ∷ xs) l =
     ∙ or_assoc (given_if (same_op x.op o) x.members) (list_of o xs) (given_if (same_op l.op o) l.members)
     ∙ ap (λ a. option_or a (given_if (same_op l.op o) l.members)) (sym (found_by (same_op x.op o) x (find (λ y. same_op y.op o) xs)))
 
--- one more is kept, and one more line gives it
+-- one more line gives a list, and it is stored
 pub added : {X Y Z : Type 0} (f : X → Z) (h : Y → Z) (gives : PropLine → Option Y) (lines : List PropLine) (line : PropLine) (old new more : Option X) → new ≡ option_or old more → option_map f old ≡ option_map h (first_of gives lines) → option_map f more ≡ option_map h (gives line) → option_map f new ≡ option_map h (first_of gives (lines ++ line ∷ []))
 added f h gives lines line old new more is same same_more =
     ap (option_map f) is
@@ -51,7 +51,7 @@ added f h gives lines line old new more is same same_more =
     ∙ sym (map_or h (first_of gives lines) (gives line))
     ∙ ap (option_map h) (sym (first_more gives lines line))
 
--- what is kept stays, and one more line gives nothing
+-- one more line gives nothing, and the stored list is unchanged
 pub stays : {X Y Z : Type 0} (f : X → Z) (h : Y → Z) (gives : PropLine → Option Y) (lines : List PropLine) (line : PropLine) (old new : Option X) → new ≡ old → gives line ≡ None → option_map f old ≡ option_map h (first_of gives lines) → option_map f new ≡ option_map h (first_of gives (lines ++ line ∷ []))
 stays f h gives lines line old new is none same =
     added f h gives lines line old new None (is ∙ sym (or_none old)) same (sym (ap (option_map h) none))
@@ -66,7 +66,7 @@ any_more test lines line = list_any-append test lines (line ∷ []) ∙ ap (λ b
 pub any_stays : (test : PropLine → Bool) (lines : List PropLine) (line : PropLine) → test line ≡ false → list_any test (lines ++ line ∷ []) ≡ list_any test lines
 any_stays test lines line none = any_more test lines line ∙ ap (λ b. list_any test lines || b) none ∙ or_false (list_any test lines)
 
--- what follows where a call succeeded
+-- what follows if a call succeeded
 pub on_ok : {T E P Q : Type 0} (r : Result T E) → OnOk r P → (P → Q) → OnOk r Q
 on_ok (Ok x) holds next = next holds
 on_ok (Err e) holds next = tt

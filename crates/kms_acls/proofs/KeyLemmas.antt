@@ -1,4 +1,4 @@
--- A key's lists with one more, and a group more.
+-- One more list of a key, and one more group.
 use Rattle.std.proofs.Common.{◌≡◌, ℕ, List, [], ◌∷◌, ◌++◌, refl, ap, sym, ◌∙◌, Bool, true, false, ◌&&◌, ◌||◌, cond, Option, None, Some, is_some}
 use Rattle.std.specs.Option.{option_and_then, option_or, unwrap_or}
 use Rattle.std.specs.Str.{bytes_eq}
@@ -33,7 +33,7 @@ else_same : {X : Type 0} (b : Bool) (x y z : X) → (b ≡ false → y ≡ z) �
 else_same true x y z same = refl
 else_same false x y z same = same refl
 
--- a key's lists were taken out, and others put in
+-- the lists of a key are replaced
 pub record Changed (old new : List (List ℕ × KeyLists)) (key : List ℕ) (lists : KeyLists) : Type 0 where
   pub at : (k : List ℕ) → lists_of_key k new ≡ cond (bytes_eq k key) (Some lists) (lists_of_key k old)
 
@@ -50,7 +50,7 @@ all_in : (found : Option KeyLists) → option_and_then (λ l. l.all) found ≡ (
 all_in None = refl
 all_in (Some lists) = refl
 
--- what the lists of a key were, at the key and at another
+-- the lists before, of that key and of others
 module _ (key k : List ℕ) (old : List (List ℕ × KeyLists)) where
   here : bytes_eq k key ≡ true → lists_of_key key old ≡ lists_of_key k old
   here same = ap (λ n. lists_of_key n old) (sym ((bytes_eq-Decides k key).0 same))

@@ -1,4 +1,4 @@
--- Maps whose keys are names, seen as lists of names and values.
+-- Maps with names as keys, seen as lists of names and values.
 use Rattle.std.proofs.Common.{◌≡◌, ℕ, List, [], ◌∷◌, refl, ap, sym, ◌∙◌, Bool, true, false, cond, map, Some, Ordering, Less, Equal, Greater}
 use Rattle.std.specs.Str.{bytes_eq}
 use Rattle.std.specs.Ordering.{is_eq, nat_cmp, match_ordering}

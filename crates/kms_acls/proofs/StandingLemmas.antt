@@ -1,4 +1,4 @@
--- A user stands in the lists as in the lines that they stand for.
+-- A user is in the same lists by the stored lists and by the lines.
 use Rattle.std.proofs.Common.{◌≡◌, ℕ, ◌+◌, ◌<◌, ◌≤◌, List, [], ◌∷◌, ◌++◌, length, take, drop, get_or, map, refl, ap, sym, ◌∙◌, Bool, true, false, not, ◌||◌, Option, None, Some, Result, Ok, Err, is_some, add-one, drop-cons}
 use Rattle.std.specs.Prelude.{if◌then◌else◌, option_map}
 use Rattle.std.specs.Option.{option_or}
@@ -17,7 +17,7 @@ use Rattle.kms_acls.specs.Lists.{Lists, Meaning, acl_meaning, holds, members_mea
 use Rattle.kms_acls.specs.StandsFor.{StandsFor}
 use Rattle.kms_acls.specs.Verdict.{Standing, allowed, asked, first_denial, first_of, is_in, key_denial, names_user, service_denial, shown, standing, users_of_group, verdict}
 
--- the user is in what a list says, where the groups that have the user are known
+-- the user is in a list, given the groups that have the user
 abbrev is_meant : (List ℕ → Bool) → List ℕ → Meaning → Bool
 is_meant in_group user m = m.everybody || m.users user || list_any in_group m.groups
 
@@ -54,7 +54,7 @@ same_standing lists lines s user = λ i. record {
   default = λ o. same_in lists lines s user _ _ (s.defaults o) i;
 }
 
--- the elements from a place on
+-- the elements from an index on
 drop_at : {K : Type 0} (ks : List K) (i : ℕ) (k : K) → i < length ks → k ≡ get_or ks i k → drop i ks ≡ k ∷ drop (i + 1) ks
 drop_at ks i k below is = drop-cons ks i k below ∙ (λ j. sym is j ∷ drop (sym (add-one i) j) ks)
 
@@ -76,7 +76,7 @@ one_more_taken xs i x below is = ap (λ y. take i xs ++ y ∷ []) is ∙ sym (ta
 pub all_taken : {X : Type 0} (xs : List X) (i : ℕ) → length xs ≤ i → take i xs ≡ xs
 all_taken xs i past = take_all i xs past
 
--- the verdict on what is asked for, in two parts
+-- the verdict on what a call needs, in two parts
 abbrev pub judged_parts : Standing → AclOp → Bool → AclOp → List (List ℕ) → Result Shown Denied
 judged_parts s service material on_keys keys =
     allowed (shown s) (option_or (option_or (service_denial s service) (if material then service_denial s op.SetKeyMaterial else None)) (first_denial (map (key_denial s on_keys) keys)))

@@ -1,4 +1,4 @@
--- The lists as they are kept, and where a user stands in them.
+-- The stored lists, and whether a user is in each.
 use Rattle.std.specs.Prelude.{Bool, ◌||◌, List, [], Option, None, find, is_some, option_map}
 use Rattle.std.specs.List.{list_any}
 use Rattle.std.specs.Map.{lookup}
@@ -14,7 +14,7 @@ use Rattle.kms_acls.specs.declared.lists.OpAcl.{OpAcl}
 use Rattle.kms_acls.specs.declared.lists.KeyLists.{KeyLists}
 use Rattle.kms_acls.specs.Verdict.{Standing, names_user, same_op}
 
--- the lists of an operation each, those of each key by its name, and the users of each group by its name
+-- the lists of each operation, those of each key by its name, and the users of each group by its name
 pub record Lists : Type 0 where
   pub services : List OpAcl
   pub blacklists : List OpAcl
@@ -23,7 +23,7 @@ pub record Lists : Type 0 where
   pub keys : List (KeyName × KeyLists)
   pub groups : List (Text × List Text)
 
--- what a list of users and groups says, whatever the order in which it names the users
+-- what a list of users and groups means, in whatever order it names the users
 pub record Meaning : Type 0 where
   pub everybody : Bool
   pub users : Text → Bool
@@ -41,7 +41,7 @@ members_meaning members = record { everybody = members.everybody; users = named_
 abbrev pub list_of : AclOp → List OpAcl → Option Members
 list_of o lists = option_map (λ l. l.members) (find (λ l. same_op l.op o) lists)
 
--- no list of any operation
+-- no list for any operation
 abbrev pub no_lists : KeyLists
 no_lists = record { by_op = []; all = None }
 
@@ -61,7 +61,7 @@ abbrev pub holds : List (Text × List Text) → Text → Members → Bool
 holds groups user members =
     members.everybody || is_among user members.users || list_any (λ g. names_user user (users_of g groups)) members.groups
 
--- where a user stands in the lists
+-- whether a user is in each list
 abbrev pub stands : Lists → Text → Standing
 stands lists user = record {
   service = λ o. option_map (holds lists.groups user) (list_of o lists.services);

@@ -1,4 +1,4 @@
--- The lists that are kept, and the lines that they were made of.
+-- The stored lists agree with the lines that they are made from.
 use Rattle.std.specs.Prelude.{◌≡◌, List, is_some, option_map}
 use Rattle.std.specs.List.{list_any}
 use Rattle.hk_base.specs.declared.names.KeyName.{KeyName}
@@ -8,7 +8,7 @@ use Rattle.prop_text.specs.declared.lines.PropLine.{PropLine}
 use Rattle.kms_acls.specs.Lists.{Lists, acl_meaning, all_of_key, list_of, list_of_key, lists_of_key, members_meaning, named_in, users_of}
 use Rattle.kms_acls.specs.Verdict.{blacklist, default_list, first_of, is_of_key, key_all_list, key_list, service_list, users_of_group, whitelist}
 
--- each list that is kept means what the first line of its name says, and no line's list is left out
+-- each stored list means what the first line of its name says, and no line's list is missing
 pub record StandsFor (lists : Lists) (lines : List PropLine) : Type 0 where
   pub services : (o : AclOp) → option_map members_meaning (list_of o lists.services) ≡ option_map acl_meaning (first_of (service_list o) lines)
   pub blacklists : (o : AclOp) → option_map members_meaning (list_of o lists.blacklists) ≡ option_map acl_meaning (first_of (blacklist o) lines)

@@ -1,4 +1,4 @@
--- The verdict of the access control lists on a call, read on the lines of the properties.
+-- The verdict of the access control lists on a call, from the lines of the properties.
 use Rattle.std.specs.Prelude.{ℕ, Bool, true, false, ◌&&◌, ◌||◌, ◌==◌, List, [], ◌∷◌, map, Option, Some, None, is_some, is_none, option_map, if◌then◌else◌, Result, Ok, Err}
 use Rattle.std.specs.List.{list_any}
 use Rattle.std.specs.Option.{option_or, unwrap_or}
@@ -37,7 +37,7 @@ same_op a b = op_number a == op_number b
 abbrev pub given_if : {X : Type 0} → Bool → X → Option X
 given_if b x = if b then Some x else None
 
--- what the first line gives that gives something
+-- the result for the first line that has one
 abbrev pub first_of : {X : Type 0} → (PropLine → Option X) → List PropLine → Option X
 first_of gives [] = None
 first_of gives (l ∷ ls) = option_or (gives l) (first_of gives ls)
@@ -47,32 +47,32 @@ abbrev pub service_list : AclOp → PropLine → Option Acl
 service_list o (line.Service p acl) = given_if (same_op p o) acl
 service_list o _ = None
 
--- of a line `hadoop.kms.blacklist.OP`
+-- the list of a line `hadoop.kms.blacklist.OP`
 abbrev pub blacklist : AclOp → PropLine → Option Acl
 blacklist o (line.Blacklist p acl) = given_if (same_op p o) acl
 blacklist o _ = None
 
--- of a line `default.key.acl.OP`
+-- the list of a line `default.key.acl.OP`
 abbrev pub default_list : AclOp → PropLine → Option Acl
 default_list o (line.Default p acl) = given_if (same_op p o) acl
 default_list o _ = None
 
--- of a line `whitelist.key.acl.OP`
+-- the list of a line `whitelist.key.acl.OP`
 abbrev pub whitelist : AclOp → PropLine → Option Acl
 whitelist o (line.Whitelist p acl) = given_if (same_op p o) acl
 whitelist o _ = None
 
--- of a line `key.acl.K.OP`
+-- the list of a line `key.acl.K.OP`
 abbrev pub key_list : KeyName → AclOp → PropLine → Option Acl
 key_list k o (line.Key key p acl) = given_if (bytes_eq k key && same_op p o) acl
 key_list k o _ = None
 
--- of a line `key.acl.K.ALL`
+-- the list of a line `key.acl.K.ALL`
 abbrev pub key_all_list : KeyName → PropLine → Option Acl
 key_all_list k (line.KeyAll key acl) = given_if (bytes_eq k key) acl
 key_all_list k _ = None
 
--- a line `key.acl.K.` of the key
+-- a line `key.acl.K.` of this key
 abbrev pub is_of_key : KeyName → PropLine → Bool
 is_of_key k (line.Key key p acl) = bytes_eq k key
 is_of_key k (line.KeyAll key acl) = bytes_eq k key
@@ -83,17 +83,17 @@ abbrev pub users_of_group : Text → PropLine → Option (List Text)
 users_of_group g (line.Group group users) = given_if (bytes_eq g group) users
 users_of_group g _ = None
 
--- the users of a group, if it has a line, name the user
+-- the group has a line, which names the user
 abbrev pub names_user : Text → Option (List Text) → Bool
 names_user user None = false
 names_user user (Some users) = is_among user users
 
--- everybody is in the list, or it names the user, or a group whose line names the user
+-- the list has everybody, or names the user, or a group whose line names the user
 abbrev pub is_in : List PropLine → Text → Acl → Bool
 is_in lines user acl =
     acl.everybody || is_among user acl.users || list_any (λ g. names_user user (first_of (users_of_group g) lines)) acl.groups
 
--- whether a user is in each list, none where the list is absent; and whether a key has a line of its own
+-- whether a user is in each list, or none if there is no such list; and whether a key has lines of its own
 pub record Standing : Type 0 where
   pub service : AclOp → Option Bool
   pub blacklist : AclOp → Option Bool
@@ -117,7 +117,7 @@ standing lines user = record {
 abbrev pub denied : AclTable → AclOp → Option Denied
 denied t o = Some record { table = t; op = o }
 
--- an operation of the service: an absent list has everybody, an absent blacklist nobody
+-- an operation of the service: an absent list allows everybody, an absent blacklist excludes nobody
 abbrev pub service_denial : Standing → AclOp → Option Denied
 service_denial s o =
     if unwrap_or (s.service o) true
@@ -129,7 +129,7 @@ default_denial o None = denied table.NoAcl o
 default_denial o (Some true) = None
 default_denial o (Some false) = denied table.DefaultAcl o
 
--- an operation on a key, whether or not there is such a key
+-- an operation on a key, whether or not the key exists
 abbrev pub key_denial : Standing → AclOp → KeyName → Option Denied
 key_denial s o k =
     if unwrap_or (s.whitelist o) false then None
@@ -137,7 +137,7 @@ key_denial s o k =
     then (if unwrap_or (s.key k o) false || unwrap_or (s.key_all k) false then None else denied table.KeyAcl o)
     else default_denial o (s.default o)
 
--- what a call asks for: an operation of the service, with material another, and an operation on each of these keys
+-- what a call needs: an operation of the service, a second one if it has material, and an operation on each of these keys
 pub record Asked : Type 0 where
   pub service : AclOp
   pub material : Bool
@@ -167,7 +167,7 @@ abbrev pub first_denial : List (Option Denied) → Option Denied
 first_denial [] = None
 first_denial (d ∷ ds) = option_or d (first_denial ds)
 
--- the denials in order: of the service, and then of each key
+-- the first denial: of the service, and then of each key
 abbrev pub denial : Standing → Asked → Option Denied
 denial s a =
     first_denial (service_denial s a.service ∷ (if a.material then service_denial s op.SetKeyMaterial else None) ∷ map (key_denial s a.on_keys) a.keys)
@@ -176,11 +176,11 @@ abbrev pub allowed : {X : Type 0} → X → Option Denied → Result X Denied
 allowed x None = Ok x
 allowed x (Some d) = Err d
 
--- whether material is shown to the user: the operation GET of the service is allowed
+-- whether the user sees material: the operation GET of the service is allowed
 abbrev pub shown : Standing → Shown
 shown s = record { material = is_none (service_denial s op.Get) }
 
--- the first denial, or else what is shown
+-- the first denial, or else whether material is shown
 abbrev pub judged : Standing → KmsCall → Result Shown Denied
 judged s c = allowed (shown s) (denial s (asked c))
 

@@ -1,4 +1,4 @@
--- Paths as they are written, and their parts between slashes.
+-- Paths as text, and their parts between slashes.
 use Rattle.std.proofs.Common.{◌≡◌, ℕ, ◌+◌, ◌<◌, ◌≤◌, zero, suc, Bool, true, false, cond, not, ◌&&◌, List, [], ◌∷◌, ◌++◌, length, get_or, take, drop, Option, Some, None, is_some, refl, sym, ap, ◌∙◌, arith, length-append, append_assoc, count_by, codes, take_all}
 use Rattle.std.proofs.lemmas.List.{append-nil, take_more}
 use Rattle.std.proofs.Math.Seq.{take-append_seam}
@@ -21,7 +21,7 @@ eq-yes a b h = grind (arith, nat_tests)
 one-more : (n : ℕ) → 1 + n ≡ suc n
 one-more n = omega arith
 
--- what stands before the first slash is the first part
+-- the bytes before the first slash are the first part
 first-part : (bs : List ℕ) → (rest : List (List ℕ)) × (parts_of bs ≡ before_first is_slash bs ∷ rest)
 first-part [] = ([], refl)
 first-part (b ∷ bs) = go (is_slash b) (first-part bs)
@@ -34,7 +34,7 @@ first-part (b ∷ bs) = go (is_slash b) (first-part bs)
 pub reserved-part : (bs : List ℕ) → starts_reserved (parts_of bs) ≡ bytes_eq (before_first is_slash bs) (codes ".reserved")
 reserved-part bs = let w = first-part bs in ap starts_reserved w.1
 
--- a slash before each part gives the bytes back
+-- the parts, each after a slash, make up the bytes
 pub text-parts : (bs : List ℕ) → names_text (parts_of bs) ≡ 47 ∷ bs
 text-parts [] = refl
 text-parts (b ∷ bs) = go (is_slash b) refl (first-part bs) (text-parts bs)
@@ -58,7 +58,7 @@ regroup true true c d = refl
 regroup true false c d = refl
 regroup false b c d = refl
 
--- the rule of absolute paths, tested on the bytes behind the first slash
+-- the rule of absolute paths, tested on the bytes after the first slash
 pub tested-parts : (bs : List ℕ) → (list_all is_component (parts_of bs) && nat_lt (length bs) 8000 && nat_lt (count_by is_slash bs) 100 && not (bytes_eq (before_first is_slash bs) (codes ".reserved"))) ≡ is_absolute (parts_of bs)
 tested-parts bs =
     regroup (list_all is_component (parts_of bs)) (nat_lt (length bs) 8000) (nat_lt (count_by is_slash bs) 100) (not (bytes_eq (before_first is_slash bs) (codes ".reserved")))
@@ -79,7 +79,7 @@ some-absolute p = go (is_absolute p)
     go true = refl
     go false = refl
 
--- two bytes or more
+-- a text of at least two bytes
 pub read-more : (bs : List ℕ) → 2 ≤ length bs → get_or bs 0 0 ≡ 47 → read_path bs ≡ absolute (parts_of (drop 1 bs))
 read-more [] h e = absurd (omega arith)
 read-more (b ∷ []) h e = absurd (omega arith)
@@ -101,7 +101,7 @@ read-no-slash (b ∷ c ∷ bs) h = ap (λ (t : Bool). cond t (absolute (parts_of
 pub read-more-is : (bs : List ℕ) → 2 ≤ length bs → get_or bs 0 0 ≡ 47 → is_absolute (parts_of (drop 1 bs)) ≡ is_some (read_path bs)
 read-more-is bs h e = sym (ap is_some (read-more bs h e) ∙ some-absolute (parts_of (drop 1 bs)))
 
--- what a path that was read is
+-- what is true of a path that was read
 pub record WasRead (bs : List ℕ) : Type 0 where
   pub slash : get_or bs 0 0 ≡ 47
   pub some : 1 ≤ length bs
@@ -153,7 +153,7 @@ each-at test [] k d h b = absurd (omega arith)
 each-at test (x ∷ xs) zero d h b = (and-parts _ _ h).0
 each-at test (x ∷ xs) (suc k) d h b = each-at test xs k d (and-parts _ _ h).1 (omega arith)
 
--- the names so far and one more
+-- the text of the names with one more
 pub names-text-snoc : (p : List (List ℕ)) (c : List ℕ) → names_text (p ++ c ∷ []) ≡ names_text p ++ 47 ∷ c
 names-text-snoc [] c = ap (λ (xs : List ℕ). 47 ∷ xs) (append-nil c)
 names-text-snoc (x ∷ p) c = ap (λ (xs : List ℕ). 47 ∷ x ++ xs) (names-text-snoc p c) ∙ ap (λ (xs : List ℕ). 47 ∷ xs) (sym (append_assoc x (names_text p) (47 ∷ c)))
@@ -169,7 +169,7 @@ pub text-whole : (p : List (List ℕ)) → (p ≡ [] → ⊥) → names_text p �
 text-whole [] h = absurd (h refl)
 text-whole (x ∷ p) h = refl
 
--- a front that was there before
+-- the prefix that was there before
 pub front-kept : (start out more : List ℕ) → out ≡ start ++ more → take (length start) out ≡ start
 front-kept start out more e = ap (take (length start)) e ∙ take-append_seam start more
 
@@ -207,7 +207,7 @@ text-front : (p : List (List ℕ)) (c : List ℕ) → length (path_text p) ≤ l
 text-front [] c = omega arith
 text-front (x ∷ p) c = let e = ap length (names-text-snoc (x ∷ p) c) in omega (arith, length-append (names_text (x ∷ p)) (47 ∷ c))
 
--- the directory of a path that keeps the rule keeps it
+-- the parent of a relative path is a relative path
 pub relative-front : (p : List (List ℕ)) (c : List ℕ) → is_relative (p ++ c ∷ []) ≡ true → is_relative p ≡ true
 relative-front p c h =
     let w : (list_all is_component (p ++ c ∷ []) ≡ true) × (is_short (p ++ c ∷ []) ≡ true) = and-parts _ _ h in

@@ -1,4 +1,4 @@
--- What a reply of the key management service means for the ask that wanted the call.
+-- What a reply of the key management service means for the ask that made the call.
 use Rattle.std.specs.Prelude.{List, [], ◌∷◌, Option, Some, None}
 use Rattle.hk_base.specs.declared.names.Edek.{Edek}
 use Rattle.kms_calls.specs.declared.calls.KmsReply.{KmsReply}
@@ -10,7 +10,7 @@ abbrev pub first_of : List Edek → Option Edek
 first_of [] = None
 first_of (e ∷ edeks) = Some e
 
--- a refusal, or the first encrypted key of a reply that has any
+-- a refusal, or the first encrypted key of the reply, if any
 abbrev pub answer_of : Option KmsReply → KeyAnswer
 answer_of None = answer.Given None
 answer_of (Some (reply.Refused why)) = answer.Refused why

@@ -1,4 +1,4 @@
--- Lists of bytes that are cut at a byte.
+-- Lists of bytes that are split at a byte.
 use Rattle.std.proofs.Common.{◌≡◌, ℕ, ◌+◌, ◌-◌, List, [], ◌∷◌, length, take, drop, refl, ap, sym, ◌∙◌, Some, Bool, false, arith}
 use Rattle.std.specs.List.{slice_split, position, position_or_len, All}
 use Rattle.std.proofs.lemmas.List.{take_rest}

@@ -1,4 +1,4 @@
--- The operation behind a key.
+-- The operation after a key.
 use Rattle.std.proofs.Common.{◌≡◌, ℕ, List, refl, Some, None}
 use Rattle.kms_calls.specs.declared.acl.AclOp.TheVariants as op
 use Rattle.prop_text.specs.declared.setting.AclPlace.{AclPlace}

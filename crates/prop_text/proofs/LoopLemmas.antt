@@ -1,4 +1,4 @@
--- Line after line.
+-- The lines, one after another.
 use Rattle.std.proofs.Common.{◌≡◌, inl, inr, ℕ, ◌+◌, ◌<◌, ◌≤◌, List, [], ◌∷◌, ◌++◌, length, refl, ap, sym, ◌∙◌, subst, Bool, true, false, ◌||◌, cond, Option, Some, None, MatchOption, append-nil, append_assoc, arith, length-append}
 use Rattle.std.specs.List.{IsDistinct}
 use Rattle.std.specs.Str.{bytes_eq}
@@ -33,7 +33,7 @@ adds_line old new line name value what loud cut known adds = inr (
   },
 )
 
--- what was read is what the lines so far say
+-- the lines so far set what was read
 pub record Said (earlier : List (List ℕ)) (now : Reading) : Type 0 where
   pub say : SayAll earlier now.lines
   pub once : IsDistinct bytes_eq (names_set earlier)
@@ -175,7 +175,7 @@ line_fault text rest line more now count (fault.UnknownName n) short so_far is b
 line_fault text rest line more now count fault.TooLong short so_far is bad = absurd bad
 line_fault text rest line more now count fault.NoMemory short so_far is bad = bad
 
--- there is a first line, whatever stands behind it
+-- there is a first line, whatever follows it
 pub some_line : {R : Type 0} (now : R → List ℕ) (rest line : List ℕ) (more : Option R) → MatchOption more (lines_of rest ≡ line ∷ []) (λ r. lines_of rest ≡ line ∷ lines_of (now r)) → (others : List (List ℕ)) × (lines_of rest ≡ line ∷ others)
 some_line now rest line None cut = ([], cut)
 some_line now rest line (Some r) cut = (lines_of (now r), cut)

@@ -10,16 +10,16 @@ here : (names : List (List ℕ)) (part : List ℕ) (more : List (List ℕ)) → 
 here [] part more all = All-head IsName part more all
 here (n ∷ ns) part more all = here ns part more (All-tail IsName n (ns ++ part ∷ more) all)
 
--- a part that is no name
+-- a part that is not a name
 pub bad_part : (parts names : List (List ℕ)) (part : List ℕ) (more : List (List ℕ)) → parts ≡ names ++ part ∷ more → ¬ IsName part → ¬ All IsName parts
 bad_part parts names part more is bad = λ all. bad (here names part more (All-same IsName (names ++ part ∷ more) parts (sym is) all))
 
--- there is a first part, whatever stands behind it
+-- there is a first part, whatever follows it
 pub first_part : (bytes part : List ℕ) (rest : Option (Bor (List ℕ))) → MatchOption rest (slice_split is_comma bytes ≡ part ∷ []) (λ r. slice_split is_comma bytes ≡ part ∷ slice_split is_comma r.now) → (more : List (List ℕ)) × (slice_split is_comma bytes ≡ part ∷ more)
 first_part bytes part None cut = ([], cut)
 first_part bytes part (Some r) cut = (slice_split is_comma r.now, cut)
 
--- some bytes are listed by their parts
+-- bytes that are not empty are split into their parts
 pub listed_parts : (bytes : List ℕ) → (length bytes == 0) ≡ false → listed bytes ≡ slice_split is_comma bytes
 listed_parts [] some = absurd cc
 listed_parts (b ∷ bs) some = refl

@@ -10,28 +10,28 @@ is_comma b = b == 44
 abbrev pub is_space : ℕ → Bool
 is_space b = b == 32
 
--- neither a space nor a comma
+-- not a space and not a comma
 abbrev pub is_plain : ℕ → Bool
 is_plain b = not (is_space b) && not (is_comma b)
 
--- a user or a group: 1 to 255 bytes of UTF-8 without space and comma
+-- a user or a group: 1 to 255 bytes of UTF-8 without spaces and commas
 pub record IsName (bytes : List ℕ) : Type 0 where
   pub some : 0 < length bytes
   pub few : length bytes ≤ 255
   pub plain : IsTrue (list_all is_plain bytes)
   pub text : IsUtf8 bytes
 
--- the parts between commas; no bytes are no part
+-- the parts between commas; empty bytes have no parts
 abbrev pub listed : List ℕ → List (List ℕ)
 listed [] = []
 listed (b ∷ bs) = slice_split is_comma (b ∷ bs)
 
--- the bytes are the list of these names
+-- the bytes list these names
 pub record SpellsNames (bytes : List ℕ) (names : List (List ℕ)) : Type 0 where
   pub parts : listed bytes ≡ names
   pub each : All IsName names
 
--- the parts between spaces are users, or users and groups
+-- one part lists users, and two list users and groups
 abbrev pub SpellsParts : List (List ℕ) → List (List ℕ) → List (List ℕ) → Type 0
 SpellsParts [] users groups = ⊥
 SpellsParts (first ∷ []) users groups = SpellsNames first users × (groups ≡ [])
@@ -48,12 +48,12 @@ pub record SpellsEverybody (bytes : List ℕ) (acl : Acl) : Type 0 where
   pub no_users : acl.users ≡ []
   pub no_groups : acl.groups ≡ []
 
--- anything else: users, and behind a space groups
+-- anything else: users, or users, a space and groups
 pub record SpellsSome (bytes : List ℕ) (acl : Acl) : Type 0 where
   pub no_star : bytes ≢ everybody_text
   pub not_everybody : acl.everybody ≡ false
   pub parts : SpellsParts (slice_split is_space bytes) acl.users acl.groups
 
--- the bytes spell the access control list
+-- the bytes are a text of the access control list
 abbrev pub SpellsAcl : List ℕ → Acl → Type 0
 SpellsAcl bytes acl = SpellsEverybody bytes acl ⊎ SpellsSome bytes acl

@@ -15,11 +15,11 @@ use Rattle.prop_text.specs.declared.setting.SizeName.TheVariants as size
 use Rattle.prop_text.specs.declared.setting.Setting.{Setting}
 use Rattle.prop_text.specs.declared.setting.Setting.TheVariants as setting
 
--- what stands behind a front
+-- the bytes after a prefix
 abbrev pub behind : List ℕ → List ℕ → Option (List ℕ)
 behind front bytes = if bytes_eq (take (length front) bytes) front then Some (drop (length front) bytes) else None
 
--- what stands before an end
+-- the bytes before a suffix
 abbrev pub before : List ℕ → List ℕ → Option (List ℕ)
 before end bytes = if bytes_eq (drop (length bytes - length end) bytes) end then Some (take (length bytes - length end) bytes) else None
 
@@ -70,7 +70,7 @@ default_name name = option_map place.Default (key_op_in (behind (codes "default.
 unfoldable pub whitelist_name : List ℕ → Option AclPlace
 whitelist_name name = option_map place.Whitelist (key_op_in (behind (codes "whitelist.key.acl.") name))
 
--- the name of a key
+-- the bytes, if they are the name of a key
 abbrev pub key_in : Option (List ℕ) → Option (List ℕ)
 key_in None = None
 key_in (Some bytes) = if is_key_name bytes then Some bytes else None
@@ -87,7 +87,7 @@ key_with op bytes = option_map (λ key. place.Key key op) (key_before (op_text o
 unfoldable pub key_all : List ℕ → Option AclPlace
 key_all bytes = option_map place.KeyAll (key_before (codes "ALL") bytes)
 
--- `K.OP`: no operation has a dot, so what stands before the last dot is the key
+-- `K.OP`: no operation has a dot, so the key is all before the last dot
 unfoldable pub key_place : List ℕ → Option AclPlace
 key_place bytes =
     option_or (key_with op.Management bytes)
@@ -108,7 +108,7 @@ key_name name = key_place_in (behind (codes "key.acl.") name)
 unfoldable pub acl_name : List ℕ → Option AclPlace
 acl_name name = option_or (service_name name) (option_or (blacklist_name name) (option_or (key_name name) (option_or (default_name name) (whitelist_name name))))
 
--- 1 to 255 bytes without space and comma
+-- 1 to 255 bytes without spaces and commas
 unfoldable pub is_group_name : List ℕ → Bool
 is_group_name bytes = nat_lt 0 (length bytes) && nat_le (length bytes) 255 && list_all is_plain bytes
 
@@ -132,6 +132,6 @@ size_name name =
     else if bytes_eq name (codes "hkms.cache") then Some size.CacheSize
     else None
 
--- what a name sets; no other name is known
+-- what a name sets; all other names are unknown
 unfoldable pub setting_of : List ℕ → Option Setting
 setting_of name = option_or (option_map setting.List (acl_name name)) (option_or (group_name name) (option_map setting.Size (size_name name)))

@@ -1,4 +1,4 @@
--- The properties text: its lines, what each says, and the first that is at fault.
+-- The properties file: its lines, the meaning of each, and the first fault.
 use Rattle.std.specs.Prelude.{◌≡◌, ◌⊎◌, ℕ, ◌+◌, ◌<◌, ◌≤◌, ◌==◌, Bool, true, false, List, [], ◌∷◌, ◌++◌, length, take, drop, position, Option, None, Some, if◌then◌else◌}
 use Rattle.std.specs.List.{slice_split, flat_map, list_any, IsDistinct}
 use Rattle.std.specs.Option.{option_map}
@@ -20,7 +20,7 @@ use Rattle.prop_text.specs.declared.setting.SizeName.TheVariants as size
 use Rattle.prop_text.specs.declared.setting.Setting.{Setting}
 use Rattle.prop_text.specs.declared.setting.Setting.TheVariants as setting
 
--- a text has at most so many bytes
+-- the greatest length of a text in bytes
 abbrev pub longest_text : ℕ
 longest_text = 1048576
 
@@ -31,21 +31,21 @@ abbrev pub or_all : Option (List ℕ) → List ℕ → List ℕ
 or_all None bytes = bytes
 or_all (Some some) bytes = some
 
--- without the one carriage return at the end, if there is one
+-- without one carriage return at the end, if there is one
 abbrev pub without_cr : List ℕ → List ℕ
 without_cr bytes = or_all (before (13 ∷ []) bytes) bytes
 
--- the last part is not ended by LF, and keeps its carriage return
+-- the last part has no LF at its end, and keeps its carriage return
 abbrev pub ended : List (List ℕ) → List (List ℕ)
 ended [] = []
 ended (last ∷ []) = last ∷ []
 ended (part ∷ next ∷ more) = without_cr part ∷ ended (next ∷ more)
 
--- the lines of a text; what stands behind the last LF is one too
+-- the lines of a text; the part after the last LF is one too
 abbrev pub lines_of : List ℕ → List (List ℕ)
 lines_of text = ended (slice_split is_lf text)
 
--- an empty line and a comment say nothing
+-- an empty line or a comment sets nothing
 abbrev pub is_quiet : List ℕ → Bool
 is_quiet [] = true
 is_quiet (b ∷ bs) = b == 35
@@ -53,11 +53,11 @@ is_quiet (b ∷ bs) = b == 35
 abbrev pub is_equals : ℕ → Bool
 is_equals b = b == 61
 
--- name and value, cut at the first `=`
+-- name and value, split at the first `=`
 abbrev pub cut_at_equals : List ℕ → Option (List ℕ × List ℕ)
 cut_at_equals line = option_map (λ n. (take n line, drop (n + 1) line)) (position is_equals line)
 
--- the line of a list at its place
+-- the line that sets a list
 abbrev pub acl_line : AclPlace → Acl → PropLine
 acl_line (place.Service op) acl = line.Service op acl
 acl_line (place.Blacklist op) acl = line.Blacklist op acl
@@ -84,7 +84,7 @@ pub record SpellsList (place : AclPlace) (value : List ℕ) (prop : PropLine) : 
   pub value_is : SpellsAcl value acl
   pub prop_is : prop ≡ acl_line place acl
 
--- the group's name is UTF-8, as its users' names are
+-- the group's name is UTF-8, like its users' names
 pub record SpellsGroup (name value : List ℕ) (prop : PropLine) : Type 0 where
   pub group : List ℕ
   pub users : List (List ℕ)
@@ -100,7 +100,7 @@ pub record SpellsSize (which : SizeName) (value : List ℕ) (prop : PropLine) : 
   pub value_is : value ≡ decimal number
   pub prop_is : prop ≡ size_line which number
 
--- under a name that sets this, the value says the line
+-- the property that a value gives to a name that sets this
 abbrev pub SpellsValue : Setting → List ℕ → List ℕ → PropLine → Type 0
 SpellsValue (setting.List place) name value prop = SpellsList place value prop
 SpellsValue setting.Group name value prop = SpellsGroup name value prop
@@ -119,7 +119,7 @@ pub record Says (line : List ℕ) (prop : PropLine) : Type 0 where
   pub sets : Sets line name value what
   pub value_is : SpellsValue what name value prop
 
--- the lines say these properties, in order; quiet lines say none
+-- the properties that lines set, in order; quiet lines set none
 abbrev pub SayAll : List (List ℕ) → List PropLine → Type 0
 SayAll [] props = props ≡ []
 SayAll (line ∷ lines) props = ((is_quiet line ≡ true) × SayAll lines props) ⊎ ((prop : PropLine) × (rest : List PropLine) × Says line prop × SayAll lines rest × (props ≡ prop ∷ rest))
@@ -143,7 +143,7 @@ pub record IsUncut (line : List ℕ) : Type 0 where
   pub not_quiet : is_quiet line ≡ false
   pub cut : cut_at_equals line ≡ None
 
--- a known name that no earlier line set, and a value that it does not take
+-- a known name that no earlier line set, with a value that is not allowed for it
 pub record IsBadValue (earlier : List (List ℕ)) (line : List ℕ) : Type 0 where
   pub name : List ℕ
   pub value : List ℕ
@@ -163,7 +163,7 @@ pub record IsRepeated (earlier : List (List ℕ)) (line : List ℕ) : Type 0 whe
   pub sets : Sets line name value what
   pub again : is_among name earlier ≡ true
 
--- a name that is not known
+-- an unknown name
 pub record IsUnknown (earlier : List (List ℕ)) (line : List ℕ) : Type 0 where
   pub name : List ℕ
   pub value : List ℕ
@@ -171,18 +171,18 @@ pub record IsUnknown (earlier : List (List ℕ)) (line : List ℕ) : Type 0 wher
   pub cut : cut_at_equals line ≡ Some (name, value)
   pub unknown : setting_of name ≡ None
 
--- the lines say these properties, and no name is set twice
+-- the lines set these properties, and no name is set twice
 pub record ReadsAs (lines : List (List ℕ)) (props : List PropLine) : Type 0 where
   pub say : SayAll lines props
   pub once : IsDistinct bytes_eq (names_set lines)
 
--- the text is properties, with these lines and sizes
+-- the text has these lines and sizes
 pub record IsProps (text : List ℕ) (props : Props) : Type 0 where
   pub short : length text ≤ longest_text
   pub reads : ReadsAs (lines_of text) props.lines
   pub sizes : props.sizes ≡ sizes_of props.lines
 
--- the lines before the one of this number read, and that one has the fault
+-- all earlier lines are read, and the line of this number has the fault
 pub record IsFirst (text : List ℕ) (number : ℕ) (IsFault : List (List ℕ) → List ℕ → Type 0) : Type 0 where
   pub short : length text ≤ longest_text
   pub earlier : List (List ℕ)

@@ -5,11 +5,11 @@ use Rattle.prop_text.specs.declared.lines.PropLine.{PropLine}
 use Rattle.prop_text.specs.declared.lines.PropLine.TheVariants as line
 use Rattle.prop_text.specs.SizeValues.{SizeValues}
 
--- the sizes where no line gives one
+-- the sizes that are used if no line sets one
 abbrev pub default_sizes : SizeValues
 default_sizes = record { queue = 500; watermark = 150; batch = 1000; cache = 1000 }
 
--- the sizes after a line
+-- the sizes after one more line
 abbrev pub with_line : SizeValues → PropLine → SizeValues
 with_line s (line.QueueSize n) = record { queue = n; watermark = s.watermark; batch = s.batch; cache = s.cache }
 with_line s (line.QueueWatermark n) = record { queue = s.queue; watermark = n; batch = s.batch; cache = s.cache }
@@ -17,7 +17,7 @@ with_line s (line.BatchSize n) = record { queue = s.queue; watermark = s.waterma
 with_line s (line.CacheSize n) = record { queue = s.queue; watermark = s.watermark; batch = s.batch; cache = n }
 with_line s _ = s
 
--- the sizes that lines give, with the defaults for those that none gives
+-- the sizes that lines set, or else the defaults
 abbrev pub sizes_of : List PropLine → SizeValues
 sizes_of lines = fold with_line default_sizes lines
 

@@ -1,4 +1,4 @@
--- One line more of the properties.
+-- One more line of the properties.
 use Rattle.std.specs.Prelude.{◌≡◌, ◌⊎◌, ◌||◌, ℕ, true, false, List, [], ◌∷◌, ◌++◌}
 use Rattle.std.specs.Str.{bytes_eq}
 use Rattle.prop_text.specs.declared.lines.PropLine.{PropLine}
@@ -30,7 +30,7 @@ pub record AddsLine (old new : Reading) (line : List ℕ) : Type 0 where
 abbrev pub ReadsLine : Reading → Reading → List ℕ → Type 0
 ReadsLine old new line = ((is_quiet line ≡ true) × (new ≡ old)) ⊎ ((is_quiet line ≡ false) × AddsLine old new line)
 
--- under a known name the value has the fault
+-- the fault of the value of a known name
 abbrev pub ValueHasFault : List (List ℕ) → ℕ → Setting → List ℕ → List ℕ → PropFault → Type 0
 ValueHasFault earlier number what name value (fault.BadLine n) = (n ≡ number) × (is_among name earlier ≡ false) × ((prop : PropLine) → ¬ SpellsValue what name value prop)
 ValueHasFault earlier number what name value (fault.Repeated n) = (n ≡ number) × (is_among name earlier ≡ true)
@@ -38,7 +38,7 @@ ValueHasFault earlier number what name value (fault.UnknownName n) = ⊥
 ValueHasFault earlier number what name value fault.TooLong = ⊥
 ValueHasFault earlier number what name value fault.NoMemory = Unit {0}
 
--- behind lines that set these names the line of this number has the fault
+-- the fault of the line of this number, after lines that set these names
 abbrev pub LineHasFault : List (List ℕ) → ℕ → List ℕ → PropFault → Type 0
 LineHasFault earlier number line (fault.BadLine n) = (n ≡ number) × IsBadLine earlier line
 LineHasFault earlier number line (fault.Repeated n) = (n ≡ number) × IsRepeated earlier line
