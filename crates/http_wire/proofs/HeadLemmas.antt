@@ -1,4 +1,4 @@
--- Where a head ends, a byte at a time.
+-- The end of a head, one byte at a time.
 use Rattle.std.proofs.Common.{◌≡◌, Bool, true, false, ℕ, ◌+◌, ◌<◌, ◌≤◌, List, [], ◌∷◌, ◌++◌, length, take, sym, ap, subst, ◌∙◌, ⊎_elim, arith, length-append}
 use Rattle.std.proofs.lemmas.List.{take-append-le, take_all}
 use Rattle.std.proofs.lemmas.Bool.{cases_lt, false≢true}
@@ -15,7 +15,7 @@ head_fits bytes ends = ⊎_elim (λ short. ends_fits _ bytes short) (λ long. om
 pub no_end_nil : HasNoEnd []
 no_end_nil n le ends = omega (arith, head_fits [] (subst EndsHead (take_all n [] (omega arith)) ends))
 
--- the fronts of the bytes, up to all but the last byte
+-- the prefixes of the bytes, except all of them
 pub no_end_before : (bytes : List ℕ) (b : ℕ) → HasNoEnd bytes → (n : ℕ) → n ≤ length bytes → ¬ EndsHead (take n (bytes ++ b ∷ []))
 no_end_before bytes b none n le ends = none n le (subst EndsHead (take-append-le n bytes (b ∷ []) le) ends)
 

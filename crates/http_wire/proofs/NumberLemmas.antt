@@ -1,4 +1,4 @@
--- The number that digits say, a digit at a time.
+-- The number that digits write, one digit at a time.
 use Rattle.std.proofs.Common.{◌≡◌, ℕ, ◌+◌, ◌-◌, ◌*◌, ◌^◌, ◌<◌, ◌≤◌, true, List, [], ◌∷◌, length, take, get_or, sym, ap, ◌∙◌, subst, arith, zero, suc}
 use Rattle.std.specs.Char.{is_ascii_digit, digit_value}
 use Rattle.std.specs.List.{list_all}
@@ -19,7 +19,7 @@ digit_value_is b is =
     let high : b < 58 = omega (arith, (digit_bounds b is).1) in
     cond-false _ _ _ (le-ltb b 48 low) ∙ cond-true _ _ _ (lt-ltb b 58 high)
 
--- a front of digits is digits
+-- a prefix of digits consists of digits
 pub digits_front : (digits : List ℕ) (i : ℕ) → list_all is_ascii_digit digits ≡ true → AllDigits 10 (take i digits)
 digits_front [] zero all = tt
 digits_front [] (suc i) all = tt
@@ -28,7 +28,7 @@ digits_front (b ∷ digits) (suc i) all =
     let parts = and_parts (is_ascii_digit b) (list_all is_ascii_digit digits) all in
     (omega (arith, digit_value_is b parts.0, digit_bounds b parts.0), digits_front digits i parts.1)
 
--- One digit more.
+-- One more digit.
 pub record DigitMore (digits : List ℕ) (i number digit : ℕ) : Type 0 where
   pub low : 48 ≤ digit
   pub high : digit ≤ 57

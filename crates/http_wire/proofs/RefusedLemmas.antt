@@ -34,7 +34,7 @@ fault_of_fields fields fault P e = either (list_any (is_named (codes "transfer-e
 pub refuses : (bytes : List ℕ) (fault : WireFault) → Faulty bytes fault → Refuses bytes fault
 refuses bytes fault faulty = fault_of_fields (fields_of faulty.h) fault (λ f. Faulty bytes f → Refuses bytes f) faulty.why (λ h. h) (λ h. h) (λ h. h) faulty
 
--- a head whose fields found room has no more of them
+-- a head whose fields fit has at most 64 of them
 pub found_is_head : (bytes : List ℕ) (headers : List HeaderSpan) (spans : RequestSpans) (h : RequestHead) → FoundHead bytes headers spans h → length headers ≤ 64 → IsHead bytes h
 found_is_head bytes headers spans h found room =
     let front = take spans.headers headers in

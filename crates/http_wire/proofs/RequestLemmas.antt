@@ -30,7 +30,7 @@ stops_in_body old mid new head h parts fault taken has stops = record {
   ended = stops.ended;
 }
 
--- both were read, and there was no memory for the request
+-- both were read, and memory ran out for the request
 pub stops_without_memory : (old mid new : Option (List ℕ)) (head body : List ℕ) (size : ℕ) → TakesHead old mid head → TakesBody mid new size body → Stops old new NoMemory
 stops_without_memory old mid new head body size taken more = record {
   bytes = head ++ body;

@@ -1,4 +1,4 @@
--- The status line, a part at a time.
+-- The status line, part by part.
 use Rattle.std.proofs.Common.{◌≡◌, ℕ, List, ◌++◌, codes, ap, ◌∙◌, append_assoc}
 use Rattle.http.specs.StatusCode.{code_digits}
 use Rattle.http_wire.specs.Responses.{phrase, crlf, status_line}

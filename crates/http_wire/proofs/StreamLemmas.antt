@@ -1,4 +1,4 @@
--- What a connection begins with is determined by its bytes.
+-- The bytes of a connection determine what it begins with.
 use Rattle.std.proofs.Common.{◌≡◌, ℕ, ◌+◌, ◌<◌, ◌≤◌, true, false, cond, ltb, List, [], ◌∷◌, ◌++◌, length, length-append, take, Result, Ok, Err, refl, sym, ap, ◌∙◌, subst, inl, inr, ⊎_elim, arith, append-nil, append_assoc}
 use Rattle.std.specs.Prelude.{◌⊎◌, Option, None, Some, IfOk, IfErr, MatchBool}
 use Rattle.std.specs.Io.KnownBytes.{Consumes}
@@ -14,12 +14,12 @@ use Rattle.http_wire.specs.Message.{Message}
 use Rattle.http_wire.specs.Requests.{SpellsRequest, BeginsHead, BeginsBody, Faulty, Spells, Begins, IsOfBytes, UsedUp, Ended, Takes, Stops, IsExact, HasRequests}
 use Rattle.http_wire.proofs.HeadLemmas.{head_fits}
 
--- ---- heads at the front of bytes
+-- ---- heads at the beginning of bytes
 
 front_is : (front rest : List ℕ) → take (length front) (front ++ rest) ≡ front
 front_is front rest = take-append-le (length front) front rest (omega arith) ∙ take_all (length front) front (omega arith)
 
--- two fronts of the same bytes, of which one is no longer
+-- two prefixes of the same bytes, the first at most as long as the second
 shorter_front : (a b c d : List ℕ) → a ++ b ≡ c ++ d → length a ≤ length c → take (length a) c ≡ a
 shorter_front a b c d same le = sym (take-append-le (length a) c d le) ∙ ap (take (length a)) (sym same) ∙ front_is a b
 
@@ -36,7 +36,7 @@ same_head a b c d same one other =
     (λ apart. absurd (⊎_elim (λ less. not_shorter a b c d same one other less) (λ more. not_shorter c d a b (sym same) other one more) apart))
     (cases_order (length a) (length c))
 
--- bytes with no end of a head have no head at the front
+-- bytes in which no head ends do not begin with a head
 no_head : (used rest head more : List ℕ) → HasNoEnd used → used ++ rest ≡ head ++ more → IsHeadText head → length head ≤ length used → ⊥
 no_head used rest head more none same text le = none (length head) le (subst EndsHead (sym (shorter_front head more used rest (sym same) le)) text.ends)
 
@@ -48,7 +48,7 @@ Outcome = Result Message WireFault
 abbrev NoHead : List ℕ → Type 0
 NoHead all = (head more : List ℕ) → all ≡ head ++ more → ¬ IsHeadText head
 
--- what is answered and used where no head comes
+-- the outcome and the used bytes if no head is read
 abbrev without_head : List ℕ → Outcome × List ℕ
 without_head [] = (Err End, [])
 without_head (b ∷ bytes) = cond (ltb (length (b ∷ bytes)) 16384) (Err EndedEarly, b ∷ bytes) (Err HeadTooLong, take 16384 (b ∷ bytes))
@@ -56,7 +56,7 @@ without_head (b ∷ bytes) = cond (ltb (length (b ∷ bytes)) 16384) (Err EndedE
 abbrev message_of : List ℕ → RequestHead → List ℕ → Message
 message_of head h body = record { method = h.method; target = h.target; body = body; size = length head + length body; keep = keeps h.minor (fields_of h) }
 
--- what is answered and used where a good head came
+-- the outcome and the used bytes after a good head
 abbrev after : List ℕ → RequestHead → List ℕ → Result ℕ WireFault → Outcome × List ℕ
 after head h more (Err fault) = (Err fault, head)
 after head h more (Ok size) = cond (ltb (length more) size) (Err EndedEarly, head ++ more) (Ok (message_of head h (take size more)), head ++ take size more)
@@ -109,7 +109,7 @@ unique_stage all a b one other =
     (λ (headed : Headed all a). ⊎_elim (λ (less : Headless all b). absurd (less.none headed.head headed.more headed.whole headed.text)) (λ (too : Headed all b). unique_headed all a b headed too) other)
     one
 
--- ---- from what is said of the bytes that were used
+-- ---- from the description of the used bytes
 
 message_is : (head : List ℕ) (m : Message) (h : RequestHead) → m.size ≡ length head + length m.body → m.method ≡ h.method → m.target ≡ h.target → m.keep ≡ keeps h.minor (fields_of h) → message_of head h m.body ≡ m
 message_is head m h size method target keep = sym (λ i. record { method = method i; target = target i; body = m.body; size = size i; keep = keep i })
@@ -212,9 +212,9 @@ begins_unique all o p rest left one other =
     let used : other.used ≡ one.used = sym (ap (λ (g : Outcome × List ℕ). g.1) same) in
     (ap (λ (g : Outcome × List ℕ). g.0) same, append_cancel_left one.used rest left (sym one.whole ∙ other.whole ∙ ap (λ (bytes : List ℕ). bytes ++ left) used))
 
--- ---- what a call answers
+-- ---- the answer of a call
 
--- bytes that are told stay told
+-- known bytes stay known
 told : (all used : List ℕ) (new : Option (List ℕ)) → Consumes (Some all) new used → (rest : List ℕ) × (new ≡ Some rest) × (all ≡ used ++ rest)
 told all used None taken = absurd taken
 told all used (Some rest) taken = (rest, refl, taken)

@@ -1,20 +1,20 @@
--- Where the head of a request ends (RFC 9112, section 2.2), and what it says.
+-- The end of a request's head (RFC 9112, section 2.2), and its content.
 use Rattle.std.specs.Prelude.{◌≡◌, ◌⊎◌, ℕ, ◌<◌, ◌≤◌, List, [], ◌∷◌, ◌++◌, length, take}
 use Rattle.httparse.specs.Grammar.{RequestHead, ReadsRequest}
 
--- these bytes stand at the end
+-- the bytes end with this tail
 abbrev pub EndsIn : List ℕ → List ℕ → Type 0
 EndsIn tail bytes = (front : List ℕ) × (bytes ≡ front ++ tail)
 
--- an empty line stands at the end: LF LF, or LF CR LF
+-- the bytes end with an empty line: LF LF, or LF CR LF
 abbrev pub EndsHead : List ℕ → Type 0
 EndsHead bytes = EndsIn (10 ∷ 10 ∷ []) bytes ⊎ EndsIn (10 ∷ 13 ∷ 10 ∷ []) bytes
 
--- no front of the bytes ends so
+-- no prefix of the bytes ends a head
 abbrev pub HasNoEnd : List ℕ → Type 0
 HasNoEnd bytes = (n : ℕ) → n ≤ length bytes → ¬ EndsHead (take n bytes)
 
--- The bytes of a head: they end with its first empty line, and are at most 16,384.
+-- The bytes of a head: at most 16,384, up to the first empty line.
 pub record IsHeadText (bytes : List ℕ) : Type 0 where
   pub ends : EndsHead bytes
   pub first : (n : ℕ) → n < length bytes → ¬ EndsHead (take n bytes)

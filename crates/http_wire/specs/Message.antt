@@ -1,4 +1,4 @@
--- A request, as contracts see it.
+-- The view of a request in contracts.
 use Rattle.std.specs.Prelude.{ℕ, List, Bool}
 
 pub record Message : Type 0 where
@@ -6,7 +6,7 @@ pub record Message : Type 0 where
   -- the request target, UTF-8
   pub target : List ℕ
   pub body : List ℕ
-  -- how many bytes it has, head and body
+  -- the length of the head and the body in bytes
   pub size : ℕ
   -- whether the connection is kept for another request
   pub keep : Bool

@@ -1,4 +1,4 @@
--- Where the parts of a request stand in its head.
+-- The positions of the parts of a request in its head.
 use Rattle.std.specs.Prelude.{◌≡◌, ℕ, ◌+◌, List, [], length, Ok}
 use Rattle.httparse.specs.Grammar.{RequestHead, ReadsRequest}
 use Rattle.httparse.specs.Spans.{IsWithin, IsRequestWithin, IsRequestAt, span_bytes}
@@ -9,13 +9,13 @@ use Rattle.http_wire.specs.Fields.{fields_of, body_length, keeps}
 use Rattle.http_wire.specs.Heads.{IsHead}
 use Rattle.http_wire.specs.Message.{Message}
 
--- The spans are those of a head that all these bytes are.
+-- All of these bytes are one head, and these are its spans.
 pub record FoundHead (bytes : List ℕ) (headers : List HeaderSpan) (spans : RequestSpans) (h : RequestHead) : Type 0 where
   pub reads : ReadsRequest bytes h []
   pub within : IsRequestWithin bytes headers spans
   pub at : IsRequestAt bytes headers spans h
 
--- The parts are those of a head that all these bytes are.
+-- All of these bytes are one head, and these are its parts.
 pub record HasParts (bytes : List ℕ) (h : RequestHead) (parts : Parts) : Type 0 where
   pub is : IsHead bytes h
   pub method_within : IsWithin (length bytes) parts.method

@@ -1,14 +1,14 @@
--- Bytes of a source that were read and not used yet.
+-- Bytes of a source that were read and are not used yet.
 use Rattle.std.specs.Prelude.{List, ℕ, [], ◌∷◌, Option}
 use Rattle.std.specs.Io.KnownBytes.{prepend_known}
 use Rattle.http_wire.specs.declared.scratch.Next.{Next}
 use Rattle.http_wire.specs.declared.scratch.Next.TheVariants.{Byte, End, Fault}
 
--- all that is to come, where the source tells it
+-- all bytes to come, if the source's are known
 abbrev pub ahead : List ℕ → Option (List ℕ) → Option (List ℕ)
 ahead pending left = prepend_known pending left
 
--- the byte that was used, if one was
+-- the byte that was used, if any
 abbrev pub byte_used : Next → List ℕ
 byte_used (Byte b) = b ∷ []
 byte_used End = []

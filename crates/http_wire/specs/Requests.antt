@@ -1,4 +1,4 @@
--- What the bytes of a connection say, up to where a request or a fault ends.
+-- What the bytes of a connection mean, up to the end of a request or a fault.
 use Rattle.std.specs.Prelude.{◌≡◌, ◌⊎◌, ℕ, ◌<◌, List, [], ◌∷◌, ◌++◌, length, Result, Ok, Err, Option, None, Some, MatchBool}
 use Rattle.std.specs.Io.KnownBytes.{Consumes, IsAtEnd}
 use Rattle.httparse.specs.Grammar.{RequestHead}
@@ -13,7 +13,7 @@ pub record SpellsHead (bytes : List ℕ) (h : RequestHead) : Type 0 where
   pub text : IsHeadText bytes
   pub is : IsHead bytes h
 
--- The bytes are a request: a head, and a body of the length that it declares.
+-- The bytes are a request: a head, and a body of the declared length.
 pub record SpellsRequest (bytes : List ℕ) (message : Message) : Type 0 where
   pub head : List ℕ
   pub h : RequestHead
@@ -31,13 +31,13 @@ pub record Faulty (bytes : List ℕ) (fault : WireFault) : Type 0 where
   pub is : IsHead bytes h
   pub why : body_length (fields_of h) ≡ Err fault
 
--- The bytes begin a head, and it does not end.
+-- The bytes begin a head that does not end.
 pub record BeginsHead (bytes : List ℕ) : Type 0 where
   pub some : 0 < length bytes
   pub few : length bytes < 16384
   pub no_end : HasNoEnd bytes
 
--- The bytes are a head and less of a body than it declares.
+-- The bytes are a head and less than the declared body.
 pub record BeginsBody (bytes : List ℕ) : Type 0 where
   pub head : List ℕ
   pub body : List ℕ
@@ -60,7 +60,7 @@ Refuses bytes EndedEarly = ⊥
 Refuses bytes ReadFault = ⊥
 Refuses bytes NoMemory = ⊥
 
--- what the bytes that were used are, for each outcome
+-- what the used bytes are, for each outcome
 abbrev pub Spells : List ℕ → Result Message WireFault → Type 0
 Spells used (Ok message) = SpellsRequest used message
 Spells used (Err End) = used ≡ []
@@ -73,7 +73,7 @@ Spells used (Err BodyTooLong) = IsHeadText used × Refuses used BodyTooLong
 Spells used (Err ReadFault) = Unit {0}
 Spells used (Err NoMemory) = Unit {0}
 
--- after these faults no byte is left
+-- after these faults no bytes are left
 abbrev pub Ended : WireFault → Option (List ℕ) → Type 0
 Ended End left = IsAtEnd left
 Ended EndedEarly left = IsAtEnd left
@@ -96,19 +96,19 @@ pub record Takes (old new : Option (List ℕ)) (message : Message) : Type 0 wher
   pub used : Consumes old new bytes
   pub spells : SpellsRequest bytes message
 
--- No request was read; these bytes were used and are why.
+-- No request was read; these bytes were used, and they are the reason.
 pub record Stops (old new : Option (List ℕ)) (fault : WireFault) : Type 0 where
   pub bytes : List ℕ
   pub used : Consumes old new bytes
   pub spells : Spells bytes (Err fault)
   pub ended : Ended fault new
 
--- A body of that many bytes was read, and its bytes were used.
+-- A body of this length was read, and its bytes were used.
 pub record TakesBody (old new : Option (List ℕ)) (size : ℕ) (body : List ℕ) : Type 0 where
   pub used : Consumes old new body
   pub whole : length body ≡ size
 
--- what the bytes of a body that were used are, where it was not read whole
+-- what the used bytes of a body are, if it was not read whole
 abbrev pub CutsBody : ℕ → List ℕ → WireFault → Type 0
 CutsBody size used EndedEarly = length used < size
 CutsBody size used ReadFault = Unit {0}
@@ -127,7 +127,7 @@ pub record StopsInBody (old new : Option (List ℕ)) (size : ℕ) (fault : WireF
   pub cuts : CutsBody size bytes fault
   pub ended : Ended fault new
 
--- the outcome is one of the bytes, and not of the outside
+-- the outcome depends on the bytes alone
 abbrev pub IsOfBytes : Result Message WireFault → Type 0
 IsOfBytes (Ok message) = Unit {0}
 IsOfBytes (Err End) = Unit {0}
@@ -140,12 +140,12 @@ IsOfBytes (Err EndedEarly) = Unit {0}
 IsOfBytes (Err ReadFault) = ⊥
 IsOfBytes (Err NoMemory) = ⊥
 
--- nothing is left behind an outcome that says so
+-- no bytes are left after an outcome that implies it
 abbrev pub UsedUp : Result Message WireFault → List ℕ → Type 0
 UsedUp (Ok message) rest = Unit {0}
 UsedUp (Err fault) rest = Ended fault (Some rest)
 
--- What these bytes begin with, and what is left behind it.
+-- What these bytes begin with, and what is left after it.
 pub record Begins (all : List ℕ) (outcome : Result Message WireFault) (rest : List ℕ) : Type 0 where
   pub used : List ℕ
   pub whole : all ≡ used ++ rest
@@ -153,12 +153,12 @@ pub record Begins (all : List ℕ) (outcome : Result Message WireFault) (rest : 
   pub spells : Spells used outcome
   pub ended : UsedUp outcome rest
 
--- Where the bytes to come are told, what they begin with is the answer, and what is left behind it is still to come,
--- however the bytes are cut into reads: unless the source failed or memory was wanting.
+-- If the bytes to come are known, the answer is what they begin with, and the rest after it is still to come,
+-- in whatever blocks they are read, unless the source failed or memory ran out.
 abbrev pub IsExact : Option (List ℕ) → Option (List ℕ) → Result Message WireFault → Type 0
 IsExact old new result = (all : List ℕ) (outcome : Result Message WireFault) (rest : List ℕ) → old ≡ Some all → Begins all outcome rest → IsOfBytes result → (result ≡ outcome) × (new ≡ Some rest)
 
--- the requests of these bytes, up to the first that closes the connection or the first fault
+-- the requests of these bytes, up to the first one that closes the connection or the first fault
 abbrev pub HasRequests : List ℕ → List Message → Option WireFault → Type 0
 HasRequests all [] None = ⊥
 HasRequests all [] (Some fault) = (rest : List ℕ) × Begins all (Err fault) rest

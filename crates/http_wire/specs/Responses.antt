@@ -2,7 +2,7 @@
 use Rattle.std.specs.Prelude.{ℕ, List, [], ◌∷◌, ◌++◌, Bool, ◌||◌, ◌==◌, codes, decimal, length, unwrap_or, IsTrue}
 use Rattle.http.specs.StatusCode.{code_digits, reason_phrase}
 
--- the statuses that the services answer with
+-- the statuses of responses
 abbrev pub is_status : ℕ → Bool
 is_status n = n == 200 || n == 201 || n == 400 || n == 401 || n == 403 || n == 404 || n == 405 || n == 409 || n == 413 || n == 431 || n == 500 || n == 501 || n == 503
 

@@ -1,4 +1,4 @@
--- Steps of writing, one behind the other.
+-- Steps of writing, one after another.
 use Rattle.std.proofs.Common.{◌≡◌, ℕ, ◌+◌, ◌<◌, ◌≤◌, List, [], ◌∷◌, ◌++◌, length, get_or, take, refl, ap, sym, subst, ◌∙◌, append_assoc, append-nil, Result, Ok, Err, OnOk}
 use Rattle.std.proofs.lemmas.List.{take_all, take_more}
 use Rattle.hk_base.specs.declared.texts.NoMemory.{NoMemory}
@@ -21,7 +21,7 @@ adds_then {a = a} {b = b} {old = old} first next = record {
 pub adds_none : (w : Written) → Adds [] w w
 adds_none w = record { tokens = sym (append-nil w.tokens); before = refl }
 
--- the tokens of each row, one behind the other
+-- the tokens of the rows, one after another
 abbrev pub tokens_each : {A : Type 0} → (A → Data) → List A → List Token
 tokens_each data_of [] = []
 tokens_each data_of (row ∷ rows) = tokens_of (data_of row) ++ tokens_each data_of rows

@@ -8,7 +8,7 @@ use Rattle.kms_json.specs.Bodies.{IsBody, StandsFor}
 unsome : {d e : Data} → Some d ≡ Some e → d ≡ e
 unsome same = cc
 
--- the value of a body that is one
+-- a body has at most one value
 one_value : (body : List ℕ) (d e : Data) → IsBody body d → IsBody body e → d ≡ e
 one_value body d e first second = unsome (sym first.1 ∙ second.1)
 
@@ -22,7 +22,7 @@ both_give reading body a b x y = sym x.1.1 ∙ ap reading (one_value body x.0 y.
 no_json_gives : {A : Type 0} (reading : Data → Result A JsonFault) (body : List ℕ) (b : Result A JsonFault) → StandsFor {A = A} reading body (Err fault.NotJson) → Gives reading body b → Err fault.NotJson ≡ b
 no_json_gives reading body b x y = sym (x y.0 y.1.0) ∙ y.1.1
 
--- either a value of the body gives the answer, or it is NotJson, or memory was wanting
+-- a value of the body gives the answer, or it is NotJson, or memory ran out
 against_given : {A : Type 0} (reading : Data → Result A JsonFault) (body : List ℕ) (a b : Result A JsonFault)
     → Gives reading body a → StandsFor reading body b → ¬ (b ≡ Err fault.NoMemory) → a ≡ b
 against_given reading body a (Ok y) x s other = both_give reading body a (Ok y) x s

@@ -1,4 +1,4 @@
--- A text is the base64 of one byte string at most, whatever its alphabet and its padding.
+-- A text is the base64 of at most one byte string, whatever its alphabet and padding.
 use Rattle.std.proofs.Common.{◌≡◌, ℕ, zero, suc, ◌+◌, ◌*◌, ◌/◌, ◌%◌, ◌<◌, ◌==◌, Bool, true, not, ◌&&◌, List, [], ◌∷◌, ◌++◌, length, Option, None, Some, Result, Ok, Err, refl, ap, ap₂, sym, ◌∙◌, arith, inl, inr, ◌⊎◌}
 use Rattle.std.specs.Prelude.{if◌then◌else◌, replicate, slice_index}
 use Rattle.std.specs.List.{list_all}
@@ -45,7 +45,7 @@ same_place t u i j table other below low same = sym (value_at t i table below) �
 no_pad : (t : List ℕ) (i : ℕ) → IsTable t → i < 64 → not (slice_index t i == 61) ≡ true
 no_pad t i table below = (and_parts _ _ (symbol_at t i table below)).1
 
--- three bytes by their four parts of six bits
+-- three bytes from their four groups of six bits
 
 first_is : (a b x y : ℕ) → a < 256 → b < 256 → x < 256 → y < 256 → a / 4 ≡ x / 4 → a % 4 * 16 + b / 16 ≡ x % 4 * 16 + y / 16 → a ≡ x
 first_is a b x y ha hb hx hy high low = omega arith

@@ -9,11 +9,11 @@ use Rattle.kms_json.specs.declared.faults.JsonFault.{JsonFault}
 use Rattle.kms_json.specs.Members.{and_then}
 use Rattle.kms_json.specs.Bodies.{element_of, elements_of}
 
--- what stands behind what was read before
+-- the elements that were read before, and then these
 abbrev pub behind : List RawEdek → Result (List RawEdek) JsonFault → Result (List RawEdek) JsonFault
 behind sent rest = and_then rest (λ more. Ok (sent ++ more))
 
--- the elements from a place on
+-- the elements from an index on
 abbrev pub from_place : List Value → ℕ → Result (List RawEdek) JsonFault
 from_place values place = elements_of (items_view (drop place values))
 

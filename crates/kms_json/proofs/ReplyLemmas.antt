@@ -1,4 +1,4 @@
--- The text of a writer that wrote a reply.
+-- The text of a writer after it wrote a reply.
 use Rattle.std.proofs.Common.{◌≡◌, [], ◌++◌, Option, None, Some, refl, ap, ◌∙◌}
 use Rattle.json.specs.Print.{print, print_from}
 use Rattle.json.specs.Written.{Written}

@@ -1,4 +1,4 @@
--- The text of a version names that version, and no other text names one.
+-- The text of a version names that version, and no other text does.
 use Rattle.std.proofs.Common.{◌≡◌, ℕ, ◌+◌, ◌^◌, ◌<◌, ◌≤◌, ap₂, List, ◌∷◌, ◌++◌, length, take, drop, get_or, Bool, true, false, ◌&&◌, Option, Some, None, refl, ap, sym, subst, ◌∙◌, arith, append_assoc, length-append, length-drop, codes, nat_lt}
 use Rattle.std.specs.List.{list_all, position_or_len, before_first, after_first}
 use Rattle.std.specs.Fmt.{decimal}
@@ -44,7 +44,7 @@ decimal_of_number digits n is =
     ] in
     cases refl
 
--- where the sign stands
+-- the place of the sign
 
 bytes_may_stand : (key : List ℕ) → IsKeyName key → list_all is_name_byte key ≡ true
 bytes_may_stand key name = (and_parts _ _ name).1
@@ -89,7 +89,7 @@ digits_are key number name = ap (λ n. drop (n + 1) (version_text key number)) (
 pub named_by_text : (key : List ℕ) (number : ℕ) → IsKeyName key → number < 2 ^ 16 → version_named (version_text key number) ≡ Some (version_of key number)
 named_by_text key number name small = rw (key_is key number name, digits_are key number name, name, number_of_decimal number small)
 
--- a text that names a version is its text
+-- a text that names a version is the version's text
 
 record Parts (text : List ℕ) (v : Version) : Type 0 where
   pub key_named : is_key_name (before_first is_at_sign text) ≡ true
@@ -133,7 +133,7 @@ text_of_named text v is =
           ∙ sym (append_assoc v.key (codes "@") (decimal v.number)),
     )
 
--- what reading a version answers
+-- the result of reading a version
 
 pub found_named : (text : List ℕ) (v : Version) → v.number < 2 ^ 16 → IsKeyName v.key → text ≡ version_text v.key v.number → Some v ≡ version_named text
 found_named text v small name is = sym (ap version_named is ∙ named_by_text v.key v.number name small)

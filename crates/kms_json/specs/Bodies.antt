@@ -1,4 +1,4 @@
--- What a body stands for: a call of the key management service, or the first fault of its members.
+-- The meaning of a body: a call of the key management service, or the first fault of its members.
 use Rattle.std.specs.Prelude.{◌≡◌, ℕ, nat_le, List, [], ◌∷◌, length, Option, None, Some, option_and_then, is_some, Result, Ok, Err, codes, if◌then◌else◌, IsUtf8, ⊤}
 use Rattle.std.specs.Option.{ok_or}
 use Rattle.std.specs.Str.{bytes_eq}
@@ -21,7 +21,7 @@ use Rattle.kms_json.specs.Versions.{version_named}
 abbrev pub IsBody : List ℕ → Data → Type 0
 IsBody body d = IsUtf8 body × (read body ≡ Some d)
 
--- a body at fault: it is no JSON value that this reading takes, or its value has the fault. Memory may be wanting for any body.
+-- a body with a fault: it is not JSON that this reading takes, or its value has the fault; memory may run out for any body
 abbrev pub IsAtFault : {A : Type 0} → (Data → Result A JsonFault) → List ℕ → JsonFault → Type 0
 IsAtFault reading body fault.NotJson = (d : Data) → IsBody body d → reading d ≡ Err fault.NotJson
 IsAtFault reading body (fault.Missing m) = (d : Data) × (IsBody body d × (reading d ≡ Err (fault.Missing m)))
@@ -29,12 +29,12 @@ IsAtFault reading body (fault.BadBase64 m) = (d : Data) × (IsBody body d × (re
 IsAtFault reading body (fault.BadValue m) = (d : Data) × (IsBody body d × (reading d ≡ Err (fault.BadValue m)))
 IsAtFault reading body fault.NoMemory = ⊤
 
--- what the body stands for by this reading of its value
+-- the meaning of the body by this reading of its value
 abbrev pub StandsFor : {A : Type 0} → (Data → Result A JsonFault) → List ℕ → Result A JsonFault → Type 0
 StandsFor reading body (Ok a) = (d : Data) × (IsBody body d × (reading d ≡ Ok a))
 StandsFor reading body (Err e) = IsAtFault reading body e
 
--- a reading that takes objects alone
+-- a reading that takes only objects
 abbrev pub in_object : {A : Type 0} → JsonFault → Data → Result A JsonFault → Result A JsonFault
 in_object otherwise d r = if is_some (as_object d) then r else Err otherwise
 
@@ -54,7 +54,7 @@ cipher_given (Some d) = and_then (text_in of.Cipher d) (is_text (codes "AES/CTR/
 abbrev pub cipher_in : Data → Result ⊤ JsonFault
 cipher_in d = cipher_given (given (codes "cipher") d)
 
--- a whole number that is written without sign, point and exponent
+-- a whole number without a sign, a point or an exponent; 128 if absent
 abbrev pub length_given : Option Data → Result ℕ JsonFault
 length_given None = Ok 128
 length_given (Some d) = ok_or (option_and_then as_u64 (as_number d)) (fault.BadValue of.Length)
@@ -89,7 +89,7 @@ create_of d = in_object fault.NotJson d (create_members d)
 abbrev pub roll_of : List ℕ → Data → Result KmsCall JsonFault
 roll_of name d = in_object fault.NotJson d (and_then (material_in d) (λ material. Ok (call.Roll name material)))
 
--- an empty body is as an object without members
+-- an empty body is read as an object without members
 abbrev pub or_no_members : List ℕ → List ℕ
 or_no_members [] = codes "{}"
 or_no_members (b ∷ bs) = b ∷ bs
@@ -114,7 +114,7 @@ sealed_members d =
     and_then (and_then (needed_text (codes "versionName") of.VersionName d) (is_text (codes "EEK") of.VersionName))
     (λ _. needed_bytes (codes "material") of.Material d)
 
--- the sealed bytes inside an element
+-- the sealed bytes of an element
 abbrev pub sealed_of : Data → Result (List ℕ) JsonFault
 sealed_of d = in_object (fault.BadValue of.EncryptedKeyVersion) d (sealed_members d)
 

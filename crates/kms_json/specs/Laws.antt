@@ -1,4 +1,4 @@
--- What follows of bodies and of base64 texts.
+-- Properties of bodies and of base64 texts.
 use Rattle.std.specs.Prelude.{◌≡◌, ◌<◌, ◌^◌, ℕ, List, None, Some, Result, Err}
 use Rattle.serde_json.specs.Data.{Data}
 use Rattle.base64.specs.GeneralPurpose.{IsBytes}
@@ -11,7 +11,7 @@ use Rattle.kms_json.specs.Base64.{IsBase64, base64_bytes}
 use Rattle.kms_json.specs.Bodies.{StandsFor}
 use Rattle.kms_json.specs.Versions.{version_named}
 
--- a body has one answer, want of memory aside
+-- a body has one answer, except for lack of memory
 abbrev pub OneCall : Type 0
 OneCall = (reading : Data → Result KmsCall JsonFault) (body : List ℕ) (a b : Result KmsCall JsonFault)
     → StandsFor reading body a → StandsFor reading body b → ¬ (a ≡ Err fault.NoMemory) → ¬ (b ≡ Err fault.NoMemory) → a ≡ b
@@ -20,15 +20,15 @@ abbrev pub OneEek : Type 0
 OneEek = (reading : Data → Result EekBody JsonFault) (body : List ℕ) (a b : Result EekBody JsonFault)
     → StandsFor reading body a → StandsFor reading body b → ¬ (a ≡ Err fault.NoMemory) → ¬ (b ≡ Err fault.NoMemory) → a ≡ b
 
--- the bytes that a text gives are bytes that it is the base64 of
+-- a text is the base64 of the bytes that it gives
 abbrev pub BytesAreSpelled : Type 0
 BytesAreSpelled = (text bytes : List ℕ) → IsBytes text → base64_bytes text ≡ Some bytes → IsBase64 text bytes
 
--- a text that is the base64 of bytes gives bytes
+-- a text that is the base64 of some bytes gives bytes
 abbrev pub SpelledGives : Type 0
 SpelledGives = (text bytes : List ℕ) → IsBytes text → IsBytes bytes → IsBase64 text bytes → ¬ (base64_bytes text ≡ None)
 
--- a text is the base64 of one byte string at most, whatever its form
+-- a text is the base64 of at most one byte string, in whatever form
 abbrev pub SpelledOnce : Type 0
 SpelledOnce = (text a b : List ℕ) → IsBytes a → IsBytes b → IsBase64 text a → IsBase64 text b → a ≡ b
 

@@ -1,4 +1,4 @@
--- Members of a JSON object, and what their values give.
+-- Members of a JSON object and their values.
 use Rattle.std.specs.Prelude.{ℕ, List, Option, None, Some, option_and_then, Result, Ok, Err}
 use Rattle.std.specs.Option.{ok_or}
 use Rattle.serde_json.specs.Data.{Data, null, boolean, number, string, array, object}
@@ -8,12 +8,12 @@ use Rattle.kms_json.specs.declared.faults.JsonFault.TheVariants as fault
 use Rattle.kms_json.specs.declared.faults.Member.{Member}
 use Rattle.kms_json.specs.Base64.{base64_bytes}
 
--- what follows from a value, or the fault that came before it
+-- the next step on a value, or the earlier fault
 abbrev pub and_then : {A B : Type 0} → Result A JsonFault → (A → Result B JsonFault) → Result B JsonFault
 and_then (Ok a) next = next a
 and_then (Err e) next = Err e
 
--- a member that is null is as absent
+-- a null member counts as absent
 abbrev pub unless_null : Data → Option Data
 unless_null null = None
 unless_null (boolean b) = Some (boolean b)

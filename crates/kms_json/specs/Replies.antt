@@ -1,4 +1,4 @@
--- The one text of a reply: compact JSON, with the members of each object in byte order of name.
+-- The one text of a reply: compact JSON, with the members of each object in byte order of their names.
 use Rattle.std.specs.Prelude.{ℕ, List, [], Option, None, Some, map, codes}
 use Rattle.serde_json.specs.Data.{Data, Members, array, member, no_members, number, object, string, unsigned}
 use Rattle.serde_json.specs.View.{items_of}
@@ -25,7 +25,7 @@ version_data version = string (version_text version.key version.number)
 abbrev pub name_of_version : Version → Members
 name_of_version version = member (codes "name") (version_data version) no_members
 
--- a version, with its material unless that is hidden
+-- a version, with its material unless it is hidden
 abbrev pub shown_data : Version → Option (List ℕ) → Data
 shown_data version None = object (name_of_version version)
 shown_data version (Some material) = object (member (codes "material") (bytes_data material) (name_of_version version))
@@ -91,7 +91,7 @@ reply_data (reply.Resealed edek) = Some (edek_data edek)
 reply_data (reply.Key key) = Some (key_data key)
 reply_data (reply.Refused why) = Some (refusal_data why)
 
--- no value is no bytes
+-- the text of a value; without a value it is empty
 abbrev pub text_of : Option Data → List ℕ
 text_of None = []
 text_of (Some d) = compact_text d

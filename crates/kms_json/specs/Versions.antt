@@ -5,7 +5,7 @@ use Rattle.std.specs.Str.{bytes_eq}
 use Rattle.std.specs.Str.Parse.{digits_value}
 use Rattle.hk_base.specs.Names.{Version, is_at_sign, is_key_name}
 
--- the number below 2^16 that has these digits as its one decimal spelling
+-- the number below 2^16 whose one decimal text is these digits
 abbrev pub number_named : List ℕ → Option ℕ
 number_named digits =
     if nat_lt (digits_value 10 digits) (2 ^ 16) && bytes_eq (decimal (digits_value 10 digits)) digits
@@ -14,7 +14,7 @@ number_named digits =
 abbrev pub version_of : List ℕ → ℕ → Version
 version_of key number = record { key = key; number = number }
 
--- the name of the key stands before the first `@`, and the number behind it
+-- the key's name is before the first `@`, and the number after it
 abbrev pub version_named : List ℕ → Option Version
 version_named text =
     if is_key_name (before_first is_at_sign text)

@@ -9,7 +9,7 @@ use Rattle.serde_json.specs.Written.{outline}
 abbrev pub tokens_of : Data → List Token
 tokens_of d = json_tokens (outline d)
 
--- these tokens came behind the others
+-- these tokens were appended
 pub record Adds (added : List Token) (old new : Written) : Type 0 where
   pub tokens : new.tokens ≡ old.tokens ++ added
   pub before : new.before ≡ old.before

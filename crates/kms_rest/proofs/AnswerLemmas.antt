@@ -1,4 +1,4 @@
--- A request says one thing.
+-- A request has one meaning.
 use Rattle.std.proofs.Common.{◌≡◌, ◌≢◌, ◌⊎◌, inl, inr, ℕ, List, [], ◌∷◌, codes, Some, true, false, Result, Ok, Err, refl, sym, ap, ◌∙◌, subst}
 use Rattle.std.specs.Str.{bytes_eq}
 use Rattle.std.proofs.lemmas.Slice.Eq.{bytes_eq-Decides}
@@ -28,7 +28,7 @@ use Rattle.kms_rest.specs.Requests.{Asks, HasNoUser, IsBadRequest, Names, Says, 
 use Rattle.kms_rest.specs.Laws.{SaysOneThing}
 use Rattle.kms_rest.proofs.RouteLemmas.{AreBytes, same_route}
 
--- ---- a fault of a part of the request as one of the request
+-- ---- a fault of a part as a fault of the request
 
 pub said_unrouted : (request : Message) (e : RestFault) → IsUnrouted request.method (path_of request.target) e → Says request (Err e)
 said_unrouted request fault.NoRoute h = h
@@ -47,7 +47,7 @@ no_user_named ps user is (inr empty) = is.some (unhead user [] (sym is.once ∙ 
     unhead : (u v : List ℕ) → u ∷ [] ≡ v ∷ [] → u ≡ v
     unhead u v e = cc
 
--- What a request's query and body are called where it is read: n the name, ps the parameters, b the body.
+-- The names of a request's query and body while it is read: n the name, ps the parameters, b the body.
 pub record IsRead (request : Message) (operation : Operation) (part n b : List ℕ) (ps : List Parameter) : Type 0 where
   pub routes : Routes request.method (path_of request.target) operation part
   pub decoded : n ≡ percent_decode part
@@ -201,7 +201,7 @@ not_both laws op.Names name ps body a x y = absurd y
 not_both laws op.Metadatas name ps body a x (inl y) = x.0 y
 not_both laws op.Metadatas name ps body a x (inr y) = y x.1.0
 
--- ---- one answer
+-- ---- one meaning
 
 same_names : (request : Message) → AreBytes (path_of request.target) → (o q : Operation) (m n : List ℕ) → Names request o m → Names request q n → (o ≡ q) × (m ≡ n)
 same_names request h o q m n x y =

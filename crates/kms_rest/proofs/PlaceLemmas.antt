@@ -1,5 +1,5 @@
--- A path that has the segments of a place is one of the place as a text, and the other way round; and which
--- operations stand at which places.
+-- A path that has the segments of a place belongs to it as a text, and the other way round; and which operation
+-- is at which place.
 use Rattle.std.proofs.Common.{◌≡◌, ◌≢◌, ℕ, List, [], ◌∷◌, ◌++◌, codes, Some, None, refl, sym, ap, ◌∙◌, append-nil, drop, subst}
 use Rattle.path_routes.specs.Shapes.{Fits, Shape, filled, segments}
 use Rattle.path_routes.proofs.SegmentLemmas.{path-filled, clear-filled, segments-end, segments-cut}
@@ -12,7 +12,7 @@ use Rattle.kms_rest.specs.declared.place.Verb.TheVariants as verb
 use Rattle.kms_rest.specs.Operations.{method_of, shape_of}
 use Rattle.kms_rest.specs.Places.{IsAt, after, before, operation_at, verb_of}
 
--- the segments of a place's paths: a text, or the open part
+-- the segments of a place's paths: texts, and the open part
 abbrev pub shape_at : Place → Shape
 shape_at at.Keys = Some [] ∷ Some (codes "kms") ∷ Some (codes "v1") ∷ Some (codes "keys") ∷ []
 shape_at at.Key = Some [] ∷ Some (codes "kms") ∷ Some (codes "v1") ∷ Some (codes "key") ∷ None ∷ []
@@ -61,7 +61,7 @@ to_segments path at.VersionEek k f = (ap segments f.0 ∙ ap (in_front at.Versio
 to_segments path at.Names k f = (ap segments (f.0 ∙ ap (λ z. before at.Names ++ (z ++ [])) f.1), f.1)
 to_segments path at.Metadatas k f = (ap segments (f.0 ∙ ap (λ z. before at.Metadatas ++ (z ++ [])) f.1), f.1)
 
--- the place where an operation stands
+-- the place of an operation
 abbrev pub place_of : Operation → Place
 place_of op.Create = at.Keys
 place_of op.Roll = at.Key
@@ -92,7 +92,7 @@ shape_of_place op.Eek = refl
 shape_of_place op.Names = refl
 shape_of_place op.Metadatas = refl
 
--- an operation stands at its place under its method
+-- an operation is at its place for its method
 pub stands_there : (operation : Operation) → operation_at (place_of operation) (verb_of (method_of operation)) ≡ Some operation
 stands_there op.Create = refl
 stands_there op.Roll = refl
@@ -108,14 +108,14 @@ stands_there op.Eek = refl
 stands_there op.Names = refl
 stands_there op.Metadatas = refl
 
--- the text of a method that the service has operations under
+-- the text of a method that has operations
 abbrev pub text_of : Verb → List ℕ
 text_of verb.Get = codes "GET"
 text_of verb.Post = codes "POST"
 text_of verb.Delete = codes "DELETE"
 text_of verb.Other = []
 
--- what stands at a place under a method is an operation of that place and that method
+-- the operation at a place for a method belongs to that place and that method
 pub record Stands (place : Place) (v : Verb) (operation : Operation) : Type 0 where
   pub where_ : place ≡ place_of operation
   pub under : text_of v ≡ method_of operation
@@ -174,7 +174,7 @@ only_there at.Metadatas verb.Post operation e = cc
 only_there at.Metadatas verb.Delete operation e = cc
 only_there at.Metadatas verb.Other operation e = cc
 
--- some operation stands at each place
+-- each place has an operation
 pub some_at : (place : Place) → (operation : Operation) × (place ≡ place_of operation)
 some_at at.Keys = (op.Create, refl)
 some_at at.Key = (op.Roll, refl)

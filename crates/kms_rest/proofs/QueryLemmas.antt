@@ -1,4 +1,4 @@
--- The numbers and the names that a query gives.
+-- The numbers and names in a query.
 use Rattle.std.proofs.Common.{◌≡◌, ◌<◌, ◌≤◌, ◌+◌, ◌^◌, ℕ, zero, suc, List, [], ◌∷◌, ◌++◌, length, take, get_or, codes, Bool, true, false, cond, MatchOption, Result, Ok, Err, refl, sym, ap, ◌∙◌, subst, arith, rules, nat_lt}
 use Rattle.std.proofs.lemmas.Bool.Decides.{nat_tests}
 use Rattle.std.proofs.lemmas.Fmt.{IsAscii-from_digits}
@@ -40,7 +40,7 @@ count_parsed E text (Err e) h d l =
 
 -- ---- names
 
--- these names are those of the front of a query
+-- the names in a prefix of a query
 pub record NamesSoFar (ps : List Parameter) (i : ℕ) (names : List (List ℕ)) : Type 0 where
   pub are : key_values (take i ps) ≡ names
   pub good : All IsKeyName names

@@ -14,7 +14,7 @@ use Rattle.kms_rest.proofs.PlaceLemmas.{only_there, place_of, shape_at, shape_of
 use Rattle.kms_rest.proofs.TableLemmas.{complete}
 use Rattle.kms_rest.proofs.UniqueLemmas.{unique}
 
--- each is below 256
+-- each number is below 256
 abbrev pub AreBytes : List ℕ → Type 0
 AreBytes path = (i : ℕ) → get_or path i 0 < 256
 

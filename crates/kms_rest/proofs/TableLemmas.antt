@@ -1,4 +1,4 @@
--- The table of paths: what it answers is a place that the path is one of, and each such path is answered.
+-- The table of paths gives a place that the path belongs to, and finds each such path.
 use Rattle.std.proofs.Common.{◌≡◌, ℕ, List, [], ◌∷◌, ◌++◌, Some, true, refl, sym, ap, ◌∙◌, append-nil, ◌<◌, length, get_or, drop}
 use Rattle.std.proofs.lemmas.List.{get_or_at}
 use Rattle.matchit.specs.Router.{RouteOf}

@@ -1,4 +1,4 @@
--- A path is one of one place, with one part; so method and path name one operation.
+-- A path belongs to one place, with one part; so method and path name one operation.
 use Rattle.std.proofs.Common.{◌≡◌, ℕ, List, ◌++◌, ◌<◌, get_or, refl, sym, ap, ◌∙◌, subst}
 use Rattle.std.proofs.lemmas.List.{append_cancel_left, append_cancel_right}
 use Rattle.path_routes.specs.Shapes.{Fits}

@@ -1,4 +1,4 @@
--- The rows that the routes give are those that are written out.
+-- The rows that the routes give are the rows that are written out.
 use Rattle.std.proofs.Common.{◌≡◌, refl, codes}
 use Rattle.matchit.specs.Order.{placed}
 use Rattle.matchit.proofs.OnLiterals.{matchit_on_literals}

@@ -1,4 +1,4 @@
--- What an operation asks by the open part of its path, by its query and by its body; and where it asks nothing.
+-- The call that an operation makes of the open part of its path, its query and its body; and when it makes none.
 use Rattle.std.specs.Prelude.{◌≡◌, ◌≢◌, ◌≤◌, ◌<◌, ◌^◌, ◌⊎◌, ◌&&◌, nat_lt, ℕ, Bool, List, [], ◌∷◌, length, codes, Option, None, Some, Result, Ok, Err, All, IsTrue, ⊤}
 use Rattle.std.specs.Char.{is_ascii_digit}
 use Rattle.std.specs.List.{list_all}
@@ -21,11 +21,11 @@ use Rattle.kms_rest.specs.declared.faults.RestFault.TheVariants as fault
 use Rattle.kms_rest.specs.declared.operation.Operation.{Operation}
 use Rattle.kms_rest.specs.declared.operation.Operation.TheVariants as op
 
--- the body has a fault, other than that memory is wanting
+-- the body has a fault other than lack of memory
 abbrev pub IsFaultyBody : {A : Type 0} → (Data → Result A JsonFault) → List ℕ → Type 0
 IsFaultyBody reading body = (why : JsonFault) × ((why ≢ json.NoMemory) × StandsFor reading body (Err why))
 
--- the text is the one spelling of the version of a key
+-- the text is the text of the version
 abbrev pub NamesVersion : List ℕ → Version → Type 0
 NamesVersion text version = IsKeyName version.key × ((version.number < 2 ^ 16) × (text ≡ version_text version.key version.number))
 
@@ -43,34 +43,34 @@ count_values ps = values (codes "num_keys") ps
 abbrev pub key_values : List Parameter → List (List ℕ)
 key_values ps = values (codes "key") ps
 
--- decimal digits, one at least
+-- decimal digits, at least one
 abbrev pub is_count : List ℕ → Bool
 is_count text = nat_lt 0 (length text) && list_all is_ascii_digit text
 
 abbrev pub IsCount : List ℕ → ℕ → Type 0
 IsCount text count = IsTrue (is_count text) × ((digits_value 10 text ≡ count) × (count < 2 ^ 32))
 
--- how many keys are wanted: one where nothing is said
+-- the number of keys to generate: one by default
 abbrev pub Counts : List (List ℕ) → ℕ → Type 0
 Counts [] count = count ≡ 1
 Counts (text ∷ more) count = (more ≡ []) × IsCount text count
 
--- `eek_op` and `num_keys` stand once at most, whatever the operation
+-- `eek_op` and `num_keys` are given at most once, for each operation
 abbrev pub IsSingle : List Parameter → Type 0
 IsSingle ps = (length (operation_values ps) ≤ 1) × (length (count_values ps) ≤ 1)
 
--- ---- what is asked
+-- ---- calls
 
 abbrev pub edek_of : Version → EekBody → RawEdek
 edek_of version eek = record { version = version; iv = eek.iv; sealed = eek.sealed }
 
--- by `eek_op`, what is to be done with an encrypted key
+-- the call for an encrypted key, by `eek_op`
 abbrev pub AsksEek : List (List ℕ) → Version → EekBody → KmsCall → Type 0
 AsksEek found version eek asked =
     ((found ≡ codes "decrypt" ∷ []) × (asked ≡ call.Decrypt eek.name (edek_of version eek)))
     ⊎ ((found ≡ codes "reencrypt" ∷ []) × (asked ≡ call.Reencrypt eek.name (edek_of version eek)))
 
--- The part names a version, the query what is to be done, and the body the encrypted key.
+-- The part names a version, the query an operation on it, and the body gives the encrypted key.
 pub record AsksOfEek (part : List ℕ) (ps : List Parameter) (body : List ℕ) (asked : KmsCall) : Type 0 where
   pub version : Version
   pub eek : EekBody
@@ -78,7 +78,7 @@ pub record AsksOfEek (part : List ℕ) (ps : List Parameter) (body : List ℕ) (
   pub stands : StandsFor eek_of body (Ok eek)
   pub asks : AsksEek (operation_values ps) version eek asked
 
--- The part names a key, and the query says to generate so many.
+-- The part names a key, and the query says how many keys to generate.
 pub record AsksToGenerate (part : List ℕ) (ps : List Parameter) (asked : KmsCall) : Type 0 where
   pub count : ℕ
   pub name : IsKeyName part
@@ -86,11 +86,11 @@ pub record AsksToGenerate (part : List ℕ) (ps : List Parameter) (asked : KmsCa
   pub counts : Counts (count_values ps) count
   pub is : asked ≡ call.Generate part count
 
--- the part names a key, and this is the call
+-- the part is the name of a key, and this is the call
 abbrev pub AsksOfKey : List ℕ → KmsCall → KmsCall → Type 0
 AsksOfKey part asked is = IsKeyName part × (asked ≡ is)
 
--- what an operation asks
+-- the call of an operation
 abbrev pub AsksBy : Operation → List ℕ → List Parameter → List ℕ → KmsCall → Type 0
 AsksBy op.Create part ps body asked = StandsFor create_of body (Ok asked)
 AsksBy op.Roll part ps body asked = IsKeyName part × StandsFor (roll_of part) (or_no_members body) (Ok asked)
@@ -106,7 +106,7 @@ AsksBy op.Eek part ps body asked = AsksOfEek part ps body asked
 AsksBy op.Names part ps body asked = asked ≡ call.Names
 AsksBy op.Metadatas part ps body asked = (key_values ps ≢ []) × (All IsKeyName (key_values ps) × (asked ≡ call.Metadatas (key_values ps)))
 
--- the encrypted key, or what is to be done with it, is not said
+-- the version, the operation on the encrypted key, or the encrypted key is missing or wrong
 abbrev pub AsksNoEek : List ℕ → List Parameter → List ℕ → Type 0
 AsksNoEek part ps body =
     NamesNoVersion part
@@ -119,7 +119,7 @@ AsksNotToGenerate part ps =
     ⊎ ((operation_values ps ≢ codes "generate" ∷ [])
     ⊎ ((count : ℕ) → ¬ Counts (count_values ps) count))
 
--- where an operation asks nothing: a name that is none, a query that lacks what is needed, or a body at fault
+-- when an operation makes no call: a bad name, a query without what it needs, or a body with a fault
 abbrev pub AsksNothingBy : Operation → List ℕ → List Parameter → List ℕ → Type 0
 AsksNothingBy op.Create part ps body = IsFaultyBody create_of body
 AsksNothingBy op.Roll part ps body = ¬ IsKeyName part ⊎ IsFaultyBody (roll_of part) (or_no_members body)
@@ -135,7 +135,7 @@ AsksNothingBy op.Eek part ps body = AsksNoEek part ps body
 AsksNothingBy op.Names part ps body = ⊥
 AsksNothingBy op.Metadatas part ps body = (key_values ps ≡ []) ⊎ ¬ All IsKeyName (key_values ps)
 
--- what a part, a query and a body say under an operation
+-- what a part, a query and a body mean under an operation
 abbrev pub SaysCall : Operation → List ℕ → List Parameter → List ℕ → Result KmsCall RestFault → Type 0
 SaysCall operation part ps body (Ok asked) = AsksBy operation part ps body asked
 SaysCall operation part ps body (Err fault.BadRequest) = AsksNothingBy operation part ps body
@@ -146,7 +146,7 @@ SaysCall operation part ps body (Err fault.NoUser) = ⊥
 
 -- ---- by the code's types
 
--- a body's fault as a fault of the request
+-- the fault of a request for a fault of its body
 abbrev pub fault_of : JsonFault → RestFault
 fault_of json.NotJson = fault.BadRequest
 fault_of (json.Missing m) = fault.BadRequest
@@ -154,7 +154,7 @@ fault_of (json.BadBase64 m) = fault.BadRequest
 fault_of (json.BadValue m) = fault.BadRequest
 fault_of json.NoMemory = fault.NoMemory
 
--- what is to be done with an encrypted key, by the values of `eek_op`
+-- the operation on an encrypted key, by the values of `eek_op`
 abbrev pub IsEekOperation : List (List ℕ) → Option EekOperation → Type 0
 IsEekOperation found None = (found ≢ codes "decrypt" ∷ []) × (found ≢ codes "reencrypt" ∷ [])
 IsEekOperation found (Some eek_op.Decrypt) = found ≡ codes "decrypt" ∷ []
@@ -164,7 +164,7 @@ abbrev pub eek_call : EekOperation → Version → EekBody → KmsCall
 eek_call eek_op.Decrypt version eek = call.Decrypt eek.name (edek_of version eek)
 eek_call eek_op.Reencrypt version eek = call.Reencrypt eek.name (edek_of version eek)
 
--- the call for these names, of which there is one at least
+-- the call for these names, if there are any
 abbrev pub SaysMetadatas : List (List ℕ) → Result KmsCall RestFault → Type 0
 SaysMetadatas names (Ok asked) = (names ≢ []) × (asked ≡ call.Metadatas names)
 SaysMetadatas names (Err why) = (names ≡ []) × (why ≡ fault.BadRequest)

@@ -19,15 +19,15 @@ method_of op.Eek = codes "POST"
 method_of op.Names = codes "GET"
 method_of op.Metadatas = codes "GET"
 
--- the segments behind `/kms/v1`
+-- the segments after `/kms/v1`
 abbrev pub under_root : Shape → Shape
 under_root shape = Some [] ∷ Some (codes "kms") ∷ Some (codes "v1") ∷ shape
 
--- `/key/K` and what stands behind it
+-- `/key/K` and the segments after it
 abbrev pub of_key : Shape → Shape
 of_key shape = under_root (Some (codes "key") ∷ None ∷ shape)
 
--- `/keyversion/V` and what stands behind it
+-- `/keyversion/V` and the segments after it
 abbrev pub of_version : Shape → Shape
 of_version shape = under_root (Some (codes "keyversion") ∷ None ∷ shape)
 
@@ -46,7 +46,7 @@ shape_of op.Eek = of_version (Some (codes "_eek") ∷ [])
 shape_of op.Names = under_root (Some (codes "keys") ∷ Some (codes "names") ∷ [])
 shape_of op.Metadatas = under_root (Some (codes "keys") ∷ Some (codes "metadata") ∷ [])
 
--- the path is one of the operation, with this open part
+-- the path belongs to the operation, with this open part
 abbrev pub HasPath : List ℕ → Operation → List ℕ → Type 0
 HasPath path operation part = Fits path (shape_of operation) part
 
@@ -55,11 +55,11 @@ pub record Routes (method path : List ℕ) (operation : Operation) (part : List 
   pub fits : HasPath path operation part
   pub under : method ≡ method_of operation
 
--- the path is one of no operation
+-- the path belongs to no operation
 abbrev pub HasNoRoute : List ℕ → Type 0
 HasNoRoute path = (operation : Operation) (part : List ℕ) → ¬ HasPath path operation part
 
--- The path is one of some operation, and each operation that it is one of has another method.
+-- The path belongs to some operation, and each operation that it belongs to has another method.
 pub record HasBadMethod (method path : List ℕ) : Type 0 where
   pub operation : Operation
   pub part : List ℕ

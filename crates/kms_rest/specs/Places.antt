@@ -1,4 +1,4 @@
--- The places of the service's paths as texts, and the operation that stands at each under a method.
+-- The places of the service's paths as texts, and the operation at each place for a method.
 use Rattle.std.specs.Prelude.{ℕ, List, [], ◌++◌, codes, cond, ◌≡◌, Option, Some, None, nat_eq}
 use Rattle.std.specs.Cmp.Lexicographic.{pointwise}
 use Rattle.path_routes.specs.Shapes.{IsSegment}
@@ -12,7 +12,7 @@ use Rattle.kms_rest.specs.declared.place.Verb.{Verb}
 use Rattle.kms_rest.specs.declared.place.Verb.TheVariants as verb
 use Rattle.kms_rest.specs.Operations.{HasBadMethod, HasNoRoute}
 
--- the text of a place's paths up to the part that is open
+-- the text of a place's paths before the open part
 abbrev pub before : Place → List ℕ
 before at.Keys = codes "/kms/v1/keys"
 before at.Key = codes "/kms/v1/key/"
@@ -27,7 +27,7 @@ before at.VersionEek = codes "/kms/v1/keyversion/"
 before at.Names = codes "/kms/v1/keys/names"
 before at.Metadatas = codes "/kms/v1/keys/metadata"
 
--- and the text after that part
+-- and the text after it
 abbrev pub after : Place → List ℕ
 after at.Keys = []
 after at.Key = []
@@ -42,7 +42,7 @@ after at.VersionEek = codes "/_eek"
 after at.Names = []
 after at.Metadatas = []
 
--- what may stand in the open part of a place's paths: one segment, or nothing where no part is open
+-- what the open part of a place's paths can be: one segment, or nothing if no part is open
 abbrev pub IsPart : Place → List ℕ → Type 0
 IsPart at.Keys k = k ≡ []
 IsPart at.Key k = IsSegment k
@@ -57,7 +57,7 @@ IsPart at.VersionEek k = IsSegment k
 IsPart at.Names k = k ≡ []
 IsPart at.Metadatas k = k ≡ []
 
--- the path is one of this place, with this open part
+-- the path belongs to this place, with this open part
 abbrev pub IsAt : List ℕ → Place → List ℕ → Type 0
 IsAt path p k = (path ≡ before p ++ (k ++ after p)) × IsPart p k
 
@@ -67,7 +67,7 @@ verb_of method =
     (cond (pointwise nat_eq method (codes "POST")) verb.Post
     (cond (pointwise nat_eq method (codes "DELETE")) verb.Delete verb.Other))
 
--- the operation that stands at a place under a method
+-- the operation at a place for a method
 abbrev pub operation_at : Place → Verb → Option Operation
 operation_at at.Keys verb.Post = Some op.Create
 operation_at at.Key verb.Post = Some op.Roll

@@ -1,4 +1,4 @@
--- What a request asks of the key management service, and as which user.
+-- The call that a request makes of the key management service, and its user.
 use Rattle.std.specs.Prelude.{◌≡◌, ◌⊎◌, ℕ, List, Result, Ok, Err, ⊤}
 use Rattle.percent_encoding.specs.Percent.{percent_decode}
 use Rattle.http_wire.specs.Message.{Message}
@@ -16,13 +16,13 @@ use Rattle.kms_rest.specs.Calls.{AsksBy, AsksNothingBy, IsSingle}
 abbrev pub query_in : Message → List Parameter
 query_in request = parameters (query_of request.target)
 
--- The request names this operation, with this name in its path: the open part as it stands is decoded.
+-- The request names this operation, and this name in its path: the open part, percent-decoded.
 pub record Names (request : Message) (operation : Operation) (name : List ℕ) : Type 0 where
   pub part : List ℕ
   pub routes : Routes request.method (path_of request.target) operation part
   pub decoded : name ≡ percent_decode part
 
--- The request asks this call, as this user.
+-- The request makes this call, as this user.
 pub record Asks (request : Message) (user : List ℕ) (call : KmsCall) : Type 0 where
   pub operation : Operation
   pub name : List ℕ
@@ -38,8 +38,8 @@ pub record HasNoUser (request : Message) : Type 0 where
   pub names : Names request operation name
   pub none : NamesNoUser (query_in request)
 
--- The request names an operation and a user, and it asks nothing: the user is none, a parameter stands twice, or
--- the operation lacks what it needs.
+-- The request names an operation, and a user or `doAs`, and makes no call: the user is not allowed, a parameter is given
+-- twice, or the operation lacks what it needs.
 pub record IsBadRequest (request : Message) : Type 0 where
   pub operation : Operation
   pub name : List ℕ
@@ -47,7 +47,7 @@ pub record IsBadRequest (request : Message) : Type 0 where
   pub some : ¬ NamesNoUser (query_in request)
   pub why : NamesBadUser (query_in request) ⊎ (¬ IsSingle (query_in request) ⊎ AsksNothingBy operation name (query_in request) request.body)
 
--- what a request says: whose call it is, or why it is none. Memory may be wanting for any request
+-- the meaning of a request: a call and its user, or why there is none; memory may run out for any request
 abbrev pub Says : Message → Result (List ℕ × KmsCall) RestFault → Type 0
 Says request (Ok asked) = Asks request asked.0 asked.1
 Says request (Err fault.NoRoute) = HasNoRoute (path_of request.target)

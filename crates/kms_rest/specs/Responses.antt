@@ -24,7 +24,7 @@ refusal_status refusal.TooManyAsked = 400
 refusal_status refusal.NoMemory = 503
 refusal_status refusal.StoreFault = 500
 
--- a reply that is no refusal: 201 where a key was created
+-- the status of a reply that is not a refusal: 201 if a key was created
 abbrev pub done_status : Bool → ℕ
 done_status created = if created then 201 else 200
 
@@ -47,7 +47,7 @@ fault_status fault.NoUser = 401
 fault_status fault.BadRequest = 400
 fault_status fault.NoMemory = 503
 
--- a fault that the service knows as a refusal has the body of that refusal
+-- a fault that is also a refusal of the service has the body of that refusal
 abbrev pub fault_text : RestFault → List ℕ
 fault_text fault.NoRoute = codes "{\"RemoteException\":{\"exception\":\"NoRoute\",\"message\":\"NoRoute\"}}"
 fault_text fault.BadMethod = codes "{\"RemoteException\":{\"exception\":\"BadMethod\",\"message\":\"BadMethod\"}}"

@@ -1,4 +1,4 @@
--- The rows of the service's router: those that its routes give, and the same written out.
+-- The rows of the service's router: those that its routes give, and the same rows written out.
 use Rattle.std.specs.Prelude.{ℕ, List, [], ◌∷◌, ◌++◌, codes}
 use Rattle.matchit.specs.Router.{RouteOf}
 use Rattle.path_routes.specs.Routes.{Table, with_route}
@@ -48,7 +48,7 @@ row_of at.VersionEek = row (before at.VersionEek ++ (256 ∷ after at.VersionEek
 row_of at.Names = row (before at.Names) (codes "/kms/v1/keys/names") [] at.Names
 row_of at.Metadatas = row (before at.Metadatas) (codes "/kms/v1/keys/metadata") [] at.Metadatas
 
--- the rows in their order
+-- the rows in order
 abbrev pub written : Table Place
 written =
     row_of at.KeyCurrent ∷ row_of at.KeyEek ∷ row_of at.KeyInvalidate ∷ row_of at.KeyMetadata ∷ row_of at.KeyBatch ∷ row_of at.KeyVersions ∷ row_of at.Key ∷ row_of at.Metadatas ∷ row_of at.Names ∷ row_of at.Keys ∷ row_of at.VersionEek ∷ row_of at.Version ∷ []

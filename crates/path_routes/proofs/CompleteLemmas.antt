@@ -1,4 +1,4 @@
--- What a walk over rows answers at a path that a row's pattern spells.
+-- The result of a walk over rows at a path that matches a row's pattern.
 use Rattle.std.proofs.Common.{◌≡◌, ◌≢◌, ℕ, zero, suc, ◌+◌, ◌-◌, ◌<◌, ◌≤◌, List, [], ◌∷◌, ◌++◌, length, drop, Option, Some, None, Bool, true, false, cond, refl, sym, ap, ◌∙◌, arith, nat_eq, ◌==◌, ltb, ◌&&◌}
 use Rattle.std.proofs.lemmas.Bool.Decides.{nat_tests}
 use Rattle.std.proofs.lemmas.List.{drop_all, length-append}
@@ -30,13 +30,13 @@ module _ {K : Type 0} where
   all_param (([], key) ∷ rest) = false
   all_param ((x ∷ t, key) ∷ rest) = (x == 256) && all_param rest
 
-  -- each row ends here or goes on with a slash
+  -- each row ends here or continues with a slash
   abbrev pub slashy : RowsOf K → Bool
   slashy [] = true
   slashy (([], key) ∷ rest) = slashy rest
   slashy ((x ∷ t, key) ∷ rest) = (x == 47) && slashy rest
 
-  -- some row goes on
+  -- some row continues
   abbrev pub goes_on : RowsOf K → Bool
   goes_on [] = false
   goes_on (([], key) ∷ rest) = goes_on rest
@@ -194,7 +194,7 @@ module _ {K : Type 0} where
   unfolding param_step
   param_step-end rs path e lon none = rw (e, lon, none) refl
 
-  -- a part, and then a slash
+  -- a part, then a slash
   pub through : (rs : RowsOf K) (b : ℕ) (k u : List ℕ) → HasNoSlash (b ∷ k) → b < 256 → all_param rs ≡ true → slashy (step 256 rs) ≡ true → goes_on (step 256 rs) ≡ true
       → seek 0 rs ((b ∷ k) ++ (47 ∷ u)) ≡ seek 0 (with_suffix (47 ∷ []) (step 256 rs)) (47 ∷ u)
   through rs b k u h l p s g =
@@ -207,7 +207,7 @@ module _ {K : Type 0} where
       ∙ seek-drop (length k) (with_suffix (47 ∷ []) (step 256 rs)) (k ++ (47 ∷ u))
       ∙ ap (λ z. seek 0 (with_suffix (47 ∷ []) (step 256 rs)) z) (drop-append_seam k (47 ∷ u))
 
-  -- a part that ends the path
+  -- a part at the end of the path
   pub to_end : (rs : RowsOf K) (b : ℕ) (k : List ℕ) → HasNoSlash (b ∷ k) → b < 256 → all_param rs ≡ true → slashy (step 256 rs) ≡ true
       → seek 0 rs (b ∷ k) ≡ own (step 256 rs)
   unfolding seek

@@ -1,4 +1,4 @@
--- The values of a name in the front of a query.
+-- The values of a name in a prefix of a query.
 use Rattle.std.proofs.Common.{◌≡◌, ℕ, List, [], ◌∷◌, ◌++◌, Bool, true, false, cond, ap, ◌∙◌, refl, map, sym, subst, take, get_or, length, ◌<◌, ◌≤◌, ◌+◌}
 use Rattle.std.proofs.lemmas.List.{take_more, take_all}
 use denote.Ref.{Bor}
@@ -7,7 +7,7 @@ use Rattle.path_routes.specs.declared.query.Parameter.{Parameter}
 use Rattle.path_routes.specs.declared.query.Given.{Given}
 use Rattle.path_routes.specs.Queries.{IsGiven, parameter, values}
 
--- one parameter more, of the name
+-- one more parameter, with the name
 pub values-more : (name : List ℕ) (ps : List Parameter) (p : Parameter) → bytes_eq p.name name ≡ true → values name (ps ++ p ∷ []) ≡ values name ps ++ p.value ∷ []
 values-more name [] p e = rw e refl
 values-more name (q ∷ ps) p e = by (bytes_eq q.name name) (values-more name ps p e)
@@ -16,7 +16,7 @@ values-more name (q ∷ ps) p e = by (bytes_eq q.name name) (values-more name ps
     by true ih = ap (λ vs. q.value ∷ vs) ih
     by false ih = ih
 
--- one parameter more, of another name
+-- one more parameter, with another name
 pub values-other : (name : List ℕ) (ps : List Parameter) (p : Parameter) → bytes_eq p.name name ≡ false → values name (ps ++ p ∷ []) ≡ values name ps
 values-other name [] p e = rw e refl
 values-other name (q ∷ ps) p e = by (bytes_eq q.name name) (values-other name ps p e)
@@ -29,14 +29,14 @@ pub map-at : (pieces : List (Bor (List ℕ))) → map (λ piece. parameter piece
 map-at [] = refl
 map-at (piece ∷ pieces) = ap (λ ps. parameter piece.now ∷ ps) (map-at pieces)
 
--- a parameter more of the name is a value more
+-- one more parameter with the name is one more value
 pub given-more : (name : List ℕ) (ps : List Parameter) (p : Parameter) (n v : List ℕ) (found out : Given) → n ≡ p.name → bytes_eq n name ≡ true → v ≡ p.value
     → ((vs : List (List ℕ)) → IsGiven vs found → IsGiven (vs ++ v ∷ []) out) → IsGiven (values name ps) found → IsGiven (values name (ps ++ p ∷ [])) out
 given-more name ps p n v found out e t w step is =
     let same : bytes_eq p.name name ≡ true = rw e at t in
     subst (λ (vs : List (List ℕ)). IsGiven vs out) (ap (λ x. values name ps ++ x ∷ []) w ∙ sym (values-more name ps p same)) (step (values name ps) is)
 
--- a parameter more of another name changes nothing
+-- one more parameter with another name changes nothing
 pub given-other : (name : List ℕ) (ps : List Parameter) (p : Parameter) (n : List ℕ) (found : Given) → n ≡ p.name → bytes_eq n name ≡ false
     → IsGiven (values name ps) found → IsGiven (values name (ps ++ p ∷ [])) found
 given-other name ps p n found e t is =

@@ -1,4 +1,4 @@
--- A path and its segments, each from the other.
+-- A path from its segments, and its segments from the path.
 use Rattle.std.proofs.Common.{◌≡◌, ◌≢◌, ℕ, List, [], ◌∷◌, ◌++◌, Bool, true, false, cond, ◌==◌, refl, sym, ap, ◌∙◌, arith, subst}
 use Rattle.std.proofs.lemmas.Bool.Decides.{nat_tests}
 use Rattle.path_routes.specs.Shapes.{HasNoSlash, onto, segments}

@@ -1,4 +1,4 @@
--- What a walk over rows answers is a row whose pattern the path follows.
+-- The result of a walk over rows is a row whose pattern the path matches.
 use Rattle.std.proofs.Common.{◌≡◌, ◌≢◌, ℕ, zero, suc, ◌-◌, ◌<◌, ◌≤◌, List, [], ◌∷◌, ◌++◌, length, drop, take, Option, Some, None, Bool, true, false, cond, refl, ap, ◌∙◌, arith, ◌==◌, ltb, ◌&&◌, ◌⊎◌, inl, inr, subst}
 use Rattle.std.proofs.lemmas.Bool.Decides.{nat_tests}
 use Rattle.std.proofs.lemmas.List.{take-append-drop, append-nil, drop_all}
@@ -6,7 +6,7 @@ use Rattle.matchit.specs.Rows.{RowsOf}
 use Rattle.matchit.specs.Seek.{own, step, or_else, seek, param_step, has_slash, segment, longest_suffix, longest_from, better, cuts, with_suffix, same_text, slash}
 use Rattle.path_routes.specs.Shapes.{HasNoSlash, IsSegment}
 
--- a path that follows a pattern: a token that is a byte is that byte, a parameter is one segment, a catch-all is anything
+-- a path that matches a pattern: a token that is a byte is that byte, a parameter is one segment, a catch-all is anything
 abbrev pub One : ℕ → (List ℕ → Type 0) → List ℕ → Type 0
 One x rest path =
     ((later : List ℕ) × (path ≡ x ∷ later) × rest later)
@@ -17,7 +17,7 @@ unfoldable pub Follows : List ℕ → List ℕ → Type 0
 Follows [] path = path ≡ []
 Follows (x ∷ t) path = One x (Follows t) path
 
--- a claim on each row that the path follows
+-- a property of each row that the path matches
 abbrev pub Each : {K : Type 0} → (K → Type 0) → RowsOf K → List ℕ → Type 0
 Each P [] path = Unit {0}
 Each P ((t, key) ∷ rest) path = (Follows t path → P key) × Each P rest path
@@ -76,7 +76,7 @@ module _ {K : Type 0} (P : K → Type 0) where
           ((λ f. h.0 (inr (inr xb))), ih)
       by false q ih = ih
 
--- the front of a path, short of its first slash
+-- a prefix of a path, shorter than its first segment
 pub front-clear : (path : List ℕ) (n : ℕ) → n < length (segment path) → HasNoSlash (take n path)
 front-clear [] zero h = tt
 front-clear [] (suc n) h = elim h [ ]
@@ -123,7 +123,7 @@ module _ {K : Type 0} where
   longest-short seg best ((t, k) ∷ r) h = longest-short seg (better seg best (segment t)) r (better-short seg best (segment t) h)
 
 module _ {K : Type 0} (P : K → Type 0) where
-  -- a part short of the first slash
+  -- a part that ends before the first slash
   pub part-each : (rs : RowsOf K) (b : ℕ) (p : List ℕ) (n : ℕ) → 0 < n → n < length (segment (b ∷ p)) → Each P rs (b ∷ p) → Each P (step 256 rs) (drop (n - 1) p)
   part-each rs b p zero l m h = absurd (omega arith)
   part-each rs b p (suc n) l m h =
@@ -131,7 +131,7 @@ module _ {K : Type 0} (P : K → Type 0) where
       let split : take (suc n) (b ∷ p) ++ drop n p ≡ b ∷ p = take-append-drop (suc n) (b ∷ p) in
       rw e (param-rows P rs (take (suc n) (b ∷ p)) (drop n p) ((λ q. cc), front-clear (b ∷ p) (suc n) m) (rw split h))
 
-  -- the rows that go on after a parameter, at the rest of the path
+  -- the rows that continue after a parameter, at the rest of the path
   pub param-each : (rs : RowsOf K) (b : ℕ) (p : List ℕ) → Each P rs (b ∷ p)
       → Each P (param_step (step 256 rs) (b ∷ p)).1 (drop ((param_step (step 256 rs) (b ∷ p)).0 - 1) p)
   unfolding param_step
@@ -162,7 +162,7 @@ module _ {K : Type 0} (P : K → Type 0) where
           suffix-rows P u (step 256 rs) _ (part-each rs b p (length (segment (b ∷ p)) - length u) (omega arith) (omega arith) h)
       by false q s = none (has_slash (b ∷ p)) refl
 
-  -- what the walk answers is claimed
+  -- the result of the walk has the property
   pub seek-sound : (s : ℕ) (rs : RowsOf K) (path : List ℕ) (r : K) → Each P rs (drop s path) → seek s rs path ≡ Some r → P r
   unfolding seek
   seek-sound zero rs [] r h e = own-sound P rs r h e
@@ -180,7 +180,7 @@ module _ {K : Type 0} (P : K → Type 0) where
       three None (Some k) z f a b c = b f
       three (Some k) y z f a b c = a f
 
--- ---- reading a pattern that is written out
+-- ---- reading a literal pattern
 
 -- each is a byte
 abbrev pub all_bytes : List ℕ → Bool

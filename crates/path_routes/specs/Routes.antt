@@ -1,4 +1,4 @@
--- The rows of a router after a route more.
+-- The rows of a router after one more route.
 use Rattle.std.specs.Prelude.{◌≡◌, ℕ, List, None, Result, Ok, Err}
 use Rattle.matchit.specs.Rows.{RowsOf}
 use Rattle.matchit.specs.Order.{placed}
@@ -21,7 +21,7 @@ abbrev pub IsApart : {T : Type 0} → Result Scan InsertError → Table T → Ty
 IsApart (Ok s) rows = nearest s.pattern rows ≡ None
 IsApart (Err e) rows = ⊥
 
--- The text is a route, and it conflicts with no route of the rows: no path could follow both with none of them
--- the better. So only a failed allocation keeps it out.
+-- The text is a route that conflicts with no route of the rows: no path could follow both without one of them
+-- being better. So it is added unless an allocation fails.
 abbrev pub HasNoConflict : {T : Type 0} → List ℕ → Table T → Type 0
 HasNoConflict route rows = IsApart (parse_route route) rows

@@ -1,27 +1,27 @@
--- Paths cut at their slashes (RFC 3986, section 3.3), and the shapes that routes give them.
+-- Paths split at their slashes (RFC 3986, section 3.3), and their shapes in routes.
 use Rattle.std.specs.Prelude.{◌≡◌, ◌≢◌, ◌==◌, ℕ, List, [], ◌∷◌, Option, None, Some, cond}
 
--- a byte in front of the first segment
+-- the first segment with one more byte before it
 abbrev pub onto : ℕ → List (List ℕ) → List (List ℕ)
 onto b [] = (b ∷ []) ∷ []
 onto b (s ∷ rest) = (b ∷ s) ∷ rest
 
--- the segments of a path: what stands between its slashes. A path that begins with a slash has an empty first segment
+-- the segments of a path: the parts between its slashes. The first segment of a path that begins with a slash is empty
 abbrev pub segments : List ℕ → List (List ℕ)
 segments [] = [] ∷ []
 segments (b ∷ rest) = cond (b == 47) ([] ∷ segments rest) (onto b (segments rest))
 
--- the segments that a route wants: a text, or any one where it is open. The open ones are all the same
+-- the segments of a route: a text each, or None for an open one. All open segments have the same value
 abbrev pub Shape : Type 0
 Shape = List (Option (List ℕ))
 
--- the segments of a shape, with this part where it is open
+-- the segments of a shape, with this part at each open one
 abbrev pub filled : Shape → List ℕ → List (List ℕ)
 filled [] k = []
 filled (Some text ∷ shape) k = text ∷ filled shape k
 filled (None ∷ shape) k = k ∷ filled shape k
 
--- the open part has a byte at least; where none is open it is nothing
+-- the open part is not empty; without an open segment it is empty
 abbrev pub Fills : Shape → List ℕ → Type 0
 Fills [] k = k ≡ []
 Fills (Some text ∷ shape) k = Fills shape k
