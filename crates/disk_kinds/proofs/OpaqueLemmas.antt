@@ -1,4 +1,4 @@
--- What a call does to a disk of which a crash may leave any bytes.
+-- Calls on a disk of which a crash may leave any bytes.
 use Rattle.std.proofs.Common.{◌≤◌, ℕ, refl, arith, inl}
 use Rattle.hk_base.specs.Disk.{CallOn, Torn, Cut, Follows}
 use Rattle.disk_kinds.specs.Opaque.{opaque}

@@ -1,4 +1,4 @@
--- Calls that change no file, or one, of a disk that keeps no record.
+-- Calls that change no file, or one file, of a disk that records nothing.
 use Rattle.std.proofs.Common.{◌≡◌, ◌≤◌, ◌-◌, ℕ, List, refl, sym, ◌∙◌, subst, arith, inl, inr}
 use Rattle.hk_base.specs.Disk.{CallOn}
 use Rattle.disk_kinds.specs.Plain.{plain_state}

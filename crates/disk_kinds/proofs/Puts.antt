@@ -1,4 +1,4 @@
--- What putting a file does to the disk.
+-- How replacing a file changes the disk.
 use Rattle.std.proofs.Common.{append_assoc, ◌≡◌, ◌⊎◌, inl, inr, ⊎_elim, ◌+◌, ◌-◌, ◌<◌, ◌≤◌, ℕ, zero, suc, List, [], ◌∷◌, ◌++◌, refl, sym, ◌∙◌, ap, subst, arith, length, take, drop, length-append, length-take, length-drop}
 use Rattle.std.proofs.lemmas.List.{take_at, drop_at, drop-drop, take_all, take_min}
 use Rattle.hk_base.specs.Disk.{Image, CallOn, Torn, Cut, Follows, written}
@@ -33,7 +33,7 @@ was_adds [] m c (inr none) = absurd none
 was_adds (p ∷ past) m c (inl here) = inl (inl here)
 was_adds (p ∷ past) m c (inr there) = ⊎_elim (λ was. inl (inr was)) (λ now. inr now) (was_adds past m c there)
 
--- the clause that each call has
+-- the clause that each call meets
 pub put_call : (file : ℕ) (f : FileAt) (old new : MomentAt) (old_past new_past : List Moment) (faults later : ℕ) → file < 2 → faults ≤ later → Put file f old new old_past new_past → CallOn file (disk_state old old_past faults) (disk_state new new_past later)
 put_call file f old new old_past new_past faults later lt le put = record {
   tells = refl;
@@ -83,7 +83,7 @@ torn_push : (P : List ℕ → Type 0) (changes : List Change) (change : Change) 
 torn_push P [] change c h = h
 torn_push P (x ∷ changes) change c h = torn_push (λ e. (d : List ℕ) × P d × Tears x d e) changes change c h
 
--- a change of a file tears what a crash might have left
+-- what a crash may leave after a change follows by tearing what it might have left before
 pub change_follows : (file : ℕ) (old : FileAt) (reads : List ℕ) (change : Change) → Tears change old.reads reads → Follows (Tears change) (MayLeave old) (MayLeave (record { reads = reads; synced = old.synced; changes = old.changes ++ change ∷ [] }))
 change_follows file old reads change torn c (inl now) = (old.reads, inl refl, subst (Tears change old.reads) (sym now) torn)
 change_follows file old reads change torn c (inr was) = let from = torn_push (λ d. d ≡ old.synced) old.changes change c was in (from.0, inr from.1, from.2)
@@ -115,7 +115,7 @@ cut_taken size old = record { no_shorter = omega (arith, length-take size old); 
 pub cut_same : (size : ℕ) (old : List ℕ) → Cut size old old
 cut_same size old = record { no_shorter = omega arith; front = take_all (length old) old (omega arith) }
 
--- calls that put nothing, before and after one that does
+-- calls that change nothing, before and after one that replaces a file
 pub left_left : {a b c : MomentAt} {pa pb pc : List Moment} → Left a b pa pb → Left b c pb pc → Left a c pa pc
 left_left l k = record { past = k.past ∙ l.past; now = k.now ∙ l.now }
 

@@ -1,4 +1,4 @@
--- What a read leaves behind what it filled.
+-- The rest of a buffer after a read filled a part of it.
 use Rattle.std.proofs.Common.{◌≡◌, ℕ, ◌+◌, ◌≤◌, List, ◌++◌, length, take, drop, sym, ap, ◌∙◌, length-take-le}
 use Rattle.std.proofs.lemmas.List.{drop-drop, drop_at}
 

@@ -1,4 +1,4 @@
--- What a read takes from the front of what is left.
+-- A read takes the first bytes that are left.
 use Rattle.std.proofs.Common.{◌≡◌, ℕ, ◌+◌, ◌-◌, ◌<◌, ◌≤◌, min, List, [], ◌++◌, length, take, drop, sym, ap, ◌∙◌, arith, length-take, length-drop, take-append-drop}
 use Rattle.std.proofs.lemmas.List.{drop-drop, drop_all}
 use lib.Seq.{take-take}

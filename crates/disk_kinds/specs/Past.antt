@@ -1,4 +1,4 @@
--- What a disk in memory keeps: its files, what a crash may leave of them, and all that was before.
+-- What a disk in memory records: its files, what a crash may leave of them, and its earlier moments.
 use Rattle.std.specs.Prelude.{◌≡◌, ◌⊎◌, ℕ, zero, suc, ◌+◌, ◌-◌, ◌≤◌, ◌<◌, ◌^◌, List, [], ◌∷◌, ◌++◌, length, drop, true}
 use mathlib.Core.Logic.{inl, inr}
 use mathlib.Core.Path.{sym, ap, subst, ◌∙◌}
@@ -11,7 +11,7 @@ use Rattle.disk_kinds.specs.declared.mem_disk.Moment.{Moment}
 use Rattle.disk_kinds.specs.declared.mem_disk.MemDisk.{MemDisk}
 use Rattle.disk_kinds.specs.Fakes.{Plan}
 
--- a file: what it reads as, what it was at its last sync, and the changes since
+-- a file: its present bytes, those at its last sync, and the changes since
 pub record FileAt : Type 0 where
   pub reads : List ℕ
   pub synced : List ℕ
@@ -36,7 +36,7 @@ past_of d = d.past.items
 abbrev pub plan_of : MemDisk → Plan
 plan_of d = d.plan
 
--- a file of these bytes that was synced
+-- a synced file of these bytes
 abbrev pub fresh_file : List ℕ → FileAt
 fresh_file bytes = record { reads = bytes; synced = bytes; changes = [] }
 
@@ -48,12 +48,12 @@ abbrev pub replaced : ℕ → FileAt → MomentAt → MomentAt
 replaced zero f m = record { first = f; second = m.second }
 replaced (suc file) f m = record { first = m.first; second = f }
 
--- what a crash inside a change makes of a file
+-- what a crash during a change may leave of a file
 abbrev pub Tears : Change → List ℕ → List ℕ → Type 0
 Tears (Written at size) old new = Torn at size old new
 Tears (CutTo size) old new = Cut size old new
 
--- what a crash after these changes may leave, where before them it might leave what has P
+-- what a crash after these changes may leave, if before them it may leave what satisfies P
 abbrev pub Torn_by : (List ℕ → Type 0) → List Change → List ℕ → Type 0
 Torn_by P [] c = P c
 Torn_by P (change ∷ changes) c = Torn_by (λ e. (d : List ℕ) × P d × Tears change d e) changes c
@@ -80,7 +80,7 @@ disk_state now past faults = record {
   faults = faults;
 }
 
--- the disk as the clauses of `Disk` see it
+-- the view of the disk in the clauses of `Disk`
 abbrev pub state_of : MemDisk → DiskState
 state_of d = disk_state (now_of d) (past_of d) (plan_of d).faults
 
@@ -103,7 +103,7 @@ was_before zero past c was = was
 was_before (suc n) [] c was = was
 was_before (suc n) (m ∷ past) c was = inr (was_before n past c was)
 
--- an image since a moment is one since each earlier moment
+-- an image since a moment is an image since each earlier moment
 pub since_earlier : (now : MomentAt) (past : List Moment) (s t : ℕ) (c : Image) → t ≡ s + (t - s) → IsImageOf now c ⊎ WasImage (drop t past) c → IsImageOf now c ⊎ WasImage (drop s past) c
 since_earlier now past s t c is (inl here) = inl here
 since_earlier now past s t c is (inr was) =
@@ -113,14 +113,14 @@ pub within : (d : MemDisk) (f : ℕ) → f < 2 → length ((the_file (now_of d) 
 within d zero lt = d.current.first.limit
 within d (suc f) lt = d.current.second.limit
 
--- a file was put in place of another, and the moment before is kept
+-- a file was replaced, and the moment before is recorded
 pub record Put (file : ℕ) (next : FileAt) (old new : MomentAt) (old_past new_past : List Moment) : Type 0 where
   pub kept : Moment
   pub same : moment_at kept ≡ old
   pub past : new_past ≡ old_past ++ kept ∷ []
   pub now : new ≡ replaced file next old
 
--- nothing was put
+-- nothing changed
 pub record Left (old new : MomentAt) (old_past new_past : List Moment) : Type 0 where
   pub past : new_past ≡ old_past
   pub now : new ≡ old

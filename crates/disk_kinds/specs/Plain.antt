@@ -1,4 +1,4 @@
--- A disk in memory that keeps no record.
+-- A disk in memory that records nothing.
 use Rattle.std.specs.Prelude.{◌≡◌, ◌≤◌, ◌<◌, ◌^◌, ℕ, zero, suc, List, length, true, false}
 use Rattle.hk_base.specs.Disk.{DiskState}
 use Rattle.disk_kinds.specs.declared.plain_disk.PlainDisk.{PlainDisk}
@@ -10,7 +10,7 @@ contents d (suc f) = d.second.items
 abbrev pub faults_of : PlainDisk → ℕ
 faults_of d = d.faults
 
--- each call is done at once, and of what was before nothing is kept
+-- each call takes effect at once, and no earlier moment is recorded
 abbrev pub plain_state : (ℕ → List ℕ) → ℕ → DiskState
 plain_state files faults = record {
   tells = true;
@@ -22,7 +22,7 @@ plain_state files faults = record {
   faults = faults;
 }
 
--- the disk as the clauses of `Disk` see it
+-- the view of the disk in the clauses of `Disk`
 abbrev pub state_of : PlainDisk → DiskState
 state_of d = plain_state (contents d) (faults_of d)
 

@@ -1,4 +1,4 @@
--- What a run of calls leaves.
+-- What a run of calls leaves of a file.
 use Rattle.std.proofs.Common.{ℕ, ◌<◌, ◌≤◌, List, ⊎_elim, arith}
 use Rattle.hk_base.specs.Disk.{DiskState, Image, IsImage, RunOn, LeavesOnly}
 use Rattle.hk_base.proofs.Runs.{Going}
@@ -8,7 +8,7 @@ use Rattle.frame_log.specs.Stands.{LeavesFrom}
 pub going : {file : ℕ} {old new : DiskState} {P : List ℕ → Type 0} → RunOn file old new → LeavesOnly file old new P → Going file old new P
 going run moments = record { run = run; moments = moments }
 
--- a run goes on from a moment at which a crash leaves only what has P
+-- a run continues from a moment at which a crash leaves only what satisfies P
 pub since : (file : ℕ) (old mid new : DiskState) (P : List ℕ → Type 0) → file < 2 → old.moment ≤ mid.moment → ((c : Image) → mid.left_since mid.moment c → IsImage mid c) → ((bytes : List ℕ) → mid.leaves file bytes → P bytes) → Going file mid new P → LeavesFrom file old new P
 since file old mid new P file_in begun only_now here run = record {
   moment = mid.moment;

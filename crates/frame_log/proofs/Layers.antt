@@ -1,4 +1,4 @@
--- What layers above logs need of them.
+-- Lemmas for the layers above logs.
 use Rattle.std.proofs.Common.{◌≡◌, ◌⊎◌, inl, inr, ◌-◌, ℕ, suc, List, [], ◌∷◌, ◌++◌, None, Option, sym, ◌∙◌, ap, subst, arith}
 use Rattle.hk_base.specs.Disk.{DiskState, Tells, RunOn}
 use Rattle.frame_log.specs.Format.{log_of, Found, IsAtRest, IsHalfOpen, IsBeforeOrAfter, IsAsFound, At_rest, Half_open, Opened, IsRecovered, Log_as_found, No_log}
@@ -6,7 +6,7 @@ use Rattle.frame_log.specs.Stands.{Stands, front, Is, IsSound}
 use Rattle.frame_log.specs.declared.log.Log.{Log}
 use Rattle.frame_log.proofs.Reading.{log_shut}
 
--- calls on one file leave the other log standing
+-- calls on one file keep the invariant of the other log
 pub other_stands : (file : ℕ) (old new : DiskState) (log : Log) (payloads : List (List ℕ)) (unsettled : Option (List ℕ)) → RunOn file old new → log.file ≡ 1 - file → Tells old → Stands old log payloads unsettled → Stands new log payloads unsettled
 other_stands file old new log payloads unsettled run other told s = record {
   sized = s.sized;
@@ -17,17 +17,17 @@ other_stands file old new log payloads unsettled run other told s = record {
   leaves = λ bytes h. s.leaves bytes (subst (λ (k : ℕ). new.leaves k bytes → old.leaves k bytes) (sym other) (run.other_leaves bytes).0 h);
 }
 
--- what a crash leaves of a settled log is a log of its payloads at rest
+-- what a crash leaves of a settled log is a log of its payloads, at rest
 pub left_at_rest : (d : DiskState) (log : Log) (payloads : List (List ℕ)) → Stands d log payloads None → (bytes : List ℕ) → d.leaves log.file bytes → IsAtRest log.file payloads bytes
 left_at_rest d log payloads s bytes h =
     let shut = s.leaves bytes h in
     ap (log_of log.file) shut.1 ∙ log_shut log.file payloads shut.0 s.sized
 
--- and so is what its file reads as
+-- its file reads as one too
 pub reads_at_rest : (d : DiskState) (log : Log) (payloads : List (List ℕ)) → Stands d log payloads None → IsAtRest log.file payloads (d.reads log.file)
 reads_at_rest d log payloads s = ap (log_of log.file) s.reads.1 ∙ log_shut log.file payloads s.reads.0 s.sized
 
--- what a crash leaves while a payload is added is a log, without it or with it
+-- what a crash leaves while a payload is added is a log with or without it
 pub before_or_after_log : (file : ℕ) (payloads : List (List ℕ)) (payload bytes : List ℕ) → IsBeforeOrAfter file payloads payload bytes
     → ((gate : ℕ) × (log_of file bytes ≡ Found payloads gate)) ⊎ ((gate : ℕ) × (log_of file bytes ≡ Found (payloads ++ payload ∷ []) gate))
 before_or_after_log file payloads payload bytes (inl before) = inl (0, before)
@@ -40,7 +40,7 @@ sound_after file payloads payload bytes (inl before) = record { payloads = paylo
 sound_after file payloads payload bytes (inr (inl after)) = record { payloads = payloads ++ payload ∷ []; payload = payload; sound = inl after }
 sound_after file payloads payload bytes (inr (inr half)) = record { payloads = payloads; payload = payload; sound = inr half }
 
--- and so is what a crash leaves while a file that a run may start from is opened
+-- so is what a crash leaves while such a file is opened
 pub sound_found : (file : ℕ) (found bytes : List ℕ) → IsSound file found → IsAsFound file found bytes → IsSound file bytes
 sound_found file found bytes s (At_rest payloads gate is now) = record { payloads = payloads; payload = s.payload; sound = inl now }
 sound_found file found bytes s (Half_open payloads gate other is now same) = half s.sound
@@ -60,12 +60,12 @@ sound_found file found bytes s (Opened payloads gate is same) = half s.sound
     half (inl rest) = let no_gate : suc gate ≡ 0 = cc (is, rest) in absurd (omega arith)
     half (inr h) = record { payloads = s.payloads ++ s.payload ∷ []; payload = s.payload; sound = inl (ap (log_of file) same ∙ h.then_on) }
 
--- recovering a log leaves it as found
+-- what recovery leaves of a log agrees with the log
 pub recovered_log : (file : ℕ) (found bytes : List ℕ) (payloads : List (List ℕ)) (gate : ℕ) → log_of file found ≡ Found payloads gate → IsRecovered file found bytes → IsAsFound file found bytes
 recovered_log file found bytes payloads gate is (Log_as_found held) = held
 recovered_log file found bytes payloads gate is (No_log at none same) = absurd (cc (is, none))
 
--- so it leaves a file that a run may start from, whatever it answers
+-- so it leaves a file that a run may start from, whatever it returns
 pub sound_recovered : (file : ℕ) (found bytes : List ℕ) → IsSound file found → IsRecovered file found bytes → IsSound file bytes
 sound_recovered file found bytes s (Log_as_found held) = sound_found file found bytes s held
 sound_recovered file found bytes s (No_log at none same) = subst (IsSound file) (sym same) s

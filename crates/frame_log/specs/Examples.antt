@@ -1,4 +1,4 @@
--- Files of known bytes, and what they are as logs.
+-- Files of known bytes, read as logs.
 use Rattle.std.specs.Prelude.{◌≡◌, ℕ, List, [], ◌∷◌, ◌++◌, take, set, refl, length}
 use Rattle.frame_log.specs.Format.{log_of, Found, NoLog, magic, opened, frames}
 
@@ -6,13 +6,13 @@ use Rattle.frame_log.specs.Format.{log_of, Found, NoLog, magic, opened, frames}
 abbrev pub opened_1 : List ℕ
 opened_1 = 1 ∷ 0 ∷ 0 ∷ 0 ∷ 1 ∷ []
 
--- key k of 128 bits, made at 1 by birth 4294967297
+-- key k of 128 bits, created at time 1 with birth 4294967297
 abbrev pub create_k : List ℕ
 create_k =
     2 ∷ 0 ∷ 0 ∷ 0 ∷ 1 ∷ 0 ∷ 0 ∷ 0 ∷ 1 ∷ 1 ∷ 107 ∷ 0 ∷ 128 ∷ 0 ∷ 0 ∷ 0 ∷ 0 ∷ 0 ∷ 0 ∷ 0 ∷ 0 ∷ 0 ∷ 1
     ∷ 43 ∷ 126 ∷ 21 ∷ 22 ∷ 40 ∷ 174 ∷ 210 ∷ 166 ∷ 171 ∷ 247 ∷ 21 ∷ 136 ∷ 9 ∷ 207 ∷ 79 ∷ 60 ∷ []
 
--- and its second version
+-- its second version
 abbrev pub roll_k : List ℕ
 roll_k =
     3 ∷ 0 ∷ 0 ∷ 0 ∷ 1 ∷ 0 ∷ 0 ∷ 0 ∷ 1 ∷ 0 ∷ 1
@@ -42,7 +42,7 @@ cut_80 = refl
 pub cut_80_shut : log_of 0 (take 80 (set rolled_log 62 0)) ≡ Found (opened_1 ∷ create_k ∷ []) 0
 cut_80_shut = refl
 
--- the second payload then has a byte more, which is the gate of the third
+-- the second payload then has one more byte, which is the gate of the third
 pub longer : log_of 0 (set rolled_log 22 40) ≡ Found (opened_1 ∷ (create_k ++ 1 ∷ []) ∷ []) 0
 longer = refl
 

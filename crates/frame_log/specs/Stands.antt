@@ -1,4 +1,4 @@
--- What a log keeps of its disk.
+-- The invariant of a log on its disk.
 use Rattle.std.specs.Prelude.{◌≡◌, ◌⊎◌, ◌≤◌, ℕ, List, [], ◌∷◌, ◌++◌, length, Option, Some, None, IfSome, option_map}
 use Rattle.std.specs.List.{AllByRecursion}
 use Rattle.hk_base.specs.Disk.{DiskState, Image}
@@ -9,22 +9,22 @@ use Rattle.frame_log.specs.declared.log.Log.{Log}
 abbrev pub front : ℕ → List (List ℕ) → List ℕ
 front file payloads = magic file ++ frames payloads
 
--- the front, a byte 0, and anything
+-- the front, a zero byte, and any bytes
 abbrev pub IsShut : List ℕ → List ℕ → Type 0
 IsShut front bytes = (rest : List ℕ) × (bytes ≡ front ++ 0 ∷ rest)
 
--- the front, any byte, a frame of the payload but for its gate, a byte 0, and anything
+-- the front, any gate byte, the rest of a frame of the payload, a zero byte, and any bytes
 pub record IsReady (front payload bytes : List ℕ) : Type 0 where
   pub gate : ℕ
   pub rest : List ℕ
   pub is : bytes ≡ front ++ gate ∷ (behind payload ++ 0 ∷ rest)
 
--- what the file may be while a payload is unsettled, or none is
+-- what the file may be, with or without an unsettled payload
 abbrev pub Is : List ℕ → Option (List ℕ) → List ℕ → Type 0
 Is front None bytes = IsShut front bytes
 Is front (Some payload) bytes = IsShut front bytes ⊎ IsReady front payload bytes
 
--- The log stands for these payloads on the disk, beside one that is unsettled, or none.
+-- The log has these payloads on the disk, and at most one that is unsettled.
 pub record Stands (disk : DiskState) (log : Log) (payloads : List (List ℕ)) (unsettled : Option (List ℕ)) : Type 0 where
   pub sized : AllByRecursion IsPayload payloads
   pub payload : IfSome unsettled IsPayload
@@ -33,14 +33,14 @@ pub record Stands (disk : DiskState) (log : Log) (payloads : List (List ℕ)) (u
   pub reads : Is (front log.file payloads) unsettled (disk.reads log.file)
   pub leaves : (bytes : List ℕ) → disk.leaves log.file bytes → Is (front log.file payloads) unsettled bytes
 
--- A file that a run may start from: a log at rest, or one of which a single frame more is read, and then an end gate 0,
--- where its end gate byte is read as 1.
+-- A file that a run may start from: a log at rest, or one that has exactly one more frame, and is at rest,
+-- once its end gate byte is set to 1.
 pub record IsSound (file : ℕ) (bytes : List ℕ) : Type 0 where
   pub payloads : List (List ℕ)
   pub payload : List ℕ
   pub sound : IsAtRest file payloads bytes ⊎ IsHalfOpen file payloads (payloads ++ payload ∷ []) bytes
 
--- from some moment of a run of calls on, a crash leaves of the file only what has P
+-- from some moment of a run of calls on, a crash leaves bytes of the file that satisfy P
 pub record LeavesFrom (file : ℕ) (old new : DiskState) (P : List ℕ → Type 0) : Type 0 where
   pub moment : ℕ
   pub begun : old.moment ≤ moment

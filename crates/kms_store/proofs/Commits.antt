@@ -21,7 +21,7 @@ module _ (old new : DiskState) (store : StoreState) (commands : List KeyCommand)
   pub stands_beside : StandsFor old store commands → store.pending ≡ Some command → Stands old store.log (map spelling commands) (Some (spelling command))
   stands_beside s some = subst (λ (o : Option KeyCommand). Stands old store.log (map spelling commands) (option_map spelling o)) some s.log
 
-  -- a command more
+  -- one more command
   one_more : (log : Log) (table : Kept) (pending : Option KeyCommand) → StandsFor old store commands → pending ≡ None → HasSpelling command → applies store.table.keys command ≡ true → table.keys ≡ after store.table.keys command
       → Stands new log (map spelling commands ++ spelling command ∷ []) None → StandsFor new (record { log = log; table = table; pending = pending }) (commands ++ command ∷ [])
   one_more log table pending s none spelled may then_is stands = record {
@@ -52,7 +52,7 @@ module _ (old new : DiskState) (store : StoreState) (commands : List KeyCommand)
   moments file payload zero_is spelled is left =
       weaker (λ c with. (spelled, with)) (subst (λ (p : List ℕ). LeavesOnly 0 old new (IsBeforeOrAfter 0 (map spelling commands) p)) is (subst (λ (k : ℕ). LeavesOnly k old new (IsBeforeOrAfter k (map spelling commands) payload)) zero_is left))
 
--- the pending command was kept, and took effect
+-- the pending command was kept and took effect
 pub settles_kept : (old new : DiskState) (store store' : StoreState) (command : KeyCommand) → store.pending ≡ Some command → store'.pending ≡ None → store'.table.keys ≡ after store.table.keys command
     → (Tells old → (commands : List KeyCommand) → StandsFor old store commands → StandsFor new store' (commands ++ command ∷ [])) → Settles old new store store'
 settles_kept old new store store' command waits none then_is added = record {

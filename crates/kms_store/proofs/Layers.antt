@@ -1,4 +1,4 @@
--- What layers above a store need of its log.
+-- Lemmas for the layers above a store.
 use Rattle.std.proofs.Common.{◌≡◌, inl, inr, ℕ, suc, ◌+◌, Bool, true, false, List, [], ◌∷◌, ◌++◌, map, Option, Some, None, refl, sym, ap, ◌∙◌, subst, arith}
 use Rattle.std.specs.Prelude.{IfSome, if◌then◌else◌, length, option_map}
 use Rattle.std.specs.List.{AllByRecursion}
@@ -17,7 +17,7 @@ use Rattle.kms_store.specs.Replay.{key_replay}
 use Rattle.kms_store.specs.Store.{AKeyOpening, Applies, IsDamagedAt, IsKeyLog, IsLeftByStart, IsLeftOf, IsLogOf, IsSoundLog, IsWithOrWithout, NoCommand, Not_a_key_log, Not_a_log, Opening, Recovered, StandsFor, StoreState, next_opening, settled_commands, settled_table}
 use Rattle.kms_store.proofs.Replays.{replay_more, spelled_more}
 
--- what the file of a store may be is a log of its commands, with the pending one or without it
+-- the file of a store is a log of its commands, with or without the pending one
 pub log_of_store : (d : DiskState) (store : StoreState) (commands : List KeyCommand) → store.log.file ≡ 0 → StandsFor d store commands
     → (bytes : List ℕ) → Is (front store.log.file (map spelling commands)) (option_map spelling store.pending) bytes → IsLogOf commands store.pending bytes
 log_of_store d store commands of_file s bytes is = go store.pending is s.log.payload
@@ -29,7 +29,7 @@ log_of_store d store commands of_file s bytes is = go store.pending is s.log.pay
     go None shut fits = subst (λ (k : ℕ). IsAtRest k payloads bytes) of_file (ap (log_of store.log.file) shut.1 ∙ log_shut store.log.file payloads shut.0 s.log.sized)
     go (Some command) held fits = subst (λ (k : ℕ). IsBeforeOrAfter k payloads (spelling command) bytes) of_file (before_or_after store.log.file payloads (spelling command) s.log.sized fits bytes held)
 
--- each command has one spelling
+-- each command has one encoding
 one_list : (a b : List KeyCommand) → AllByRecursion HasSpelling a → AllByRecursion HasSpelling b → map spelling a ≡ map spelling b → a ≡ b
 one_list [] [] p q is = refl
 one_list [] (y ∷ ys) p q is = absurd cc
@@ -39,7 +39,7 @@ one_list (x ∷ xs) (y ∷ ys) p q is =
     let rest : map spelling xs ≡ map spelling ys = cc is in
     λ i. one_spelling x y p.0 q.0 first i ∷ one_list xs ys p.1 q.1 rest i
 
--- what a sound log is found to be
+-- what is found in a sound log
 pub found_is : (bytes : List ℕ) (commands : List KeyCommand) (more : Option KeyCommand) (table : Table) → IsSoundLog bytes commands more table
     → (payloads : List (List ℕ)) (gate : ℕ) → log_of 0 bytes ≡ Found payloads gate → (kept : Bool) × (payloads ≡ map spelling (commands ++ settled_commands kept more))
 found_is bytes commands more table s payloads gate found = go more s.log
@@ -53,7 +53,7 @@ found_is bytes commands more table s payloads gate found = go more s.log
     go (Some command) (inr (inl with)) = let is : payloads ≡ map spelling commands ++ spelling command ∷ [] = cc (found, with) in (true, is ∙ sym (spelled_more commands command))
     go (Some command) (inr (inr half)) = let is : payloads ≡ map spelling commands = cc (found, half.now) in (false, is ∙ as_they_are)
 
--- the commands of a log, and the table that they make, once its last one was settled
+-- the commands of a log, and the table that they make, once the last was settled
 spelled_behind : (commands : List KeyCommand) (more : Option KeyCommand) → AllByRecursion HasSpelling commands → IfSome more HasSpelling → (kept : Bool) → AllByRecursion HasSpelling (commands ++ settled_commands kept more)
 spelled_behind commands None spelled h kept = subst (AllByRecursion HasSpelling) (sym (append-nil commands)) spelled
 spelled_behind commands (Some command) spelled h true = each_more HasSpelling commands command spelled h
@@ -130,7 +130,7 @@ left_by_start bytes commands more table s left (Recovered (Log_as_found (Opened 
     go (Some command) (inr (inr half)) may spelled =
         record { kept = false; more = Some command; more_is = inl (refl, refl); fits = may; spelled = spelled; log = subst (λ (l : List KeyCommand). IsWithOrWithout l command left) (sym (append-nil commands)) (inr (inl (ap (log_of 0) same ∙ half.then_on))) }
 
--- what a crash may leave of the log of these commands is a sound log, of them and of what was settled of the pending one
+-- what a crash may leave of the log of these commands is a sound log of them and the settled pending one
 pub sound_left : (table : Table) (pending : Option KeyCommand) (own : Bool → KeyCommand → Type 0) (commands : List KeyCommand) (bytes : List ℕ) → AllByRecursion HasSpelling commands → IfSome pending HasSpelling
     → key_replay no_keys commands ≡ Some table → Applies table pending → (l : IsLeftOf table pending own commands bytes)
     → IsSoundLog bytes (commands ++ settled_commands l.kept pending) l.more (settled_table l.kept pending table)
@@ -142,7 +142,7 @@ sound_left table pending own commands bytes spelled waits makes applies l = reco
   log = l.log;
 }
 
--- the log of a store is a sound one
+-- the log of a store is sound
 pub sound_store : (d : DiskState) (store : StoreState) (commands : List KeyCommand) → store.log.file ≡ 0 → Applies store.table.keys store.pending → StandsFor d store commands
     → IsSoundLog (d.reads 0) commands store.pending store.table.keys
 sound_store d store commands of_file may s = record {
@@ -153,7 +153,7 @@ sound_store d store commands of_file may s = record {
   log = log_of_store d store commands of_file s (d.reads 0) (subst (λ (k : ℕ). Is (front store.log.file (map spelling commands)) (option_map spelling store.pending) (d.reads k)) of_file s.log.reads);
 }
 
--- and a crash leaves such a log
+-- and so is the log that a crash leaves
 pub left_by_store : (d : DiskState) (store : StoreState) (commands : List KeyCommand) → store.log.file ≡ 0 → Applies store.table.keys store.pending → StandsFor d store commands
     → (bytes : List ℕ) → d.leaves 0 bytes → IsLeftOf store.table.keys store.pending NoCommand commands bytes
 left_by_store d store commands of_file may s bytes left =
@@ -164,7 +164,7 @@ left_by_store d store commands of_file may s bytes left =
     go (Some command) fits spelled log =
         record { kept = false; more = Some command; more_is = inl (refl, refl); fits = fits; spelled = spelled; log = subst (λ (l : List KeyCommand). IsLogOf l (Some command) bytes) (sym (append-nil commands)) log }
 
--- a list of commands that begins so, and goes on with this record
+-- a list of commands with this prefix, followed by this record
 split_at : (all front : List KeyCommand) (payload : List ℕ) (payloads : List (List ℕ)) → AllByRecursion HasSpelling all → AllByRecursion HasSpelling front → map spelling all ≡ map spelling front ++ payload ∷ payloads
     → (command : KeyCommand) × (rest : List KeyCommand) × (all ≡ front ++ command ∷ rest) × HasSpelling command × (payload ≡ spelling command)
 split_at [] [] payload payloads p q is = absurd cc
@@ -176,7 +176,7 @@ split_at (x ∷ xs) (y ∷ ys) payload payloads p q is =
     let s = split_at xs ys payload payloads p.1 q.1 rest in
     (s.0, s.1, (λ i. one_spelling x y p.0 q.0 first i ∷ s.2 i), s.3, s.4)
 
--- a command in a list that makes a table applies behind those before it
+-- in a list of commands that makes a table, each applies after those before it
 applies_at : (t u made : Table) (front : List KeyCommand) (command : KeyCommand) (rest : List KeyCommand) → key_replay t front ≡ Some u → key_replay t (front ++ command ∷ rest) ≡ Some made → applies u command ≡ true
 applies_at t u made [] command rest before whole = go (applies t command) refl whole
   where
@@ -208,7 +208,7 @@ not_damaged bytes commands more table at s (Not_a_key_log k) =
     let may_not : applies k.table p.0 ≡ false = k.not_next p.0 p.3 p.4 in
     absurd (cc (may, may_not))
 
--- a store stands for one list of commands
+-- a store holds exactly one list of commands
 pub stands_once : (d : DiskState) (store : StoreState) (commands others found : List KeyCommand) (made : Table) → store.log.file ≡ 0 → Applies store.table.keys store.pending
     → StandsFor d store commands → StandsFor d store others → IsKeyLog (d.reads 0) found made → others ≡ commands
 stands_once d store commands others found made of_file may s t k =

@@ -12,7 +12,7 @@ use Rattle.frame_log.specs.Scan.{frame_view}
 use Rattle.frame_log.specs.declared.frames.Frame.{Frame}
 use Rattle.kms_store.specs.Replay.{key_replay, IsNext, IsNoNext, IsReplayed, IsStuck, HasRoomForBirths, payload_of}
 
--- a command more, which applies
+-- one more command, which applies
 pub replay_more : (t u : Table) (commands : List KeyCommand) (command : KeyCommand) → key_replay t commands ≡ Some u → applies u command ≡ true → key_replay t (commands ++ command ∷ []) ≡ Some (after u command)
 replay_more t u [] command is may =
     let same : t ≡ u = cc is in
@@ -28,7 +28,7 @@ spelled_more commands command = map-append spelling commands (command ∷ [])
 pub replayed_none : IsReplayed [] no_keys
 replayed_none = record { commands = []; spelled = tt; are = refl; makes = refl }
 
--- a frame more
+-- one more frame
 pub replayed_more : (frames : List (ℕ × List ℕ)) (frame : ℕ × List ℕ) (t u : Table) → IsReplayed frames t → IsNext t (payload_of frame) u → IsReplayed (frames ++ frame ∷ []) u
 replayed_more frames frame t u r n = record {
   commands = r.commands ++ n.command ∷ [];
@@ -41,7 +41,7 @@ replayed_more frames frame t u r n = record {
   makes = subst (λ (x : Table). key_replay no_keys (r.commands ++ n.command ∷ []) ≡ Some x) (sym n.then_is) (replay_more no_keys t r.commands n.command r.makes n.may);
 }
 
--- births keep within the openings
+-- births stay within the openings
 pub births_after : (t : Table) (command : KeyCommand) → applies t command ≡ true → HasRoomForBirths t → HasRoomForBirths (after t command)
 births_after t (Opened opening) may room = let next : opening ≡ t.opening + 1 = (Decides-eqb opening (t.opening + 1)).0 may in omega arith
 births_after t (Create birth name bits description created material) may room =
@@ -75,7 +75,7 @@ module _ (frames : List Frame) (i : ℕ) (frame : Frame) (inside : i < length fr
   taken_here payload t u r same n =
       subst (λ (l : List (ℕ × List ℕ)). IsReplayed l u) (sym so_far) (replayed_more (map frame_view (take i frames)) (frame_view frame) t u r (subst (λ (p : List ℕ). IsNext t p u) same n))
 
-  -- it is none
+  -- the next frame is not a command that applies
   pub stuck_here : (payload : List ℕ) (t : Table) (at : ℕ) → IsReplayed (map frame_view (take i frames)) t → payload ≡ frame.payload.items → IsNoNext t payload → at ≡ frame.at - 5 → IsStuck (map frame_view frames) at
   stuck_here payload t at r same none place = record {
     before = map frame_view (take i frames);

@@ -24,7 +24,7 @@ pub placed_payloads : (at : ℕ) (list : List (List ℕ)) → map payload_of (pl
 placed_payloads at [] = refl
 placed_payloads at (p ∷ list) = ap (λ (l : List (List ℕ)). p ∷ l) (placed_payloads (at + 5 + length p) list)
 
--- where a frame lies, by the payloads before it
+-- the offset of a frame, by the payloads before it
 place_at : (at : ℕ) (list : List (List ℕ)) (before : List (ℕ × List ℕ)) (frame : ℕ × List ℕ) (rest : List (ℕ × List ℕ)) → placed at list ≡ before ++ frame ∷ rest → place_of frame ≡ at + 5 + length (frames (map payload_of before))
 place_at at [] [] frame rest e = absurd (cc e)
 place_at at [] (b ∷ before) frame rest e = absurd (cc e)
@@ -92,7 +92,7 @@ left_as_found bytes leaves c (inr held) = inr (Recovered (Log_as_found held))
 pub from_weaker : {file : ℕ} {old new : DiskState} {P Q : List ℕ → Type 0} → ((c : List ℕ) → P c → Q c) → LeavesFrom file old new P → LeavesFrom file old new Q
 from_weaker f s = record { moment = s.moment; begun = s.begun; reached = s.reached; only = λ c left. f _ (s.only c left) }
 
--- and a run of calls after that
+-- from some moment of a run on, and in a run of calls after it
 pub from_then : {file : ℕ} {old mid new : DiskState} {P Q : List ℕ → Type 0} → LeavesFrom file old mid P → Going file mid new Q → ((c : List ℕ) → Q c → P c) → LeavesFrom file old new P
 from_then {file} {old} {mid} {new} {P} {Q} s run f = record {
   moment = s.moment;

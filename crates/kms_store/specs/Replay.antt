@@ -1,4 +1,4 @@
--- What the records of a key log are together.
+-- The table that the records of a key log make.
 use Rattle.std.specs.Prelude.{◌≡◌, ℕ, ◌+◌, ◌-◌, ◌*◌, ◌^◌, ◌<◌, Bool, true, false, List, [], ◌∷◌, ◌++◌, map, Option, Some, None, if◌then◌else◌}
 use Rattle.std.specs.List.{AllByRecursion}
 use Rattle.frame_log.specs.Scan.{frame_view}
@@ -7,12 +7,12 @@ use Rattle.key_rows.specs.Table.{Table, no_keys, applies, after}
 use Rattle.key_rows.specs.Records.{HasSpelling, spelling}
 use Rattle.key_rows.specs.declared.rows.KeyCommand.{KeyCommand}
 
--- the table after commands, or None where one of them doesn't apply
+-- the table after the commands, or None if one of them doesn't apply
 abbrev pub key_replay : Table → List KeyCommand → Option Table
 key_replay t [] = Some t
 key_replay t (command ∷ commands) = if applies t command then key_replay (after t command) commands else None
 
--- the record spells a command that applies, and leaves this table
+-- the record encodes a command that applies, and this is the table after it
 pub record IsNext (t : Table) (payload : List ℕ) (u : Table) : Type 0 where
   pub command : KeyCommand
   pub spelled : HasSpelling command
@@ -20,11 +20,11 @@ pub record IsNext (t : Table) (payload : List ℕ) (u : Table) : Type 0 where
   pub may : applies t command ≡ true
   pub then_is : u ≡ after t command
 
--- the record spells no command, or one that doesn't apply
+-- the record encodes no command, or one that doesn't apply
 abbrev pub IsNoNext : Table → List ℕ → Type 0
 IsNoNext t payload = (command : KeyCommand) → HasSpelling command → payload ≡ spelling command → applies t command ≡ false
 
--- whether a record was taken: it is the next command, or none
+-- whether a record was taken: it is the next command, or is not one
 abbrev pub IsTaken : Table → List ℕ → Table → Bool → Type 0
 IsTaken t payload u true = IsNext t payload u
 IsTaken t payload u false = IsNoNext t payload
@@ -39,14 +39,14 @@ payload_of frame = frame.1
 abbrev pub payloads : List Frame → List (List ℕ)
 payloads frames = map payload_of (map frame_view frames)
 
--- the payloads of these frames are commands, which make this table
+-- the payloads of these frames are commands that make this table
 pub record IsReplayed (frames : List (ℕ × List ℕ)) (table : Table) : Type 0 where
   pub commands : List KeyCommand
   pub spelled : AllByRecursion HasSpelling commands
   pub are : map payload_of frames ≡ map spelling commands
   pub makes : key_replay no_keys commands ≡ Some table
 
--- the payload of a frame is no command that applies behind those before it; its gate is at this offset
+-- the payload of a frame is not a command that applies after those before it; its gate is at this offset
 pub record IsStuck (frames : List (ℕ × List ℕ)) (at : ℕ) : Type 0 where
   pub before : List (ℕ × List ℕ)
   pub frame : ℕ × List ℕ
@@ -57,6 +57,6 @@ pub record IsStuck (frames : List (ℕ × List ℕ)) (at : ℕ) : Type 0 where
   pub not_next : IsNoNext table (payload_of frame)
   pub place : at ≡ place_of frame - 5
 
--- no birth is of a later opening than the last
+-- no birth is of a later opening than the last one
 abbrev pub HasRoomForBirths : Table → Type 0
 HasRoomForBirths t = t.greatest < (t.opening + 1) * 2 ^ 32

@@ -1,4 +1,4 @@
--- A store over a key log, and what it stands for.
+-- A store over a key log, and the commands that it holds.
 use Rattle.std.specs.Prelude.{◌≡◌, ◌⊎◌, ℕ, ◌+◌, Bool, true, false, List, [], ◌∷◌, ◌++◌, map, Option, Some, None, option_map, IfSome}
 use Rattle.std.specs.List.{AllByRecursion}
 use Rattle.hk_base.specs.Disk.{DiskState, Tells}
@@ -11,27 +11,27 @@ use Rattle.key_rows.specs.declared.rows.KeyCommand.{KeyCommand}
 use Rattle.key_rows.specs.declared.rows.KeyCommand.TheVariants.{Opened}
 use Rattle.kms_store.specs.Replay.{key_replay, IsNoNext, IsReplayed}
 
--- its log, the table of keys with the room kept, and the command that waits to be settled
+-- its log, the table of keys with its reserved capacity, and the command that waits to be settled
 pub record StoreState : Type 0 where
   pub log : Log
   pub table : Kept
   pub pending : Option KeyCommand
 
--- both wait, or none does
+-- both have a pending command, or neither has
 abbrev pub WaitTogether : Option KeyCommand → Option ℕ → Type 0
 WaitTogether None unsettled = unsettled ≡ None
 WaitTogether (Some command) None = ⊥
 WaitTogether (Some command) (Some size) = Unit {0}
 
--- The store stands for these acknowledged commands on the disk: they make its table, and they are the
--- records of its log, beside the one that waits.
+-- The store holds these acknowledged commands on the disk: they make its table, and they are the
+-- records of its log, beside the pending one.
 pub record StandsFor (disk : DiskState) (store : StoreState) (commands : List KeyCommand) : Type 0 where
   pub spelled : AllByRecursion HasSpelling commands
   pub makes : key_replay no_keys commands ≡ Some store.table.keys
   pub waits : IfSome store.pending HasSpelling
   pub log : Stands disk store.log (map spelling commands) (option_map spelling store.pending)
 
--- the table, and what is acknowledged, once the pending command was settled: it was kept, or not
+-- the table, and the newly acknowledged commands, once the pending command was settled: kept or dropped
 abbrev pub settled_table : Bool → Option KeyCommand → Table → Table
 settled_table kept None t = t
 settled_table true (Some command) t = after t command
@@ -42,29 +42,29 @@ settled_commands kept None = []
 settled_commands true (Some command) = command ∷ []
 settled_commands false (Some command) = []
 
--- The pending command was settled, and was kept or not.
+-- The pending command was settled: kept or dropped.
 pub record Settles (old new : DiskState) (store store' : StoreState) : Type 0 where
   pub kept : Bool
   pub none : store'.pending ≡ None
   pub table : store'.table.keys ≡ settled_table kept store.pending store.table.keys
   pub log : Tells old → (commands : List KeyCommand) → StandsFor old store commands → StandsFor new store' (commands ++ settled_commands kept store.pending)
 
--- a key log of these commands, with one more or without it, now and where its end gate byte is read as 1
+-- a key log of these commands, with or without one more, both now and once its end gate byte is set to 1
 abbrev pub IsWithOrWithout : List KeyCommand → KeyCommand → List ℕ → Type 0
 IsWithOrWithout commands command bytes = IsBeforeOrAfter 0 (map spelling commands) (spelling command) bytes
 
--- the same of a command that can be written
+-- the same for a command that can be encoded
 abbrev pub IsWritten : List KeyCommand → KeyCommand → List ℕ → Type 0
 IsWritten commands command bytes = HasSpelling command × IsWithOrWithout commands command bytes
 
--- the file is a log of these commands, each of which applies, and they make this table
+-- the file is a log of these commands, all of which apply and make this table
 pub record IsKeyLog (bytes : List ℕ) (commands : List KeyCommand) (table : Table) : Type 0 where
   pub gate : ℕ
   pub spelled : AllByRecursion HasSpelling commands
   pub found : log_of 0 bytes ≡ Found (map spelling commands) gate
   pub makes : key_replay no_keys commands ≡ Some table
 
--- The file is a log, and the record whose gate is at this offset is no command that applies behind
+-- The file is a log, and the record whose gate is at this offset is not a command that applies after
 -- those before it.
 pub record IsNoKeyLog (bytes : List ℕ) (at : ℕ) : Type 0 where
   pub commands : List KeyCommand
@@ -78,28 +78,28 @@ pub record IsNoKeyLog (bytes : List ℕ) (at : ℕ) : Type 0 where
   pub not_next : IsNoNext table payload
   pub place : at ≡ end_of (map spelling commands)
 
--- why a start answers Damaged with this offset
+-- why a start returns Damaged with this offset
 pub data IsDamagedAt (bytes : List ℕ) (at : ℕ) : Type 0 where
   Not_a_log : log_of 0 bytes ≡ NoLog at → IsDamagedAt bytes at
   Not_a_key_log : IsNoKeyLog bytes at → IsDamagedAt bytes at
 
--- the opening that follows this table
+-- the record of the opening after this table
 abbrev pub next_opening : Table → KeyCommand
 next_opening table = Opened (table.opening + 1)
 
--- what a start leaves of the file found, since it synced it: what recovering leaves, or the log with
--- the record of the new opening or without it
+-- what a start leaves of the file found, from its sync on: what recovery leaves, or the log with or
+-- without the record of the new opening
 pub data IsLeftByStart (found bytes : List ℕ) : Type 0 where
   Recovered : IsRecovered 0 found bytes → IsLeftByStart found bytes
   Opening : (commands : List KeyCommand) (table : Table) → IsKeyLog found commands table → IsWritten commands (next_opening table) bytes → IsLeftByStart found bytes
 
--- the log of the commands of these frames, with the record of the new opening or without it
+-- the log of the commands of these frames, with or without the record of the new opening
 pub record IsOpening (frames : List (ℕ × List ℕ)) (bytes : List ℕ) : Type 0 where
   pub table : Table
   pub replayed : IsReplayed frames table
   pub left : IsWritten replayed.commands (next_opening table) bytes
 
--- what a crash may leave of a log: these commands, with one more or without it, now and where the end gate byte is read as 1
+-- what a crash may leave of a log: these commands, with or without one more, both now and once the end gate byte is set to 1
 abbrev pub IsLogOf : List KeyCommand → Option KeyCommand → List ℕ → Type 0
 IsLogOf commands None bytes = IsAtRest 0 (map spelling commands) bytes
 IsLogOf commands (Some command) bytes = IsWithOrWithout commands command bytes
@@ -107,7 +107,7 @@ IsLogOf commands (Some command) bytes = IsWithOrWithout commands command bytes
 abbrev pub Applies : Table → Option KeyCommand → Type 0
 Applies t more = IfSome more (λ command. applies t command ≡ true)
 
--- A key log that a run may start from: its commands make a table, and one more, which applies, may be behind them.
+-- A key log that a run may start from: its commands make a table, and it may have one more, which applies.
 pub record IsSoundLog (bytes : List ℕ) (commands : List KeyCommand) (more : Option KeyCommand) (table : Table) : Type 0 where
   pub spelled : AllByRecursion HasSpelling commands
   pub spelled_more : IfSome more HasSpelling
@@ -115,9 +115,9 @@ pub record IsSoundLog (bytes : List ℕ) (commands : List KeyCommand) (more : Op
   pub fits : Applies table more
   pub log : IsLogOf commands more bytes
 
--- What a crash may leave of the log of these commands, which make a table, while one is pending: that log, or the one with
--- the pending command; with one more command, which applies, or without it. That one is the pending command itself, or one of
--- `own`, which says what may be written behind the settled log.
+-- What a crash may leave of the log of these commands, which make a table, while one is pending: the log with or without the
+-- pending command, and with or without one more, which applies. That one is the pending command itself, or one of `own`,
+-- which says what may be written after the settled log.
 pub record IsLeftOf (table : Table) (pending : Option KeyCommand) (own : Bool → KeyCommand → Type 0) (commands : List KeyCommand) (bytes : List ℕ) : Type 0 where
   pub kept : Bool
   pub more : Option KeyCommand
@@ -130,7 +130,7 @@ abbrev pub is_key_opening : KeyCommand → Bool
 is_key_opening (Opened opening) = true
 is_key_opening _ = false
 
--- what may be written: nothing, and the record of an opening
+-- what may be written: nothing, or the record of an opening
 
 abbrev pub NoCommand : Bool → KeyCommand → Type 0
 NoCommand kept command = ⊥

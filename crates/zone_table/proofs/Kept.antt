@@ -1,4 +1,4 @@
--- The rows of a tree, those at and below a path taken out in path order up to a place.
+-- The rows of a tree while those at and below a path are removed in path order, up to a place.
 use Rattle.std.proofs.Common.{◌≡◌, ℕ, ◌<◌, ◌≤◌, zero, suc, Bool, true, false, not, cond, ◌||◌, List, [], ◌∷◌, length, get_or, Option, Some, None, refl, sym, ap, ◌∙◌, subst, arith}
 use Rattle.std.specs.Prelude.{◌==◌, nat_lt, slice_get}
 use Rattle.std.specs.List.{All}
@@ -18,13 +18,13 @@ use Rattle.zone_table.specs.Zones.{put_zone, with_mark, without_zone, zone_row, 
 use Rattle.zone_table.proofs.Marks.{AllFrom, IsFound, IsOrdered, eq-flip, eq-yes, lt-le-trans, put-behind, put-front, row-mark, zones-ordered}
 use Rattle.zone_table.proofs.Tables.{same, without-none}
 
--- of the rows before a place those that are neither at the path nor below it, and the rows from there on
+-- the rows before a place that are neither at the path nor below it, and all rows from the place on
 abbrev pub kept_rows : List (List ℕ) → ℕ → List Entry → List Entry
 kept_rows p zero es = es
 kept_rows p (suc k) [] = []
 kept_rows p (suc k) (e ∷ es) = cond (is_prefix p e.path) (kept_rows p k es) (e ∷ kept_rows p k es)
 
--- the rows that come before the path are not below it
+-- the rows before the path are not below it
 pub kept-start : (p : List (List ℕ)) (es : List Entry) → kept_rows p (rank es p) es ≡ es
 kept-start p [] = refl
 kept-start p (e ∷ es) = go (is_before e.path p) refl (is_prefix p e.path) refl (kept-start p es)
@@ -34,11 +34,11 @@ kept-start p (e ∷ es) = go (is_before e.path p) refl (is_prefix p e.path) refl
     go true f false g ih = ap (λ (t : Bool). cond t (kept_rows p (rank es p) es) (e ∷ kept_rows p (rank es p) es)) g ∙ ap (λ (l : List Entry). e ∷ l) ih
     go false f t g ih = refl
 
--- the row comes behind the path and behind all below it
+-- the row comes after the path and after all rows below it
 abbrev pub IsPast : List (List ℕ) → Option Entry → Type 0
 IsPast p o = (e : Entry) → o ≡ Some e → (is_before e.path p || is_prefix p e.path) ≡ false
 
--- where the next row lies behind the path, so do all that follow
+-- if the next row comes after all rows below the path, so do all later ones
 pub kept-end : (p : List (List ℕ)) (es : List Entry) (at : ℕ) → IsRising es → IsPast p (slice_get es at) → kept_rows p at es ≡ removed p es
 kept-end p [] zero r h = refl
 kept-end p [] (suc k) r h = refl
@@ -52,7 +52,7 @@ kept-end p (e ∷ es) (suc k) r h = go (is_prefix p e.path) (kept-end p es k r.1
     go true ih = ih
     go false ih = ap (λ (l : List Entry). e ∷ l) ih
 
--- a row from the path's place on that is not below the path lies behind it
+-- a row from the path's place on that is not below the path comes after all that are
 pub past-from : (p : List (List ℕ)) (es : List Entry) (at : ℕ) → IsRising es → rank es p ≤ at → ((e : Entry) → slice_get es at ≡ Some e → is_prefix p e.path ≡ false) → IsPast p (slice_get es at)
 past-from p es at r b h e g = go (is_before e.path p) refl
   where
@@ -67,7 +67,7 @@ past-from p es at r b h e g = go (is_before e.path p) refl
         let low = rank-above es p at r w.0 (ap (λ (x : Entry). is_before x.path p) w.1 ∙ f) in absurd (omega arith)
     go false f = h e g
 
--- a table without a zone that was put in
+-- removing a zone that was just added gives the earlier zones
 without-put : (z : ZoneRow) (xs : List ZoneRow) → zone_row xs z.dir ≡ None → without_zone (put_zone z xs) z.dir ≡ xs
 without-put z [] h = ap (λ (t : Bool). cond t [] (z ∷ [])) (same z.dir)
 without-put z (x ∷ xs) h = go (nat_lt z.dir x.dir) (x.dir == z.dir) refl h (without-put z xs)
@@ -77,7 +77,7 @@ without-put z (x ∷ xs) h = go (nat_lt z.dir x.dir) (x.dir == z.dir) refl h (wi
     go false true f n ih = cc
     go false false f n ih = ap (λ (t : Bool). cond t (put_zone z xs) (x ∷ without_zone (put_zone z xs) z.dir)) f ∙ ap (λ (l : List ZoneRow). x ∷ l) (ih n)
 
--- and without another: what comes before the first zone is put in first
+-- a zone whose id is lower than all others is added at the front
 put-first : (z : ZoneRow) (xs : List ZoneRow) (dir : ℕ) → nat_lt z.dir dir ≡ true → AllFrom dir xs → put_zone z xs ≡ z ∷ xs
 put-first z [] dir h a = refl
 put-first z (x ∷ xs) dir h a = put-front z x xs (lt-le-trans z.dir dir x.dir h a.0)
@@ -109,7 +109,7 @@ mark-other None id dir zs d o = refl
 mark-other (Some key) id dir zs d o = without-other (record { dir = id; key = key }) zs dir d o
 
 module _ (rows : List Entry) where
-  -- rows that follow another have other ids
+  -- rows that follow another have different ids
   other-id : (x e : Entry) → IsFound rows x → IsFound rows e → is_before x.path e.path ≡ true → (x.row.id == e.row.id) ≡ false
   other-id x e f g b = go (x.row.id == e.row.id) refl
     where
@@ -122,7 +122,7 @@ module _ (rows : List Entry) where
           let n = not-before-itself x.path in cc
       go false h = refl
 
-  -- none of the rows that follow a row is its zone
+  -- the zone of a row is not among those of the later rows
   none-later : (e : Entry) (es : List Entry) → IsFound rows e → All (IsFound rows) es → AllAfter e.path es → zone_row (zones_of es) e.row.id ≡ None
   none-later e [] f a after = refl
   none-later e (x ∷ es) f a after =
@@ -139,7 +139,7 @@ module _ (rows : List Entry) where
   found-get (x ∷ es) zero e a g = let f : x ≡ e = cc in subst (IsFound rows) f (All-head (IsFound rows) x es a)
   found-get (x ∷ es) (suc k) e a g = found-get es k e (All-tail (IsFound rows) x es a) g
 
-  -- the row at the place is taken out, its zone with it
+  -- the row at the place is removed, and its zone with it
   step : (p : List (List ℕ)) (es : List Entry) (at : ℕ) (e : Entry) → All (IsFound rows) es → IsRising es → slice_get es at ≡ Some e → is_prefix p e.path ≡ true → zones_of (kept_rows p (suc at) es) ≡ without_zone (zones_of (kept_rows p at es)) e.row.id
   step p [] at e a r g h = cc
   step p (x ∷ es) zero e a r g h =
@@ -158,7 +158,7 @@ module _ (rows : List Entry) where
           ∙ sym (mark-other (mark_of x.row.kind) x.row.id e.row.id (zones_of (kept_rows p k es))
           (other-id x e (All-head (IsFound rows) x es a) (found-get es k e (All-tail (IsFound rows) x es a) g) (after-get x.path es k e r.0 g)) (zones-ordered (kept_rows p k es)))
 
--- what one turn takes out
+-- what one iteration removes
 pub kept-step : (rows : List Entry) (p : List (List ℕ)) (at : ℕ) (row : Row) → IsRows rows → option_map (λ (e : Entry). e.row) (slice_get rows at) ≡ Some row → option_map (λ (e : Entry). is_prefix p e.path) (slice_get rows at) ≡ Some true
     → without_zone (zones_of (kept_rows p at rows)) row.id ≡ zones_of (kept_rows p (suc at) rows)
 kept-step rows p at row r f g = go (slice_get rows at) refl f g
@@ -170,13 +170,13 @@ kept-step rows p at row r f g = go (slice_get rows at) refl f g
         let t : is_prefix p e.path ≡ true = cc in
         ap (λ (y : Row). without_zone (zones_of (kept_rows p at rows)) y.id) (sym i) ∙ sym (step rows p rows at e r.once r.rising h t)
 
--- what is left where the next row is not below the path
+-- what is left if the next row is not below the path
 pub kept-apart : (rows : List Entry) (p : List (List ℕ)) (at : ℕ) (t : Bool) → IsRows rows → rank rows p ≤ at → option_map (λ (e : Entry). is_prefix p e.path) (slice_get rows at) ≡ Some t → t ≡ false → zones_of (kept_rows p at rows) ≡ zones_of (removed p rows)
 kept-apart rows p at t r b f g =
     ap zones_of (kept-end p rows at r.rising (past-from p rows at r.rising b
     (λ e h. let i : Some (is_prefix p e.path) ≡ Some t = sym (ap (option_map (λ (e : Entry). is_prefix p e.path)) h) ∙ f in let j : is_prefix p e.path ≡ t = cc in j ∙ g)))
 
--- and where there is none
+-- what is left if there is no next row
 pub kept-none : (rows : List Entry) (p : List (List ℕ)) (at : ℕ) → IsRows rows → length rows ≤ at → zones_of (kept_rows p at rows) ≡ zones_of (removed p rows)
 kept-none rows p at r b = ap zones_of (kept-end p rows at r.rising (λ e h. absurd (beyond rows at b e h)))
   where

@@ -22,7 +22,7 @@ abbrev pub marked_place : Option KeyName → ℕ → List ℕ → List ℕ
 marked_place None n ks = ks
 marked_place (Some key) n ks = n ∷ ks
 
--- the places of the marked rows, the first row at n
+-- the places of the marked rows, if the first row is at n
 abbrev pub marks_from : ℕ → List Entry → List ℕ
 marks_from n [] = []
 marks_from n (e ∷ es) = marked_place (mark_of e.row.kind) n (marks_from (suc n) es)
@@ -55,7 +55,7 @@ marks-within n (e ∷ es) end h = go (mark_of e.row.kind) (marks-within (suc n) 
     go None a = a
     go (Some key) a = All-cons (λ k. k < end) n (marks_from (suc n) es) (omega arith) a
 
--- what stands at those places are the zones by their paths
+-- the zones at those places are the zones by their paths
 pub listed-marks : (rows : List Entry) (n : ℕ) (es : List Entry) → ((k : ℕ) → slice_get rows (n + k) ≡ slice_get es k) → flat_map (listed_at rows) (marks_from n es) ≡ zone_paths es
 listed-marks rows n [] h = refl
 listed-marks rows n (e ∷ es) h = go (mark_of e.row.kind) refl (listed-marks rows (suc n) es (λ k. ap (slice_get rows) (shift n k) ∙ h (suc k)))
@@ -76,7 +76,7 @@ listed-marks rows n (e ∷ es) h = go (mark_of e.row.kind) refl (listed-marks ro
         ∙ ap (λ (m : Option KeyName). listed m e.path [] ++ flat_map (listed_at rows) (marks_from (suc n) es)) f
         ∙ ap (λ (zones : List ZonePath). record { path = e.path; key = key } ∷ zones) ih
 
--- the rows of es stand n places further on in the whole
+-- the rows of es are n places further on in the whole list
 abbrev pub RankIs : List Entry → ℕ → List Entry → Entry → Type 0
 RankIs rows n es e = rank rows e.path ≡ n + rank es e.path
 
@@ -130,7 +130,7 @@ ranks-start rows (e ∷ es) = All-cons (RankIs rows 0 rows) e es (omega arith) (
 pub places-permute : (rows : List Entry) → IsRows rows → IsPermutation (marks_from 0 rows) (map (zone_place rows) (zones_of rows))
 places-permute rows r = marks-permute rows 0 rows r.once r.rising (ranks-start rows rows)
 
--- the zones of a table's entries stand at the places of its keys
+-- the zones of a table's entries are at the places of its keys
 entries-permute : (rows : List Entry) (es : List (ℕ × KeyName)) → IsPermutation (map (zone_place rows) (by_directory es)) (map (place_of rows) (keys_of es))
 entries-permute rows [] = IsPermutation-refl []
 entries-permute rows (e ∷ es) =
@@ -141,7 +141,7 @@ entries-permute rows (e ∷ es) =
     z : ZoneRow
     z = record { dir = e.0; key = e.1 }
 
--- the directory of each zone stands in the tree
+-- the directory of each zone is in the tree
 found-put : (P : ZoneRow → Type 0) (z : ZoneRow) (xs : List ZoneRow) → P z → All P xs → All P (put_zone z xs)
 found-put P z [] p a = All-cons P z [] p a
 found-put P z (x ∷ xs) p a = go (nat_lt z.dir x.dir) (found-put P z xs p (All-tail P x xs a))

@@ -27,7 +27,7 @@ unmarked-changes-nothing e (x ∷ xs) h = go (is_before e.path x.path) (unmarked
     go true ih = ap (λ (m : Option KeyName). with_mark m e.row.id (zones_of (x ∷ xs))) h
     go false ih = ap (with_mark (mark_of x.row.kind) x.row.id) ih
 
--- zones of two directories are put in in any order
+-- the order in which zones of two directories are added makes no difference
 lt-not : (a b : ℕ) → nat_lt a b ≡ true → nat_lt b a ≡ false
 lt-not a b h = grind (arith, nat_tests)
 
@@ -43,15 +43,15 @@ eq-flip a b h = grind (arith, nat_tests)
 pub eq-yes : (a b : ℕ) → (a == b) ≡ true → a ≡ b
 eq-yes a b h = grind (arith, nat_tests)
 
--- in front of a zone that comes after it
+-- a zone is added before one that comes after it
 pub put-front : (a x : ZoneRow) (xs : List ZoneRow) → nat_lt a.dir x.dir ≡ true → put_zone a (x ∷ xs) ≡ a ∷ x ∷ xs
 put-front a x xs h = ap (λ (t : Bool). cond t (a ∷ x ∷ xs) (x ∷ put_zone a xs)) h
 
--- behind a zone that doesn't come after it
+-- a zone is added after one that doesn't come after it
 pub put-behind : (a x : ZoneRow) (xs : List ZoneRow) → nat_lt a.dir x.dir ≡ false → put_zone a (x ∷ xs) ≡ x ∷ put_zone a xs
 put-behind a x xs h = ap (λ (t : Bool). cond t (a ∷ x ∷ xs) (x ∷ put_zone a xs)) h
 
--- the first zone goes on in front of one that comes after both
+-- two zones, the first of which comes first, can be added in either order
 put-two : (a b : ZoneRow) (xs : List ZoneRow) → nat_lt a.dir b.dir ≡ true → put_zone a (put_zone b xs) ≡ put_zone b (put_zone a xs)
 put-two a b [] h = put-front a b [] h ∙ sym (put-behind b a [] (lt-not _ _ h))
 put-two a b (x ∷ xs) h = go (nat_lt a.dir x.dir) refl (nat_lt b.dir x.dir) refl (put-two a b xs h)
@@ -82,7 +82,7 @@ mark-put : (m : Option KeyName) (id : ℕ) (z : ZoneRow) (xs : List ZoneRow) →
 mark-put None id z xs d = refl
 mark-put (Some key) id z xs d = put-swap (record { dir = id; key = key }) z xs d
 
--- a zone of another directory is not found
+-- adding a zone does not change what is found at another directory
 row-put : (z : ZoneRow) (xs : List ZoneRow) (dir : ℕ) → (z.dir == dir) ≡ false → zone_row (put_zone z xs) dir ≡ zone_row xs dir
 row-put z [] dir d = ap (λ (t : Bool). cond t (Some z) None) d
 row-put z (x ∷ xs) dir d = go (nat_lt z.dir x.dir) (row-put z xs dir d)
@@ -99,12 +99,12 @@ row-mark (Some key) id xs dir d = row-put (record { dir = id; key = key }) xs di
 abbrev pub IsFound : List Entry → Entry → Type 0
 IsFound rows e = entry_of rows e.row.id ≡ Some e
 
--- the row that has an id is the one that is found by it
+-- the row with an id is the one that is found by it
 module _ (rows : List Entry) (dir : Entry) (found : IsFound rows dir) where
   is-it : (e : Entry) → IsFound rows e → (e.row.id == dir.row.id) ≡ true → e ≡ dir
   is-it e h t = let i = eq-yes _ _ t in let f : entry_of rows e.row.id ≡ entry_of rows dir.row.id = ap (entry_of rows) i in cc
 
-  -- no row but an unmarked one has the id
+  -- no zone has the id of an unmarked row
   no-zone : (es : List Entry) → All (IsFound rows) es → mark_of dir.row.kind ≡ None → zone_row (zones_of es) dir.row.id ≡ None
   no-zone [] a u = refl
   no-zone (e ∷ es) a u = go (e.row.id == dir.row.id) refl (no-zone es (All-tail (IsFound rows) e es a) u)
@@ -115,7 +115,7 @@ module _ (rows : List Entry) (dir : Entry) (found : IsFound rows dir) where
           ap (λ (m : Option KeyName). zone_row (with_mark m e.row.id (zones_of es)) dir.row.id) (ap (λ (f : Entry). mark_of f.row.kind) same ∙ u) ∙ ih
       go false h ih = row-mark (mark_of e.row.kind) e.row.id (zones_of es) dir.row.id h ∙ ih
 
-  -- rows that come after it have other ids
+  -- rows that come after it have different ids
   unmoved : (es : List Entry) (kind : Kind) → All (IsFound rows) es → AllAfter dir.path es → set_kind es dir.row.id kind ≡ es
   unmoved [] kind a after = refl
   unmoved (e ∷ es) kind a after = go (e.row.id == dir.row.id) refl (unmoved es kind (All-tail (IsFound rows) e es a) after.1)
@@ -147,7 +147,7 @@ module _ (rows : List Entry) (dir : Entry) (found : IsFound rows dir) where
 pub marked-is-a-zone : MarkedIsAZone
 marked-is-a-zone rows dir key r found d u = (marked rows dir found rows key r.once r.rising found u, no-zone rows dir found rows r.once u)
 
--- what is found by an id has it
+-- a row that is found by an id has the id
 pub found-has : (rows : List Entry) (id : ℕ) (e : Entry) → entry_of rows id ≡ Some e → e.row.id ≡ id
 found-has [] id e h = cc
 found-has (x ∷ xs) id e h = go (x.row.id == id) refl h (found-has xs id e)
@@ -156,7 +156,7 @@ found-has (x ∷ xs) id e h = go (x.row.id == id) refl h (found-has xs id e)
     go true f g ih = let same : x ≡ e = cc in subst (λ (d : Entry). d.row.id ≡ id) same (eq-yes _ _ f)
     go false f g ih = ih g
 
--- the row is that of a directory without a mark
+-- the row is a directory without a mark
 abbrev pub is_plain : Entry → Bool
 is_plain e = is_dir e.row.kind && is_none (mark_of e.row.kind)
 
@@ -164,7 +164,7 @@ none-from : (m : Option KeyName) → is_none m ≡ true → m ≡ None
 none-from None h = refl
 none-from (Some key) h = cc
 
--- the same where the directory is named by its id
+-- the same if the directory is named by its id
 pub marked-by-id : (rows : List Entry) (id : ℕ) (key : KeyName) → IsRows rows → option_map_or is_plain (entry_of rows id) false ≡ true
     → (zones_of (set_kind rows id (Dir (Some key))) ≡ put_zone (record { dir = id; key = key }) (zones_of rows)) × (zone_row (zones_of rows) id ≡ None) × (option_map_or (λ (e : Entry). is_dir e.row.kind) (entry_of rows id) false ≡ true)
 marked-by-id rows id key r h = go (entry_of rows id) refl h
@@ -181,7 +181,7 @@ marked-by-id rows id key r h = go (entry_of rows id) refl h
           parts.0,
         )
 
--- the zones stand in order of their directories' ids
+-- the zones are in order of their directories' ids
 abbrev pub AllFrom : ℕ → List ZoneRow → Type 0
 AllFrom dir [] = ⊤
 AllFrom dir (x ∷ xs) = (nat_lt x.dir dir ≡ false) × AllFrom dir xs

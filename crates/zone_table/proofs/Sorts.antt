@@ -1,4 +1,4 @@
--- Numbers in order are told by how many lie below each bound.
+-- Numbers in order are determined by how many are below each bound.
 use Rattle.std.proofs.Common.{◌≡◌, ℕ, ◌+◌, ◌<◌, ◌≤◌, suc, cond, List, [], ◌∷◌, length, get_or, refl, sym, ap, ◌∙◌, arith, inl, inr}
 use Rattle.std.specs.Prelude.{nat_lt, ⊤}
 use Rattle.std.specs.List.{sum_by}
@@ -18,11 +18,11 @@ abbrev pub Climbs : List ℕ → Type 0
 Climbs [] = ⊤
 Climbs (x ∷ xs) = AllUpFrom x xs × Climbs xs
 
--- 1 where the number is below the bound
+-- 1 if the number is below the bound, else 0
 unfoldable pub one : ℕ → ℕ → ℕ
 one t x = cond (nat_lt x t) 1 0
 
--- how many numbers are below the bound
+-- the number of elements below the bound
 unfoldable pub count : ℕ → List ℕ → ℕ
 count t xs = sum_by (one t) xs
 
@@ -87,7 +87,7 @@ climbs-from : (xs : List ℕ) → IsNonDecreasingBy (λ x. x) xs → Climbs xs
 climbs-from [] r = tt
 climbs-from (x ∷ xs) r = (up-from x xs (λ k d b. r 0 (suc k) d (omega arith) (omega arith)), climbs-from xs (λ i j d low high. r (suc i) (suc j) d (omega arith) (omega arith)))
 
--- what a sort of a permutation of numbers in order leaves
+-- sorting a permutation of numbers in order gives them back
 pub sorted-back : (xs ys zs : List ℕ) → Climbs xs → IsPermutation xs ys → IsPermutation ys zs → IsNonDecreasingBy (λ x. x) zs → zs ≡ xs
 unfolding count
 sorted-back xs ys zs c p q r = same-climbs zs xs (climbs-from zs r) c (λ t. sum_by-IsPermutation (one t) ys zs q ∙ sum_by-IsPermutation (one t) xs ys p)

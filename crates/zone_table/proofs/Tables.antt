@@ -1,4 +1,4 @@
--- A table of zones, by what it has at each directory.
+-- A table of zones is determined by what it has at each directory.
 use Rattle.std.proofs.Common.{◌≡◌, ℕ, Bool, true, false, cond, List, [], ◌∷◌, Option, None, Some, refl, sym, ap, ◌∙◌, arith}
 use Rattle.std.specs.Prelude.{◌==◌, nat_lt, ⊤}
 use Rattle.std.specs.Bool.{nat_eq}
@@ -17,7 +17,7 @@ abbrev pub AllOver : ℕ → List ZoneRow → Type 0
 AllOver dir [] = ⊤
 AllOver dir (x ∷ xs) = (nat_lt dir x.dir ≡ true) × AllOver dir xs
 
--- the ids rise, none twice
+-- the ids increase strictly
 abbrev pub IsSteep : List ZoneRow → Type 0
 IsSteep [] = ⊤
 IsSteep (x ∷ xs) = AllOver x.dir xs × IsSteep xs
@@ -37,7 +37,7 @@ above a b h k = grind (arith, nat_tests)
 tie : (a b : ℕ) → nat_lt a b ≡ false → nat_lt b a ≡ false → a ≡ b
 tie a b h k = grind (arith, nat_tests)
 
--- the zone at a directory, where it has a key
+-- the zone at a directory, if it has a key
 abbrev pub row_of : ℕ → Option KeyName → Option ZoneRow
 row_of dir key = option_map (λ k. record { dir = dir; key = k }) key
 
@@ -74,7 +74,7 @@ over-without dir (x ∷ xs) other o = go (x.dir == other) (over-without dir xs o
     go true ih = o.1
     go false ih = (o.0, ih)
 
--- nothing is found below the first zone
+-- no zone is found below the first
 none-over : (dir : ℕ) (xs : List ZoneRow) → AllOver dir xs → zone_row xs dir ≡ None
 none-over dir [] o = refl
 none-over dir (x ∷ xs) o = ap (λ (t : Bool). cond t (Some x) (zone_row xs dir)) (below dir x.dir o.0) ∙ none-over dir xs o.1
@@ -95,7 +95,7 @@ steep-without (x ∷ xs) dir s = go (x.dir == dir) (steep-without xs dir s.1)
     go true ih = s.1
     go false ih = (over-without x.dir xs dir s.0, ih)
 
--- what is found once a zone was put in
+-- what is found after a zone was added
 pub row-added : (z : ZoneRow) (xs : List ZoneRow) (dir : ℕ) → zone_row xs z.dir ≡ None → zone_row (put_zone z xs) dir ≡ cond (z.dir == dir) (Some z) (zone_row xs dir)
 row-added z [] dir h = refl
 row-added z (x ∷ xs) dir h = go (nat_lt z.dir x.dir) (row-added z xs dir (none-parts x xs z.dir h).1)
@@ -112,7 +112,7 @@ row-added z (x ∷ xs) dir h = go (nat_lt z.dir x.dir) (row-added z xs dir (none
     go true ih = refl
     go false ih = ap (λ (o : Option ZoneRow). cond (x.dir == dir) (Some x) o) ih ∙ swap (z.dir == dir) (x.dir == dir) refl refl
 
--- and once one was taken out
+-- what is found after a zone was removed
 pub row-without : (xs : List ZoneRow) (dir q : ℕ) → IsSteep xs → zone_row (without_zone xs dir) q ≡ cond (dir == q) None (zone_row xs q)
 row-without [] dir q s = go (dir == q)
   where
@@ -128,7 +128,7 @@ row-without (x ∷ xs) dir q s = go (x.dir == dir) refl (dir == q) refl (row-wit
         ap (λ (t : Bool). cond t (Some x) (zone_row (without_zone xs dir) q)) (ap (λ (n : ℕ). x.dir == n) (sym (eq-yes dir q f)) ∙ e) ∙ ih ∙ ap (λ (t : Bool). cond t None (zone_row xs q)) f
     go false e false f ih = ap (λ (o : Option ZoneRow). cond (x.dir == q) (Some x) o) (ih ∙ ap (λ (t : Bool). cond t None (zone_row xs q)) f)
 
--- two tables that have the same at each directory are the same
+-- two tables with the same zone at each directory are equal
 pub same-rows : (xs ys : List ZoneRow) → IsSteep xs → IsSteep ys → ((q : ℕ) → zone_row xs q ≡ zone_row ys q) → xs ≡ ys
 same-rows [] [] s t h = refl
 same-rows [] (y ∷ ys) s t h = let e = h y.dir ∙ ap (λ (u : Bool). cond u (Some y) (zone_row ys y.dir)) (same y.dir) in cc
@@ -153,12 +153,12 @@ same-rows (x ∷ xs) (y ∷ ys) s t h = go (nat_lt x.dir y.dir) refl (nat_lt y.d
         let head : x ≡ y = cc in
         let rest : xs ≡ ys = ih (λ q. tails d q (x.dir == q) refl (h q ∙ ap (λ (n : ℕ). cond (n == q) (Some y) (zone_row ys q)) (sym d))) in cc
 
--- no entry has a key that differs from each
+-- a key that differs from those of all entries is not found
 absent : (k : ℕ) (es : List (ℕ × KeyName)) → AllByRecursion (λ y. nat_eq k y ≡ false) (keys_of es) → lookup (nat_eq k) es ≡ None
 absent k [] a = refl
 absent k (e ∷ es) a = ap (λ (t : Bool). cond t (Some e.1) (lookup (nat_eq k) es)) a.0 ∙ absent k es a.1
 
--- the table of some entries has at each directory what they have
+-- the table of some entries has the same at each directory as the entries
 pub row-entries : (es : List (ℕ × KeyName)) (dir : ℕ) → IsDistinct nat_eq (keys_of es) → zone_row (by_directory es) dir ≡ row_of dir (lookup (nat_eq dir) es)
 unfolding IsDistinct
 row-entries [] dir d = refl
@@ -176,7 +176,7 @@ unfolding IsDistinct
 steep-entries [] d = tt
 steep-entries (e ∷ es) d = steep-put (record { dir = e.0; key = e.1 }) (by_directory es) (row-entries es e.0 d.1 ∙ ap (row_of e.0) (absent e.0 es d.0)) (steep-entries es d.1)
 
--- the tables of maps, by what a look-up finds in them
+-- the tables of two maps, by what a look-up finds
 module _ {S : Type 0} (m n : HashMap ℕ KeyName S) (d : IsUnique nat_eq m) (e : IsUnique nat_eq n) where
   pub table-same : ((q : ℕ) → get nat_eq n q ≡ get nat_eq m q) → by_directory n.entries ≡ by_directory m.entries
   table-same h = same-rows _ _ (steep-entries n.entries e) (steep-entries m.entries d) (λ q. row-entries n.entries q e ∙ ap (row_of q) (h q) ∙ sym (row-entries m.entries q d))

@@ -5,21 +5,21 @@ use Rattle.inode_tree.specs.Rows.{Entry, mark_of}
 use Rattle.zone_table.specs.declared.zones.ZoneRow.{ZoneRow}
 use Rattle.name_calls.specs.declared.zone_list.ZonePath.{ZonePath}
 
--- the rows of the zones, and for how many more there is room
+-- the rows of the zones, and the capacity for more
 pub record ZoneState : Type 0 where
   pub rows : List ZoneRow
   pub spare : ℕ
 
--- what has to be spare for one more zone
+-- the capacity that one more zone needs
 abbrev pub need_add : ℕ → KeyName → ℕ
 need_add dir key = 1
 
--- the zone that has this directory
+-- the zone of this directory
 abbrev pub zone_row : List ZoneRow → ℕ → Option ZoneRow
 zone_row [] dir = None
 zone_row (z ∷ zs) dir = if z.dir == dir then Some z else zone_row zs dir
 
--- a zone put in at its place
+-- the zones with one more, at its place
 abbrev pub put_zone : ZoneRow → List ZoneRow → List ZoneRow
 put_zone z [] = z ∷ []
 put_zone z (x ∷ xs) = if nat_lt z.dir x.dir then z ∷ x ∷ xs else x ∷ put_zone z xs
@@ -34,7 +34,7 @@ abbrev pub without_zone : List ZoneRow → ℕ → List ZoneRow
 without_zone [] dir = []
 without_zone (z ∷ zs) dir = if z.dir == dir then zs else z ∷ without_zone zs dir
 
--- with the zone of a directory that has this mark
+-- the zones with that of this directory, if it has a mark
 abbrev pub with_mark : Option KeyName → ℕ → List ZoneRow → List ZoneRow
 with_mark None dir zones = zones
 with_mark (Some key) dir zones = put_zone (record { dir = dir; key = key }) zones
@@ -44,7 +44,7 @@ abbrev pub zones_of : List Entry → List ZoneRow
 zones_of [] = []
 zones_of (e ∷ es) = with_mark (mark_of e.row.kind) e.row.id (zones_of es)
 
--- the path of a zone with its key, where the row is marked
+-- the zones by their paths with one more at the front, if the row is marked
 abbrev pub listed : Option KeyName → List (List ℕ) → List ZonePath → List ZonePath
 listed None path zones = zones
 listed (Some key) path zones = record { path = path; key = key } ∷ zones
