@@ -1,4 +1,4 @@
--- Where no mistake is found, a command is entered.
+-- If no mistake is found, a command is entered.
 use Rattle.std.proofs.Common.{refl, List, [], ◌∷◌, ◌≡◌, Bool, true, false, ◌&&◌, IsSome, Some, None, cond}
 use Rattle.std.specs.Prelude.{Option, find, is_some, not, option_map}
 use Rattle.clap.specs.Kinds.{Kinds, check_kinds, or_else}
@@ -19,7 +19,7 @@ wanted false true required argument r e = cc
 wanted false false true argument r e = cc
 wanted false false false argument r e = cc
 
--- a command that has to be named was named, where there is no fault
+-- if a command is required and there is no fault, one was named
 named : (a : App) (words : List Text) → (built a).top.subcommand_required ≡ true → fault_of a words ≡ [] → is_some (subcommand_of a words) ≡ true
 named a words required e =
     let b = built a in
@@ -30,7 +30,7 @@ named a words required e =
     let checks = second (defaults_fault (settled b.top.rules end.held).rows b.top.rules) _ defaults in
     wanted (is_some (entered b end.stopped)) _ b.top.subcommand_required _ required checks
 
--- each of the commands asks for something
+-- each command has an order
 abbrev EachHasAnOrder : List Shape → Type 0
 EachHasAnOrder [] = Unit {0}
 EachHasAnOrder (s ∷ rest) = IsSome (order_named s.name) × EachHasAnOrder rest

@@ -1,4 +1,4 @@
--- No list of kinds holds help or version beside another kind.
+-- No list of kinds has help or version beside another kind.
 use Rattle.std.proofs.Common.{refl, codes, List, [], ◌∷◌, ◌≡◌, ◌≢◌, ◌⊎◌, inl, inr, ℕ, zero, suc, Option, Some, None, Bool, true, false, ap, ◌∙◌, sym, ◌&&◌, length, ◌==◌, drop}
 use Rattle.std.specs.Prelude.{if◌then◌else◌, not, find, encode_utf8, slice_get, is_some, nat_lt}
 use Rattle.std.specs.Option.{option_map_or}
@@ -23,7 +23,7 @@ abbrev NotShown : Kinds → Type 0
 NotShown [] = Unit {0}
 NotShown (k ∷ ks) = (k ≢ DisplayHelp) × (k ≢ DisplayVersion) × NotShown ks
 
--- one kind at most, or none of them is help or version
+-- at most one kind, or none of them is help or version
 abbrev IsSingle : Kinds → Type 0
 IsSingle [] = Unit {0}
 IsSingle (k ∷ []) = Unit {0}
@@ -130,7 +130,7 @@ flag_word-single c again None word h =
     single-option (λ flags. bundle_fault c again flags h) (short_of word) []
     (λ flags. flags-single c again (length flags) flags h.skip (record h { skip = 0 })) tt
 
--- the command has no subcommand `help`, or none at all
+-- the command has no subcommand `help`, or no subcommands at all
 abbrev IsQuiet : Shape → Names → Type 0
 IsQuiet s names = (s.disable_help_subcommand ≡ true) ⊎ (names ≡ [])
 
@@ -212,7 +212,7 @@ fault-single a words e =
     let stop = (walk b.top.rules (names_of b) nothing_held (argument_words a words)).stopped in
     level-single b.top (names_of b) nothing_held (argument_words a words) (is_some (entered b stop)) (entered_fault b stop) (inl e) (entered-single b stop)
 
--- what is shown stands alone
+-- a kind that is shown is the only one
 alone : (ks : Kinds) (k j : ErrorKind) → IsSingle ks → IsAmong k ks → IsAmong j ks → (j ≡ DisplayHelp) ⊎ (j ≡ DisplayVersion) → k ≡ j
 alone [] k j p a b s = absurd a
 alone (x ∷ []) k j p (inl a) (inl b) s = a ∙ sym b

@@ -1,4 +1,4 @@
--- What a reading of the words without a mistake asks for.
+-- The order that a reading of the words without a mistake gives.
 use Rattle.std.proofs.Common.{refl, codes, List, [], ◌∷◌, ◌≡◌, ◌⊎◌, inl, inr, ap, ◌∙◌, sym, subst}
 use Rattle.std.specs.Prelude.{Some, Result, Ok, Err, IfOk, IfErr}
 use Rattle.clap.specs.Words.{fault_of, subcommand_of, Kinds, Text, IsAmong}
@@ -64,7 +64,7 @@ named_from (Ok a) words (inr (inr q)) g o s =
     let none : fault_of line.hkms words ≡ [] = faultless words o (spelled o words s) in
     absurd (subst (IsAmong DisplayVersion) none q.1)
 
--- what an error shows was asked for
+-- a text that an error shows was asked for
 pub shown_from : (o : Order) (kind : ErrorKind) (kinds : Kinds) → IsShown o kind → (kind ≡ OutOfMemory) ⊎ IsAmong kind kinds → (IsHelp o × IsAmong DisplayHelp kinds) ⊎ (IsVersion o × IsAmong DisplayVersion kinds)
 shown_from o kind kinds (inl s) (inl e) = let bad : DisplayHelp ≡ OutOfMemory = sym s.1 ∙ e in cc
 shown_from o kind kinds (inr s) (inl e) = let bad : DisplayVersion ≡ OutOfMemory = sym s.1 ∙ e in cc
@@ -86,7 +86,7 @@ mistake_from (Ok a) words (inl p) m = absurd (m.0 p.0)
 mistake_from (Ok a) words (inr (inl q)) m = absurd ((m.1 DisplayHelp q.1).0 refl)
 mistake_from (Ok a) words (inr (inr q)) m = absurd ((m.1 DisplayVersion q.1).1 refl)
 
--- what clap makes of words that ask for a text, and for nothing else
+-- how clap reads words that ask for a text, and for nothing else
 asked_for_help : (words : List Text) → AsksForHelp words → fault_of line.hkms words ≡ DisplayHelp ∷ []
 unfolding clap_on_literals
 asked_for_help words (flag, inl f, inl w) = rw (w, f) refl

@@ -1,8 +1,8 @@
--- The commands that the program has, as a parse of its words sees them.
+-- The program's commands, as clap's parse of its words sees them.
 use Rattle.std.specs.Prelude.{codes, true}
 use Rattle.clap.specs.Words.{App, Text, new_app, with_subcommand}
 
--- the program's own name is not among the words, one of the commands has to be named, and `help` is none of them
+-- the program's own name is not among the words, a command is required, and there is no command `help`
 abbrev pub top : App
 top =
     let new = new_app (codes "hkms") in
@@ -10,7 +10,7 @@ top =
       top = record new.top { no_binary_name = true; subcommand_required = true; disable_help_subcommand = true; has_version = true };
     }
 
--- one more command, which has no option but help
+-- one more command, which has no options except help
 abbrev pub with_plain : App → Text → App
 with_plain program name = with_subcommand program (new_app name).top
 

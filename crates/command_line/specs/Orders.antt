@@ -1,4 +1,4 @@
--- What the words of a command line ask for.
+-- The orders that the words of a command line give.
 use Rattle.std.specs.Prelude.{◌≡◌, ◌≢◌, ◌⊎◌, List, [], ◌∷◌, codes, Option, Some, None, if◌then◌else◌, option_and_then, Result, MatchResult}
 use Rattle.std.specs.Str.{bytes_eq}
 use Rattle.clap.specs.Words.{Kinds, IsAmong, Row, Text, fault_of, subcommand_of}
@@ -10,22 +10,22 @@ use Rattle.command_line.specs.declared.order.Order.TheVariants.{Replay, Pipe, He
 use Rattle.command_line.specs.declared.order.OrderFault.{OrderFault}
 use Rattle.command_line.specs.declared.order.OrderFault.TheVariants.{NoMemory}
 
--- what a command of this name asks for
+-- the order of a command with this name
 abbrev pub order_named : Text → Option Order
 order_named name =
     if bytes_eq name (codes "replay") then Some Replay
     else (if bytes_eq name (codes "pipe") then Some Pipe else None)
 
--- what the command that a parse entered asks for
+-- the order of the command that a parse entered
 abbrev pub order_at : Option (Text × List Row) → Option Order
 order_at entered = option_and_then (λ command. order_named command.0) entered
 
--- By clap's own reading of the words, they name the command of this order and have no fault.
+-- By clap's own reading, the words name the command of this order and have no fault.
 pub record Names (order : Order) (words : List Text) : Type 0 where
   pub no_fault : fault_of line.hkms words ≡ []
   pub command : order_at (subcommand_of line.hkms words) ≡ Some order
 
--- a text that is shown
+-- the order shows a text
 abbrev pub IsHelp : Order → Type 0
 IsHelp (Help text) = Unit {0}
 IsHelp _ = ⊥
@@ -34,8 +34,8 @@ abbrev pub IsVersion : Order → Type 0
 IsVersion (Version text) = Unit {0}
 IsVersion _ = ⊥
 
--- The order is what clap's own reading of the words says: it finds no fault, and enters the command of the order; or
--- it is asked for help; or for the version.
+-- The order is what clap's own reading of the words says: it finds no fault and enters the command of the order,
+-- or it is asked for help or for the version.
 abbrev pub Answers : Order → List Text → Type 0
 Answers order words =
     ((fault_of line.hkms words ≡ []) × (order_at (subcommand_of line.hkms words) ≡ Some order))
@@ -50,7 +50,7 @@ IsShown order kind = (IsHelp order × (kind ≡ DisplayHelp)) ⊎ (IsVersion ord
 abbrev pub HasMistake : Kinds → Type 0
 HasMistake kinds = (k : ErrorKind) × IsAmong k kinds × (k ≢ DisplayHelp) × (k ≢ DisplayVersion)
 
--- clap refuses the words, and neither because help was asked for nor the version
+-- clap refuses the words, and not because help or the version was asked for
 abbrev pub IsMistake : Kinds → Type 0
 IsMistake kinds = (kinds ≢ []) × ((k : ErrorKind) → IsAmong k kinds → (k ≢ DisplayHelp) × (k ≢ DisplayVersion))
 
@@ -74,6 +74,6 @@ AsksForHelp words =
 abbrev pub AsksForVersion : List Text → Type 0
 AsksForVersion words = (words ≡ codes "--version" ∷ []) ⊎ (words ≡ codes "-V" ∷ [])
 
--- what is answered shows a text of this kind, unless memory is wanting
+-- the answer shows a text of this kind, unless memory ran out
 abbrev pub ShownAs : (Order → Type 0) → Result Order OrderFault → Type 0
 ShownAs IsText answer = MatchResult answer IsText (λ fault. fault ≡ NoMemory)

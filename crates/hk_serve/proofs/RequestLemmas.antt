@@ -1,4 +1,4 @@
--- Where the source tells its bytes, the requests of a connection are theirs.
+-- If the source's bytes are known, the requests of a connection are theirs.
 use Rattle.std.proofs.Common.{◌≡◌, inl, inr, ℕ, true, false, List, [], ◌∷◌, ◌++◌, map, Ok, Err, refl, sym, subst}
 use Rattle.std.specs.Prelude.{Option, None, Some, Result, MatchBool}
 use Rattle.std.specs.Io.KnownBytes.{Consumes}
@@ -15,7 +15,7 @@ use Rattle.hk_serve.specs.Ends.{Ends, EndsThere}
 use Rattle.hk_serve.specs.Exchanges.{Exchange, ReadsInOrder, Stand}
 use Rattle.hk_serve.specs.Served.{AreRequestsOf, BeginsWith, IsOfWire, last_request}
 
--- bytes that are told stay told
+-- known bytes stay known
 told : (all used : List ℕ) (new : Option (List ℕ)) → Consumes (Some all) new used → (rest : List ℕ) × ((new ≡ Some rest) × (all ≡ used ++ rest))
 told all used None taken = absurd taken
 told all used (Some rest) taken = (rest, (refl, taken))
@@ -36,7 +36,7 @@ stopped all new fault of_bytes stops =
 abbrev request_of : Exchange → Message
 request_of exchange = exchange.request
 
--- the requests so far and those behind them
+-- the requests so far and those after them
 all_told : (exchanges : List Exchange) (all : List ℕ) (now : Option (List ℕ)) (tail : List Message) (last : Option WireFault)
     → ReadsInOrder (Some all) exchanges now → AllByRecursion (λ (exchange : Exchange). exchange.request.keep ≡ true) exchanges
     → ((rest : List ℕ) → now ≡ Some rest → HasRequests rest tail last) → HasRequests all (map request_of exchanges ++ tail) last
@@ -55,7 +55,7 @@ front_told (exchange ∷ more) all now tail reads behind =
     let reads_on : ReadsInOrder (Some first.0) more now = subst (λ (o : Option (List ℕ)). ReadsInOrder o more now) first.1.0 reads.1.1 in
     (first.0, (first.1.1, front_told more first.0 now tail reads_on behind))
 
--- ---- what stands at the end
+-- ---- the end of the connection
 
 abbrev Answers : Type 0 → Type 1
 Answers D = D → List ℕ → KmsCall → KmsReply → D → Type 0

@@ -1,4 +1,4 @@
--- The response that goes with an outcome.
+-- The response for an outcome.
 use Rattle.std.proofs.Common.{◌≡◌, ap, ◌∙◌, Ok, Err, Result}
 use Rattle.std.specs.Prelude.{IfOk}
 use Rattle.hk_base.specs.declared.texts.NoMemory.{NoMemory}

@@ -1,4 +1,4 @@
--- A connection over a desk is one over what is seen of the desk.
+-- A connection over a desk is also one over a view of the desk.
 use Rattle.std.proofs.Common.{◌≡◌, inl, inr, ℕ, List, [], ◌∷◌, ◌++◌, map, ap, ◌∙◌}
 use Rattle.std.specs.Prelude.{Some}
 use Rattle.kms_calls.specs.declared.calls.KmsCall.{KmsCall}
@@ -11,7 +11,7 @@ use Rattle.hk_serve.specs.Served.{AreRequestsOf, Served, last_request}
 abbrev Answers : Type 0 → Type 1
 Answers D = D → List ℕ → KmsCall → KmsReply → D → Type 0
 
--- what is seen of each answer
+-- each answer is an answer in the view
 abbrev pub Shows : {D V : Type 0} → (D → V) → Answers D → Answers V → Type 0
 Shows {D} view answers happens = (old new : D) (user : List ℕ) (asked : KmsCall) (reply : KmsReply) → answers old user asked reply new → happens (view old) user asked reply (view new)
 

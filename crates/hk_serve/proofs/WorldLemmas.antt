@@ -1,4 +1,4 @@
--- A call that happens to the services.
+-- Calls as events of the services.
 use Rattle.std.proofs.Common.{◌≡◌, ℕ, List, Ok, Err, sym, ap, subst}
 use Rattle.std.specs.Prelude.{IsTrue, MatchResult, Result}
 use Rattle.hk_base.specs.Disk.{DiskState}
@@ -14,7 +14,7 @@ use Rattle.world_run.specs.Acknowledged.{also}
 use Rattle.world_run.specs.Keeps.{Fails, Steps}
 use Rattle.hk_serve.specs.Worlds.{Happens, IsReady, WorldView}
 
--- what an event of a call is answered
+-- the result of a call's event
 abbrev pub Told : {D W : Type 0} → (D → DiskState) → (W → ℕ → ℕ) → WorldView D W → ℕ → List ℕ → KmsCall → WorldView D W → Result Line WorldFault → Type 0
 Told state to_come v now user asked v' told = MatchResult told
     (λ (answer : Line). (lines : List PropLine) → ListsFor v.world.keys.acls lines → Steps lines (state v.disk) (state v'.disk) v.world (to_come v.words) now (event.Kms user asked) answer v'.world (to_come v'.words))

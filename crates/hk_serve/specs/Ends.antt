@@ -12,7 +12,7 @@ use Rattle.hk_base.specs.declared.ended.Ended.{Ended}
 use Rattle.hk_base.specs.declared.ended.Ended.TheVariants as ended
 use Rattle.hk_serve.specs.Exchanges.{ComesOf, Exchange, Leaves, Stand, response_of}
 
--- the status of the response to bytes that are no request, and 0 where there is none
+-- the status of the response to bytes that are not a request, or 0 if there is no response
 abbrev pub wire_status : WireFault → ℕ
 wire_status wire.BadHead = 400
 wire_status wire.HeadTooLong = 431
@@ -36,7 +36,7 @@ wire_text wire.EndedEarly = []
 wire_text wire.ReadFault = []
 wire_text wire.NoMemory = []
 
--- the fault is one of the bytes that is answered by a response
+-- the fault is one of the bytes, and gets a response
 abbrev pub IsAnswered : WireFault → Type 0
 IsAnswered wire.BadHead = ⊤
 IsAnswered wire.HeadTooLong = ⊤
@@ -51,7 +51,7 @@ IsAnswered wire.NoMemory = ⊥
 abbrev pub wire_response : WireFault → List ℕ
 wire_response fault = response_text (wire_status fault) (wire_text fault)
 
--- how the connection ends where no request came: what is written, and the end that goes with it
+-- how the connection ends if there is no request: what is written, and the end that goes with it
 abbrev pub EndsFor : WireFault → Option (List ℕ) → Option (List ℕ) → Ended → Type 0
 EndsFor fault written now ended.End = (fault ≡ wire.End) × (now ≡ written)
 EndsFor fault written now ended.Wire = ((fault ≡ wire.EndedEarly) × (now ≡ written)) ⊎ (IsAnswered fault × Appends written now (wire_response fault))
@@ -61,7 +61,7 @@ EndsFor fault written now ended.NoMemory = ((fault ≡ wire.NoMemory) ⊎ IsAnsw
 EndsFor fault written now ended.Closed = ⊥
 EndsFor fault written now ended.TooLong = ⊥
 
--- how the connection ends behind a request, where the requests up to it had so many bytes: what is written of its
+-- how the connection ends after a request, if the requests up to it had this number of bytes: what is written of its
 -- response, and the end that goes with it
 abbrev pub EndsAfter : ℕ → Exchange → Option (List ℕ) → Option (List ℕ) → Ended → Type 0
 EndsAfter bytes exchange written now ended.Closed = (exchange.request.keep ≡ false) × Appends written now (response_of exchange.outcome)
@@ -72,7 +72,7 @@ EndsAfter bytes exchange written now ended.End = ⊥
 EndsAfter bytes exchange written now ended.Wire = ⊥
 EndsAfter bytes exchange written now ended.ReadFault = ⊥
 
--- The connection ended behind a last request. `bytes` counts those of the requests before it.
+-- The connection ended after a last request. `bytes` counts those of the requests before it.
 pub record EndsBehind {D : Type 0} (answers : D → List ℕ → KmsCall → KmsReply → D → Type 0) (bytes : ℕ) (old new : Stand D) (how : Ended) : Type 0 where
   pub last : Exchange
   pub takes : Takes old.ahead new.ahead last.request
@@ -80,7 +80,7 @@ pub record EndsBehind {D : Type 0} (answers : D → List ℕ → KmsCall → Kms
   pub leaves : Leaves answers old.desk last.outcome new.desk
   pub ends : EndsAfter (bytes + last.request.size) last old.written new.written how
 
--- The connection ended where no request came.
+-- The connection ended without another request.
 pub record EndsThere {D : Type 0} (old new : Stand D) (how : Ended) : Type 0 where
   pub fault : WireFault
   pub stops : Stops old.ahead new.ahead fault

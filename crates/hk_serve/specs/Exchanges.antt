@@ -1,4 +1,4 @@
--- The requests of a connection, and what comes of each.
+-- The requests of a connection, and the outcome of each.
 use Rattle.std.specs.Prelude.{◌≡◌, ℕ, ◌<◌, ◌^◌, Bool, true, false, List, [], ◌∷◌, Option, Ok, Err, sum_by, flat_map}
 use Rattle.std.specs.List.{AllByRecursion}
 use Rattle.std.specs.Io.KnownBytes.{Appends}
@@ -13,17 +13,17 @@ use Rattle.kms_rest.specs.declared.faults.RestFault.{RestFault}
 use Rattle.kms_rest.specs.Requests.{Says}
 use Rattle.kms_rest.specs.Responses.{fault_status, fault_text, reply_status}
 
--- what comes of a request: a call that the desk replied to, or why it is no call
+-- the outcome of a request: a call that the desk replied to, or why it is not a call
 pub data Outcome : Type 0 where
   Replied : (user : List ℕ) (asked : KmsCall) (reply : KmsReply) → Outcome
   NoCall : (fault : RestFault) → Outcome
 
--- a request, and what came of it
+-- a request and its outcome
 pub record Exchange : Type 0 where
   pub request : Message
   pub outcome : Outcome
 
--- the outcome is one of the request
+-- the outcome belongs to the request
 abbrev pub ComesOf : Message → Outcome → Type 0
 ComesOf request (Replied user asked reply) = Says request (Ok (user, asked))
 ComesOf request (NoCall fault) = Says request (Err fault)
@@ -45,42 +45,42 @@ creates (call.Decrypt name sent) = false
 creates (call.Reencrypt name sent) = false
 creates (call.Batch name sent) = false
 
--- the response that goes with an outcome: the status 201 where a key was created
+-- the response for an outcome, with status 201 if a key was created
 abbrev pub response_of : Outcome → List ℕ
 response_of (Replied user asked reply) = response_text (reply_status reply (creates asked)) (reply_text reply)
 response_of (NoCall fault) = response_text (fault_status fault) (fault_text fault)
 
--- what becomes of a desk: it is asked the call, and nothing where there is none
+-- how the desk changes: it answers the call, or is unchanged if there is no call
 abbrev pub Leaves : {D : Type 0} → (D → List ℕ → KmsCall → KmsReply → D → Type 0) → D → Outcome → D → Type 0
 Leaves answers old (Replied user asked reply) new = answers old user asked reply new
 Leaves answers old (NoCall fault) new = new ≡ old
 
--- the desk is asked the calls of the exchanges in their order
+-- the desk answers the calls of the exchanges in order
 abbrev pub AsksInOrder : {D : Type 0} → (D → List ℕ → KmsCall → KmsReply → D → Type 0) → D → List Exchange → D → Type 0
 AsksInOrder answers old [] new = new ≡ old
 AsksInOrder {D} answers old (exchange ∷ more) new = (next : D) × (Leaves answers old exchange.outcome next × AsksInOrder answers next more new)
 
--- the requests are read one behind the other, each byte of them used once
+-- the requests are read one after another, and each byte is used once
 abbrev pub ReadsInOrder : Option (List ℕ) → List Exchange → Option (List ℕ) → Type 0
 ReadsInOrder old [] new = new ≡ old
 ReadsInOrder old (exchange ∷ more) new = (next : Option (List ℕ)) × (Takes old next exchange.request × ReadsInOrder next more new)
 
--- how many bytes the requests had together
+-- the number of bytes of the requests together
 abbrev pub bytes_in : List Exchange → ℕ
 bytes_in exchanges = sum_by (λ (exchange : Exchange). exchange.request.size) exchanges
 
--- the responses, one behind the other
+-- the responses, one after another
 abbrev pub responses_of : List Exchange → List ℕ
 responses_of exchanges = flat_map (λ (exchange : Exchange). response_of exchange.outcome) exchanges
 
--- where a connection stands: the bytes that are still to come, the desk, and the bytes written, where source and
--- sink tell them
+-- the state of a connection: the bytes still to come, the desk, and the bytes written, if source and
+-- sink are known
 pub record Stand (D : Type 0) : Type 0 where
   pub ahead : Option (List ℕ)
   pub desk : D
   pub written : Option (List ℕ)
 
--- Requests were read and answered whole, and after each the connection goes on: it is kept, and they had fewer than
+-- Requests were read and answered whole, and the connection goes on after each: it is kept, and they had fewer than
 -- 2^40 bytes together.
 pub record WentOn {D : Type 0} (answers : D → List ℕ → KmsCall → KmsReply → D → Type 0) (old : Stand D) (exchanges : List Exchange) (new : Stand D) : Type 0 where
   pub read : ReadsInOrder old.ahead exchanges new.ahead

@@ -1,11 +1,11 @@
--- What the definitions keep.
+-- Properties of the definitions.
 use Rattle.std.specs.Prelude.{◌≡◌, ℕ, List, ⊤}
 use Rattle.http_wire.specs.Message.{Message}
 use Rattle.hk_base.specs.declared.ended.Ended.{Ended}
 use Rattle.hk_base.specs.declared.ended.Ended.TheVariants as ended
 use Rattle.hk_serve.specs.Served.{AreRequestsOf}
 
--- the bytes end the connection, and not the outside or their count
+-- the bytes end the connection, not the outside and not their count
 abbrev pub IsOfBytes : Ended → Type 0
 IsOfBytes ended.End = ⊤
 IsOfBytes ended.Wire = ⊤
@@ -15,6 +15,6 @@ IsOfBytes ended.ReadFault = ⊥
 IsOfBytes ended.WriteFault = ⊥
 IsOfBytes ended.NoMemory = ⊥
 
--- where the bytes end a connection, they have one list of requests and one end
+-- if the bytes end a connection, they have one list of requests and one end
 abbrev pub OneConnection : Type 0
 OneConnection = (all : List ℕ) (requests others : List Message) (how other : Ended) → IsOfBytes how → IsOfBytes other → AreRequestsOf all requests how → AreRequestsOf all others other → (requests ≡ others) × (how ≡ other)

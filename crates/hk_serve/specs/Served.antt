@@ -12,17 +12,17 @@ use Rattle.hk_base.specs.declared.ended.Ended.TheVariants as ended
 use Rattle.hk_serve.specs.Ends.{Ends, IsAnswered}
 use Rattle.hk_serve.specs.Exchanges.{Exchange, Stand, WentOn, bytes_in}
 
--- bytes begin with these requests
+-- the bytes begin with these requests
 abbrev pub BeginsWith : List ℕ → List Message → Type 0
 BeginsWith all [] = Unit {0}
 BeginsWith all (message ∷ more) = (rest : List ℕ) × (Begins all (Ok message) rest × BeginsWith rest more)
 
--- the fault is one of the bytes, and not their end
+-- the fault is in the bytes, or they ended too early
 abbrev pub IsOfWire : WireFault → Type 0
 IsOfWire fault = (fault ≡ wire.EndedEarly) ⊎ IsAnswered fault
 
--- what the requests of a connection are to its bytes: all of them, up to the end that is named; or a front of them,
--- where the outside or their count of bytes ended it
+-- how the requests of a connection relate to its bytes: they are all of them, up to the given end; or a prefix of them,
+-- if the outside or their count of bytes ended it
 abbrev pub AreRequestsOf : List ℕ → List Message → Ended → Type 0
 AreRequestsOf all requests ended.End = HasRequests all requests (Some wire.End)
 AreRequestsOf all requests ended.Wire = (fault : WireFault) × (IsOfWire fault × HasRequests all requests (Some fault))
@@ -43,5 +43,5 @@ pub record Served {D : Type 0} (answers : D → List ℕ → KmsCall → KmsRepl
   pub here : Stand D
   pub went_on : WentOn answers old exchanges here
   pub ends : Ends answers (bytes_in exchanges) here new how
-  -- where the source tells its bytes, the requests are theirs
+  -- if the source's bytes are known, the requests are theirs
   pub requests : (all : List ℕ) → old.ahead ≡ Some all → AreRequestsOf all (map (λ (exchange : Exchange). exchange.request) exchanges ++ last_request ends) how

@@ -15,12 +15,12 @@ use Rattle.hk_base.specs.declared.ended.Ended.TheVariants as ended
 use Rattle.hk_serve.specs.Ends.{Ends, EndsAfter}
 use Rattle.hk_serve.specs.Exchanges.{ComesOf, Exchange, Leaves, Outcome, Stand, response_of}
 
--- The response is that of an outcome.
+-- The response belongs to an outcome.
 pub record Responds (outcome : Outcome) (response : Response) : Type 0 where
   pub known : IsStatus response.status
   pub text : response_text response.status response.body ≡ response_of outcome
 
--- whether the connection goes on behind a response that was written, and how many bytes its requests had then
+-- whether the connection goes on after a response was written, and how many bytes its requests had then
 abbrev pub GoesOnAfter : Message → ℕ → ℕ → Option Ended → Type 0
 GoesOnAfter request bytes bytes' None = (request.keep ≡ true) × ((bytes' ≡ bytes + request.size) × (bytes' < 2 ^ 40))
 GoesOnAfter request bytes bytes' (Some ended.Closed) = request.keep ≡ false
@@ -52,17 +52,17 @@ pub record GoesOn {D : Type 0} (answers : D → List ℕ → KmsCall → KmsRepl
   pub goes_on : GoesOnAfter exchange.request bytes bytes' None
   pub wrote : Appends old.written new.written (response_of exchange.outcome)
 
--- what became of a connection by one request, or for want of one
+-- the change of a connection by one request, or by the lack of one
 abbrev pub Turns : {D : Type 0} → (D → List ℕ → KmsCall → KmsReply → D → Type 0) → ℕ → ℕ → Stand D → Option Ended → Stand D → Type 0
 Turns answers bytes bytes' old None new = GoesOn answers bytes bytes' old new
 Turns answers bytes bytes' old (Some how) new = Ends answers bytes old new how
 
--- how a connection ends whose response was not written whole
+-- how a connection ends if a response was not written whole
 abbrev pub send_ended : SendFault → Ended
 send_ended send.WriteFault = ended.WriteFault
 send_ended send.NoMemory = ended.NoMemory
 
--- the response to bytes that are no request was written, or a front of it, or nothing
+-- the response to bytes that are not a request was written, or a prefix of it, or nothing
 abbrev pub SentLast : List ℕ → Option (List ℕ) → Option (List ℕ) → Ended → Type 0
 SentLast text written now ended.Wire = Appends written now text
 SentLast text written now ended.WriteFault = WroteFront written now text

@@ -11,20 +11,20 @@ use Rattle.world_run.specs.Acknowledged.{Acknowledged, HoldsLogs}
 use Rattle.world_run.specs.Keeps.{Steps}
 use Rattle.world_run.specs.World.{RunningWorld}
 
--- the services, with their disk and where their random words come from
+-- the services, with their disk and their source of random words
 pub record WorldView (D W : Type 0) : Type 0 where
   pub disk : D
   pub world : RunningWorld
   pub words : W
 
--- The services may be asked: their lists are those of some lines, and where the disk tells, both files are their logs,
--- of some acknowledged records.
+-- The services are ready for calls: their lists are those of some lines, and if the disk is known, both files are their
+-- logs, with some acknowledged records.
 pub record IsReady {D W : Type 0} (state : D → DiskState) (v : WorldView D W) : Type 0 where
   pub lines : List PropLine
   pub lists : ListsFor v.world.keys.acls lines
   pub stands : Tells (state v.disk) → (done : Acknowledged) × HoldsLogs (state v.disk) v.world done
 
--- A call of a user happens to the services as an event, at some moment, under whatever lines their lists are of.
+-- A call of a user is an event of the services, at some time, under any lines that have their lists.
 pub record Happens {D W : Type 0} (state : D → DiskState) (to_come : W → ℕ → ℕ) (v : WorldView D W) (user : List ℕ) (asked : KmsCall) (reply : KmsReply) (v' : WorldView D W) : Type 0 where
   pub now : ℕ
   pub steps : (lines : List PropLine) → ListsFor v.world.keys.acls lines

@@ -24,7 +24,7 @@ use Rattle.kms_core.specs.Steps.{Answers, OpensIn, RefusesBatch, Reseals, Reseal
 use Rattle.kms_core.proofs.KeyLemmas.{named}
 use Rattle.kms_core.proofs.SentLemmas.{each_allowed, each_none, map_more, opened_is, resealed_is, same_cause, same_causes}
 
--- the three ends of such a call
+-- the three outcomes of such a call
 
 abbrev Ends : KmsCall → KmsReply → KmsReply → Option KmsRefusal → Type 0
 Ends c answer told cause = MatchOption cause ((told ≡ answer) ⊎ ((takes_memory c ≡ true) × (told ≡ reply.Refused refusal.NoMemory))) (λ why. told ≡ reply.Refused why)
@@ -38,11 +38,11 @@ not_answered s c answer why stands = subst (Ends c answer (reply.Refused why)) (
 pub no_room : (s : KmsState) (c : KmsCall) (answer : KmsReply) → takes_memory c ≡ true → first_cause (causes s c) ≡ None → Answers s c answer (reply.Refused refusal.NoMemory)
 no_room s c answer takes none = subst (Ends c answer (reply.Refused refusal.NoMemory)) (sym none) (inr (takes, refl))
 
--- the key stands
+-- the key exists
 pub present : (row : Option KeyRow) → is_none row ≡ false → cond (is_none row) (Some refusal.NoSuchKey) None ≡ None
 present row stands = ap (λ b. cond b (Some refusal.NoSuchKey) None) stands
 
--- what is known of keys
+-- the metadata of keys
 
 pub known_of : (s : KmsState) (name : List ℕ) (row : KeyRow) (known : KeyMeta) → row_of s name ≡ Some row → known ≡ meta_of row.name (Some row)
     → (is_absent s name ≡ false) × (known ≡ meta_of name (row_of s name))
@@ -65,7 +65,7 @@ tells_no_metadata s name why is = by_row (is_absent s name) refl is
         subst (λ (w : KmsRefusal). Answers s (call.Metadata name) (reply.Metadata (meta_of name (row_of s name))) (reply.Refused w)) (sym is)
         (no_room s (call.Metadata name) _ refl (present (row_of s name) stands))
 
--- of a key that stands nothing is refused but for want of memory
+-- keys that exist are refused only for lack of memory
 pub only_wanting : (s : KmsState) (names : List (List ℕ)) (i : ℕ) (name : List ℕ) (why : KmsRefusal) → list_any (is_absent s) names ≡ false → i < length names → get_or names i name ≡ name
     → MatchBool (is_absent s name) (why ≡ refusal.NoSuchKey) (why ≡ refusal.NoMemory) → why ≡ refusal.NoMemory
 only_wanting s names i name why stand within at is =
@@ -145,7 +145,7 @@ tells_current s name version material stands version_is has =
     let same : material ≡ current_material s name = sym (ap (λ v. unwrap_or (material_of s.table.rows v) []) (sym version_is) ∙ ap (λ o. unwrap_or o []) has) in
     answered s (call.Current name) _ _ (present (row_of s name) stands) (λ i. reply.Version (version_is i) (Some (same i)))
 
--- what is sent
+-- the keys sent
 
 pub decrypts : (s : KmsState) (name : List ℕ) (sent : RawEdek) (row : KeyRow) (key : List ℕ) → row_of s name ≡ Some row → OpensIn row sent key
     → Answers s (call.Decrypt name sent) (reply.Key (opened s sent)) (reply.Key key)

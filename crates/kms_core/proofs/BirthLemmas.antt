@@ -22,7 +22,7 @@ use Rattle.kms_core.specs.Service.{Changes, Serves, ServesBy, is_change}
 use Rattle.kms_core.specs.Calls.{KmsActs, Plain, NoRoom, Ending, birth_of, causes, deed, deleted, done_with, first_cause, outcome, row_of, unless_refused, versions_of}
 use Rattle.kms_core.specs.Laws.{Gone, GoneStaysAtStart, IsUsedUp, UsedUpAtStart}
 
--- what is not found stays so
+-- what is not found is still not found
 
 none_more : {X : Type 0} (p : X → Bool) (xs : List X) (x : X) → is_none (find p xs) ≡ true → p x ≡ false → is_none (find p (xs ++ x ∷ [])) ≡ true
 none_more p [] x none other = ap (λ b. is_none (cond b (Some x) None)) other
@@ -73,7 +73,7 @@ none_left birth (row ∷ rows) =
 made_gone : (t : Table) (row : KeyRow) (birth : ℕ) → t.greatest < row.birth → Gone t birth → is_none (find_birth (t.rows ++ row ∷ []) birth) ≡ true
 made_gone t row birth new gone = none_more (is_born birth) t.rows row gone.absent (other_number row.birth birth (λ same. absurd (omega (arith, same, new, gone.used))))
 
--- a command whose birth, if it makes a key, is a new one
+-- a command that, if it creates a key, gives it a new birth
 abbrev IsNew : Table → KeyCommand → Type 0
 IsNew t (Opened opening) = ⊤
 IsNew t (Create birth name bits description created material) = t.greatest < birth
@@ -86,7 +86,7 @@ gone_after t (Create made name bits description created material) birth new gone
 gone_after t (Roll rolled number material) birth new gone = record { used = gone.used; absent = none_rolled birth rolled material t.rows gone.absent }
 gone_after t (Delete gone_too) birth new gone = record { used = gone.used; absent = none_filter (is_born birth) (λ row. not (is_born gone_too row)) t.rows gone.absent }
 
--- a command that applies makes a key of a new birth
+-- a command that applies and creates a key gives it a new birth
 new_birth : (t : Table) (command : KeyCommand) → applies t command ≡ true → IsNew t command
 new_birth t (Opened opening) may = tt
 new_birth t (Create birth name bits description created material) may =
@@ -106,7 +106,7 @@ gone_settled kept None s birth waits gone = gone
 gone_settled true (Some command) s birth waits gone = gone_behind s.table command birth waits.fits gone
 gone_settled false (Some command) s birth waits gone = gone
 
--- births lie below the next one also when the pending command was settled
+-- births are below the next one even after the pending command was settled
 pub below_settled : (kept : Bool) (s : ServiceState) → IsService s → (settled kept s).table.greatest < next_birth (settled kept s)
 below_settled kept s is = go kept s.pending is.waits
   where
@@ -115,7 +115,7 @@ below_settled kept s is = go kept s.pending is.waits
     go true (Some command) waits = let b = waits.births in let o = waits.same_opening in omega (arith, b, ap (λ (n : ℕ). n * 2 ^ 32) o)
     go false (Some command) waits = is.births
 
--- what a call on keys leaves
+-- the keys after a call
 
 after_call : (P : KmsState → Type 0) (s : KmsState) (words : ℕ → ℕ) (now : ℕ) (c : KmsCall) (told : KmsReply) (drawn : ℕ) (s' : KmsState)
     → KmsActs s words now c told drawn s' → P s → P (done_with (deed s words now c).logs (deed s words now c).state) → P s'
@@ -145,7 +145,7 @@ deed_gone s words now (call.Decrypt name sent) birth below gone = gone
 deed_gone s words now (call.Reencrypt name sent) birth below gone = gone
 deed_gone s words now (call.Batch name sent) birth below gone = gone
 
--- a deed whose command was not written changes no table
+-- a deed whose command was not written does not change the table
 pub deed_keeps : (s : KmsState) (words : ℕ → ℕ) (now : ℕ) (c : KmsCall) → (deed s words now c).state.table ≡ s.table
 deed_keeps s words now (call.Create name bits material description) = refl
 deed_keeps s words now (call.Roll name material) = refl
@@ -186,7 +186,7 @@ gone_stays_at_start s kept is birth gone =
 
 -- births that are used up
 
--- a command that gives no key this birth
+-- a command that does not give this birth to a key
 abbrev GivesNot : ℕ → KeyCommand → Type 0
 GivesNot birth (Opened opening) = ⊤
 GivesNot birth (Create made name bits description created material) = made ≡ birth → ⊥
@@ -208,7 +208,7 @@ absent_done : (o : Option KeyCommand) (s : KmsState) (birth : ℕ) → IfSome o 
 absent_done None s birth other none = none
 absent_done (Some command) s birth other none = absent_after s.table command birth other none
 
--- a deed gives a key no birth below the next one
+-- a deed gives no key a birth below the next one
 deed_gives : (s : KmsState) (words : ℕ → ℕ) (now : ℕ) (c : KmsCall) (birth : ℕ) → birth < next_birth s → IfSome (deed s words now c).logs (GivesNot birth)
 deed_gives s words now (call.Create name bits material description) birth below = λ same. absurd (omega (arith, same, below))
 deed_gives s words now (call.Roll name material) birth below = tt
@@ -225,7 +225,7 @@ deed_gives s words now (call.Decrypt name sent) birth below = tt
 deed_gives s words now (call.Reencrypt name sent) birth below = tt
 deed_gives s words now (call.Batch name sent) birth below = tt
 
--- the next birth stays, or rises
+-- the next birth stays or increases
 deed_next : (s : KmsState) (words : ℕ → ℕ) (now : ℕ) (c : KmsCall) → next_birth s ≤ next_birth (deed s words now c).state
 deed_next s words now (call.Create name bits material description) = omega arith
 deed_next s words now (call.Roll name material) = omega arith
@@ -266,7 +266,7 @@ next_settled kept s is = go kept s.pending is.waits
     go true (Some command) waits = ap (λ (n : ℕ). n * 2 ^ 32 + s.keys.next) waits.same_opening
     go false (Some command) waits = refl
 
--- a birth below the next one that no key has after a change of keys beside which nothing was pending
+-- a birth below the next one that no key has after a change while nothing was pending
 changes_use_up : (s : KmsState) (logged_before : List KeyCommand) (words : ℕ → ℕ) (now : ℕ) (c : KmsCall) (fault : Type 0) (told : KmsReply) (drawn : ℕ) (logged : List KeyCommand) (s' : ServiceState) (birth : ℕ)
     → birth < next_birth s → Changes s logged_before words now c fault told drawn logged s' → is_none (find_birth s'.keys.table.rows birth) ≡ true → IsUsedUp s' birth
 changes_use_up s logged_before words now c fault told drawn logged s' birth below (inl w) none =
@@ -323,7 +323,7 @@ lost_is_used_up s words now c before later told drawn logged s' is serves birth 
 pub used_up_at_start : UsedUpAtStart
 used_up_at_start s kept is birth below none = record { below = omega (arith, next_settled kept s is, below, is.counter); absent = λ again. none }
 
--- a key that stands was born
+-- a key that exists has a birth
 
 rising_top : (low : ℕ) (rows : List KeyRow) (top : ℕ) → Rising low rows top → low ≤ top
 rising_top low [] top rising = rising
@@ -357,7 +357,7 @@ was_deleted s words now name drawn s' (e, may, is) = by_end e is
     by_end Plain is = by_row (is_none (row_of s name)) refl is
     by_end (NoRoom some) is = let no : reply.Done ≡ reply.Refused refusal.NoMemory = ap (λ o. o.told) is in absurd cc
 
--- births rise also when the pending command was settled
+-- births increase even after the pending command was settled
 rising_settled : (kept : Bool) (s : ServiceState) → IsService s → Rising 0 (settled kept s).table.rows (settled kept s).table.greatest
 rising_settled kept s is = go kept s.pending is.waits
   where

@@ -14,13 +14,13 @@ pub length-drawn : (words : ℕ → ℕ) (place n : ℕ) → length (drawn words
 length-drawn words place zero = refl
 length-drawn words place (suc n) = omega (arith, length-append (drawn words place n) (to_le_bytes w32 (words (place + n))), length-drawn words place n)
 
--- one more word behind those drawn
+-- one more word after those drawn
 pub one_more : (words : ℕ → ℕ) (i k : ℕ) (bytes word : List ℕ) → take (4 * i) bytes ≡ drawn words 0 i → word ≡ to_le_bytes w32 (words (0 + i)) → take (4 * (i + 1)) (put_mid (4 * i) k bytes word) ≡ drawn words 0 (i + 1)
 one_more words i k bytes word front is =
     rw (add-one, ← front, ← is) (rw (← append_assoc) (take_at (take (4 * i) bytes ++ word) (post_of (4 * i) k bytes) (4 * suc i)
     (omega (arith, length-append (take (4 * i) bytes) word, ap length front, length-drawn words 0 i, ap length is))))
 
--- what is drawn after some words is what stands so far ahead in the stream
+-- what is drawn after some words is drawn that much further on in the stream
 pub drawn_ahead : (words words' : ℕ → ℕ) (ahead place n : ℕ) → Drew words words' ahead → drawn words' place n ≡ drawn words (ahead + place) n
 drawn_ahead words words' ahead place zero rest = refl
 drawn_ahead words words' ahead place (suc n) rest =
@@ -41,7 +41,7 @@ draws_on words words' words'' before count first second = λ k. second k ∙ fir
 next_place : (len number : ℕ) → place_of_draw len number + words_of_draw len ≡ place_of_draw len (number + 1)
 next_place len number = grind arith
 
--- one more data encryption key behind those drawn
+-- one more data encryption key after those drawn
 pub one_more_key : (current : CurrentVersion) (words words' words'' : ℕ → ℕ) (count : ℕ) (keys keys' : List Edek) (key : Edek)
     → DrewKeys current words words' count keys → key ≡ drawn_edek current.version current.material words' 0
     → Drew words' words'' (words_of_draw (length current.material)) → keys' ≡ keys ++ key ∷ [] → DrewKeys current words words'' (count + 1) keys'
@@ -55,7 +55,7 @@ one_more_key current words words' words'' count keys keys' key before is rest mo
           ∙ ap (λ n. words (n + k)) (next_place (length current.material) count);
     }
 
--- memory was wanting for the key drawn last
+-- memory ran out for the last key
 pub one_more_lost : (current : CurrentVersion) (words words' words'' : ℕ → ℕ) (count all : ℕ) (keys : List Edek)
     → DrewKeys current words words' count keys → Drew words' words'' (words_of_draw (length current.material)) → count < all → DrewSome current words words'' all
 one_more_lost current words words' words'' count all keys before rest more =

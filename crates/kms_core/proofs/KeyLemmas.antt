@@ -1,4 +1,4 @@
--- Versions of keys that stand, and what is sent of them.
+-- Versions of existing keys, and the keys sent for them.
 use Rattle.std.proofs.Common.{◌≡◌, ℕ, zero, suc, ◌-◌, List, [], ◌∷◌, length, find, Bool, true, false, cond, Option, None, Some, is_none, IfSome, MatchOption, refl, ap, sym, ◌∙◌, subst}
 use Rattle.std.specs.List.{AllByRecursion, slice_get}
 use Rattle.std.specs.Option.{option_and_then}
@@ -18,7 +18,7 @@ each_get P [] i x each is = absurd cc
 each_get P (y ∷ ys) zero x each is = let same : y ≡ x = cc in subst P same each.0
 each_get P (y ∷ ys) (suc i) x each is = each_get P ys i x each.1 is
 
--- what is found passes the test
+-- an element that is found passes the test
 pub found_passes : {X : Type 0} (p : X → Bool) (xs : List X) (x : X) → find p xs ≡ Some x → p x ≡ true
 found_passes p [] x found = absurd cc
 found_passes {X = X} p (y ∷ ys) x found =
@@ -29,7 +29,7 @@ found_passes {X = X} p (y ∷ ys) x found =
     ] in
     cases refl found
 
--- a version of a key that stands
+-- a version of a key that exists
 pub version_at : (rows : List KeyRow) (name key : List ℕ) (number : ℕ) (row : KeyRow) (material : List ℕ)
     → find_name rows name ≡ Some row → bytes_eq key name ≡ true → slice_get row.materials number ≡ Some material
     → material_of rows (record { key = key; number = number }) ≡ Some material
@@ -41,7 +41,7 @@ version_at rows name key number row material found same got =
 pub named : (rows : List KeyRow) (name : List ℕ) (row : KeyRow) → find_name rows name ≡ Some row → row.name ≡ name
 named rows name row found = (bytes_eq-Decides row.name name).0 (found_passes (is_named name) rows row found)
 
--- the newest version of a key that stands
+-- the newest version of a key that exists
 pub newest_is : (s : KmsState) (name : List ℕ) (row : KeyRow) (current : CurrentVersion) → row_of s name ≡ Some row → IsNewest row current → IsCurrent s name current
 newest_is s name row current found is = record {
   stands = ap is_none found;

@@ -30,7 +30,7 @@ use Rattle.kms_core.specs.Steps.{opened_in}
 use Rattle.kms_core.proofs.SentLemmas.{none_stands, opened_is, same_cause, sent_has}
 use Rattle.kms_core.proofs.KeyLemmas.{each_get, found_passes, sent_allowed, version_at}
 
--- what decrypt answers where there is no cause of a refusal
+-- the answer of decrypt without a cause of a refusal
 decrypt_told : (s : KmsState) (words : ℕ → ℕ) (now : ℕ) (name : List ℕ) (sent : RawEdek) (told : KmsReply) (s' : KmsState) (words' : ℕ → ℕ)
     → first_cause (sent_causes (row_of s name) name sent) ≡ None → CallActs s words now (call.Decrypt name sent) told s' words'
     → told ≡ reply.Key (unwrap_or (unseals s.table.rows (edek_of sent)) [])
@@ -41,7 +41,7 @@ decrypt_told s words now name sent told s' words' none acts = by_end acts.acts.0
     by_end Plain may is = ap (λ o. o.told) is ∙ ap (λ cause. (unless_refused cause s (deed s words now (call.Decrypt name sent))).told) none
     by_end (NoRoom some) may is = absurd cc
 
--- what is sent without a cause of a refusal opens
+-- a sent key without a cause of a refusal opens
 pub opens_to : (s : KmsState) (name : List ℕ) (sent : RawEdek) → first_cause (sent_causes (row_of s name) name sent) ≡ None → (key : List ℕ) × (unseals s.table.rows (edek_of sent) ≡ Some key)
 opens_to s name sent none = by_row (row_of s name) refl
   where
@@ -54,7 +54,7 @@ decrypt_opens s words now name sent told s' words' none acts =
     let opens = opens_to s name sent none in
     (opens.0, opens.1, decrypt_told s words now name sent told s' words' none acts ∙ ap (λ o. reply.Key (unwrap_or o [])) opens.1)
 
--- what a generate that answers keys answers
+-- the answer of a generate that returns keys
 record Gave (s : KmsState) (words : ℕ → ℕ) (name : List ℕ) (count : ℕ) (keys : List Edek) (s' : KmsState) : Type 0 where
   stands : is_none (row_of s name) ≡ false
   drawn : keys ≡ drawn_edeks (current_version (row_of s name)) (current_material s name) words count
@@ -97,7 +97,7 @@ drawn_at version material words (suc n) number key is =
       | inr h ↦ h.1 ∙ ap (λ m. drawn_edek version material words (place_of_draw (length material) m)) (sym (h.0 ∙ length-drawn_edeks version material words n))
     ]
 
--- the current version of a key that stands
+-- the current version of a key that exists
 
 pub record Standing_key (s : KmsState) (name : List ℕ) (row : KeyRow) : Type 0 where
   pub found : row_of s name ≡ Some row
@@ -139,7 +139,7 @@ generated_opens s words now name count keys s' words' is acts number key at =
     let drawn_key = drawn_at (current_version (row_of s name)) (current_material s name) words count number key (ap (λ ks. slice_get ks number) (sym all.drawn) ∙ at) in
     ap (λ t. unseals t.table.rows key) all.same ∙ generated_opens_to s words name number key row.1.has drawn_key
 
--- what was drawn is well formed
+-- a drawn key is well formed
 
 key_bytes : (bits : ℕ) → is_length bits ≡ true → 4 * (bits / 8 / 4) ≡ bits / 8
 key_bytes bits is = grind (arith, nat_tests, is)
@@ -188,7 +188,7 @@ generated_decrypts s words now name count keys s' words' is acts number key at l
         (subst (λ (o : Option KeyRow). first_cause (sent_causes o name (sent_of (drawn_edek (current_version o) material words place))) ≡ None) (sym of.found)
         (allowed_back row name material words place of.sound of.named of.got))
 
--- a draw reads its own words
+-- a draw reads only its own words
 
 same_drawn : (words others : ℕ → ℕ) (place count : ℕ) → SameWords words others place count → drawn words place count ≡ drawn others place count
 same_drawn words others place zero same = refl

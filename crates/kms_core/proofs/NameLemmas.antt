@@ -31,7 +31,7 @@ not_before_itself a less = let no : Less ≡ Greater = sym less ∙ nat_list_cmp
 itself : (a : List ℕ) → bytes_eq a a ≡ true
 itself a = (bytes_eq-Decides a a).1 refl
 
--- a name that comes before others is none of them
+-- a name that comes before others is not among them
 not_among : (name : List ℕ) (names : List (List ℕ)) → Before name names → is_among name names ≡ false
 not_among name [] before = refl
 not_among name (other ∷ others) before =
@@ -46,7 +46,7 @@ further : (name other : List ℕ) (names : List (List ℕ)) → name_cmp name ot
 further name other [] less before = tt
 further name other (n ∷ ns) less before = (nat_list_cmp_total.trans name other n less before.0, further name other ns less before.1)
 
--- what is put in
+-- the names with one more
 
 each_put : (P : List ℕ → Type 0) (name : List ℕ) (names : List (List ℕ)) → P name → AllByRecursion P names → AllByRecursion P (put_name name names)
 each_put P name [] here each = (here, tt)
@@ -102,7 +102,7 @@ among_rows n (row ∷ rows) =
     found true = refl
     found false = refl
 
--- names in order are known by what is among them
+-- names in order are determined by their elements
 
 behind : (n x y : List ℕ) (xs ys : List (List ℕ)) → x ≡ y → Before x xs → Before y ys → (bytes_eq x n || is_among n xs) ≡ (bytes_eq y n || is_among n ys) → is_among n xs ≡ is_among n ys
 behind n x y xs ys same first second is =

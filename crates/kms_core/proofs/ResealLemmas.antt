@@ -1,4 +1,4 @@
--- Data encryption keys that are encrypted again.
+-- Data encryption keys that are re-encrypted.
 use Rattle.std.proofs.Common.{◌≡◌, ℕ, zero, suc, List, [], ◌∷◌, length, map, Bool, true, false, ◌&&◌, ◌==◌, cond, Option, None, Some, refl, ap, sym, ◌∙◌, subst}
 use Rattle.std.specs.List.{list_any, slice_get}
 use Rattle.std.specs.Option.{option_map, unwrap_or}
@@ -26,7 +26,7 @@ use Rattle.kms_core.proofs.KeyLemmas.{sent_allowed}
 use Rattle.kms_core.proofs.LawLemmas.{Standing_key, standing_key, opens_to}
 use Rattle.kms_core.proofs.SentLemmas.{batch_has, neither, sent_has}
 
--- what a call that only answers has told, where it is not refused
+-- the reply of a call that only answers, if it is not refused
 record Told (s : KmsState) (c : KmsCall) (answer told : KmsReply) (s' : KmsState) : Type 0 where
   none : first_cause (causes s c) ≡ None
   is : told ≡ answer
@@ -57,7 +57,7 @@ same_version_is version other same =
     let number : version.number ≡ other.number = (Decides-eqb version.number other.number).0 parts.1 in
     λ i. record { key = key i; number = number i }
 
--- what was sent without a cause of a refusal, sealed under the current version
+-- a sent key without a cause of a refusal, sealed under the current version
 same_key : (s : KmsState) (name : List ℕ) (sent : RawEdek) → IsTable s.table → first_cause (sent_causes (row_of s name) name sent) ≡ None
     → SameKey s name sent s (resealed s name sent)
 same_key s name sent is none = cases refl
@@ -100,7 +100,7 @@ reencrypted_opens s words now name sent key s' words' is acts =
     let key_is : key ≡ resealed s name sent = cc in
     moved s name sent s' (resealed s name sent) key got.same key_is (same_key s name sent is got.none)
 
--- of keys that are sent together
+-- keys sent together
 
 neither_at : {X : Type 0} (p : X → Bool) (xs : List X) (i : ℕ) (x : X) → list_any p xs ≡ false → slice_get xs i ≡ Some x → p x ≡ false
 neither_at p [] i x none at = absurd cc

@@ -1,4 +1,4 @@
--- What is sent of a key, at the key and in the service.
+-- Sent keys, at their key and in the service.
 use Rattle.std.proofs.Common.{◌≡◌, ℕ, zero, suc, ◌+◌, ◌-◌, ◌<◌, List, [], ◌∷◌, ◌++◌, length, map, take, Bool, true, false, not, ◌||◌, cond, nat_lt, nat_le, Option, None, Some, is_none, refl, ap, sym, ◌∙◌, subst, arith, get_or}
 use Rattle.std.specs.List.{list_any, slice_get}
 use Rattle.std.specs.Option.{option_and_then, option_map, unwrap_or}
@@ -19,12 +19,12 @@ use Rattle.kms_core.specs.Calls.{first_cause, sent_causes, batch_causes, lacks_v
 use Rattle.kms_core.specs.Steps.{Allowed, opened_in, resealed_in}
 use Rattle.kms_core.proofs.KeyLemmas.{named, sent_allowed, version_at}
 
--- no cause stands: the first one doesn't, nor one of the rest
+-- no cause is true: not the first, and none of the rest
 pub none_stands : (cause : Bool) (why : KmsRefusal) (rest : List (Bool × KmsRefusal)) → first_cause ((cause, why) ∷ rest) ≡ None → (cause ≡ false) × (first_cause rest ≡ None)
 none_stands true why rest none = absurd cc
 none_stands false why rest none = (refl, none)
 
--- what is sent without a cause of a refusal
+-- what a sent key without a cause of a refusal has
 pub record SentHas (row : Option KeyRow) (name : List ℕ) (sent : RawEdek) : Type 0 where
   pub stands : is_none row ≡ false
   pub has : lacks_version row sent ≡ false
@@ -44,7 +44,7 @@ not_false : (b : Bool) → not b ≡ false → b ≡ true
 not_false true e = refl
 not_false false e = absurd cc
 
--- its version is one of the key
+-- its version exists
 pub sent_version : (row : KeyRow) (sent : RawEdek) → Allowed row sent
     → (bytes_eq sent.version.key row.name ≡ true) × (slice_get row.materials sent.version.number ≡ Some (unwrap_or (slice_get row.materials sent.version.number) []))
 sent_version row sent allowed =
@@ -67,7 +67,7 @@ same_causes s name row sent found =
     let its = named s.table.rows name row found in
     λ i. first_cause (batch_causes (sym found i) (its i) sent)
 
--- what is sent opens under the material of its version
+-- the sent key opens under the material of its version
 pub opened_is : (s : KmsState) (name : List ℕ) (row : KeyRow) (sent : RawEdek) → row_of s name ≡ Some row → Allowed row sent
     → unseals s.table.rows (edek_of sent) ≡ Some (opened_in row sent)
 opened_is s name row sent found allowed =
@@ -82,7 +82,7 @@ current_material_is s name row found =
     ap (λ o. unwrap_or (material_of s.table.rows (current_version o)) []) found
     ∙ ap (λ n. it (find_name s.table.rows n)) (named s.table.rows name row found) ∙ ap it found
 
--- and is sealed under the current version
+-- it is sealed under the current version
 pub resealed_is : (s : KmsState) (name : List ℕ) (row : KeyRow) (sent : RawEdek) → row_of s name ≡ Some row → Allowed row sent
     → resealed_in row sent ≡ resealed s name sent
 resealed_is s name row sent found allowed =
@@ -92,7 +92,7 @@ resealed_is s name row sent found allowed =
     (λ i. both (record { version = current_of row; iv = sent.iv; sealed = seal (sym material i) sent.iv (sym key i) }))
     ∙ ap (λ o. cond (same_version sent.version (current_version o)) (edek_of sent) (record { version = current_version o; iv = sent.iv; sealed = seal (current_material s name) sent.iv (opened s sent) })) (sym found)
 
--- of keys that are sent together
+-- keys sent together
 
 pub neither : (a b : Bool) → (a || b) ≡ false → (a ≡ false) × (b ≡ false)
 neither true b e = absurd cc
@@ -133,7 +133,7 @@ pub map_more : {X Y : Type 0} (f : X → Y) (xs : List X) (x : X) → map f (xs 
 map_more f [] x = refl
 map_more f (y ∷ ys) x = ap (λ rest. f y ∷ rest) (map_more f ys x)
 
--- one more key behind those sealed
+-- one more key after those sealed
 pub one_more_sealed : (row : KeyRow) (sent : List RawEdek) (i : ℕ) (edek : RawEdek) (keys keys' : List Edek) (key : Edek) → i < length sent → get_or sent i edek ≡ edek
     → keys ≡ map (resealed_in row) (take i sent) → key ≡ resealed_in row edek → keys' ≡ keys ++ key ∷ [] → keys' ≡ map (resealed_in row) (take (i + 1) sent)
 one_more_sealed row sent i edek keys keys' key within at are is more =

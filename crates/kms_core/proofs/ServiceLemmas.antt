@@ -28,7 +28,7 @@ use Rattle.kms_calls.specs.declared.calls.KmsCall.TheVariants as call
 use Rattle.key_rows.specs.declared.rows.KeyCommand.TheVariants as command
 use Rattle.kms_calls.specs.declared.calls.KmsRefusal.TheVariants as refusal
 
--- nothing was done to the disk
+-- the disk did not change
 pub unchanged : (d : DiskState) (store : StoreState) (P : List KeyCommand → List ℕ → Type 0) → Logs d d store store P []
 unchanged d store P = record {
   stands = λ told commands s. subst (StandsFor d store) (sym (append-nil commands)) s;
@@ -36,7 +36,7 @@ unchanged d store P = record {
   run = (begin 0 d (P [])).run;
 }
 
--- nor by a call after which the store still stands for the same commands
+-- nor did it by a call after which the store still holds the same commands
 idle : (old new : DiskState) (store store' : StoreState) (P : List KeyCommand → List ℕ → Type 0) → new ≡ old
     → (Tells old → (commands : List KeyCommand) → StandsFor old store commands → StandsFor new store' commands) → Logs old new store store' P []
 idle old new store store' P same stands = record {
@@ -69,7 +69,7 @@ if_some : (P Q : KeyCommand → Type 0) → ((command : KeyCommand) → P comman
 if_some P Q f None h = tt
 if_some P Q f (Some command) h = f command h
 
--- what may be written is among what may be written in another way
+-- what may be written in one way may also be written in another
 
 pub leaving_more : (table : Table) (pending : Option KeyCommand) (own own' : Bool → KeyCommand → Type 0) (commands : List KeyCommand) (bytes : List ℕ) → ((kept : Bool) (command : KeyCommand) → own kept command → own' kept command)
     → IsLeftOf table pending own commands bytes → IsLeftOf table pending own' commands bytes
@@ -86,7 +86,7 @@ leaving_more table pending own own' commands bytes f l = record {
     either command (inl h) = inl h
     either command (inr h) = inr (f l.kept command h)
 
--- the moments of a call leave what another clause says of them, too
+-- the moments of a call also satisfy a weaker clause
 logs_weaker : (old new : DiskState) (store store' : StoreState) (P Q : List KeyCommand → List ℕ → Type 0) (logged : List KeyCommand) → ((commands : List KeyCommand) (bytes : List ℕ) → P commands bytes → Q commands bytes)
     → Logs old new store store' P logged → Logs old new store store' Q logged
 logs_weaker old new store store' P Q logged f l = record { stands = l.stands; moments = λ told commands s. weaker (λ c left. f commands c left) (l.moments told commands s); run = l.run }
@@ -102,7 +102,7 @@ logs_growing old new store store' own own' logged f l =
     logs_weaker old new store store' (IsGrowing store.table.keys own) (IsGrowing store.table.keys own') logged
     (λ commands c g. record { more = g.more; more_is = if_some own own' f g.more g.more_is; fits = g.fits; spelled = g.spelled; log = g.log }) l
 
--- what is left while a command waits, and behind its settling while another may be added
+-- what a crash may leave while a command waits, and after its settling while another is added
 left_growing : (table : Table) (pending : Option KeyCommand) (kept : Bool) (own : Bool → KeyCommand → Type 0) (own' : KeyCommand → Type 0) (commands : List KeyCommand) (bytes : List ℕ)
     → ((command : KeyCommand) → own' command → own kept command)
     → IsGrowing (settled_table kept pending table) own' (commands ++ settled_commands kept pending) bytes → IsLeftOf table pending own commands bytes
@@ -115,7 +115,7 @@ left_growing table pending kept own own' commands bytes f g = record {
   log = g.log;
 }
 
--- settling, and then a change while nothing is pending
+-- a settling, and then a change while nothing is pending
 pub behind_settling : (old mid new : DiskState) (r s t : Running) (kept : Bool) (own : Bool → KeyCommand → Type 0) (own' : KeyCommand → Type 0) (logged : List KeyCommand)
     → ((command : KeyCommand) → own' command → own kept command)
     → service_of s ≡ record { keys = settled kept (service_of r); pending = None }
@@ -248,7 +248,7 @@ settled_enacted old new r t words now c told words' takes free acks done rest = 
     })
     ends (inr (inr (failed, is, logged, left))) = inr (record { failed = failed; free = free; told_is = is; drawn_is = refl; logged_is = logged; left = left })
 
--- a deed that says the same of answer, command and state ends alike
+-- deeds with the same answer, command and state have the same commit
 pub same_commit : (old new : DiskState) (r t : Running) (d e : Deed) (told : KmsReply) → d.logs ≡ e.logs → d.answer ≡ e.answer → d.state ≡ e.state → Commits old new r d told t → Commits old new r e told t
 same_commit old new r t d e told logs answer state k = record {
   logged = k.logged;
@@ -262,14 +262,14 @@ same_commit old new r t d e told logs answer state k = record {
     same (inr (inl h)) = inr (inl h)
     same (inr (inr (failed, is, logged, left))) = inr (inr (failed, is, logged, left ∙ (λ i. record { keys = state i; pending = logs i })))
 
--- what a commit comes to
+-- the outcome of a commit
 
--- a log of these commands with one more, or without it
+-- a log of these commands, with or without one more
 growing : (table : Table) (own : KeyCommand → Type 0) (command : KeyCommand) (commands : List KeyCommand) (bytes : List ℕ) → own command → applies table command ≡ true → IsWritten commands command bytes
     → IsGrowing table own commands bytes
 growing table own command commands bytes is_own may is = record { more = Some command; more_is = is_own; fits = may; spelled = is.0; log = is.1 }
 
--- The clauses of a commit, together.
+-- The clauses of a commit.
 pub record Committed (old new : DiskState) (store : StoreState) (command : KeyCommand) : Type 0 where
   pub may : applies store.table.keys command ≡ true
   pub moments : Tells old → (commands : List KeyCommand) → StandsFor old store commands → LeavesOnly 0 old new (IsWritten commands command)
@@ -293,7 +293,7 @@ not_written old new store store' own command is_own k stands = record {
   run = k.run;
 }
 
--- a deed and the command that it logs, beside the keys of a running service
+-- a deed and its command, for the keys of a running service
 pub record IsDeedOf (r : Running) (d : Deed) (command : KeyCommand) : Type 0 where
   pub logs : d.logs ≡ Some command
   pub same_table : d.state.table ≡ r.store.table.keys
@@ -318,7 +318,7 @@ commit_done old new r t d command told of_deed next told_is then_is none k stand
     done = subst (λ (o : Option KeyCommand). service_of t ≡ record { keys = done_with o d.state; pending = None }) (sym of_deed.logs)
         (λ i. record { keys = record { table = there i; next = next i }; pending = none i })
 
--- memory was wanting, and the disk was not touched
+-- memory ran out, and the disk did not change
 pub commit_wanting : (old new : DiskState) (r t : Running) (d : Deed) (told : KmsReply) → t.next ≡ r.next → told ≡ Refused NoMemory
     → t.store.table.keys ≡ r.store.table.keys → t.store.pending ≡ None → new ≡ old
     → (Tells old → (commands : List KeyCommand) → StandsFor old r.store commands → StandsFor new t.store commands) → Commits old new r d told t
@@ -341,7 +341,7 @@ pub err_only : {A B Q : Type 0} (P : Type 0) (result : Result A B) → IsErr res
 err_only P (Ok x) is q = absurd cc
 err_only P (Err e) is q = q
 
--- what settling comes to
+-- the outcome of a settling
 
 without : (commands : List KeyCommand) (pending : Option KeyCommand) → commands ≡ commands ++ settled_commands false pending
 without commands None = sym (append-nil commands)
@@ -355,7 +355,7 @@ pub left_waiting : (table : Table) (command : KeyCommand) (commands : List KeyCo
 left_waiting table command commands bytes may spelled is =
     record { kept = false; more = Some command; more_is = inl (refl, refl); fits = may; spelled = spelled; log = subst (λ (l : List KeyCommand). IsLogOf l (Some command) bytes) (sym (append-nil commands)) is }
 
--- a crash while the pending command is settled leaves what a crash may leave while it waits
+-- a crash during the settling leaves what a crash may leave while the command waits
 pub settling_moments : (old new : DiskState) (store : StoreState) → Applies store.table.keys store.pending → (store.pending ≡ None → new ≡ old)
     → (Tells old → (commands : List KeyCommand) (command : KeyCommand) → StandsFor old store commands → store.pending ≡ Some command → LeavesOnly 0 old new (IsWithOrWithout commands command))
     → Tells old → (commands : List KeyCommand) → StandsFor old store commands → LeavesOnly 0 old new (IsLeftOf store.table.keys store.pending NoCommand commands)

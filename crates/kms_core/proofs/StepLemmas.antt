@@ -25,7 +25,7 @@ both_hold a b h g = ap (λ x. x && b) h ∙ g
 all_three : (a b c : Bool) → a ≡ true → b ≡ true → c ≡ true → (a && b && c) ≡ true
 all_three a b c f g h = both_hold (a && b) c (both_hold a b f g) h
 
--- a call for which a cause stands is refused
+-- a call is refused if a cause is true
 pub refuses : (s : KmsState) (words : ℕ → ℕ) (now : ℕ) (c : KmsCall) (why : KmsRefusal) (told : KmsReply) (s' : KmsState) (words' : ℕ → ℕ)
     → first_cause (causes s c) ≡ Some why → told ≡ Refused why → s' ≡ s → ((k : ℕ) → words' k ≡ words k) → CallActs s words now c told s' words'
 refuses s words now c why told s' words' cause told_is same rest = record {
@@ -49,7 +49,7 @@ enacted s words now c told s' words' takes none (inr wanting) rest = record {
   rest = rest;
 }
 
--- a key that stands and has room for a version may get one
+-- a key that exists and has fewer than 65,535 versions may get one more
 pub may_get : (row : Option KeyRow) (number bits : ℕ) (material : List ℕ) → is_none row ≡ false → bits ≡ bits_of row → number ≡ versions_of row → number < 65535 → length material ≡ bits / 8
     → may_roll row number material ≡ true
 may_get None number bits material stands bits_is versions_is room long = absurd cc
@@ -75,7 +75,7 @@ may_be_rolled s name given key so fits room =
     let full : nat_le 65535 (versions_of (row_of s name)) ≡ false = ap (λ n. nat_le 65535 n) (sym so.versions) ∙ grind (arith, room) in
     allowed (row_of s name) given so.stands (ap (λ n. is_misfit n given) (sym so.bits) ∙ fits) full
 
--- memory is wanting in a call without another cause of refusal
+-- memory ran out in a call without another cause of refusal
 pub wanting : (s : KmsState) (words : ℕ → ℕ) (now : ℕ) (c : KmsCall) (words' : ℕ → ℕ) (drawn : ℕ)
     → takes_memory c ≡ true → first_cause (causes s c) ≡ None → drawn ≤ (deed s words now c).words → Drew words words' drawn
     → CallActs s words now c (Refused NoMemory) s words'

@@ -39,7 +39,7 @@ is_denied d k lines user words now c denied told is told_is = record {
   lists = refl;
 }
 
--- what is hidden is left out of an answer, and nothing else is
+-- an answer leaves out what is hidden, and nothing else
 
 pub told_hidden : (shown : Shown) (c : KmsCall) (told : KmsReply) → hides shown c ≡ true → without_material told ≡ told_to shown c told
 told_hidden shown c told h = ap (λ b. cond b (without_material told) told) (sym h)
@@ -59,7 +59,7 @@ without_acknowledged (reply.Resealed key) o = refl
 without_acknowledged (reply.Key key) o = refl
 without_acknowledged (reply.Refused why) o = refl
 
--- hiding the material changes nothing of what an answer acknowledges
+-- hiding the material does not change what an answer acknowledges
 hidden_acknowledged : (shown : Shown) (c : KmsCall) (r : KmsReply) (o : Option KeyCommand) → acknowledged (told_to shown c r) o ≡ acknowledged r o
 hidden_acknowledged shown c r o =
     let P : Bool → Type 0 = λ b. acknowledged (cond b (without_material r) r) o ≡ acknowledged r o in

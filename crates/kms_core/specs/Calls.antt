@@ -1,4 +1,4 @@
--- The calls of the key management service: what each is refused for, what it answers, and what it leaves.
+-- The calls of the key management service: why each is refused, what it answers, and the state it leaves.
 use Rattle.std.specs.Prelude.{◌≡◌, ◌≤◌, ℕ, ◌+◌, ◌/◌, Bool, true, false, not, ◌&&◌, ◌||◌, ◌==◌, nat_lt, nat_le, List, [], ◌∷◌, length, map, Option, Some, None, is_some, is_none, unwrap_or, bytes_eq, if◌then◌else◌}
 use Rattle.std.specs.List.{list_any}
 use Rattle.hk_base.specs.declared.names.Dek.{Dek}
@@ -24,7 +24,7 @@ use Rattle.kms_core.specs.Opening.{unseals}
 use Rattle.kms_core.specs.Order.{names_in_order}
 use Rattle.kms_core.specs.State.{KmsState, next_birth, is_spent}
 
--- causes of a refusal in the order of the rules; the first one that holds counts
+-- the causes of a refusal, in the order of the rules; the first that is true counts
 abbrev pub first_cause : List (Bool × KmsRefusal) → Option KmsRefusal
 first_cause [] = None
 first_cause (cause ∷ causes) = if cause.0 then Some cause.1 else first_cause causes
@@ -32,7 +32,7 @@ first_cause (cause ∷ causes) = if cause.0 then Some cause.1 else first_cause c
 abbrev pub row_of : KmsState → KeyName → Option KeyRow
 row_of s name = find_name s.table.rows name
 
--- what is known of a key, where it stands
+-- the data of a key, if it exists
 
 abbrev pub bits_of : Option KeyRow → ℕ
 bits_of None = 0
@@ -62,7 +62,7 @@ current_version (Some row) = current_of row
 abbrev pub current_material : KmsState → KeyName → Dek
 current_material s name = unwrap_or (material_of s.table.rows (current_version (row_of s name))) []
 
--- given material is not as long as the key
+-- the given material does not have the length of the key
 abbrev pub is_misfit : ℕ → Option (List ℕ) → Bool
 is_misfit bits None = false
 is_misfit bits (Some material) = not (length material == bits / 8)
@@ -77,14 +77,14 @@ is_absent s name = is_none (row_of s name)
 abbrev pub lacks_number : Option KeyRow → ℕ → Bool
 lacks_number row number = nat_le (versions_of row) number
 
--- the key has no version of the number that was sent
+-- the key has no version of the number sent
 abbrev pub lacks_version : Option KeyRow → RawEdek → Bool
 lacks_version row sent = lacks_number row sent.version.number
 
 abbrev pub is_of_other_key : KeyName → RawEdek → Bool
 is_of_other_key name sent = not (bytes_eq sent.version.key name)
 
--- what is sealed is not as long as the key, or the initialization vector does not have 16 bytes
+-- the sealed bytes do not have the length of the key, or the initialization vector does not have 16 bytes
 abbrev pub is_malformed : ℕ → RawEdek → Bool
 is_malformed bits sent = not (length sent.sealed == bits / 8) || not (length sent.iv == 16)
 
@@ -107,7 +107,7 @@ sent_causes row name sent =
     (is_none row, refusal.NoSuchKey) ∷ (lacks_version row sent, refusal.NoSuchVersion) ∷ (is_of_other_key name sent, refusal.WrongKey)
     ∷ (is_malformed (bits_of row) sent, refusal.BadMaterial) ∷ []
 
--- of keys that are sent together: each cause is tried over all of them before the next one
+-- for keys sent together: each cause is tried on all of them before the next one
 abbrev pub batch_causes : Option KeyRow → KeyName → List RawEdek → List (Bool × KmsRefusal)
 batch_causes row name sent =
     (is_none row, refusal.NoSuchKey) ∷ (list_any (lacks_version row) sent, refusal.NoSuchVersion) ∷ (list_any (is_of_other_key name) sent, refusal.WrongKey)
@@ -116,7 +116,7 @@ batch_causes row name sent =
 abbrev pub version_causes : Option KeyRow → ℕ → List (Bool × KmsRefusal)
 version_causes row number = (is_none row, refusal.NoSuchKey) ∷ (lacks_number row number, refusal.NoSuchVersion) ∷ []
 
--- of a call that asks for nothing but that the key stands
+-- for a call that only requires that the key exists
 abbrev pub absence_causes : Option KeyRow → List (Bool × KmsRefusal)
 absence_causes row = (is_none row, refusal.NoSuchKey) ∷ []
 
@@ -136,8 +136,8 @@ causes s (call.Decrypt name sent) = sent_causes (row_of s name) name sent
 causes s (call.Reencrypt name sent) = sent_causes (row_of s name) name sent
 causes s (call.Batch name sent) = batch_causes (row_of s name) name sent
 
--- What a call that is not refused does: its answer, what it changes of the table, the state in which that takes
--- effect, and how many words it draws.
+-- What a call that is not refused does: its answer, its change of the table, the state in which the change takes
+-- effect, and the number of words that it draws.
 pub record Deed : Type 0 where
   pub answer : KmsReply
   pub logs : Option KeyCommand
@@ -177,7 +177,7 @@ only_answer s answer = record { answer = answer; logs = None; state = s; words =
 abbrev pub meta_of : KeyName → Option KeyRow → KeyMeta
 meta_of name row = record { name = name; bits = bits_of row; description = description_of row; created = created_of row; versions = versions_of row }
 
--- what is known of each key, in the order asked
+-- the metadata of each key, in the order of the request
 abbrev pub metas_of : KmsState → List KeyName → List KeyMeta
 metas_of s names = map (λ name. meta_of name (row_of s name)) names
 
@@ -192,7 +192,7 @@ abbrev pub all_versions : Option KeyRow → List Shown
 all_versions None = []
 all_versions (Some row) = versions_from row.name 0 row.materials
 
--- so many data encryption keys under the current version, drawn from the next words on
+-- `count` data encryption keys under the current version, drawn from the next words
 abbrev pub generated : KmsState → (ℕ → ℕ) → KeyName → ℕ → Deed
 generated s words name count =
     let material = current_material s name in
@@ -203,19 +203,19 @@ generated s words name count =
       words = place_of_draw (length material) count;
     }
 
--- what was sent, as an encrypted data encryption key
+-- the sent key as an encrypted data encryption key
 abbrev pub edek_of : RawEdek → Edek
 edek_of sent = record { version = sent.version; iv = sent.iv; sealed = sent.sealed }
 
--- what was sent opened under the material of its version
+-- the sent key, opened under the material of its version
 abbrev pub opened : KmsState → RawEdek → Dek
 opened s sent = unwrap_or (unseals s.table.rows (edek_of sent)) []
 
 abbrev pub same_version : VersionName → VersionName → Bool
 same_version version other = bytes_eq version.key other.key && version.number == other.number
 
--- the data encryption key that was sent, under the current version: as it is where it is on that version, else opened, and
--- sealed with the same initialization vector
+-- the data encryption key that was sent, under the current version: unchanged if it is on that version, else opened and
+-- sealed again with the same initialization vector
 abbrev pub resealed : KmsState → KeyName → RawEdek → Edek
 resealed s name sent =
     let current = current_version (row_of s name) in
@@ -245,13 +245,13 @@ abbrev pub done_with : Option KeyCommand → KmsState → KmsState
 done_with None s = s
 done_with (Some c) s = record s { table = after s.table c }
 
--- what a call comes to: its reply, how many words it drew, and the state after it
+-- the result of a call: its reply, the number of words drawn, and the state after it
 pub record Outcome : Type 0 where
   pub told : KmsReply
   pub drawn : ℕ
   pub state : KmsState
 
--- a refusal leaves the state as it was
+-- a refusal leaves the state unchanged
 abbrev pub refused : KmsRefusal → ℕ → KmsState → Outcome
 refused why drawn s = record { told = reply.Refused why; drawn = drawn; state = s }
 
@@ -262,7 +262,7 @@ abbrev pub unless_refused : Option KmsRefusal → KmsState → Deed → Outcome
 unless_refused (Some why) s d = refused why 0 s
 unless_refused None s d = accepted d
 
--- what is free in a call: memory may be wanting, after some of its words were drawn
+-- what is left open in a call: memory may run out after some of its words were drawn
 pub data Ending : Type 0 where
   Plain : Ending
   NoRoom : (drawn : ℕ) → Ending
@@ -283,7 +283,7 @@ takes_memory (call.Decrypt name sent) = false
 takes_memory (call.Reencrypt name sent) = false
 takes_memory (call.Batch name sent) = true
 
--- memory is wanting only where the call takes some and no other refusal comes, and no more words are drawn than else
+-- memory may run out only if the call allocates and no other refusal applies, after at most the words that the call draws
 abbrev pub MayEnd : KmsState → (ℕ → ℕ) → ℕ → KmsCall → Ending → Type 0
 MayEnd s words now c Plain = Unit {0}
 MayEnd s words now c (NoRoom drawn) = (takes_memory c ≡ true) × (first_cause (causes s c) ≡ None) × (drawn ≤ (deed s words now c).words)
@@ -292,11 +292,11 @@ abbrev pub outcome : KmsState → (ℕ → ℕ) → ℕ → KmsCall → Ending �
 outcome s words now c Plain = unless_refused (first_cause (causes s c)) s (deed s words now c)
 outcome s words now c (NoRoom drawn) = refused refusal.NoMemory drawn s
 
--- From s, with these words to come, a call may be answered so, draw so many words, and leave s'.
+-- From s, with these words to come, a call may get this reply, draw this number of words, and leave s'.
 abbrev pub KmsActs : KmsState → (ℕ → ℕ) → ℕ → KmsCall → KmsReply → ℕ → KmsState → Type 0
 KmsActs s words now c told drawn s' = (e : Ending) × MayEnd s words now c e × (record { told = told; drawn = drawn; state = s' } ≡ outcome s words now c e)
 
--- the same with the words that are to come afterwards
+-- the same, with the words that come afterwards
 pub record CallActs (s : KmsState) (words : ℕ → ℕ) (now : ℕ) (c : KmsCall) (told : KmsReply) (s' : KmsState) (words' : ℕ → ℕ) : Type 0 where
   pub drawn : ℕ
   pub acts : KmsActs s words now c told drawn s'

@@ -1,4 +1,4 @@
--- What follows for data encryption keys that are generated, decrypted and encrypted again, and for births.
+-- Properties of data encryption keys that are generated, decrypted and re-encrypted, and of births.
 use Rattle.std.specs.Prelude.{◌≡◌, ◌⊎◌, ℕ, ◌+◌, ◌<◌, ◌≤◌, Bool, List, length, true, None, Ok, Some, is_none, slice_get}
 use Rattle.hk_base.specs.Faults.{Rose}
 use Rattle.hk_base.specs.declared.names.Dek.{Dek}
@@ -23,14 +23,14 @@ use Rattle.kms_core.specs.State.{IsService, KmsState, ServiceState, next_birth, 
 use Rattle.kms_core.specs.Users.{ServesUser}
 use Rattle.kms_core.specs.Calls.{CallActs, birth_of, current_version, first_cause, sent_causes, row_of, edek_of, current_material}
 
--- what is sent without a cause of a refusal is always opened, and nothing else is answered
+-- a decryption without a cause of a refusal opens the key, and gets no other answer
 abbrev pub DecryptOpens : Type 0
 DecryptOpens =
     (s : KmsState) (words : ℕ → ℕ) (now : ℕ) (name : KeyName) (sent : RawEdek) (told : KmsReply) (s' : KmsState) (words' : ℕ → ℕ)
     → first_cause (sent_causes (row_of s name) name sent) ≡ None → CallActs s words now (call.Decrypt name sent) told s' words'
     → (key : Dek) × (unseals s.table.rows (edek_of sent) ≡ Some key) × (told ≡ reply.Key key)
 
--- So what a permitted user sends to decrypt is opened, and nothing changes.
+-- So the decryption of a permitted user opens the key, and nothing changes.
 abbrev pub PermittedDecryptOpens : Type 0
 PermittedDecryptOpens =
     (lines : List PropLine) (user : Text) (s : ServiceState) (words : ℕ → ℕ) (now : ℕ) (name : KeyName) (sent : RawEdek) (before later : ℕ) (told : KmsReply) (drawn : ℕ)
@@ -45,18 +45,18 @@ dek_of_draw s words name number =
     let len = length (current_material s name) in
     drawn_dek words (place_of_draw len number) len
 
--- each key that a generate answers opens, under the table as it stands, to the data key drawn for it
+-- each key that a generate returns opens, under the table after it, to the data key drawn for it
 abbrev pub GeneratedOpens : Type 0
 GeneratedOpens =
     (s : KmsState) (words : ℕ → ℕ) (now : ℕ) (name : KeyName) (count : ℕ) (keys : List Edek) (s' : KmsState) (words' : ℕ → ℕ)
     → IsTable s.table → CallActs s words now (call.Generate name count) (reply.Ready keys) s' words'
     → (number : ℕ) (key : Edek) → slice_get keys number ≡ Some key → unseals s'.table.rows key ≡ Some (dek_of_draw s words name number)
 
--- the encrypted key as it is sent back
+-- the encrypted key, as it is sent back
 abbrev pub sent_of : Edek → RawEdek
 sent_of key = record { version = key.version; iv = key.iv; sealed = key.sealed }
 
--- and decrypt answers that data key
+-- decrypt returns that data key
 abbrev pub GeneratedDecrypts : Type 0
 GeneratedDecrypts =
     (s : KmsState) (words : ℕ → ℕ) (now : ℕ) (name : KeyName) (count : ℕ) (keys : List Edek) (s' : KmsState) (words' : ℕ → ℕ)
@@ -65,8 +65,8 @@ GeneratedDecrypts =
     → (later : ℕ → ℕ) (then : ℕ) (told : KmsReply) (s'' : KmsState) (later' : ℕ → ℕ)
     → CallActs s' later then (call.Decrypt name (sent_of key)) told s'' later' → told ≡ reply.Key (dek_of_draw s words name number)
 
--- What is sent and what is answered for it open to one data encryption key, with one initialization vector, and what is
--- answered is on the current version.
+-- The key sent and the key returned open to the same data encryption key, with the same initialization vector, and the
+-- key returned is on the current version.
 pub record SameKey (s : KmsState) (name : KeyName) (sent : RawEdek) (s' : KmsState) (key : Edek) : Type 0 where
   pub dek : Dek
   pub before : unseals s.table.rows (edek_of sent) ≡ Some dek
@@ -74,13 +74,13 @@ pub record SameKey (s : KmsState) (name : KeyName) (sent : RawEdek) (s' : KmsSta
   pub iv : key.iv ≡ sent.iv
   pub version : key.version ≡ current_version (row_of s' name)
 
--- what a reencrypt answers opens, under the table as it stands, to what was sent opens to
+-- the key that a reencrypt returns opens, under the table after it, to the data key of the key sent
 abbrev pub ReencryptedOpens : Type 0
 ReencryptedOpens =
     (s : KmsState) (words : ℕ → ℕ) (now : ℕ) (name : KeyName) (sent : RawEdek) (key : Edek) (s' : KmsState) (words' : ℕ → ℕ)
     → IsTable s.table → CallActs s words now (call.Reencrypt name sent) (reply.Resealed key) s' words' → SameKey s name sent s' key
 
--- and so does each key of a batch; as many are answered as were sent
+-- so does each key of a batch; as many are returned as were sent
 abbrev pub BatchOpens : Type 0
 BatchOpens =
     (s : KmsState) (words : ℕ → ℕ) (now : ℕ) (name : KeyName) (sent : List RawEdek) (keys : List Edek) (s' : KmsState) (words' : ℕ → ℕ)
@@ -93,7 +93,7 @@ pub record Gone (t : Table) (birth : ℕ) : Type 0 where
   pub used : birth ≤ t.greatest
   pub absent : is_none (find_birth t.rows birth) ≡ true
 
--- no call of a user gives such a birth to a key
+-- no call of a user gives a used birth to a key again
 abbrev pub GoneStays : Type 0
 GoneStays =
     (lines : List PropLine) (user : Text) (s : ServiceState) (words : ℕ → ℕ) (now : ℕ) (c : KmsCall) (before later : ℕ) (told : KmsReply) (drawn : ℕ) (logged : List KeyCommand)
@@ -105,28 +105,28 @@ abbrev pub GoneStaysAtStart : Type 0
 GoneStaysAtStart =
     (s : ServiceState) (kept : Bool) → IsService s → (birth : ℕ) → Gone s.keys.table birth → Gone (opened (settled kept s).table).keys.table birth
 
--- the birth of a deleted key is such a one
+-- the birth of a deleted key is used and gone
 abbrev pub DeletedIsGone : Type 0
 DeletedIsGone =
     (lines : List PropLine) (user : Text) (s : ServiceState) (words : ℕ → ℕ) (now : ℕ) (name : KeyName) (before later : ℕ) (drawn : ℕ) (logged : List KeyCommand) (s' : ServiceState)
     → IsService s → ServesUser lines user s words now (call.Delete name) (Rose before later) reply.Done drawn logged s'
     → (kept : Bool) × Gone s'.keys.table (birth_of (row_of (settled kept s) name))
 
--- A birth below the next one that no key has, and that none gets if the pending command was kept. It was that of a key that was
--- deleted, or was taken for a create whose record could not be written.
+-- A birth below the next one that no key has, whether or not the pending command was kept. Its key was deleted, or it was
+-- taken for a create whose record could not be written.
 pub record IsUsedUp (s : ServiceState) (birth : ℕ) : Type 0 where
   pub below : birth < next_birth s.keys
   pub absent : (kept : Bool) → is_none (find_birth (settled kept s).table.rows birth) ≡ true
 
--- no call of a user gives such a birth to a key
+-- no call of a user gives a used-up birth to a key
 abbrev pub UsedUpStays : Type 0
 UsedUpStays =
     (lines : List PropLine) (user : Text) (s : ServiceState) (words : ℕ → ℕ) (now : ℕ) (c : KmsCall) (before later : ℕ) (told : KmsReply) (drawn : ℕ) (logged : List KeyCommand)
     (s' : ServiceState)
     → IsService s → ServesUser lines user s words now c (Rose before later) told drawn logged s' → (birth : ℕ) → IsUsedUp s birth → IsUsedUp s' birth
 
--- A birth below the next one that no key has after a call is used up, unless the call left all as it was: then the command that
--- was pending, which may make a key of it, is still pending.
+-- A birth below the next one that no key has after a call is used up, unless the call left everything unchanged: then the
+-- pending command, which may create a key with it, is still pending.
 abbrev pub LostIsUsedUp : Type 0
 LostIsUsedUp =
     (lines : List PropLine) (user : Text) (s : ServiceState) (words : ℕ → ℕ) (now : ℕ) (c : KmsCall) (before later : ℕ) (told : KmsReply) (drawn : ℕ) (logged : List KeyCommand)
@@ -134,17 +134,17 @@ LostIsUsedUp =
     → IsService s → ServesUser lines user s words now c (Rose before later) told drawn logged s'
     → (birth : ℕ) → birth < next_birth s.keys → is_none (find_birth s'.keys.table.rows birth) ≡ true → IsUsedUp s' birth ⊎ (s' ≡ s)
 
--- and so is each birth below the next one that no key has in the table which a start finds
+-- so is each birth below the next one that no key has in the table that a start finds
 abbrev pub UsedUpAtStart : Type 0
 UsedUpAtStart =
     (s : ServiceState) (kept : Bool) → IsService s → (birth : ℕ) → birth < next_birth s.keys → is_none (find_birth (settled kept s).table.rows birth) ≡ true
     → IsUsedUp (opened (settled kept s).table) birth
 
--- these many words from the place on are the same in both streams
+-- `count` words from this place on are the same in both streams
 abbrev pub SameWords : (ℕ → ℕ) → (ℕ → ℕ) → ℕ → ℕ → Type 0
 SameWords words others place count = (k : ℕ) → k < count → words (place + k) ≡ others (place + k)
 
--- A draw reads its own words alone.
+-- A draw reads only its own words.
 pub record ReadsItsOwn (version : VersionName) (material : Dek) (words others : ℕ → ℕ) (place : ℕ) : Type 0 where
   pub edek : drawn_edek version material words place ≡ drawn_edek version material others place
   pub dek : drawn_dek words place (length material) ≡ drawn_dek others place (length material)
@@ -154,6 +154,6 @@ DrawsReadTheirOwn =
     (version : VersionName) (material : Dek) (words others : ℕ → ℕ) (place : ℕ)
     → SameWords words others place (words_of_draw (length material)) → ReadsItsOwn version material words others place
 
--- the words of a draw end where those of the next begin, or before, so that no word serves two draws
+-- the words of a draw end where the next draw begins, or before, so no word is used by two draws
 abbrev pub DrawsApart : Type 0
 DrawsApart = (len number later : ℕ) → number < later → place_of_draw len number + words_of_draw len ≤ place_of_draw len later

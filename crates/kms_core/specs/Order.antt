@@ -6,13 +6,13 @@ use Rattle.hk_base.specs.declared.names.KeyName.{KeyName}
 use Rattle.key_rows.specs.declared.rows.KeyRow.{KeyRow}
 use Rattle.key_rows.specs.Names.{name_cmp}
 
--- the name before the others, or as one that is there, or among `rest`, which are those behind the first with it
+-- the name before the others, or in place of an equal one, or within `rest`, which is the later names with it
 abbrev pub put_by : Ordering → KeyName → KeyName → List KeyName → List KeyName → List KeyName
 put_by Less name other others rest = name ∷ other ∷ others
 put_by Equal name other others rest = other ∷ others
 put_by Greater name other others rest = other ∷ rest
 
--- the name at its place among names in order
+-- the names with one more, at its place
 abbrev pub put_name : KeyName → List KeyName → List KeyName
 put_name name [] = name ∷ []
 put_name name (other ∷ others) = put_by (name_cmp name other) name other others (put_name name others)

@@ -35,7 +35,7 @@ abbrev pub listed : Option KeyCommand → List KeyCommand
 listed None = []
 listed (Some command) = command ∷ []
 
--- a command is acknowledged by an answer that is no refusal
+-- a command is acknowledged by an answer that is not a refusal
 abbrev pub acknowledged : KmsReply → Option KeyCommand → List KeyCommand
 acknowledged (reply.Refused why) logs = []
 acknowledged _ logs = listed logs
@@ -46,7 +46,7 @@ pub record OnlyReads (s : ServiceState) (words : ℕ → ℕ) (now : ℕ) (c : K
   pub none_logged : logged ≡ []
   pub same : s' ≡ s
 
--- The pending command could not be settled: it is still pending, and nothing was done.
+-- The pending command could not be settled: it is still pending, and nothing changed.
 pub record Unsettled (s : ServiceState) (fault : Type 0) (told : KmsReply) (drawn : ℕ) (logged : List KeyCommand) (s' : ServiceState) : Type 0 where
   pub waits : is_some s.pending ≡ true
   pub failed : fault
@@ -55,15 +55,15 @@ pub record Unsettled (s : ServiceState) (fault : Type 0) (told : KmsReply) (draw
   pub none_logged : logged ≡ []
   pub same : s' ≡ s
 
--- A change of keys beside which nothing is pending, behind the commands that were settled. What it did was written to the log,
--- if it did anything.
+-- A change of keys while nothing is pending, after the commands that were settled. Its command, if it has one, was written
+-- to the log.
 pub record Written (keys : KmsState) (before : List KeyCommand) (words : ℕ → ℕ) (now : ℕ) (c : KmsCall) (told : KmsReply) (drawn : ℕ) (logged : List KeyCommand) (s' : ServiceState) : Type 0 where
   pub changed : KmsState
   pub acts : KmsActs keys words now c told drawn changed
   pub logged_is : logged ≡ before ++ acknowledged told (deed keys words now c).logs
   pub left : s' ≡ record { keys = changed; pending = None }
 
--- The disk failed when the record of the change was written: its command is pending, its birth is used, and nothing else changed.
+-- The disk failed while the change was written: its command is pending, its birth is used, and nothing else changed.
 pub record Unwritten (keys : KmsState) (before : List KeyCommand) (words : ℕ → ℕ) (now : ℕ) (c : KmsCall) (fault : Type 0) (told : KmsReply) (drawn : ℕ) (logged : List KeyCommand) (s' : ServiceState) : Type 0 where
   pub failed : fault
   pub free : first_cause (causes keys c) ≡ None
@@ -76,8 +76,8 @@ abbrev pub Changes : KmsState → List KeyCommand → (ℕ → ℕ) → ℕ → 
 Changes keys before words now c fault told drawn logged s' =
     Written keys before words now c told drawn logged s' ⊎ Unwritten keys before words now c fault told drawn logged s'
 
--- From s, with these words to come, a call may be answered so, draw so many words, have these commands acknowledged, and leave
--- s'. A store fault comes only where `fault` holds. A command that was pending is acknowledged where it was found to be kept.
+-- From s and these words to come, a call may get this reply, draw this number of words, acknowledge these commands and
+-- leave s'. A store fault comes only if `fault` holds. A pending command is acknowledged if it is found in the log.
 abbrev pub ServesBy : Bool → ServiceState → (ℕ → ℕ) → ℕ → KmsCall → Type 0 → KmsReply → ℕ → List KeyCommand → ServiceState → Type 0
 ServesBy false s words now c fault told drawn logged s' = OnlyReads s words now c told drawn logged s'
 ServesBy true s words now c fault told drawn logged s' =
@@ -86,8 +86,8 @@ ServesBy true s words now c fault told drawn logged s' =
 abbrev pub Serves : ServiceState → (ℕ → ℕ) → ℕ → KmsCall → Type 0 → KmsReply → ℕ → List KeyCommand → ServiceState → Type 0
 Serves s words now c fault told drawn logged s' = ServesBy (is_change c) s words now c fault told drawn logged s'
 
--- What a crash leaves of a log of these commands while nothing is pending: that log, with one command more, which is its call's own
--- and applies to the table, or without it.
+-- What a crash leaves of a log of these commands while nothing is pending: the log with or without one more command, which
+-- is the call's own and applies to the table.
 pub record IsGrowing (table : Table) (own : KeyCommand → Type 0) (commands : List KeyCommand) (bytes : List ℕ) : Type 0 where
   pub more : Option KeyCommand
   pub more_is : IfSome more own
@@ -95,8 +95,8 @@ pub record IsGrowing (table : Table) (own : KeyCommand → Type 0) (commands : L
   pub spelled : IfSome more HasSpelling
   pub log : IsLogOf commands more bytes
 
--- What a call of the service does to its disk: the commands acknowledged are in the log behind those before, and a crash at any
--- moment of the call leaves what P says of those before.
+-- What a call of the service does to its disk: the acknowledged commands are in the log after the earlier ones, and a crash
+-- at any moment of the call leaves what P allows for the earlier ones.
 pub record Logs (old new : DiskState) (store store' : StoreState) (P : List KeyCommand → List ℕ → Type 0) (logged : List KeyCommand) : Type 0 where
   pub stands : Tells old → (commands : List KeyCommand) → StandsFor old store commands → StandsFor new store' (commands ++ logged)
   pub moments : Tells old → (commands : List KeyCommand) → StandsFor old store commands → LeavesOnly 0 old new (P commands)
@@ -106,9 +106,9 @@ pub record Logs (old new : DiskState) (store store' : StoreState) (P : List KeyC
 abbrev pub WasWritten : KmsReply → ServiceState → KeyCommand → Type 0
 WasWritten told s' command = (acknowledged told (Some command) ≡ command ∷ []) ⊎ (s'.pending ≡ Some command)
 
--- What a call that was answered so and left this may write behind the settled log: its own command, if nothing refuses the call,
--- and if the answer acknowledges the command or it is pending afterwards. So a call that is refused writes nothing, except before a
--- store fault.
+-- What a call with this answer, and this state after it, may write after the settled log: its own command, if nothing refuses
+-- the call, and the answer acknowledges the command or it is pending afterwards. So a refused call writes nothing, except
+-- before a store fault.
 pub record OwnOf (s : ServiceState) (words : ℕ → ℕ) (now : ℕ) (c : KmsCall) (told : KmsReply) (s' : ServiceState) (kept : Bool) (command : KeyCommand) : Type 0 where
   pub free : first_cause (causes (settled kept s) c) ≡ None
   pub is : (deed (settled kept s) words now c).logs ≡ Some command
@@ -122,7 +122,7 @@ pub record Acts (old new : DiskState) (r : Running) (words : ℕ → ℕ) (now :
   pub rest : (k : ℕ) → words' k ≡ words (drawn + k)
   pub disk : Logs old new r.store r'.store (IsLeftOf r.store.table.keys r.store.pending (OwnOf (service_of r) words now c told (service_of r'))) logged
 
--- A start found a table in the log, and recorded the next opening behind its commands.
+-- A start found a table in the log, and added the next opening after its commands.
 pub record Starts (old new : DiskState) (r : Running) : Type 0 where
   pub table : Table
   pub opens : service_of r ≡ opened table

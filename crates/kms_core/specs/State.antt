@@ -18,33 +18,33 @@ next_birth s = s.table.opening * 2 ^ 32 + s.next
 abbrev pub is_spent : KmsState → Bool
 is_spent s = nat_le (2 ^ 32) s.next
 
--- the service over a disk: its keys, and the command of which the disk may or may not hold the record
+-- the service over a disk: its keys, and the command whose record may or may not be on the disk
 pub record ServiceState : Type 0 where
   pub keys : KmsState
   pub pending : Option KeyCommand
 
--- the keys once the pending command was settled: it was kept, or not
+-- the keys after the pending command was settled: kept or dropped
 abbrev pub settled : Bool → ServiceState → KmsState
 settled kept s = record s.keys { table = settled_table kept s.pending s.keys.table }
 
--- behind a start that found this table: in the opening that follows, with nothing pending
+-- after a start that found this table: in the next opening, with nothing pending
 abbrev pub opened : Table → ServiceState
 opened t = record { keys = record { table = after t (next_opening t); next = 1 }; pending = None }
 
--- a command that may be pending beside these keys: it applies in this opening, and the birth of a key that it would make is taken
+-- a command that may be pending: it applies in this opening, and the birth of the key that it would create is taken
 pub record IsPending (s : KmsState) (command : KeyCommand) : Type 0 where
   pub fits : applies s.table command ≡ true
   pub same_opening : (after s.table command).opening ≡ s.table.opening
   pub births : (after s.table command).greatest < next_birth s
 
--- What every service keeps: births in use lie below the next one, and the next one is at most the first of the next opening.
+-- What is true of each service: births in use are below the next one, which is at most the first of the next opening.
 pub record IsService (s : ServiceState) : Type 0 where
   pub table : IsTable s.keys.table
   pub births : s.keys.table.greatest < next_birth s.keys
   pub counter : s.keys.next ≤ 2 ^ 32
   pub waits : IfSome s.pending (IsPending s.keys)
 
--- A service that runs: its store, and the counter of the next birth.
+-- A running service: its store, and the counter of the next birth.
 pub record Running : Type 0 where
   pub store : StoreState
   pub next : ℕ
@@ -52,6 +52,6 @@ pub record Running : Type 0 where
 abbrev pub keys_of : Running → KmsState
 keys_of r = record { table = r.store.table.keys; next = r.next }
 
--- what a running service is, whatever its disk
+-- the state of a running service, without its disk
 abbrev pub service_of : Running → ServiceState
 service_of r = record { keys = keys_of r; pending = r.store.pending }

@@ -1,4 +1,4 @@
--- The steps of a call that the service takes one after another.
+-- The steps that the service takes in a call.
 use Rattle.std.specs.Prelude.{◌≡◌, ◌≤◌, ℕ, Bool, ◌+◌, ◌-◌, ◌/◌, ◌⊎◌, true, false, is_none, is_some, List, [], None, Some, length, map, slice_get, unwrap_or, bytes_eq, MatchOption, if◌then◌else◌}
 use Rattle.hk_base.specs.declared.names.KeyName.{KeyName}
 use Rattle.hk_base.specs.declared.names.Dek.{Dek}
@@ -24,16 +24,16 @@ use Rattle.kms_core.specs.declared.drawing.CurrentVersion.{CurrentVersion}
 use Rattle.kms_core.specs.declared.sent.Checked.{Checked}
 use Rattle.kms_core.specs.declared.service.Standing.{Standing}
 
--- the deed is done, or memory is wanting and nothing changes
+-- the deed is done, or memory ran out and nothing changes
 abbrev pub Enacts : KmsState → Deed → KmsReply → KmsState → Type 0
 Enacts s d told s' = ((told ≡ d.answer) × (s' ≡ done_with d.logs d.state)) ⊎ ((told ≡ Refused NoMemory) × (s' ≡ s))
 
--- a call that only answers: it is refused for its first cause, or answered, or memory is wanting where it takes some
+-- a call that only answers: it is refused for its first cause, or answered, or memory ran out if it allocates
 abbrev pub Answers : KmsState → KmsCall → KmsReply → KmsReply → Type 0
 Answers s c answer told =
     MatchOption (first_cause (causes s c)) ((told ≡ answer) ⊎ ((takes_memory c ≡ true) × (told ≡ Refused NoMemory))) (λ why. told ≡ Refused why)
 
--- what is known of a key that stands
+-- the data of a key that exists
 pub record StandsSo (s : KmsState) (name : KeyName) (key : Standing) : Type 0 where
   pub stands : is_none (row_of s name) ≡ false
   pub found : find_birth s.table.rows key.birth ≡ row_of s name
@@ -41,7 +41,7 @@ pub record StandsSo (s : KmsState) (name : KeyName) (key : Standing) : Type 0 wh
   pub bits : key.bits ≡ bits_of (row_of s name)
   pub versions : key.versions ≡ versions_of (row_of s name)
 
--- so many words were drawn
+-- `count` words were drawn
 abbrev pub Drew : (ℕ → ℕ) → (ℕ → ℕ) → ℕ → Type 0
 Drew words words' count = (k : ℕ) → words' k ≡ words (count + k)
 
@@ -50,13 +50,13 @@ pub record DrewKeys (current : CurrentVersion) (words words' : ℕ → ℕ) (cou
   pub drawn : keys ≡ drawn_edeks current.version current.material words count
   pub rest : Drew words words' (place_of_draw (length current.material) count)
 
--- memory was wanting, and at most the words of so many data encryption keys were drawn
+-- memory ran out, after at most the words of `count` data encryption keys
 pub record DrewSome (current : CurrentVersion) (words words' : ℕ → ℕ) (count : ℕ) : Type 0 where
   pub drawn : ℕ
   pub few : drawn ≤ place_of_draw (length current.material) count
   pub rest : Drew words words' drawn
 
--- the current version of a key that stands, with its material
+-- the current version of a key that exists, with its material
 pub record IsCurrent (s : KmsState) (name : KeyName) (current : CurrentVersion) : Type 0 where
   pub stands : is_none (row_of s name) ≡ false
   pub version : current.version ≡ current_version (row_of s name)
@@ -68,18 +68,18 @@ pub record IsNewest (row : KeyRow) (current : CurrentVersion) : Type 0 where
   pub material : slice_get row.materials (length row.materials - 1) ≡ Some current.material
   pub long : length current.material ≡ row.bits / 8
 
--- what was sent is well formed, with these parts
+-- the sent key is well formed, with these parts
 pub record HasParts (bits : ℕ) (sent : RawEdek) (vector key : List ℕ) : Type 0 where
   pub formed : is_malformed bits sent ≡ false
   pub iv : vector ≡ sent.iv
   pub sealed : key ≡ sent.sealed
   pub long : length key ≡ bits / 8
 
--- what was sent has no cause of a refusal at its key
+-- the sent key has no cause of a refusal at its key
 abbrev pub Allowed : KeyRow → RawEdek → Type 0
 Allowed row sent = first_cause (sent_causes (Some row) row.name sent) ≡ None
 
--- what was sent has no cause of a refusal at its key, and this is the material of its version, with its parts
+-- the sent key has no cause of a refusal at its key; these are the material of its version, and its parts
 pub record Checks (row : KeyRow) (sent : RawEdek) (checked : Checked) : Type 0 where
   pub allowed : Allowed row sent
   pub same : bytes_eq sent.version.key row.name ≡ true
@@ -89,7 +89,7 @@ pub record Checks (row : KeyRow) (sent : RawEdek) (checked : Checked) : Type 0 w
   pub long : length checked.material ≡ row.bits / 8
   pub as_long : length checked.sealed ≡ row.bits / 8
 
--- what was sent opened under the material of its version
+-- the sent key, opened under the material of its version
 abbrev pub opened_in : KeyRow → RawEdek → Dek
 opened_in row sent = unseal (unwrap_or (slice_get row.materials sent.version.number) []) sent.iv sent.sealed
 
@@ -97,7 +97,7 @@ pub record OpensIn (row : KeyRow) (sent : RawEdek) (key : Dek) : Type 0 where
   pub allowed : Allowed row sent
   pub is : key ≡ opened_in row sent
 
--- the key that was sent, under the current version
+-- the sent key, under the current version
 abbrev pub resealed_in : KeyRow → RawEdek → Edek
 resealed_in row sent =
     if same_version sent.version (current_of row) then edek_of sent
@@ -111,26 +111,26 @@ pub record Reseals (row : KeyRow) (sent : RawEdek) (key : Edek) : Type 0 where
   pub allowed : Allowed row sent
   pub is : key ≡ resealed_in row sent
 
--- keys that were sent together have no cause of a refusal, and these are they under the current version
+-- keys sent together have no cause of a refusal, and these are the same keys under the current version
 pub record ResealsAll (row : KeyRow) (sent : List RawEdek) (keys : List Edek) : Type 0 where
   pub allowed : first_cause (batch_causes (Some row) row.name sent) ≡ None
   pub are : keys ≡ map (resealed_in row) sent
 
--- they are refused for a cause, or memory is wanting where there is none
+-- they are refused for a cause, or memory ran out if there is none
 abbrev pub RefusesBatch : KeyRow → List RawEdek → KmsRefusal → Type 0
 RefusesBatch row sent why = MatchOption (first_cause (batch_causes (Some row) row.name sent)) (why ≡ NoMemory) (λ cause. cause ≡ why)
 
 -- Calls over a disk.
 
--- A deed beside which nothing was pending: it was written and done; or memory is wanting, and nothing changes; or the disk failed
--- when its command was written, which is then pending.
+-- A deed while nothing is pending: it is written and done; or memory ran out, and nothing changes; or the disk failed while
+-- its command was written, which is then pending.
 abbrev pub EndsSo : KmsState → Deed → Type 0 → KmsReply → List KeyCommand → ServiceState → Type 0
 EndsSo s d fault told logged s' =
     ((told ≡ d.answer) × (logged ≡ listed d.logs) × (s' ≡ record { keys = done_with d.logs d.state; pending = None }))
     ⊎ ((told ≡ Refused NoMemory) × (logged ≡ []) × (s' ≡ record { keys = s; pending = None }))
     ⊎ (fault × (told ≡ Refused StoreFault) × (logged ≡ []) × (s' ≡ record { keys = d.state; pending = d.logs }))
 
--- what it may write that was answered so and left this
+-- the command that a deed with this answer and this state after it may write
 pub record OwnDeed (d : Deed) (told : KmsReply) (s' : ServiceState) (command : KeyCommand) : Type 0 where
   pub is : d.logs ≡ Some command
   pub was_written : WasWritten told s' command
@@ -140,7 +140,7 @@ pub record Commits (old new : DiskState) (r : Running) (d : Deed) (told : KmsRep
   pub ends : EndsSo (keys_of r) d (Rose old.faults new.faults) told logged (service_of r')
   pub disk : Logs old new r.store r'.store (IsGrowing r.store.table.keys (OwnDeed d told (service_of r'))) logged
 
--- the pending command was settled, and was kept or not
+-- the pending command was settled: kept or dropped
 pub record Settling (old new : DiskState) (r r' : Running) : Type 0 where
   pub kept : Bool
   pub service : service_of r' ≡ record { keys = settled kept (service_of r); pending = None }
@@ -153,7 +153,7 @@ pub record IsUnsettled (old new : DiskState) (r r' : Running) : Type 0 where
   pub same : r' ≡ r
   pub disk : Logs old new r.store r'.store (IsLeftOf r.store.table.keys r.store.pending NoCommand) []
 
--- what a change may write that was answered so and left this, while nothing is pending
+-- the command that a change with this answer and this state after it may write, while nothing is pending
 pub record OwnChange (s : KmsState) (words : ℕ → ℕ) (now : ℕ) (c : KmsCall) (told : KmsReply) (s' : ServiceState) (command : KeyCommand) : Type 0 where
   pub free : first_cause (causes s c) ≡ None
   pub is : (deed s words now c).logs ≡ Some command

@@ -18,18 +18,18 @@ use Rattle.kms_store.specs.Store.{IsLeftOf, StoreState}
 use Rattle.kms_core.specs.State.{Running, ServiceState, service_of}
 use Rattle.kms_core.specs.Service.{Logs, OwnOf, Serves}
 
--- A service that runs for its users: the access control lists, the store, and the counter of the next birth.
+-- A running service with its users: the access control lists, the store, and the counter of the next birth.
 pub record RunningKms : Type 0 where
   pub acls : Lists
   pub store : StoreState
   pub next : ℕ
 
--- the service beside its lists
+-- the service without its lists
 abbrev pub running : RunningKms → Running
 running k = record { store = k.store; next = k.next }
 
--- Create and Roll answer the material of the new version only where it is shown to the user. Every other call shows what it
--- answers.
+-- Create and Roll return the material of the new version only if it is shown to the user. Every other call shows its whole
+-- answer.
 abbrev pub hides : Shown → KmsCall → Bool
 hides shown (call.Create name bits material description) = not shown.material
 hides shown (call.Roll name material) = not shown.material
@@ -39,7 +39,7 @@ abbrev pub without_material : KmsReply → KmsReply
 without_material (reply.Version version material) = reply.Version version None
 without_material told = told
 
--- what the user is told of a reply
+-- the part of a reply that the user sees
 abbrev pub told_to : Shown → KmsCall → KmsReply → KmsReply
 told_to shown c told = if hides shown c then without_material told else told
 
@@ -60,11 +60,11 @@ abbrev pub ServesUnder : Result Shown Denied → ServiceState → (ℕ → ℕ) 
 ServesUnder (Ok shown) s words now c fault told drawn logged s' = Permits shown s words now c fault told drawn logged s'
 ServesUnder (Err denied) s words now c fault told drawn logged s' = Denies denied s told drawn logged s'
 
--- A call of a user comes out so under the properties of these lines: the verdict is asked first, before anything is settled.
+-- A call of a user under the properties of these lines: the verdict comes first, before anything is settled.
 abbrev pub ServesUser : List PropLine → Text → ServiceState → (ℕ → ℕ) → ℕ → KmsCall → Type 0 → KmsReply → ℕ → List KeyCommand → ServiceState → Type 0
 ServesUser lines user s words now c fault told drawn logged s' = ServesUnder (verdict lines user c) s words now c fault told drawn logged s'
 
--- The disk is as it was: it reads the same, and a crash leaves nothing that it might not have left before.
+-- The disk is unchanged: it reads the same, and a crash leaves nothing that it might not have left before.
 pub record IsUntouched (old new : DiskState) : Type 0 where
   pub reads : new.reads ≡ old.reads
   pub faults : new.faults ≡ old.faults
@@ -72,13 +72,13 @@ pub record IsUntouched (old new : DiskState) : Type 0 where
   pub leaves : (file : ℕ) (c : List ℕ) → new.leaves file c → old.leaves file c
   pub left : (t : ℕ) (c : Image) → new.left_since t c → old.left_since t c
 
--- A call of a user on a running service over its disk. The lists stay as they are.
+-- A call of a user on a running service over its disk. The lists stay the same.
 pub record ActsFor (lines : List PropLine) (user : Text) (old new : DiskState) (k : RunningKms) (words : ℕ → ℕ) (now : ℕ) (c : KmsCall) (told : KmsReply) (k' : RunningKms) (words' : ℕ → ℕ) : Type 0 where
   pub drawn : ℕ
   pub logged : List KeyCommand
   pub serves : ServesUser lines user (service_of (running k)) words now c (Rose old.faults new.faults) told drawn logged (service_of (running k'))
   pub rest : (n : ℕ) → words' n ≡ words (drawn + n)
   pub disk : Logs old new k.store k'.store (IsLeftOf k.store.table.keys k.store.pending (OwnOf (service_of (running k)) words now c told (service_of (running k')))) logged
-  -- a call that is denied leaves the disk as it is
+  -- a denied call leaves the disk unchanged
   pub untouched : (denied : Denied) → verdict lines user c ≡ Err denied → IsUntouched old new
   pub lists : k'.acls ≡ k.acls

@@ -1,10 +1,10 @@
--- From the fields behind the verb of an ask to those behind `ask`.
+-- From the fields after the verb of an ask to those after `ask`.
 use Rattle.std.proofs.Common.{◌≡◌, ℕ, List, ◌∷◌, codes, sym, subst, Option, None, Some, Result, Ok, Err, IfOk, MatchOption}
 use Rattle.hk_base.specs.declared.texts.NoMemory.{NoMemory}
 use Rattle.hk_events.specs.declared.event.Event.{Event}
 use Rattle.replay_text.specs.Events.{SpellsAskCreate, SpellsAskZone, SpellsEvent}
 
--- the fields of an ask spell none
+-- the fields of an ask are the text of none
 abbrev pub NoAsk : List (List ℕ) → Type 0
 NoAsk fields = ((user path : List ℕ) → ¬ SpellsAskCreate fields user path) × ((user path key : List ℕ) → ¬ SpellsAskZone fields user path key)
 
@@ -35,7 +35,7 @@ zone_tells user more (Ok None) told = (zone_is_not_create user more, told)
 zone_tells user more (Ok (Some event)) told = told
 zone_tells user more (Err wanting) told = told
 
--- the same of fields that are equal to these
+-- the same for fields that are equal to these
 pub create_told : (fields rest more : List (List ℕ)) (user verb : List ℕ) (result : Result (Option Event) NoMemory) → fields ≡ user ∷ rest → rest ≡ verb ∷ more → verb ≡ codes "create"
     → IfOk result (λ found. MatchOption found ((who path : List ℕ) → ¬ SpellsAskCreate (codes "ask" ∷ user ∷ codes "create" ∷ more) who path) (SpellsEvent (codes "ask" ∷ user ∷ codes "create" ∷ more)))
     → IfOk result (λ found. MatchOption found (NoAsk (codes "ask" ∷ fields)) (SpellsEvent (codes "ask" ∷ fields)))

@@ -1,4 +1,4 @@
--- From the verb of a call to what its fields may spell.
+-- From the verb of a call to the calls that its fields may be.
 use Rattle.std.proofs.Common.{◌≡◌, ℕ, List, [], ◌∷◌, length, codes, subst, sym, ◌∙◌, ap, Bool, true, false, refl, Option, None, Some, Result, Ok, Err, IfOk, MatchOption, bytes_eq, arith}
 use Rattle.std.proofs.lemmas.Slice.Eq.{bytes_eq-Decides}
 use Rattle.std.specs.Fmt.{decimal}
@@ -10,19 +10,19 @@ use Rattle.kms_calls.specs.declared.calls.KmsCall.TheVariants as call
 use Rattle.replay_text.specs.Events.{SpellsBatch, SpellsCall, SpellsCreate, SpellsGenerate, SpellsMetadatas, SpellsNamed, SpellsRoll, SpellsSent, SpellsVersion, fields_of, is_space, takes_edeks}
 use Rattle.replay_text.proofs.FieldLemmas.{never_empty}
 
--- words that do not compare as equal are not one
+-- words that do not compare as equal are different
 pub apart : (a b : List ℕ) → bytes_eq a b ≡ false → a ≡ b → ⊥
 apart a b differ is = let same : true ≡ false = sym ((bytes_eq-Decides a b).1 is) ∙ differ in cc
 
--- a verb that was compared with a word and is another
+-- a verb that compares as different from a word is a different one
 pub is_other : (verb word slice : List ℕ) → slice ≡ word → false ≡ bytes_eq verb slice → verb ≡ word → ⊥
 is_other verb word slice is test = apart verb word (ap (bytes_eq verb) (sym is) ∙ sym test)
 
--- fields have one first field
+-- fields have only one first field
 pub two_verbs : {A : Type 0} (fields rest more : List (List ℕ)) (verb other : List ℕ) → (verb ≡ other → ⊥) → fields ≡ verb ∷ rest → fields ≡ other ∷ more → A
 two_verbs fields rest more verb other differ is also = absurd (differ cc)
 
--- the word that a call begins with
+-- the first word of a call
 abbrev pub word_of : KmsCall → List ℕ
 word_of (call.Create name bits material description) = codes "create"
 word_of (call.Roll name material) = codes "roll"
@@ -55,7 +55,7 @@ begins_so fields (call.Decrypt name sent) x = (x.version_field ∷ x.iv_field �
 begins_so fields (call.Reencrypt name sent) x = (x.version_field ∷ x.iv_field ∷ x.sealed_field ∷ [], x.fields_are)
 begins_so fields (call.Batch name sent) x = (name ∷ x.list_field ∷ [], x.fields_are)
 
--- where a verb stands first, a call of another verb is not spelled
+-- fields that begin with a verb are not a call with a different verb
 other_word : (word : List ℕ) (rest : List (List ℕ)) (c : KmsCall) → (word ≡ word_of c → ⊥) → ¬ SpellsCall (word ∷ rest) c
 other_word word rest c differ x = let begin = begins_so (word ∷ rest) c x in differ (let is = begin.1 in cc)
 
@@ -267,7 +267,7 @@ none_batch rest none (call.Decrypt name sent) = other_word (codes "batch") rest 
 none_batch rest none (call.Reencrypt name sent) = other_word (codes "batch") rest (call.Reencrypt name sent) (apart _ _ refl)
 none_batch rest none (call.Batch name sent) = none name sent
 
--- what a reading of the fields behind a verb tells of the fields with it
+-- what reading the fields after a verb says about the fields with it
 turn : (guard : Bool) (rest : List (List ℕ)) (verb word : List ℕ) (N : Type 0) (result : Result (Option KmsCall) NoMemory) → verb ≡ word → (N → (c : KmsCall) → ¬ SpellsCall (word ∷ rest) c)
     → IfOk result (λ found. MatchOption found N (SpellsCall (word ∷ rest))) → IfOk result (λ found. MatchOption found ((c : KmsCall) → takes_edeks c ≡ guard → ¬ SpellsCall (verb ∷ rest) c) (SpellsCall (verb ∷ rest)))
 turn guard rest verb word N (Ok None) is none told = λ c here x. none told c (subst (λ (w : List ℕ). SpellsCall (w ∷ rest) c) is x)
@@ -339,7 +339,7 @@ pub told_batch : (guard : Bool) (rest : List (List ℕ)) (verb : List ℕ) (resu
     → IfOk result (λ found. MatchOption found ((c : KmsCall) → takes_edeks c ≡ guard → ¬ SpellsCall (verb ∷ rest) c) (SpellsCall (verb ∷ rest)))
 told_batch guard rest verb result is told = turn guard rest verb (codes "batch") _ result is (none_batch rest) told
 
--- the verb is none of the calls on keys alone, and something stands behind it
+-- the verb belongs to none of the calls on keys, and something follows it
 pub no_key_verb : (verb bytes : List ℕ) → (verb ≡ codes "create" → ⊥) → (verb ≡ codes "roll" → ⊥) → (verb ≡ codes "delete" → ⊥) → (verb ≡ codes "invalidate" → ⊥) → (verb ≡ codes "metadata" → ⊥) → (verb ≡ codes "metadatas" → ⊥) → (verb ≡ codes "current" → ⊥) → (verb ≡ codes "versions" → ⊥) → (verb ≡ codes "version" → ⊥)
     → (c : KmsCall) → takes_edeks c ≡ false → ¬ SpellsCall (verb ∷ fields_of bytes) c
 no_key_verb verb bytes n0 n1 n2 n3 n4 n5 n6 n7 n8 (call.Create name bits material description) here x = n0 (let is = x.fields_are in cc)
@@ -357,7 +357,7 @@ no_key_verb verb bytes n0 n1 n2 n3 n4 n5 n6 n7 n8 (call.Decrypt name sent) here 
 no_key_verb verb bytes n0 n1 n2 n3 n4 n5 n6 n7 n8 (call.Reencrypt name sent) here x = absurd cc
 no_key_verb verb bytes n0 n1 n2 n3 n4 n5 n6 n7 n8 (call.Batch name sent) here x = absurd cc
 
--- the verb is none of the calls on encrypted keys
+-- the verb belongs to none of the calls on encrypted keys
 pub no_edek_verb : (verb : List ℕ) (rest : List (List ℕ)) → (verb ≡ codes "generate" → ⊥) → (verb ≡ codes "decrypt" → ⊥) → (verb ≡ codes "reencrypt" → ⊥) → (verb ≡ codes "batch" → ⊥)
     → (c : KmsCall) → takes_edeks c ≡ true → ¬ SpellsCall (verb ∷ rest) c
 no_edek_verb verb rest n0 n1 n2 n3 (call.Create name bits material description) here x = absurd cc
@@ -391,13 +391,13 @@ bare_none verb other (call.Decrypt name sent) x = omega (arith, ap length x.fiel
 bare_none verb other (call.Reencrypt name sent) x = omega (arith, ap length x.fields_are)
 bare_none verb other (call.Batch name sent) x = omega (arith, ap length x.fields_are)
 
--- a word alone spells only the call that takes nothing
+-- a single word is only the call without arguments
 pub bare_call : (verb : List ℕ) (found : Option KmsCall) → MatchOption found (¬ (verb ≡ codes "names")) (λ c. (verb ≡ codes "names") × (c ≡ call.Names))
     → MatchOption found ((c : KmsCall) → ¬ SpellsCall (verb ∷ []) c) (SpellsCall (verb ∷ []))
 bare_call verb None other = bare_none verb other
 bare_call verb (Some c) is = subst (SpellsCall (verb ∷ [])) (sym is.1) (ap (λ w. w ∷ []) is.0)
 
--- no call at all
+-- no call
 pub no_call : (fields : List (List ℕ)) → ((c : KmsCall) → takes_edeks c ≡ false → ¬ SpellsCall fields c) → ((c : KmsCall) → takes_edeks c ≡ true → ¬ SpellsCall fields c) → (c : KmsCall) → ¬ SpellsCall fields c
 no_call fields keys edeks c = either (takes_edeks c) refl
   where

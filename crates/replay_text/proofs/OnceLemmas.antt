@@ -1,4 +1,4 @@
--- A line spells one event at most.
+-- A line is the text of at most one event.
 use Rattle.std.proofs.Common.{◌≡◌, ℕ, ◌<◌, ◌^◌, List, [], ◌∷◌, ◌++◌, length, subst, Bool, true, false, ◌&&◌, nat_lt, nat_le, Option, None, Some, Ok, refl, ap, ap₂, sym, ◌∙◌, arith, append_assoc, codes}
 use Rattle.std.specs.List.{list_all, onto_first, slice_split}
 use Rattle.std.specs.Fmt.{decimal}
@@ -65,7 +65,7 @@ edek_once v iv_field sealed_field a b x y =
     let sealed : a.sealed ≡ b.sealed = bytes_once sealed_field a.sealed b.sealed x.sealed_is y.sealed_is in
     λ i. record { version = record { key = version.0 i; number = version.1 i }; iv = iv i; sealed = sealed i }
 
--- the same of fields that are equal
+-- the same for fields that are equal
 edek_same : (v iv sealed w jv tealed : List ℕ) (a b : RawEdek) → v ≡ w → iv ≡ jv → sealed ≡ tealed → SpellsEdek v iv sealed a → SpellsEdek w jv tealed b → a ≡ b
 edek_same v iv sealed w jv tealed a b p q r x y =
     edek_once w jv tealed a b (subst (λ (f : List ℕ). SpellsEdek w jv f a) r (subst (λ (f : List ℕ). SpellsEdek w f sealed a) q (subst (λ (f : List ℕ). SpellsEdek f iv sealed a) p x))) y
@@ -363,7 +363,7 @@ kms_once fields user other c d x y =
     let call : c ≡ d = call_once y.call_fields c d (subst (λ (fs : List (List ℕ)). SpellsCall fs c) call_fields x.call_is) y.call_is in
     λ i. event.Kms (who i) (call i)
 
--- two lines of one verb speak of one user and one path
+-- two lines with the same verb have the same user and path
 same_path : (verb : List ℕ) (fields : List (List ℕ)) (user other path also : List ℕ) → SpellsPath verb fields user path → SpellsPath verb fields other also → (user ≡ other) × (path ≡ also)
 same_path verb fields user other path also x y =
     let same = sym x.fields_are ∙ y.fields_are in
@@ -396,7 +396,7 @@ kept_once verb fields m n x y =
     let text : decimal m ≡ decimal n = cc in
     decimal_once m n (omega (arith, x.small)) (omega (arith, y.small)) text
 
--- two verbs at one place of the fields
+-- two different verbs at the same field
 other_path_verb : {A : Type 0} (verb second : List ℕ) (fields : List (List ℕ)) (user other path also : List ℕ) → (verb ≡ second → ⊥) → SpellsPath verb fields user path → SpellsPath second fields other also → A
 other_path_verb verb second fields user other path also differ x y =
     let same = sym x.fields_are ∙ y.fields_are in
@@ -409,14 +409,14 @@ other_ask fields user other path also key x y =
     let is : codes "create" ≡ codes "zone" = cc in
     absurd (apart (codes "create") (codes "zone") refl is)
 
--- `restart` with two services
+-- `restart` with two different services
 other_restart : {A : Type 0} (service other : List ℕ) (fields : List (List ℕ)) → (service ≡ other → ⊥) → SpellsRestart service fields → SpellsRestart other fields → A
 other_restart service other fields differ x y =
     let same : codes "restart" ∷ service ∷ [] ≡ codes "restart" ∷ other ∷ [] = sym x ∙ y in
     let is : service ≡ other = cc in
     absurd (differ is)
 
--- the line of a path has a field more than the line that asks for the zones
+-- the line of a path has one more field than the line that asks for the zones
 path_is_more : {A : Type 0} (verb : List ℕ) (fields : List (List ℕ)) (user other path : List ℕ) → SpellsPath verb fields user path → SpellsZones fields other → A
 path_is_more verb fields user other path x y = absurd (omega (arith, ap length (sym x.fields_are ∙ y.fields_are)))
 
@@ -600,7 +600,7 @@ event_once fields (event.Finish m) (event.Finish n) x y = ap event.Finish (kept_
 pub spelled_once : (line : List ℕ) (a b : Event) → Spells line a → Spells line b → a ≡ b
 spelled_once line a b x y = event_once (fields_of line) a b x.fields y.fields
 
--- the first field of an event has a byte, which is not that of a comment
+-- the first field of an event is not empty, and does not begin a comment
 pub record Begins (fields : List (List ℕ)) : Type 0 where
   pub first : ℕ
   pub front : List ℕ
@@ -634,7 +634,7 @@ comment_first : (c : ℕ) (bs more : List ℕ) (rest : List (List ℕ)) (b : ℕ
 comment_first c bs more rest b quiet is =
     first_byte 35 c (fields_of bs) more rest (ap (λ d. fields_of (d ∷ bs)) (sym quiet) ∙ is)
 
--- a quiet line spells none
+-- a quiet line has no event
 pub quiet_spells_none : (line : List ℕ) (event : Event) → IsQuiet line → ¬ Spells line event
 quiet_spells_none [] event quiet = λ x.
     let b = begins (fields_of []) event x.fields in none_of_empty b.first b.front b.more b.begin

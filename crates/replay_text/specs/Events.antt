@@ -1,4 +1,4 @@
--- The event text: what a line says.
+-- The event text: the event of a line.
 use Rattle.std.specs.Prelude.{◌≡◌, ℕ, ◌-◌, ◌^◌, ◌<◌, ◌≤◌, ◌⊎◌, ◌==◌, ◌&&◌, not, nat_le, Bool, true, false, All, List, [], ◌∷◌, length, codes, IsTrue, Option, None, Some, Ok, if◌then◌else◌}
 use Rattle.std.specs.List.{slice_split}
 use Rattle.std.specs.Str.{IsUtf8}
@@ -12,7 +12,7 @@ use Rattle.kms_calls.specs.declared.calls.KmsCall.TheVariants as call
 use Rattle.hk_events.specs.declared.event.Event.{Event}
 use Rattle.hk_events.specs.declared.event.Event.TheVariants as event
 
--- a line has at most so many bytes
+-- the greatest length of a line in bytes
 abbrev pub longest_line : ℕ
 longest_line = 1048576
 
@@ -25,15 +25,15 @@ is_comma b = b == 44
 abbrev pub is_colon : ℕ → Bool
 is_colon b = b == 58
 
--- the fields of a line are parted by exactly one space
+-- exactly one space between two fields of a line
 abbrev pub fields_of : List ℕ → List (List ℕ)
 fields_of line = slice_split is_space line
 
--- a byte that stands for itself: '!' to '~', but for '%', ',' and ':'
+-- a byte that needs no escape: '!' to '~', except '%', ',' and ':'
 abbrev pub is_plain : ℕ → Bool
 is_plain b = nat_le 33 b && nat_le b 126 && not (b == 37) && not (b == 44) && not (b == 58)
 
--- an escape is '%' and two hexadecimal digits; so many digits are still wanted
+-- an escape is '%' and two hexadecimal digits, of which `wanted` are missing
 abbrev pub is_escaped_from : ℕ → List ℕ → Bool
 is_escaped_from wanted [] = wanted == 0
 is_escaped_from wanted (b ∷ bs) =
@@ -41,7 +41,7 @@ is_escaped_from wanted (b ∷ bs) =
     then (if b == 37 then is_escaped_from 2 bs else is_plain b && is_escaped_from 0 bs)
     else is_hex_digit b && is_escaped_from (wanted - 1) bs
 
--- the field spells the user: 1 to 255 bytes of UTF-8
+-- the field is the text of the user: 1 to 255 bytes of UTF-8
 pub record IsUser (field user : List ℕ) : Type 0 where
   pub escaped : IsTrue (is_escaped_from 0 field)
   pub decoded : percent_decode field ≡ user
@@ -49,13 +49,13 @@ pub record IsUser (field user : List ℕ) : Type 0 where
   pub some : 0 < length user
   pub few : length user ≤ 255
 
--- 2 to 128 hexadecimal digits spell material, or other bytes; two digits are one byte
+-- 2 to 128 hexadecimal digits are material, or other bytes; two digits are one byte
 pub record IsMaterial (field material : List ℕ) : Type 0 where
   pub some : 2 ≤ length field
   pub few : length field ≤ 128
   pub decoded : decode_of field ≡ Ok material
 
--- the field spells the material that is given, or '-' where none is
+-- the field is the given material, or '-' if none is given
 abbrev pub SpellsMaterial : List ℕ → Option (List ℕ) → Type 0
 SpellsMaterial field None = field ≡ codes "-"
 SpellsMaterial field (Some material) = IsMaterial field material
@@ -81,7 +81,7 @@ pub record SpellsNamed (verb : List ℕ) (fields : List (List ℕ)) (name : List
   pub fields_are : fields ≡ verb ∷ name ∷ []
   pub name_is : IsKeyName name
 
--- `metadatas K,K`, one name or more
+-- `metadatas K,K`, one or more names
 pub record SpellsMetadatas (fields names : List (List ℕ)) : Type 0 where
   pub list_field : List ℕ
   pub fields_are : fields ≡ codes "metadatas" ∷ list_field ∷ []
@@ -100,7 +100,7 @@ pub record SpellsGenerate (fields : List (List ℕ)) (name : List ℕ) (count : 
   pub name_is : IsKeyName name
   pub small : count < 2 ^ 32
 
--- `V`, `IV` and `H` of an encrypted data encryption key as it is sent
+-- `V`, `IV` and `H` of an encrypted data encryption key that is sent
 pub record SpellsEdek (version iv sealed : List ℕ) (sent : RawEdek) : Type 0 where
   pub version_is : version ≡ version_text sent.version.key sent.version.number
   pub key_is : IsKeyName sent.version.key
@@ -108,7 +108,7 @@ pub record SpellsEdek (version iv sealed : List ℕ) (sent : RawEdek) : Type 0 w
   pub iv_is : IsMaterial iv sent.iv
   pub sealed_is : IsMaterial sealed sent.sealed
 
--- this verb and `V IV H`, where the key named is that of the version
+-- this verb and `V IV H`; the key's name is that of the version
 pub record SpellsSent (verb : List ℕ) (fields : List (List ℕ)) (name : List ℕ) (sent : RawEdek) : Type 0 where
   pub version_field : List ℕ
   pub iv_field : List ℕ
@@ -131,14 +131,14 @@ AreTriples [] (sent ∷ more) = ⊥
 AreTriples (part ∷ parts) [] = ⊥
 AreTriples (part ∷ parts) (sent ∷ more) = IsTriple part sent × AreTriples parts more
 
--- `batch K V:IV:H,V:IV:H`, one triple or more
+-- `batch K V:IV:H,V:IV:H`, one or more triples
 pub record SpellsBatch (fields : List (List ℕ)) (name : List ℕ) (sent : List RawEdek) : Type 0 where
   pub list_field : List ℕ
   pub fields_are : fields ≡ codes "batch" ∷ name ∷ list_field ∷ []
   pub name_is : IsKeyName name
   pub sent_are : AreTriples (slice_split is_comma list_field) sent
 
--- the fields behind the user spell the call
+-- the fields after the user are the text of the call
 abbrev pub SpellsCall : List (List ℕ) → KmsCall → Type 0
 SpellsCall fields (call.Create name bits material description) = SpellsCreate fields name bits material description
 SpellsCall fields (call.Roll name material) = SpellsRoll fields name material
@@ -172,7 +172,7 @@ takes_edeks (call.Decrypt name sent) = true
 takes_edeks (call.Reencrypt name sent) = true
 takes_edeks (call.Batch name sent) = true
 
--- the field spells a path, which is any bytes
+-- the field is the text of a path, which is any bytes
 pub record IsPath (field path : List ℕ) : Type 0 where
   pub escaped : IsTrue (is_escaped_from 0 field)
   pub decoded : percent_decode field ≡ path
@@ -199,7 +199,7 @@ pub record SpellsZones (fields : List (List ℕ)) (user : List ℕ) : Type 0 whe
   pub fields_are : fields ≡ codes "nn" ∷ user_field ∷ codes "zones" ∷ []
   pub user_is : IsUser user_field user
 
--- a removal with all below is a verb of its own
+-- deleting a directory with all below it is a verb of its own
 abbrev pub delete_verb : Bool → List ℕ
 delete_verb false = codes "delete"
 delete_verb true = codes "rdelete"
@@ -221,7 +221,7 @@ pub record SpellsAskZone (fields : List (List ℕ)) (user path key : List ℕ) :
   pub path_is : IsPath path_field path
   pub key_is : IsKeyName key
 
--- this verb and the number of what is kept, which is below 2^32
+-- this verb and the number of a note or reply, below 2^32
 pub record SpellsKept (verb : List ℕ) (fields : List (List ℕ)) (number : ℕ) : Type 0 where
   pub fields_are : fields ≡ verb ∷ decimal number ∷ []
   pub small : number < 2 ^ 32
@@ -230,7 +230,7 @@ pub record SpellsKept (verb : List ℕ) (fields : List (List ℕ)) (number : ℕ
 abbrev pub SpellsRestart : List ℕ → List (List ℕ) → Type 0
 SpellsRestart service fields = fields ≡ codes "restart" ∷ service ∷ []
 
--- the fields of a line spell the event
+-- the fields of a line are the text of the event
 abbrev pub SpellsEvent : List (List ℕ) → Event → Type 0
 SpellsEvent fields (event.Kms user call) = SpellsKms fields user call
 SpellsEvent fields event.RestartKms = SpellsRestart (codes "kms") fields
@@ -245,12 +245,12 @@ SpellsEvent fields (event.AskZone user path key) = SpellsAskZone fields user pat
 SpellsEvent fields (event.Draw ask) = SpellsKept (codes "draw") fields ask
 SpellsEvent fields (event.Finish reply) = SpellsKept (codes "finish") fields reply
 
--- the line spells the event
+-- the line is the text of the event
 pub record Spells (line : List ℕ) (event : Event) : Type 0 where
   pub short : length line ≤ longest_line
   pub fields : SpellsEvent (fields_of line) event
 
--- the verbs that go with a path, and the event of each
+-- the verbs that take a path, and the event of each
 abbrev pub IsPathVerb : List ℕ → Type 0
 IsPathVerb verb = (verb ≡ codes "mkdir") ⊎ (verb ≡ codes "delete") ⊎ (verb ≡ codes "rdelete") ⊎ (verb ≡ codes "info") ⊎ (verb ≡ codes "list")
 
@@ -259,12 +259,12 @@ IsPathEvent verb user path e =
     ((verb ≡ codes "mkdir") × (e ≡ event.Mkdir user path)) ⊎ ((verb ≡ codes "delete") × (e ≡ event.Delete user path false))
     ⊎ ((verb ≡ codes "rdelete") × (e ≡ event.Delete user path true)) ⊎ ((verb ≡ codes "info") × (e ≡ event.Info user path)) ⊎ ((verb ≡ codes "list") × (e ≡ event.List user path))
 
--- the line has no byte, or is a comment: its first byte is '#'
+-- the line is empty or a comment: its first byte is '#'
 abbrev pub IsQuiet : List ℕ → Type 0
 IsQuiet [] = Unit {0}
 IsQuiet (b ∷ bs) = (b ≡ 35) × (length (b ∷ bs) ≤ longest_line)
 
--- the line is neither quiet nor spells an event
+-- the line is not quiet and not the text of an event
 pub record IsBad (line : List ℕ) : Type 0 where
   pub not_quiet : ¬ IsQuiet line
   pub no_event : (event : Event) → ¬ Spells line event

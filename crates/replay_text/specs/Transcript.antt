@@ -33,14 +33,14 @@ material_text (Some material) = encode_lower material
 abbrev pub meta_text : KeyMeta → List ℕ
 meta_text meta = codes "meta " ++ meta.name ++ codes " " ++ decimal meta.bits ++ codes " " ++ decimal meta.versions ++ codes " " ++ decimal meta.created
 
--- what is known of one key among others
+-- the metadata of one key in a list
 abbrev pub meta_part : KeyMeta → List ℕ
 meta_part meta = codes " " ++ meta.name ++ codes ":" ++ decimal meta.bits ++ codes ":" ++ decimal meta.versions ++ codes ":" ++ decimal meta.created
 
 abbrev pub name_part : KeyName → List ℕ
 name_part name = codes " " ++ name
 
--- a version among others, with its material
+-- a version in a list, with its material
 abbrev pub shown_part : Shown → List ℕ
 shown_part shown = codes " " ++ version_text shown.version.key shown.version.number ++ codes ":" ++ material_text shown.material
 
@@ -79,7 +79,7 @@ name_refusal_text why.NoMemory = codes "N22 NoMemory"
 name_refusal_text why.StoreFault = codes "N23 StoreFault"
 name_refusal_text why.RootOrInside = codes "N25 RootOrInside"
 
--- a path with the bytes escaped that may not stand for themselves
+-- a path, with the bytes escaped that need it
 abbrev pub escaped_path : NPath → List ℕ
 escaped_path path = percent_encode ESCAPED (path_text path)
 
@@ -96,11 +96,11 @@ abbrev pub edek_field : Option Edek → List ℕ
 edek_field None = codes "-"
 edek_field (Some edek) = edek_part edek
 
--- what stands at a path: its kind, its id and its zone, and behind them its key
+-- the entry at a path, up to its key: its kind, its id and its zone
 abbrev pub row_front : List ℕ → ℕ → Option NPath → List ℕ
 row_front kind id zone = kind ++ decimal id ++ codes " " ++ zone_text zone ++ codes " "
 
--- a child among others, with a slash behind a directory
+-- a child in a list; a directory has a slash after its name
 abbrev pub slash_of : Bool → List ℕ
 slash_of false = []
 slash_of true = codes "/"
@@ -108,7 +108,7 @@ slash_of true = codes "/"
 abbrev pub child_part : Child → List ℕ
 child_part child = codes " " ++ percent_encode ESCAPED child.name ++ slash_of child.directory
 
--- a zone among others: its path and its key
+-- a zone in a list: its path and its key
 abbrev pub zone_part : ZonePath → List ℕ
 zone_part zone = codes " " ++ escaped_path zone.path ++ codes ":" ++ zone.key
 
@@ -120,13 +120,13 @@ name_text (name.List children) = codes "list" ++ flat_map child_part children
 name_text (name.Zones zones) = codes "zones" ++ flat_map zone_part zones
 name_text (name.Refused why) = codes "refused " ++ name_refusal_text why
 
--- the call that an ask wants, and of which key
+-- the call that an ask needs, and its key
 abbrev pub want_text : Want → List ℕ
 want_text want.Nothing = codes "none"
 want_text (want.Generate key) = codes "generate " ++ key
 want_text (want.Metadata key) = codes "metadata " ++ key
 
--- a reply that is kept
+-- the stored reply of a draw
 abbrev pub kept_text : Option KmsReply → List ℕ
 kept_text None = codes "nothing"
 kept_text (Some reply) = answer_text reply
