@@ -1,22 +1,27 @@
 -- What a commit and a settling leave.
-use Rattle.std.proofs.Common.{◌≡◌, ℕ, Bool, true, false, List, [], ◌∷◌, ◌++◌, map, Option, Some, None, refl, sym, subst, arith}
+use Rattle.std.proofs.Common.{◌≡◌, ◌≤◌, ℕ, Bool, true, false, List, [], ◌∷◌, ◌++◌, map, Option, Some, None, refl, sym, subst, arith}
 use Rattle.std.specs.Prelude.{if◌then◌else◌, option_map, IfSome}
 use Rattle.std.proofs.lemmas.List.{map-append}
 use Rattle.hk_base.specs.Disk.{DiskState, LeavesOnly}
 use Rattle.frame_log.specs.Format.{IsBeforeOrAfter, IsPayload}
 use Rattle.frame_log.specs.Stands.{Stands}
 use Rattle.frame_log.specs.declared.log.Log.{Log}
+use Rattle.edit_ops.specs.Laws.{longest_record}
 use Rattle.edit_ops.specs.Records.{HasSpelling, spelling}
 use Rattle.edit_ops.specs.declared.ops.EditOp.{EditOp}
 use Rattle.edit_ops.proofs.RecordLemmas.{records_are_short}
 use Rattle.edit_log.specs.Log.{EditLogState, StandsFor, IsWithOrWithout}
 use Rattle.edit_log.proofs.Replays.{each_more}
 
+-- the longest record is within the log's bound
+longest_fits : longest_record ≤ 1048576
+longest_fits = omega arith
+
 -- a record is a payload
 pub is_payload : (op : EditOp) (bytes : List ℕ) → HasSpelling op → bytes ≡ spelling op → IsPayload bytes
 is_payload op bytes has is =
     let short = records_are_short op has in
-    subst IsPayload (sym is) (record { some = short.0; limit = omega (arith, short.1) })
+    subst IsPayload (sym is) (record { some = short.0; limit = omega (arith, short.1, longest_fits) })
 
 module _ (old new : DiskState) (edits : EditLogState) (ops : List EditOp) (op : EditOp) where
   pub stands_alone : StandsFor old edits ops → edits.pending ≡ None → Stands old edits.log (map spelling ops) None

@@ -16,6 +16,7 @@ use Rattle.key_rows.specs.Reading.{Gives, number_at}
 use Rattle.key_rows.proofs.Fields.{IsBytes, IsBytes-rest, bind_some, bind_is, wide16, wide32, wide64}
 use Rattle.edit_ops.specs.declared.ops.EditOp.{EditOp}
 use Rattle.edit_ops.specs.declared.ops.EditOp.TheVariants.{Opened, Mkdir, File, Remove, Zone}
+use Rattle.edit_ops.specs.Laws.{longest_record}
 use Rattle.edit_ops.specs.Records.{path_field, edek_field, opt_field, spelling, fits, IsEdek, IsOpt, HasSpelling}
 use Rattle.edit_ops.specs.Reading.{Whole, last, then_of, as_of, name_at, path_at, iv_at, sealed_at, encrypted, edek_of, opt_edek_of, opened_of, mkdir_of, file_of, remove_of, zone_of, op_of}
 use Rattle.edit_ops.proofs.PathText.{path_takes, path_again, absolute_length}
@@ -179,7 +180,7 @@ opt_length : (edek : Option Encrypted) → IsOpt IsEdek edek → length (opt_fie
 opt_length None is = omega arith
 opt_length (Some edek) is = let l = edek_length edek is in omega arith
 
-pub records_are_short : (op : EditOp) → HasSpelling op → (1 ≤ length (spelling op)) × (length (spelling op) ≤ 8128)
+pub records_are_short : (op : EditOp) → HasSpelling op → (1 ≤ length (spelling op)) × (length (spelling op) ≤ longest_record)
 records_are_short (Opened opening) has = (omega arith, omega arith)
 records_are_short (Mkdir id path) has =
     let l = path_length path has.1 in

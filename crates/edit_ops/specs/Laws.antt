@@ -1,5 +1,5 @@
 -- What follows for the records of the edit log.
-use Rattle.std.specs.Prelude.{◌≡◌, ◌≤◌, length, IsTrue}
+use Rattle.std.specs.Prelude.{◌≡◌, ℕ, ◌≤◌, length, IsTrue}
 use Rattle.edit_ops.specs.declared.ops.EditOp.{EditOp}
 use Rattle.edit_ops.specs.Records.{HasSpelling, fits, spelling}
 
@@ -9,6 +9,10 @@ OneSpelling = (a b : EditOp) → HasSpelling a → HasSpelling b → spelling a 
 abbrev pub SpelledFits : Type 0
 SpelledFits = (op : EditOp) → HasSpelling op → IsTrue (fits op)
 
--- a record has 1 to 8,128 bytes
+-- the most bytes of a record
+abbrev pub longest_record : ℕ
+longest_record = 8128
+
+-- no record is empty, and none is longer
 abbrev pub RecordsAreShort : Type 0
-RecordsAreShort = (op : EditOp) → HasSpelling op → (1 ≤ length (spelling op)) × (length (spelling op) ≤ 8128)
+RecordsAreShort = (op : EditOp) → HasSpelling op → (1 ≤ length (spelling op)) × (length (spelling op) ≤ longest_record)
