@@ -56,22 +56,19 @@ among-with x id ids h = go (is_among id ids)
     go true = h
     go false = any-put (λ i. i == x) id ids h
 
-same-through : (a b x : ℕ) → (b == x) ≡ true → (a == b) ≡ true → (a == x) ≡ true
-same-through a b x h k = grind (arith, nat_tests)
-
-among-without : (x id : ℕ) (ids : List ℕ) → (x == id) ≡ false → is_among x ids ≡ true → is_among x (without_id id ids) ≡ true
-among-without x id [] e h = cc
-among-without x id (y ∷ ys) e h = go (y == id) refl (y == x) refl (among-without x id ys e) h
+among-kept : (p : ℕ → Bool) (x : ℕ) (ids : List ℕ) → p x ≡ false → is_among x ids ≡ true → is_among x (filter (λ i. not (p i)) ids) ≡ true
+among-kept p x [] e h = cc
+among-kept p x (y ∷ ys) e h = go (p y) refl (y == x) refl (among-kept p x ys e) h
   where
-    turned : (a b c : ℕ) → (a == b) ≡ true → (a == c) ≡ true → (c == b) ≡ true
-    turned a b c h k = grind (arith, nat_tests)
+    same : (a b : ℕ) → (a == b) ≡ true → a ≡ b
+    same a b h = grind (arith, nat_tests)
 
-    go : (t : Bool) → (y == id) ≡ t → (u : Bool) → (y == x) ≡ u → (is_among x ys ≡ true → is_among x (without_id id ys) ≡ true) → (u || is_among x ys) ≡ true
-        → is_among x (cond (not t) (y ∷ without_id id ys) (without_id id ys)) ≡ true
-    go true f true g ih k = let m : (x == id) ≡ true = turned y id x f g in cc
+    go : (t : Bool) → p y ≡ t → (u : Bool) → (y == x) ≡ u → (is_among x ys ≡ true → is_among x (filter (λ i. not (p i)) ys) ≡ true) → (u || is_among x ys) ≡ true
+        → is_among x (cond (not t) (y ∷ filter (λ i. not (p i)) ys) (filter (λ i. not (p i)) ys)) ≡ true
+    go true f true g ih k = let m : p x ≡ true = subst (λ (i : ℕ). p i ≡ true) (same y x g) f in cc
     go true f false g ih k = ih k
-    go false f true g ih k = ap (λ (b : Bool). b || is_among x (without_id id ys)) g
-    go false f false g ih k = or-right (y == x) (is_among x (without_id id ys)) (ih k)
+    go false f true g ih k = ap (λ (b : Bool). b || is_among x (filter (λ i. not (p i)) ys)) g
+    go false f false g ih k = or-right (y == x) (is_among x (filter (λ i. not (p i)) ys)) (ih k)
 
 both : (a b : Bool) → a ≡ true → b ≡ true → (a && b) ≡ true
 both a b e f = cc
@@ -137,12 +134,20 @@ count-filter q (x ∷ xs) dir = go (q x) (x.dir == dir) (count-filter q xs dir)
     go false u h = skip (x.dir == dir) h
 
 -- none of a directory
-none-of : (xs : List Snapshot) (dir : ℕ) → count_of xs dir ≡ 0 → list_all (λ s. not (s.dir == dir)) xs ≡ true
+none-of : (xs : List Snapshot) (dir : ℕ) → count_of xs dir ≡ 0 → list_any (λ s. s.dir == dir) xs ≡ false
 none-of [] dir h = refl
 none-of (x ∷ xs) dir h = go (x.dir == dir) h (none-of xs dir)
   where
-    go : (t : Bool) → length (cond t (x ∷ filter (is_of dir) xs) (filter (is_of dir) xs)) ≡ 0 → (count_of xs dir ≡ 0 → list_all (λ s. not (s.dir == dir)) xs ≡ true) → (not t && list_all (λ s. not (s.dir == dir)) xs) ≡ true
+    go : (t : Bool) → length (cond t (x ∷ filter (is_of dir) xs) (filter (is_of dir) xs)) ≡ 0 → (count_of xs dir ≡ 0 → list_any (λ s. s.dir == dir) xs ≡ false) → (t || list_any (λ s. s.dir == dir) xs) ≡ false
     go true f ih = absurd (omega arith)
+    go false f ih = ih f
+
+none-any : (p : Snapshot → Bool) (xs : List Snapshot) → list_any p xs ≡ false → list_all (λ s. not (p s)) xs ≡ true
+none-any p [] h = refl
+none-any p (x ∷ xs) h = go (p x) h (none-any p xs)
+  where
+    go : (t : Bool) → (t || list_any p xs) ≡ false → (list_any p xs ≡ false → list_all (λ s. not (p s)) xs ≡ true) → (not t && list_all (λ s. not (p s)) xs) ≡ true
+    go true f ih = cc
     go false f ih = ih f
 
 all-both : (p q : Snapshot → Bool) (xs : List Snapshot) → list_all p xs ≡ true → list_all q xs ≡ true → list_all (λ s. p s && q s) xs ≡ true
@@ -194,16 +199,20 @@ module _ (ids : List ℕ) (xs : List Snapshot) (s : IsSnapshots ids xs) where
     few = s.few;
   }
 
-  pub kept-disallow : (id : ℕ) → count_of xs id ≡ 0 → IsSnapshots (without_id id ids) xs
-  kept-disallow id h = record {
-    ids = rising-filter nat_cmp nat_cmp_total (λ i. not (i == id)) ids s.ids;
+  -- directories that have no snapshots are taken out
+  pub kept-without : (p : ℕ → Bool) → list_any (λ t. p t.dir) xs ≡ false → IsSnapshots (filter (λ i. not (p i)) ids) xs
+  kept-without p h = record {
+    ids = rising-filter nat_cmp nat_cmp_total (λ i. not (p i)) ids s.ids;
     order = s.order;
     rooted = s.rooted;
-    housed = all-from (λ t. not (t.dir == id) && is_among t.dir ids) (λ t. is_among t.dir (without_id id ids)) xs
-        (λ x b. let w = and-parts (not (x.dir == id)) (is_among x.dir ids) b in among-without x.dir id ids (not-true (x.dir == id) w.0) w.1)
-        (all-both (λ t. not (t.dir == id)) (λ t. is_among t.dir ids) xs (none-of xs id h) s.housed);
+    housed = all-from (λ t. not (p t.dir) && is_among t.dir ids) (λ t. is_among t.dir (filter (λ i. not (p i)) ids)) xs
+        (λ x b. let w = and-parts (not (p x.dir)) (is_among x.dir ids) b in among-kept p x.dir ids (not-true (p x.dir) w.0) w.1)
+        (all-both (λ t. not (p t.dir)) (λ t. is_among t.dir ids) xs (none-any (λ t. p t.dir) xs h) s.housed);
     few = s.few;
   }
+
+  pub kept-disallow : (id : ℕ) → count_of xs id ≡ 0 → IsSnapshots (without_id id ids) xs
+  kept-disallow id h = kept-without (λ i. i == id) (none-of xs id h)
 
   pub kept-remove : (dir : ℕ) (name : List ℕ) → IsSnapshots ids (without_snapshot xs dir name)
   kept-remove dir name = record {

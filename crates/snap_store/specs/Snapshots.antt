@@ -23,14 +23,21 @@ pub record Copied : Type 0 where
   pub path : List (List ℕ)
   pub rows : List Entry
 
--- The ids of the directories that may have snapshots, and the snapshots. Beside them what is put by: for
--- how many more ids and for how many more snapshots there is a place, and the rows that were copied for one.
-pub record Snapshots : Type 0 where
+-- the ids of the directories that may have snapshots, and the snapshots
+pub record SnapTable : Type 0 where
   pub allowed : List ℕ
   pub taken : List Snapshot
+
+-- The memory that is reserved beside the table: for how many more ids and for how many more snapshots there is
+-- a place, and the rows that were copied for one.
+pub record SnapRoom : Type 0 where
   pub spare : ℕ
   pub spare_take : ℕ
   pub ready : Option Copied
+
+pub record SnapState : Type 0 where
+  pub table : SnapTable
+  pub room : SnapRoom
 
 -- what has to be spare for one more directory
 abbrev pub need_allow : ℕ → ℕ
@@ -45,8 +52,8 @@ abbrev pub copied_for : List Entry → ℕ → Option Copied
 copied_for rows dir = option_map (λ e. record { path = e.path; rows = filter (λ f. is_prefix e.path f.path) rows }) (entry_of rows dir)
 
 -- all memory for a snapshot of the directory is put by
-abbrev pub IsReady : Snapshots → List Entry → ℕ → List ℕ → Type 0
-IsReady s rows dir name = (need_take rows dir name ≤ s.spare_take) × (s.ready ≡ copied_for rows dir)
+abbrev pub IsReady : SnapRoom → List Entry → ℕ → List ℕ → Type 0
+IsReady room rows dir name = (need_take rows dir name ≤ room.spare_take) × (room.ready ≡ copied_for rows dir)
 
 -- by directory, and by name there, byte by byte
 abbrev pub snapshot_cmp : Snapshot → Snapshot → Ordering
@@ -97,8 +104,8 @@ abbrev pub count_of : List Snapshot → ℕ → ℕ
 count_of taken dir = length (filter (is_of dir) taken)
 
 -- how many snapshots a directory has, where it may have some
-abbrev pub count_in : Snapshots → ℕ → Option ℕ
-count_in s dir = if is_among dir s.allowed then Some (count_of s.taken dir) else None
+abbrev pub count_in : SnapTable → ℕ → Option ℕ
+count_in t dir = if is_among dir t.allowed then Some (count_of t.taken dir) else None
 
 -- what lies in a directory, where the rows have it as one
 abbrev pub list_in : List Entry → List (List ℕ) → Option (List Child)
@@ -119,6 +126,28 @@ allowed_above rows allowed p = list_any (λ id. at_or_above rows id p && not (at
 -- or below the path, and not at it
 abbrev pub allowed_below : List Entry → List ℕ → List (List ℕ) → Bool
 allowed_below rows allowed p = list_any (λ id. at_or_below rows id p && not (at_or_above rows id p)) allowed
+
+-- the ids without those of directories at the path or below it
+abbrev pub without_below : List Entry → List (List ℕ) → List ℕ → List ℕ
+without_below rows p ids = filter (λ id. not (at_or_below rows id p)) ids
+
+-- the table after each change
+
+abbrev pub table_after_allow : ℕ → SnapTable → SnapTable
+table_after_allow dir t = record t { allowed = with_id dir t.allowed }
+
+abbrev pub table_after_disallow : ℕ → SnapTable → SnapTable
+table_after_disallow dir t = record t { allowed = without_id dir t.allowed }
+
+-- the rows are those that stand before the directories are removed
+abbrev pub table_after_disallow_below : List Entry → List (List ℕ) → SnapTable → SnapTable
+table_after_disallow_below rows p t = record t { allowed = without_below rows p t.allowed }
+
+abbrev pub table_after_take : List Entry → ℕ → List ℕ → SnapTable → SnapTable
+table_after_take rows dir name t = record t { taken = put_snapshot (record { dir = dir; name = name; rows = frozen rows dir }) t.taken }
+
+abbrev pub table_after_remove : ℕ → List ℕ → SnapTable → SnapTable
+table_after_remove dir name t = record t { taken = without_snapshot t.taken dir name }
 
 -- what always holds of them
 pub record IsSnapshots (allowed : List ℕ) (taken : List Snapshot) : Type 0 where

@@ -7,7 +7,7 @@ ghost use Rattle.std.specs.Ordering.{is_lt, nat_cmp};
 ghost use Rattle.inode_tree.specs.Below.{at_or_above, at_or_below};
 ghost use Rattle.inode_tree.specs.Rows.{entry_of, row_at};
 ghost use Rattle.snap_store.specs.Ordered.{IsRisingBy};
-ghost use Rattle.snap_store.specs.Snapshots.{IsReady, IsSnapshots, allowed_above, allowed_below, count_in, count_of, frozen, holds_snapshot, is_among, is_named, key_of, list_in, names_of, need_allow, put_snapshot, rows_in, snapshot_cmp, snapshot_named, with_id, without_id, without_snapshot, zone_depth};
+ghost use Rattle.snap_store.specs.Snapshots.{IsReady, IsSnapshots, allowed_above, allowed_below, count_in, count_of, holds_snapshot, is_among, is_named, key_of, list_in, names_of, need_allow, put_snapshot, rows_in, snapshot_cmp, snapshot_named, table_after_allow, table_after_disallow, table_after_disallow_below, table_after_remove, table_after_take, with_id, without_below, without_id, without_snapshot, zone_depth};
 
 use crate::prepared::{Prepared, prepare, rows_for};
 use crate::rows::{FrozenRows, compare_names};
@@ -183,6 +183,13 @@ fn remove_id(ids: &mut Vec<u64>, id: u64)
     }
 }
 
+/// Removes the ids of directories at the path or below it.
+fn remove_below(ids: &mut Vec<u64>, tree: &Tree, path: &NPath)
+    ensures { ids.new.items ≡ without_below tree.now.rows path.now ids.old.items }
+{
+    ids.retain(|id| !tree.at_or_below(*id, path));
+}
+
 /// Adds a snapshot, whose name must be free in its directory. Returns `NoMemory` if allocation
 /// fails; the snapshots are then unchanged.
 fn put(taken: &mut Vec<Taken>, snapshot: Taken) -> Result<(), NoMemory>
@@ -235,11 +242,11 @@ pub struct Snaps {
 impl Model for Snaps {
     ghost use Rattle.std.specs.Prelude.{◌-◌};
     ghost use Rattle.std.specs.Vec.{vec_len, vec_capacity};
-    ghost use Rattle.snap_store.specs.Snapshots.{IsSnapshots, Snapshots};
+    ghost use Rattle.snap_store.specs.Snapshots.{IsSnapshots, SnapState};
 
-    ghost Value = { Snapshots };
+    ghost Value = { SnapState };
 
-    ghost view = { λ snaps. record { allowed = snaps.allowed.items; taken = snaps.taken.items; spare = vec_capacity snaps.allowed - vec_len snaps.allowed; spare_take = vec_capacity snaps.taken - vec_len snaps.taken; ready = snaps.ready } };
+    ghost view = { λ snaps. record { table = record { allowed = snaps.allowed.items; taken = snaps.taken.items }; room = record { spare = vec_capacity snaps.allowed - vec_len snaps.allowed; spare_take = vec_capacity snaps.taken - vec_len snaps.taken; ready = snaps.ready } } };
 
     ghost invariant = { λ snaps. IsSnapshots snaps.allowed.items snaps.taken.items };
 }
@@ -248,8 +255,8 @@ impl Snaps {
     /// Creates an empty store: there are no snapshots, and no directory may have any. It does not
     /// allocate.
     pub fn new(alloc: Global) -> Snaps
-        ensures allowed { result.allowed ≡ [] }
-        ensures taken { result.taken ≡ [] }
+        ensures allowed { result.table.allowed ≡ [] }
+        ensures taken { result.table.taken ≡ [] }
     {
         Snaps {
             alloc,
@@ -262,10 +269,9 @@ impl Snaps {
     /// Allows snapshots of a directory. Does nothing if they are allowed already. Returns
     /// `NoMemory` if allocation fails; everything is then unchanged.
     pub fn allow(&mut self, dir: u64) -> Result<(), NoMemory>
-        ensures ok { OnOk result (self.new.allowed ≡ with_id dir self.old.allowed) }
-        ensures err { OnErr result (self.new.allowed ≡ self.old.allowed) }
-        ensures taken { self.new.taken ≡ self.old.taken }
-        ensures spare { need_allow dir ≤ self.old.spare → IsOk result }
+        ensures ok { OnOk result (self.new.table ≡ table_after_allow dir self.old.table) }
+        ensures err { OnErr result (self.new.table ≡ self.old.table) }
+        ensures spare { need_allow dir ≤ self.old.room.spare → IsOk result }
     {
         put_id(&mut self.allowed, dir)
     }
@@ -273,9 +279,8 @@ impl Snaps {
     /// Reserves memory for one more directory that may have snapshots. Nothing else changes. After
     /// `Ok`, `allow` of the directory succeeds too.
     pub fn reserve_allow(&mut self, dir: u64) -> Result<(), NoMemory>
-        ensures ok { OnOk result (need_allow dir ≤ self.new.spare) }
-        ensures allowed { self.new.allowed ≡ self.old.allowed }
-        ensures taken { self.new.taken ≡ self.old.taken }
+        ensures ok { OnOk result (need_allow dir ≤ self.new.room.spare) }
+        ensures same { self.new.table ≡ self.old.table }
     {
         self.allowed.reserve(1)?;
         Ok(())
@@ -283,11 +288,19 @@ impl Snaps {
 
     /// Disallows snapshots of a directory, which must have none. It does not allocate.
     pub fn disallow(&mut self, dir: u64)
-        requires { count_of self.old.taken dir ≡ 0 }
-        ensures allowed { self.new.allowed ≡ without_id dir self.old.allowed }
-        ensures taken { self.new.taken ≡ self.old.taken }
+        requires { count_of self.old.table.taken dir ≡ 0 }
+        ensures { self.new.table ≡ table_after_disallow dir self.old.table }
     {
         remove_id(&mut self.allowed, dir);
+    }
+
+    /// Disallows snapshots of the directories at the path and below it, which must have none. Call
+    /// this before the rows are removed from the tree. It does not allocate.
+    pub fn disallow_below(&mut self, tree: &Tree, path: &NPath)
+        requires { holds_snapshot tree.now.rows self.old.table.taken path.now ≡ false }
+        ensures { self.new.table ≡ table_after_disallow_below tree.now.rows path.now self.old.table }
+    {
+        remove_below(&mut self.allowed, tree, path);
     }
 
     /// Takes a snapshot of a directory: a copy of the rows at and below it. The directory must
@@ -298,14 +311,13 @@ impl Snaps {
     /// rows at and below it have changed since.
     pub fn take(&mut self, tree: &Tree, dir: u64, name: Text) -> Result<(), NoMemory>
         requires stands { IsSome (entry_of tree.now.rows dir) }
-        requires allowed { IsTrue (is_among dir self.old.allowed) }
-        requires free { snapshot_named self.old.taken dir name ≡ None }
-        requires room { count_of self.old.taken dir < 65536 }
-        ensures ok { OnOk result (self.new.taken ≡ put_snapshot (record { dir = dir; name = name; rows = frozen tree.now.rows dir }) self.old.taken) }
-        ensures err { OnErr result (self.new.taken ≡ self.old.taken) }
-        ensures others { (d : ℕ) (n : List ℕ) → is_named dir name (key_of d n) ≡ false → snapshot_named self.new.taken d n ≡ snapshot_named self.old.taken d n }
-        ensures allowed { self.new.allowed ≡ self.old.allowed }
-        ensures spare { IsReady self.old tree.now.rows dir name → IsOk result }
+        requires allowed { IsTrue (is_among dir self.old.table.allowed) }
+        requires free { snapshot_named self.old.table.taken dir name ≡ None }
+        requires room { count_of self.old.table.taken dir < 65536 }
+        ensures ok { OnOk result (self.new.table ≡ table_after_take tree.now.rows dir name self.old.table) }
+        ensures err { OnErr result (self.new.table ≡ self.old.table) }
+        ensures others { (d : ℕ) (n : List ℕ) → is_named dir name (key_of d n) ≡ false → snapshot_named self.new.table.taken d n ≡ snapshot_named self.old.table.taken d n }
+        ensures spare { IsReady self.old.room tree.now.rows dir name → IsOk result }
     {
         let rows = rows_for(self.alloc, self.ready.take(), tree, dir)?;
         put(&mut self.taken, Taken { dir, name, rows })
@@ -315,9 +327,8 @@ impl Snaps {
     /// changes. After `Ok`, `take` succeeds for the directory until the snapshots or those rows
     /// change.
     pub fn reserve_take(&mut self, tree: &Tree, dir: u64, name: &Text) -> Result<(), NoMemory>
-        ensures ok { OnOk result (IsReady self.new tree.now.rows dir name.now) }
-        ensures allowed { self.new.allowed ≡ self.old.allowed }
-        ensures taken { self.new.taken ≡ self.old.taken }
+        ensures ok { OnOk result (IsReady self.new.room tree.now.rows dir name.now) }
+        ensures same { self.new.table ≡ self.old.table }
     {
         self.taken.reserve(1)?;
         self.ready = None;
@@ -328,9 +339,8 @@ impl Snaps {
     /// Removes a snapshot. Does nothing if there is none with the name. The other snapshots are
     /// unchanged. It does not allocate.
     pub fn remove(&mut self, dir: u64, name: &Text)
-        ensures taken { self.new.taken ≡ without_snapshot self.old.taken dir name.now }
-        ensures others { (d : ℕ) (n : List ℕ) → is_named dir name.now (key_of d n) ≡ false → snapshot_named self.new.taken d n ≡ snapshot_named self.old.taken d n }
-        ensures allowed { self.new.allowed ≡ self.old.allowed }
+        ensures table { self.new.table ≡ table_after_remove dir name.now self.old.table }
+        ensures others { (d : ℕ) (n : List ℕ) → is_named dir name.now (key_of d n) ≡ false → snapshot_named self.new.table.taken d n ≡ snapshot_named self.old.table.taken d n }
     {
         remove(&mut self.taken, dir, name);
     }
@@ -339,8 +349,8 @@ impl Snaps {
     /// there is no such snapshot, or it has no row at the path. The empty path gives the row of the
     /// directory itself, which every snapshot has.
     pub fn look(&self, dir: u64, name: &Text, below: &NPath) -> Option<Row>
-        ensures own { below.now ≡ [] → is_some result ≡ is_some (snapshot_named self.now.taken dir name.now) }
-        ensures row { result ≡ row_at (rows_in self.now.taken dir name.now) below.now }
+        ensures own { below.now ≡ [] → is_some result ≡ is_some (snapshot_named self.now.table.taken dir name.now) }
+        ensures row { result ≡ row_at (rows_in self.now.table.taken dir name.now) below.now }
     {
         match rows_of(&self.taken, dir, name) {
             Some(rows) => rows.look(below),
@@ -351,7 +361,7 @@ impl Snaps {
     /// Returns the children of a directory of a snapshot. Returns `None` if and only if there is no
     /// such snapshot, or it has no directory at the path.
     pub fn list(&self, dir: u64, name: &Text, below: &NPath) -> Result<Option<ChildList>, NoMemory>
-        ensures { IfOk result (λ list. list ≡ list_in (rows_in self.now.taken dir name.now) below.now) }
+        ensures { IfOk result (λ list. list ≡ list_in (rows_in self.now.table.taken dir name.now) below.now) }
     {
         match rows_of(&self.taken, dir, name) {
             Some(rows) => rows.list(below),
@@ -362,7 +372,7 @@ impl Snaps {
     /// Returns how many names of the path lead to the directory of its zone in the snapshot. This
     /// is the deepest marked directory at or above the path. Returns `None` if there is none.
     pub fn zone_in(&self, dir: u64, name: &Text, below: &NPath) -> Option<u8>
-        ensures { result ≡ zone_depth (rows_in self.now.taken dir name.now) below.now }
+        ensures { result ≡ zone_depth (rows_in self.now.table.taken dir name.now) below.now }
     {
         match rows_of(&self.taken, dir, name) {
             Some(rows) => rows.zone(below),
@@ -372,8 +382,8 @@ impl Snaps {
 
     /// Returns how many snapshots a directory has, at most 65,536, or `None` if it may have none.
     pub fn count(&self, dir: u64) -> Option<u32>
-        ensures count { result ≡ count_in self.now dir }
-        ensures rules { IsSnapshots self.now.allowed self.now.taken }
+        ensures count { result ≡ count_in self.now.table dir }
+        ensures rules { IsSnapshots self.now.table.allowed self.now.table.taken }
     {
         match find_id(&self.allowed, dir) {
             Some(_) => Some((end_of(&self.taken, dir) - first_of(&self.taken, dir)) as u32),
@@ -384,7 +394,7 @@ impl Snaps {
     /// Returns the name of the snapshot of a directory at index `at` in byte order, from 0. Returns
     /// `None` if there are no more.
     pub fn name_at(&self, dir: u64, at: u32) -> Option<&Text>
-        ensures { option_map (λ name. name.now) result ≡ slice_get (names_of self.now.taken dir) at }
+        ensures { option_map (λ name. name.now) result ≡ slice_get (names_of self.now.table.taken dir) at }
     {
         let first = first_of(&self.taken, dir);
         let end = end_of(&self.taken, dir);
@@ -397,7 +407,7 @@ impl Snaps {
 
     /// Returns whether there is a snapshot of a directory at the path or below it.
     pub fn holds(&self, tree: &Tree, path: &NPath) -> bool
-        ensures { result ≡ holds_snapshot tree.now.rows self.now.taken path.now }
+        ensures { result ≡ holds_snapshot tree.now.rows self.now.table.taken path.now }
     {
         self.taken
             .iter()
@@ -406,14 +416,14 @@ impl Snaps {
 
     /// Returns whether a directory strictly above the path may have snapshots.
     pub fn allowed_above(&self, tree: &Tree, path: &NPath) -> bool
-        ensures { result ≡ allowed_above tree.now.rows self.now.allowed path.now }
+        ensures { result ≡ allowed_above tree.now.rows self.now.table.allowed path.now }
     {
         self.allowed.iter().any(|dir| is_above(tree, *dir, path))
     }
 
     /// Returns whether a directory strictly below the path may have snapshots.
     pub fn allowed_below(&self, tree: &Tree, path: &NPath) -> bool
-        ensures { result ≡ allowed_below tree.now.rows self.now.allowed path.now }
+        ensures { result ≡ allowed_below tree.now.rows self.now.table.allowed path.now }
     {
         self.allowed.iter().any(|dir| is_below(tree, *dir, path))
     }

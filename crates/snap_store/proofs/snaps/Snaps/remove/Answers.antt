@@ -1,5 +1,5 @@
 use Rattle.std.proofs.Common.{◌∙◌, List, ap, sym, subst}
-use Rattle.snap_store.specs.Snapshots.{IsSnapshots, Snapshot, Snapshots, snapshot_named}
+use Rattle.snap_store.specs.Snapshots.{IsSnapshots, Snapshot, SnapState, snapshot_named}
 use Rattle.snap_store.proofs.Kept.{kept-remove, others-remove}
 use Rattle.snap_store.proofs.snaps.Snaps.remove.Goals as goal
 
@@ -12,4 +12,4 @@ pub returns-clause-others : goal.returns-clause-others
 returns-clause-others c = λ d n e.
     ap (λ (taken : List Snapshot). snapshot_named taken d n) c.remove.ensures
     ∙ others-remove c.self.inside.taken.items c.args.dir c.args.name.now d n e
-    ∙ ap (λ (s : Snapshots). snapshot_named s.taken d n) c.self.view_is
+    ∙ ap (λ (s : SnapState). snapshot_named s.table.taken d n) c.self.view_is
