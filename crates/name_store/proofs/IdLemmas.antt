@@ -1,5 +1,5 @@
 -- The ids that operations use.
-use Rattle.std.proofs.Common.{◌≡◌, ℕ, ◌+◌, ◌*◌, ◌^◌, ◌<◌, ◌≤◌, Bool, true, false, not, ◌&&◌, ◌||◌, ◌==◌, nat_lt, nat_le, cond, List, [], ◌∷◌, Some, None, is_none, refl, sym, ◌∙◌, ap, subst, arith}
+use Rattle.std.proofs.Common.{◌≡◌, ℕ, ◌+◌, ◌*◌, ◌^◌, ◌<◌, ◌≤◌, Bool, true, false, not, ◌||◌, ◌==◌, nat_lt, nat_le, cond, List, [], ◌∷◌, Some, None, refl, sym, ◌∙◌, ap, subst, arith}
 use Rattle.std.specs.Prelude.{if◌then◌else◌}
 use Rattle.std.specs.List.{All}
 use Rattle.std.proofs.lemmas.Bool.Decides.{Decides-eqb, nat_tests}
@@ -7,12 +7,12 @@ use Rattle.std.proofs.lemmas.List.Elements.{All-cons, All-filter, All-head, All-
 use Rattle.inode_tree.specs.declared.rows.Kind.{Kind}
 use Rattle.inode_tree.specs.declared.rows.Kind.TheVariants.{Dir}
 use Rattle.name_calls.specs.Paths.{is_before}
-use Rattle.inode_tree.specs.Rows.{Entry, entry_of, put, row_at, set_kind, with_kind}
+use Rattle.inode_tree.specs.Rows.{Entry, put, row_at, set_kind, with_kind}
 use Rattle.edit_ops.specs.declared.ops.EditOp.{EditOp}
 use Rattle.edit_ops.specs.declared.ops.EditOp.TheVariants as op
-use Rattle.name_store.specs.Table.{NameTable, Replayed, after, allows, applies, fits_zone, id_of, is_among, is_fresh, is_of_opening, key_of_zone, may_be_made, may_use, nothing_logged}
+use Rattle.name_store.specs.Table.{NameTable, Replayed, after, allows, applies, id_of, is_among, is_fresh, is_of_opening, nothing_logged}
 use Rattle.name_store.specs.Replay.{AllBelow, IdsOfOpening, name_replay}
-use Rattle.name_store.proofs.RowLemmas.{both}
+use Rattle.name_store.proofs.CauseLemmas.{MayUse, allowed, both, id-may-be-used}
 
 abbrev BelowId : ℕ → Entry → Type 0
 BelowId n e = e.row.id < n
@@ -53,11 +53,8 @@ below-end opening id h =
     let last : nat_lt id ((opening + 1) * 2 ^ 32) ≡ true = parts.1 in
     grind (arith, nat_tests, last)
 
-of-opening : (t : NameTable) (id : ℕ) (p : List (List ℕ)) → (nat_lt 0 t.opening && may_use t id && may_be_made t.rows p) ≡ true → id < end_of_ids t.opening
-of-opening t id p h =
-    let first = (both (nat_lt 0 t.opening && may_use t id) (may_be_made t.rows p) h).0 in
-    let fits = (both (nat_lt 0 t.opening) (may_use t id) first).1 in
-    below-end t.opening id (both (is_of_opening t.opening id) (is_none (entry_of t.rows id)) fits).0
+of-opening : (t : NameTable) (id : ℕ) → MayUse t id → id < end_of_ids t.opening
+of-opening t id may = below-end t.opening id may.of_opening
 
 later : (a b : ℕ) → b ≡ a + 1 → end_of_ids a ≤ end_of_ids b
 later a b h = omega (arith, h)
@@ -72,11 +69,10 @@ ids-after r (op.Opened opening) may h =
       used = used-weaker (end_of_ids r.table.opening) (end_of_ids opening) more r.used h.used;
     }
 ids-after r (op.Mkdir id p) may h =
-    let below = of-opening r.table id p may in
+    let below = of-opening r.table id (id-may-be-used r.table id (allowed r.table (op.Mkdir id p) refl may).ids) in
     record { rows = all-put (BelowId (end_of_ids r.table.opening)) _ r.table.rows below h.rows; used = (below, h.used) }
 ids-after r (op.File id p edek) may h =
-    let made = (both (nat_lt 0 r.table.opening && may_use r.table id && may_be_made r.table.rows p) (fits_zone (key_of_zone r.table.rows p) edek) may).0 in
-    let below = of-opening r.table id p made in
+    let below = of-opening r.table id (id-may-be-used r.table id (allowed r.table (op.File id p edek) refl may).ids) in
     record { rows = all-put (BelowId (end_of_ids r.table.opening)) _ r.table.rows below h.rows; used = (below, h.used) }
 ids-after r (op.Remove p) may h = record { rows = All-filter _ (BelowId (end_of_ids r.table.opening)) r.table.rows h.rows; used = h.used }
 ids-after r (op.Zone p key) may h = record {
@@ -110,17 +106,12 @@ from-first opening id h =
     let first : nat_le (opening * 2 ^ 32) id ≡ true = (both (nat_le (opening * 2 ^ 32) id) (nat_lt id ((opening + 1) * 2 ^ 32)) h).0 in
     grind (arith, nat_tests, first)
 
-of-this : (t : NameTable) (id : ℕ) (p : List (List ℕ)) → (nat_lt 0 t.opening && may_use t id && may_be_made t.rows p) ≡ true → t.opening * 2 ^ 32 ≤ id
-of-this t id p h =
-    let first = (both (nat_lt 0 t.opening && may_use t id) (may_be_made t.rows p) h).0 in
-    let fits = (both (nat_lt 0 t.opening) (may_use t id) first).1 in
-    from-first t.opening id (both (is_of_opening t.opening id) (is_none (entry_of t.rows id)) fits).0
+of-this : (t : NameTable) (used : List ℕ) (id : ℕ) → MayUse t id → AllBelow (t.opening * 2 ^ 32) used → not (is_among used id || false) ≡ true
+of-this t used id may h = ap (λ (b : Bool). not (b || false)) (among-below (t.opening * 2 ^ 32) used id h (from-first t.opening id may.of_opening))
 
 pub fresh_in : (t : NameTable) (used : List ℕ) (o : EditOp) → allows t o ≡ true → AllBelow (t.opening * 2 ^ 32) used → is_fresh used o ≡ true
 fresh_in t used (op.Opened opening) may h = refl
-fresh_in t used (op.Mkdir id p) may h = ap (λ (b : Bool). not (b || false)) (among-below (t.opening * 2 ^ 32) used id h (of-this t id p may))
-fresh_in t used (op.File id p edek) may h =
-    let made = (both (nat_lt 0 t.opening && may_use t id && may_be_made t.rows p) (fits_zone (key_of_zone t.rows p) edek) may).0 in
-    ap (λ (b : Bool). not (b || false)) (among-below (t.opening * 2 ^ 32) used id h (of-this t id p made))
+fresh_in t used (op.Mkdir id p) may h = of-this t used id (id-may-be-used t id (allowed t (op.Mkdir id p) refl may).ids) h
+fresh_in t used (op.File id p edek) may h = of-this t used id (id-may-be-used t id (allowed t (op.File id p edek) refl may).ids) h
 fresh_in t used (op.Remove p) may h = refl
 fresh_in t used (op.Zone p key) may h = refl

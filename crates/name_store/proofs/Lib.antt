@@ -1,3 +1,4 @@
+pub mod CauseLemmas
 pub mod Commits
 pub mod IdLemmas
 pub mod Layers

@@ -1,5 +1,5 @@
 -- The row at a path, and the row of the zone that a path lies in.
-use Rattle.std.proofs.Common.{◌≡◌, ℕ, Bool, true, false, cond, not, ◌&&◌, List, [], ◌∷◌, length, Option, Some, None, is_none, nat_lt, refl, sym, ap, ◌∙◌, subst}
+use Rattle.std.proofs.Common.{◌≡◌, ℕ, Bool, true, false, cond, ◌&&◌, List, [], ◌∷◌, length, Option, Some, None, nat_lt, refl, sym, ap, ◌∙◌, subst}
 use Rattle.std.specs.Prelude.{bytes_eq, is_some}
 use Rattle.std.specs.Bool.{⊤}
 use Rattle.std.specs.Option.{option_and_then, option_map}
@@ -9,14 +9,12 @@ use Rattle.hk_base.specs.declared.names.KeyName.{KeyName}
 use Rattle.inode_tree.specs.declared.rows.Row.{Row}
 use Rattle.inode_tree.specs.declared.rows.Kind.TheVariants.{Dir}
 use Rattle.name_calls.specs.Paths.{is_prefix, same_path}
-use Rattle.inode_tree.specs.Rows.{Entry, IsRows, entry_of, has_children, is_dir, is_dir_at, is_zone_over, longer, mark_of, row_at, set_kind, zone_id, zone_of}
+use Rattle.inode_tree.specs.Rows.{Entry, IsRows, entry_of, is_dir, is_dir_at, is_zone_over, longer, mark_of, row_at, set_kind, zone_id, zone_of}
 use Rattle.zone_table.specs.Laws.{MarkedIsAZone}
 use Rattle.zone_table.specs.Zones.{put_zone, zone_row, zones_of}
-use Rattle.name_store.specs.Table.{key_of_zone, may_be_zone}
-
-pub both : (a b : Bool) → (a && b) ≡ true → (a ≡ true) × (b ≡ true)
-both true b h = (refl, h)
-both false b h = absurd cc
+use Rattle.name_store.specs.Causes.{first_cause, zone_causes}
+use Rattle.name_store.specs.Table.{key_of_zone}
+use Rattle.name_store.proofs.CauseLemmas.{both, markable}
 
 -- the row of a zone
 
@@ -109,17 +107,13 @@ unmarked (x ∷ es) p row is none = step (λ stands. unmarked es p row stands ou
         ap (λ (r : Row). mark_of r.kind) (sym same) ∙ plain (mark_of x.row.kind) (is_prefix x.path p) (same-prefix x.path p here) outside.0
     step rest false here is = rest is
 
-is-none : {X : Type 0} (o : Option X) → is_none o ≡ true → o ≡ None
-is-none None h = refl
-is-none (Some x) h = absurd cc
-
 -- what becomes a zone is a directory without a mark
-module _ (rows : List Entry) (p : List (List ℕ)) (row : Row) (may : may_be_zone rows p ≡ true) (is : row_at rows p ≡ Some row) where
+module _ (rows : List Entry) (p : List (List ℕ)) (row : Row) (may : first_cause (zone_causes rows p) ≡ None) (is : row_at rows p ≡ Some row) where
   pub is-directory : is_dir row.kind ≡ true
-  is-directory = ap is_dir_at (sym is) ∙ (both (is_dir_at (row_at rows p)) (not (has_children rows p)) (both (is_dir_at (row_at rows p) && not (has_children rows p)) (is_none (zone_of rows p)) may).0).0
+  is-directory = ap is_dir_at (sym is) ∙ (markable rows p may).dir
 
   pub is-unmarked : mark_of row.kind ≡ None
-  is-unmarked = unmarked rows p row is (is-none (zone_of rows p) (both (is_dir_at (row_at rows p) && not (has_children rows p)) (is_none (zone_of rows p)) may).1)
+  is-unmarked = unmarked rows p row is (markable rows p may).outside
 
   -- and so it is one
   pub zone-made : (key : KeyName) → IsRows rows → MarkedIsAZone → (zones_of (set_kind rows row.id (Dir (Some key))) ≡ put_zone (record { dir = row.id; key = key }) (zones_of rows)) × (zone_row (zones_of rows) row.id ≡ None)

@@ -1,5 +1,5 @@
 -- What a start finds and leaves.
-use Rattle.std.proofs.Common.{◌≡◌, ◌⊎◌, inl, inr, ⊎_elim, ℕ, ◌+◌, ◌*◌, ◌^◌, ◌<◌, Bool, true, false, ◌&&◌, nat_lt, List, [], ◌∷◌, ◌++◌, length, map, Option, Some, None, refl, sym, ◌∙◌, ap, subst, arith, length-append}
+use Rattle.std.proofs.Common.{◌≡◌, ◌⊎◌, inl, inr, ⊎_elim, ℕ, ◌+◌, ◌*◌, ◌^◌, ◌<◌, Bool, true, false, ◌&&◌, List, [], ◌∷◌, ◌++◌, length, map, Option, Some, None, refl, sym, ◌∙◌, ap, subst, arith, length-append}
 use Rattle.std.specs.Prelude.{IfSome, if◌then◌else◌}
 use Rattle.std.specs.Int.{w32, to_be_bytes}
 use Rattle.std.specs.List.{All, AllByRecursion}
@@ -20,13 +20,13 @@ use Rattle.edit_log.specs.Replay.{in_turn, op_view, openings, record_view, then_
 use Rattle.edit_log.specs.Replay as turns
 use Rattle.edit_log.specs.Log.{EditLogState, IsEditLog, IsNoEditLog, IsReadOf, gated, records_of}
 use Rattle.edit_log.specs.Log as edits
-use Rattle.name_store.specs.Table.{NameTable, Replayed, after, after_table, allows, applies, fits_zone, is_fresh, key_of_zone, may_be_made, may_be_removed, may_be_zone, may_use, next_opening, nothing_logged}
+use Rattle.name_store.specs.Table.{NameTable, Replayed, after, after_table, allows, applies, is_fresh, next_opening, nothing_logged}
 use Rattle.name_store.specs.Replay.{AllBelow, Applies, Broken_off, IsMade, IsNoNext, IsRefusedAt, IsStuck, Stuck, name_replay}
 use Rattle.name_store.specs.Store.{IsDamagedAt, IsLeftByStart, IsNameLog, IsNoNameLog, IsWritten, Not_a_name_log, Opening, Recovered, Started, StoreState, made_with}
 use Rattle.name_store.proofs.Commits.{each_last}
 use Rattle.name_store.proofs.IdLemmas.{used_earlier}
 use Rattle.name_store.proofs.Replays.{replay_more}
-use Rattle.name_store.proofs.RowLemmas.{both}
+use Rattle.name_store.proofs.CauseLemmas.{allowed, both}
 
 -- an operation that is allowed is in turn
 
@@ -35,12 +35,10 @@ first-of a b h = (both a b h).0
 
 turn-of : (t : NameTable) (o : EditOp) → allows t o ≡ true → in_turn t.opening o ≡ true
 turn-of t (op.Opened opening) may = may
-turn-of t (op.Mkdir id p) may = first-of (nat_lt 0 t.opening) (may_use t id) (first-of (nat_lt 0 t.opening && may_use t id) (may_be_made t.rows p) may)
-turn-of t (op.File id p edek) may =
-    first-of (nat_lt 0 t.opening) (may_use t id)
-    (first-of (nat_lt 0 t.opening && may_use t id) (may_be_made t.rows p) (first-of (nat_lt 0 t.opening && may_use t id && may_be_made t.rows p) (fits_zone (key_of_zone t.rows p) edek) may))
-turn-of t (op.Remove p) may = first-of (nat_lt 0 t.opening) (may_be_removed t.rows p) may
-turn-of t (op.Zone p key) may = first-of (nat_lt 0 t.opening) (may_be_zone t.rows p) may
+turn-of t (op.Mkdir id p) may = (allowed t (op.Mkdir id p) refl may).opened
+turn-of t (op.File id p edek) may = (allowed t (op.File id p edek) refl may).opened
+turn-of t (op.Remove p) may = (allowed t (op.Remove p) refl may).opened
+turn-of t (op.Zone p key) may = (allowed t (op.Zone p key) refl may).opened
 
 last-of : (t : NameTable) (o : EditOp) → (after_table t o).opening ≡ then_last t.opening o
 last-of t (op.Opened opening) = refl

@@ -1,15 +1,16 @@
 -- The table of the namesystem, and what an operation of the edit log does to it.
-use Rattle.std.specs.Prelude.{ℕ, ◌+◌, ◌*◌, ◌^◌, Bool, true, false, not, ◌&&◌, ◌==◌, nat_lt, nat_le, List, [], ◌∷◌, ◌++◌, length, Option, Some, None, is_none, is_some, bytes_eq}
+use Rattle.std.specs.Prelude.{ℕ, ◌+◌, ◌*◌, ◌^◌, Bool, true, false, not, ◌&&◌, ◌==◌, nat_lt, nat_le, List, [], ◌∷◌, ◌++◌, Option, Some, None, is_none, bytes_eq}
 use Rattle.std.specs.List.{list_any}
 use Rattle.std.specs.Option.{option_and_then}
 use Rattle.hk_base.specs.declared.names.Edek.{Edek}
 use Rattle.hk_base.specs.declared.names.KeyName.{KeyName}
 use Rattle.inode_tree.specs.declared.rows.Row.{Row}
 use Rattle.inode_tree.specs.declared.rows.Kind.TheVariants.{Dir, File as FileKind}
-use Rattle.name_calls.specs.Paths.{parent}
-use Rattle.inode_tree.specs.Rows.{Entry, entry_of, has_children, is_dir_at, mark_of, put, removed, root_only, row_at, set_kind, zone_of}
+use Rattle.name_calls.specs.declared.calls.NameRefusal.{NameRefusal}
+use Rattle.inode_tree.specs.Rows.{Entry, entry_of, mark_of, put, removed, root_only, row_at, set_kind, zone_of}
 use Rattle.edit_ops.specs.declared.ops.EditOp.{EditOp}
 use Rattle.edit_ops.specs.declared.ops.EditOp.TheVariants.{Opened, Mkdir, File, Remove, Zone}
+use Rattle.name_store.specs.Causes.{first_cause, removal_causes, row_causes, to_be_made, zone_causes}
 
 -- the number of the opening, and the rows in path order
 pub record NameTable : Type 0 where
@@ -33,18 +34,6 @@ is_of_opening opening id = nat_le (opening * 2 ^ 32) id && nat_lt id ((opening +
 abbrev pub may_use : NameTable → ℕ → Bool
 may_use t id = is_of_opening t.opening id && is_none (entry_of t.rows id)
 
--- a path that may be made: its directory stands and is one, the path is free, and there is room for one more row
-abbrev pub may_be_made : List Entry → List (List ℕ) → Bool
-may_be_made rows p = is_dir_at (row_at rows (parent p)) && is_none (row_at rows p) && nat_lt (length rows) 1000000
-
--- a path that may be removed: something below the root stands there
-abbrev pub may_be_removed : List Entry → List (List ℕ) → Bool
-may_be_removed rows p = nat_lt 0 (length p) && is_some (row_at rows p)
-
--- a directory that may become a zone: it stands, is empty, and lies in no zone and is none
-abbrev pub may_be_zone : List Entry → List (List ℕ) → Bool
-may_be_zone rows p = is_dir_at (row_at rows p) && not (has_children rows p) && is_none (zone_of rows p)
-
 -- the key of the zone that a path lies in
 abbrev pub key_of_zone : List Entry → List (List ℕ) → Option KeyName
 key_of_zone rows p = option_and_then (λ e. mark_of e.row.kind) (zone_of rows p)
@@ -56,13 +45,39 @@ fits_zone None (Some e) = false
 fits_zone (Some key) None = false
 fits_zone (Some key) (Some e) = bytes_eq e.version.key key
 
--- Whether the table allows the operation, but for whether its id was used before. The rules are those of the calls that log it.
+-- a file's encrypted key fits the zone of its path
+abbrev pub fits_key : NameTable → EditOp → Bool
+fits_key t (File id p edek) = fits_zone (key_of_zone t.rows p) edek
+fits_key t _ = true
+
+-- why the table refuses an operation; the calls that log it are refused for the same causes, and for others
+abbrev pub op_causes : NameTable → EditOp → List (Bool × NameRefusal)
+op_causes t (Opened opening) = []
+op_causes t (Mkdir id p) = to_be_made t.rows p ++ row_causes t.rows
+op_causes t (File id p edek) = to_be_made t.rows p ++ row_causes t.rows
+op_causes t (Remove p) = removal_causes t.rows p
+op_causes t (Zone p key) = zone_causes t.rows p
+
+-- the ids that an operation uses
+abbrev pub uses : EditOp → List ℕ
+uses (Opened opening) = []
+uses (Mkdir id p) = id ∷ []
+uses (File id p edek) = id ∷ []
+uses (Remove p) = []
+uses (Zone p key) = []
+
+abbrev pub may_use_all : NameTable → List ℕ → Bool
+may_use_all t [] = true
+may_use_all t (id ∷ ids) = may_use t id && may_use_all t ids
+
+-- an operation other than an opening is allowed in an opening, with ids of that opening, if no cause applies
+abbrev pub allows_change : NameTable → EditOp → Bool
+allows_change t op = nat_lt 0 t.opening && may_use_all t (uses op) && is_none (first_cause (op_causes t op)) && fits_key t op
+
+-- Whether the table allows the operation, except for whether its id was used before.
 abbrev pub allows : NameTable → EditOp → Bool
 allows t (Opened opening) = opening == t.opening + 1
-allows t (Mkdir id p) = nat_lt 0 t.opening && may_use t id && may_be_made t.rows p
-allows t (File id p edek) = nat_lt 0 t.opening && may_use t id && may_be_made t.rows p && fits_zone (key_of_zone t.rows p) edek
-allows t (Remove p) = nat_lt 0 t.opening && may_be_removed t.rows p
-allows t (Zone p key) = nat_lt 0 t.opening && may_be_zone t.rows p
+allows t op = allows_change t op
 
 -- the row of a directory without a key, and of a file
 
@@ -87,14 +102,6 @@ after_table t (Mkdir id p) = record t { rows = put (new_directory id p) t.rows }
 after_table t (File id p edek) = record t { rows = put (new_file id p edek) t.rows }
 after_table t (Remove p) = record t { rows = removed p t.rows }
 after_table t (Zone p key) = record t { rows = marked t.rows p key }
-
--- the ids that an operation uses
-abbrev pub uses : EditOp → List ℕ
-uses (Opened opening) = []
-uses (Mkdir id p) = id ∷ []
-uses (File id p edek) = id ∷ []
-uses (Remove p) = []
-uses (Zone p key) = []
 
 abbrev pub is_among : List ℕ → ℕ → Bool
 is_among used id = list_any (λ i. i == id) used

@@ -1,8 +1,9 @@
 //! What the operations of the log do to a tree and the table of its zones.
-ghost use Rattle.std.specs.Prelude.{◌≡◌, ◌≤◌, ◌<◌, None, length, IsOk, IsTrue, OnOk, OnErr};
+ghost use Rattle.std.specs.Prelude.{◌≡◌, ◌≤◌, ◌<◌, ◌++◌, None, length, IsOk, OnOk, OnErr};
 ghost use Rattle.inode_tree.specs.Rows.{entry_of, need, put, removed, row_at};
 ghost use Rattle.zone_table.specs.Zones.{need_add, zones_of};
-ghost use Rattle.name_store.specs.Table.{id_of, marked, may_be_made, may_be_zone, new_directory, new_file};
+ghost use Rattle.name_store.specs.Causes.{first_cause, row_causes, to_be_made, zone_causes};
+ghost use Rattle.name_store.specs.Table.{id_of, marked, new_directory, new_file};
 
 use hk_base::{Edek, KeyName, NoMemory};
 use inode_tree::Tree;
@@ -11,7 +12,7 @@ use zone_table::{Zones, zones_are_the_marks};
 
 /// Makes a directory.
 pub(crate) fn make(tree: &mut Tree, path: &NPath, id: u64) -> Result<(), NoMemory>
-    requires allowed { IsTrue (may_be_made tree.old.rows path.now) }
+    requires allowed { first_cause (to_be_made tree.old.rows path.now ++ row_causes tree.old.rows) ≡ None }
     requires fresh { entry_of tree.old.rows id ≡ None }
     ensures ok { OnOk result (tree.new.rows ≡ put (new_directory id path.now) tree.old.rows) }
     ensures err { OnErr result (tree.new.rows ≡ tree.old.rows) }
@@ -30,7 +31,7 @@ pub(crate) fn make_file(
     id: u64,
     edek: Option<Edek>,
 ) -> Result<(), NoMemory>
-    requires allowed { IsTrue (may_be_made tree.old.rows path.now) }
+    requires allowed { first_cause (to_be_made tree.old.rows path.now ++ row_causes tree.old.rows) ≡ None }
     requires fresh { entry_of tree.old.rows id ≡ None }
     ensures ok { OnOk result (tree.new.rows ≡ put (new_file id path.now edek) tree.old.rows) }
     ensures err { OnErr result (tree.new.rows ≡ tree.old.rows) }
@@ -60,7 +61,7 @@ pub(crate) fn mark(
     path: &NPath,
     key: KeyName,
 ) -> Result<(), NoMemory>
-    requires allowed { IsTrue (may_be_zone tree.old.rows path.now) }
+    requires allowed { first_cause (zone_causes tree.old.rows path.now) ≡ None }
     requires zones { zones.old.rows ≡ zones_of tree.old.rows }
     ensures ok { OnOk result (tree.new.rows ≡ marked tree.old.rows path.now key) }
     ensures err { OnErr result (tree.new.rows ≡ tree.old.rows) }

@@ -1,59 +1,151 @@
-//! What a tree says of an operation of the log: whether the table allows it.
-ghost use Rattle.std.specs.Prelude.{◌≡◌, ◌&&◌, nat_lt};
-ghost use Rattle.inode_tree.specs.Rows.{is_dir_at, mark_of};
-ghost use Rattle.name_store.specs.Table.{allows, fits_zone, is_of_opening, key_of_zone, may_be_made, may_be_removed, may_be_zone, may_use};
+//! What a tree says of a change: why it is refused, and whether an operation of the log is allowed.
+ghost use Rattle.std.specs.Prelude.{◌≡◌, ◌++◌, ◌∷◌, [], ℕ};
+ghost use Rattle.inode_tree.specs.Rows.{mark_of};
+ghost use Rattle.name_store.specs.Causes.{first_cause, has_most_rows, removal_causes, row_causes, to_be_made, zone_causes};
+ghost use Rattle.name_store.specs.Table.{allows, allows_change, fits_key, fits_zone, is_of_opening, key_of_zone, may_use, may_use_all, op_causes, uses};
 
 use edit_ops::EditOp;
 use hk_base::{Edek, KeyName};
-use inode_tree::{Kind, MOST_ROWS, Row, Tree};
-use name_calls::NPath;
+use inode_tree::{Kind, MOST_ROWS, Tree};
+use name_calls::{NPath, NameRefusal};
 
 /// The number of ids of an opening.
 const IDS: u64 = 1 << 32;
 
+/// Returns why a path can not be made: its parent must exist and be a directory, and the path must
+/// be free.
+pub fn to_be_made(tree: &Tree, path: &NPath) -> Option<NameRefusal>
+    ensures { result ≡ first_cause (to_be_made tree.now.rows path.now) }
+{
+    let Some(above) = tree.find_parent(path) else {
+        return Some(NameRefusal::NoSuchPath);
+    };
+    if !above.kind.is_dir() {
+        return Some(NameRefusal::NotADirectory);
+    }
+    if tree.find(path).is_some() {
+        return Some(NameRefusal::Exists);
+    }
+    None
+}
+
+/// Returns whether a tree has as many rows as it may.
+pub fn has_most_rows(tree: &Tree) -> bool
+    ensures { result ≡ has_most_rows tree.now.rows }
+{
+    tree.rows() >= MOST_ROWS
+}
+
+/// Returns why a path can not be removed with all below it: it must exist and not be the root.
+pub fn to_be_removed(tree: &Tree, path: &NPath) -> Option<NameRefusal>
+    ensures { result ≡ first_cause (removal_causes tree.now.rows path.now) }
+{
+    if path.len() == 0 {
+        return Some(NameRefusal::RootOrInside);
+    }
+    if tree.find(path).is_none() {
+        return Some(NameRefusal::NoSuchPath);
+    }
+    None
+}
+
+/// Returns why a directory can not become a zone: it must exist, be empty, and lie in no zone.
+pub fn to_be_zone(tree: &Tree, path: &NPath) -> Option<NameRefusal>
+    ensures { result ≡ first_cause (zone_causes tree.now.rows path.now) }
+{
+    let Some(row) = tree.find(path) else {
+        return Some(NameRefusal::NoSuchPath);
+    };
+    if !row.kind.is_dir() {
+        return Some(NameRefusal::NotADirectory);
+    }
+    if tree.has_children(path) {
+        return Some(NameRefusal::NotEmpty);
+    }
+    if tree.zone_of(path).is_some() {
+        return Some(NameRefusal::AlreadyInZone);
+    }
+    None
+}
+
 /// Returns whether the table of an opening and a tree allows the operation. Does not check whether its
-/// id was used before. The rules are those of the calls that log it.
+/// id was used before.
 pub(crate) fn allows(opening: u32, tree: &Tree, op: &EditOp) -> bool
     ensures { result ≡ allows (record { opening = opening; rows = tree.now.rows }) op.now }
 {
     match op {
         EditOp::Opened { opening: next } => *next as u64 == opening as u64 + 1,
-        EditOp::Mkdir { id, path } => may_make(opening, tree, *id, path),
-        EditOp::File { id, path, edek } => may_make_file(opening, tree, *id, path, edek),
-        EditOp::Remove { path } => may_remove(opening, tree, path),
-        EditOp::Zone { path, .. } => may_make_zone(opening, tree, path),
+        EditOp::Mkdir { .. } => allows_change(opening, tree, op),
+        EditOp::File { .. } => allows_change(opening, tree, op),
+        EditOp::Remove { .. } => allows_change(opening, tree, op),
+        EditOp::Zone { .. } => allows_change(opening, tree, op),
     }
 }
 
-fn may_make(opening: u32, tree: &Tree, id: u64, path: &NPath) -> bool
-    ensures { result ≡ (nat_lt 0 opening && may_use (record { opening = opening; rows = tree.now.rows }) id && may_be_made tree.now.rows path.now) }
+fn allows_change(opening: u32, tree: &Tree, op: &EditOp) -> bool
+    ensures { result ≡ allows_change (record { opening = opening; rows = tree.now.rows }) op.now }
 {
-    let free = may_use(opening, tree, id);
-    let place = may_be_made(tree, path);
-    0 < opening && free && place
+    let ids = may_use_all(opening, tree, op);
+    let free = refusal(tree, op).is_none();
+    let fits = fits_key(tree, op);
+    0 < opening && ids && free && fits
 }
 
-fn may_make_file(opening: u32, tree: &Tree, id: u64, path: &NPath, edek: &Option<Edek>) -> bool
-    ensures { result ≡ (nat_lt 0 opening && may_use (record { opening = opening; rows = tree.now.rows }) id && may_be_made tree.now.rows path.now && fits_zone (key_of_zone tree.now.rows path.now) edek.now) }
+fn may_use_all(opening: u32, tree: &Tree, op: &EditOp) -> bool
+    ensures { result ≡ may_use_all (record { opening = opening; rows = tree.now.rows }) (uses op.now) }
 {
-    let made = may_make(opening, tree, id, path);
-    let fits = fits_zone(&key_of_zone(tree, path), edek);
-    made && fits
+    match op {
+        EditOp::Opened { .. } => true,
+        EditOp::Mkdir { id, .. } => may_use_one(opening, tree, *id),
+        EditOp::File { id, .. } => may_use_one(opening, tree, *id),
+        EditOp::Remove { .. } => true,
+        EditOp::Zone { .. } => true,
+    }
 }
 
-fn may_remove(opening: u32, tree: &Tree, path: &NPath) -> bool
-    ensures { result ≡ (nat_lt 0 opening && may_be_removed tree.now.rows path.now) }
+fn may_use_one(opening: u32, tree: &Tree, id: u64) -> bool
+    ensures { result ≡ may_use_all (record { opening = opening; rows = tree.now.rows }) (id ∷ []) }
 {
-    let below_root = 0 < path.len();
-    let stands = tree.find(path).is_some();
-    0 < opening && (below_root && stands)
+    may_use(opening, tree, id)
 }
 
-fn may_make_zone(opening: u32, tree: &Tree, path: &NPath) -> bool
-    ensures { result ≡ (nat_lt 0 opening && may_be_zone tree.now.rows path.now) }
+/// Returns why the table refuses the operation.
+fn refusal(tree: &Tree, op: &EditOp) -> Option<NameRefusal>
+    ensures { (opening : ℕ) → result ≡ first_cause (op_causes (record { opening = opening; rows = tree.now.rows }) op.now) }
 {
-    let place = may_be_zone(tree, path);
-    0 < opening && place
+    match op {
+        EditOp::Opened { .. } => None,
+        EditOp::Mkdir { path, .. } => to_be_added(tree, path),
+        EditOp::File { path, .. } => to_be_added(tree, path),
+        EditOp::Remove { path } => to_be_removed(tree, path),
+        EditOp::Zone { path, .. } => to_be_zone(tree, path),
+    }
+}
+
+/// Returns why a row can not be added at a path.
+fn to_be_added(tree: &Tree, path: &NPath) -> Option<NameRefusal>
+    ensures { result ≡ first_cause (to_be_made tree.now.rows path.now ++ row_causes tree.now.rows) }
+{
+    if let Some(why) = to_be_made(tree, path) {
+        return Some(why);
+    }
+    if has_most_rows(tree) {
+        return Some(NameRefusal::TooManyInodes);
+    }
+    None
+}
+
+/// Returns whether the encrypted key of a file fits the zone of its path.
+fn fits_key(tree: &Tree, op: &EditOp) -> bool
+    ensures { (opening : ℕ) → result ≡ fits_key (record { opening = opening; rows = tree.now.rows }) op.now }
+{
+    match op {
+        EditOp::Opened { .. } => true,
+        EditOp::Mkdir { .. } => true,
+        EditOp::File { path, edek, .. } => fits_zone(&key_of_zone(tree, path), edek),
+        EditOp::Remove { .. } => true,
+        EditOp::Zone { .. } => true,
+    }
 }
 
 /// Returns whether the id is one of the opening.
@@ -72,37 +164,8 @@ fn may_use(opening: u32, tree: &Tree, id: u64) -> bool
     given && free
 }
 
-fn is_dir_at(row: Option<Row>) -> bool
-    ensures { result ≡ is_dir_at row }
-{
-    match row {
-        None => false,
-        Some(row) => row.kind.is_dir(),
-    }
-}
-
-/// Returns whether a path is free, its directory exists, and there is room for one more row.
-fn may_be_made(tree: &Tree, path: &NPath) -> bool
-    ensures { result ≡ may_be_made tree.now.rows path.now }
-{
-    let housed = is_dir_at(tree.find_parent(path));
-    let free = tree.find(path).is_none();
-    let room = tree.rows() < MOST_ROWS;
-    housed && free && room
-}
-
-/// Returns whether a path is that of an empty directory in no zone.
-fn may_be_zone(tree: &Tree, path: &NPath) -> bool
-    ensures { result ≡ may_be_zone tree.now.rows path.now }
-{
-    let stands = is_dir_at(tree.find(path));
-    let empty = !tree.has_children(path);
-    let outside = tree.zone_of(path).is_none();
-    stands && empty && outside
-}
-
-/// Returns the key of the zone that a path is in.
-fn key_of_zone(tree: &Tree, path: &NPath) -> Option<KeyName>
+/// Returns the key of the zone that a path lies in.
+pub fn key_of_zone(tree: &Tree, path: &NPath) -> Option<KeyName>
     ensures { result ≡ key_of_zone tree.now.rows path.now }
 {
     // Each id is that of one row.
@@ -127,7 +190,7 @@ fn mark(kind: Kind) -> Option<KeyName>
 }
 
 /// Returns whether a file has an encrypted key exactly if it is in a zone, and then of the zone's key.
-fn fits_zone(key: &Option<KeyName>, edek: &Option<Edek>) -> bool
+pub fn fits_zone(key: &Option<KeyName>, edek: &Option<Edek>) -> bool
     ensures { result ≡ fits_zone key.now edek.now }
 {
     match (key, edek) {
