@@ -1,62 +1,42 @@
 -- Operations that the causes of a refusal let through are allowed.
-use Rattle.std.proofs.Common.{◌≡◌, ℕ, ◌+◌, ◌*◌, ◌^◌, ◌<◌, ◌≤◌, ◌&&◌, ◌||◌, Bool, true, false, cond, not, List, [], ◌∷◌, length, Option, Some, None, is_none, is_some, nat_lt, nat_le, refl, ap, sym, subst, ◌∙◌, arith}
+use Rattle.std.proofs.Common.{◌≡◌, ℕ, ◌+◌, ◌*◌, ◌^◌, ◌<◌, ◌≤◌, ◌&&◌, ◌||◌, Bool, true, false, cond, not, List, [], ◌∷◌, ◌++◌, Option, Some, None, is_none, nat_lt, nat_le, refl, ap, sym, subst, ◌∙◌, arith}
 use Rattle.std.specs.Prelude.{◌==◌}
 use Rattle.std.specs.List.{AllByRecursion}
 use Rattle.std.proofs.lemmas.Bool.Decides.{nat_tests}
 use Rattle.hk_base.specs.declared.names.Edek.{Edek}
-use Rattle.name_calls.specs.Paths.{parent, starts_reserved}
-use Rattle.inode_tree.specs.Rows.{Entry, entry_of, has_children, is_dir_at, row_at, zone_of}
+use Rattle.hk_base.specs.declared.names.KeyName.{KeyName}
+use Rattle.name_calls.specs.Paths.{starts_reserved}
+use Rattle.inode_tree.specs.Rows.{Entry, entry_of, has_children}
 use Rattle.edit_ops.specs.Records.{fits}
 use Rattle.edit_ops.specs.declared.ops.EditOp.{EditOp}
 use Rattle.edit_ops.specs.declared.ops.EditOp.TheVariants as op
 use Rattle.name_store.specs.Replay.{AllBelow}
 use Rattle.name_store.specs.Store.{is_opening}
-use Rattle.name_store.specs.Table.{NameTable, allows, fits_zone, is_among, is_fresh, is_of_opening, key_of_zone, may_be_made, may_be_removed, may_be_zone, may_use, uses}
+use Rattle.name_store.specs.Causes.{first_cause, has_most_rows, removal_causes, row_causes, to_be_made, zone_causes}
+use Rattle.name_store.specs.Table.{NameTable, allows, is_among, is_fresh, is_of_opening, may_use, may_use_all, uses}
+use Rattle.name_store.proofs.CauseLemmas.{allows-it, clear, join, none-of-both, none-of-join}
 use Rattle.name_core.specs.declared.asks.OpenAsk.{OpenAsk}
 use Rattle.name_calls.specs.declared.calls.Ask.{Ask}
 use Rattle.name_calls.specs.declared.calls.Ask.TheVariants as ask
 use Rattle.name_calls.specs.declared.calls.NameCall.{NameCall}
 use Rattle.name_calls.specs.declared.calls.NameCall.TheVariants as call
-use Rattle.name_calls.specs.declared.calls.NameRefusal.{NameRefusal}
 use Rattle.name_calls.specs.declared.calls.NameRefusal.TheVariants as refusal
 use Rattle.name_core.specs.State.{AreFree, AreRecent, IdsFit, NameState, is_full, is_spent, next_id}
 use Rattle.name_core.specs.Asks.{closed, finish_causes, finish_op, is_other_key, is_other_zone, open_ask, without}
-use Rattle.name_core.specs.Calls.{causes, deed, delete_causes, first_cause, is_root, mkdir_causes, path_causes}
+use Rattle.name_core.specs.Calls.{causes, deed, delete_causes, mkdir_causes, path_causes}
 use Rattle.name_core.specs.Steps.{IsBehind, MayWrite}
 use Rattle.name_core.proofs.AskLemmas.{each-map, each-without, fit-without, open-holds, open-id, without-apart}
 use Rattle.name_core.proofs.RowLemmas.{id-free, room-left}
 
--- a cause that doesn't hold, and those behind it
-pub clear : (b : Bool) (why : NameRefusal) (rest : Option NameRefusal) → cond b (Some why) rest ≡ None → (b ≡ false) × (rest ≡ None)
-clear true why rest h = absurd cc
-clear false why rest h = (refl, h)
-
-both : (a b : Bool) → a ≡ true → b ≡ true → (a && b) ≡ true
-both a b h g = ap (λ x. x && b) h ∙ g
-
 yes : (b : Bool) → not b ≡ false → b ≡ true
 yes true h = refl
 yes false h = absurd cc
-
-none : {X : Type 0} (o : Option X) → is_some o ≡ false → is_none o ≡ true
-none None h = refl
-none (Some x) h = absurd cc
-
-there : {X : Type 0} (o : Option X) → is_none o ≡ false → is_some o ≡ true
-there None h = absurd cc
-there (Some x) h = refl
 
 le-yes : (a b : ℕ) → a ≤ b → nat_le a b ≡ true
 le-yes a b h = grind (arith, nat_tests, h)
 
 lt-yes : (a b : ℕ) → a < b → nat_lt a b ≡ true
 lt-yes a b h = grind (arith, nat_tests, h)
-
-lt-not-le : (a b : ℕ) → nat_le b a ≡ false → nat_lt a b ≡ true
-lt-not-le a b h = grind (arith, nat_tests, h)
-
-positive : (n : ℕ) → (n == 0) ≡ false → nat_lt 0 n ≡ true
-positive n h = grind (arith, nat_tests, h)
 
 differ : (a b : ℕ) → a < b → (a == b) ≡ false
 differ a b h = grind (arith, nat_tests, h)
@@ -66,7 +46,7 @@ unlike a b h = grind (arith, nat_tests, h)
 
 of-opening : (o id n : ℕ) → o * 2 ^ 32 ≤ id → id < o * 2 ^ 32 + n → n ≤ 2 ^ 32 → is_of_opening o id ≡ true
 of-opening o id n low high few =
-    both (nat_le (o * 2 ^ 32) id) (nat_lt id ((o + 1) * 2 ^ 32)) (le-yes (o * 2 ^ 32) id low) (lt-yes id ((o + 1) * 2 ^ 32) (omega (arith, low, high, few)))
+    join (nat_le (o * 2 ^ 32) id) (nat_lt id ((o + 1) * 2 ^ 32)) (le-yes (o * 2 ^ 32) id low) (lt-yes id ((o + 1) * 2 ^ 32) (omega (arith, low, high, few)))
 
 pub not-reserved : (p : List (List ℕ)) → first_cause (path_causes p) ≡ None → starts_reserved p ≡ false
 not-reserved p h = (clear (starts_reserved p) refusal.BadPath None h).0
@@ -76,50 +56,60 @@ not-spent s h = grind (arith, nat_tests, h)
 
 -- what each is allowed by
 
--- what the causes of a path that is to be made rule out
-pub record IsMakeable (rows : List Entry) (p : List (List ℕ)) : Type 0 where
-  pub house : is_dir_at (row_at rows (parent p)) ≡ true
-  pub absent : is_none (row_at rows p) ≡ true
-
-pub makeable : (rows : List Entry) (p : List (List ℕ)) (rest : Option NameRefusal)
-    → cond (is_none (row_at rows (parent p))) (Some refusal.NoSuchPath) (cond (not (is_dir_at (row_at rows (parent p)))) (Some refusal.NotADirectory) (cond (is_some (row_at rows p)) (Some refusal.Exists) rest)) ≡ None
-    → IsMakeable rows p × (rest ≡ None)
-makeable rows p rest h =
-    let a = clear (is_none (row_at rows (parent p))) refusal.NoSuchPath _ h in
-    let b = clear (not (is_dir_at (row_at rows (parent p)))) refusal.NotADirectory _ a.1 in
-    let c = clear (is_some (row_at rows p)) refusal.Exists _ b.1 in
-    (record { house = yes _ b.0; absent = none (row_at rows p) c.0 }, c.1)
-
-made : (t : NameTable) (p : List (List ℕ)) → IsMakeable t.rows p → nat_le 1000000 (length t.rows) ≡ false → may_be_made t.rows p ≡ true
-made t p m room =
-    both (is_dir_at (row_at t.rows (parent p)) && is_none (row_at t.rows p)) (nat_lt (length t.rows) 1000000)
-    (both (is_dir_at (row_at t.rows (parent p))) (is_none (row_at t.rows p)) m.house m.absent) (lt-not-le (length t.rows) 1000000 room)
-
-usable : (t : NameTable) (id n : ℕ) → t.opening * 2 ^ 32 ≤ id → id < t.opening * 2 ^ 32 + n → n ≤ 2 ^ 32 → entry_of t.rows id ≡ None → may_use t id ≡ true
+usable : (t : NameTable) (id n : ℕ) → t.opening * 2 ^ 32 ≤ id → id < t.opening * 2 ^ 32 + n → n ≤ 2 ^ 32 → entry_of t.rows id ≡ None → may_use_all t (id ∷ []) ≡ true
 usable t id n low high few free =
-    both (is_of_opening t.opening id) (is_none (entry_of t.rows id)) (of-opening t.opening id n low high few) (ap is_none free)
+    join (may_use t id) true (join (is_of_opening t.opening id) (is_none (entry_of t.rows id)) (of-opening t.opening id n low high few) (ap is_none free)) refl
 
 either-not : (a b : Bool) → (a || b) ≡ false → a ≡ false
 either-not true b h = absurd cc
 either-not false b h = refl
 
+-- what a mkdir and a finish of a file are refused for holds what the table refuses them for
+
+pub addable : (s : NameState) (p : List (List ℕ)) → first_cause (mkdir_causes s p) ≡ None → first_cause (to_be_made s.table.rows p ++ row_causes s.table.rows) ≡ None
+addable s p h =
+    let m = none-of-both (to_be_made s.table.rows p) ((is_full s, refusal.TooManyInodes) ∷ []) h in
+    let room = either-not (has_most_rows s.table.rows) (is_spent s) (clear (is_full s) refusal.TooManyInodes _ m.1).0 in
+    none-of-join (to_be_made s.table.rows p) (row_causes s.table.rows) m.0 (ap (λ (b : Bool). cond b (Some refusal.TooManyInodes) None) room)
+
 pub allowed-mkdir : (s : NameState) (p : List (List ℕ)) → 0 < s.table.opening → IdsFit s.table.rows s.asks (next_id s) → first_cause (mkdir_causes s p) ≡ None
     → allows s.table (op.Mkdir (next_id s) p) ≡ true
 allowed-mkdir s p opened ids h =
-    let m = makeable s.table.rows p _ h in
-    let full : is_full s ≡ false = (clear (is_full s) refusal.TooManyInodes _ m.1).0 in
     let left : s.next < 2 ^ 32 = room-left s p h in
-    both (nat_lt 0 s.table.opening && may_use s.table (next_id s)) (may_be_made s.table.rows p)
-    (both (nat_lt 0 s.table.opening) (may_use s.table (next_id s)) (lt-yes 0 s.table.opening opened)
-    (usable s.table (next_id s) (s.next + 1) (omega arith) (omega arith) (omega (arith, left)) (id-free s.table.rows (next_id s) ids.of_rows)))
-    (made s.table p m.0 (either-not (nat_le 1000000 (length s.table.rows)) (is_spent s) full))
+    allows-it s.table (op.Mkdir (next_id s) p) refl (record {
+      opened = lt-yes 0 s.table.opening opened;
+      ids = usable s.table (next_id s) (s.next + 1) (omega arith) (omega arith) (omega (arith, left)) (id-free s.table.rows (next_id s) ids.of_rows);
+      free = addable s p h;
+      fits = refl;
+    })
 
 pub allowed-remove : (s : NameState) (p : List (List ℕ)) (recursive : Bool) → 0 < s.table.opening → first_cause (delete_causes s.table.rows p recursive) ≡ None → allows s.table (op.Remove p) ≡ true
 allowed-remove s p recursive opened h =
-    let a = clear (is_root p) refusal.RootOrInside _ h in
-    let b = clear (is_none (row_at s.table.rows p)) refusal.NoSuchPath _ a.1 in
-    both (nat_lt 0 s.table.opening) (may_be_removed s.table.rows p) (lt-yes 0 s.table.opening opened)
-    (both (nat_lt 0 (length p)) (is_some (row_at s.table.rows p)) (positive (length p) a.0) (there (row_at s.table.rows p) b.0))
+    allows-it s.table (op.Remove p) refl (record {
+      opened = lt-yes 0 s.table.opening opened;
+      ids = refl;
+      free = (none-of-both (removal_causes s.table.rows p) ((not recursive && has_children s.table.rows p, refusal.NotEmpty) ∷ []) h).0;
+      fits = refl;
+    })
+
+-- what a finish that nothing stops may do
+
+pub record MayFinish (rows : List Entry) (a : OpenAsk) (edek : Option Edek) (p : List (List ℕ)) : Type 0 where
+  pub made : first_cause (to_be_made rows p) ≡ None
+  pub same_zone : is_other_zone rows a ≡ false
+  pub same_key : is_other_key rows p edek ≡ false
+  pub room : first_cause (row_causes rows) ≡ None
+
+pub may-make-file : (rows : List Entry) (a : OpenAsk) (edek : Option Edek) (p : List (List ℕ)) → first_cause (finish_causes rows a edek (ask.Create p)) ≡ None → MayFinish rows a edek p
+may-make-file rows a edek p h =
+    let r = clear (starts_reserved p) refusal.BadPath _ h in
+    let m = none-of-both (to_be_made rows p) ((is_other_zone rows a, refusal.ZoneChanged) ∷ (is_other_key rows p edek, refusal.ZoneChanged) ∷ row_causes rows) r.1 in
+    let z = clear (is_other_zone rows a) refusal.ZoneChanged _ m.1 in
+    let e = clear (is_other_key rows p edek) refusal.ZoneChanged _ z.1 in
+    record { made = m.0; same_zone = z.0; same_key = e.0; room = e.1 }
+
+pub may-make-zone : (rows : List Entry) (a : OpenAsk) (edek : Option Edek) (p : List (List ℕ)) (key : KeyName) → first_cause (finish_causes rows a edek (ask.Zone p key)) ≡ None → first_cause (zone_causes rows p) ≡ None
+may-make-zone rows a edek p key h = (none-of-both (zone_causes rows p) ((is_other_zone rows a, refusal.ZoneChanged) ∷ []) (clear (starts_reserved p) refusal.BadPath _ h).1).0
 
 pub allowed-finish : (s : NameState) (id : ℕ) (a : OpenAsk) (edek : Option Edek) → 0 < s.table.opening → s.next ≤ 2 ^ 32 → IdsFit s.table.rows s.asks (next_id s)
     → AreRecent s.table.opening s.asks → open_ask s.asks id ≡ Some a → first_cause (finish_causes s.table.rows a edek a.ask) ≡ None → allows s.table (finish_op a.id edek a.ask) ≡ true
@@ -136,25 +126,15 @@ allowed-finish s id a edek opened few ids recent stands free = go a.ask free
 
     go : (k : Ask) → first_cause (finish_causes s.table.rows a edek k) ≡ None → allows s.table (finish_op a.id edek k) ≡ true
     go (ask.Create p) h =
-        let r = clear (starts_reserved p) refusal.BadPath _ h in
-        let m = makeable s.table.rows p _ r.1 in
-        let z = clear (is_other_zone s.table.rows a) refusal.ZoneChanged _ m.1 in
-        let e = clear (is_other_key s.table.rows p edek) refusal.ZoneChanged _ z.1 in
-        let n = clear (nat_le 1000000 (length s.table.rows)) refusal.TooManyInodes _ e.1 in
-        both (nat_lt 0 s.table.opening && may_use s.table a.id && may_be_made s.table.rows p) (fits_zone (key_of_zone s.table.rows p) edek)
-        (both (nat_lt 0 s.table.opening && may_use s.table a.id) (may_be_made s.table.rows p)
-        (both (nat_lt 0 s.table.opening) (may_use s.table a.id) (lt-yes 0 s.table.opening opened) (usable s.table a.id s.next low high few unused))
-        (made s.table p m.0 n.0))
-        (yes _ e.0)
+        let m = may-make-file s.table.rows a edek p h in
+        allows-it s.table (op.File a.id p edek) refl (record {
+          opened = lt-yes 0 s.table.opening opened;
+          ids = usable s.table a.id s.next low high few unused;
+          free = none-of-join (to_be_made s.table.rows p) (row_causes s.table.rows) m.made m.room;
+          fits = yes _ m.same_key;
+        })
     go (ask.Zone p key) h =
-        let r = clear (starts_reserved p) refusal.BadPath _ h in
-        let a1 = clear (is_none (row_at s.table.rows p)) refusal.NoSuchPath _ r.1 in
-        let a2 = clear (not (is_dir_at (row_at s.table.rows p))) refusal.NotADirectory _ a1.1 in
-        let a3 = clear (has_children s.table.rows p) refusal.NotEmpty _ a2.1 in
-        let a4 = clear (is_some (zone_of s.table.rows p)) refusal.AlreadyInZone _ a3.1 in
-        both (nat_lt 0 s.table.opening) (may_be_zone s.table.rows p) (lt-yes 0 s.table.opening opened)
-        (both (is_dir_at (row_at s.table.rows p) && not (has_children s.table.rows p)) (is_none (zone_of s.table.rows p))
-        (both (is_dir_at (row_at s.table.rows p)) (not (has_children s.table.rows p)) (yes _ a2.0) (ap not a3.0)) (none (zone_of s.table.rows p) a4.0))
+        allows-it s.table (op.Zone p key) refl (record { opened = lt-yes 0 s.table.opening opened; ids = refl; free = may-make-zone s.table.rows a edek p key h; fits = refl })
 
 -- what a call logs is allowed
 pub allowed-call : (s : NameState) (c : NameCall) (o : EditOp) → 0 < s.table.opening → IdsFit s.table.rows s.asks (next_id s) → first_cause (causes s c) ≡ None → (deed s c).logs ≡ Some o

@@ -1,11 +1,11 @@
 -- The laws of finishes: the files that they make, ids, and that an ask is finished once.
-use Rattle.std.proofs.Common.{◌≡◌, ℕ, ◌<◌, ◌≤◌, ◌⊎◌, inl, inr, Bool, true, false, cond, not, is_none, List, [], ◌∷◌, ◌++◌, Option, Some, None, Result, Ok, Err, refl, sym, ap, ◌∙◌, subst, arith}
+use Rattle.std.proofs.Common.{◌≡◌, ℕ, ◌<◌, ◌≤◌, ◌⊎◌, inl, inr, Bool, true, false, cond, not, List, [], ◌∷◌, ◌++◌, Option, Some, None, Result, Ok, Err, refl, sym, ap, ◌∙◌, subst, arith}
 use Rattle.std.specs.Prelude.{◌==◌}
 use Rattle.std.specs.Option.{option_map}
 use Rattle.std.specs.List.{AllByRecursion}
 use Rattle.std.proofs.lemmas.Bool.Decides.{nat_tests}
 use Rattle.hk_base.specs.declared.names.Edek.{Edek}
-use Rattle.name_calls.specs.Paths.{parent, starts_reserved}
+use Rattle.name_calls.specs.Paths.{parent}
 use Rattle.inode_tree.specs.Rows.{Entry, put, row_at, same_id, zone_id}
 use Rattle.edit_ops.specs.declared.ops.EditOp.{EditOp}
 use Rattle.edit_ops.specs.declared.ops.EditOp.TheVariants as op
@@ -22,12 +22,13 @@ use Rattle.name_calls.specs.declared.calls.NameReply.TheVariants.{Refused}
 use Rattle.name_calls.specs.declared.calls.NameRefusal.{NameRefusal}
 use Rattle.name_calls.specs.declared.calls.NameRefusal.TheVariants as refusal
 use Rattle.name_core.specs.State.{IsRising, NameService, NameState, next_id, settled}
-use Rattle.name_core.specs.Asks.{Finishes, ask_gone, closed, finish_causes, finish_op, finished, is_other_zone, open_ask, opened, path_asked, unless_stopped, without}
+use Rattle.name_core.specs.Asks.{Finishes, ask_gone, closed, finish_causes, finish_op, finished, open_ask, opened, path_asked, unless_stopped, without}
 use Rattle.name_core.specs.Calls.{NameActs, Plain, NoRoom, causes, deed, done_with, early_causes, first_cause, info_reply, numbered, path_of_zone, shown_at, unless_refused}
 use Rattle.name_core.specs.Service.{Changes, Concludes, FinishServes, FinishServesAt, FinishServesOpen, Serves, ServesBy, ServesUnless, is_change}
 use Rattle.name_core.specs.Steps.{Keeps}
 use Rattle.name_core.specs.Laws.{AnyFault, IsStep, Called, Asked, Finished, Reaches, FileIsTold, FinishedForGood, FinishedOnce, IdsStayBelow, OthersStayByFile, ZoneIsAsAsked}
-use Rattle.name_core.proofs.AllowedLemmas.{behind-finish, behind-make, behind-remove, clear, makeable}
+use Rattle.name_store.proofs.CauseLemmas.{makeable}
+use Rattle.name_core.proofs.AllowedLemmas.{behind-finish, behind-make, behind-remove, may-make-file}
 use Rattle.name_core.proofs.AskLemmas.{ask-room, open-holds, open-id, without-apart}
 use Rattle.name_core.proofs.KeepLemmas.{keeps-asked, keeps-closed, keeps-done, keeps-pending, keeps-settled, next-done, settled-next}
 use Rattle.name_core.proofs.LawLemmas.{other, row-new, row-other, told-by, zone-above, zone-same}
@@ -64,20 +65,14 @@ record MadeBy (s : NameState) (a : OpenAsk) (p : List (List ℕ)) (edek : Option
   zone : zone_id s.table.rows p ≡ a.zone
   rows : s'.table.rows ≡ put (new_file a.id p edek) s.table.rows
 
-absent-of : {X : Type 0} (o : Option X) → is_none o ≡ true → o ≡ None
-absent-of None h = refl
-absent-of (Some x) h = absurd cc
-
 made-by : (s : NameState) (a : OpenAsk) (p : List (List ℕ)) (edek : Option Edek) (s' : NameState) → a.ask ≡ ask.Create p → Finishes s a edek (Ok tt) s' → MadeBy s a p edek s'
 made-by s a p edek s' asks finishes =
     let done = finished-by s a edek s' finishes in
     let free = subst (λ (k : Ask). first_cause (finish_causes s.table.rows a edek k) ≡ None) asks done.0 in
-    let r = clear (starts_reserved p) refusal.BadPath _ free in
-    let m = makeable s.table.rows p _ r.1 in
-    let z = clear (is_other_zone s.table.rows a) refusal.ZoneChanged _ m.1 in
+    let m = may-make-file s.table.rows a edek p free in
     record {
-      absent = absent-of (row_at s.table.rows p) m.0.absent;
-      zone = ap (λ (k : Ask). zone_id s.table.rows (path_asked k)) (sym asks) ∙ same-id-is (zone_id s.table.rows (path_asked a.ask)) a.zone z.0;
+      absent = (makeable s.table.rows p m.made).absent;
+      zone = ap (λ (k : Ask). zone_id s.table.rows (path_asked k)) (sym asks) ∙ same-id-is (zone_id s.table.rows (path_asked a.ask)) a.zone m.same_zone;
       rows = ap (λ (t : NameState). t.table.rows) done.1 ∙ ap (λ (k : Ask). (after_table s.table (finish_op a.id edek k)).rows) asks;
     }
 

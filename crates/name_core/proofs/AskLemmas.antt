@@ -1,5 +1,5 @@
 -- Open asks in the order of their ids: how they are kept under these, and what holds of those that stay.
-use Rattle.std.proofs.Common.{◌≡◌, ℕ, ◌<◌, ◌^◌, nat_le, Bool, true, false, cond, not, List, [], ◌∷◌, ◌++◌, Option, Some, None, is_none, is_some, Ordering, Greater, refl, ap, sym, subst, ◌∙◌, arith}
+use Rattle.std.proofs.Common.{◌≡◌, ℕ, ◌<◌, ◌^◌, nat_le, Bool, true, false, cond, not, List, [], ◌∷◌, ◌++◌, Option, Some, None, Ordering, Greater, refl, ap, sym, subst, ◌∙◌, arith}
 use Rattle.std.specs.Prelude.{◌==◌}
 use Rattle.std.specs.BTreeMap.{insert_entry, is_at}
 use Rattle.std.specs.List.{All, AllByRecursion}
@@ -9,19 +9,20 @@ use Rattle.std.specs.Ordering.{is_eq, match_ordering, nat_cmp}
 use Rattle.std.proofs.lemmas.Bool.Decides.{nat_tests}
 use Rattle.std.proofs.lemmas.List.Elements.{All-head, All-tail, All-cons, All-nil}
 use Rattle.inode_tree.specs.declared.rows.Kind.{Kind}
-use Rattle.inode_tree.specs.declared.rows.Row.{Row}
 use Rattle.name_calls.specs.Paths.{is_before, starts_reserved}
-use Rattle.inode_tree.specs.Rows.{Entry, IsRows, entry_of, has_children, is_dir_at, mark_of, put, row_at, set_kind, with_kind, zone_id, zone_of}
+use Rattle.inode_tree.specs.Rows.{Entry, entry_of, mark_of, put, set_kind, with_kind, zone_id, zone_of}
 use Rattle.name_core.specs.declared.asks.OpenAsk.{OpenAsk}
-use Rattle.name_calls.specs.declared.calls.NameRefusal.TheVariants.{BadPath, NoSuchPath, NotADirectory, NotEmpty, NotSuperuser, AlreadyInZone, TooManyInodes}
+use Rattle.name_calls.specs.declared.calls.NameRefusal.TheVariants.{BadPath, NotSuperuser, TooManyInodes}
 use Rattle.name_calls.specs.declared.calls.Ask.{Ask}
 use Rattle.name_calls.specs.declared.calls.Ask.TheVariants as ask
+use Rattle.name_store.specs.Causes.{first_cause, zone_causes}
 use Rattle.name_store.specs.Table.{key_of_zone}
-use Rattle.name_core.specs.State.{IdsFit, IsRising, NameState}
+use Rattle.name_store.proofs.CauseLemmas.{clear, none-of-both}
+use Rattle.name_core.specs.State.{IdsFit, IsRising, NameState, is_spent}
 use Rattle.name_core.specs.Asks.{ask_causes, open_ask, without}
-use Rattle.name_core.specs.Calls.{first_cause, is_superuser, mkdir_causes}
+use Rattle.name_core.specs.Calls.{is_superuser}
 use Rattle.name_core.specs.Steps.{AreKeyed}
-use Rattle.name_core.proofs.RowLemmas.{BelowId, id-free, room-left, zone-row}
+use Rattle.name_core.proofs.RowLemmas.{BelowId, id-free, room-left}
 
 -- what holds of each ask
 
@@ -176,15 +177,6 @@ kind-below m n kind (x ∷ es) h =
     All-cons (BelowId m) (with_kind n kind x) (set_kind es n kind) (subst (λ (i : ℕ). i < m) (sym (kind-id n kind x)) (All-head (BelowId m) x es h))
     (kind-below m n kind es (All-tail (BelowId m) x es h))
 
--- the row that has the id of a path's zone is the zone's
-pub key-of-row : (rows : List Entry) (p : List (List ℕ)) (id : ℕ) → IsRows rows → zone_id rows p ≡ Some id
-    → option_and_then (λ (r : Row). mark_of r.kind) (option_map (λ e. e.row) (entry_of rows id)) ≡ key_of_zone rows p
-key-of-row rows p id good h = ap (λ (o : Option Entry). option_and_then (λ (r : Row). mark_of r.kind) (option_map (λ e. e.row) o)) (zone-row rows p id good h) ∙ go (zone_of rows p)
-  where
-    go : (o : Option Entry) → option_and_then (λ (r : Row). mark_of r.kind) (option_map (λ e. e.row) o) ≡ option_and_then (λ e. mark_of e.row.kind) o
-    go None = refl
-    go (Some e) = refl
-
 pub no-key : (rows : List Entry) (p : List (List ℕ)) → zone_id rows p ≡ None → key_of_zone rows p ≡ None
 no-key rows p h = go (zone_of rows p) h
   where
@@ -239,26 +231,13 @@ open-id (a ∷ asks) id q h = go (a.id == id) refl (open-id asks id q) h
 
 -- an ask that is accepted has an id left for it
 
-spent-not : (n : ℕ) (b : Bool) → nat_le (2 ^ 32) n ≡ b → cond b (Some TooManyInodes) None ≡ None → n < 2 ^ 32
-spent-not n true is h = absurd cc
-spent-not n false is h = grind (arith, nat_tests, is)
+not-last : (n : ℕ) → nat_le (2 ^ 32) n ≡ false → n < 2 ^ 32
+not-last n h = grind (arith, nat_tests, h)
 
 pub ask-room : (s : NameState) (user : List ℕ) (a : Ask) → first_cause (ask_causes s user a) ≡ None → s.next < 2 ^ 32
-ask-room s user (ask.Create p) h = go (starts_reserved p) h
-  where
-    go : (b : Bool) → first_cause ((b, BadPath) ∷ mkdir_causes s p) ≡ None → s.next < 2 ^ 32
-    go true h = absurd cc
-    go false h = room-left s p h
+ask-room s user (ask.Create p) h = room-left s p (clear (starts_reserved p) BadPath _ h).1
 ask-room s user (ask.Zone p key) h =
-    go (starts_reserved p) (is_superuser user) (is_none (row_at s.table.rows p)) (not (is_dir_at (row_at s.table.rows p))) (has_children s.table.rows p) (is_some (zone_of s.table.rows p)) h
-  where
-    go : (v u a b c d : Bool)
-        → first_cause ((v, BadPath) ∷ (not u, NotSuperuser) ∷ (a, NoSuchPath) ∷ (b, NotADirectory) ∷ (c, NotEmpty) ∷ (d, AlreadyInZone) ∷ (nat_le (2 ^ 32) s.next, TooManyInodes) ∷ []) ≡ None
-        → s.next < 2 ^ 32
-    go true u a b c d h = absurd cc
-    go false false a b c d h = absurd cc
-    go false true true b c d h = absurd cc
-    go false true false true c d h = absurd cc
-    go false true false false true d h = absurd cc
-    go false true false false false true h = absurd cc
-    go false true false false false false h = spent-not s.next (nat_le (2 ^ 32) s.next) refl h
+    let r = clear (starts_reserved p) BadPath _ h in
+    let u = clear (not (is_superuser user)) NotSuperuser _ r.1 in
+    let z = none-of-both (zone_causes s.table.rows p) ((is_spent s, TooManyInodes) ∷ []) u.1 in
+    not-last s.next (clear (is_spent s) TooManyInodes None z.1).0

@@ -12,7 +12,7 @@ use Rattle.name_store.specs.Replay.{AllBelow}
 use Rattle.name_store.specs.Store.{IsPending, IsStore, is_opening}
 use Rattle.name_store.specs.Table.{NameTable, after_table, id_of, is_among, new_directory, new_file, settled_table, uses}
 use Rattle.name_core.specs.declared.asks.OpenAsk.{OpenAsk}
-use Rattle.name_core.specs.State.{AreFree, AreRecent, IdsFit, IsNames, IsWaiting, NameService, NameState, RunningNames, next_id, service_of, settled}
+use Rattle.name_core.specs.State.{AreFree, AreRecent, IdsFit, IsNames, IsWaiting, NameService, NameState, RunningNames, next_id, service_of, settled, took}
 use Rattle.name_core.specs.Asks.{closed}
 use Rattle.name_core.specs.Calls.{done_with}
 use Rattle.name_core.specs.Steps.{IsApart, IsBehind, Keeps}
@@ -116,6 +116,10 @@ module _ (s left : NameState) (o : EditOp) (may : IsBehind s o left) where
   }
 
 -- the pending operation was settled
+
+-- one that was kept took effect
+pub settled-took : (s : NameState) (o : EditOp) → settled true (record { names = s; pending = Some o }) ≡ took s o
+settled-took s o = refl
 
 pub settled-opening : (kept : Bool) (pending : Option EditOp) (s : NameState) (t : NameTable) → IfSome pending (IsApart s) → (settled_table kept pending t).opening ≡ t.opening
 settled-opening kept None s t h = refl

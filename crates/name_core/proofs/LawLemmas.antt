@@ -1,20 +1,22 @@
 -- The laws of directories that are made, and of ids.
-use Rattle.std.proofs.Common.{◌≡◌, ℕ, ◌<◌, ◌⊎◌, inl, inr, Bool, true, false, cond, not, ◌&&◌, is_none, is_some, List, [], ◌∷◌, Option, Some, None, Ok, Err, refl, sym, ap, ◌∙◌, subst, arith}
+use Rattle.std.proofs.Common.{◌≡◌, ℕ, ◌<◌, ◌⊎◌, inl, inr, Bool, true, false, cond, ◌&&◌, is_none, List, [], ◌∷◌, Option, Some, None, Ok, Err, refl, sym, ap, ◌∙◌, subst, arith}
 use Rattle.std.specs.Option.{option_map}
 use Rattle.std.specs.Str.{bytes_eq}
 use Rattle.inode_tree.specs.declared.rows.Row.{Row}
 use Rattle.name_calls.specs.Paths.{is_before, is_prefix, parent, same_path}
-use Rattle.inode_tree.specs.Rows.{Entry, is_dir_at, is_marked, is_zone_over, longer, put, row_at, zone_of}
+use Rattle.inode_tree.specs.Rows.{Entry, is_marked, is_zone_over, longer, put, row_at, zone_of}
 use Rattle.inode_tree.proofs.Seeks.{same-is, same-itself}
 use Rattle.name_calls.specs.declared.calls.NameCall.TheVariants as call
 use Rattle.name_calls.specs.declared.calls.NameReply.{NameReply}
 use Rattle.name_calls.specs.declared.calls.NameReply.TheVariants.{Done, Refused}
 use Rattle.name_calls.specs.declared.calls.NameRefusal.{NameRefusal}
-use Rattle.name_calls.specs.declared.calls.NameRefusal.TheVariants.{NoSuchPath, NotADirectory, Exists, TooManyInodes, NoMemory}
+use Rattle.name_calls.specs.declared.calls.NameRefusal.TheVariants.{NoSuchPath, TooManyInodes, NoMemory}
 use Rattle.edit_ops.specs.declared.ops.EditOp.TheVariants as op
+use Rattle.name_store.specs.Causes.{first_cause, to_be_made}
 use Rattle.name_store.specs.Table.{new_directory}
+use Rattle.name_store.proofs.CauseLemmas.{makeable, none-of-both}
 use Rattle.name_core.specs.State.{NameState, is_full, next_id}
-use Rattle.name_core.specs.Calls.{NameActs, Plain, NoRoom, done_with, first_cause, info_reply, mkdir_causes, numbered, path_of_zone, shown_at, unless_refused}
+use Rattle.name_core.specs.Calls.{NameActs, Plain, NoRoom, done_with, info_reply, mkdir_causes, numbered, path_of_zone, shown_at, unless_refused}
 use Rattle.name_core.specs.Asks.{ask_causes, asked, note_of, opened, unless_not_asked}
 use Rattle.name_core.specs.Laws.{AskIdsRise, IdsRise, MadeIsTold, OthersStay}
 use Rattle.name_calls.specs.declared.calls.AskNote.{AskNote}
@@ -32,18 +34,8 @@ done-by s p s' (Plain, may, is) = go (first_cause (mkdir_causes s p)) is
     go None is = (refl, ap (λ o. o.state) is)
     go (Some why) is = let f : Done ≡ Refused why = ap (λ o. o.told) is in absurd cc
 
-pub none-of : (o : Option Row) → is_some o ≡ false → o ≡ None
-none-of None h = refl
-none-of (Some row) h = absurd cc
-
 was-absent : (s : NameState) (p : List (List ℕ)) → first_cause (mkdir_causes s p) ≡ None → row_at s.table.rows p ≡ None
-was-absent s p h = none-of (row_at s.table.rows p) (go (is_none (row_at s.table.rows (parent p))) (not (is_dir_at (row_at s.table.rows (parent p)))) (is_some (row_at s.table.rows p)) (is_full s) h)
-  where
-    go : (a b c d : Bool) → first_cause ((a, NoSuchPath) ∷ (b, NotADirectory) ∷ (c, Exists) ∷ (d, TooManyInodes) ∷ []) ≡ None → c ≡ false
-    go true b c d h = absurd cc
-    go false true c d h = absurd cc
-    go false false true d h = absurd cc
-    go false false false d h = refl
+was-absent s p h = (makeable s.table.rows p (none-of-both (to_be_made s.table.rows p) ((is_full s, TooManyInodes) ∷ []) h).0).absent
 
 -- the rows with one more
 

@@ -1,14 +1,17 @@
 -- Rows with ids below a bound, and the row of the zone that a path lies in.
-use Rattle.std.proofs.Common.{◌≡◌, ℕ, ◌<◌, Bool, true, false, cond, not, ◌||◌, nat_lt, nat_le, ◌==◌, ◌^◌, is_none, is_some, List, [], ◌∷◌, length, Option, Some, None, IsSome, refl, sym, ap, ◌∙◌, subst, arith}
+use Rattle.std.proofs.Common.{◌≡◌, ℕ, ◌<◌, Bool, true, false, cond, ◌||◌, nat_lt, nat_le, ◌==◌, ◌^◌, List, [], ◌∷◌, length, Option, Some, None, IsSome, refl, sym, ap, ◌∙◌, subst, arith}
 use Rattle.std.specs.Bool.{⊤}
 use Rattle.std.specs.Option.{option_map}
 use Rattle.std.specs.List.{All}
+use Rattle.std.proofs.lemmas.Bool.Decides.{nat_tests}
 use Rattle.std.proofs.lemmas.List.Elements.{All-head, All-tail, All-cons}
-use Rattle.name_calls.specs.Paths.{is_before, parent}
-use Rattle.inode_tree.specs.Rows.{Entry, IsRows, entry_of, is_zone_over, row_at, longer, put, zone_id, zone_of, is_dir_at}
-use Rattle.name_calls.specs.declared.calls.NameRefusal.TheVariants.{NoSuchPath, NotADirectory, Exists, TooManyInodes}
-use Rattle.name_core.specs.State.{NameState}
-use Rattle.name_core.specs.Calls.{first_cause, mkdir_causes}
+use Rattle.name_calls.specs.Paths.{is_before}
+use Rattle.inode_tree.specs.Rows.{Entry, IsRows, entry_of, is_zone_over, longer, put, zone_id, zone_of}
+use Rattle.name_calls.specs.declared.calls.NameRefusal.TheVariants.{TooManyInodes}
+use Rattle.name_store.specs.Causes.{first_cause, has_most_rows, to_be_made}
+use Rattle.name_store.proofs.CauseLemmas.{clear, none-of-both}
+use Rattle.name_core.specs.State.{NameState, is_full}
+use Rattle.name_core.specs.Calls.{mkdir_causes}
 
 abbrev pub BelowId : ℕ → Entry → Type 0
 BelowId n e = e.row.id < n
@@ -78,17 +81,12 @@ pub zone-path : (rows : List Entry) (p : List (List ℕ)) (id : ℕ) → IsRows 
     → option_map (λ e. e.path) (entry_of rows id) ≡ option_map (λ e. e.path) (zone_of rows p)
 zone-path rows p id good h = ap (option_map (λ e. e.path)) (zone-row rows p id good h)
 
-below : (n : ℕ) (b : Bool) → nat_le (2 ^ 32) n ≡ b → cond b (Some TooManyInodes) None ≡ None → n < 2 ^ 32
-below n true is h = absurd cc
-below n false is h = grind (arith, is)
+not-all : (n : ℕ) (b : Bool) → (b || nat_le (2 ^ 32) n) ≡ false → n < 2 ^ 32
+not-all n true h = absurd cc
+not-all n false h = grind (arith, nat_tests, h)
 
 -- a path that may be made has an id left for it
 pub room-left : (s : NameState) (p : List (List ℕ)) → first_cause (mkdir_causes s p) ≡ None → s.next < 2 ^ 32
-room-left s p h = go (is_none (row_at s.table.rows (parent p))) (not (is_dir_at (row_at s.table.rows (parent p)))) (is_some (row_at s.table.rows p)) (nat_le 1000000 (length s.table.rows)) s.next h
-  where
-    go : (a b c d : Bool) (n : ℕ) → first_cause ((a, NoSuchPath) ∷ (b, NotADirectory) ∷ (c, Exists) ∷ (d || nat_le (2 ^ 32) n, TooManyInodes) ∷ []) ≡ None → n < 2 ^ 32
-    go true b c d n h = absurd cc
-    go false true c d n h = absurd cc
-    go false false true d n h = absurd cc
-    go false false false true n h = absurd cc
-    go false false false false n h = below n (nat_le (2 ^ 32) n) refl h
+room-left s p h =
+    let m = none-of-both (to_be_made s.table.rows p) ((is_full s, TooManyInodes) ∷ []) h in
+    not-all s.next (has_most_rows s.table.rows) (clear (is_full s) TooManyInodes None m.1).0

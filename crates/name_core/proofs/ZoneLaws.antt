@@ -1,30 +1,29 @@
 -- What is told of a directory that was made a zone.
-use Rattle.std.proofs.Common.{◌≡◌, ℕ, ◌⊎◌, inl, inr, Bool, true, false, cond, not, ◌&&◌, is_none, is_some, nat_lt, length, List, [], ◌∷◌, Option, Some, None, refl, sym, ap, ◌∙◌, subst, arith}
+use Rattle.std.proofs.Common.{◌≡◌, ℕ, ◌⊎◌, inl, inr, Bool, true, false, cond, ◌&&◌, is_some, nat_lt, length, List, [], ◌∷◌, Option, Some, None, refl, sym, ap, ◌∙◌, subst, arith}
 use Rattle.std.specs.Prelude.{◌==◌}
 use Rattle.std.specs.Bool.{⊤}
 use Rattle.std.specs.Option.{option_map}
 use Rattle.std.specs.List.{All}
 use Rattle.std.proofs.lemmas.Bool.Decides.{nat_tests}
 use Rattle.std.proofs.lemmas.List.Elements.{All-head, All-tail}
-use Rattle.hk_base.specs.declared.names.Edek.{Edek}
 use Rattle.hk_base.specs.declared.names.KeyName.{KeyName}
 use Rattle.inode_tree.specs.declared.rows.Row.{Row}
 use Rattle.inode_tree.specs.declared.rows.Kind.{Kind}
 use Rattle.inode_tree.specs.declared.rows.Kind.TheVariants.{Dir}
-use Rattle.name_calls.specs.Paths.{is_prefix, same_path, starts_reserved}
-use Rattle.inode_tree.specs.Rows.{Entry, IsRows, entry_of, has_children, is_dir_at, is_marked, is_zone_over, longer, row_at, set_kind, with_kind, zone_of}
+use Rattle.name_calls.specs.Paths.{is_prefix, same_path}
+use Rattle.inode_tree.specs.Rows.{Entry, IsRows, entry_of, is_dir_at, is_marked, is_zone_over, longer, row_at, set_kind, with_kind, zone_of}
 use Rattle.inode_tree.proofs.Seeks.{same-is}
 use Rattle.inode_tree.proofs.ZoneLemmas.{prefix-itself}
-use Rattle.name_core.specs.declared.asks.OpenAsk.{OpenAsk}
 use Rattle.name_calls.specs.declared.calls.Ask.{Ask}
-use Rattle.name_calls.specs.declared.calls.Ask.TheVariants as ask
 use Rattle.name_calls.specs.declared.calls.NameReply.TheVariants.{Refused}
-use Rattle.name_calls.specs.declared.calls.NameRefusal.TheVariants.{BadPath, NoSuchPath, NotADirectory, NotEmpty, AlreadyInZone, ZoneChanged, NoMemory}
+use Rattle.name_calls.specs.declared.calls.NameRefusal.TheVariants.{NoMemory}
 use Rattle.name_core.specs.State.{NameState}
 use Rattle.name_store.specs.Table.{after_table, id_of}
-use Rattle.name_core.specs.Asks.{finish_causes, finish_op, finished, is_other_zone}
+use Rattle.name_store.proofs.CauseLemmas.{IsMarkable, markable}
+use Rattle.name_core.specs.Asks.{finish_causes, finish_op, finished}
 use Rattle.name_core.specs.Calls.{first_cause, info_reply, shown_at}
 use Rattle.name_core.specs.Laws.{ZoneIsTold}
+use Rattle.name_core.proofs.AllowedLemmas.{may-make-zone}
 use Rattle.name_core.proofs.AskLaws.{finished-by}
 use Rattle.name_core.proofs.LawLemmas.{told-by}
 
@@ -161,35 +160,15 @@ only-there rows p row good stands i d b is =
 
 -- nothing stopped it
 
-record MayMark (rows : List Entry) (p : List (List ℕ)) : Type 0 where
-  stands : is_none (row_at rows p) ≡ false
-  outside : is_some (zone_of rows p) ≡ false
-
-may-mark : (rows : List Entry) (a : OpenAsk) (edek : Option Edek) (p : List (List ℕ)) (key : KeyName) → first_cause (finish_causes rows a edek (ask.Zone p key)) ≡ None → MayMark rows p
-may-mark rows a edek p key h = go (starts_reserved p) (is_none (row_at rows p)) (not (is_dir_at (row_at rows p))) (has_children rows p) (is_some (zone_of rows p)) (is_other_zone rows a) refl refl h
-  where
-    go : (r b c d e f : Bool) → is_none (row_at rows p) ≡ b → is_some (zone_of rows p) ≡ e
-        → first_cause ((r, BadPath) ∷ (b, NoSuchPath) ∷ (c, NotADirectory) ∷ (d, NotEmpty) ∷ (e, AlreadyInZone) ∷ (f, ZoneChanged) ∷ []) ≡ None → MayMark rows p
-    go true b c d e f x y h = absurd cc
-    go false true c d e f x y h = absurd cc
-    go false false true d e f x y h = absurd cc
-    go false false false true e f x y h = absurd cc
-    go false false false false true f x y h = absurd cc
-    go false false false false false f x y h = record { stands = x; outside = y }
-
-none-zone : (o : Option Entry) → is_some o ≡ false → o ≡ None
-none-zone None h = refl
-none-zone (Some e) h = absurd cc
-
-marked-reply : (rows : List Entry) (p : List (List ℕ)) (key : KeyName) (o : Option Row) → IsRows rows → row_at rows p ≡ o → MayMark rows p
+marked-reply : (rows : List Entry) (p : List (List ℕ)) (key : KeyName) (o : Option Row) → IsRows rows → row_at rows p ≡ o → IsMarkable rows p
     → info_reply (set_kind rows (id_of o) (Dir (Some key))) p ≡ shown_at (Some p) (Some (with_mark (id_of o) (Dir (Some key))))
-marked-reply rows p key None good stands may = let f : true ≡ false = sym (ap is_none stands) ∙ may.stands in absurd cc
+marked-reply rows p key None good stands may = let f : false ≡ true = sym (ap is_dir_at stands) ∙ may.dir in absurd cc
 marked-reply rows p key (Some row) good stands may = λ i. shown_at (zone_is i) (row-marked rows p row (Dir (Some key)) stands i)
   where
     zone_is : option_map (λ (e : Entry). e.path) (zone_of (set_kind rows row.id (Dir (Some key))) p) ≡ Some p
     zone_is =
         lies-path p (zone_of (set_kind rows row.id (Dir (Some key))) p)
-        (zones-at rows p row.id (Dir (Some key)) (only-there rows p row good stands) (none-zone (zone_of rows p) may.outside))
+        (zones-at rows p row.id (Dir (Some key)) (only-there rows p row good stands) may.outside)
         (zone-made rows p row key stands)
 
 pub zone_is_told : ZoneIsTold
@@ -201,8 +180,8 @@ zone_is_told s a p key edek s' told s'' good asks finishes info = reply (told-by
     done : (first_cause (finish_causes s.table.rows a edek a.ask) ≡ None) × (s' ≡ finished s a edek)
     done = finished-by s a edek s' finishes
 
-    may : MayMark s.table.rows p
-    may = may-mark s.table.rows a edek p key (subst (λ (k : Ask). first_cause (finish_causes s.table.rows a edek k) ≡ None) asks done.0)
+    may : IsMarkable s.table.rows p
+    may = markable s.table.rows p (may-make-zone s.table.rows a edek p key (subst (λ (k : Ask). first_cause (finish_causes s.table.rows a edek k) ≡ None) asks done.0))
 
     rows : s'.table.rows ≡ set_kind s.table.rows id_there (Dir (Some key))
     rows = ap (λ (t : NameState). t.table.rows) done.1 ∙ ap (λ (k : Ask). (after_table s.table (finish_op a.id edek k)).rows) asks

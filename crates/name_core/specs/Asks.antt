@@ -1,13 +1,14 @@
 -- Asks: what each is refused for when it is made and when it is finished, and what it leaves.
-use Rattle.std.specs.Prelude.{◌≡◌, ℕ, ◌+◌, Bool, not, List, [], ◌∷◌, ◌++◌, Option, Some, None, is_none, is_some, if◌then◌else◌, Result, Ok, Err, length, nat_le, ◌==◌}
+use Rattle.std.specs.Prelude.{◌≡◌, ℕ, ◌+◌, Bool, not, List, [], ◌∷◌, ◌++◌, Option, Some, None, if◌then◌else◌, Result, Ok, Err, ◌==◌}
 use Rattle.hk_base.specs.declared.names.Edek.{Edek}
 use Rattle.hk_base.specs.declared.names.KeyName.{KeyName}
 use Rattle.hk_base.specs.declared.texts.Text.{Text}
 use Rattle.name_calls.specs.declared.paths.NPath.{NPath}
-use Rattle.inode_tree.specs.Rows.{Entry, row_at, is_dir_at, has_children, same_id, zone_id, zone_of}
+use Rattle.inode_tree.specs.Rows.{Entry, same_id, zone_id}
 use Rattle.edit_ops.specs.declared.ops.EditOp.{EditOp}
 use Rattle.edit_ops.specs.declared.ops.EditOp.TheVariants as op
-use Rattle.name_store.specs.Table.{after_table, fits_zone, key_of_zone}
+use Rattle.name_store.specs.Causes.{first_cause, row_causes, to_be_made, zone_causes}
+use Rattle.name_store.specs.Table.{fits_zone, key_of_zone}
 use Rattle.name_calls.specs.declared.calls.Ask.{Ask}
 use Rattle.name_calls.specs.declared.calls.Ask.TheVariants as ask
 use Rattle.name_calls.specs.declared.calls.AskNote.{AskNote}
@@ -16,8 +17,8 @@ use Rattle.name_calls.specs.declared.calls.NameRefusal.TheVariants as refusal
 use Rattle.name_calls.specs.declared.calls.Want.{Want}
 use Rattle.name_calls.specs.declared.calls.Want.TheVariants as want
 use Rattle.name_core.specs.declared.asks.OpenAsk.{OpenAsk}
-use Rattle.name_core.specs.State.{NameState, next_id, is_full, is_spent}
-use Rattle.name_core.specs.Calls.{Ending, Plain, NoRoom, first_cause, is_superuser, path_causes, to_be_made}
+use Rattle.name_core.specs.State.{NameState, next_id, is_spent, took}
+use Rattle.name_core.specs.Calls.{Ending, Plain, NoRoom, is_superuser, mkdir_causes, path_causes}
 
 -- the asks that are open
 
@@ -31,14 +32,8 @@ without (a ∷ asks) id = if a.id == id then asks else a ∷ without asks id
 
 -- making an ask
 
--- a directory that is to become a zone has to stand, to be empty, and to lie in no zone and be none
-abbrev pub zone_causes : List Entry → NPath → List (Bool × NameRefusal)
-zone_causes rows p =
-    (is_none (row_at rows p), refusal.NoSuchPath) ∷ (not (is_dir_at (row_at rows p)), refusal.NotADirectory) ∷ (has_children rows p, refusal.NotEmpty)
-    ∷ (is_some (zone_of rows p), refusal.AlreadyInZone) ∷ []
-
 abbrev pub ask_causes : NameState → Text → Ask → List (Bool × NameRefusal)
-ask_causes s user (ask.Create p) = path_causes p ++ to_be_made s.table.rows p ++ (is_full s, refusal.TooManyInodes) ∷ []
+ask_causes s user (ask.Create p) = path_causes p ++ mkdir_causes s p
 ask_causes s user (ask.Zone p key) =
     path_causes p ++ (not (is_superuser user), refusal.NotSuperuser) ∷ zone_causes s.table.rows p ++ (is_spent s, refusal.TooManyInodes) ∷ []
 
@@ -104,7 +99,7 @@ is_other_key rows p edek = not (fits_zone (key_of_zone rows p) edek)
 abbrev pub finish_causes : List Entry → OpenAsk → Option Edek → Ask → List (Bool × NameRefusal)
 finish_causes rows a edek (ask.Create p) =
     path_causes p ++ to_be_made rows p
-    ++ (is_other_zone rows a, refusal.ZoneChanged) ∷ (is_other_key rows p edek, refusal.ZoneChanged) ∷ (nat_le 1000000 (length rows), refusal.TooManyInodes) ∷ []
+    ++ (is_other_zone rows a, refusal.ZoneChanged) ∷ (is_other_key rows p edek, refusal.ZoneChanged) ∷ row_causes rows
 finish_causes rows a edek (ask.Zone p key) = path_causes p ++ zone_causes rows p ++ (is_other_zone rows a, refusal.ZoneChanged) ∷ []
 
 -- a create adds its file, with the ask's id and the encrypted key that was given, and a zone marks its directory
@@ -125,7 +120,7 @@ abbrev pub closed : NameState → ℕ → NameState
 closed s id = record s { asks = without s.asks id }
 
 abbrev pub finished : NameState → OpenAsk → Option Edek → NameState
-finished s a edek = record (closed s a.id) { table = after_table s.table (finish_op a.id edek a.ask) }
+finished s a edek = took (closed s a.id) (finish_op a.id edek a.ask)
 
 abbrev pub unless_stopped : Option NameRefusal → NameState → OpenAsk → Option Edek → FinishOutcome
 unless_stopped (Some why) s a edek = finish_refused why (closed s a.id)

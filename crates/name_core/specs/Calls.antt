@@ -1,5 +1,5 @@
 -- The calls of the namesystem: what each is refused for, what it answers, and what it leaves.
-use Rattle.std.specs.Prelude.{◌≡◌, ℕ, ◌+◌, ◌==◌, ◌&&◌, Bool, true, not, List, [], ◌∷◌, ◌++◌, Option, Some, None, is_some, is_none, length, option_map, bytes_eq, codes, if◌then◌else◌}
+use Rattle.std.specs.Prelude.{◌≡◌, ℕ, ◌+◌, ◌&&◌, Bool, true, not, List, [], ◌∷◌, ◌++◌, Option, Some, None, is_some, is_none, option_map, bytes_eq, codes}
 use Rattle.hk_base.specs.declared.texts.Text.{Text}
 use Rattle.edit_ops.specs.declared.ops.EditOp.{EditOp}
 use Rattle.edit_ops.specs.declared.ops.EditOp.TheVariants as op
@@ -8,29 +8,20 @@ use Rattle.inode_tree.specs.declared.rows.Row.{Row}
 use Rattle.inode_tree.specs.declared.rows.Kind.{Kind}
 use Rattle.inode_tree.specs.declared.rows.Kind.TheVariants.{Dir, File}
 use Rattle.inode_tree.specs.Listing.{children}
-use Rattle.name_calls.specs.Paths.{parent, starts_reserved}
+use Rattle.name_calls.specs.Paths.{starts_reserved}
 use Rattle.inode_tree.specs.Rows.{Entry, has_children, row_at, is_dir_at, zone_of}
 use Rattle.zone_table.specs.Zones.{zone_paths}
-use Rattle.name_store.specs.Table.{after_table}
+pub use Rattle.name_store.specs.Causes.{first_cause, to_be_made}
+use Rattle.name_store.specs.Causes.{removal_causes}
 use Rattle.name_calls.specs.declared.calls.NameCall.{NameCall}
 use Rattle.name_calls.specs.declared.calls.NameCall.TheVariants as call
 use Rattle.name_calls.specs.declared.calls.NameReply.{NameReply}
 use Rattle.name_calls.specs.declared.calls.NameReply.TheVariants as reply
 use Rattle.name_calls.specs.declared.calls.NameRefusal.{NameRefusal}
 use Rattle.name_calls.specs.declared.calls.NameRefusal.TheVariants as refusal
-use Rattle.name_core.specs.State.{NameState, next_id, is_full}
-
--- causes of a refusal in the order of the rules; the first one that holds counts
-abbrev pub first_cause : List (Bool × NameRefusal) → Option NameRefusal
-first_cause [] = None
-first_cause (cause ∷ causes) = if cause.0 then Some cause.1 else first_cause causes
+use Rattle.name_core.specs.State.{NameState, next_id, is_full, took}
 
 -- why a call is refused
-
--- the directory that the path lies in has to stand and be one, and the path has to be free; the root lies in itself
-abbrev pub to_be_made : List Entry → NPath → List (Bool × NameRefusal)
-to_be_made rows p =
-    (is_none (row_at rows (parent p)), refusal.NoSuchPath) ∷ (not (is_dir_at (row_at rows (parent p))), refusal.NotADirectory) ∷ (is_some (row_at rows p), refusal.Exists) ∷ []
 
 abbrev pub mkdir_causes : NameState → NPath → List (Bool × NameRefusal)
 mkdir_causes s p = to_be_made s.table.rows p ++ (is_full s, refusal.TooManyInodes) ∷ []
@@ -41,13 +32,9 @@ info_causes rows p = (is_none (row_at rows p), refusal.NoSuchPath) ∷ []
 abbrev pub list_causes : List Entry → NPath → List (Bool × NameRefusal)
 list_causes rows p = (is_none (row_at rows p), refusal.NoSuchPath) ∷ (not (is_dir_at (row_at rows p)), refusal.NotADirectory) ∷ []
 
-abbrev pub is_root : NPath → Bool
-is_root p = length p == 0
-
--- the root stays, and a directory that has something in it is deleted only together with that
+-- a directory that has something in it is deleted only together with that
 abbrev pub delete_causes : List Entry → NPath → Bool → List (Bool × NameRefusal)
-delete_causes rows p recursive =
-    (is_root p, refusal.RootOrInside) ∷ (is_none (row_at rows p), refusal.NoSuchPath) ∷ (not recursive && has_children rows p, refusal.NotEmpty) ∷ []
+delete_causes rows p recursive = removal_causes rows p ++ (not recursive && has_children rows p, refusal.NotEmpty) ∷ []
 
 abbrev pub causes : NameState → NameCall → List (Bool × NameRefusal)
 causes s (call.Mkdir p) = mkdir_causes s p
@@ -112,7 +99,7 @@ deed s call.Zones = only_answer s (reply.Zones (zone_paths s.table.rows))
 
 abbrev pub done_with : Option EditOp → NameState → NameState
 done_with None s = s
-done_with (Some op) s = record s { table = after_table s.table op }
+done_with (Some op) s = took s op
 
 -- what a call comes to: its reply, and the state after it
 pub record Outcome : Type 0 where

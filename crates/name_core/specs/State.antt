@@ -1,9 +1,10 @@
 -- The namesystem in an opening.
-use Rattle.std.specs.Prelude.{◌≡◌, ℕ, ◌+◌, ◌*◌, ◌^◌, ◌<◌, ◌≤◌, ⊤, Bool, false, ◌||◌, nat_le, List, [], ◌∷◌, length, Option, None, IfSome}
+use Rattle.std.specs.Prelude.{◌≡◌, ℕ, ◌+◌, ◌*◌, ◌^◌, ◌<◌, ◌≤◌, ⊤, Bool, false, ◌||◌, nat_le, List, [], ◌∷◌, Option, None, IfSome}
 use Rattle.std.specs.List.{All, AllByRecursion}
 use Rattle.hk_base.specs.Disk.{DiskState}
 use Rattle.inode_tree.specs.Rows.{Entry, IsRows, entry_of}
 use Rattle.edit_ops.specs.declared.ops.EditOp.{EditOp}
+use Rattle.name_store.specs.Causes.{has_most_rows}
 use Rattle.name_store.specs.Table.{NameTable, after_table, is_among, next_opening, settled_table, uses}
 use Rattle.name_store.specs.Replay.{AllBelow}
 use Rattle.name_store.specs.Store.{IsPending, StoreState}
@@ -26,14 +27,19 @@ is_spent s = nat_le (2 ^ 32) s.next
 
 -- there is no room for one more row, or no id for it
 abbrev pub is_full : NameState → Bool
-is_full s = nat_le 1000000 (length s.table.rows) || is_spent s
+is_full s = has_most_rows s.table.rows || is_spent s
+
+-- the state once an operation took effect
+abbrev pub took : NameState → EditOp → NameState
+took s op = record s { table = after_table s.table op }
 
 -- the namesystem over a disk: its state, and the operation of which the disk may or may not hold the record
 pub record NameService : Type 0 where
   pub names : NameState
   pub pending : Option EditOp
 
--- the state once the pending operation was settled: it was kept, or not
+-- The state once the pending operation was settled: it was kept, or not. A kept one has its effect (`took`), said field by field so
+-- that a field is known without knowing the operation.
 abbrev pub settled : Bool → NameService → NameState
 settled kept s = record s.names { table = settled_table kept s.pending s.names.table }
 

@@ -19,14 +19,13 @@ ghost use Rattle.name_core.specs.Steps.{ActsOn, ActsSettled, FinishesSettled, Is
 use crate::asks::{OpenAsk, OpenAsks};
 use crate::rules::{
     early_refusal, finish_op, info, is_superuser, path_asked, path_refusal, to_be_deleted,
-    to_be_finished, to_be_listed, to_be_made, to_be_zone, wanted,
+    to_be_finished, to_be_listed, wanted,
 };
 use edit_ops::EditOp;
 use frame_log::{StartFault, StoreRefusal};
 use hk_base::{Disk, Edek, KeyName, NoMemory, Text};
-use inode_tree::MOST_ROWS;
 use name_calls::{Answered, Ask, AskNote, KeyAnswer, NPath, NameCall, NameRefusal, NameReply};
-use name_store::NameStore;
+use name_store::{NameStore, has_most_rows, to_be_made, to_be_zone};
 use std::alloc::Global;
 use std::marker::Model;
 
@@ -239,7 +238,7 @@ impl Name {
     fn is_full(&self) -> bool
         ensures { result ≡ is_full (names_of self.now) }
     {
-        self.store.tree().rows() >= MOST_ROWS || self.is_spent()
+        has_most_rows(self.store.tree()) || self.is_spent()
     }
 
     fn is_spent(&self) -> bool

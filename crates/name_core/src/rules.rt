@@ -1,17 +1,17 @@
 //! Answers and refusals for a path, from the rows of a tree.
 ghost use Rattle.std.specs.Prelude.{◌≡◌, ℕ, IfOk, IsTrue, MatchResult, Option, Some, is_some};
 ghost use Rattle.name_calls.specs.Paths.{starts_reserved};
-ghost use Rattle.inode_tree.specs.Rows.{mark_of};
-ghost use Rattle.name_store.specs.Table.{fits_zone, key_of_zone};
-ghost use Rattle.name_core.specs.Asks.{finish_causes, finish_op, is_other_key, is_other_zone, path_asked, wanted, zone_causes};
-ghost use Rattle.name_core.specs.Calls.{delete_causes, early_causes, first_cause, is_superuser, list_causes, path_causes, path_of_zone, shown, to_be_made};
+ghost use Rattle.name_store.specs.Causes.{first_cause};
+ghost use Rattle.name_core.specs.Asks.{finish_causes, finish_op, is_other_key, is_other_zone, path_asked, wanted};
+ghost use Rattle.name_core.specs.Calls.{delete_causes, early_causes, is_superuser, list_causes, path_causes, path_of_zone, shown};
 ghost use Rattle.name_core.specs.Steps.{TellsOf};
 
 use crate::asks::OpenAsk;
 use edit_ops::EditOp;
 use hk_base::{Edek, KeyName, NoMemory, Text};
-use inode_tree::{Kind, MOST_ROWS, Row, Tree};
+use inode_tree::{Kind, Row, Tree};
 use name_calls::{Ask, NPath, NameCall, NameRefusal, NameReply, Want};
+use name_store::{fits_zone, has_most_rows, key_of_zone, to_be_made, to_be_removed, to_be_zone};
 use std::alloc::Global;
 
 /// Returns whether the first name of a path is `.reserved`.
@@ -57,33 +57,13 @@ fn zones_refusal(user: &Text) -> Option<NameRefusal>
     None
 }
 
-/// Returns why a path can not be made: its parent must exist and be a directory, and the path must
-/// be free.
-pub fn to_be_made(tree: &Tree, path: &NPath) -> Option<NameRefusal>
-    ensures { result ≡ first_cause (to_be_made tree.now.rows path.now) }
-{
-    let Some(above) = tree.find_parent(path) else {
-        return Some(NameRefusal::NoSuchPath);
-    };
-    if !above.kind.is_dir() {
-        return Some(NameRefusal::NotADirectory);
-    }
-    if tree.find(path).is_some() {
-        return Some(NameRefusal::Exists);
-    }
-    None
-}
-
 /// Returns why a path can not be deleted: it must exist and not be the root, and a directory must
 /// be empty unless its contents are deleted too.
 pub fn to_be_deleted(tree: &Tree, path: &NPath, recursive: bool) -> Option<NameRefusal>
     ensures { result ≡ first_cause (delete_causes tree.now.rows path.now recursive) }
 {
-    if path.len() == 0 {
-        return Some(NameRefusal::RootOrInside);
-    }
-    if tree.find(path).is_none() {
-        return Some(NameRefusal::NoSuchPath);
+    if let Some(why) = to_be_removed(tree, path) {
+        return Some(why);
     }
     if !recursive && tree.has_children(path) {
         return Some(NameRefusal::NotEmpty);
@@ -148,25 +128,6 @@ pub fn is_superuser(user: &Text) -> bool
     user.as_str().as_bytes() == b"hdfs".as_slice()
 }
 
-/// Returns why a directory can not become a zone: it must exist, be empty, and lie in no zone.
-pub fn to_be_zone(tree: &Tree, path: &NPath) -> Option<NameRefusal>
-    ensures { result ≡ first_cause (zone_causes tree.now.rows path.now) }
-{
-    let Some(row) = tree.find(path) else {
-        return Some(NameRefusal::NoSuchPath);
-    };
-    if !row.kind.is_dir() {
-        return Some(NameRefusal::NotADirectory);
-    }
-    if tree.has_children(path) {
-        return Some(NameRefusal::NotEmpty);
-    }
-    if tree.zone_of(path).is_some() {
-        return Some(NameRefusal::AlreadyInZone);
-    }
-    None
-}
-
 /// Returns the path of an ask.
 pub fn path_asked(ask: &Ask) -> &NPath
     ensures { result.now ≡ path_asked ask.now }
@@ -174,31 +135,6 @@ pub fn path_asked(ask: &Ask) -> &NPath
     match ask {
         Ask::Create { path } => path,
         Ask::Zone { path, .. } => path,
-    }
-}
-
-/// Returns the key of the zone that a path lies in.
-fn key_of_zone(tree: &Tree, path: &NPath) -> Option<KeyName>
-    ensures { result ≡ key_of_zone tree.now.rows path.now }
-{
-    // No two rows have the same id.
-    let _ = tree.rows();
-    match tree.zone_of(path) {
-        None => None,
-        Some(id) => match tree.row(id) {
-            None => None,
-            Some(row) => mark(row.kind),
-        },
-    }
-}
-
-/// Returns the key that a row is marked with.
-fn mark(kind: Kind) -> Option<KeyName>
-    ensures { result ≡ mark_of kind }
-{
-    match kind {
-        Kind::Dir { key } => key,
-        Kind::File { .. } => None,
     }
 }
 
@@ -222,33 +158,12 @@ fn is_other_zone(tree: &Tree, ask: &OpenAsk) -> bool
     tree.zone_of(path_asked(&ask.ask)) != ask.zone
 }
 
-/// Returns whether the encrypted key fits the key of a zone: one of that key if there is a key,
-/// none otherwise.
-fn fits_zone(key: Option<KeyName>, edek: &Option<Edek>) -> bool
-    ensures { result ≡ fits_zone key edek.now }
-{
-    match key {
-        None => edek.is_none(),
-        Some(key) => is_of_key(&key, edek),
-    }
-}
-
-/// Returns whether an encrypted key was given and is one of this key.
-fn is_of_key(key: &KeyName, edek: &Option<Edek>) -> bool
-    ensures { result ≡ fits_zone (Some key.now) edek.now }
-{
-    match edek {
-        None => false,
-        Some(edek) => edek.version.key.as_bytes() == key.as_bytes(),
-    }
-}
-
 /// Returns whether the encrypted key is not one of the zone's key, is missing, or was given without
 /// a key of a zone.
 fn is_other_key(tree: &Tree, path: &NPath, edek: &Option<Edek>) -> bool
     ensures { result ≡ is_other_key tree.now.rows path.now edek.now }
 {
-    !fits_zone(key_of_zone(tree, path), edek)
+    !fits_zone(&key_of_zone(tree, path), edek)
 }
 
 /// Returns why an ask can not be finished. Everything is checked again, except who asked.
@@ -281,7 +196,7 @@ fn file_refusal(
     if is_other_key(tree, path, edek) {
         return Some(NameRefusal::ZoneChanged);
     }
-    if tree.rows() >= MOST_ROWS {
+    if has_most_rows(tree) {
         return Some(NameRefusal::TooManyInodes);
     }
     None
