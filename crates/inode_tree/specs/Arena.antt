@@ -55,6 +55,10 @@ abbrev pub rank : List Entry → List (List ℕ) → ℕ
 rank [] p = 0
 rank (e ∷ es) p = if is_before e.path p then suc (rank es p) else 0
 
+-- the rank of a path is one of the places from low up to high
+abbrev pub HoldsRank : List Node → List ℕ → List (List ℕ) → ℕ → ℕ → Type 0
+HoldsRank ns order p low high = (low ≤ rank (rows_of ns order) p) × (rank (rows_of ns order) p ≤ high) × (high ≤ length order)
+
 -- how many rows come before what stands behind a path and behind all below it
 abbrev pub rank_past : List Entry → List (List ℕ) → ℕ
 rank_past [] p = 0

@@ -1,10 +1,11 @@
 //! Paths of nodes, by climbing from a node to the root.
-ghost use Rattle.std.specs.Prelude.{◌≡◌, ◌<◌, ◌≤◌, ◌||◌, length, take};
-ghost use Rattle.inode_tree.specs.Arena.{IsLinked, path_of, cmp_front, nearer_of, rows_of, IsRising, AllWithin, rank, rank_past};
+ghost use Rattle.std.specs.Prelude.{◌≡◌, ◌<◌, ◌≤◌, ◌-◌, ◌||◌, length, take};
+ghost use Rattle.inode_tree.specs.Arena.{IsLinked, path_of, cmp_front, nearer_of, rows_of, IsRising, AllWithin, HoldsRank, rank, rank_past};
 ghost use Rattle.name_calls.specs.Paths.{is_before, is_prefix, path_cmp};
 ghost use Rattle.std.specs.Cmp.Lexicographic.{slice_cmp};
 ghost use Rattle.std.specs.Ordering.{nat_cmp};
 
+use crate::hints::Hints;
 use crate::order::Order;
 use crate::rows::Node;
 use hk_base::Text;
@@ -82,26 +83,96 @@ pub fn compare(nodes: &Vec<Node>, n: u32, path: &NPath, upto: usize) -> Ordering
     }
 }
 
+/// The places from `low` up to `high`.
+#[derive(Clone, Copy)]
+struct Span {
+    low: usize,
+    high: usize,
+}
+
+/// Narrows a span that holds the rank of a path, by a look at the row at `at` if that lies in the
+/// span. The row is found at once if it lies in the piece `c` of the order.
+fn narrow(
+    nodes: &Vec<Node>,
+    order: &Order,
+    path: &NPath,
+    upto: usize,
+    span: Span,
+    c: usize,
+    at: usize,
+) -> Span
+    requires linked { IsLinked nodes.now.items }
+    requires within { AllWithin (length nodes.now.items) order.now.items }
+    requires upto { upto ≤ length path.now }
+    requires rising { IsRising (rows_of nodes.now.items order.now.items) }
+    requires around { HoldsRank nodes.now.items order.now.items (take upto path.now) span.low span.high }
+    ensures around { HoldsRank nodes.now.items order.now.items (take upto path.now) result.low result.high }
+    ensures smaller { span.low ≤ at → at < span.high → result.high - result.low < span.high - span.low }
+{
+    if at < span.low {
+        return span;
+    }
+    if span.high <= at {
+        return span;
+    }
+    match compare(nodes, order.get_near(c, at), path, upto) {
+        Ordering::Less => Span {
+            low: at + 1,
+            high: span.high,
+        },
+        Ordering::Equal => Span {
+            low: span.low,
+            high: at,
+        },
+        Ordering::Greater => Span {
+            low: span.low,
+            high: at,
+        },
+    }
+}
+
+/// Returns the number of pieces to search for a place in a span: none if only one place is left.
+fn pieces_for(order: &Order, span: Span) -> usize {
+    if span.low < span.high {
+        return order.pieces();
+    }
+    0
+}
+
 /// Returns how many rows come before the path formed by the first `upto` names of `path`.
-pub fn place(nodes: &Vec<Node>, order: &Order, path: &NPath, upto: usize) -> usize
+pub fn place(nodes: &Vec<Node>, order: &Order, hints: &Hints, path: &NPath, upto: usize) -> usize
     requires linked { IsLinked nodes.now.items }
     requires within { AllWithin (length nodes.now.items) order.now.items }
     requires upto { upto ≤ length path.now }
     requires rising { IsRising (rows_of nodes.now.items order.now.items) }
     ensures { result ≡ rank (rows_of nodes.now.items order.now.items) (take upto path.now) }
 {
-    let mut low = 0usize;
-    let mut high = order.len();
-    'halve: while low < high {
-        let middle = low + (high - low) / 2;
-        let at = order.get(middle);
-        match compare(nodes, at, path, upto) {
-            Ordering::Less => low = middle + 1,
-            Ordering::Equal => high = middle,
-            Ordering::Greater => high = middle,
+    let all = Span {
+        low: 0,
+        high: order.len(),
+    };
+    // rows that are added in path order lie right after one another
+    let after = narrow(nodes, order, path, upto, all, order.pieces(), hints.last);
+    let mut span = narrow(nodes, order, path, upto, after, order.pieces(), after.low);
+    let mut c = 0usize;
+    let mut end = pieces_for(order, span);
+    'pieces: while end - c > 1 {
+        let middle = c + (end - c) / 2;
+        let start = order.start(middle);
+        let next = narrow(nodes, order, path, upto, span, middle, start);
+        span = next;
+        if start < next.low {
+            c = middle;
+        } else {
+            end = middle;
         }
     }
-    low
+    'halve: while span.low < span.high {
+        let middle = span.low + (span.high - span.low) / 2;
+        let next = narrow(nodes, order, path, upto, span, c, middle);
+        span = next;
+    }
+    span.low
 }
 
 /// Returns whether the node's path comes before the path, is the path or lies below it.

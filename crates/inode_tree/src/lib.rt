@@ -2,6 +2,7 @@
 #![tactic(auto)]
 
 mod climbs;
+mod hints;
 mod order;
 mod rows;
 mod tree;

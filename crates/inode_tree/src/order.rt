@@ -146,6 +146,23 @@ fn at(pieces: &Vec<Piece>, starts: &Vec<u32>, i: usize) -> u32
     pieces[c].get(i - starts[c] as usize)
 }
 
+/// Returns the `i`-th number, from the `c`-th piece if it is there.
+fn near(pieces: &Vec<Piece>, starts: &Vec<u32>, c: usize, i: usize) -> u32
+    requires starts { starts.now.items ≡ starts_of 0 pieces.now.items }
+    requires within { i < length (flat pieces.now.items) }
+    ensures { result ≡ slice_index_or (flat pieces.now.items) i 0 }
+{
+    if c < pieces.len() {
+        let start = starts[c] as usize;
+        if start <= i {
+            if i - start < pieces[c].len() {
+                return pieces[c].get(i - start);
+            }
+        }
+    }
+    at(pieces, starts, i)
+}
+
 /// Rewrites the starts of the pieces after the `c`-th one.
 fn renumber(pieces: &Vec<Piece>, starts: &mut Vec<u32>, c: usize)
     requires c { c < length pieces.now.items }
@@ -234,6 +251,27 @@ impl Order {
         ensures { result ≡ slice_index_or self.now.items i 0 }
     {
         at(&self.pieces, &self.starts, i)
+    }
+
+    /// Returns the `i`-th number. It is found at once if it lies in the `c`-th piece.
+    pub fn get_near(&self, c: usize, i: usize) -> u32
+        requires { i < length self.now.items }
+        ensures { result ≡ slice_index_or self.now.items i 0 }
+    {
+        near(&self.pieces, &self.starts, c, i)
+    }
+
+    /// Returns the number of pieces.
+    pub fn pieces(&self) -> usize {
+        self.pieces.len()
+    }
+
+    /// Returns the index of the first number of the `c`-th piece, or 0 if there is no such piece.
+    pub fn start(&self, c: usize) -> usize {
+        if c < self.starts.len() {
+            return self.starts[c] as usize;
+        }
+        0
     }
 
     /// Reserves memory for one more number. Returns `NoMemory` if allocation fails; the numbers are

@@ -14,6 +14,7 @@ mod children;
 mod removal;
 
 use crate::climbs::{below, compare, place};
+use crate::hints::Hints;
 use crate::order::Order;
 use crate::rows::{Kind, Node, Row};
 use crate::zones::zone_at;
@@ -43,6 +44,7 @@ pub struct Tree {
     places: HashMap<u64, u32>,
     free: Vec<u32>,
     ready: String,
+    hints: Hints,
 }
 
 impl Model for Tree {
@@ -80,6 +82,7 @@ impl Tree {
             places,
             free,
             ready: String::new(alloc),
+            hints: Hints { last: 0 },
         })
     }
 
@@ -97,7 +100,7 @@ impl Tree {
     pub fn find(&self, path: &NPath) -> Option<Row>
         ensures { result ≡ row_at self.now.rows path.now }
     {
-        row_upto(&self.nodes, &self.order, path, path.len())
+        row_upto(&self.nodes, &self.order, &self.hints, path, path.len())
     }
 
     /// Returns the row at the parent of a path, or `None` if there is none. The root is its own
@@ -106,7 +109,7 @@ impl Tree {
         ensures { result ≡ row_at self.now.rows (parent path.now) }
     {
         let upto = path.len().saturating_sub(1);
-        row_upto(&self.nodes, &self.order, path, upto)
+        row_upto(&self.nodes, &self.order, &self.hints, path, upto)
     }
 
     /// Returns the row with an id, or `None` if there is none.
@@ -135,8 +138,8 @@ impl Tree {
     pub fn has_children(&self, path: &NPath) -> bool
         ensures { result ≡ has_children self.now.rows path.now }
     {
-        match seek(&self.nodes, &self.order, path, path.len()) {
-            Some(_) => next_is_below(&self.nodes, &self.order, path),
+        match seek(&self.nodes, &self.order, &self.hints, path, path.len()) {
+            Some(_) => next_is_below(&self.nodes, &self.order, &self.hints, path),
             None => false,
         }
     }
@@ -147,7 +150,7 @@ impl Tree {
     pub fn zone_of(&self, path: &NPath) -> Option<u64>
         ensures { result ≡ zone_id self.now.rows path.now }
     {
-        zone_at(&self.nodes, &self.order, path)
+        zone_at(&self.nodes, &self.order, &self.hints, path)
     }
 
     /// Reserves the memory that `mkdir` at this path needs, so that `mkdir` can't fail. Returns
@@ -209,6 +212,7 @@ impl Tree {
             &mut self.places,
             &mut self.free,
             &mut self.ready,
+            &mut self.hints,
             path,
             Row { id, kind },
         )
@@ -235,6 +239,7 @@ impl Tree {
             &mut self.places,
             &mut self.free,
             &mut self.ready,
+            &mut self.hints,
             path,
             Row { id, kind },
         )
@@ -251,12 +256,18 @@ impl Tree {
 }
 
 /// Returns the number of the row at the first `upto` names of a path.
-pub fn seek(nodes: &Vec<Node>, order: &Order, path: &NPath, upto: usize) -> Option<u32>
+pub fn seek(
+    nodes: &Vec<Node>,
+    order: &Order,
+    hints: &Hints,
+    path: &NPath,
+    upto: usize,
+) -> Option<u32>
     requires tree { (ids : ℕ → Option ℕ) × IsTree nodes.now.items order.now.items ids }
     requires upto { upto ≤ length path.now }
     ensures { result ≡ number_of nodes.now.items order.now.items (take upto path.now) }
 {
-    let at = place(nodes, order, path, upto);
+    let at = place(nodes, order, hints, path, upto);
     if at < order.len() {
         let n = order.get(at);
         match compare(nodes, n, path, upto) {
@@ -270,25 +281,31 @@ pub fn seek(nodes: &Vec<Node>, order: &Order, path: &NPath, upto: usize) -> Opti
 }
 
 /// Returns the row at the first `upto` names of a path.
-fn row_upto(nodes: &Vec<Node>, order: &Order, path: &NPath, upto: usize) -> Option<Row>
+fn row_upto(
+    nodes: &Vec<Node>,
+    order: &Order,
+    hints: &Hints,
+    path: &NPath,
+    upto: usize,
+) -> Option<Row>
     requires tree { (ids : ℕ → Option ℕ) × IsTree nodes.now.items order.now.items ids }
     requires upto { upto ≤ length path.now }
     ensures { result ≡ row_at (rows_of nodes.now.items order.now.items) (take upto path.now) }
 {
-    match seek(nodes, order, path, upto) {
+    match seek(nodes, order, hints, path, upto) {
         Some(n) => Some(nodes[n as usize].row),
         None => None,
     }
 }
 
 /// Returns whether the row after that of the path, in path order, lies below the path.
-fn next_is_below(nodes: &Vec<Node>, order: &Order, path: &NPath) -> bool
+fn next_is_below(nodes: &Vec<Node>, order: &Order, hints: &Hints, path: &NPath) -> bool
     requires tree { (ids : ℕ → Option ℕ) × IsTree nodes.now.items order.now.items ids }
     requires stands { IsSome (number_of nodes.now.items order.now.items path.now) }
     ensures { result ≡ has_children (rows_of nodes.now.items order.now.items) path.now }
 {
     let len = order.len();
-    let next = place(nodes, order, path, path.len()) + 1;
+    let next = place(nodes, order, hints, path, path.len()) + 1;
     if next < len {
         below(nodes, order.get(next), path)
     } else {
@@ -455,6 +472,7 @@ fn add(
     places: &mut HashMap<u64, u32>,
     free: &mut Vec<u32>,
     ready: &mut String,
+    hints: &mut Hints,
     path: &NPath,
     row: Row,
 ) -> Result<(), NoMemory>
@@ -471,7 +489,7 @@ fn add(
     ensures had { HasRoom order.old places.old free.old ready.old (length (last_name path.now)) → IsOk result }
 {
     make_room(alloc, nodes, order, places, free, ready, last_len(path))?;
-    put_in(alloc, nodes, order, places, free, ready, path, row);
+    put_in(alloc, nodes, order, places, free, ready, hints, path, row);
     Ok(())
 }
 
@@ -483,6 +501,7 @@ fn put_in(
     places: &mut HashMap<u64, u32>,
     free: &mut Vec<u32>,
     ready: &mut String,
+    hints: &mut Hints,
     path: &NPath,
     row: Row,
 )
@@ -498,13 +517,14 @@ fn put_in(
     ensures rows { rows_of nodes.new.items order.new.items ≡ put (record { path = path.now; row = row }) (rows_of nodes.old.items order.old.items) }
 {
     let upto = path.len() - 1;
-    let parent = match seek(nodes, order, path, upto) {
+    let parent = match seek(nodes, order, hints, path, upto) {
         Some(n) => n,
         None => unreachable!(),
     };
-    let at = place(nodes, order, path, upto + 1);
+    let at = place(nodes, order, hints, path, upto + 1);
     let name = name_in(alloc, ready, path.name(upto));
     commit(nodes, order, places, free, at, Node { parent, name, row });
+    hints.last = at;
 }
 
 /// Sets the kind of the row with an id. A directory must stay a directory, and a file a file.

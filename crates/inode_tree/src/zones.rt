@@ -3,6 +3,7 @@ ghost use Rattle.std.specs.Prelude.{◌≡◌, ◌<◌, ◌≤◌, length, ℕ, 
 ghost use Rattle.inode_tree.specs.Arena.{IsTree, IsLive, rows_of, path_of};
 ghost use Rattle.inode_tree.specs.Rows.{zone_id, is_marked};
 
+use crate::hints::Hints;
 use crate::order::Order;
 use crate::rows::{Kind, Node};
 use crate::tree::seek;
@@ -40,14 +41,14 @@ fn zone_above(nodes: &Vec<Node>, order: &Order, n: u32) -> Option<u64>
 
 /// Returns the number of the row at the longest prefix of the path that has a row. That row lies in
 /// the same zone as the path.
-fn standing(nodes: &Vec<Node>, order: &Order, path: &NPath) -> u32
+fn standing(nodes: &Vec<Node>, order: &Order, hints: &Hints, path: &NPath) -> u32
     requires tree { (ids : ℕ → Option ℕ) × IsTree nodes.now.items order.now.items ids }
     ensures live { IsLive order.now.items result }
     ensures zone { zone_id (rows_of nodes.now.items order.now.items) (path_of nodes.now.items result) ≡ zone_id (rows_of nodes.now.items order.now.items) path.now }
 {
     let mut upto = path.len();
     'shorten: while upto > 0 {
-        match seek(nodes, order, path, upto) {
+        match seek(nodes, order, hints, path, upto) {
             Some(n) => return n,
             None => upto -= 1,
         }
@@ -56,9 +57,9 @@ fn standing(nodes: &Vec<Node>, order: &Order, path: &NPath) -> u32
 }
 
 /// Returns the id of the deepest marked directory that is the path or lies above it.
-pub fn zone_at(nodes: &Vec<Node>, order: &Order, path: &NPath) -> Option<u64>
+pub fn zone_at(nodes: &Vec<Node>, order: &Order, hints: &Hints, path: &NPath) -> Option<u64>
     requires tree { (ids : ℕ → Option ℕ) × IsTree nodes.now.items order.now.items ids }
     ensures { result ≡ zone_id (rows_of nodes.now.items order.now.items) path.now }
 {
-    zone_above(nodes, order, standing(nodes, order, path))
+    zone_above(nodes, order, standing(nodes, order, hints, path))
 }

@@ -18,7 +18,7 @@ impl Tree {
     pub fn place(&self, path: &NPath) -> u32
         ensures { result ≡ rank self.now.rows path.now }
     {
-        place(&self.nodes, &self.order, path, path.len()) as u32
+        place(&self.nodes, &self.order, &self.hints, path, path.len()) as u32
     }
 
     /// Returns the row at a place in path order, counted from 0.

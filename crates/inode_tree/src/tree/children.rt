@@ -6,6 +6,7 @@ ghost use Rattle.inode_tree.specs.Rows.{is_dir};
 
 use super::{Tree, build, copy_of};
 use crate::climbs::{depth, past, place};
+use crate::hints::Hints;
 use crate::order::Order;
 use crate::rows::Node;
 use hk_base::NoMemory;
@@ -19,7 +20,7 @@ impl Tree {
     pub fn list(&self, path: &NPath) -> Result<ChildList, NoMemory>
         ensures { IfOk result (λ list. list ≡ children self.now.rows path.now) }
     {
-        list(self.alloc, &self.nodes, &self.order, path)
+        list(self.alloc, &self.nodes, &self.order, &self.hints, path)
     }
 }
 
@@ -28,13 +29,14 @@ fn list(
     alloc: Global,
     nodes: &Vec<Node>,
     order: &Order,
+    hints: &Hints,
     path: &NPath,
 ) -> Result<ChildList, NoMemory>
     requires tree { (ids : ℕ → Option ℕ) × IsTree nodes.now.items order.now.items ids }
     ensures { IfOk result (λ list. list ≡ children (rows_of nodes.now.items order.now.items) path.now) }
 {
     let mut list = ChildList::new(alloc);
-    let mut at = place(nodes, order, path, path.len());
+    let mut at = place(nodes, order, hints, path, path.len());
     let end = past(nodes, order, path);
     'each: while at < end {
         let n = order.get(at);

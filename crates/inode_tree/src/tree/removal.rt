@@ -8,6 +8,7 @@ ghost use Rattle.inode_tree.specs.Rows.{removed};
 
 use super::{Tree, blank_node};
 use crate::climbs::{past, place};
+use crate::hints::Hints;
 use crate::order::Order;
 use crate::rows::Node;
 use name_calls::NPath;
@@ -27,6 +28,7 @@ impl Tree {
             &mut self.order,
             &mut self.places,
             &mut self.free,
+            &self.hints,
             path,
         );
     }
@@ -68,6 +70,7 @@ fn clear(
     order: &mut Order,
     places: &mut HashMap<u64, u32>,
     free: &mut Vec<u32>,
+    hints: &Hints,
     path: &NPath,
 )
     requires kept { IsKept nodes.old order.old places.old free.old }
@@ -75,7 +78,7 @@ fn clear(
     ensures kept { IsKept nodes.new order.new places.new free.new }
     ensures rows { rows_of nodes.new.items order.new.items ≡ removed path.now (rows_of nodes.old.items order.old.items) }
 {
-    let from = place(nodes, order, path, path.len());
+    let from = place(nodes, order, hints, path, path.len());
     let mut end = past(nodes, order, path);
     'each: while from < end {
         end -= 1;

@@ -1,13 +1,20 @@
-use Rattle.std.proofs.Common.{◌-◌, ◌≤◌, length, take}
-use Rattle.inode_tree.specs.Arena.{rows_of, rank}
+use Rattle.std.proofs.Common.{◌-◌, ◌≤◌, take}
+use Rattle.inode_tree.specs.Arena.{HoldsRank}
 use Rattle.inode_tree.proofs.climbs.place.Given as goal
+
+abbrev pub invariant-pieces : goal.invariant-pieces
+invariant-pieces l = record {
+  order : l.c ≤ l.end;
+  around : HoldsRank l.nodes.items l.order.items (take l.upto l.path) l.span.low l.span.high;
+}
+
+abbrev pub decreases-pieces : goal.decreases-pieces
+decreases-pieces l = l.end - l.c
 
 abbrev pub invariant-halve : goal.invariant-halve
 invariant-halve l = record {
-  low : l.low ≤ rank (rows_of l.nodes.items l.order.items) (take l.upto l.path);
-  high : rank (rows_of l.nodes.items l.order.items) (take l.upto l.path) ≤ l.high;
-  most : l.high ≤ length l.order.items;
+  around : HoldsRank l.nodes.items l.order.items (take l.upto l.path) l.span.low l.span.high;
 }
 
 abbrev pub decreases-halve : goal.decreases-halve
-decreases-halve l = l.high - l.low
+decreases-halve l = l.span.high - l.span.low
