@@ -32,6 +32,7 @@ first-tree ids e = record {
   stands = λ id n f. go (nat_eq 0 id) id n refl (sym (e id) ∙ f);
   housed = λ k h. (0, omega arith, subst (λ (j : ℕ). 0 ≡ (get_or (blank ∷ []) (get_or (0 ∷ []) j 0) blank).parent) (sym (zero-only k h)) refl);
   used = λ m h a. (0, omega arith, sym (zero-only m h));
+  held = λ m h a. (0, omega arith, sym (zero-only m h));
 }
   where
     go : (t : Bool) (id n : ℕ) → nat_eq 0 id ≡ t → cond t (Some 0) None ≡ Some n → (k : ℕ) × (k < 1) × (get_or (0 ∷ []) k 0 ≡ n) × ((get_or (blank ∷ []) n blank).row.id ≡ id)

@@ -158,6 +158,12 @@ module _ (ns : List Node) (order : List ℕ) (ids : ℕ → Option ℕ) (n : ℕ
           let w = h.old.used m (omega (arith, length-set ns n x)) (λ e. deep (ap (λ (y : Node). y.parent) (node-old m a) ∙ e)) in
           still-in order (rank (rows_of ns order) p) n m w.0 at-most w.1 w.2)
     ];
+    held = λ m b deep. elim (cases_eq m n) [
+      | inl e ↦ subst (IsLive (insert order (rank (rows_of ns order) p) n)) (sym e) (new-in order (rank (rows_of ns order) p) n at-most)
+      | inr a ↦ (
+          let w = h.old.held m (omega (arith, length-set ns n x)) (λ e. deep (ap (λ (y : Node). length y.name) (node-old m a) ∙ e)) in
+          still-in order (rank (rows_of ns order) p) n m w.0 at-most w.1 w.2)
+    ];
   }
     where
       root-old : node_at (set ns n x) 0 ≡ node_at ns 0

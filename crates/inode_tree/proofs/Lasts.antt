@@ -32,6 +32,7 @@ tree-same ns order ids ids' e t = record {
   stands = λ id n f. t.stands id n (sym (e id) ∙ f);
   housed = t.housed;
   used = t.used;
+  held = t.held;
 }
 
 -- as many nodes, and the same of them free

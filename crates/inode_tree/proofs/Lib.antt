@@ -4,6 +4,7 @@ pub mod Children
 pub mod Firsts
 pub mod Grown
 pub mod Grows
+pub mod HintLemmas
 pub mod Lasts
 pub mod Listings
 pub mod Orders

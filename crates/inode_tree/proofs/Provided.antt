@@ -48,6 +48,10 @@ module _ (ns : List Node) (order : List ℕ) (ids : ℕ → Option ℕ) (t : IsT
       | inl a ↦ t.used m a (λ e. deep (ap (λ (y : Node). y.parent) (node-old ns blank m a) ∙ e))
       | inr a ↦ absurd (deep (ap (λ (j : ℕ). (node_at (ns ++ blank ∷ []) j).parent) (let e : m ≡ length ns = omega (arith, longer) in e) ∙ ap (λ (y : Node). y.parent) (node-new ns blank)))
     ];
+    held = λ m b deep. elim (cases_lt m (length ns)) [
+      | inl a ↦ t.held m a (λ e. deep (ap (λ (y : Node). length y.name) (node-old ns blank m a) ∙ e))
+      | inr a ↦ absurd (deep (ap (λ (j : ℕ). length (node_at (ns ++ blank ∷ []) j).name) (let e : m ≡ length ns = omega (arith, longer) in e) ∙ ap (λ (y : Node). length y.name) (node-new ns blank)))
+    ];
   }
 
   pub free-provided : (free : List ℕ) → length free ≡ 0 → IsFree ns order free → IsFree (ns ++ blank ∷ []) order (length ns ∷ [])

@@ -26,7 +26,7 @@ module _ (ns : List Node) (order : List ℕ) (ids : ℕ → Option ℕ) (t : IsT
   each-row P h = All-from_get_or P (rows_of ns order) any_entry (λ k b. let c : k < length order = omega (arith, length-rows ns order) in subst P (sym (rows-at ns order k c)) (h k c))
 
   -- a live node is found by its path
-  number-at : (k : ℕ) → k < length order → number_of ns order (path_of ns (get_or order k 0)) ≡ Some (get_or order k 0)
+  pub number-at : (k : ℕ) → k < length order → number_of ns order (path_of ns (get_or order k 0)) ≡ Some (get_or order k 0)
   number-at k b = go (number_of ns order (path_of ns (get_or order k 0))) refl
     where
       go : (o : Option ℕ) → number_of ns order (path_of ns (get_or order k 0)) ≡ o → o ≡ Some (get_or order k 0)

@@ -61,6 +61,7 @@ tree-shape ns ns' s dirs order ids t = record {
   stands = λ id n e. let w = t.stands id n e in (w.0, w.1, w.2, s.id n ∙ w.3);
   housed = λ k h. let w = t.housed k h in (w.0, w.1, w.2 ∙ sym (s.parent (get_or order k 0)));
   used = λ m h a. t.used m (subst (λ (k : ℕ). m < k) s.length_is h) (λ e. a (s.parent m ∙ e));
+  held = λ m h a. t.held m (subst (λ (k : ℕ). m < k) s.length_is h) (λ e. a (ap length (s.name m) ∙ e));
 }
 
 -- what holds of the node with another kind, and of the others

@@ -139,6 +139,12 @@ module _ (ns : List Node) (order : List ℕ) (ids : ℕ → Option ℕ) (at n : 
           let w = t.used m (omega (arith, length-set ns n blank)) (λ e. deep (ap (λ (y : Node). y.parent) (node-old m a) ∙ e)) in
           stays m w.0 w.1 w.2 a)
     ];
+    held = λ m b deep. elim (cases_eq m n) [
+      | inl e ↦ absurd (deep (ap (λ (j : ℕ). length (node_at (set ns n blank) j).name) e ∙ ap (λ (y : Node). length y.name) (written ns n blank unpassed t.linked)))
+      | inr a ↦ (
+          let w = t.held m (omega (arith, length-set ns n blank)) (λ e. deep (ap (λ (y : Node). length y.name) (node-old m a) ∙ e)) in
+          stays m w.0 w.1 w.2 a)
+    ];
   }
     where
       found : (id m : ℕ) → cond (nat_eq (node_at ns n).row.id id) None (ids id) ≡ Some m → (k : ℕ) × (k < length (remove order at)) × (get_or (remove order at) k 0 ≡ m) × ((node_at (set ns n blank) m).row.id ≡ id)

@@ -111,6 +111,20 @@ pub record IsTree (ns : List Node) (order : List ℕ) (ids : ℕ → Option ℕ)
   pub housed : (k : ℕ) → k < length order → (j : ℕ) × (j < length order) × (slice_index_or order j 0 ≡ (node_at ns (slice_index_or order k 0)).parent)
   -- a node that lies in another than the root is live
   pub used : (m : ℕ) → m < length ns → ((node_at ns m).parent ≡ 0 → ⊥) → IsLive order m
+  -- and so is one that has a name
+  pub held : (m : ℕ) → m < length ns → (length (node_at ns m).name ≡ 0 → ⊥) → IsLive order m
+
+-- the node is not the root's, and has the name in the directory
+pub record IsChildNode (ns : List Node) (n parent : ℕ) (name : List ℕ) : Type 0 where
+  pub below : n < length ns
+  pub deep : n ≡ 0 → ⊥
+  pub parent_is : (node_at ns n).parent ≡ parent
+  pub name_is : (node_at ns n).name ≡ name
+  pub named : length name ≡ 0 → ⊥
+
+abbrev pub IsHint : List Node → ℕ → List ℕ → Option ℕ → Type 0
+IsHint ns parent name None = ⊤
+IsHint ns parent name (Some n) = IsChildNode ns n parent name
 
 -- the nodes that are not live, each once
 pub record IsFree (ns : List Node) (order free : List ℕ) : Type 0 where

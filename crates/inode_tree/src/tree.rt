@@ -14,7 +14,7 @@ mod children;
 mod removal;
 
 use crate::climbs::{below, compare, place};
-use crate::hints::Hints;
+use crate::hints::{Hints, noted};
 use crate::order::Order;
 use crate::rows::{Kind, Node, Row};
 use crate::zones::zone_at;
@@ -33,9 +33,9 @@ pub const MOST_ROWS: u32 = 1_000_000;
 /// rows in path order, and the room that is kept for one more row. Path order compares paths name
 /// by name, and names by their bytes. Each row has an id of its own; the root has id 0.
 ///
-/// Finding a row takes logarithmic time in the number of rows. Making or removing one also moves the
-/// rest of a piece of the order, and renumbers the pieces after it. The node of a removed row is used
-/// again.
+/// A row is found by hints from directories and names to nodes, else in logarithmic time in the number
+/// of rows. Making or removing one also moves the rest of a piece of the order, and renumbers the
+/// pieces after it. The node of a removed row is used again.
 #[derive(Drop)]
 pub struct Tree {
     alloc: Global,
@@ -82,7 +82,7 @@ impl Tree {
             places,
             free,
             ready: String::new(alloc),
-            hints: Hints { last: 0 },
+            hints: Hints::new(alloc),
         })
     }
 
@@ -263,6 +263,18 @@ pub fn seek(
     path: &NPath,
     upto: usize,
 ) -> Option<u32>
+    requires tree { (ids : ℕ → Option ℕ) × IsTree nodes.now.items order.now.items ids }
+    requires upto { upto ≤ length path.now }
+    ensures { result ≡ number_of nodes.now.items order.now.items (take upto path.now) }
+{
+    match noted(nodes, order, hints, path, upto) {
+        Some(n) => Some(n),
+        None => search(nodes, order, hints, path, upto),
+    }
+}
+
+/// Returns the same as `seek` by a search in the order.
+fn search(nodes: &Vec<Node>, order: &Order, hints: &Hints, path: &NPath, upto: usize) -> Option<u32>
     requires tree { (ids : ℕ → Option ℕ) × IsTree nodes.now.items order.now.items ids }
     requires upto { upto ≤ length path.now }
     ensures { result ≡ number_of nodes.now.items order.now.items (take upto path.now) }
@@ -489,6 +501,7 @@ fn add(
     ensures had { HasRoom order.old places.old free.old ready.old (length (last_name path.now)) → IsOk result }
 {
     make_room(alloc, nodes, order, places, free, ready, last_len(path))?;
+    hints.refresh(alloc, nodes);
     put_in(alloc, nodes, order, places, free, ready, hints, path, row);
     Ok(())
 }
@@ -523,8 +536,9 @@ fn put_in(
     };
     let at = place(nodes, order, hints, path, upto + 1);
     let name = name_in(alloc, ready, path.name(upto));
-    commit(nodes, order, places, free, at, Node { parent, name, row });
+    hints.note(parent, path.name(upto), free[free.len() - 1]);
     hints.last = at;
+    commit(nodes, order, places, free, at, Node { parent, name, row });
 }
 
 /// Sets the kind of the row with an id. A directory must stay a directory, and a file a file.

@@ -91,7 +91,7 @@ module _ (ns ns' : List Node) (order order' free free' : List ℕ) (ids ids' : �
   after-rows : rows_of ns' order' ≡ put (record { path = p; row = row }) (rows_of ns order)
   after-rows = ap (λ (ms : List Node). rows_of ms order') en ∙ ap (rows_of (set ns (get_or free (length free - 1) 0) (record { parent = m; name = name; row = row }))) eo ∙ rows-after ns order free ids p len m at row name h
 
-found : (c : goal.After-hints-1) → HasFound c.args.nodes.now.items c.args.order.now.items c.args.free.now.items (get nat_eq c.args.places.now) c.args.path.now c.len-upto.result c.in-Some.n c.place-at.result c.args.row c.name_in-name.result
+found : (c : goal.After-commit) → HasFound c.args.nodes.now.items c.args.order.now.items c.args.free.now.items (get nat_eq c.args.places.now) c.args.path.now c.len-upto.result c.in-Some.n c.place-at.result c.args.row c.name_in-name.result
 found c = record {
   tree = c.requires.kept.tree;
   unused = c.requires.kept.free;

@@ -1,7 +1,7 @@
 use Rattle.std.proofs.Common.{arith, ◌<◌, length, take, ℕ, sym, subst, Less, Equal, Greater}
 use Rattle.inode_tree.proofs.Ranks.{within-at}
 use Rattle.inode_tree.proofs.Trees.{sought, sought-past}
-use Rattle.inode_tree.proofs.tree.seek.Goals as goal
+use Rattle.inode_tree.proofs.tree.search.Goals as goal
 
 pub compare-requires-clause-live : goal.compare-requires-clause-live
 compare-requires-clause-live c = subst (λ (k : ℕ). k < length c.args.nodes.now.items) (sym c.get-n.ensures) (within-at _ _ _ c.requires.tree.1.within (omega arith))
