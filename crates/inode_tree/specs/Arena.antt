@@ -68,14 +68,11 @@ abbrev pub AllWithin : ℕ → List ℕ → Type 0
 AllWithin n [] = ⊤
 AllWithin n (k ∷ ks) = (k < n) × AllWithin n ks
 
--- the difference at the k-th name, else the one found below it
+-- how a name compares with the k-th of a path
 abbrev pub name_cmp : List ℕ → List (List ℕ) → ℕ → Ordering
 name_cmp x [] k = Equal
 name_cmp x (y ∷ p) zero = slice_cmp nat_cmp x y
 name_cmp x (y ∷ p) (suc k) = name_cmp x p k
-
-abbrev pub nearer_of : List ℕ → ℕ → List (List ℕ) → Ordering → Ordering
-nearer_of x k p found = ordering_then (name_cmp x p k) found
 
 -- the number of the row at a path
 abbrev pub number_of : List Node → List ℕ → List (List ℕ) → Option ℕ

@@ -1,6 +1,6 @@
 //! Paths of nodes, by climbing from a node to the root.
 ghost use Rattle.std.specs.Prelude.{◌≡◌, ◌<◌, ◌≤◌, ◌-◌, ◌||◌, length, take};
-ghost use Rattle.inode_tree.specs.Arena.{IsLinked, path_of, cmp_front, nearer_of, rows_of, IsRising, AllWithin, HoldsRank, rank, rank_past};
+ghost use Rattle.inode_tree.specs.Arena.{IsLinked, path_of, cmp_front, name_cmp, rows_of, IsRising, AllWithin, HoldsRank, rank, rank_past};
 ghost use Rattle.name_calls.specs.Paths.{is_before, is_prefix, path_cmp};
 ghost use Rattle.std.specs.Cmp.Lexicographic.{slice_cmp};
 ghost use Rattle.std.specs.Ordering.{nat_cmp};
@@ -27,23 +27,46 @@ pub fn depth(nodes: &Vec<Node>, n: u32) -> usize
     d
 }
 
-/// Compares the node's path with the first `upto` names of a path, as far as both go.
-pub fn front(nodes: &Vec<Node>, n: u32, depth: usize, path: &NPath, upto: usize) -> Ordering
+/// How a node's path compares with a path as far as both go, and the number of names in the node's
+/// path.
+#[derive(Clone, Copy)]
+struct Met {
+    found: Ordering,
+    depth: usize,
+}
+
+/// Compares the node's path with the first `upto` names of a path, as far as both go: the names
+/// from the root on, up to the first that differs.
+fn meet(nodes: &Vec<Node>, n: u32, path: &NPath, upto: usize) -> Met
     requires linked { IsLinked nodes.now.items }
     requires live { n < length nodes.now.items }
     requires upto { upto ≤ length path.now }
-    requires depth { depth ≡ length (path_of nodes.now.items n) }
-    ensures { result ≡ cmp_front (path_of nodes.now.items n) (take upto path.now) }
+    ensures found { result.found ≡ cmp_front (path_of nodes.now.items n) (take upto path.now) }
+    ensures depth { result.depth ≡ length (path_of nodes.now.items n) }
 {
-    let mut m = n;
-    let mut k = depth;
-    let mut found = Ordering::Equal;
-    'climb: while m != 0 {
-        k -= 1;
-        found = nearer(&nodes[m as usize], k, path, upto, found);
-        m = nodes[m as usize].parent;
+    if n == 0 {
+        return Met {
+            found: Ordering::Equal,
+            depth: 0,
+        };
     }
-    found
+    let node = &nodes[n as usize];
+    let above = meet(nodes, node.parent, path, upto);
+    let depth = above.depth + 1;
+    match above.found {
+        Ordering::Less => Met {
+            found: Ordering::Less,
+            depth,
+        },
+        Ordering::Equal => Met {
+            found: compare_at(node, above.depth, path, upto),
+            depth,
+        },
+        Ordering::Greater => Met {
+            found: Ordering::Greater,
+            depth,
+        },
+    }
 }
 
 fn compare_names(name: &Text, other: &Text) -> Ordering
@@ -52,20 +75,16 @@ fn compare_names(name: &Text, other: &Text) -> Ordering
     name.as_str().as_bytes().cmp(other.as_str().as_bytes())
 }
 
-/// Compares the node's name with the `k`-th of the first `upto` names of a path. Returns `found`,
-/// the result for the names after it, if the two are equal or there is no `k`-th name.
-fn nearer(node: &Node, k: usize, path: &NPath, upto: usize, found: Ordering) -> Ordering
+/// Compares the node's name with the `k`-th of the first `upto` names of a path. They are equal if
+/// there is no `k`-th name.
+fn compare_at(node: &Node, k: usize, path: &NPath, upto: usize) -> Ordering
     requires { upto ≤ length path.now }
-    ensures { result ≡ nearer_of node.now.name k (take upto path.now) found }
+    ensures { result ≡ name_cmp node.now.name (take upto path.now) k }
 {
     if k < upto {
-        match compare_names(&node.name, path.name(k)) {
-            Ordering::Less => Ordering::Less,
-            Ordering::Equal => found,
-            Ordering::Greater => Ordering::Greater,
-        }
+        compare_names(&node.name, path.name(k))
     } else {
-        found
+        Ordering::Equal
     }
 }
 
@@ -75,10 +94,10 @@ pub fn compare(nodes: &Vec<Node>, n: u32, path: &NPath, upto: usize) -> Ordering
     requires upto { upto ≤ length path.now }
     ensures { result ≡ path_cmp (path_of nodes.now.items n) (take upto path.now) }
 {
-    let d = depth(nodes, n);
-    match front(nodes, n, d, path, upto) {
+    let met = meet(nodes, n, path, upto);
+    match met.found {
         Ordering::Less => Ordering::Less,
-        Ordering::Equal => d.cmp(&upto),
+        Ordering::Equal => met.depth.cmp(&upto),
         Ordering::Greater => Ordering::Greater,
     }
 }
@@ -181,8 +200,8 @@ fn before_or_below(nodes: &Vec<Node>, n: u32, path: &NPath) -> bool
     requires live { n < length nodes.now.items }
     ensures { result ≡ (is_before (path_of nodes.now.items n) path.now || is_prefix path.now (path_of nodes.now.items n)) }
 {
-    let d = depth(nodes, n);
-    match front(nodes, n, d, path, path.len()) {
+    let met = meet(nodes, n, path, path.len());
+    match met.found {
         Ordering::Less => true,
         Ordering::Equal => true,
         Ordering::Greater => false,
@@ -215,10 +234,10 @@ pub fn below(nodes: &Vec<Node>, n: u32, path: &NPath) -> bool
     requires live { n < length nodes.now.items }
     ensures { result ≡ is_prefix path.now (path_of nodes.now.items n) }
 {
-    let d = depth(nodes, n);
-    match front(nodes, n, d, path, path.len()) {
+    let met = meet(nodes, n, path, path.len());
+    match met.found {
         Ordering::Less => false,
-        Ordering::Equal => path.len() <= d,
+        Ordering::Equal => path.len() <= met.depth,
         Ordering::Greater => false,
     }
 }
@@ -229,10 +248,10 @@ pub fn above(nodes: &Vec<Node>, n: u32, path: &NPath) -> bool
     requires live { n < length nodes.now.items }
     ensures { result ≡ is_prefix (path_of nodes.now.items n) path.now }
 {
-    let d = depth(nodes, n);
-    match front(nodes, n, d, path, path.len()) {
+    let met = meet(nodes, n, path, path.len());
+    match met.found {
         Ordering::Less => false,
-        Ordering::Equal => d <= path.len(),
+        Ordering::Equal => met.depth <= path.len(),
         Ordering::Greater => false,
     }
 }

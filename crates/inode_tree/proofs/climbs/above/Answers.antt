@@ -10,10 +10,10 @@ reads : (p q : List (List ℕ)) (u : ℕ) (o : Ordering) (b : Bool) → u ≡ le
 reads p q u o b eu eo eb = sym (prefix-back q p ∙ ap (λ (x : List (List ℕ)). is_eq (cmp_front q x) && nat_le (length q) (length p)) (sym (take_all u p (omega arith))) ∙ ap (λ (r : Ordering). is_eq r && nat_le (length q) (length p)) (sym eo) ∙ ap (λ (t : Bool). is_eq o && t) (sym eb))
 
 pub returns-in-Less : goal.returns-in-Less
-returns-in-Less c = reads c.args.path.now (path_of c.args.nodes.now.items c.args.n) c.len.result Less (nat_le (length (path_of c.args.nodes.now.items c.args.n)) (length c.args.path.now)) c.len.ensures.len c.in-Less.ensures refl
+returns-in-Less c = reads c.args.path.now (path_of c.args.nodes.now.items c.args.n) c.len.result Less (nat_le (length (path_of c.args.nodes.now.items c.args.n)) (length c.args.path.now)) c.len.ensures.len (sym c.in-Less.is ∙ c.meet-met.ensures.found) refl
 
 pub returns-in-Equal : goal.returns-in-Equal
-returns-in-Equal c = reads c.args.path.now (path_of c.args.nodes.now.items c.args.n) c.len.result Equal (nat_le c.depth-d.result c.len-in-Equal.result) c.len.ensures.len c.in-Equal.ensures (ap (λ (k : ℕ). nat_le k c.len-in-Equal.result) c.depth-d.ensures ∙ ap (nat_le (length (path_of c.args.nodes.now.items c.args.n))) c.len-in-Equal.ensures.len)
+returns-in-Equal c = reads c.args.path.now (path_of c.args.nodes.now.items c.args.n) c.len.result Equal (nat_le c.meet-met.result.depth c.len-in-Equal.result) c.len.ensures.len (sym c.in-Equal.is ∙ c.meet-met.ensures.found) (ap (λ (k : ℕ). nat_le k c.len-in-Equal.result) c.meet-met.ensures.depth ∙ ap (nat_le (length (path_of c.args.nodes.now.items c.args.n))) c.len-in-Equal.ensures.len)
 
 pub returns-in-Greater : goal.returns-in-Greater
-returns-in-Greater c = reads c.args.path.now (path_of c.args.nodes.now.items c.args.n) c.len.result Greater (nat_le (length (path_of c.args.nodes.now.items c.args.n)) (length c.args.path.now)) c.len.ensures.len c.in-Greater.ensures refl
+returns-in-Greater c = reads c.args.path.now (path_of c.args.nodes.now.items c.args.n) c.len.result Greater (nat_le (length (path_of c.args.nodes.now.items c.args.n)) (length c.args.path.now)) c.len.ensures.len (sym c.in-Greater.is ∙ c.meet-met.ensures.found) refl

@@ -7,10 +7,10 @@ whole : (p q : List (List ℕ)) (u : ℕ) (o : Ordering) → u ≡ length p → 
 whole p q u o eu eo = eo ∙ ap (cmp_front q) (take_all u p (omega arith))
 
 pub returns-in-Less : goal.returns-in-Less
-returns-in-Less c = sym (upto-by c.args.path.now (path_of c.args.nodes.now.items c.args.n) Less (whole c.args.path.now (path_of c.args.nodes.now.items c.args.n) c.len.result Less c.len.ensures.len c.in-Less.ensures))
+returns-in-Less c = sym (upto-by c.args.path.now (path_of c.args.nodes.now.items c.args.n) Less (whole c.args.path.now (path_of c.args.nodes.now.items c.args.n) c.len.result Less c.len.ensures.len (sym c.in-Less.is ∙ c.meet-met.ensures.found)))
 
 pub returns-in-Equal : goal.returns-in-Equal
-returns-in-Equal c = sym (upto-by c.args.path.now (path_of c.args.nodes.now.items c.args.n) Equal (whole c.args.path.now (path_of c.args.nodes.now.items c.args.n) c.len.result Equal c.len.ensures.len c.in-Equal.ensures))
+returns-in-Equal c = sym (upto-by c.args.path.now (path_of c.args.nodes.now.items c.args.n) Equal (whole c.args.path.now (path_of c.args.nodes.now.items c.args.n) c.len.result Equal c.len.ensures.len (sym c.in-Equal.is ∙ c.meet-met.ensures.found)))
 
 pub returns-in-Greater : goal.returns-in-Greater
-returns-in-Greater c = sym (upto-by c.args.path.now (path_of c.args.nodes.now.items c.args.n) Greater (whole c.args.path.now (path_of c.args.nodes.now.items c.args.n) c.len.result Greater c.len.ensures.len c.in-Greater.ensures))
+returns-in-Greater c = sym (upto-by c.args.path.now (path_of c.args.nodes.now.items c.args.n) Greater (whole c.args.path.now (path_of c.args.nodes.now.items c.args.n) c.len.result Greater c.len.ensures.len (sym c.in-Greater.is ∙ c.meet-met.ensures.found)))

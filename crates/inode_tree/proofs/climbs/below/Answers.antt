@@ -10,10 +10,10 @@ reads : (p q : List (List ℕ)) (u : ℕ) (o : Ordering) (c : Bool) → u ≡ le
 reads p q u o c eu eo ec = sym (prefix-front p q ∙ ap (λ (x : List (List ℕ)). is_eq (cmp_front q x) && nat_le (length p) (length q)) (sym (take_all u p (omega arith))) ∙ ap (λ (r : Ordering). is_eq r && nat_le (length p) (length q)) (sym eo) ∙ ap (λ (b : Bool). is_eq o && b) (sym ec))
 
 pub returns-in-Less : goal.returns-in-Less
-returns-in-Less c = reads c.args.path.now (path_of c.args.nodes.now.items c.args.n) c.len.result Less (nat_le (length c.args.path.now) (length (path_of c.args.nodes.now.items c.args.n))) c.len.ensures.len c.in-Less.ensures refl
+returns-in-Less c = reads c.args.path.now (path_of c.args.nodes.now.items c.args.n) c.len.result Less (nat_le (length c.args.path.now) (length (path_of c.args.nodes.now.items c.args.n))) c.len.ensures.len (sym c.in-Less.is ∙ c.meet-met.ensures.found) refl
 
 pub returns-in-Equal : goal.returns-in-Equal
-returns-in-Equal c = reads c.args.path.now (path_of c.args.nodes.now.items c.args.n) c.len.result Equal (nat_le c.len-in-Equal.result c.depth-d.result) c.len.ensures.len c.in-Equal.ensures (ap (λ (k : ℕ). nat_le k c.depth-d.result) c.len-in-Equal.ensures.len ∙ ap (nat_le (length c.args.path.now)) c.depth-d.ensures)
+returns-in-Equal c = reads c.args.path.now (path_of c.args.nodes.now.items c.args.n) c.len.result Equal (nat_le c.len-in-Equal.result c.meet-met.result.depth) c.len.ensures.len (sym c.in-Equal.is ∙ c.meet-met.ensures.found) (ap (λ (k : ℕ). nat_le k c.meet-met.result.depth) c.len-in-Equal.ensures.len ∙ ap (nat_le (length c.args.path.now)) c.meet-met.ensures.depth)
 
 pub returns-in-Greater : goal.returns-in-Greater
-returns-in-Greater c = reads c.args.path.now (path_of c.args.nodes.now.items c.args.n) c.len.result Greater (nat_le (length c.args.path.now) (length (path_of c.args.nodes.now.items c.args.n))) c.len.ensures.len c.in-Greater.ensures refl
+returns-in-Greater c = reads c.args.path.now (path_of c.args.nodes.now.items c.args.n) c.len.result Greater (nat_le (length c.args.path.now) (length (path_of c.args.nodes.now.items c.args.n))) c.len.ensures.len (sym c.in-Greater.is ∙ c.meet-met.ensures.found) refl
