@@ -234,7 +234,7 @@ index_more rows row before after index none order put = record {
   births = λ name. put name ∙ ap (λ o. cond (bytes_eq row.name name) (Some row.birth) o) (index.births name) ∙ sym (births_more rows row name (other_names row.name rows none));
 }
 
--- a key with one material more
+-- a key with one more material
 
 births_rolled : (birth : ℕ) (material : List ℕ) (rows : List KeyRow) (name : List ℕ) → birth_named (map (rolled birth material) rows) name ≡ birth_named rows name
 births_rolled birth material [] name = refl
