@@ -1,8 +1,9 @@
--- Lemmas for the layers above logs.
-use Rattle.std.proofs.Common.{◌≡◌, ◌⊎◌, inl, inr, ◌-◌, ℕ, suc, List, [], ◌∷◌, ◌++◌, None, Option, sym, ◌∙◌, ap, subst, arith}
-use Rattle.hk_base.specs.Disk.{DiskState, Tells, RunOn}
+-- What layers above logs need of them.
+use Rattle.std.proofs.Common.{◌≡◌, ◌⊎◌, inl, inr, ◌-◌, ℕ, suc, List, [], ◌∷◌, ◌++◌, None, Option, sym, ◌∙◌, ap, subst, ⊎_elim, arith}
+use Rattle.hk_base.specs.Disk.{DiskState, Tells, Reads, RunOn}
+use Rattle.hk_base.proofs.Runs.{Going}
 use Rattle.frame_log.specs.Format.{log_of, Found, IsAtRest, IsHalfOpen, IsBeforeOrAfter, IsAsFound, At_rest, Half_open, Opened, IsRecovered, Log_as_found, No_log}
-use Rattle.frame_log.specs.Stands.{Stands, front, Is, IsSound}
+use Rattle.frame_log.specs.Stands.{Stands, front, Is, IsSound, LeavesFrom}
 use Rattle.frame_log.specs.declared.log.Log.{Log}
 use Rattle.frame_log.proofs.Reading.{log_shut}
 
@@ -27,7 +28,33 @@ left_at_rest d log payloads s bytes h =
 pub reads_at_rest : (d : DiskState) (log : Log) (payloads : List (List ℕ)) → Stands d log payloads None → IsAtRest log.file payloads (d.reads log.file)
 reads_at_rest d log payloads s = ap (log_of log.file) s.reads.1 ∙ log_shut log.file payloads s.reads.0 s.sized
 
--- what a crash leaves while a payload is added is a log with or without it
+-- calls that only read leave the log standing
+pub still_stands : (file : ℕ) (old new : DiskState) (log : Log) (payloads : List (List ℕ)) (unsettled : Option (List ℕ)) → Reads file old new → log.file ≡ file → Tells old → Stands old log payloads unsettled → Stands new log payloads unsettled
+still_stands file old new log payloads unsettled same is told s = record {
+  sized = s.sized;
+  payload = s.payload;
+  end = s.end;
+  waits = s.waits;
+  reads = subst (Is (front log.file payloads) unsettled) (sym (subst (λ (k : ℕ). new.reads k ≡ old.reads k) (sym is) (same.reads told))) s.reads;
+  leaves = λ bytes h. s.leaves bytes (subst (λ (k : ℕ). new.leaves k bytes → old.leaves k bytes) (sym is) (same.leaves bytes) h);
+}
+
+-- what a crash leaves of a log that stands as it was found
+pub left_as_found : (d : DiskState) (log : Log) (payloads : List (List ℕ)) (file gate : ℕ) (found : List ℕ) → Stands d log payloads None → log.file ≡ file → log_of file found ≡ Found payloads gate → (bytes : List ℕ) → d.leaves file bytes → IsAsFound file found bytes
+left_as_found d log payloads file gate found s is here bytes h =
+    let left : d.leaves log.file bytes = subst (λ (k : ℕ). d.leaves k bytes) (sym is) h in
+    At_rest payloads gate here (subst (λ (k : ℕ). IsAtRest k payloads bytes) is (left_at_rest d log payloads s bytes left))
+
+-- a run of calls after a moment from which a crash leaves only what has P
+pub from_then : {file : ℕ} {old mid new : DiskState} {P Q : List ℕ → Type 0} → LeavesFrom file old mid P → Going file mid new Q → ((c : List ℕ) → Q c → P c) → LeavesFrom file old new P
+from_then {file} {old} {mid} {new} {P} {Q} s run f = record {
+  moment = s.moment;
+  begun = s.begun;
+  reached = omega (arith, s.reached, run.run.later);
+  only = λ c left. ⊎_elim (λ past. s.only c past) (λ now. f (c file) now.0) (run.moments.before s.moment c s.reached left);
+}
+
+-- what a crash leaves while a payload is added is a log, without it or with it
 pub before_or_after_log : (file : ℕ) (payloads : List (List ℕ)) (payload bytes : List ℕ) → IsBeforeOrAfter file payloads payload bytes
     → ((gate : ℕ) × (log_of file bytes ≡ Found payloads gate)) ⊎ ((gate : ℕ) × (log_of file bytes ≡ Found (payloads ++ payload ∷ []) gate))
 before_or_after_log file payloads payload bytes (inl before) = inl (0, before)

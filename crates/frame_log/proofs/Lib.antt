@@ -1,3 +1,4 @@
+mod Aheads
 mod Bytes
 mod Found
 mod Goings
@@ -6,3 +7,4 @@ pub mod Layers
 pub mod Reading
 mod Scans
 mod Steps
+mod Windows

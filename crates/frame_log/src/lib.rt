@@ -5,8 +5,13 @@
 
 mod fault;
 mod frames;
+mod gates;
 mod log;
+mod records;
+mod window;
 
 pub use fault::{LogFault, StartFault, StoreRefusal};
-pub use frames::{Frame, Frames, LONGEST_PAYLOAD};
+pub use frames::{Frame, Frames};
+pub use gates::LONGEST_PAYLOAD;
 pub use log::Log;
+pub use records::Records;

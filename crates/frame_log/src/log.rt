@@ -3,7 +3,9 @@ ghost use Rattle.std.specs.Prelude.{◌≡◌, ◌≤◌, ◌<◌, ◌^◌, ◌+
 ghost use Rattle.frame_log.specs.Format.{magic, starts_with};
 
 use crate::LogFault;
-use crate::frames::{Frames, OPEN, SHUT, read_frames};
+use crate::frames::{Frames, read_frames};
+use crate::gates::{OPEN, SHUT, pass_frames};
+use crate::records::Records;
 use hk_base::{Disk, LONGEST_FILE};
 use std::alloc::Global;
 
@@ -45,13 +47,14 @@ fn fresh(file: u8) -> [u8; 9]
 }
 
 impl Log {
-    ghost use Rattle.std.specs.Prelude.{◌+◌, ◌↔◌, ◌⊎◌, List, ℕ, Option, Some, None, slice_get, IfOk, OnOk, OnErr, IsErr, IsErrOf, IsTrue, if◌then◌else◌, IsSome};
+    ghost use Rattle.std.specs.Prelude.{◌+◌, ◌↔◌, ◌⊎◌, List, ℕ, Option, Some, None, slice_get, length, IfOk, OnOk, OnErr, IsErr, IsErrOf, IsTrue, if◌then◌else◌, IsSome};
     ghost use Rattle.hk_base.specs.Disk.{Tells, RunOn, LeavesOnly, Only};
     ghost use Rattle.hk_base.specs.Faults.{Rose};
     ghost use Rattle.frame_log.specs.declared.fault.LogFault.TheVariants.{Damaged, StoreFault, NoMemory};
     ghost use Rattle.frame_log.specs.Format.{log_of, Found, NoLog, placed, IsPayload, IsBeforeOrAfter, IsAsFound, IsRecovered};
     ghost use Rattle.frame_log.specs.Scan.{view};
     ghost use Rattle.frame_log.specs.Stands.{Stands, LeavesFrom};
+    ghost use Rattle.frame_log.specs.Ahead.{Ahead};
 
     /// Reads the log of a file that a crash may have left, and sets its end gate to 0 if it isn't 0.
     /// A file of at most 9 bytes becomes a log without frames. A crash may stop this call at any moment
@@ -89,24 +92,55 @@ impl Log {
         ensures run { RunOn file (D.state disk.old) (D.state disk.new) }
         ensures cause { IsErrOf result StoreFault → Rose (D.state disk.old).faults (D.state disk.new).faults }
     {
-        disk.sync(file)?; // What is read from here on is what a crash leaves.
-        Log::open_synced(alloc, disk, file)
+        let (log, mut records) = Log::recover_records(alloc, disk, file)?;
+        let frames = read_frames(alloc, disk, &mut records)?;
+        Ok((log, frames))
     }
 
-    /// Reads the log of a file that is synced, and sets its end gate to 0 if it isn't 0. A crash leaves
-    /// the log found, or that log with its end gate read as 1.
-    fn open_synced<D: Disk>(
+    /// Opens the log of a file as `recover` does, but reads no payloads: the reader returns them one after
+    /// another. `Damaged` comes from this call, before the first payload is read.
+    pub fn recover_records<D: Disk>(
         alloc: Global,
         disk: &mut D,
         file: u8,
-    ) -> Result<(Log, Frames), LogFault>
+    ) -> Result<(Log, Records), LogFault>
+        requires { file < 2 }
+
+        ensures log { IfOk result (λ r. Tells (D.state disk.old) → ((payloads : List (List ℕ)) × (gate : ℕ)
+            × (log_of file ((D.state disk.old).reads file) ≡ Found payloads gate)
+            × Ahead (D.state disk.new) r.1 payloads
+            × Stands (D.state disk.new) r.0 payloads None)) }
+        ensures reader { IfOk result (λ r. (r.1.file ≡ file) × (r.1.at ≡ 8)) }
+        ensures settled { IfOk result (λ r. (r.0.file ≡ file) × (r.0.unsettled ≡ None)) }
+        ensures damaged { (at : ℕ) → IsErrOf result (Damaged at) → Tells (D.state disk.old) → log_of file ((D.state disk.old).reads file) ≡ NoLog at }
+
+        // As for `recover`: a crash at any moment, a crash after the first sync.
+        ensures any_moment { Tells (D.state disk.old) → LeavesOnly file (D.state disk.old) (D.state disk.new)
+            (λ c. (D.state disk.old).leaves file c ⊎ IsAsFound file ((D.state disk.old).reads file) c) }
+        ensures since_sync { Tells (D.state disk.old) →
+            (IsErrOf result StoreFault × LeavesOnly file (D.state disk.old) (D.state disk.new) ((D.state disk.old).leaves file))
+            ⊎ LeavesFrom file (D.state disk.old) (D.state disk.new) (IsRecovered file ((D.state disk.old).reads file)) }
+
+        ensures run { RunOn file (D.state disk.old) (D.state disk.new) }
+        ensures cause { IsErrOf result StoreFault → Rose (D.state disk.old).faults (D.state disk.new).faults }
+    {
+        disk.sync(file)?; // What is read from here on is what a crash leaves.
+        let (log, size) = Log::open_synced(alloc, disk, file)?;
+        let records = Records::new(alloc, file, size);
+        Ok((log, records))
+    }
+
+    /// Opens the log of a file that is synced, and sets its end gate to 0 if it isn't 0. Returns the log and
+    /// the size of the file. A crash leaves the log found, or that log with its end gate read as 1.
+    fn open_synced<D: Disk>(alloc: Global, disk: &mut D, file: u8) -> Result<(Log, u64), LogFault>
         requires file { file < 2 }
         requires synced { Tells (D.state disk.old) → Only ((D.state disk.old).reads file) ((D.state disk.old).leaves file) }
 
         ensures log { IfOk result (λ r. Tells (D.state disk.old) → ((payloads : List (List ℕ)) × (gate : ℕ)
             × (log_of file ((D.state disk.old).reads file) ≡ Found payloads gate)
-            × (view r.1 ≡ placed 8 payloads)
+            × (r.1 ≡ length ((D.state disk.new).reads file))
             × Stands (D.state disk.new) r.0 payloads None)) }
+        ensures size { IfOk result (λ r. (8 < r.1) × (r.1 ≤ 2 ^ 62)) }
         ensures settled { IfOk result (λ r. (r.0.file ≡ file) × (r.0.unsettled ≡ None)) }
         ensures damaged { (at : ℕ) → IsErrOf result (Damaged at) → Tells (D.state disk.old) → log_of file ((D.state disk.old).reads file) ≡ NoLog at }
         ensures moments { Tells (D.state disk.old) → LeavesOnly file (D.state disk.old) (D.state disk.new) (IsRecovered file ((D.state disk.old).reads file)) }
@@ -122,17 +156,14 @@ impl Log {
                 end: 8,
                 unsettled: None,
             };
-            let frames = Frames {
-                list: Vec::new(alloc),
-            };
-            return Ok((log, frames));
+            return Ok((log, 9));
         }
         let mut head = [0u8; 8];
         disk.read(file, 0, &mut head)?;
         if !is_magic(file, &head) {
             return Err(LogFault::Damaged { at: 0 });
         }
-        let scan = read_frames(alloc, disk, file, size)?;
+        let scan = pass_frames(alloc, disk, file, size)?;
         let end = scan.end;
         if scan.gate != SHUT {
             disk.write_at(file, end, &[SHUT])?;
@@ -143,7 +174,7 @@ impl Log {
             end,
             unsettled: None,
         };
-        Ok((log, scan.frames))
+        Ok((log, size))
     }
 
     /// Appends a payload of 1 to 1,048,576 bytes and returns its offset in the file. After `Ok` every

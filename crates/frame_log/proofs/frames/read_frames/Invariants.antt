@@ -1,19 +1,21 @@
-use Rattle.std.proofs.Common.{◌<◌, ◌-◌}
+use Rattle.std.proofs.Common.{◌≡◌, List, ℕ, map}
 use Rattle.hk_base.specs.Disk.{Tells, Reads}
 use Rattle.hk_base.proofs.Runs.{Going}
-use Rattle.frame_log.specs.Scan.{SoFar}
+use Rattle.frame_log.specs.Scan.{frame_view}
+use Rattle.frame_log.specs.Ahead.{Ahead, IsPartlyRead, left}
 use Rattle.frame_log.proofs.frames.read_frames.Given as goal
 
-abbrev pub invariant-loop-list : goal.invariant-loop-list
-invariant-loop-list g l =
+abbrev pub invariant-payloads : goal.invariant-payloads
+invariant-payloads g l =
     let old = g.D.Disk.state l.fn.disk in
     let now = g.D.Disk.state l.disk in
+    let file = l.fn.records.file in
     record {
-      inside : l.at < l.size;
-      going : Going l.file old now (old.leaves l.file);
-      same : Reads l.file old now;
-      told : Tells old → SoFar l.size (old.reads l.file) l.list.items l.at;
+      file_is : l.records.file ≡ file;
+      going : Going file old now (old.leaves file);
+      same : Reads file old now;
+      told : Tells old → (todo : List (List ℕ)) → Ahead old l.fn.records todo → IsPartlyRead now l.fn.records.at todo l.records (map frame_view l.list.items);
     }
 
-abbrev pub decreases-loop-list : goal.decreases-loop-list
-decreases-loop-list g l = l.size - l.at
+abbrev pub decreases-payloads : goal.decreases-payloads
+decreases-payloads g l = left l.records

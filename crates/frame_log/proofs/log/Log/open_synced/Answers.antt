@@ -1,12 +1,12 @@
-use Rattle.std.proofs.Common.{rules, ◌≡◌, ◌≤◌, ◌++◌, [], ◌∷◌, List, ℕ, length, map, take, drop, IsTrue, true, false, refl, sym, ◌∙◌, ap, subst, arith, length-append}
+use Rattle.std.proofs.Common.{rules, ◌≡◌, ◌≤◌, ◌++◌, [], ◌∷◌, List, ℕ, length, take, drop, IsTrue, true, false, refl, sym, ◌∙◌, ap, subst, arith, length-append}
 use Rattle.hk_base.specs.Disk.{DiskState, Tells, CallOn, LeavesOnly, written}
 use Rattle.hk_base.proofs.Runs.{begin, then, compose}
 use Rattle.frame_log.specs.Format.{magic, starts_with, NoLog, frames_at, IsRecovered, Log_as_found}
 use Rattle.frame_log.specs.Stands.{front, IsShut}
-use Rattle.frame_log.specs.Scan.{frame_view, IsScanned}
+use Rattle.frame_log.specs.Scan.{IsScanned}
 use Rattle.frame_log.proofs.Goings.{going}
 use Rattle.frame_log.proofs.Reading.{short_log, front_long, magic_long}
-use Rattle.frame_log.proofs.Found.{untouched, head_is, other_magic, damaged, scanned, reads_as, gate_as_found, gate_shut, short_as_found, short_written}
+use Rattle.frame_log.proofs.Found.{untouched, head_is, other_magic, damaged, scanned, reads_as, gate_as_found, gate_shut, short_as_found, short_written, short_size, written_size}
 use Rattle.frame_log.proofs.log.Log.open_synced.Goals.{then-scan-ne-SHUT+in_ok-write_at-2+in_ok-sync-2, else-scan-ne-SHUT}
 use Rattle.frame_log.proofs.log.Log.open_synced.Goals as goal
 
@@ -90,11 +90,12 @@ returns-then-size-le9-clause-log g c told =
     let short : length R ≤ 9 = omega (arith, size, c.if-size-le9.true) in
     let bytes : c.fresh.result ≡ magic file ++ 0 ∷ [] = c.fresh.ensures in
     let told2 = still c.write_at.ensures.call told1 in
-    let done = short_written file R c.fresh.result _ short bytes (subst (λ (l : List ℕ). (g.D.Disk.state c.write_at.new.self).reads file ≡ written 0 c.fresh.result l) R1 (c.in_ok-write_at.ensures.written told1)) in (
+    let wrote : (g.D.Disk.state c.write_at.new.self).reads file ≡ written 0 c.fresh.result R = subst (λ (l : List ℕ). (g.D.Disk.state c.write_at.new.self).reads file ≡ written 0 c.fresh.result l) R1 (c.in_ok-write_at.ensures.written told1) in
+    let done = short_written file R c.fresh.result _ short bytes wrote in (
       [],
       0,
       short_log file R short,
-      ap (map frame_view) c.new.ensures.items,
+      sym (ap length (c.sync.ensures.same.reads told2) ∙ short_size file R c.fresh.result _ short bytes wrote),
       record {
         sized = tt;
         payload = tt;
@@ -201,7 +202,7 @@ returns-in_err-scan-clause-moments g c told =
     let go1 = then (begin file D0 P) c.len.ensures.call file_in (λ b h. untouched file R b (only1 b h)) in
     let only2 : (b : List ℕ) → (g.D.Disk.state c.read.new.self).leaves file b → b ≡ R = λ b h. only1 b (c.read.ensures.same.leaves b h) in
     let go2 = then go1 c.read.ensures.call file_in (λ b h. untouched file R b (only2 b h)) in
-    let go3 = compose go2 (going c.read_frames.ensures.run c.read_frames.ensures.moments) (λ b h. untouched file R b (only2 b h)) in
+    let go3 = compose go2 (going c.pass_frames.ensures.run c.pass_frames.ensures.moments) (λ b h. untouched file R b (only2 b h)) in
     go3.moments
 
 pub returns-in_err-write_at-2-clause-moments : goal.returns-in_err-write_at-2-clause-moments
@@ -227,10 +228,10 @@ returns-in_err-write_at-2-clause-moments g c told =
     head_is file c.in_ok-read.field-0 c.read.new.buf R eight long (omega (arith, c.in_ok-read.ensures.answer told1, ap length R1)) (c.in_ok-read.ensures.bytes told1 ∙ ap (λ (l : List ℕ). take c.in_ok-read.field-0 l) R1) in
     let matches : c.is_magic.result ≡ true = search rules in
     let begins : starts_with (magic file) R ≡ true = sym head ∙ sym c.is_magic.ensures ∙ matches in
-    let go3 = compose go2 (going c.read_frames.ensures.run c.read_frames.ensures.moments) (λ b h. untouched file R b (only2 b h)) in
-    let only3 : (b : List ℕ) → (g.D.Disk.state c.read_frames.new.disk).leaves file b → b ≡ R = λ b h. only2 b (c.read_frames.ensures.same.leaves b h) in
-    let told3 = subst (λ b. IsTrue b) (sym c.read_frames.ensures.run.tells) told2 in
-    let R3 = c.read_frames.ensures.same.reads told2 ∙ R2 in
+    let go3 = compose go2 (going c.pass_frames.ensures.run c.pass_frames.ensures.moments) (λ b h. untouched file R b (only2 b h)) in
+    let only3 : (b : List ℕ) → (g.D.Disk.state c.pass_frames.new.disk).leaves file b → b ≡ R = λ b h. only2 b (c.pass_frames.ensures.same.leaves b h) in
+    let told3 = subst (λ b. IsTrue b) (sym c.pass_frames.ensures.run.tells) told2 in
+    let R3 = c.pass_frames.ensures.same.reads told2 ∙ R2 in
     let s : IsScanned R c.in_ok-scan.scan = subst (λ (l : List ℕ). IsScanned l c.in_ok-scan.scan) R2 (c.in_ok-scan.ensures.scan told2) in
     let is = scanned file R c.in_ok-scan.scan s begins in
     let left : (b : List ℕ) → (g.D.Disk.state c.write_at-then-scan-ne-SHUT.new.self).leaves file b → IsRecovered file R b = λ b h. Log_as_found (gate_as_found file s.payloads c.in_ok-scan.scan.gate c.in_ok-scan.scan.end s.rest R s.sized is s.shut c.if-scan-ne-SHUT.true long s.end _ _ only3 c.write_at-then-scan-ne-SHUT.ensures.crash b h) in
@@ -260,10 +261,10 @@ returns-in_err-sync-2-clause-moments g c told =
     head_is file c.in_ok-read.field-0 c.read.new.buf R eight long (omega (arith, c.in_ok-read.ensures.answer told1, ap length R1)) (c.in_ok-read.ensures.bytes told1 ∙ ap (λ (l : List ℕ). take c.in_ok-read.field-0 l) R1) in
     let matches : c.is_magic.result ≡ true = search rules in
     let begins : starts_with (magic file) R ≡ true = sym head ∙ sym c.is_magic.ensures ∙ matches in
-    let go3 = compose go2 (going c.read_frames.ensures.run c.read_frames.ensures.moments) (λ b h. untouched file R b (only2 b h)) in
-    let only3 : (b : List ℕ) → (g.D.Disk.state c.read_frames.new.disk).leaves file b → b ≡ R = λ b h. only2 b (c.read_frames.ensures.same.leaves b h) in
-    let told3 = subst (λ b. IsTrue b) (sym c.read_frames.ensures.run.tells) told2 in
-    let R3 = c.read_frames.ensures.same.reads told2 ∙ R2 in
+    let go3 = compose go2 (going c.pass_frames.ensures.run c.pass_frames.ensures.moments) (λ b h. untouched file R b (only2 b h)) in
+    let only3 : (b : List ℕ) → (g.D.Disk.state c.pass_frames.new.disk).leaves file b → b ≡ R = λ b h. only2 b (c.pass_frames.ensures.same.leaves b h) in
+    let told3 = subst (λ b. IsTrue b) (sym c.pass_frames.ensures.run.tells) told2 in
+    let R3 = c.pass_frames.ensures.same.reads told2 ∙ R2 in
     let s : IsScanned R c.in_ok-scan.scan = subst (λ (l : List ℕ). IsScanned l c.in_ok-scan.scan) R2 (c.in_ok-scan.ensures.scan told2) in
     let is = scanned file R c.in_ok-scan.scan s begins in
     let left : (b : List ℕ) → (g.D.Disk.state c.write_at-then-scan-ne-SHUT.new.self).leaves file b → IsRecovered file R b = λ b h. Log_as_found (gate_as_found file s.payloads c.in_ok-scan.scan.gate c.in_ok-scan.scan.end s.rest R s.sized is s.shut c.if-scan-ne-SHUT.true long s.end _ _ only3 c.write_at-then-scan-ne-SHUT.ensures.crash b h) in
@@ -294,10 +295,10 @@ returns-clause-moments g c told =
     head_is file c.in_ok-read.field-0 c.read.new.buf R eight long (omega (arith, c.in_ok-read.ensures.answer told1, ap length R1)) (c.in_ok-read.ensures.bytes told1 ∙ ap (λ (l : List ℕ). take c.in_ok-read.field-0 l) R1) in
     let matches : c.is_magic.result ≡ true = search rules in
     let begins : starts_with (magic file) R ≡ true = sym head ∙ sym c.is_magic.ensures ∙ matches in
-    let go3 = compose go2 (going c.read_frames.ensures.run c.read_frames.ensures.moments) (λ b h. untouched file R b (only2 b h)) in
-    let only3 : (b : List ℕ) → (g.D.Disk.state c.read_frames.new.disk).leaves file b → b ≡ R = λ b h. only2 b (c.read_frames.ensures.same.leaves b h) in
-    let told3 = subst (λ b. IsTrue b) (sym c.read_frames.ensures.run.tells) told2 in
-    let R3 = c.read_frames.ensures.same.reads told2 ∙ R2 in
+    let go3 = compose go2 (going c.pass_frames.ensures.run c.pass_frames.ensures.moments) (λ b h. untouched file R b (only2 b h)) in
+    let only3 : (b : List ℕ) → (g.D.Disk.state c.pass_frames.new.disk).leaves file b → b ≡ R = λ b h. only2 b (c.pass_frames.ensures.same.leaves b h) in
+    let told3 = subst (λ b. IsTrue b) (sym c.pass_frames.ensures.run.tells) told2 in
+    let R3 = c.pass_frames.ensures.same.reads told2 ∙ R2 in
     let s : IsScanned R c.in_ok-scan.scan = subst (λ (l : List ℕ). IsScanned l c.in_ok-scan.scan) R2 (c.in_ok-scan.ensures.scan told2) in
     let is = scanned file R c.in_ok-scan.scan s begins in
     elim c.if-scan-ne-SHUT.branch [
@@ -330,9 +331,9 @@ returns-clause-log g c told =
     head_is file c.in_ok-read.field-0 c.read.new.buf R eight long (omega (arith, c.in_ok-read.ensures.answer told1, ap length R1)) (c.in_ok-read.ensures.bytes told1 ∙ ap (λ (l : List ℕ). take c.in_ok-read.field-0 l) R1) in
     let matches : c.is_magic.result ≡ true = search rules in
     let begins : starts_with (magic file) R ≡ true = sym head ∙ sym c.is_magic.ensures ∙ matches in
-    let only3 : (b : List ℕ) → (g.D.Disk.state c.read_frames.new.disk).leaves file b → b ≡ R = λ b h. only2 b (c.read_frames.ensures.same.leaves b h) in
-    let told3 = subst (λ b. IsTrue b) (sym c.read_frames.ensures.run.tells) told2 in
-    let R3 = c.read_frames.ensures.same.reads told2 ∙ R2 in
+    let only3 : (b : List ℕ) → (g.D.Disk.state c.pass_frames.new.disk).leaves file b → b ≡ R = λ b h. only2 b (c.pass_frames.ensures.same.leaves b h) in
+    let told3 = subst (λ b. IsTrue b) (sym c.pass_frames.ensures.run.tells) told2 in
+    let R3 = c.pass_frames.ensures.same.reads told2 ∙ R2 in
     let s : IsScanned R c.in_ok-scan.scan = subst (λ (l : List ℕ). IsScanned l c.in_ok-scan.scan) R2 (c.in_ok-scan.ensures.scan told2) in
     let is = scanned file R c.in_ok-scan.scan s begins in
     let F = front file s.payloads in
@@ -341,13 +342,17 @@ returns-clause-log g c told =
     elim c.if-scan-ne-SHUT.branch [
       | then-scan-ne-SHUT+in_ok-write_at-2+in_ok-sync-2 w ↦
           let told4 = still w.write_at-then-scan-ne-SHUT.ensures.call told3 in
-          let done = gate_shut file s.payloads c.in_ok-scan.scan.gate c.in_ok-scan.scan.end s.rest R _ is s.end (subst (λ (l : List ℕ). (g.D.Disk.state w.write_at-then-scan-ne-SHUT.new.self).reads file ≡ written c.in_ok-scan.scan.end (0 ∷ []) l) R3 (w.in_ok-write_at-2.ensures.written told3)) in
+          let wrote : (g.D.Disk.state w.write_at-then-scan-ne-SHUT.new.self).reads file ≡ written c.in_ok-scan.scan.end (0 ∷ []) R = subst (λ (l : List ℕ). (g.D.Disk.state w.write_at-then-scan-ne-SHUT.new.self).reads file ≡ written c.in_ok-scan.scan.end (0 ∷ []) l) R3 (w.in_ok-write_at-2.ensures.written told3) in
+          let done = gate_shut file s.payloads c.in_ok-scan.scan.gate c.in_ok-scan.scan.end s.rest R _ is s.end wrote in
+          let same_size : length ((g.D.Disk.state w.sync-then-scan-ne-SHUT.new.self).reads file) ≡ length R = ap length (w.sync-then-scan-ne-SHUT.ensures.same.reads told4) ∙ written_size c.in_ok-scan.scan.end (0 ∷ []) R _ (omega (arith, c.in_ok-scan.ensures.end, size)) wrote in
+          let size5 : c.in_ok-size.size ≡ length ((g.D.Disk.state c.if-scan-ne-SHUT.disk).reads file) = subst (λ d. c.in_ok-size.size ≡ length ((g.D.Disk.state d).reads file)) (sym w.disk-is) (size ∙ sym same_size) in
           let reads5 : IsShut F ((g.D.Disk.state c.if-scan-ne-SHUT.disk).reads file) = subst (λ d. IsShut F ((g.D.Disk.state d).reads file)) (sym w.disk-is) (subst (IsShut F) (sym (w.sync-then-scan-ne-SHUT.ensures.same.reads told4)) done) in
           let leaves5 : (b : List ℕ) → (g.D.Disk.state c.if-scan-ne-SHUT.disk).leaves file b → IsShut F b = subst (λ d. (b : List ℕ) → (g.D.Disk.state d).leaves file b → IsShut F b) (sym w.disk-is) (λ b h. subst (IsShut F) (sym (w.in_ok-sync-2.ensures.durable told4 b h)) done) in
-          (s.payloads, c.in_ok-scan.scan.gate, found, s.views, record { sized = s.sized; payload = tt; end = ends; waits = refl; reads = reads5; leaves = λ b h. leaves5 b h })
+          (s.payloads, c.in_ok-scan.scan.gate, found, size5, record { sized = s.sized; payload = tt; end = ends; waits = refl; reads = reads5; leaves = λ b h. leaves5 b h })
       | else-scan-ne-SHUT w ↦
+          let size5 : c.in_ok-size.size ≡ length ((g.D.Disk.state c.if-scan-ne-SHUT.disk).reads file) = subst (λ d. c.in_ok-size.size ≡ length ((g.D.Disk.state d).reads file)) (sym w.disk-is) (size ∙ ap length (sym R3)) in
           let done : IsShut F R = (s.rest, is ∙ ap (λ (k : ℕ). F ++ k ∷ s.rest) w.if-scan-ne-SHUT.false) in
           let reads5 : IsShut F ((g.D.Disk.state c.if-scan-ne-SHUT.disk).reads file) = subst (λ d. IsShut F ((g.D.Disk.state d).reads file)) (sym w.disk-is) (subst (IsShut F) (sym R3) done) in
           let leaves5 : (b : List ℕ) → (g.D.Disk.state c.if-scan-ne-SHUT.disk).leaves file b → IsShut F b = subst (λ d. (b : List ℕ) → (g.D.Disk.state d).leaves file b → IsShut F b) (sym w.disk-is) (λ b h. subst (IsShut F) (sym (only3 b h)) done) in
-          (s.payloads, c.in_ok-scan.scan.gate, found, s.views, record { sized = s.sized; payload = tt; end = ends; waits = refl; reads = reads5; leaves = λ b h. leaves5 b h })
+          (s.payloads, c.in_ok-scan.scan.gate, found, size5, record { sized = s.sized; payload = tt; end = ends; waits = refl; reads = reads5; leaves = λ b h. leaves5 b h })
     ]

@@ -1,0 +1,63 @@
+use Rattle.std.proofs.Common.{◌≡◌, ◌-◌, length, drop, refl, IsTrue, sym, ◌∙◌, ap, subst, arith, length-drop}
+use Rattle.hk_base.proofs.Runs.{begin, compose, both_read}
+use Rattle.frame_log.specs.declared.gates.Next.TheVariants as nexts
+use Rattle.frame_log.specs.Format.{NoLog, part, Broken}
+use Rattle.frame_log.specs.Scan.{IsNext, IsEnd, NextFits}
+use Rattle.frame_log.proofs.Goings.{going}
+use Rattle.frame_log.proofs.Scans.{first, next_counted, last, none}
+use Rattle.frame_log.proofs.Windows.{nothing, shown, still_shown}
+use Rattle.frame_log.proofs.gates.pass_frames.Goals as goal
+
+pub gates-init : goal.gates-init
+gates-init g c = record {
+  inside = c.requires.place;
+  going = begin c.args.file (g.D.Disk.state c.args.disk.now) _;
+  same = record { reads = λ told. refl; leaves = λ b h. h };
+  told = λ told. first c.args.size _ (c.requires.size told) (omega arith);
+  window = λ told. nothing ((g.D.Disk.state c.args.disk.now).reads c.args.file) c.empty-window.result c.empty-window.ensures;
+}
+
+pub gates-preserved : goal.gates-preserved
+gates-preserved g c =
+    let inv = c.gates.invariant in
+    let fits : NextFits (c.args.size - c.gates.at) (nexts.Payload c.in-Payload.count) = c.in-Payload.ensures.fits in
+    record {
+      inside = omega (arith, fits.0);
+      going = compose inv.going (going c.show.ensures.run c.show.ensures.moments) inv.same.leaves;
+      same = both_read inv.going inv.same c.show.ensures.same;
+      told = λ told.
+          let R = (g.D.Disk.state c.args.disk.now).reads c.args.file in
+          let told1 = subst (λ b. IsTrue b) (sym inv.going.run.tells) told in
+          let shows = still_shown R _ c.gates.window c.show.new.self c.gates.at 5 (inv.same.reads told) (c.in_ok-show.ensures.shows told1) (inv.window told) in
+          let long : length (drop c.gates.at R) ≡ c.args.size - c.gates.at = omega (arith, length-drop c.gates.at R, c.requires.size told) in
+          let here : IsNext (drop c.gates.at R) (nexts.Payload c.in-Payload.count) =
+          c.in-Payload.ensures.next (drop c.gates.at R) (sym long) (c.bytes_at.ensures ∙ shown R c.show.new.self c.gates.at 5 (omega (arith, c.requires.size told, inv.inside)) shows) in
+          next_counted c.args.size R c.gates.at (inv.told told) c.in-Payload.count (omega (arith, long, fits.0)) here;
+      window = λ told.
+          let R = (g.D.Disk.state c.args.disk.now).reads c.args.file in
+          let told1 = subst (λ b. IsTrue b) (sym inv.going.run.tells) told in
+          (still_shown R _ c.gates.window c.show.new.self c.gates.at 5 (inv.same.reads told) (c.in_ok-show.ensures.shows told1) (inv.window told)).bytes;
+    }
+
+pub returns-in-End-clause-scan : goal.returns-in-End-clause-scan
+returns-in-End-clause-scan g c told =
+    let inv = c.gates.invariant in
+    let R = (g.D.Disk.state c.args.disk.now).reads c.args.file in
+    let told1 = subst (λ b. IsTrue b) (sym inv.going.run.tells) told in
+    let shows = still_shown R _ c.gates.window c.show.new.self c.gates.at 5 (inv.same.reads told) (c.in_ok-show.ensures.shows told1) (inv.window told) in
+    let long : length (drop c.gates.at R) ≡ c.args.size - c.gates.at = omega (arith, length-drop c.gates.at R, c.requires.size told) in
+    let here : IsEnd (drop c.gates.at R) c.in-End.gate =
+    c.in-End.ensures.next (drop c.gates.at R) (sym long) (c.bytes_at.ensures ∙ shown R c.show.new.self c.gates.at 5 (omega (arith, c.requires.size told, inv.inside)) shows) in
+    last c.args.size R c.gates.at (inv.told told) _ refl here
+
+pub returns-in-Broken-clause-damaged : goal.returns-in-Broken-clause-damaged
+returns-in-Broken-clause-damaged g c at is told =
+    let inv = c.gates.invariant in
+    let R = (g.D.Disk.state c.args.disk.now).reads c.args.file in
+    let told1 = subst (λ b. IsTrue b) (sym inv.going.run.tells) told in
+    let shows = still_shown R _ c.gates.window c.show.new.self c.gates.at 5 (inv.same.reads told) (c.in_ok-show.ensures.shows told1) (inv.window told) in
+    let long : length (drop c.gates.at R) ≡ c.args.size - c.gates.at = omega (arith, length-drop c.gates.at R, c.requires.size told) in
+    let here : part (drop c.gates.at R) ≡ Broken =
+    c.in-Broken.ensures.next (drop c.gates.at R) (sym long) (c.bytes_at.ensures ∙ shown R c.show.new.self c.gates.at 5 (omega (arith, c.requires.size told, inv.inside)) shows) in
+    let where_at : c.gates.at ≡ at = cc is in
+    none c.args.size R c.gates.at (inv.told told) (omega (arith, long, inv.inside)) here ∙ ap NoLog where_at
