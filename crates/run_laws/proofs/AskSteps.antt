@@ -1,14 +1,13 @@
 -- What stays of open asks and of a zone from step to step.
 use Rattle.std.proofs.Common.{◌≡◌, ℕ, ◌+◌, ◌*◌, ◌^◌, ◌<◌, ◌≤◌, inl, inr, Bool, true, false, List, [], ◌∷◌, Option, Some, None, Result, is_some, refl, sym, ap, subst, arith}
-use Rattle.std.specs.Prelude.{not, is_none}
 use Rattle.std.specs.List.{All, AllByRecursion}
 use Rattle.hk_base.specs.declared.names.Edek.{Edek}
 use Rattle.hk_base.specs.declared.names.KeyName.{KeyName}
-use Rattle.name_calls.specs.Paths.{starts_reserved}
-use Rattle.inode_tree.specs.Rows.{Entry, has_children, is_dir_at, row_at, zone_of}
+use Rattle.inode_tree.specs.Rows.{Entry, is_dir_at, row_at, zone_of}
 use Rattle.edit_ops.specs.declared.ops.EditOp.{EditOp}
 use Rattle.edit_ops.specs.declared.ops.EditOp.TheVariants as op
 use Rattle.name_store.specs.Store.{is_opening}
+use Rattle.name_store.proofs.CauseLemmas.{markable}
 use Rattle.name_core.specs.declared.asks.OpenAsk.{OpenAsk}
 use Rattle.name_calls.specs.declared.calls.Ask.{Ask}
 use Rattle.name_calls.specs.declared.calls.Ask.TheVariants as ask
@@ -17,7 +16,6 @@ use Rattle.name_calls.specs.declared.calls.KeyAnswer.TheVariants as answer
 use Rattle.name_calls.specs.declared.calls.NameCall.{NameCall}
 use Rattle.name_calls.specs.declared.calls.NameCall.TheVariants as call
 use Rattle.name_calls.specs.declared.calls.NameRefusal.{NameRefusal}
-use Rattle.name_calls.specs.declared.calls.NameRefusal.TheVariants as refusal
 use Rattle.name_calls.specs.declared.calls.NameReply.{NameReply}
 use Rattle.name_core.specs.State.{NameService, NameState, next_id, settled}
 use Rattle.name_core.specs.Asks.{Finishes, closed, finish_causes, finish_op, open_ask, opened, unless_stopped}
@@ -25,7 +23,7 @@ use Rattle.name_core.specs.Calls.{NameActs, NoRoom, Plain, causes, deed, done_wi
 use Rattle.name_core.specs.Service.{FinishServes, FinishServesAt, FinishServesOpen, Serves, ServesBy, ServesUnless, is_change}
 use Rattle.name_core.specs.Steps.{Keeps}
 use Rattle.name_core.specs.Laws.{AnyFault, IsStep, Called, Asked, Finished, Reaches}
-use Rattle.name_core.proofs.AllowedLemmas.{clear}
+use Rattle.name_core.proofs.AllowedLemmas.{may-make-zone}
 use Rattle.name_core.proofs.AskLaws.{ids_stay_below}
 use Rattle.name_core.proofs.AskLemmas.{each-append, each-without, open-holds}
 use Rattle.name_core.proofs.KeepLemmas.{same-opening, settled-next, with_ask}
@@ -52,16 +50,7 @@ Alone s = record { names = s; pending = None }
 -- a directory that a finish marks lies outside all zones
 may-mark : (rows : List Entry) (a : OpenAsk) (edek : Option Edek) (p : List (List ℕ)) (key : KeyName) → first_cause (finish_causes rows a edek (ask.Zone p key)) ≡ None
     → (is_dir_at (row_at rows p) ≡ true) × (is_some (zone_of rows p) ≡ false)
-may-mark rows a edek p key h =
-    let path = clear (starts_reserved p) refusal.BadPath _ h in
-    let stands = clear (is_none (row_at rows p)) refusal.NoSuchPath _ path.1 in
-    let directory = clear (not (is_dir_at (row_at rows p))) refusal.NotADirectory _ stands.1 in
-    let empty = clear (has_children rows p) refusal.NotEmpty _ directory.1 in
-    (yes (is_dir_at (row_at rows p)) directory.0, (clear (is_some (zone_of rows p)) refusal.AlreadyInZone _ empty.1).0)
-  where
-    yes : (b : Bool) → not b ≡ false → b ≡ true
-    yes true h = refl
-    yes false h = absurd cc
+may-mark rows a edek p key h = let m = markable rows p (may-make-zone rows a edek p key h) in (m.dir, ap is_some m.outside)
 
 module _ (under : Option ℕ) (key : Option KeyName) (P : OpenAsk → Type 0) (n : ℕ) (begun : Begun under key P n) where
   abbrev Still : NameService → Type 0

@@ -1,9 +1,8 @@
 -- A finish that is refused for its zone: the key of the zone is as it was wherever the zone is the same.
-use Rattle.std.proofs.Common.{◌≡◌, ℕ, ◌<◌, inl, inr, Bool, true, false, cond, List, Option, Some, None, Ok, Err, IfSome, is_some, refl, sym, ap, ◌∙◌, subst, arith}
-use Rattle.std.specs.Prelude.{not, nat_le, nat_lt, is_none, length, ◌==◌, ◌&&◌}
+use Rattle.std.proofs.Common.{◌≡◌, ℕ, ◌<◌, inl, inr, Bool, true, false, cond, List, [], ◌∷◌, Option, Some, None, Ok, Err, IfSome, is_some, refl, sym, ap, ◌∙◌, subst, arith}
+use Rattle.std.specs.Prelude.{not, nat_le, is_none, length, ◌==◌}
 use Rattle.std.specs.Option.{option_and_then, option_map}
 use Rattle.std.specs.List.{All, AllByRecursion}
-use Rattle.std.proofs.lemmas.Bool.{and_parts}
 use Rattle.std.proofs.lemmas.Bool.Decides.{nat_tests}
 use Rattle.std.proofs.lemmas.Slice.Eq.{bytes_eq-Decides}
 use Rattle.hk_base.specs.declared.names.Edek.{Edek}
@@ -12,7 +11,9 @@ use Rattle.name_calls.specs.Paths.{parent, starts_reserved}
 use Rattle.inode_tree.specs.Rows.{Entry, entry_of, has_children, is_dir_at, mark_of, row_at, same_id, zone_id, zone_of}
 use Rattle.edit_ops.specs.declared.ops.EditOp.{EditOp}
 use Rattle.edit_ops.specs.declared.ops.EditOp.TheVariants as op
-use Rattle.name_store.specs.Table.{fits_zone, is_of_opening, key_of_zone, may_be_made, may_be_zone, may_use, settled_table}
+use Rattle.name_store.specs.Store.{is_opening}
+use Rattle.name_store.specs.Table.{fits_zone, key_of_zone, may_use_all, settled_table, uses}
+use Rattle.name_store.proofs.CauseLemmas.{allowed, id-may-be-used, markable}
 use Rattle.name_core.specs.declared.asks.OpenAsk.{OpenAsk}
 use Rattle.name_calls.specs.declared.calls.Ask.{Ask}
 use Rattle.name_calls.specs.declared.calls.Ask.TheVariants as ask
@@ -38,10 +39,6 @@ abbrev IsOnly : Option ℕ → OpenAsk → OpenAsk → Type 0
 IsOnly under a q = (under ≡ Some q.id → ⊥) × (q.id ≡ a.id → q ≡ a)
 
 -- an ask was accepted
-
-absent : (o : Option Entry) → is_none o ≡ true → is_some o ≡ false
-absent None h = refl
-absent (Some e) h = absurd cc
 
 module _ (s : NameService) (k : Ask) (names : IsNames s) where
   abbrev rows : List Entry
@@ -85,24 +82,16 @@ module _ (s : NameService) (k : Ask) (names : IsNames s) where
   taken : (i : ℕ) → is_some (entry_of rows i) ≡ false → under ≡ Some i → ⊥
   taken i free is = let some = zone-stands rows (path_asked k) i names.rows is in absurd cc
 
-  unused : (i : ℕ) → may_use s.names.table i ≡ true → under ≡ Some i → ⊥
-  unused i may = taken i (absent (entry_of rows i) (and_parts (is_of_opening s.names.table.opening i) (is_none (entry_of rows i)) may).1)
+  unused : (o : EditOp) (i : ℕ) → is_opening o ≡ false → uses o ≡ i ∷ [] → IsWaiting s.names o → under ≡ Some i → ⊥
+  unused o i safe its w = taken i (ap is_some (id-may-be-used s.names.table i (subst (λ (ids : List ℕ). may_use_all s.names.table ids ≡ true) its (allowed s.names.table o safe w.pending.allowed).ids)).free)
 
   -- nor does an operation that waits make one
   leaves : (o : EditOp) → IsWaiting s.names o → LeavesZone under rows o
   leaves (op.Opened opening) w = tt
-  leaves (op.Mkdir id p) w =
-      let a = and_parts (nat_lt 0 s.names.table.opening && may_use s.names.table id) (may_be_made rows p) w.pending.allowed in
-      unused id (and_parts (nat_lt 0 s.names.table.opening) (may_use s.names.table id) a.0).1
-  leaves (op.File id p edek) w =
-      let a = and_parts (nat_lt 0 s.names.table.opening && may_use s.names.table id && may_be_made rows p) (fits_zone (key_of_zone rows p) edek) w.pending.allowed in
-      let b = and_parts (nat_lt 0 s.names.table.opening && may_use s.names.table id) (may_be_made rows p) a.0 in
-      unused id (and_parts (nat_lt 0 s.names.table.opening) (may_use s.names.table id) b.0).1
+  leaves (op.Mkdir id p) w = unused (op.Mkdir id p) id refl refl w
+  leaves (op.File id p edek) w = unused (op.File id p edek) id refl refl w
   leaves (op.Remove p) w = tt
-  leaves (op.Zone p k) w =
-      let a = and_parts (nat_lt 0 s.names.table.opening) (may_be_zone rows p) w.pending.allowed in
-      let b = and_parts (is_dir_at (row_at rows p) && not (has_children rows p)) (is_none (zone_of rows p)) a.1 in
-      ((and_parts (is_dir_at (row_at rows p)) (not (has_children rows p)) b.0).0, absent (zone_of rows p) b.1)
+  leaves (op.Zone p k) w = let m = markable rows p (allowed s.names.table (op.Zone p k) refl w.pending.allowed).free in (m.dir, ap is_some m.outside)
 
   stays : Stays under key (IsOnly under its) (next_id (asked s.names k)) (record { names = asked s.names k; pending = s.pending })
   stays = record {

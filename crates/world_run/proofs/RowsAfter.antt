@@ -1,6 +1,6 @@
 -- The rows behind an operation of the edit log, and the files linked there.
-use Rattle.std.proofs.Common.{◌≡◌, inl, inr, ℕ, Bool, true, false, cond, not, ◌&&◌, List, [], ◌∷◌, length, Option, Some, None, is_none, refl, sym, ap, subst, ◌∙◌, arith}
-use Rattle.std.specs.Prelude.{◌==◌, nat_lt, ⊤}
+use Rattle.std.proofs.Common.{◌≡◌, inl, inr, ℕ, Bool, true, false, cond, not, ◌&&◌, List, [], ◌∷◌, ◌++◌, Option, Some, None, is_none, refl, sym, ap, subst, ◌∙◌, arith}
+use Rattle.std.specs.Prelude.{◌==◌, ⊤}
 use Rattle.std.specs.Option.{option_map}
 use Rattle.std.specs.Str.{bytes_eq}
 use Rattle.std.proofs.lemmas.Bool.Decides.{nat_tests}
@@ -18,7 +18,9 @@ use Rattle.inode_tree.proofs.Puts.{rising-put}
 use Rattle.inode_tree.proofs.Seeks.{same-is}
 use Rattle.edit_ops.specs.declared.ops.EditOp.{EditOp}
 use Rattle.edit_ops.specs.declared.ops.EditOp.TheVariants.{Opened, Mkdir, File, Remove, Zone}
-use Rattle.name_store.specs.Table.{NameTable, after_table, allows, fits_zone, id_of, is_of_opening, key_of_zone, may_be_made, may_be_zone, may_use, new_directory, new_file}
+use Rattle.name_store.specs.Causes.{first_cause, row_causes, to_be_made}
+use Rattle.name_store.specs.Table.{NameTable, after_table, allows, fits_zone, id_of, key_of_zone, new_directory, new_file}
+use Rattle.name_store.proofs.CauseLemmas.{MayUse, allowed, id-may-be-used, makeable, none-of-both}
 use Rattle.world_run.specs.Ledger.{Ledger}
 use Rattle.world_run.specs.Promise.{FitsZone, In, edek_of}
 use Rattle.world_run.specs.Linked.{FilesLinked, HasDraw}
@@ -209,23 +211,20 @@ module _ (dir : ℕ) (key : KeyName) where
 
 -- the rows behind an operation
 
-made-in-place : (t : NameTable) (e : Entry) → may_use t e.row.id ≡ true → may_be_made t.rows e.path ≡ true → InPlace t.rows → InPlace (put e t.rows)
-made-in-place t e used made good =
-    let fresh = both (is_of_opening t.opening e.row.id) (is_none (entry_of t.rows e.row.id)) used in
-    let few = both (is_dir_at (row_at t.rows (parent e.path)) && is_none (row_at t.rows e.path)) (nat_lt (length t.rows) 1000000) made in
-    let free = both (is_dir_at (row_at t.rows (parent e.path))) (is_none (row_at t.rows e.path)) few.0 in
-    put-in-place e t.rows (none-is (row_at t.rows e.path) free.1) (none-is (entry_of t.rows e.row.id) fresh.1) free.0 good
+made-in-place : (t : NameTable) (e : Entry) → MayUse t e.row.id → first_cause (to_be_made t.rows e.path ++ row_causes t.rows) ≡ None → InPlace t.rows → InPlace (put e t.rows)
+made-in-place t e used free good =
+    let made = makeable t.rows e.path (none-of-both (to_be_made t.rows e.path) (row_causes t.rows) free).0 in
+    put-in-place e t.rows made.absent used.free made.house good
 
 -- they are in place where the table allows it
 pub rows-after : (t : NameTable) (op : EditOp) → InPlace t.rows → allows t op ≡ true → InPlace (after_table t op).rows
 rows-after t (Opened opening) good may = good
 rows-after t (Mkdir id p) good may =
-    let made = both (nat_lt 0 t.opening && may_use t id) (may_be_made t.rows p) may in
-    made-in-place t (new_directory id p) (both (nat_lt 0 t.opening) (may_use t id) made.0).1 made.1 good
+    let a = allowed t (Mkdir id p) refl may in
+    made-in-place t (new_directory id p) (id-may-be-used t id a.ids) a.free good
 rows-after t (File id p edek) good may =
-    let fit = both (nat_lt 0 t.opening && may_use t id && may_be_made t.rows p) (fits_zone (key_of_zone t.rows p) edek) may in
-    let made = both (nat_lt 0 t.opening && may_use t id) (may_be_made t.rows p) fit.0 in
-    made-in-place t (new_file id p edek) (both (nat_lt 0 t.opening) (may_use t id) made.0).1 made.1 good
+    let a = allowed t (File id p edek) refl may in
+    made-in-place t (new_file id p edek) (id-may-be-used t id a.ids) a.free good
 rows-after t (Remove p) good may = removed-in-place p t.rows good
 rows-after t (Zone p key) good may = marked-in-place (id_of (row_at t.rows p)) key t.rows good
 
@@ -239,7 +238,7 @@ OpHasDraw ledger keys _ = ⊤
 -- its encrypted key is of its zone, and a directory may become a zone
 abbrev pub OpFits : List Entry → EditOp → Type 0
 OpFits rows (File id p edek) = fits_zone (key_of_zone rows p) edek ≡ true
-OpFits rows (Zone p key) = may_be_zone rows p ≡ true
+OpFits rows (Zone p key) = (is_dir_at (row_at rows p) && not (has_children rows p) && is_none (zone_of rows p)) ≡ true
 OpFits rows _ = ⊤
 
 -- a row that is put in keeps the files linked, where it is linked itself
@@ -275,7 +274,7 @@ files-removed ledger keys rows p f = record {
   zones = λ x i. let was = in-removed p x rows i in subst (λ (k : Option KeyName). FitsZone k x.row.kind) (sym (key-removed p x.path rows was.1)) (f.zones x was.0);
 }
 
-markable : (rows : List Entry) (p : List (List ℕ)) → may_be_zone rows p ≡ true → Markable rows p (id_of (row_at rows p))
+markable : (rows : List Entry) (p : List (List ℕ)) → (is_dir_at (row_at rows p) && not (has_children rows p) && is_none (zone_of rows p)) ≡ true → Markable rows p (id_of (row_at rows p))
 markable rows p may =
     let outside = both (is_dir_at (row_at rows p) && not (has_children rows p)) (is_none (zone_of rows p)) may in
     let empty = both (is_dir_at (row_at rows p)) (not (has_children rows p)) outside.0 in
