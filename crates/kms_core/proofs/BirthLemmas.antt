@@ -17,7 +17,7 @@ use Rattle.key_rows.specs.Sound.{Rising}
 use Rattle.key_rows.proofs.Births.{both, other_number}
 use Rattle.key_rows.proofs.TableLemmas.{sound_create, sound_roll, sound_delete}
 use Rattle.kms_store.specs.Store.{settled_commands, settled_table}
-use Rattle.kms_core.specs.State.{IsPending, IsService, KmsState, ServiceState, next_birth, settled}
+use Rattle.kms_core.specs.State.{IsPending, IsService, KmsState, ServiceState, next_birth, settled, took}
 use Rattle.kms_core.specs.Service.{Changes, Serves, ServesBy, is_change}
 use Rattle.kms_core.specs.Calls.{KmsActs, Plain, NoRoom, Ending, birth_of, causes, deed, deleted, done_with, first_cause, outcome, row_of, unless_refused, versions_of}
 use Rattle.kms_core.specs.Laws.{Gone, GoneStaysAtStart, IsUsedUp, UsedUpAtStart}
@@ -100,6 +100,10 @@ new_birth t (Delete birth) may = tt
 
 pub gone_behind : (t : Table) (command : KeyCommand) (birth : ℕ) → applies t command ≡ true → Gone t birth → Gone (after t command) birth
 gone_behind t command birth may gone = gone_after t command birth (new_birth t command may) gone
+
+-- a pending command that was kept took effect
+pub settled_took : (s : KmsState) (command : KeyCommand) → settled true (record { keys = s; pending = Some command }) ≡ took s command
+settled_took s command = refl
 
 gone_settled : (kept : Bool) (pending : Option KeyCommand) (s : KmsState) (birth : ℕ) → IfSome pending (IsPending s) → Gone s.table birth → Gone (settled_table kept pending s.table) birth
 gone_settled kept None s birth waits gone = gone

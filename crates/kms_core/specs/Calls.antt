@@ -17,12 +17,12 @@ use Rattle.kms_calls.specs.declared.calls.KmsReply.TheVariants as reply
 use Rattle.kms_calls.specs.declared.calls.KmsRefusal.{KmsRefusal}
 use Rattle.kms_calls.specs.declared.calls.KmsRefusal.TheVariants as refusal
 use Rattle.kms_calls.specs.Shown.{Shown}
-use Rattle.key_rows.specs.Table.{find_name, is_length, material_of, current_of, after}
+use Rattle.key_rows.specs.Table.{find_name, is_length, material_of, current_of}
 use Rattle.eek_seal.specs.Seal.{seal}
 use Rattle.kms_core.specs.Draws.{material_for, words_for, drawn_edeks, place_of_draw}
 use Rattle.kms_core.specs.Opening.{unseals}
 use Rattle.kms_core.specs.Order.{names_in_order}
-use Rattle.kms_core.specs.State.{KmsState, next_birth, is_spent}
+use Rattle.kms_core.specs.State.{KmsState, next_birth, is_spent, took}
 
 -- the causes of a refusal, in the order of the rules; the first that is true counts
 abbrev pub first_cause : List (Bool × KmsRefusal) → Option KmsRefusal
@@ -243,7 +243,7 @@ deed s words now (call.Batch name sent) = only_answer s (reply.Ready (map (resea
 
 abbrev pub done_with : Option KeyCommand → KmsState → KmsState
 done_with None s = s
-done_with (Some c) s = record s { table = after s.table c }
+done_with (Some c) s = took s c
 
 -- the result of a call: its reply, the number of words drawn, and the state after it
 pub record Outcome : Type 0 where

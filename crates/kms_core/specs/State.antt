@@ -23,7 +23,12 @@ pub record ServiceState : Type 0 where
   pub keys : KmsState
   pub pending : Option KeyCommand
 
--- the keys after the pending command was settled: kept or dropped
+-- the keys after a command took effect
+abbrev pub took : KmsState → KeyCommand → KmsState
+took s command = record s { table = after s.table command }
+
+-- The keys after the pending command was settled: kept or dropped. A kept command takes effect (`took`); its effect is stated field by
+-- field here, so that a field is known without the command.
 abbrev pub settled : Bool → ServiceState → KmsState
 settled kept s = record s.keys { table = settled_table kept s.pending s.keys.table }
 
