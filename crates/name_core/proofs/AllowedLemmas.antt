@@ -64,8 +64,7 @@ either-not : (a b : Bool) → (a || b) ≡ false → a ≡ false
 either-not true b h = absurd cc
 either-not false b h = refl
 
--- what a mkdir and a finish of a file are refused for holds what the table refuses them for
-
+-- if nothing refuses a mkdir, the table does not refuse its operation
 pub addable : (s : NameState) (p : List (List ℕ)) → first_cause (mkdir_causes s p) ≡ None → first_cause (to_be_made s.table.rows p ++ row_causes s.table.rows) ≡ None
 addable s p h =
     let m = none-of-both (to_be_made s.table.rows p) ((is_full s, refusal.TooManyInodes) ∷ []) h in

@@ -70,7 +70,7 @@ abbrev pub may_use_all : NameTable → List ℕ → Bool
 may_use_all t [] = true
 may_use_all t (id ∷ ids) = may_use t id && may_use_all t ids
 
--- an operation other than an opening is allowed in an opening, with ids of that opening, if no cause applies
+-- An operation other than an opening is allowed in an opening, if it may use its ids, no cause applies, and its encrypted key fits.
 abbrev pub allows_change : NameTable → EditOp → Bool
 allows_change t op = nat_lt 0 t.opening && may_use_all t (uses op) && is_none (first_cause (op_causes t op)) && fits_key t op
 
