@@ -1,3 +1,4 @@
 mod Replays
 mod Commits
+pub mod Readers
 mod Starts

@@ -15,7 +15,7 @@ each_more P [] x each here = (here, tt)
 each_more P (y ∷ ys) x each here = (each.0, each_more P ys x each.1 here)
 
 -- an operation more, which is in turn
-openings_more : (t u : ℕ) (ops : List EditOp) (op : EditOp) → openings t ops ≡ Some u → in_turn u op ≡ true → openings t (ops ++ op ∷ []) ≡ Some (then_last u op)
+pub openings_more : (t u : ℕ) (ops : List EditOp) (op : EditOp) → openings t ops ≡ Some u → in_turn u op ≡ true → openings t (ops ++ op ∷ []) ≡ Some (then_last u op)
 openings_more t u [] op is turn =
     let same : t ≡ u = cc is in
     let here : in_turn t op ≡ true = subst (λ (x : ℕ). in_turn x op ≡ true) (sym same) turn in

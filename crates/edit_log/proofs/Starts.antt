@@ -1,5 +1,5 @@
 -- What a start finds and leaves.
-use Rattle.std.proofs.Common.{◌≡◌, ◌⊎◌, inl, inr, ⊎_elim, ℕ, ◌+◌, ◌-◌, List, [], ◌∷◌, ◌++◌, length, map, Option, Some, None, refl, sym, ◌∙◌, ap, subst, arith, length-append}
+use Rattle.std.proofs.Common.{◌≡◌, ◌⊎◌, inl, inr, ℕ, ◌+◌, ◌-◌, List, [], ◌∷◌, ◌++◌, length, map, Option, Some, None, refl, sym, ◌∙◌, ap, subst, arith, length-append}
 use Rattle.std.specs.Int.{w32, to_be_bytes}
 use Rattle.std.proofs.lemmas.List.{map-append}
 use Rattle.hk_base.specs.Disk.{DiskState, RunOn, LeavesOnly}
@@ -7,6 +7,7 @@ use Rattle.hk_base.proofs.Runs.{Going, weaker, compose}
 use Rattle.frame_log.specs.Format.{log_of, Found, frames, behind, placed, IsAsFound, IsRecovered, Log_as_found}
 use Rattle.frame_log.specs.Stands.{Stands, LeavesFrom}
 use Rattle.frame_log.specs.declared.log.Log.{Log}
+use Rattle.frame_log.proofs.Layers.{from_then}
 use Rattle.edit_ops.specs.Records.{spelling}
 use Rattle.edit_ops.specs.declared.ops.EditOp.TheVariants.{Opened}
 use Rattle.edit_log.specs.declared.op_list.PlacedOp.{PlacedOp}
@@ -119,15 +120,6 @@ left_as_found bytes leaves c (inr held) = inr (Recovered (Log_as_found held))
 
 pub from_weaker : {file : ℕ} {old new : DiskState} {P Q : List ℕ → Type 0} → ((c : List ℕ) → P c → Q c) → LeavesFrom file old new P → LeavesFrom file old new Q
 from_weaker f s = record { moment = s.moment; begun = s.begun; reached = s.reached; only = λ c left. f _ (s.only c left) }
-
--- and a run of calls after that
-pub from_then : {file : ℕ} {old mid new : DiskState} {P Q : List ℕ → Type 0} → LeavesFrom file old mid P → Going file mid new Q → ((c : List ℕ) → Q c → P c) → LeavesFrom file old new P
-from_then {file} {old} {mid} {new} {P} {Q} s run f = record {
-  moment = s.moment;
-  begun = s.begun;
-  reached = omega (arith, s.reached, run.run.later);
-  only = λ c left. ⊎_elim (λ past. s.only c past) (λ now. f (c file) now.0) (run.moments.before s.moment c s.reached left);
-}
 
 pub none_from : {X : Type 0} (o : Option X) → ((x : X) → ¬ (o ≡ Some x)) → o ≡ None
 none_from None not_some = refl

@@ -1,6 +1,7 @@
 //! The log of the namesystem's operations.
 use crate::copies::operation_of;
 use crate::op_list::OpList;
+use crate::reader::OpReader;
 use crate::replay::read_ops;
 use edit_ops::EditOp;
 use frame_log::{Log, LogFault, StartFault, StoreRefusal};
@@ -45,6 +46,7 @@ impl EditLog {
     ghost use Rattle.edit_ops.specs.declared.ops.EditOp.TheVariants as op;
     ghost use Rattle.edit_log.specs.declared.op_list.PlacedOp.{PlacedOp};
     ghost use Rattle.edit_log.specs.Replay.{op_view};
+    ghost use Rattle.edit_log.specs.Reader.{IsOpened};
     ghost use Rattle.edit_log.specs.Log.{StandsFor, IsWithOrWithout, IsReadOf, IsEditLog, IsDamagedAt, IsLeftByStart};
 
     /// Opens the edit log of a disk: reads its operations, and commits the record of a new opening. A
@@ -118,6 +120,37 @@ impl EditLog {
         let (log, frames) = Log::recover(alloc, disk, NAMES)?;
         let ops = read_ops(alloc, frames.list.as_slice())?;
         Ok((EditLog { log, pending: None }, ops))
+    }
+
+    /// Recovers a disk's edit log as `recover` does, but reads no operations: the reader returns them one after
+    /// another. `Damaged` of this call means that the file is not a log.
+    ///
+    /// Call `open` once the reader has returned all operations and they are known to apply to one another.
+    pub fn recover_records<D: Disk>(
+        alloc: Global,
+        disk: &mut D,
+    ) -> Result<(EditLog, OpReader), StartFault>
+        ensures opened { IfOk result (λ r. Tells (D.state disk.old) → IsOpened ((D.state disk.old).reads 1) (D.state disk.new) r.0 r.1) }
+        ensures settled { IfOk result (λ r. (r.0.pending ≡ None) × (r.0.log.file ≡ 1)) }
+        ensures damaged { (at : ℕ) → IsErrOf result (start.Damaged at) → Tells (D.state disk.old) → log_of 1 ((D.state disk.old).reads 1) ≡ NoLog at }
+        ensures spent { IsErrOf result start.Spent → ⊥ }
+
+        // As for `recover`: a crash at any moment, a crash after the first sync.
+        ensures any_moment { Tells (D.state disk.old) → LeavesOnly 1 (D.state disk.old) (D.state disk.new)
+            (λ c. (D.state disk.old).leaves 1 c ⊎ IsAsFound 1 ((D.state disk.old).reads 1) c) }
+        ensures since_sync { Tells (D.state disk.old) →
+            (IsErrOf result start.StoreFault × LeavesOnly 1 (D.state disk.old) (D.state disk.new) ((D.state disk.old).leaves 1))
+            ⊎ LeavesFrom 1 (D.state disk.old) (D.state disk.new) (IsRecovered 1 ((D.state disk.old).reads 1)) }
+
+        ensures run { RunOn 1 (D.state disk.old) (D.state disk.new) }
+        ensures cause { IsErrOf result start.StoreFault → Rose (D.state disk.old).faults (D.state disk.new).faults }
+    {
+        let (log, records) = Log::recover_records(alloc, disk, NAMES)?;
+        let reader = OpReader {
+            records,
+            opening: 0,
+        };
+        Ok((EditLog { log, pending: None }, reader))
     }
 
     /// Commits the record of the opening after `last`, which is 0 if there is none. Returns `Spent` exactly

@@ -1,11 +1,12 @@
 //! Reading an edit log: each record is an operation, and the openings among them count from 1.
-ghost use Rattle.std.specs.Prelude.{◌≡◌, IfOk, map};
+ghost use Rattle.std.specs.Prelude.{◌≡◌, ℕ, IfOk, IsErrOf, map};
+ghost use Rattle.frame_log.specs.declared.fault.StartFault.TheVariants.{Damaged, StoreFault, Spent};
 ghost use Rattle.frame_log.specs.Scan.{frame_view};
-ghost use Rattle.edit_log.specs.Replay.{IsListOf, IsTaken, in_turn, then_last};
+ghost use Rattle.edit_log.specs.Replay.{IsListOf, IsNext, IsNoNext, IsTaken, in_turn, then_last};
 
 use crate::op_list::{OpList, PlacedOp};
 use edit_ops::EditOp;
-use frame_log::Frame;
+use frame_log::{Frame, StartFault};
 use hk_base::{NoMemory, RecordFault};
 use std::alloc::Global;
 
@@ -23,7 +24,7 @@ fn is_in_turn(last: u32, op: &EditOp) -> bool
 }
 
 /// Returns the last opening after the operation.
-fn opening_after(last: u32, op: &EditOp) -> u32
+pub(crate) fn opening_after(last: u32, op: &EditOp) -> u32
     ensures { result ≡ then_last last op.now }
 {
     match op {
@@ -48,6 +49,25 @@ fn next_op(alloc: Global, last: u32, payload: &[u8]) -> Result<Option<EditOp>, N
         return Ok(None);
     }
     Ok(Some(op))
+}
+
+/// Returns the operation that a record spells, with the offset of the gate before it. Returns `Damaged`
+/// if it spells none or one that is out of turn.
+pub(crate) fn read_record(
+    alloc: Global,
+    last: u32,
+    at: u64,
+    payload: &[u8],
+) -> Result<PlacedOp, StartFault>
+    ensures read { IfOk result (λ placed. (placed.at ≡ at) × IsNext last payload.now placed.op) }
+    ensures damaged { (other : ℕ) → IsErrOf result (Damaged other) → (other ≡ at) × IsNoNext last payload.now }
+    ensures fault { IsErrOf result StoreFault → ⊥ }
+    ensures spent { IsErrOf result Spent → ⊥ }
+{
+    match next_op(alloc, last, payload)? {
+        None => return Err(StartFault::Damaged { at }),
+        Some(op) => return Ok(PlacedOp { at, op }),
+    }
 }
 
 /// Reads the operations of the frames of a log, up to the first that is not one or is out of turn.
