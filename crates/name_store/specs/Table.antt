@@ -139,3 +139,12 @@ settled_ops false (Some op) = []
 
 abbrev pub settled_log : Bool → Option EditOp → Replayed → Replayed
 settled_log kept pending r = record { table = settled_table kept pending r.table; used = settled_used kept pending r.used }
+
+-- the rows of entries, whatever their paths
+abbrev pub rows_of_entries : List Entry → List Row
+rows_of_entries [] = []
+rows_of_entries (e ∷ es) = e.row ∷ rows_of_entries es
+
+-- the rows that the table keeps: those of its live entries
+abbrev pub kept_rows : NameTable → List Row
+kept_rows t = rows_of_entries t.rows

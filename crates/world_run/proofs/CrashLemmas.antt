@@ -111,8 +111,8 @@ finish-owns : (w : WorldState) (h : Hidden) (words : ℕ → ℕ) (drawn number 
     → FinishReply w reply fault told drawn logged w' → ServicesFit w → LinkedWorld w h → OwnLinks w (hidden_after w words (event.Finish number) told drawn w' h).ledger (OwnOfReply w.names reply told w'.names)
 finish-owns w h words drawn number None fault told logged w' at acts fit l = λ kept op own. absurd own
 finish-owns w h words drawn number (Some reply) fault told logged w' at acts fit l = λ kept op own may.
-    subst (λ (v : WorldState). FilesLinked (hidden_after w words (event.Finish number) told drawn v h).ledger w.keys.keys.table.rows (after_table (settled_names kept w.names).table op).rows) (sym acts.left)
-    (subst (λ (x : Line). FilesLinked (hidden_after w words (event.Finish number) x drawn (record w { names = acts.names }) h).ledger w.keys.keys.table.rows (after_table (settled_names kept w.names).table op).rows) (sym acts.told_is)
+    subst (λ (v : WorldState). FilesLinked (hidden_after w words (event.Finish number) told drawn v h).ledger w.keys.keys.table.rows (after_table (settled_names kept w.names).table op)) (sym acts.left)
+    (subst (λ (x : Line). FilesLinked (hidden_after w words (event.Finish number) x drawn (record w { names = acts.names }) h).ledger w.keys.keys.table.rows (after_table (settled_names kept w.names).table op)) (sym acts.told_is)
     (own-of-finish w h words drawn number reply fault acts.result acts.ops acts.names acts.finishes at fit l kept op (by-result own.result own.told_is own.own) may))
   where
     one-result : (a b : Result (Unit {0}) NameRefusal) → finish_line a ≡ finish_line b → a ≡ b

@@ -8,7 +8,7 @@ use Rattle.hk_base.specs.declared.names.Edek.{Edek}
 use Rattle.hk_base.specs.declared.names.VersionName.{VersionName}
 use Rattle.key_rows.specs.declared.rows.KeyRow.{KeyRow}
 use Rattle.inode_tree.specs.Rows.{Entry, has_children, is_dir_at, row_at, zone_of}
-use Rattle.name_store.specs.Table.{fits_zone, key_of_zone}
+use Rattle.name_store.specs.Table.{NameTable, fits_zone, key_of_zone}
 use Rattle.name_core.specs.declared.asks.OpenAsk.{OpenAsk}
 use Rattle.name_calls.specs.declared.calls.Ask.{Ask}
 use Rattle.name_calls.specs.declared.calls.Ask.TheVariants as ask
@@ -144,10 +144,10 @@ entered-draws enter ledger replies replied kept o place IsBirth at f =
     was d (inr i) = inr i
 
 -- files are linked with more entries too
-pub entered-files : (ledger entries : Ledger) (keys : List KeyRow) (rows : List Entry) → FilesLinked ledger keys rows → FilesLinked (ledger ++ entries) keys rows
-entered-files ledger entries keys rows f =
+pub entered-files : (ledger entries : Ledger) (keys : List KeyRow) (names : NameTable) → FilesLinked ledger keys names → FilesLinked (ledger ++ entries) keys names
+entered-files ledger entries keys names f =
     record {
-      files = λ x e i h. let d = f.files x e i h in record { draw = d.draw; entered = in-left (x.row.id, d.draw) ledger entries d.entered; of_key = d.of_key; opens = d.opens };
+      files = λ row e i h. let d = f.files row e i h in record { draw = d.draw; entered = in-left (row.id, d.draw) ledger entries d.entered; of_key = d.of_key; opens = d.opens };
       zones = f.zones;
     }
 
@@ -225,7 +225,7 @@ from-one opening id opened here = omega (arith, opened, here)
 -- the ask is open no more, and its draw may be entered
 pub linked-finished : (w : WorldState) (h : Hidden) (enter : Bool) (a : OpenAsk) (kept : KeptReply) (o : Option Draw) (names : NameService) → IsNames w.names → Answered w h a kept o
     → names.names.asks ≡ without w.names.names.asks a.id → next_id names.names ≡ next_id w.names.names
-    → ((k : Bool) → FilesLinked (with_entry enter kept o h.ledger) w.keys.keys.table.rows (settled k names).table.rows) → LinkedWorld w h → LinkedWorld (record w { names = names }) (entered_in enter kept o h)
+    → ((k : Bool) → FilesLinked (with_entry enter kept o h.ledger) w.keys.keys.table.rows (settled k names).table) → LinkedWorld w h → LinkedWorld (record w { names = names }) (entered_in enter kept o h)
 linked-finished w h enter a kept o names fit answered asks next files l =
     let member = open-in w.names.names.asks kept.id a answered.opened in
     let low : a.id < next_id w.names.names = each-in (λ (q : OpenAsk). q.id < next_id w.names.names) w.names.names.asks a fit.ids.of_asks member.0 in

@@ -15,7 +15,6 @@ use Rattle.key_rows.specs.Table.{Table}
 use Rattle.prop_text.specs.declared.lines.PropLine.{PropLine}
 use Rattle.name_calls.specs.declared.paths.NPath.{NPath}
 use Rattle.name_calls.specs.Paths.{read_path}
-use Rattle.inode_tree.specs.Rows.{Entry}
 use Rattle.edit_ops.specs.declared.ops.EditOp.{EditOp}
 use Rattle.edit_ops.specs.declared.ops.EditOp.TheVariants as op
 use Rattle.kms_acls.specs.declared.answers.Denied.{Denied}
@@ -71,8 +70,8 @@ abbrev KeepsNames : WorldState → Hidden → NameService → Type 0
 KeepsNames w h names = LinkedWorld (record w { names = names }) h
 
 -- files that are linked with an operation and without it
-with-pending : (ledger : Ledger) (keys : List KeyRow) (t : NameTable) (logs : EditOp) → FilesLinked ledger keys t.rows → FilesLinked ledger keys (after_table t logs).rows
-    → (kept : Bool) → FilesLinked ledger keys (settled_table kept (Some logs) t).rows
+with-pending : (ledger : Ledger) (keys : List KeyRow) (t : NameTable) (logs : EditOp) → FilesLinked ledger keys t → FilesLinked ledger keys (after_table t logs)
+    → (kept : Bool) → FilesLinked ledger keys (settled_table kept (Some logs) t)
 with-pending ledger keys t logs without with_it true = with_it
 with-pending ledger keys t logs without with_it false = without
 
@@ -89,7 +88,7 @@ DoneAndPending w h s c =
 
 deed-keeps : (w : WorldState) (h : Hidden) (s : NameState) (c : NameCall) → InPlace s.table.rows → KeepsNames w h (record { names = s; pending = None }) → DoneAndPending w h s c
 deed-keeps w h s (call.Mkdir p) good l =
-    let made : FilesLinked h.ledger w.keys.keys.table.rows (after_table s.table (op.Mkdir (next_id s) p)).rows =
+    let made : FilesLinked h.ledger w.keys.keys.table.rows (after_table s.table (op.Mkdir (next_id s) p)) =
     files-after h.ledger w.keys.keys.table.rows s.table (op.Mkdir (next_id s) p) good tt tt (l.files true) in
     let fits : LedgerFits h.ledger w.kept.replies h.replied s.asks (next_id (deed s (call.Mkdir p)).state) =
     ledger-more h.ledger w.kept.replies h.replied s.asks (next_id s) (next_id (deed s (call.Mkdir p)).state) (omega arith) l.ledger in (
@@ -102,7 +101,7 @@ deed-keeps w h s (call.Mkdir p) good l =
       },
     )
 deed-keeps w h s (call.Delete p recursive) good l =
-    let gone : FilesLinked h.ledger w.keys.keys.table.rows (after_table s.table (op.Remove p)).rows = files-after h.ledger w.keys.keys.table.rows s.table (op.Remove p) good tt tt (l.files true) in (
+    let gone : FilesLinked h.ledger w.keys.keys.table.rows (after_table s.table (op.Remove p)) = files-after h.ledger w.keys.keys.table.rows s.table (op.Remove p) good tt tt (l.files true) in (
       record { files = λ kept. gone; replies = l.replies; draws = l.draws; ledger = l.ledger },
       record { files = with-pending h.ledger w.keys.keys.table.rows s.table (op.Remove p) (l.files true) gone; replies = l.replies; draws = l.draws; ledger = l.ledger },
     )
@@ -273,13 +272,13 @@ finish-ledger w words h number drawn kept o result names at drew =
 -- the operation of a finish that nothing stops keeps the files linked
 pub finish-files : (w : WorldState) (h : Hidden) (enter : Bool) (k : Bool) (a : OpenAsk) (kept : KeptReply) (o : Option Draw) (edek : Option Edek) → IsNames w.names → LinkedWorld w h → Answered w h a kept o
     → kept.answer ≡ Given edek → first_cause (finish_causes (settled k w.names).table.rows a edek a.ask) ≡ None → (makes_file kept.id (Some (finish_op a.id edek a.ask)) ≡ true → enter ≡ true)
-    → FilesLinked (with_entry enter kept o h.ledger) w.keys.keys.table.rows (after_table (settled k w.names).table (finish_op a.id edek a.ask)).rows
+    → FilesLinked (with_entry enter kept o h.ledger) w.keys.keys.table.rows (after_table (settled k w.names).table (finish_op a.id edek a.ask))
 finish-files w h enter k a kept o edek fit l answered said free enters =
     let linked : KeyLinked w.keys.keys.table.rows edek o = subst (λ (x : KeyAnswer). KeyLinked w.keys.keys.table.rows (given x) o) said (l.replies.keys_open kept o answered.at) in
     files-after (with_entry enter kept o h.ledger) w.keys.keys.table.rows (settled k w.names).table (finish_op a.id edek a.ask) (rows-settled k w.names fit)
     (finish-fits (settled k w.names).table.rows a edek a.ask free)
     (finish-drawn enter h.ledger w.keys.keys.table.rows a kept o edek a.ask (open-in w.names.names.asks kept.id a answered.opened).1 linked enters)
-    (entered-files h.ledger (entered enter (entry_of (Some kept) (Some o))) w.keys.keys.table.rows (settled k w.names).table.rows (l.files k))
+    (entered-files h.ledger (entered enter (entry_of (Some kept) (Some o))) w.keys.keys.table.rows (settled k w.names).table (l.files k))
 
 -- a finish that was answered so and left this keeps the world linked, with the entry of its draw or without
 abbrev FinishKeeps : WorldState → Hidden → KeptReply → Option Draw → Result (Unit {0}) NameRefusal → NameService → Type 0
@@ -299,13 +298,13 @@ module _ (w : WorldState) (h : Hidden) (kept : KeptReply) (o : Option Draw) (a :
   pub closed-keeps : (enter : Bool) → LinkedWorld (record w { names = closed_service w.names a }) (entered_in enter kept o h)
   closed-keeps enter =
       linked-finished w h enter a kept o (closed_service w.names a) fit answered refl refl
-      (λ k. entered-files h.ledger (entered enter (entry_of (Some kept) (Some o))) w.keys.keys.table.rows (settled k w.names).table.rows (l.files k)) l
+      (λ k. entered-files h.ledger (entered enter (entry_of (Some kept) (Some o))) w.keys.keys.table.rows (settled k w.names).table (l.files k)) l
 
   -- or was settled
   settled-closed : (enter : Bool) (k : Bool) → LinkedWorld (record w { names = record { names = closed (settled k w.names) a.id; pending = None } }) (entered_in enter kept o h)
   settled-closed enter k =
       linked-finished w h enter a kept o (record { names = closed (settled k w.names) a.id; pending = None }) fit answered refl (next-settled k w.names fit)
-      (λ b. entered-files h.ledger (entered enter (entry_of (Some kept) (Some o))) w.keys.keys.table.rows (settled k w.names).table.rows (l.files k)) l
+      (λ b. entered-files h.ledger (entered enter (entry_of (Some kept) (Some o))) w.keys.keys.table.rows (settled k w.names).table (l.files k)) l
 
   written-keeps : (k : Bool) (edek : Option Edek) (result : Result (Unit {0}) NameRefusal) (changed : NameState) → kept.answer ≡ Given edek → Finishes (settled k w.names) a edek result changed
       → FinishKeeps w h kept o result (record { names = changed; pending = None })
@@ -329,7 +328,7 @@ module _ (w : WorldState) (h : Hidden) (kept : KeptReply) (o : Option Draw) (a :
       let enter : Bool = makes_file kept.id (Some (finish_op a.id edek a.ask)) in
       linked-finished w h enter a kept o (record { names = closed (settled k w.names) a.id; pending = Some (finish_op a.id edek a.ask) }) fit answered refl (next-settled k w.names fit)
       (with-pending (with_entry enter kept o h.ledger) w.keys.keys.table.rows (settled k w.names).table (finish_op a.id edek a.ask)
-      (entered-files h.ledger (entered enter (entry_of (Some kept) (Some o))) w.keys.keys.table.rows (settled k w.names).table.rows (l.files k))
+      (entered-files h.ledger (entered enter (entry_of (Some kept) (Some o))) w.keys.keys.table.rows (settled k w.names).table (l.files k))
       (finish-files w h enter k a kept o edek fit l answered said free (λ e. e))) l
 
   open-keeps : (answer : KeyAnswer) (fault : Type 0) (result : Result (Unit {0}) NameRefusal) (ops : List EditOp) (names : NameService) → kept.answer ≡ answer
@@ -393,17 +392,17 @@ keeps-linked lines w words now (event.Finish number) fault tells told drawn logg
 
 -- the promise
 
-files-open : (ledger : Ledger) (replied : List (Option Draw)) (place : ℕ) (IsBirth : ℕ → Type 0) (keys : List KeyRow) (rows : List Entry) (replies : List KeptReply) (asks : List OpenAsk) (next : ℕ) → NamesOnce keys → FilesLinked ledger keys rows
-    → DrawsFit ledger replied place IsBirth → LedgerFits ledger replies replied asks next → FilesOpen ledger keys rows
-files-open ledger replied place IsBirth keys rows replies asks next once f draws fits =
+files-open : (ledger : Ledger) (replied : List (Option Draw)) (place : ℕ) (IsBirth : ℕ → Type 0) (keys : List KeyRow) (names : NameTable) (replies : List KeptReply) (asks : List OpenAsk) (next : ℕ) → NamesOnce keys → FilesLinked ledger keys names
+    → DrawsFit ledger replied place IsBirth → LedgerFits ledger replies replied asks next → FilesOpen ledger keys names
+files-open ledger replied place IsBirth keys names replies asks next once f draws fits =
     record {
-      open_up = λ x e i is.
-          let d = f.files x e i is in
+      open_up = λ row e i is.
+          let d = f.files row e i is in
           record {
             draw = d.draw;
             entered = d.entered;
             of_key = d.of_key;
-            opens = λ row j birth. let alone = d.opens row j birth in (opens-named row e d.draw.dek alone ∙ d.of_key, opens-among keys row e d.draw.dek once j alone);
+            opens = λ key j birth. let alone = d.opens key j birth in (opens-named key e d.draw.dek alone ∙ d.of_key, opens-among keys key e d.draw.dek once j alone);
           };
       one_draw = fits.one_draw;
       apart = λ i j d g p q unlike. elim (draws.apart d g (inl (i, p)) (inl (j, q))) [
@@ -416,10 +415,10 @@ files-open ledger replied place IsBirth keys rows replies asks next once f draws
 pub linked-promise : (w : WorldState) (h : Hidden) → IsService w.keys → LinkedWorld w h → ZoneFilesOpen w h
 linked-promise w h fit l kept_keys kept_names =
     let later = later-settled kept_keys w.keys fit in
-    files-open h.ledger h.replied h.place (IsOldBirth w.keys.keys.table) (settled_keys kept_keys w.keys).table.rows (settled kept_names w.names).table.rows w.kept.replies w.names.names.asks (next_id w.names.names)
+    files-open h.ledger h.replied h.place (IsOldBirth w.keys.keys.table) (settled_keys kept_keys w.keys).table.rows (settled kept_names w.names).table w.kept.replies w.names.names.asks (next_id w.names.names)
     (names-with kept_keys w.keys.pending w.keys.keys.table fit.table (may-wait w.keys.pending w.keys.keys fit.waits))
-    (files-later h.ledger h.replied h.place (IsOldBirth w.keys.keys.table) w.keys.keys.table.rows (settled_keys kept_keys w.keys).table.rows (settled kept_names w.names).table.rows l.draws later.rows (l.files kept_names))
+    (files-later h.ledger h.replied h.place (IsOldBirth w.keys.keys.table) w.keys.keys.table.rows (settled_keys kept_keys w.keys).table.rows (settled kept_names w.names).table l.draws later.rows (l.files kept_names))
     l.draws l.ledger
 
-pub tables-open : (past : Past) (keys : Table) (names : NameTable) → NamesOnce keys.rows → LinkedTables past keys names → FilesOpen past.ledger keys.rows names.rows
-tables-open past keys names once l = files-open past.ledger [] past.place (IsRecordedBirth keys) keys.rows names.rows [] [] ((names.opening + 1) * 2 ^ 32) once l.files l.draws l.fits
+pub tables-open : (past : Past) (keys : Table) (names : NameTable) → NamesOnce keys.rows → LinkedTables past keys names → FilesOpen past.ledger keys.rows names
+tables-open past keys names once l = files-open past.ledger [] past.place (IsRecordedBirth keys) keys.rows names [] [] ((names.opening + 1) * 2 ^ 32) once l.files l.draws l.fits

@@ -4,6 +4,7 @@ use Rattle.std.specs.Prelude.{drop, length, if◌then◌else◌}
 use Rattle.std.specs.List.{AllByRecursion}
 use Rattle.std.proofs.lemmas.Bool.{le-leb}
 use Rattle.frame_log.specs.Format.{Found, IsAtRest, NoLog, frames_at, magic, starts_with}
+use Rattle.inode_tree.specs.declared.rows.Row.{Row}
 use Rattle.inode_tree.specs.Rows.{Entry, root_only}
 use Rattle.key_rows.specs.declared.rows.KeyCommand.{KeyCommand}
 use Rattle.key_rows.specs.declared.rows.KeyCommand.TheVariants.{Opened, Create, Roll, Delete}
@@ -35,7 +36,7 @@ none-drawn d (inr i) = absurd i
 nothing-linked : LinkedTables (record { ledger = []; place = 0 }) no_keys nothing_logged.table
 nothing-linked = record {
   files = record {
-    files = λ x e i h. elim i [ inl is ↦ let none : None ≡ Some e = ap (λ (y : Entry). edek_of y.row.kind) (sym is) ∙ h in absurd cc | inr none ↦ absurd none ];
+    files = λ row e i h. elim i [ inl is ↦ let none : None ≡ Some e = ap (λ (r : Row). edek_of r.kind) (sym is) ∙ h in absurd cc | inr none ↦ absurd none ];
     zones = λ x i. elim i [ inl is ↦ subst (λ (y : Entry). FitsZone (key_of_zone root_only y.path) y.row.kind) (sym is) tt | inr none ↦ absurd none ];
   };
   draws = record { taken = λ d i. absurd (none-drawn d i); born = λ d i. absurd (none-drawn d i); recent = λ d i. absurd (none-drawn d i); apart = λ d f i j. absurd (none-drawn d i) };

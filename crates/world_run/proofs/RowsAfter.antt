@@ -1,5 +1,5 @@
 -- The rows behind an operation of the edit log, and the files linked there.
-use Rattle.std.proofs.Common.{◌≡◌, inl, inr, ℕ, Bool, true, false, cond, not, ◌&&◌, List, [], ◌∷◌, ◌++◌, Option, Some, None, is_none, refl, sym, ap, subst, ◌∙◌, arith}
+use Rattle.std.proofs.Common.{◌≡◌, ◌⊎◌, inl, inr, ℕ, Bool, true, false, cond, not, ◌&&◌, List, [], ◌∷◌, ◌++◌, Option, Some, None, is_none, refl, sym, ap, subst, ◌∙◌, arith}
 use Rattle.std.specs.Prelude.{◌==◌, ⊤}
 use Rattle.std.specs.Option.{option_map}
 use Rattle.std.specs.Str.{bytes_eq}
@@ -19,7 +19,7 @@ use Rattle.inode_tree.proofs.Seeks.{same-is}
 use Rattle.edit_ops.specs.declared.ops.EditOp.{EditOp}
 use Rattle.edit_ops.specs.declared.ops.EditOp.TheVariants.{Opened, Mkdir, File, Remove, Zone}
 use Rattle.name_store.specs.Causes.{first_cause, row_causes, to_be_made}
-use Rattle.name_store.specs.Table.{NameTable, after_table, allows, fits_zone, id_of, key_of_zone, new_directory, new_file}
+use Rattle.name_store.specs.Table.{NameTable, after_table, allows, fits_zone, id_of, kept_rows, key_of_zone, new_directory, new_file, rows_of_entries}
 use Rattle.name_store.proofs.CauseLemmas.{MayUse, allowed, id-may-be-used, makeable, none-of-both}
 use Rattle.world_run.specs.Ledger.{Ledger}
 use Rattle.world_run.specs.Promise.{FitsZone, In, edek_of}
@@ -241,38 +241,86 @@ OpFits rows (File id p edek) = fits_zone (key_of_zone rows p) edek ≡ true
 OpFits rows (Zone p key) = (is_dir_at (row_at rows p) && not (has_children rows p) && is_none (zone_of rows p)) ≡ true
 OpFits rows _ = ⊤
 
--- a row that is put in keeps the files linked, where it is linked itself
-files-row : (ledger : Ledger) (keys : List KeyRow) (rows : List Entry) (e : Entry) → is_marked e.row ≡ false
-    → ((edek : Edek) → edek_of e.row.kind ≡ Some edek → HasDraw ledger keys e.row.id edek) → FitsZone (key_of_zone rows e.path) e.row.kind
-    → FilesLinked ledger keys rows → FilesLinked ledger keys (put e rows)
-files-row ledger keys rows e plain has fits f =
-    record {
-      files = λ x edek i h. elim (in-put x e rows i) [
-        | inl is ↦ subst (λ (y : Entry). HasDraw ledger keys y.row.id edek) (sym is) (has edek (ap (λ (y : Entry). edek_of y.row.kind) (sym is) ∙ h))
-        | inr old ↦ f.files x edek old h
-      ];
-      zones = λ x i. elim (in-put x e rows i) [
-        | inl is ↦ subst (λ (y : Entry). FitsZone (key_of_zone (put e rows) y.path) y.row.kind) (sym is)
-            (subst (λ (k : Option KeyName). FitsZone k e.row.kind) (sym (key-put e rows e.path plain)) fits)
-        | inr old ↦ subst (λ (k : Option KeyName). FitsZone k x.row.kind) (sym (key-put e rows x.path plain)) (f.zones x old)
-      ];
-    }
+-- the rows that are kept behind it
+
+of-entry : (row : Row) (es : List Entry) → In row (rows_of_entries es) → (x : Entry) × In x es × (row ≡ x.row)
+of-entry row [] i = absurd i
+of-entry row (e ∷ es) (inl is) = (e, inl refl, is)
+of-entry row (e ∷ es) (inr i) = let q = of-entry row es i in (q.0, inr q.1, q.2)
+
+in-rows : (row : Row) (x : Entry) (es : List Entry) → In x es → row ≡ x.row → In row (rows_of_entries es)
+in-rows row x [] i same = absurd i
+in-rows row x (e ∷ es) (inl is) same = inl (same ∙ ap (λ (y : Entry). y.row) is)
+in-rows row x (e ∷ es) (inr i) same = inr (in-rows row x es i same)
+
+-- the rows that an operation makes: its file's, or a directory's
+abbrev IsMadeBy : EditOp → Row → Type 0
+IsMadeBy (Opened opening) row = ⊥
+IsMadeBy (Mkdir id p) row = is_dir row.kind ≡ true
+IsMadeBy (File id p edek) row = row ≡ (new_file id p edek).row
+IsMadeBy (Remove p) row = ⊥
+IsMadeBy (Zone p key) row = is_dir row.kind ≡ true
+
+kept-put : (row : Row) (e : Entry) (es : List Entry) → In row (rows_of_entries (put e es)) → In row (rows_of_entries es) ⊎ (row ≡ e.row)
+kept-put row e es i =
+    let x = of-entry row (put e es) i in
+    elim (in-put x.0 e es x.1) [ inl is ↦ inr (x.2 ∙ ap (λ (y : Entry). y.row) is) | inr old ↦ inl (in-rows row x.0 es old x.2) ]
+
+-- each was kept before, or the operation makes it
+pub kept-after : (t : NameTable) (op : EditOp) (row : Row) → In row (kept_rows (after_table t op)) → In row (kept_rows t) ⊎ IsMadeBy op row
+kept-after t (Opened opening) row i = inl i
+kept-after t (Mkdir id p) row i = elim (kept-put row (new_directory id p) t.rows i) [ inl old ↦ inl old | inr is ↦ inr (ap (λ (r : Row). is_dir r.kind) is) ]
+kept-after t (File id p edek) row i = kept-put row (new_file id p edek) t.rows i
+kept-after t (Remove p) row i =
+    let x = of-entry row (removed p t.rows) i in
+    inl (in-rows row x.0 t.rows (in-removed p x.0 t.rows x.1).0 x.2)
+kept-after t (Zone p key) row i =
+    let x = of-entry row (set_kind t.rows (id_of (row_at t.rows p)) (Dir (Some key))) i in
+    elim (in-mark (id_of (row_at t.rows p)) key t.rows x.0 x.1) [
+      | inl is ↦ inr (ap (λ (r : Row). is_dir r.kind) x.2 ∙ ap is_dir is)
+      | inr old ↦ inl (in-rows row x.0 t.rows old x.2)
+    ]
+
+file-drawn : (ledger : Ledger) (keys : List KeyRow) (id : ℕ) (p : List (List ℕ)) (made : Option Edek) → OpHasDraw ledger keys (File id p made) → (e : Edek) → made ≡ Some e → HasDraw ledger keys id e
+file-drawn ledger keys id p None has e is = absurd cc
+file-drawn ledger keys id p (Some f) has e is = subst (HasDraw ledger keys id) (some-is f e is) has
+
+no-key : (kind : Kind) (e : Edek) → is_dir kind ≡ true → edek_of kind ≡ Some e → ⊥
+no-key (Dir key) e dir h = absurd cc
+no-key (FileKind edek) e dir h = absurd cc
+
+-- a file that is made has the operation's draw
+made-drawn : (ledger : Ledger) (keys : List KeyRow) (op : EditOp) (row : Row) (e : Edek) → OpHasDraw ledger keys op → IsMadeBy op row → edek_of row.kind ≡ Some e → HasDraw ledger keys row.id e
+made-drawn ledger keys (Opened opening) row e has made h = absurd made
+made-drawn ledger keys (Mkdir id p) row e has made h = absurd (no-key row.kind e made h)
+made-drawn ledger keys (File id p edek) row e has made h =
+    subst (λ (r : Row). HasDraw ledger keys r.id e) (sym made) (file-drawn ledger keys id p edek has e (ap (λ (r : Row). edek_of r.kind) (sym made) ∙ h))
+made-drawn ledger keys (Remove p) row e has made h = absurd made
+made-drawn ledger keys (Zone p key) row e has made h = absurd (no-key row.kind e made h)
+
+-- the zones of live entries
+
+abbrev ZonesFit : List Entry → Type 0
+ZonesFit rows = (x : Entry) → In x rows → FitsZone (key_of_zone rows x.path) x.row.kind
+
+-- a row that is put in fits its zone, and marks none
+zones-put : (rows : List Entry) (e : Entry) → is_marked e.row ≡ false → FitsZone (key_of_zone rows e.path) e.row.kind → ZonesFit rows → ZonesFit (put e rows)
+zones-put rows e plain fits zones x i = elim (in-put x e rows i) [
+  | inl is ↦ subst (λ (y : Entry). FitsZone (key_of_zone (put e rows) y.path) y.row.kind) (sym is)
+      (subst (λ (k : Option KeyName). FitsZone k e.row.kind) (sym (key-put e rows e.path plain)) fits)
+  | inr old ↦ subst (λ (k : Option KeyName). FitsZone k x.row.kind) (sym (key-put e rows x.path plain)) (zones x old)
+]
+
+zones-removed : (rows : List Entry) (p : List (List ℕ)) → ZonesFit rows → ZonesFit (removed p rows)
+zones-removed rows p zones x i =
+    let was = in-removed p x rows i in
+    subst (λ (k : Option KeyName). FitsZone k x.row.kind) (sym (key-removed p x.path rows was.1)) (zones x was.0)
 
 of-zone : (zone : Option KeyName) (edek : Option Edek) → fits_zone zone edek ≡ true → FitsZone zone (FileKind edek)
 of-zone None None h = refl
 of-zone None (Some e) h = absurd cc
 of-zone (Some key) None h = absurd cc
 of-zone (Some key) (Some e) h = (bytes_eq-Decides e.version.key key).0 h
-
-file-drawn : (ledger : Ledger) (keys : List KeyRow) (id : ℕ) (p : List (List ℕ)) (made : Option Edek) → OpHasDraw ledger keys (File id p made) → (e : Edek) → made ≡ Some e → HasDraw ledger keys id e
-file-drawn ledger keys id p None has e is = absurd cc
-file-drawn ledger keys id p (Some f) has e is = subst (HasDraw ledger keys id) (some-is f e is) has
-
-files-removed : (ledger : Ledger) (keys : List KeyRow) (rows : List Entry) (p : List (List ℕ)) → FilesLinked ledger keys rows → FilesLinked ledger keys (removed p rows)
-files-removed ledger keys rows p f = record {
-  files = λ x e i h. f.files x e (in-removed p x rows i).0 h;
-  zones = λ x i. let was = in-removed p x rows i in subst (λ (k : Option KeyName). FitsZone k x.row.kind) (sym (key-removed p x.path rows was.1)) (f.zones x was.0);
-}
 
 markable : (rows : List Entry) (p : List (List ℕ)) → (is_dir_at (row_at rows p) && not (has_children rows p) && is_none (zone_of rows p)) ≡ true → Markable rows p (id_of (row_at rows p))
 markable rows p may =
@@ -289,29 +337,30 @@ fits-dir : (zone : Option KeyName) (k : Kind) → is_dir k ≡ true → FitsZone
 fits-dir _ (Dir key) h = tt
 fits-dir _ (FileKind edek) h = absurd cc
 
-files-mark : (ledger : Ledger) (keys : List KeyRow) (rows : List Entry) (p : List (List ℕ)) (key : KeyName) (dir : ℕ) → InPlace rows → Markable rows p dir
-    → FilesLinked ledger keys rows → FilesLinked ledger keys (set_kind rows dir (Dir (Some key)))
-files-mark ledger keys rows p key dir good m f =
-    record {
-      files = λ x e i h. elim (in-mark dir key rows x i) [
-        | inl is ↦ let none : None ≡ Some e = ap edek_of (sym is) ∙ h in absurd cc
-        | inr old ↦ f.files x e old h
-      ];
-      zones = λ x i. zone x i (is_dir x.row.kind) refl;
-    }
+zones-mark : (rows : List Entry) (p : List (List ℕ)) (key : KeyName) (dir : ℕ) → InPlace rows → Markable rows p dir → ZonesFit rows → ZonesFit (set_kind rows dir (Dir (Some key)))
+zones-mark rows p key dir good m zones x i = zone (is_dir x.row.kind) refl
   where
-    zone : (x : Entry) → In x (set_kind rows dir (Dir (Some key))) → (b : Bool) → is_dir x.row.kind ≡ b → FitsZone (key_of_zone (set_kind rows dir (Dir (Some key))) x.path) x.row.kind
-    zone x i true is = fits-dir (key_of_zone (set_kind rows dir (Dir (Some key))) x.path) x.row.kind is
-    zone x i false is = elim (in-mark dir key rows x i) [
+    zone : (b : Bool) → is_dir x.row.kind ≡ b → FitsZone (key_of_zone (set_kind rows dir (Dir (Some key))) x.path) x.row.kind
+    zone true is = fits-dir (key_of_zone (set_kind rows dir (Dir (Some key))) x.path) x.row.kind is
+    zone false is = elim (in-mark dir key rows x i) [
       | inl marked ↦ let no : true ≡ false = ap is_dir (sym marked) ∙ is in absurd cc
-      | inr old ↦ subst (λ (k : Option KeyName). FitsZone k x.row.kind) (sym (key-mark dir key rows p good m x old is)) (f.zones x old)
+      | inr old ↦ subst (λ (k : Option KeyName). FitsZone k x.row.kind) (sym (key-mark dir key rows p good m x old is)) (zones x old)
     ]
 
-pub files-after : (ledger : Ledger) (keys : List KeyRow) (t : NameTable) (op : EditOp) → InPlace t.rows → OpFits t.rows op → OpHasDraw ledger keys op → FilesLinked ledger keys t.rows
-    → FilesLinked ledger keys (after_table t op).rows
-files-after ledger keys t (Opened opening) good fits has f = f
-files-after ledger keys t (Mkdir id p) good fits has f = files-row ledger keys t.rows (new_directory id p) refl (λ edek is. absurd cc) tt f
-files-after ledger keys t (File id p edek) good fits has f =
-    files-row ledger keys t.rows (new_file id p edek) refl (file-drawn ledger keys id p edek has) (of-zone (key_of_zone t.rows p) edek fits) f
-files-after ledger keys t (Remove p) good fits has f = files-removed ledger keys t.rows p f
-files-after ledger keys t (Zone p key) good fits has f = files-mark ledger keys t.rows p key (id_of (row_at t.rows p)) good (markable t.rows p fits) f
+zones-after : (t : NameTable) (op : EditOp) → InPlace t.rows → OpFits t.rows op → ZonesFit t.rows → ZonesFit (after_table t op).rows
+zones-after t (Opened opening) good fits zones = zones
+zones-after t (Mkdir id p) good fits zones = zones-put t.rows (new_directory id p) refl tt zones
+zones-after t (File id p edek) good fits zones = zones-put t.rows (new_file id p edek) refl (of-zone (key_of_zone t.rows p) edek fits) zones
+zones-after t (Remove p) good fits zones = zones-removed t.rows p zones
+zones-after t (Zone p key) good fits zones = zones-mark t.rows p key (id_of (row_at t.rows p)) good (markable t.rows p fits) zones
+
+pub files-after : (ledger : Ledger) (keys : List KeyRow) (t : NameTable) (op : EditOp) → InPlace t.rows → OpFits t.rows op → OpHasDraw ledger keys op → FilesLinked ledger keys t
+    → FilesLinked ledger keys (after_table t op)
+files-after ledger keys t op good fits has f = record {
+  files = λ row e i h. elim (kept-after t op row i) [ inl old ↦ f.files row e old h | inr made ↦ made-drawn ledger keys op row e has made h ];
+  zones = zones-after t op good fits f.zones;
+}
+
+-- an opening keeps all rows
+pub files-opened : (ledger : Ledger) (keys : List KeyRow) (t : NameTable) (opening : ℕ) → FilesLinked ledger keys t → FilesLinked ledger keys (record t { opening = opening })
+files-opened ledger keys t opening f = record { files = f.files; zones = f.zones }

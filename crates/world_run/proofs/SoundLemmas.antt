@@ -42,12 +42,12 @@ use Rattle.world_run.proofs.FinishLemmas.{linked-unentered, with_entry}
 use Rattle.world_run.proofs.KeepLemmas.{closed-keeps, finish-files, finish-ledger}
 use Rattle.world_run.proofs.Laters.{KeysLater, later-settled, later-with, old-recorded, then-later}
 use Rattle.world_run.proofs.Members.{numbered-beside, some-is}
-use Rattle.world_run.proofs.RowsAfter.{files-after}
+use Rattle.world_run.proofs.RowsAfter.{files-after, files-opened}
 use Rattle.world_run.proofs.WorldLemmas.{draws-later, files-later, opening-settled, rows-settled}
 
 -- what is linked with a ledger, whatever is kept: the files with and without the pending operation, and the ledger itself
 pub record LinkedFiles (w : WorldState) (ledger : Ledger) (place : ℕ) : Type 0 where
-  pub files : (kept : Bool) → FilesLinked ledger w.keys.keys.table.rows (settled_names kept w.names).table.rows
+  pub files : (kept : Bool) → FilesLinked ledger w.keys.keys.table.rows (settled_names kept w.names).table
   pub draws : DrawsFit ledger [] place (IsOldBirth w.keys.keys.table)
   pub fits : LedgerFits ledger [] [] [] (next_id w.names.names)
 
@@ -147,13 +147,13 @@ event-files lines w words now e fault tells told drawn logged w' h fit s l = go 
 -- what an event may write behind the settled edit log keeps the files linked
 
 abbrev pub OwnLinks : WorldState → Ledger → (Bool → EditOp → Type 0) → Type 0
-OwnLinks w ledger own = (kept : Bool) (op : EditOp) → own kept op → allows (settled_names kept w.names).table op ≡ true → FilesLinked ledger w.keys.keys.table.rows (after_table (settled_names kept w.names).table op).rows
+OwnLinks w ledger own = (kept : Bool) (op : EditOp) → own kept op → allows (settled_names kept w.names).table op ≡ true → FilesLinked ledger w.keys.keys.table.rows (after_table (settled_names kept w.names).table op)
 
 pub own-of-nothing : (w : WorldState) (h : Hidden) → OwnLinks w h.ledger NothingMore
 own-of-nothing w h kept written own may = absurd own
 
 pub own-of-opening : (w : WorldState) (h : Hidden) → ServicesFit w → LinkedWorld w h → OwnLinks w h.ledger AnOpening
-own-of-opening w h fit l kept (op.Opened opening) own may = l.files kept
+own-of-opening w h fit l kept (op.Opened opening) own may = files-opened h.ledger w.keys.keys.table.rows (settled_names kept w.names).table opening (l.files kept)
 own-of-opening w h fit l kept (op.Mkdir id p) own may = absurd cc
 own-of-opening w h fit l kept (op.File id p edek) own may = absurd cc
 own-of-opening w h fit l kept (op.Remove p) own may = absurd cc
@@ -162,12 +162,12 @@ own-of-opening w h fit l kept (op.Zone p key) own may = absurd cc
 pub own-of-call : (w : WorldState) (h : Hidden) (c : NameCall) (told : Line) (names : NameService) → ServicesFit w → LinkedWorld w h → OwnLinks w h.ledger (OwnOfNamesCall w.names c told names)
 own-of-call w h c told names fit l kept written own may = go c own.own.is
   where
-    go : (c : NameCall) → (deed (settled_names kept w.names) c).logs ≡ Some written → FilesLinked h.ledger w.keys.keys.table.rows (after_table (settled_names kept w.names).table written).rows
+    go : (c : NameCall) → (deed (settled_names kept w.names) c).logs ≡ Some written → FilesLinked h.ledger w.keys.keys.table.rows (after_table (settled_names kept w.names).table written)
     go (call.Mkdir p) is =
-        subst (λ (x : EditOp). FilesLinked h.ledger w.keys.keys.table.rows (after_table (settled_names kept w.names).table x).rows) (some-is (op.Mkdir (next_id (settled_names kept w.names)) p) written is)
+        subst (λ (x : EditOp). FilesLinked h.ledger w.keys.keys.table.rows (after_table (settled_names kept w.names).table x)) (some-is (op.Mkdir (next_id (settled_names kept w.names)) p) written is)
         (files-after h.ledger w.keys.keys.table.rows (settled_names kept w.names).table (op.Mkdir (next_id (settled_names kept w.names)) p) (rows-settled kept w.names fit.names) tt tt (l.files kept))
     go (call.Delete p recursive) is =
-        subst (λ (x : EditOp). FilesLinked h.ledger w.keys.keys.table.rows (after_table (settled_names kept w.names).table x).rows) (some-is (op.Remove p) written is)
+        subst (λ (x : EditOp). FilesLinked h.ledger w.keys.keys.table.rows (after_table (settled_names kept w.names).table x)) (some-is (op.Remove p) written is)
         (files-after h.ledger w.keys.keys.table.rows (settled_names kept w.names).table (op.Remove p) (rows-settled kept w.names fit.names) tt tt (l.files kept))
     go (call.Info p) is = absurd cc
     go (call.List p) is = absurd cc
@@ -199,8 +199,8 @@ pub own-of-finish : (w : WorldState) (h : Hidden) (words : ℕ → ℕ) (drawn :
     → OwnLinks w (hidden_after w words (event.Finish number) (finish_line result) drawn (record w { names = names }) h).ledger (OwnOfFinish w.names kept.id kept.answer result names)
 own-of-finish w h words drawn number kept fault result ops names serves at fit l k written own may =
     let drew = numbered-beside w.kept.replies h.replied number kept l.replies.as_many at in
-    subst (λ (ledger : Ledger). FilesLinked ledger w.keys.keys.table.rows (after_table (settled_names k w.names).table written).rows) (sym (finish-ledger w words h number drawn kept drew.0 result names at drew.1))
-    (subst (λ (x : EditOp). FilesLinked (with_entry (enters kept.id (finish_line result) names) kept drew.0 h.ledger) w.keys.keys.table.rows (after_table (settled_names k w.names).table x).rows) (sym own.is)
+    subst (λ (ledger : Ledger). FilesLinked ledger w.keys.keys.table.rows (after_table (settled_names k w.names).table written)) (sym (finish-ledger w words h number drawn kept drew.0 result names at drew.1))
+    (subst (λ (x : EditOp). FilesLinked (with_entry (enters kept.id (finish_line result) names) kept drew.0 h.ledger) w.keys.keys.table.rows (after_table (settled_names k w.names).table x)) (sym own.is)
     (finish-files w h (enters kept.id (finish_line result) names) k own.ask kept drew.0 own.edek fit.names l (record { opened = own.was_open; at = (number, at, drew.1) }) own.gave own.free
     (written-enters w.names kept fault result ops names k written own serves)))
 
@@ -213,19 +213,19 @@ pending-more false None waiting t fresh is = absurd cc
 pending-more false (Some q) waiting t fresh is = ap (after_table t) (some-is q waiting is)
 
 files-more : (w : WorldState) (ledger : Ledger) (place : ℕ) (own : Bool → EditOp → Type 0) (k : Bool) (r : Replayed) (more : Option EditOp) (found : Bool) → r.table ≡ (settled_names k w.names).table → LinkedFiles w ledger place → OwnLinks w ledger own
-    → IfSome more (λ op. ((k ≡ false) × (w.names.pending ≡ Some op)) ⊎ own k op) → AppliesToNames r more → FilesLinked ledger w.keys.keys.table.rows (settled_names_table found more (settled_names k w.names).table).rows
+    → IfSome more (λ op. ((k ≡ false) × (w.names.pending ≡ Some op)) ⊎ own k op) → AppliesToNames r more → FilesLinked ledger w.keys.keys.table.rows (settled_names_table found more (settled_names k w.names).table)
 files-more w ledger place own k r None found is f links which fits = f.files k
 files-more w ledger place own k r (Some more) false is f links which fits = f.files k
 files-more w ledger place own k r (Some more) true is f links (inl waits) fits =
-    subst (λ (t : NameTable). FilesLinked ledger w.keys.keys.table.rows t.rows) (pending-more k w.names.pending more w.names.names.table waits.0 waits.1) (f.files true)
+    subst (FilesLinked ledger w.keys.keys.table.rows) (pending-more k w.names.pending more w.names.names.table waits.0 waits.1) (f.files true)
 files-more w ledger place own k r (Some more) true is f links (inr mine) fits =
     links k more mine (ap (λ (t : NameTable). allows t more) (sym is) ∙ (both (allows r.table more) (is_fresh r.used more) fits).0)
 
 pub files-left : (w : WorldState) (ledger : Ledger) (place : ℕ) (own : Bool → EditOp → Type 0) (made : Replayed) (ops : List EditOp) (bytes : List ℕ) → made.table ≡ w.names.names.table → LinkedFiles w ledger place → OwnLinks w ledger own
-    → (left : IsLeftOf made w.names.pending own ops bytes) → (found : Bool) → FilesLinked ledger w.keys.keys.table.rows (settled_log found left.more (settled_log left.kept w.names.pending made)).table.rows
+    → (left : IsLeftOf made w.names.pending own ops bytes) → (found : Bool) → FilesLinked ledger w.keys.keys.table.rows (settled_log found left.more (settled_log left.kept w.names.pending made)).table
 files-left w ledger place own made ops bytes is f links left found =
     let settled_is : (settled_log left.kept w.names.pending made).table ≡ (settled_names left.kept w.names).table = ap (λ (t : NameTable). settled_names_table left.kept w.names.pending t) is in
-    subst (λ (t : NameTable). FilesLinked ledger w.keys.keys.table.rows (settled_names_table found left.more t).rows) (sym settled_is)
+    subst (λ (t : NameTable). FilesLinked ledger w.keys.keys.table.rows (settled_names_table found left.more t)) (sym settled_is)
     (files-more w ledger place own left.kept (settled_log left.kept w.names.pending made) left.more found settled_is f links left.more_is left.fits)
 
 -- the number of the opening never falls
@@ -255,10 +255,10 @@ opening-left w own made ops bytes is fit left found =
 
 -- the keys of a log, which grew from the world's, beside rows that are linked with the world's keys
 tables-of-files : (w : WorldState) (ledger : Ledger) (place : ℕ) (keys : Table) (names : NameTable) → ServicesFit w → KeysLater w.keys.keys.table keys → HasRoomForBirths keys
-    → LinkedFiles w ledger place → w.names.names.table.opening ≤ names.opening → FilesLinked ledger w.keys.keys.table.rows names.rows → LinkedTables (record { ledger = ledger; place = place }) keys names
+    → LinkedFiles w ledger place → w.names.names.table.opening ≤ names.opening → FilesLinked ledger w.keys.keys.table.rows names → LinkedTables (record { ledger = ledger; place = place }) keys names
 tables-of-files w ledger place keys names fit grew room f rises files =
     record {
-      files = files-later ledger [] place (IsOldBirth w.keys.keys.table) w.keys.keys.table.rows keys.rows names.rows f.draws grew.rows files;
+      files = files-later ledger [] place (IsOldBirth w.keys.keys.table) w.keys.keys.table.rows keys.rows names f.draws grew.rows files;
       draws = draws-later ledger [] place (IsOldBirth w.keys.keys.table) (IsRecordedBirth keys) (λ b old. old-recorded keys room b (grew.births b old)) f.draws;
       fits = record {
         one_draw = f.fits.one_draw;

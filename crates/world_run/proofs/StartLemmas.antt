@@ -43,6 +43,7 @@ use Rattle.world_run.proofs.CrashLemmas.{rests-now}
 use Rattle.world_run.proofs.KeepLemmas.{linked-promise}
 use Rattle.world_run.proofs.Laters.{next-rises, recorded-more}
 use Rattle.world_run.proofs.Members.{numbered-in}
+use Rattle.world_run.proofs.RowsAfter.{files-opened}
 use Rattle.world_run.proofs.SoundLemmas.{none-replied}
 use Rattle.name_store.proofs.Layers.{finds as finds_names, left_by_start as names_left_by_start, sound_left as sound_names_left}
 use Rattle.world_run.proofs.WorldLemmas.{draws-later, ledger-more}
@@ -113,7 +114,7 @@ keys-started past a b left s l =
 -- a later opening of the edit log
 opened-linked : (past : Past) (keys : Table) (t : NameTable) (opening : ℕ) → t.opening ≤ opening → LinkedTables past keys t → LinkedTables past keys (record t { opening = opening })
 opened-linked past keys t opening le l = record {
-  files = l.files;
+  files = files-opened past.ledger keys.rows t opening l.files;
   draws = l.draws;
   fits = ledger-more past.ledger [] [] [] ((t.opening + 1) * 2 ^ 32) ((opening + 1) * 2 ^ 32) (omega (arith, le)) l.fits;
 }
@@ -310,7 +311,7 @@ names-room old new r s told =
 
 first-linked : (past : Past) (table : Table) (names : NameTable) → LinkedTables past table names → LinkedWorld (first_world table names) (drawn_before past)
 first-linked past table names l = record {
-  files = λ kept. l.files;
+  files = λ kept. files-opened past.ledger table.rows names (names.opening + 1) l.files;
   replies = record { as_many = refl; keys_open = λ r o at. absurd (none-replied r o at); one_reply = λ n m d at other. absurd (numbered-in [] n (Some d) at) };
   draws = draws-later past.ledger [] past.place (IsRecordedBirth table) (IsOldBirth (first_world table names).keys.keys.table) (λ b h. inl h) l.draws;
   ledger = ledger-more past.ledger [] [] [] ((names.opening + 1) * 2 ^ 32) ((names.opening + 1) * 2 ^ 32 + 1) (omega arith) l.fits;

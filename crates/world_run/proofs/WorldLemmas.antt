@@ -3,7 +3,6 @@ use Rattle.std.proofs.Common.{◌≡◌, ◌⊎◌, inl, inr, ℕ, ◌+◌, ◌*
 use Rattle.std.specs.Prelude.{IfSome}
 use Rattle.key_rows.specs.declared.rows.KeyRow.{KeyRow}
 use Rattle.key_rows.specs.Table.{Table}
-use Rattle.inode_tree.specs.Rows.{Entry}
 use Rattle.kms_core.specs.Draws.{words_of_draw}
 use Rattle.kms_core.specs.State.{IsService, ServiceState, opened, settled}
 use Rattle.edit_ops.specs.declared.ops.EditOp.{EditOp}
@@ -20,21 +19,21 @@ use Rattle.world_run.specs.Linked.{DrawsFit, FilesLinked, IsDrawn, IsOldBirth, K
 use Rattle.world_run.proofs.Laters.{KeysLater, LaterAt, draw-later, later-opened, later-settled, opens-later, then-later}
 use Rattle.world_run.proofs.Members.{in-more, numbered-in, numbered-more, numbered-within, some-is}
 use Rattle.world_run.proofs.RowLemmas.{InPlace, in-place}
-use Rattle.world_run.proofs.RowsAfter.{rows-after}
+use Rattle.world_run.proofs.RowsAfter.{files-opened, rows-after}
 
 -- keys that change, and words that are drawn
 
-pub files-later : (ledger : Ledger) (replied : List (Option Draw)) (place : ℕ) (IsBirth : ℕ → Type 0) (olds keys : List KeyRow) (rows : List Entry) → DrawsFit ledger replied place IsBirth
-    → ((b : ℕ) → IsBirth b → LaterAt olds keys b) → FilesLinked ledger olds rows → FilesLinked ledger keys rows
-files-later ledger replied place IsBirth olds keys rows draws later f =
+pub files-later : (ledger : Ledger) (replied : List (Option Draw)) (place : ℕ) (IsBirth : ℕ → Type 0) (olds keys : List KeyRow) (names : NameTable) → DrawsFit ledger replied place IsBirth
+    → ((b : ℕ) → IsBirth b → LaterAt olds keys b) → FilesLinked ledger olds names → FilesLinked ledger keys names
+files-later ledger replied place IsBirth olds keys names draws later f =
     record {
-      files = λ x e i h.
-          let d = f.files x e i h in
+      files = λ row e i h.
+          let d = f.files row e i h in
           record {
             draw = d.draw;
             entered = d.entered;
             of_key = d.of_key;
-            opens = opens-later olds keys d.draw e (later d.draw.birth (draws.born d.draw (inl (x.row.id, d.entered)))) d.opens;
+            opens = opens-later olds keys d.draw e (later d.draw.birth (draws.born d.draw (inl (row.id, d.entered)))) d.opens;
           };
       zones = f.zones;
     }
@@ -55,7 +54,7 @@ draws-later ledger replied place IsBirth IsLater later d = record { taken = d.ta
 pub linked-keys : (w : WorldState) (h : Hidden) (keys : ServiceState) → KeysLater w.keys.keys.table keys.keys.table → LinkedWorld w h → LinkedWorld (record w { keys = keys }) h
 linked-keys w h keys later l =
     record {
-      files = λ kept. files-later h.ledger h.replied h.place (IsOldBirth w.keys.keys.table) w.keys.keys.table.rows keys.keys.table.rows (settled_names kept w.names).table.rows l.draws later.rows (l.files kept);
+      files = λ kept. files-later h.ledger h.replied h.place (IsOldBirth w.keys.keys.table) w.keys.keys.table.rows keys.keys.table.rows (settled_names kept w.names).table l.draws later.rows (l.files kept);
       replies = replies-later h.ledger h.replied h.place (IsOldBirth w.keys.keys.table) w.keys.keys.table.rows keys.keys.table.rows w.kept.replies l.draws later.rows l.replies;
       draws = draws-later h.ledger h.replied h.place (IsOldBirth w.keys.keys.table) (IsOldBirth keys.keys.table) later.births l.draws;
       ledger = l.ledger;
@@ -116,14 +115,14 @@ pub ledger-more : (ledger : Ledger) (replies : List KeptReply) (replied : List (
 ledger-more ledger replies replied asks next more over f =
     record { one_draw = f.one_draw; one_file = f.one_file; below = λ id d i. let h = f.below id d i in omega (arith, h, over); recent = f.recent; not_open = f.not_open; its_ask = f.its_ask }
 
-pub linked-names : (w : WorldState) (h : Hidden) (names : NameService) → ((kept : Bool) → FilesLinked h.ledger w.keys.keys.table.rows (settled_names kept names).table.rows)
+pub linked-names : (w : WorldState) (h : Hidden) (names : NameService) → ((kept : Bool) → FilesLinked h.ledger w.keys.keys.table.rows (settled_names kept names).table)
     → LedgerFits h.ledger w.kept.replies h.replied names.names.asks (next_id names.names) → LinkedWorld w h → LinkedWorld (record w { names = names }) h
 linked-names w h names files fits l = record { files = files; replies = l.replies; draws = l.draws; ledger = fits }
 
 -- the one that a start finds where the pending operation was kept, or not
 pub linked-reopened : (w : WorldState) (h : Hidden) (kept : Bool) (table : NameTable) → table ≡ (settled_names kept w.names).table → IsNames w.names → LinkedWorld w h → LinkedWorld (record w { names = started table }) h
 linked-reopened w h kept table is fit l =
-    linked-names w h (started table) (λ again. subst (λ (t : NameTable). FilesLinked h.ledger w.keys.keys.table.rows t.rows) (sym is) (l.files kept)) (
+    linked-names w h (started table) (λ again. files-opened h.ledger w.keys.keys.table.rows table (table.opening + 1) (subst (FilesLinked h.ledger w.keys.keys.table.rows) (sym is) (l.files kept))) (
     record {
       one_draw = l.ledger.one_draw;
       one_file = l.ledger.one_file;
@@ -160,7 +159,7 @@ pub linked-ask : (w : WorldState) (h : Hidden) (q : OpenAsk) (names : NameState)
     → q.id ≡ next_id w.names.names → LinkedWorld w h → LinkedWorld (with_note (record { id = q.id; want = q.want }) (record w { names = record w.names { names = names } })) h
 linked-ask w h q names table asks next new l =
     record {
-      files = λ kept. subst (λ (t : NameTable). FilesLinked h.ledger w.keys.keys.table.rows (settled_table kept w.names.pending t).rows) (sym table) (l.files kept);
+      files = λ kept. subst (λ (t : NameTable). FilesLinked h.ledger w.keys.keys.table.rows (settled_table kept w.names.pending t)) (sym table) (l.files kept);
       replies = l.replies;
       draws = l.draws;
       ledger = subst (λ (open_asks : List OpenAsk). LedgerFits h.ledger w.kept.replies h.replied open_asks (next_id names)) (sym asks)
@@ -261,7 +260,7 @@ pub linked-reply : (w : WorldState) (h : Hidden) (keys : ServiceState) (drawn : 
 linked-reply w h keys drawn r o later n l =
     let replies = replies-later h.ledger h.replied h.place (IsOldBirth w.keys.keys.table) w.keys.keys.table.rows keys.keys.table.rows w.kept.replies l.draws later.rows l.replies in
     record {
-      files = λ kept. files-later h.ledger h.replied h.place (IsOldBirth w.keys.keys.table) w.keys.keys.table.rows keys.keys.table.rows (settled_names kept w.names).table.rows l.draws later.rows (l.files kept);
+      files = λ kept. files-later h.ledger h.replied h.place (IsOldBirth w.keys.keys.table) w.keys.keys.table.rows keys.keys.table.rows (settled_names kept w.names).table l.draws later.rows (l.files kept);
       replies = replies-reply w h keys drawn r o n l.draws replies;
       draws = draws-reply w h keys drawn r o later.births n l.draws;
       ledger = ledger-reply w h keys drawn r o n l.draws l.replies l.ledger;

@@ -21,4 +21,4 @@ SoundFilesAreWhole = (past : Past) (c : Image) (at : ℕ) → SoundFiles past c 
 abbrev pub SoundFilesOpen : Type 0
 SoundFilesOpen =
     (past : Past) (c : Image) (s : SoundFiles past c) (found found_names : Bool)
-    → FilesOpen past.ledger (settled_table found s.more s.table).rows (settled_log found_names s.more_ops s.made).table.rows
+    → FilesOpen past.ledger (settled_table found s.more s.table).rows (settled_log found_names s.more_ops s.made).table

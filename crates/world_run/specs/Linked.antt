@@ -2,6 +2,7 @@
 use Rattle.std.specs.Prelude.{◌≡◌, ◌⊎◌, ◌+◌, ◌*◌, ◌^◌, ◌<◌, ◌≤◌, ℕ, ⊤, Bool, List, [], ◌∷◌, length, Option, None, Some}
 use Rattle.hk_base.specs.Disk.{DiskState, Image, IsImage}
 use Rattle.hk_base.specs.declared.names.Edek.{Edek}
+use Rattle.inode_tree.specs.declared.rows.Row.{Row}
 use Rattle.inode_tree.specs.Rows.{Entry}
 use Rattle.edit_ops.specs.declared.ops.EditOp.{EditOp}
 use Rattle.key_rows.specs.declared.rows.KeyCommand.{KeyCommand}
@@ -11,7 +12,7 @@ use Rattle.kms_core.specs.Draws.{words_of_draw}
 use Rattle.kms_core.specs.Opening.{unseals}
 use Rattle.kms_core.specs.State.{IsService}
 use Rattle.kms_store.specs.Store.{IsSoundLog, settled_table}
-use Rattle.name_store.specs.Table.{NameTable, Replayed, key_of_zone, settled_log}
+use Rattle.name_store.specs.Table.{NameTable, Replayed, kept_rows, key_of_zone, settled_log}
 use Rattle.name_store.specs.Store.{IsSoundLog as IsSoundNames}
 use Rattle.name_core.specs.declared.asks.OpenAsk.{OpenAsk}
 use Rattle.name_calls.specs.declared.calls.KeyAnswer.{KeyAnswer}
@@ -38,9 +39,10 @@ pub record HasDraw (ledger : Ledger) (rows : List KeyRow) (id : ℕ) (e : Edek) 
   pub of_key : e.version.key ≡ draw.version.key
   pub opens : OpensTo rows draw e
 
-pub record FilesLinked (ledger : Ledger) (keys : List KeyRow) (rows : List Entry) : Type 0 where
-  pub files : (x : Entry) (e : Edek) → In x rows → edek_of x.row.kind ≡ Some e → HasDraw ledger keys x.row.id e
-  pub zones : (x : Entry) → In x rows → FitsZone (key_of_zone rows x.path) x.row.kind
+-- each file that the table keeps has a draw, and each live entry fits its zone
+pub record FilesLinked (ledger : Ledger) (keys : List KeyRow) (names : NameTable) : Type 0 where
+  pub files : (row : Row) (e : Edek) → In row (kept_rows names) → edek_of row.kind ≡ Some e → HasDraw ledger keys row.id e
+  pub zones : (x : Entry) → In x names.rows → FitsZone (key_of_zone names.rows x.path) x.row.kind
 
 -- the key of a kept reply, and its draw
 abbrev pub KeyLinked : List KeyRow → Option Edek → Option Draw → Type 0
@@ -95,7 +97,7 @@ pub record LedgerFits (ledger : Ledger) (replies : List KeptReply) (replied : Li
 
 -- From event to event, with and without the pending operation of the namesystem.
 pub record LinkedWorld (w : WorldState) (h : Hidden) : Type 0 where
-  pub files : (kept : Bool) → FilesLinked h.ledger w.keys.keys.table.rows (settled_names kept w.names).table.rows
+  pub files : (kept : Bool) → FilesLinked h.ledger w.keys.keys.table.rows (settled_names kept w.names).table
   pub replies : RepliesLinked w.keys.keys.table.rows w.kept.replies h.replied
   pub draws : DrawsFit h.ledger h.replied h.place (IsOldBirth w.keys.keys.table)
   pub ledger : LedgerFits h.ledger w.kept.replies h.replied w.names.names.asks (next_id w.names.names)
@@ -103,7 +105,7 @@ pub record LinkedWorld (w : WorldState) (h : Hidden) : Type 0 where
 -- What holds of two tables that are found in the files, while nothing is kept: files are linked, the births of the ledger are of
 -- openings that the key log records, and its ids of openings that the edit log records.
 pub record LinkedTables (past : Past) (keys : Table) (names : NameTable) : Type 0 where
-  pub files : FilesLinked past.ledger keys.rows names.rows
+  pub files : FilesLinked past.ledger keys.rows names
   pub draws : DrawsFit past.ledger [] past.place (IsRecordedBirth keys)
   pub fits : LedgerFits past.ledger [] [] [] ((names.opening + 1) * 2 ^ 32)
 

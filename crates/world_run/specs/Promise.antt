@@ -4,12 +4,13 @@ use Rattle.hk_base.specs.declared.names.Edek.{Edek}
 use Rattle.hk_base.specs.declared.names.KeyName.{KeyName}
 use Rattle.inode_tree.specs.declared.rows.Kind.{Kind}
 use Rattle.inode_tree.specs.declared.rows.Kind.TheVariants.{Dir, File}
+use Rattle.inode_tree.specs.declared.rows.Row.{Row}
 use Rattle.inode_tree.specs.Rows.{Entry}
 use Rattle.key_rows.specs.declared.rows.KeyRow.{KeyRow}
 use Rattle.kms_core.specs.Draws.{words_of_draw}
 use Rattle.kms_core.specs.Opening.{unseals}
 use Rattle.kms_core.specs.State.{settled}
-use Rattle.name_store.specs.Table.{key_of_zone}
+use Rattle.name_store.specs.Table.{NameTable, kept_rows, key_of_zone}
 use Rattle.name_core.specs.State.{settled as settled_names}
 use Rattle.world_run.specs.World.{WorldState}
 use Rattle.world_run.specs.Ledger.{Draw, Hidden, Ledger}
@@ -46,16 +47,16 @@ pub record OpensToItsDraw (ledger : Ledger) (rows : List KeyRow) (id : ℕ) (ede
   pub of_key : edek.version.key ≡ draw.version.key
   pub opens : (row : KeyRow) → In row rows → row.birth ≡ draw.birth → (row.name ≡ draw.version.key) × (unseals rows edek ≡ Some draw.dek)
 
--- The promise on zone files, of the rows of the namesystem beside the rows of the keys.
-pub record FilesOpen (ledger : Ledger) (keys : List KeyRow) (rows : List Entry) : Type 0 where
-  -- each file's encrypted key opens to the data key drawn for it
-  pub open_up : (file : Entry) (edek : Edek) → In file rows → edek_of file.row.kind ≡ Some edek → OpensToItsDraw ledger keys file.row.id edek
+-- The promise on zone files, of the table of the namesystem beside the rows of the keys.
+pub record FilesOpen (ledger : Ledger) (keys : List KeyRow) (names : NameTable) : Type 0 where
+  -- the encrypted key of each file that the table keeps opens to the data key drawn for it
+  pub open_up : (file : Row) (edek : Edek) → In file (kept_rows names) → edek_of file.kind ≡ Some edek → OpensToItsDraw ledger keys file.id edek
   -- the ledger has one draw for an id, and draws of two files have no word in common
   pub one_draw : (id : ℕ) (d f : Draw) → In (id, d) ledger → In (id, f) ledger → d ≡ f
   pub apart : (i j : ℕ) (d f : Draw) → In (i, d) ledger → In (j, f) ledger → (i ≡ j → ⊥) → Apart d f
   -- a file has an encrypted key exactly where it lies in a zone, and then of that zone's key
-  pub of_zone : (file : Entry) → In file rows → FitsZone (key_of_zone rows file.path) file.row.kind
+  pub of_zone : (file : Entry) → In file names.rows → FitsZone (key_of_zone names.rows file.path) file.row.kind
 
 -- with and without the pending command, and with and without the pending operation
 abbrev pub ZoneFilesOpen : WorldState → Hidden → Type 0
-ZoneFilesOpen w h = (kept_keys kept_names : Bool) → FilesOpen h.ledger (settled kept_keys w.keys).table.rows (settled_names kept_names w.names).table.rows
+ZoneFilesOpen w h = (kept_keys kept_names : Bool) → FilesOpen h.ledger (settled kept_keys w.keys).table.rows (settled_names kept_names w.names).table
