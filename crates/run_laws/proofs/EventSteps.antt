@@ -19,6 +19,7 @@ use Rattle.hk_events.specs.declared.event.Event.{Event}
 use Rattle.hk_events.specs.declared.event.Event.TheVariants as event
 use Rattle.hk_events.specs.declared.event.Line.{Line}
 use Rattle.world_run.specs.declared.kept.KeptReply.{KeptReply}
+use Rattle.world_run.specs.declared.kept.KeptReply.TheVariants.{ToAsk}
 use Rattle.world_run.specs.Acknowledged.{Acknowledged}
 use Rattle.world_run.specs.Step.{AskAt, DrawActs, FinishReply, NamesAct, PathActs, Step, after_ask, delete_with, kept_reply, zone_with}
 use Rattle.world_run.specs.World.{Kept, WorldState, numbered, with_names, with_reply}
@@ -102,7 +103,7 @@ draw-moves lines w words now (Some note) told drawn logged w' (inl d) = at w (wi
 
 finish-moves : (w : WorldState) (o : Option KeptReply) (told : Line) (drawn : ℕ) (logged : Acknowledged) (w' : WorldState) → FinishReply w o AnyFault told drawn logged w' → Moves w w'
 finish-moves w None told drawn logged w' u = rests w w' u.same
-finish-moves w (Some kept) told drawn logged w' f = at w (record w { names = f.names }) w' f.left (turns w f.names (Stepped (Finished kept.id kept.answer f.result f.ops f.finishes)))
+finish-moves w (Some (ToAsk id answer)) told drawn logged w' f = at w (record w { names = f.names }) w' f.left (turns w f.names (Stepped (Finished id answer f.result f.ops f.finishes)))
 
 step-moves : (lines : List PropLine) (w : WorldState) (words : ℕ → ℕ) (now : ℕ) (e : Event) (told : Line) (drawn : ℕ) (logged : Acknowledged) (w' : WorldState)
     → Step lines w words now e AnyFault DiskTells told drawn logged w' → Moves w w'

@@ -31,6 +31,7 @@ use Rattle.hk_events.specs.declared.event.Event.TheVariants as event
 use Rattle.hk_events.specs.declared.event.Line.{Line}
 use Rattle.hk_events.specs.declared.event.Line.TheVariants as line
 use Rattle.world_run.specs.declared.kept.KeptReply.{KeptReply}
+use Rattle.world_run.specs.declared.kept.KeptReply.TheVariants.{ToAsk}
 use Rattle.world_run.specs.Step.{AskAt, DrawActs, FinishReply, after_ask, ask_line, finish_line, kept_reply, zone_with}
 use Rattle.world_run.specs.World.{WorldState, next_note, next_reply, numbered, with_names}
 use Rattle.run_laws.specs.Runs.{Happens, Leads, RunsRefuseForTheZone, ask_of}
@@ -149,7 +150,7 @@ since-ask w a number note w' names acc =
 -- the draw, whose reply is kept for the ask of the note
 record Gives (note : AskNote) (number : ℕ) (w : WorldState) : Type 0 where
   given : KeyAnswer
-  replied : numbered w.kept.replies number ≡ Some (record { id = note.id; answer = given })
+  replied : numbered w.kept.replies number ≡ Some (ToAsk note.id given)
   fits : Fits note.want given
 
 gives : (w : WorldState) (number : ℕ) (note : AskNote) (reply_number : ℕ) (reply : Option KmsReply) (w' : WorldState) → numbered w.kept.notes number ≡ Some note
@@ -174,18 +175,18 @@ record Ends (w : WorldState) (id : ℕ) (given : KeyAnswer) (w' : WorldState) : 
   ops : List EditOp
   serves : FinishServes w.names id given AnyFault (Err refusal.ZoneChanged) ops w'.names
 
-ends : (w : WorldState) (number : ℕ) (kept : KeptReply) (w' : WorldState) → numbered w.kept.replies number ≡ Some kept → Happens w (event.Finish number) (line.Refused refusal.ZoneChanged) w' → Ends w kept.id kept.answer w'
-ends w number kept w' replied h = go (subst (λ (o : Option KeptReply). FinishReply w o AnyFault (line.Refused refusal.ZoneChanged) h.drawn h.logged w') replied h.step)
+ends : (w : WorldState) (number : ℕ) (id : ℕ) (given : KeyAnswer) (w' : WorldState) → numbered w.kept.replies number ≡ Some (ToAsk id given) → Happens w (event.Finish number) (line.Refused refusal.ZoneChanged) w' → Ends w id given w'
+ends w number id given w' replied h = go (subst (λ (o : Option KeptReply). FinishReply w o AnyFault (line.Refused refusal.ZoneChanged) h.drawn h.logged w') replied h.step)
   where
     refused : (result : Result (Unit {0}) NameRefusal) → line.Refused refusal.ZoneChanged ≡ finish_line result → result ≡ Err refusal.ZoneChanged
     refused (Ok done) is = absurd cc
     refused (Err why) is = cc
 
-    go : FinishReply w (Some kept) AnyFault (line.Refused refusal.ZoneChanged) h.drawn h.logged w' → Ends w kept.id kept.answer w'
+    go : FinishReply w (Some (ToAsk id given)) AnyFault (line.Refused refusal.ZoneChanged) h.drawn h.logged w' → Ends w id given w'
     go f = record {
       ops = f.ops;
-      serves = subst (λ (s : NameService). FinishServes w.names kept.id kept.answer AnyFault (Err refusal.ZoneChanged) f.ops s) (sym (ap (λ (x : WorldState). x.names) f.left))
-          (subst (λ (r : Result (Unit {0}) NameRefusal). FinishServes w.names kept.id kept.answer AnyFault r f.ops f.names) (refused f.result f.told_is) f.finishes);
+      serves = subst (λ (s : NameService). FinishServes w.names id given AnyFault (Err refusal.ZoneChanged) f.ops s) (sym (ap (λ (x : WorldState). x.names) f.left))
+          (subst (λ (r : Result (Unit {0}) NameRefusal). FinishServes w.names id given AnyFault r f.ops f.names) (refused f.result f.told_is) f.finishes);
     }
 
 -- it is refused so only where its ask is open, and where it was given no refusal
@@ -225,7 +226,7 @@ runs_refuse_for_the_zone w e a number note asked before_draw ready reply_number 
     gave = gives ready number note reply_number reply drawn ((leads-keep asked before_draw ready leads).notes number note acc.noted) draws
 
     finish : Ends last note.id gave.given refused
-    finish = ends last reply_number (record { id = note.id; answer = gave.given }) refused ((leads-keep drawn before_finish last leads').replies reply_number _ gave.replied) finishes
+    finish = ends last reply_number note.id gave.given refused ((leads-keep drawn before_finish last leads').replies reply_number _ gave.replied) finishes
 
     given : (edek : Option Edek) × (gave.given ≡ answer.Given edek)
     given = was-given last.names note.id gave.given finish.ops refused.names finish.serves

@@ -26,6 +26,7 @@ use Rattle.hk_events.specs.declared.event.Event.TheVariants as event
 use Rattle.hk_events.specs.declared.event.Line.{Line}
 use Rattle.world_run.specs.declared.fault.WorldFault.{WorldFault}
 use Rattle.world_run.specs.declared.kept.KeptReply.{KeptReply}
+use Rattle.world_run.specs.declared.kept.KeptReply.TheVariants.{ToAsk}
 use Rattle.world_run.specs.Acknowledged.{Acknowledged, HoldsLogs, Survives}
 use Rattle.world_run.specs.Does.{Happens}
 use Rattle.world_run.specs.Own.{OwnKeysOfEvent, OwnOfEvent, OwnOfPath, OwnOfReply}
@@ -110,10 +111,10 @@ rests-now d r keys_file names_file fit done s c image =
 finish-owns : (w : WorldState) (h : Hidden) (words : ℕ → ℕ) (drawn number : ℕ) (reply : Option KeptReply) (fault : Type 0) (told : Line) (logged : Acknowledged) (w' : WorldState) → numbered w.kept.replies number ≡ reply
     → FinishReply w reply fault told drawn logged w' → ServicesFit w → LinkedWorld w h → OwnLinks w (hidden_after w words (event.Finish number) told drawn w' h).ledger (OwnOfReply w.names reply told w'.names)
 finish-owns w h words drawn number None fault told logged w' at acts fit l = λ kept op own. absurd own
-finish-owns w h words drawn number (Some reply) fault told logged w' at acts fit l = λ kept op own may.
+finish-owns w h words drawn number (Some (ToAsk ask_id answer)) fault told logged w' at acts fit l = λ kept op own may.
     subst (λ (v : WorldState). FilesLinked (hidden_after w words (event.Finish number) told drawn v h).ledger w.keys.keys.table.rows (after_table (settled_names kept w.names).table op)) (sym acts.left)
     (subst (λ (x : Line). FilesLinked (hidden_after w words (event.Finish number) x drawn (record w { names = acts.names }) h).ledger w.keys.keys.table.rows (after_table (settled_names kept w.names).table op)) (sym acts.told_is)
-    (own-of-finish w h words drawn number reply fault acts.result acts.ops acts.names acts.finishes at fit l kept op (by-result own.result own.told_is own.own) may))
+    (own-of-finish w h words drawn number ask_id answer fault acts.result acts.ops acts.names acts.finishes at fit l kept op (by-result own.result own.told_is own.own) may))
   where
     one-result : (a b : Result (Unit {0}) NameRefusal) → finish_line a ≡ finish_line b → a ≡ b
     one-result (Ok u) (Ok v) is = refl
@@ -121,11 +122,11 @@ finish-owns w h words drawn number (Some reply) fault told logged w' at acts fit
     one-result (Ok u) (Err why) is = absurd (cc is)
     one-result (Err why) (Ok u) is = absurd (cc is)
 
-    by-result : (result : Result (Unit {0}) NameRefusal) → told ≡ finish_line result → {kept : Bool} {op : EditOp} → OwnOfFinish w.names reply.id reply.answer result w'.names kept op
-        → OwnOfFinish w.names reply.id reply.answer acts.result acts.names kept op
+    by-result : (result : Result (Unit {0}) NameRefusal) → told ≡ finish_line result → {kept : Bool} {op : EditOp} → OwnOfFinish w.names ask_id answer result w'.names kept op
+        → OwnOfFinish w.names ask_id answer acts.result acts.names kept op
     by-result result is {kept} {op} o =
-        subst (λ (r : Result (Unit {0}) NameRefusal). OwnOfFinish w.names reply.id reply.answer r acts.names kept op) (one-result result acts.result (sym is ∙ acts.told_is))
-        (subst (λ (v : WorldState). OwnOfFinish w.names reply.id reply.answer result v.names kept op) acts.left o)
+        subst (λ (r : Result (Unit {0}) NameRefusal). OwnOfFinish w.names ask_id answer r acts.names kept op) (one-result result acts.result (sym is ∙ acts.told_is))
+        (subst (λ (v : WorldState). OwnOfFinish w.names ask_id answer result v.names kept op) acts.left o)
 
 event-owns : (lines : List PropLine) (w : WorldState) (words : ℕ → ℕ) (now : ℕ) (e : Event) (fault tells : Type 0) (told : Line) (drawn : ℕ) (logged : Acknowledged) (w' : WorldState) (h : Hidden) → ServicesFit w
     → Step lines w words now e fault tells told drawn logged w' → LinkedWorld w h → OwnLinks w (hidden_after w words e told drawn w' h).ledger (OwnOfEvent w e told w')

@@ -12,16 +12,18 @@ use Rattle.name_store.specs.Table.{NameTable, fits_zone, key_of_zone}
 use Rattle.name_core.specs.declared.asks.OpenAsk.{OpenAsk}
 use Rattle.name_calls.specs.declared.calls.Ask.{Ask}
 use Rattle.name_calls.specs.declared.calls.Ask.TheVariants as ask
+use Rattle.name_calls.specs.declared.calls.KeyAnswer.{KeyAnswer}
 use Rattle.name_calls.specs.declared.calls.NameRefusal.{NameRefusal}
 use Rattle.name_calls.specs.declared.calls.NameRefusal.TheVariants as refusal
 use Rattle.name_core.specs.Asks.{finish_causes, finish_op, is_other_key, is_other_zone, open_ask, without}
 use Rattle.name_core.specs.Calls.{first_cause, path_causes, to_be_made}
 use Rattle.name_core.specs.State.{IsNames, IsRising, NameService, next_id, settled}
 use Rattle.world_run.specs.declared.kept.KeptReply.{KeptReply}
+use Rattle.world_run.specs.declared.kept.KeptReply.TheVariants.{ToAsk}
 use Rattle.world_run.specs.World.{WorldState, numbered}
-use Rattle.world_run.specs.Ledger.{Draw, Hidden, Ledger, entered, entry_of, makes_file}
+use Rattle.world_run.specs.Ledger.{Draw, Hidden, Ledger, entered, entry_under, makes_file}
 use Rattle.world_run.specs.Promise.{In}
-use Rattle.world_run.specs.Linked.{DrawsFit, FilesLinked, HasDraw, IsDrawn, IsOldBirth, KeyLinked, LedgerFits, LinkedWorld, Replied, RepliesLinked}
+use Rattle.world_run.specs.Linked.{DrawsFit, FilesLinked, HasDraw, IsDrawn, IsOldBirth, IsReplyTo, KeyLinked, LedgerFits, LinkedWorld, Replied, RepliesLinked}
 use Rattle.world_run.proofs.Members.{in-append, in-left, in-right, numbered-in, some-is}
 use Rattle.world_run.proofs.RowsAfter.{OpFits, OpHasDraw}
 
@@ -68,13 +70,13 @@ without-apart (a ∷ asks) id r b i same = go (a.id == id) refl i (without-apart
 
 -- the entry of a finish
 
-abbrev pub with_entry : Bool → KeptReply → Option Draw → Ledger → Ledger
-with_entry enter kept o ledger = ledger ++ entered enter (entry_of (Some kept) (Some o))
+abbrev pub with_entry : Bool → ℕ → Option Draw → Ledger → Ledger
+with_entry enter ask_id o ledger = ledger ++ entered enter (entry_under ask_id o)
 
-in-entry : (enter : Bool) (ledger : Ledger) (kept : KeptReply) (o : Option Draw) (i : ℕ) (d : Draw) → In (i, d) (with_entry enter kept o ledger) → In (i, d) ledger ⊎ ((i ≡ kept.id) × (o ≡ Some d))
-in-entry enter ledger kept o i d p = go enter o (in-append (i, d) ledger (entered enter (entry_of (Some kept) (Some o))) p)
+in-entry : (enter : Bool) (ledger : Ledger) (ask_id : ℕ) (o : Option Draw) (i : ℕ) (d : Draw) → In (i, d) (with_entry enter ask_id o ledger) → In (i, d) ledger ⊎ ((i ≡ ask_id) × (o ≡ Some d))
+in-entry enter ledger ask_id o i d p = go enter o (in-append (i, d) ledger (entered enter (entry_under ask_id o)) p)
   where
-    go : (b : Bool) (q : Option Draw) → In (i, d) ledger ⊎ In (i, d) (entered b (entry_of (Some kept) (Some q))) → In (i, d) ledger ⊎ ((i ≡ kept.id) × (q ≡ Some d))
+    go : (b : Bool) (q : Option Draw) → In (i, d) ledger ⊎ In (i, d) (entered b (entry_under ask_id q)) → In (i, d) ledger ⊎ ((i ≡ ask_id) × (q ≡ Some d))
     go b q (inl old) = inl old
     go false q (inr none) = absurd none
     go true None (inr none) = absurd none
@@ -91,53 +93,53 @@ same-draw o d f h k = go (sym h ∙ k)
 one-kept : (keys : List KeyRow) (replies : List KeptReply) (replied : List (Option Draw)) (r q : KeptReply) (d : Draw) → RepliesLinked keys replies replied → Replied replies replied r (Some d) → Replied replies replied q (Some d) → r ≡ q
 one-kept keys replies replied r q d l at other = some-is r q (sym at.1 ∙ ap (numbered replies) (l.one_reply at.0 other.0 d at.2 other.2) ∙ other.1)
 
-pub entered-ledger : (enter : Bool) (ledger : Ledger) (keys : List KeyRow) (replies : List KeptReply) (replied : List (Option Draw)) (asks : List OpenAsk) (a : OpenAsk) (kept : KeptReply) (o : Option Draw) (next : ℕ)
-    → In a asks → a.id ≡ kept.id → a.id < next → 2 ^ 32 ≤ a.id → IsRising asks → Replied replies replied kept o → RepliesLinked keys replies replied
-    → LedgerFits ledger replies replied asks next → LedgerFits (with_entry enter kept o ledger) replies replied (without asks a.id) next
-entered-ledger enter ledger keys replies replied asks a kept o next member same low recent rising at l g =
+pub entered-ledger : (enter : Bool) (ledger : Ledger) (keys : List KeyRow) (replies : List KeptReply) (replied : List (Option Draw)) (asks : List OpenAsk) (a : OpenAsk) (ask_id : ℕ) (answer : KeyAnswer) (o : Option Draw) (next : ℕ)
+    → In a asks → a.id ≡ ask_id → a.id < next → 2 ^ 32 ≤ a.id → IsRising asks → Replied replies replied (ToAsk ask_id answer) o → RepliesLinked keys replies replied
+    → LedgerFits ledger replies replied asks next → LedgerFits (with_entry enter ask_id o ledger) replies replied (without asks a.id) next
+entered-ledger enter ledger keys replies replied asks a ask_id answer o next member same low recent rising at l g =
     record {
-      one_draw = λ id d f i j. elim (in-entry enter ledger kept o id d i) [
-        | inl old ↦ elim (in-entry enter ledger kept o id f j) [
+      one_draw = λ id d f i j. elim (in-entry enter ledger ask_id o id d i) [
+        | inl old ↦ elim (in-entry enter ledger ask_id o id f j) [
           | inl other ↦ g.one_draw id d f old other
           | inr new ↦ absurd (g.not_open a d member (subst (λ (n : ℕ). In (n, d) ledger) (new.0 ∙ sym same) old))
         ]
-        | inr mine ↦ elim (in-entry enter ledger kept o id f j) [
+        | inr mine ↦ elim (in-entry enter ledger ask_id o id f j) [
           | inl other ↦ absurd (g.not_open a f member (subst (λ (n : ℕ). In (n, f) ledger) (mine.0 ∙ sym same) other))
           | inr new ↦ same-draw o d f mine.1 new.1
         ]
       ];
-      one_file = λ i j d p q. elim (in-entry enter ledger kept o i d p) [
-        | inl old ↦ elim (in-entry enter ledger kept o j d q) [
+      one_file = λ i j d p q. elim (in-entry enter ledger ask_id o i d p) [
+        | inl old ↦ elim (in-entry enter ledger ask_id o j d q) [
           | inl other ↦ g.one_file i j d old other
-          | inr new ↦ sym (g.its_ask i kept d old (replied-as new.1)) ∙ sym new.0
+          | inr new ↦ sym (g.its_ask i (ToAsk ask_id answer) d old (replied-as new.1)) ∙ sym new.0
         ]
-        | inr mine ↦ elim (in-entry enter ledger kept o j d q) [
-          | inl other ↦ mine.0 ∙ g.its_ask j kept d other (replied-as mine.1)
+        | inr mine ↦ elim (in-entry enter ledger ask_id o j d q) [
+          | inl other ↦ mine.0 ∙ g.its_ask j (ToAsk ask_id answer) d other (replied-as mine.1)
           | inr new ↦ mine.0 ∙ sym new.0
         ]
       ];
-      below = λ id d i. elim (in-entry enter ledger kept o id d i) [ inl old ↦ g.below id d old | inr new ↦ omega (arith, low, same, new.0) ];
-      recent = λ id d i. elim (in-entry enter ledger kept o id d i) [ inl old ↦ g.recent id d old | inr new ↦ omega (arith, recent, same, new.0) ];
-      not_open = λ b d i j. elim (in-entry enter ledger kept o b.id d j) [
+      below = λ id d i. elim (in-entry enter ledger ask_id o id d i) [ inl old ↦ g.below id d old | inr new ↦ omega (arith, low, same, new.0) ];
+      recent = λ id d i. elim (in-entry enter ledger ask_id o id d i) [ inl old ↦ g.recent id d old | inr new ↦ omega (arith, recent, same, new.0) ];
+      not_open = λ b d i j. elim (in-entry enter ledger ask_id o b.id d j) [
         | inl old ↦ g.not_open b d (in-without asks a.id b i) old
         | inr new ↦ without-apart asks a.id rising b i (new.0 ∙ sym same)
       ];
-      its_ask = λ id r d i r_at. elim (in-entry enter ledger kept o id d i) [
+      its_ask = λ id r d i r_at. elim (in-entry enter ledger ask_id o id d i) [
         | inl old ↦ g.its_ask id r d old r_at
-        | inr new ↦ ap (λ (x : KeptReply). x.id) (one-kept keys replies replied r kept d l r_at (replied-as new.1)) ∙ sym new.0
+        | inr new ↦ subst (IsReplyTo id) (sym (one-kept keys replies replied r (ToAsk ask_id answer) d l r_at (replied-as new.1))) (sym new.0)
       ];
     }
   where
-    replied-as : {d : Draw} → o ≡ Some d → Replied replies replied kept (Some d)
-    replied-as {d = d} is = subst (λ (x : Option Draw). Replied replies replied kept x) is at
+    replied-as : {d : Draw} → o ≡ Some d → Replied replies replied (ToAsk ask_id answer) (Some d)
+    replied-as {d = d} is = subst (λ (x : Option Draw). Replied replies replied (ToAsk ask_id answer) x) is at
 
-entered-draws : (enter : Bool) (ledger : Ledger) (replies : List KeptReply) (replied : List (Option Draw)) (kept : KeptReply) (o : Option Draw) (place : ℕ) (IsBirth : ℕ → Type 0) → Replied replies replied kept o
-    → DrawsFit ledger replied place IsBirth → DrawsFit (with_entry enter kept o ledger) replied place IsBirth
-entered-draws enter ledger replies replied kept o place IsBirth at f =
+entered-draws : (enter : Bool) (ledger : Ledger) (replies : List KeptReply) (replied : List (Option Draw)) (ask_id : ℕ) (answer : KeyAnswer) (o : Option Draw) (place : ℕ) (IsBirth : ℕ → Type 0) → Replied replies replied (ToAsk ask_id answer) o
+    → DrawsFit ledger replied place IsBirth → DrawsFit (with_entry enter ask_id o ledger) replied place IsBirth
+entered-draws enter ledger replies replied ask_id answer o place IsBirth at f =
     record { taken = λ d i. f.taken d (was d i); born = λ d i. f.born d (was d i); recent = λ d i. f.recent d (was d i); apart = λ d g i j. f.apart d g (was d i) (was g j) }
   where
-    was : (d : Draw) → IsDrawn (with_entry enter kept o ledger) replied d → IsDrawn ledger replied d
-    was d (inl (id, i)) = elim (in-entry enter ledger kept o id d i) [
+    was : (d : Draw) → IsDrawn (with_entry enter ask_id o ledger) replied d → IsDrawn ledger replied d
+    was d (inl (id, i)) = elim (in-entry enter ledger ask_id o id d i) [
       | inl old ↦ inl (id, old)
       | inr new ↦ inr (subst (λ (x : Option Draw). In x replied) new.1 (numbered-in replied at.0 o at.2))
     ]
@@ -152,23 +154,23 @@ entered-files ledger entries keys names f =
     }
 
 -- the draw of the key of a new file
-new-draw : (ledger : Ledger) (keys : List KeyRow) (kept : KeptReply) (o : Option Draw) (e : Edek) → KeyLinked keys (Some e) o → HasDraw (with_entry true kept o ledger) keys kept.id e
-new-draw ledger keys kept None e k = absurd k
-new-draw ledger keys kept (Some d) e k = record {
+new-draw : (ledger : Ledger) (keys : List KeyRow) (ask_id : ℕ) (o : Option Draw) (e : Edek) → KeyLinked keys (Some e) o → HasDraw (with_entry true ask_id o ledger) keys ask_id e
+new-draw ledger keys ask_id None e k = absurd k
+new-draw ledger keys ask_id (Some d) e k = record {
   draw = d;
-  entered = in-right (kept.id, d) ledger ((kept.id, d) ∷ []) (inl refl);
+  entered = in-right (ask_id, d) ledger ((ask_id, d) ∷ []) (inl refl);
   of_key = ap (λ (v : VersionName). v.key) k.0;
   opens = k.1;
 }
 
 -- the operation of a finish has a draw, where its file is entered
-pub finish-drawn : (enter : Bool) (ledger : Ledger) (keys : List KeyRow) (a : OpenAsk) (kept : KeptReply) (o : Option Draw) (edek : Option Edek) (x : Ask) → a.id ≡ kept.id → KeyLinked keys edek o
-    → (makes_file kept.id (Some (finish_op a.id edek x)) ≡ true → enter ≡ true) → OpHasDraw (with_entry enter kept o ledger) keys (finish_op a.id edek x)
-finish-drawn enter ledger keys a kept o None (ask.Create p) same k enters = tt
-finish-drawn enter ledger keys a kept o (Some e) (ask.Create p) same k enters =
-    subst (λ (b : Bool). HasDraw (with_entry b kept o ledger) keys a.id e) (sym (enters (same-id a.id kept.id same)))
-    (subst (λ (n : ℕ). HasDraw (with_entry true kept o ledger) keys n e) (sym same) (new-draw ledger keys kept o e k))
-finish-drawn enter ledger keys a kept o edek (ask.Zone p key) same k enters = tt
+pub finish-drawn : (enter : Bool) (ledger : Ledger) (keys : List KeyRow) (a : OpenAsk) (ask_id : ℕ) (o : Option Draw) (edek : Option Edek) (x : Ask) → a.id ≡ ask_id → KeyLinked keys edek o
+    → (makes_file ask_id (Some (finish_op a.id edek x)) ≡ true → enter ≡ true) → OpHasDraw (with_entry enter ask_id o ledger) keys (finish_op a.id edek x)
+finish-drawn enter ledger keys a ask_id o None (ask.Create p) same k enters = tt
+finish-drawn enter ledger keys a ask_id o (Some e) (ask.Create p) same k enters =
+    subst (λ (b : Bool). HasDraw (with_entry b ask_id o ledger) keys a.id e) (sym (enters (same-id a.id ask_id same)))
+    (subst (λ (n : ℕ). HasDraw (with_entry true ask_id o ledger) keys n e) (sym same) (new-draw ledger keys ask_id o e k))
+finish-drawn enter ledger keys a ask_id o edek (ask.Zone p key) same k enters = tt
 
 -- what stops a finish stands not
 
@@ -211,33 +213,33 @@ finish-fits rows a edek (ask.Zone p key) free =
 -- the world behind a finish
 
 -- an open ask, and the kept reply that answers it, with its draw
-pub record Answered (w : WorldState) (h : Hidden) (a : OpenAsk) (kept : KeptReply) (o : Option Draw) : Type 0 where
-  pub opened : open_ask w.names.names.asks kept.id ≡ Some a
-  pub at : Replied w.kept.replies h.replied kept o
+pub record Answered (w : WorldState) (h : Hidden) (a : OpenAsk) (ask_id : ℕ) (answer : KeyAnswer) (o : Option Draw) : Type 0 where
+  pub opened : open_ask w.names.names.asks ask_id ≡ Some a
+  pub at : Replied w.kept.replies h.replied (ToAsk ask_id answer) o
 
-abbrev pub entered_in : Bool → KeptReply → Option Draw → Hidden → Hidden
-entered_in enter kept o h = record h { ledger = with_entry enter kept o h.ledger }
+abbrev pub entered_in : Bool → ℕ → Option Draw → Hidden → Hidden
+entered_in enter ask_id o h = record h { ledger = with_entry enter ask_id o h.ledger }
 
 -- an id of an opening from 1 on
 from-one : (opening id : ℕ) → 0 < opening → opening * 2 ^ 32 ≤ id → 2 ^ 32 ≤ id
 from-one opening id opened here = omega (arith, opened, here)
 
 -- the ask is open no more, and its draw may be entered
-pub linked-finished : (w : WorldState) (h : Hidden) (enter : Bool) (a : OpenAsk) (kept : KeptReply) (o : Option Draw) (names : NameService) → IsNames w.names → Answered w h a kept o
+pub linked-finished : (w : WorldState) (h : Hidden) (enter : Bool) (a : OpenAsk) (ask_id : ℕ) (answer : KeyAnswer) (o : Option Draw) (names : NameService) → IsNames w.names → Answered w h a ask_id answer o
     → names.names.asks ≡ without w.names.names.asks a.id → next_id names.names ≡ next_id w.names.names
-    → ((k : Bool) → FilesLinked (with_entry enter kept o h.ledger) w.keys.keys.table.rows (settled k names).table) → LinkedWorld w h → LinkedWorld (record w { names = names }) (entered_in enter kept o h)
-linked-finished w h enter a kept o names fit answered asks next files l =
-    let member = open-in w.names.names.asks kept.id a answered.opened in
+    → ((k : Bool) → FilesLinked (with_entry enter ask_id o h.ledger) w.keys.keys.table.rows (settled k names).table) → LinkedWorld w h → LinkedWorld (record w { names = names }) (entered_in enter ask_id o h)
+linked-finished w h enter a ask_id answer o names fit answered asks next files l =
+    let member = open-in w.names.names.asks ask_id a answered.opened in
     let low : a.id < next_id w.names.names = each-in (λ (q : OpenAsk). q.id < next_id w.names.names) w.names.names.asks a fit.ids.of_asks member.0 in
     let present : w.names.names.table.opening * 2 ^ 32 ≤ a.id = each-in (λ (q : OpenAsk). w.names.names.table.opening * 2 ^ 32 ≤ q.id) w.names.names.asks a fit.recent member.0 in
     let recent : 2 ^ 32 ≤ a.id = from-one w.names.names.table.opening a.id fit.opened present in
     record {
       files = files;
       replies = l.replies;
-      draws = entered-draws enter h.ledger w.kept.replies h.replied kept o h.place (IsOldBirth w.keys.keys.table) answered.at l.draws;
-      ledger = subst (λ (open_asks : List OpenAsk). LedgerFits (with_entry enter kept o h.ledger) w.kept.replies h.replied open_asks (next_id names.names)) (sym asks)
-          (subst (λ (n : ℕ). LedgerFits (with_entry enter kept o h.ledger) w.kept.replies h.replied (without w.names.names.asks a.id) n) (sym next)
-          (entered-ledger enter h.ledger w.keys.keys.table.rows w.kept.replies h.replied w.names.names.asks a kept o (next_id w.names.names) member.0 member.1 low recent fit.ids.rising answered.at l.replies l.ledger));
+      draws = entered-draws enter h.ledger w.kept.replies h.replied ask_id answer o h.place (IsOldBirth w.keys.keys.table) answered.at l.draws;
+      ledger = subst (λ (open_asks : List OpenAsk). LedgerFits (with_entry enter ask_id o h.ledger) w.kept.replies h.replied open_asks (next_id names.names)) (sym asks)
+          (subst (λ (n : ℕ). LedgerFits (with_entry enter ask_id o h.ledger) w.kept.replies h.replied (without w.names.names.asks a.id) n) (sym next)
+          (entered-ledger enter h.ledger w.keys.keys.table.rows w.kept.replies h.replied w.names.names.asks a ask_id answer o (next_id w.names.names) member.0 member.1 low recent fit.ids.rising answered.at l.replies l.ledger));
     }
 
 -- nothing is entered

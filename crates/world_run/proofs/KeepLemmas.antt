@@ -49,11 +49,12 @@ use Rattle.hk_events.specs.declared.event.Event.TheVariants as event
 use Rattle.hk_events.specs.declared.event.Line.{Line}
 use Rattle.hk_events.specs.declared.event.Line.TheVariants as line
 use Rattle.world_run.specs.declared.kept.KeptReply.{KeptReply}
+use Rattle.world_run.specs.declared.kept.KeptReply.TheVariants.{ToAsk}
 use Rattle.world_run.specs.Acknowledged.{Acknowledged}
 use Rattle.world_run.specs.World.{WorldState, numbered, with_names, with_reply}
 use Rattle.world_run.specs.Step.{AskAt, DrawActs, FinishReply, PathActs, Step, WantActs, after_ask, delete_with, finish_line, kept_reply, zone_with}
 use Rattle.world_run.specs.Keeps.{KnowsWorld}
-use Rattle.world_run.specs.Ledger.{Draw, Hidden, Ledger, Past, behind_words, draw_noted, draw_of, draw_told, entered, enters, entry_of, hidden_after, id_of_reply, makes_file}
+use Rattle.world_run.specs.Ledger.{Draw, Hidden, Ledger, Past, behind_words, draw_noted, draw_of, draw_told, entered, enters, entry_of, entry_under, hidden_after, id_of_reply, makes_file}
 use Rattle.world_run.specs.Promise.{FilesOpen, In, ZoneFilesOpen}
 use Rattle.world_run.specs.Linked.{DrawsFit, FilesLinked, IsOldBirth, IsRecordedBirth, KeyLinked, LedgerFits, LinkedTables, LinkedWorld, ServicesFit, given}
 use Rattle.world_run.proofs.DrawLemmas.{OneDrawn, fresh-key, generate-one, meta-answers, opens-among, opens-named, words-of-draw}
@@ -262,107 +263,107 @@ draw-keeps lines w h words now number fault told drawn logged w' (Some note) fit
 -- finishes
 
 -- the ledger of draws behind a finish of a kept reply
-pub finish-ledger : (w : WorldState) (words : ℕ → ℕ) (h : Hidden) (number drawn : ℕ) (kept : KeptReply) (o : Option Draw) (result : Result (Unit {0}) NameRefusal) (names : NameService)
-    → numbered w.kept.replies number ≡ Some kept → numbered h.replied number ≡ Some o
-    → (hidden_after w words (event.Finish number) (finish_line result) drawn (record w { names = names }) h).ledger ≡ with_entry (enters kept.id (finish_line result) names) kept o h.ledger
-finish-ledger w words h number drawn kept o result names at drew =
+pub finish-ledger : (w : WorldState) (words : ℕ → ℕ) (h : Hidden) (number drawn : ℕ) (ask_id : ℕ) (answer : KeyAnswer) (o : Option Draw) (result : Result (Unit {0}) NameRefusal) (names : NameService)
+    → numbered w.kept.replies number ≡ Some (ToAsk ask_id answer) → numbered h.replied number ≡ Some o
+    → (hidden_after w words (event.Finish number) (finish_line result) drawn (record w { names = names }) h).ledger ≡ with_entry (enters ask_id (finish_line result) names) ask_id o h.ledger
+finish-ledger w words h number drawn ask_id answer o result names at drew =
     ap (λ (k : Option KeptReply). h.ledger ++ entered (enters (id_of_reply k) (finish_line result) names) (entry_of k (numbered h.replied number))) at
-    ∙ ap (λ (d : Option (Option Draw)). h.ledger ++ entered (enters kept.id (finish_line result) names) (entry_of (Some kept) d)) drew
+    ∙ ap (λ (d : Option (Option Draw)). h.ledger ++ entered (enters ask_id (finish_line result) names) (entry_of (Some (ToAsk ask_id answer)) d)) drew
 
 -- the operation of a finish that nothing stops keeps the files linked
-pub finish-files : (w : WorldState) (h : Hidden) (enter : Bool) (k : Bool) (a : OpenAsk) (kept : KeptReply) (o : Option Draw) (edek : Option Edek) → IsNames w.names → LinkedWorld w h → Answered w h a kept o
-    → kept.answer ≡ Given edek → first_cause (finish_causes (settled k w.names).table.rows a edek a.ask) ≡ None → (makes_file kept.id (Some (finish_op a.id edek a.ask)) ≡ true → enter ≡ true)
-    → FilesLinked (with_entry enter kept o h.ledger) w.keys.keys.table.rows (after_table (settled k w.names).table (finish_op a.id edek a.ask))
-finish-files w h enter k a kept o edek fit l answered said free enters =
-    let linked : KeyLinked w.keys.keys.table.rows edek o = subst (λ (x : KeyAnswer). KeyLinked w.keys.keys.table.rows (given x) o) said (l.replies.keys_open kept o answered.at) in
-    files-after (with_entry enter kept o h.ledger) w.keys.keys.table.rows (settled k w.names).table (finish_op a.id edek a.ask) (rows-settled k w.names fit)
+pub finish-files : (w : WorldState) (h : Hidden) (enter : Bool) (k : Bool) (a : OpenAsk) (ask_id : ℕ) (answer : KeyAnswer) (o : Option Draw) (edek : Option Edek) → IsNames w.names → LinkedWorld w h → Answered w h a ask_id answer o
+    → answer ≡ Given edek → first_cause (finish_causes (settled k w.names).table.rows a edek a.ask) ≡ None → (makes_file ask_id (Some (finish_op a.id edek a.ask)) ≡ true → enter ≡ true)
+    → FilesLinked (with_entry enter ask_id o h.ledger) w.keys.keys.table.rows (after_table (settled k w.names).table (finish_op a.id edek a.ask))
+finish-files w h enter k a ask_id answer o edek fit l answered said free enters =
+    let linked : KeyLinked w.keys.keys.table.rows edek o = subst (λ (x : KeyAnswer). KeyLinked w.keys.keys.table.rows (given x) o) said (l.replies.keys_open (ToAsk ask_id answer) o answered.at) in
+    files-after (with_entry enter ask_id o h.ledger) w.keys.keys.table.rows (settled k w.names).table (finish_op a.id edek a.ask) (rows-settled k w.names fit)
     (finish-fits (settled k w.names).table.rows a edek a.ask free)
-    (finish-drawn enter h.ledger w.keys.keys.table.rows a kept o edek a.ask (open-in w.names.names.asks kept.id a answered.opened).1 linked enters)
-    (entered-files h.ledger (entered enter (entry_of (Some kept) (Some o))) w.keys.keys.table.rows (settled k w.names).table (l.files k))
+    (finish-drawn enter h.ledger w.keys.keys.table.rows a ask_id o edek a.ask (open-in w.names.names.asks ask_id a answered.opened).1 linked enters)
+    (entered-files h.ledger (entered enter (entry_under ask_id o)) w.keys.keys.table.rows (settled k w.names).table (l.files k))
 
 -- a finish that was answered so and left this keeps the world linked, with the entry of its draw or without
-abbrev FinishKeeps : WorldState → Hidden → KeptReply → Option Draw → Result (Unit {0}) NameRefusal → NameService → Type 0
-FinishKeeps w h kept o result names = LinkedWorld (record w { names = names }) (entered_in (enters kept.id (finish_line result) names) kept o h)
+abbrev FinishKeeps : WorldState → Hidden → ℕ → Option Draw → Result (Unit {0}) NameRefusal → NameService → Type 0
+FinishKeeps w h ask_id o result names = LinkedWorld (record w { names = names }) (entered_in (enters ask_id (finish_line result) names) ask_id o h)
 
 no-opening : (id : ℕ) (edek : Option Edek) (x : Ask) → is_opening (finish_op id edek x) ≡ false
 no-opening id edek (ask.Create p) = refl
 no-opening id edek (ask.Zone p key) = refl
 
 -- what is left is put in place of what is equal to it
-ends-keeps : (w : WorldState) (h : Hidden) (kept : KeptReply) (o : Option Draw) (result told : Result (Unit {0}) NameRefusal) (left names : NameService) → told ≡ result → names ≡ left
-    → FinishKeeps w h kept o result left → FinishKeeps w h kept o told names
-ends-keeps w h kept o result told left names same is l = subst (λ (r : Result (Unit {0}) NameRefusal). FinishKeeps w h kept o r names) (sym same) (subst (λ (n : NameService). FinishKeeps w h kept o result n) (sym is) l)
+ends-keeps : (w : WorldState) (h : Hidden) (ask_id : ℕ) (o : Option Draw) (result told : Result (Unit {0}) NameRefusal) (left names : NameService) → told ≡ result → names ≡ left
+    → FinishKeeps w h ask_id o result left → FinishKeeps w h ask_id o told names
+ends-keeps w h ask_id o result told left names same is l = subst (λ (r : Result (Unit {0}) NameRefusal). FinishKeeps w h ask_id o r names) (sym same) (subst (λ (n : NameService). FinishKeeps w h ask_id o result n) (sym is) l)
 
-module _ (w : WorldState) (h : Hidden) (kept : KeptReply) (o : Option Draw) (a : OpenAsk) (fit : IsNames w.names) (l : LinkedWorld w h) (answered : Answered w h a kept o) where
+module _ (w : WorldState) (h : Hidden) (ask_id : ℕ) (answer : KeyAnswer) (o : Option Draw) (a : OpenAsk) (fit : IsNames w.names) (l : LinkedWorld w h) (answered : Answered w h a ask_id answer o) where
   -- the ask is closed, while the pending operation waits
-  pub closed-keeps : (enter : Bool) → LinkedWorld (record w { names = closed_service w.names a }) (entered_in enter kept o h)
+  pub closed-keeps : (enter : Bool) → LinkedWorld (record w { names = closed_service w.names a }) (entered_in enter ask_id o h)
   closed-keeps enter =
-      linked-finished w h enter a kept o (closed_service w.names a) fit answered refl refl
-      (λ k. entered-files h.ledger (entered enter (entry_of (Some kept) (Some o))) w.keys.keys.table.rows (settled k w.names).table (l.files k)) l
+      linked-finished w h enter a ask_id answer o (closed_service w.names a) fit answered refl refl
+      (λ k. entered-files h.ledger (entered enter (entry_under ask_id o)) w.keys.keys.table.rows (settled k w.names).table (l.files k)) l
 
   -- or was settled
-  settled-closed : (enter : Bool) (k : Bool) → LinkedWorld (record w { names = record { names = closed (settled k w.names) a.id; pending = None } }) (entered_in enter kept o h)
+  settled-closed : (enter : Bool) (k : Bool) → LinkedWorld (record w { names = record { names = closed (settled k w.names) a.id; pending = None } }) (entered_in enter ask_id o h)
   settled-closed enter k =
-      linked-finished w h enter a kept o (record { names = closed (settled k w.names) a.id; pending = None }) fit answered refl (next-settled k w.names fit)
-      (λ b. entered-files h.ledger (entered enter (entry_of (Some kept) (Some o))) w.keys.keys.table.rows (settled k w.names).table (l.files k)) l
+      linked-finished w h enter a ask_id answer o (record { names = closed (settled k w.names) a.id; pending = None }) fit answered refl (next-settled k w.names fit)
+      (λ b. entered-files h.ledger (entered enter (entry_under ask_id o)) w.keys.keys.table.rows (settled k w.names).table (l.files k)) l
 
-  written-keeps : (k : Bool) (edek : Option Edek) (result : Result (Unit {0}) NameRefusal) (changed : NameState) → kept.answer ≡ Given edek → Finishes (settled k w.names) a edek result changed
-      → FinishKeeps w h kept o result (record { names = changed; pending = None })
+  written-keeps : (k : Bool) (edek : Option Edek) (result : Result (Unit {0}) NameRefusal) (changed : NameState) → answer ≡ Given edek → Finishes (settled k w.names) a edek result changed
+      → FinishKeeps w h ask_id o result (record { names = changed; pending = None })
   written-keeps k edek result changed said (NoRoom, may, is) =
-      subst (λ (x : FinishOutcome). FinishKeeps w h kept o x.told (record { names = x.state; pending = None })) (sym is) (linked-unentered _ h (settled-keeps w h k fit l))
+      subst (λ (x : FinishOutcome). FinishKeeps w h ask_id o x.told (record { names = x.state; pending = None })) (sym is) (linked-unentered _ h (settled-keeps w h k fit l))
   written-keeps k edek result changed said (Plain, may, is) =
-      subst (λ (x : FinishOutcome). FinishKeeps w h kept o x.told (record { names = x.state; pending = None })) (sym is) (go (first_cause (finish_causes (settled k w.names).table.rows a edek a.ask)) refl)
+      subst (λ (x : FinishOutcome). FinishKeeps w h ask_id o x.told (record { names = x.state; pending = None })) (sym is) (go (first_cause (finish_causes (settled k w.names).table.rows a edek a.ask)) refl)
     where
       go : (c : Option NameRefusal) → first_cause (finish_causes (settled k w.names).table.rows a edek a.ask) ≡ c
-          → FinishKeeps w h kept o (unless_stopped c (settled k w.names) a edek).told (record { names = (unless_stopped c (settled k w.names) a edek).state; pending = None })
-      go (Some why) cause = settled-closed (enters kept.id (line.Refused why) (record { names = closed (settled k w.names) a.id; pending = None })) k
+          → FinishKeeps w h ask_id o (unless_stopped c (settled k w.names) a edek).told (record { names = (unless_stopped c (settled k w.names) a edek).state; pending = None })
+      go (Some why) cause = settled-closed (enters ask_id (line.Refused why) (record { names = closed (settled k w.names) a.id; pending = None })) k
       go None free =
-          linked-finished w h true a kept o (record { names = finished (settled k w.names) a edek; pending = None }) fit answered refl
+          linked-finished w h true a ask_id answer o (record { names = finished (settled k w.names) a edek; pending = None }) fit answered refl
           (next-after (closed (settled k w.names) a.id) (finish_op a.id edek a.ask) (no-opening a.id edek a.ask) ∙ next-settled k w.names fit)
-          (λ b. finish-files w h true k a kept o edek fit l answered said free (λ e. refl)) l
+          (λ b. finish-files w h true k a ask_id answer o edek fit l answered said free (λ e. refl)) l
 
   -- the operation is left pending
-  unwritten-keeps : (k : Bool) (edek : Option Edek) → kept.answer ≡ Given edek → first_cause (finish_causes (settled k w.names).table.rows a edek a.ask) ≡ None
-      → FinishKeeps w h kept o (Err refusal.StoreFault) (record { names = closed (settled k w.names) a.id; pending = Some (finish_op a.id edek a.ask) })
+  unwritten-keeps : (k : Bool) (edek : Option Edek) → answer ≡ Given edek → first_cause (finish_causes (settled k w.names).table.rows a edek a.ask) ≡ None
+      → FinishKeeps w h ask_id o (Err refusal.StoreFault) (record { names = closed (settled k w.names) a.id; pending = Some (finish_op a.id edek a.ask) })
   unwritten-keeps k edek said free =
-      let enter : Bool = makes_file kept.id (Some (finish_op a.id edek a.ask)) in
-      linked-finished w h enter a kept o (record { names = closed (settled k w.names) a.id; pending = Some (finish_op a.id edek a.ask) }) fit answered refl (next-settled k w.names fit)
-      (with-pending (with_entry enter kept o h.ledger) w.keys.keys.table.rows (settled k w.names).table (finish_op a.id edek a.ask)
-      (entered-files h.ledger (entered enter (entry_of (Some kept) (Some o))) w.keys.keys.table.rows (settled k w.names).table (l.files k))
-      (finish-files w h enter k a kept o edek fit l answered said free (λ e. e))) l
+      let enter : Bool = makes_file ask_id (Some (finish_op a.id edek a.ask)) in
+      linked-finished w h enter a ask_id answer o (record { names = closed (settled k w.names) a.id; pending = Some (finish_op a.id edek a.ask) }) fit answered refl (next-settled k w.names fit)
+      (with-pending (with_entry enter ask_id o h.ledger) w.keys.keys.table.rows (settled k w.names).table (finish_op a.id edek a.ask)
+      (entered-files h.ledger (entered enter (entry_under ask_id o)) w.keys.keys.table.rows (settled k w.names).table (l.files k))
+      (finish-files w h enter k a ask_id answer o edek fit l answered said free (λ e. e))) l
 
-  open-keeps : (answer : KeyAnswer) (fault : Type 0) (result : Result (Unit {0}) NameRefusal) (ops : List EditOp) (names : NameService) → kept.answer ≡ answer
-      → FinishServesOpen w.names a answer fault result ops names → FinishKeeps w h kept o result names
-  open-keeps (Refused why) fault result ops names said e = ends-keeps w h kept o (Err (refusal.KeyRefused why)) result (closed_service w.names a) names e.told_is e.left_is (closed-keeps false)
+  open-keeps : (gave : KeyAnswer) (fault : Type 0) (result : Result (Unit {0}) NameRefusal) (ops : List EditOp) (names : NameService) → answer ≡ gave
+      → FinishServesOpen w.names a gave fault result ops names → FinishKeeps w h ask_id o result names
+  open-keeps (Refused why) fault result ops names said e = ends-keeps w h ask_id o (Err (refusal.KeyRefused why)) result (closed_service w.names a) names e.told_is e.left_is (closed-keeps false)
   open-keeps (Given edek) fault result ops names said (inl u) =
-      ends-keeps w h kept o (Err refusal.StoreFault) result (closed_service w.names a) names u.ends.told_is u.ends.left_is (closed-keeps (makes_file kept.id w.names.pending))
+      ends-keeps w h ask_id o (Err refusal.StoreFault) result (closed_service w.names a) names u.ends.told_is u.ends.left_is (closed-keeps (makes_file ask_id w.names.pending))
   open-keeps (Given edek) fault result ops names said (inr (k, inl d)) =
-      ends-keeps w h kept o result result (record { names = d.changed; pending = None }) names refl d.left (written-keeps k edek result d.changed said d.finishes)
+      ends-keeps w h ask_id o result result (record { names = d.changed; pending = None }) names refl d.left (written-keeps k edek result d.changed said d.finishes)
   open-keeps (Given edek) fault result ops names said (inr (k, inr u)) =
-      ends-keeps w h kept o (Err refusal.StoreFault) result (record { names = closed (settled k w.names) a.id; pending = Some (finish_op a.id edek a.ask) }) names u.told_is u.left
+      ends-keeps w h ask_id o (Err refusal.StoreFault) result (record { names = closed (settled k w.names) a.id; pending = Some (finish_op a.id edek a.ask) }) names u.told_is u.left
       (unwritten-keeps k edek said u.free)
 
-finish-keeps : (w : WorldState) (words : ℕ → ℕ) (h : Hidden) (number drawn : ℕ) (kept : KeptReply) (fault : Type 0) (result : Result (Unit {0}) NameRefusal) (ops : List EditOp) (names : NameService) → IsNames w.names → LinkedWorld w h
-    → numbered w.kept.replies number ≡ Some kept → FinishServes w.names kept.id kept.answer fault result ops names
+finish-keeps : (w : WorldState) (words : ℕ → ℕ) (h : Hidden) (number drawn : ℕ) (ask_id : ℕ) (answer : KeyAnswer) (fault : Type 0) (result : Result (Unit {0}) NameRefusal) (ops : List EditOp) (names : NameService) → IsNames w.names → LinkedWorld w h
+    → numbered w.kept.replies number ≡ Some (ToAsk ask_id answer) → FinishServes w.names ask_id answer fault result ops names
     → LinkedWorld (record w { names = names }) (hidden_after w words (event.Finish number) (finish_line result) drawn (record w { names = names }) h)
-finish-keeps w words h number drawn kept fault result ops names fit l at serves =
-    let drew = numbered-beside w.kept.replies h.replied number kept l.replies.as_many at in
-    subst (λ (ledger : Ledger). LinkedWorld (record w { names = names }) (record (behind_words drawn h) { ledger = ledger })) (sym (finish-ledger w words h number drawn kept drew.0 result names at drew.1))
-    (linked-words (record w { names = names }) (entered_in (enters kept.id (finish_line result) names) kept drew.0 h) drawn (go drew.0 drew.1 (open_ask w.names.names.asks kept.id) refl serves))
+finish-keeps w words h number drawn ask_id answer fault result ops names fit l at serves =
+    let drew = numbered-beside w.kept.replies h.replied number (ToAsk ask_id answer) l.replies.as_many at in
+    subst (λ (ledger : Ledger). LinkedWorld (record w { names = names }) (record (behind_words drawn h) { ledger = ledger })) (sym (finish-ledger w words h number drawn ask_id answer drew.0 result names at drew.1))
+    (linked-words (record w { names = names }) (entered_in (enters ask_id (finish_line result) names) ask_id drew.0 h) drawn (go drew.0 drew.1 (open_ask w.names.names.asks ask_id) refl serves))
   where
-    go : (o : Option Draw) → numbered h.replied number ≡ Some o → (q : Option OpenAsk) → open_ask w.names.names.asks kept.id ≡ q → FinishServesAt w.names q kept.answer fault result ops names → FinishKeeps w h kept o result names
-    go o drew None gone e = ends-keeps w h kept o (Err (ask_gone w.names.names)) result w.names names e.told_is e.left_is (linked-unentered w h l)
-    go o drew (Some a) found s = open-keeps w h kept o a fit l (record { opened = found; at = (number, at, drew) }) kept.answer fault result ops names refl s
+    go : (o : Option Draw) → numbered h.replied number ≡ Some o → (q : Option OpenAsk) → open_ask w.names.names.asks ask_id ≡ q → FinishServesAt w.names q answer fault result ops names → FinishKeeps w h ask_id o result names
+    go o drew None gone e = ends-keeps w h ask_id o (Err (ask_gone w.names.names)) result w.names names e.told_is e.left_is (linked-unentered w h l)
+    go o drew (Some a) found s = open-keeps w h ask_id answer o a fit l (record { opened = found; at = (number, at, drew) }) answer fault result ops names refl s
 
 finish-reply-keeps : (w : WorldState) (words : ℕ → ℕ) (h : Hidden) (number : ℕ) (fault : Type 0) (told : Line) (drawn : ℕ) (logged : Acknowledged) (w' : WorldState) (o : Option KeptReply) → IsNames w.names → LinkedWorld w h
     → numbered w.kept.replies number ≡ o → FinishReply w o fault told drawn logged w' → LinkedWorld w' (hidden_after w words (event.Finish number) told drawn w' h)
 finish-reply-keeps w words h number fault told drawn logged w' None fit l at u =
     subst (λ (t : Line). LinkedWorld w' (hidden_after w words (event.Finish number) t drawn w' h)) (sym u.told_is)
     (subst (λ (v : WorldState). LinkedWorld v (record (behind_words drawn h) { ledger = h.ledger ++ [] })) (sym u.same) (linked-words w (record h { ledger = h.ledger ++ [] }) drawn (linked-unentered w h l)))
-finish-reply-keeps w words h number fault told drawn logged w' (Some kept) fit l at f =
+finish-reply-keeps w words h number fault told drawn logged w' (Some (ToAsk ask_id answer)) fit l at f =
     subst (λ (t : Line). LinkedWorld w' (hidden_after w words (event.Finish number) t drawn w' h)) (sym f.told_is)
     (subst (λ (v : WorldState). LinkedWorld v (hidden_after w words (event.Finish number) (finish_line f.result) drawn v h)) (sym f.left)
-    (finish-keeps w words h number drawn kept fault f.result f.ops f.names fit l at f.finishes))
+    (finish-keeps w words h number drawn ask_id answer fault f.result f.ops f.names fit l at f.finishes))
 
 -- each event
 

@@ -32,6 +32,7 @@ use Rattle.hk_events.specs.declared.event.Event.TheVariants as event
 use Rattle.hk_events.specs.declared.event.Line.{Line}
 use Rattle.hk_events.specs.declared.event.Line.TheVariants as line
 use Rattle.world_run.specs.declared.kept.KeptReply.{KeptReply}
+use Rattle.world_run.specs.declared.kept.KeptReply.TheVariants.{ToAsk}
 use Rattle.world_run.specs.Acknowledged.{Acknowledged}
 use Rattle.world_run.specs.Own.{OwnOfNamesCall}
 use Rattle.world_run.specs.World.{WorldState, numbered}
@@ -79,21 +80,21 @@ world-files w h l =
 
 -- the world before an event, with the ledger behind it
 
-finish-through : (w : WorldState) (words : ℕ → ℕ) (h : Hidden) (number drawn : ℕ) (kept : KeptReply) (fault : Type 0) (result : Result (Unit {0}) NameRefusal) (ops : List EditOp) (names : NameService) → ServicesFit w → LinkedWorld w h
-    → numbered w.kept.replies number ≡ Some kept → FinishServes w.names kept.id kept.answer fault result ops names
+finish-through : (w : WorldState) (words : ℕ → ℕ) (h : Hidden) (number drawn : ℕ) (ask_id : ℕ) (answer : KeyAnswer) (fault : Type 0) (result : Result (Unit {0}) NameRefusal) (ops : List EditOp) (names : NameService) → ServicesFit w → LinkedWorld w h
+    → numbered w.kept.replies number ≡ Some (ToAsk ask_id answer) → FinishServes w.names ask_id answer fault result ops names
     → LinkedFiles w (hidden_after w words (event.Finish number) (finish_line result) drawn (record w { names = names }) h).ledger h.place
-finish-through w words h number drawn kept fault result ops names fit l at serves =
-    let drew = numbered-beside w.kept.replies h.replied number kept l.replies.as_many at in
-    subst (λ (ledger : Ledger). LinkedFiles w ledger h.place) (sym (finish-ledger w words h number drawn kept drew.0 result names at drew.1))
-    (go drew.0 drew.1 (open_ask w.names.names.asks kept.id) refl serves)
+finish-through w words h number drawn ask_id answer fault result ops names fit l at serves =
+    let drew = numbered-beside w.kept.replies h.replied number (ToAsk ask_id answer) l.replies.as_many at in
+    subst (λ (ledger : Ledger). LinkedFiles w ledger h.place) (sym (finish-ledger w words h number drawn ask_id answer drew.0 result names at drew.1))
+    (go drew.0 drew.1 (open_ask w.names.names.asks ask_id) refl serves)
   where
-    go : (o : Option Draw) → numbered h.replied number ≡ Some o → (q : Option OpenAsk) → open_ask w.names.names.asks kept.id ≡ q → FinishServesAt w.names q kept.answer fault result ops names
-        → LinkedFiles w (with_entry (enters kept.id (finish_line result) names) kept o h.ledger) h.place
+    go : (o : Option Draw) → numbered h.replied number ≡ Some o → (q : Option OpenAsk) → open_ask w.names.names.asks ask_id ≡ q → FinishServesAt w.names q answer fault result ops names
+        → LinkedFiles w (with_entry (enters ask_id (finish_line result) names) ask_id o h.ledger) h.place
     go o drew None gone e =
-        subst (λ (r : Result (Unit {0}) NameRefusal). LinkedFiles w (with_entry (enters kept.id (finish_line r) names) kept o h.ledger) h.place) (sym e.told_is)
+        subst (λ (r : Result (Unit {0}) NameRefusal). LinkedFiles w (with_entry (enters ask_id (finish_line r) names) ask_id o h.ledger) h.place) (sym e.told_is)
         (world-files w (record h { ledger = h.ledger ++ [] }) (linked-unentered w h l))
     go o drew (Some a) found s =
-        let f = world-files _ _ (closed-keeps w h kept o a fit.names l (record { opened = found; at = (number, at, drew) }) (enters kept.id (finish_line result) names)) in
+        let f = world-files _ _ (closed-keeps w h ask_id answer o a fit.names l (record { opened = found; at = (number, at, drew) }) (enters ask_id (finish_line result) names)) in
         record { files = f.files; draws = f.draws; fits = f.fits }
 
 finish-reply-through : (w : WorldState) (words : ℕ → ℕ) (h : Hidden) (number : ℕ) (fault : Type 0) (told : Line) (drawn : ℕ) (logged : Acknowledged) (w' : WorldState) (o : Option KeptReply) → ServicesFit w → LinkedWorld w h
@@ -101,10 +102,10 @@ finish-reply-through : (w : WorldState) (words : ℕ → ℕ) (h : Hidden) (numb
 finish-reply-through w words h number fault told drawn logged w' None fit l at u =
     subst (λ (t : Line). LinkedFiles w (hidden_after w words (event.Finish number) t drawn w' h).ledger h.place) (sym u.told_is)
     (world-files w (record h { ledger = h.ledger ++ [] }) (linked-unentered w h l))
-finish-reply-through w words h number fault told drawn logged w' (Some kept) fit l at f =
+finish-reply-through w words h number fault told drawn logged w' (Some (ToAsk ask_id answer)) fit l at f =
     subst (λ (t : Line). LinkedFiles w (hidden_after w words (event.Finish number) t drawn w' h).ledger h.place) (sym f.told_is)
     (subst (λ (v : WorldState). LinkedFiles w (hidden_after w words (event.Finish number) (finish_line f.result) drawn v h).ledger h.place) (sym f.left)
-    (finish-through w words h number drawn kept fault f.result f.ops f.names fit l at f.finishes))
+    (finish-through w words h number drawn ask_id answer fault f.result f.ops f.names fit l at f.finishes))
 
 more-words : (w : WorldState) (ledger : Ledger) (place drawn : ℕ) → LinkedFiles w ledger place → LinkedFiles w ledger (place + drawn)
 more-words w ledger place drawn f =
@@ -184,25 +185,25 @@ pending-told s a given edek fault result ops names waiting said serves waits = g
     go (inr (k, inr u)) = u.told_is
 
 -- what a finish wrote, or left pending, is entered where it is a file
-written-enters : (s : NameService) (kept : KeptReply) (fault : Type 0) (result : Result (Unit {0}) NameRefusal) (ops : List EditOp) (names : NameService) (k : Bool) (written : EditOp) (own : OwnOfFinish s kept.id kept.answer result names k written)
-    → FinishServes s kept.id kept.answer fault result ops names → makes_file kept.id (Some (finish_op own.ask.id own.edek own.ask.ask)) ≡ true → enters kept.id (finish_line result) names ≡ true
-written-enters s kept fault result ops names k written own serves file = elim own.was_written [
-  | inl done ↦ ap (λ (r : Result (Unit {0}) NameRefusal). enters kept.id (finish_line r) names) done
+written-enters : (s : NameService) (ask_id : ℕ) (answer : KeyAnswer) (fault : Type 0) (result : Result (Unit {0}) NameRefusal) (ops : List EditOp) (names : NameService) (k : Bool) (written : EditOp) (own : OwnOfFinish s ask_id answer result names k written)
+    → FinishServes s ask_id answer fault result ops names → makes_file ask_id (Some (finish_op own.ask.id own.edek own.ask.ask)) ≡ true → enters ask_id (finish_line result) names ≡ true
+written-enters s ask_id answer fault result ops names k written own serves file = elim own.was_written [
+  | inl done ↦ ap (λ (r : Result (Unit {0}) NameRefusal). enters ask_id (finish_line r) names) done
   | inr waits ↦
-      let told : result ≡ Err refusal.StoreFault = pending-told s own.ask kept.answer own.edek fault result ops names written own.gave
-      (subst (λ (o : Option OpenAsk). FinishServesAt s o kept.answer fault result ops names) own.was_open serves) waits in
-      ap (λ (r : Result (Unit {0}) NameRefusal). enters kept.id (finish_line r) names) told ∙ ap (makes_file kept.id) (waits ∙ ap Some own.is) ∙ file
+      let told : result ≡ Err refusal.StoreFault = pending-told s own.ask answer own.edek fault result ops names written own.gave
+      (subst (λ (o : Option OpenAsk). FinishServesAt s o answer fault result ops names) own.was_open serves) waits in
+      ap (λ (r : Result (Unit {0}) NameRefusal). enters ask_id (finish_line r) names) told ∙ ap (makes_file ask_id) (waits ∙ ap Some own.is) ∙ file
 ]
 
-pub own-of-finish : (w : WorldState) (h : Hidden) (words : ℕ → ℕ) (drawn : ℕ) (number : ℕ) (kept : KeptReply) (fault : Type 0) (result : Result (Unit {0}) NameRefusal) (ops : List EditOp) (names : NameService)
-    → FinishServes w.names kept.id kept.answer fault result ops names → numbered w.kept.replies number ≡ Some kept → ServicesFit w → LinkedWorld w h
-    → OwnLinks w (hidden_after w words (event.Finish number) (finish_line result) drawn (record w { names = names }) h).ledger (OwnOfFinish w.names kept.id kept.answer result names)
-own-of-finish w h words drawn number kept fault result ops names serves at fit l k written own may =
-    let drew = numbered-beside w.kept.replies h.replied number kept l.replies.as_many at in
-    subst (λ (ledger : Ledger). FilesLinked ledger w.keys.keys.table.rows (after_table (settled_names k w.names).table written)) (sym (finish-ledger w words h number drawn kept drew.0 result names at drew.1))
-    (subst (λ (x : EditOp). FilesLinked (with_entry (enters kept.id (finish_line result) names) kept drew.0 h.ledger) w.keys.keys.table.rows (after_table (settled_names k w.names).table x)) (sym own.is)
-    (finish-files w h (enters kept.id (finish_line result) names) k own.ask kept drew.0 own.edek fit.names l (record { opened = own.was_open; at = (number, at, drew.1) }) own.gave own.free
-    (written-enters w.names kept fault result ops names k written own serves)))
+pub own-of-finish : (w : WorldState) (h : Hidden) (words : ℕ → ℕ) (drawn : ℕ) (number : ℕ) (ask_id : ℕ) (answer : KeyAnswer) (fault : Type 0) (result : Result (Unit {0}) NameRefusal) (ops : List EditOp) (names : NameService)
+    → FinishServes w.names ask_id answer fault result ops names → numbered w.kept.replies number ≡ Some (ToAsk ask_id answer) → ServicesFit w → LinkedWorld w h
+    → OwnLinks w (hidden_after w words (event.Finish number) (finish_line result) drawn (record w { names = names }) h).ledger (OwnOfFinish w.names ask_id answer result names)
+own-of-finish w h words drawn number ask_id answer fault result ops names serves at fit l k written own may =
+    let drew = numbered-beside w.kept.replies h.replied number (ToAsk ask_id answer) l.replies.as_many at in
+    subst (λ (ledger : Ledger). FilesLinked ledger w.keys.keys.table.rows (after_table (settled_names k w.names).table written)) (sym (finish-ledger w words h number drawn ask_id answer drew.0 result names at drew.1))
+    (subst (λ (x : EditOp). FilesLinked (with_entry (enters ask_id (finish_line result) names) ask_id drew.0 h.ledger) w.keys.keys.table.rows (after_table (settled_names k w.names).table x)) (sym own.is)
+    (finish-files w h (enters ask_id (finish_line result) names) k own.ask ask_id answer drew.0 own.edek fit.names l (record { opened = own.was_open; at = (number, at, drew.1) }) own.gave own.free
+    (written-enters w.names ask_id answer fault result ops names k written own serves)))
 
 -- the edit log that a crash leaves
 

@@ -29,6 +29,7 @@ use Rattle.name_store.specs.Store.{IsLeftOf as IsLeftOfNames, NothingMore, made_
 use Rattle.name_calls.specs.declared.calls.Ask.{Ask}
 use Rattle.name_calls.specs.declared.calls.Ask.TheVariants as ask
 use Rattle.name_calls.specs.declared.calls.AskNote.{AskNote}
+use Rattle.name_calls.specs.declared.calls.KeyAnswer.{KeyAnswer}
 use Rattle.name_calls.specs.declared.calls.NameCall.{NameCall}
 use Rattle.name_calls.specs.declared.calls.NameRefusal.{NameRefusal}
 use Rattle.name_calls.specs.declared.calls.NameReply.{NameReply}
@@ -44,6 +45,7 @@ use Rattle.hk_events.specs.declared.event.Line.{Line}
 use Rattle.hk_events.specs.declared.event.Line.TheVariants as line
 use Rattle.world_run.specs.declared.fault.WorldFault.{WorldFault}
 use Rattle.world_run.specs.declared.kept.KeptReply.{KeptReply}
+use Rattle.world_run.specs.declared.kept.KeptReply.TheVariants.{ToAsk}
 use Rattle.world_run.specs.Acknowledged.{Acknowledged, nothing_acknowledged, of_keys, of_names}
 use Rattle.world_run.specs.Does.{CallHappens, Does, DrawHappens, FinishHappens, Happens, PathHappens, WantHappens}
 use Rattle.world_run.specs.Own.{OwnOfNamesCall, OwnOfReply}
@@ -207,13 +209,11 @@ path-unread d w w' user c read fault told same is bad only = λ words. does-noth
 
 -- a finish by a kept reply, and by none
 
-pub finished : (old new : DiskState) (w : RunningWorld) (keys : RunningKms) (names names' : RunningNames) (notes : List AskNote) (replies : List KeptReply) (kept : KeptReply) (n : ℕ) (result : Result (Unit {0}) NameRefusal) (told : Line)
-    → parts keys names notes replies ≡ w → Some kept ≡ numbered w.kept.replies n → FinishActs old new names kept.id kept.answer result names' → told ≡ finish_line result
-    → FinishHappens old new w (numbered w.kept.replies n) told (parts keys names' notes replies)
-finished old new w keys names names' notes replies kept n result told view at acts is =
-    subst (λ (o : Option KeptReply). FinishHappens old new w o told (parts keys names' notes replies)) at
-    (subst (λ (l : Line). FinishHappens old new w (Some kept) l (parts keys names' notes replies)) (sym is)
-    (subst (λ (v : RunningWorld). FinishHappens old new v (Some kept) (finish_line result) (parts keys names' notes replies)) view
+pub finished : (old new : DiskState) (w : RunningWorld) (keys : RunningKms) (names names' : RunningNames) (notes : List AskNote) (replies : List KeptReply) (id : ℕ) (answer : KeyAnswer) (result : Result (Unit {0}) NameRefusal) (told : Line)
+    → parts keys names notes replies ≡ w → FinishActs old new names id answer result names' → told ≡ finish_line result → FinishHappens old new w (Some (ToAsk id answer)) told (parts keys names' notes replies)
+finished old new w keys names names' notes replies id answer result told view acts is =
+    subst (λ (l : Line). FinishHappens old new w (Some (ToAsk id answer)) l (parts keys names' notes replies)) (sym is)
+    (subst (λ (v : RunningWorld). FinishHappens old new v (Some (ToAsk id answer)) (finish_line result) (parts keys names' notes replies)) view
     (λ words. record {
       drawn = 0;
       logged = of_names acts.logged;
@@ -221,15 +221,19 @@ finished old new w keys names names' notes replies kept n result told view at ac
       rest = λ k. ap words (omega arith);
       disk = inr (record { ops = acts.logged; logged_is = refl; log = own-by; keys = refl });
       lists = refl;
-    })))
+    }))
   where
     -- what may be written, beside the line that tells the result
-    own-by : NameLogs old new names names' (OwnOfReply (names_service names) (Some kept) (finish_line result) (names_service names')) acts.logged
+    own-by : NameLogs old new names names' (OwnOfReply (names_service names) (Some (ToAsk id answer)) (finish_line result) (names_service names')) acts.logged
     own-by = record {
       stands = acts.disk.stands;
       moments = λ told ops s. weaker (λ c left. own-weaker _ _ names s.used ops c (λ k op own. record { result = result; told_is = refl; own = own }) left) (acts.disk.moments told ops s);
       run = acts.disk.run;
     }
+
+-- of the reply that is kept under a number
+pub so-finished : (old new : DiskState) (w w' : RunningWorld) (kept made : KeptReply) (read : Option KeptReply) (told : Line) → made ≡ kept → Some kept ≡ read → FinishHappens old new w (Some made) told w' → FinishHappens old new w read told w'
+so-finished old new w w' kept made read told same is happens = subst (λ (o : Option KeptReply). FinishHappens old new w o told w') (ap (λ (k : KeptReply). Some k) same ∙ is) happens
 
 pub finish-unknown : (d : DiskState) (w w' : RunningWorld) (read : Option KeptReply) → None ≡ read → w' ≡ w → FinishHappens d d w read line.Unknown w'
 finish-unknown d w w' read none same =

@@ -15,7 +15,7 @@ use Rattle.world_run.specs.declared.kept.KeptReply.{KeptReply}
 use Rattle.world_run.specs.World.{WorldState, with_note, with_reply}
 use Rattle.world_run.specs.Ledger.{Draw, Hidden, Ledger, behind_words}
 use Rattle.world_run.specs.Promise.{In}
-use Rattle.world_run.specs.Linked.{DrawsFit, FilesLinked, IsDrawn, IsOldBirth, KeyLinked, LedgerFits, LinkedWorld, RepliesLinked, Replied, given}
+use Rattle.world_run.specs.Linked.{DrawsFit, FilesLinked, IsDrawn, IsOldBirth, KeyLinked, LedgerFits, LinkedWorld, RepliesLinked, Replied, key_in_reply}
 use Rattle.world_run.proofs.Laters.{KeysLater, LaterAt, draw-later, later-opened, later-settled, opens-later, then-later}
 use Rattle.world_run.proofs.Members.{in-more, numbered-in, numbered-more, numbered-within, some-is}
 use Rattle.world_run.proofs.RowLemmas.{InPlace, in-place}
@@ -43,7 +43,7 @@ replies-later : (ledger : Ledger) (replied : List (Option Draw)) (place : ℕ) (
 replies-later ledger replied place IsBirth olds keys replies draws later l =
     record {
       as_many = l.as_many;
-      keys_open = λ r o at. draw-later olds keys (given r.answer) o
+      keys_open = λ r o at. draw-later olds keys (key_in_reply r) o
           (λ d is. later d.birth (draws.born d (inr (subst (λ (q : Option Draw). In q replied) is (numbered-in replied at.0 o at.2))))) (l.keys_open r o at);
       one_reply = l.one_reply;
     }
@@ -170,7 +170,7 @@ linked-ask w h q names table asks next new l =
 -- a reply that is kept, with its draw
 
 pub record NewReply (h : Hidden) (keys : ServiceState) (drawn : ℕ) (r : KeptReply) (o : Option Draw) : Type 0 where
-  pub opens : KeyLinked keys.keys.table.rows (given r.answer) o
+  pub opens : KeyLinked keys.keys.table.rows (key_in_reply r) o
   pub begins : (d : Draw) → o ≡ Some d → h.place ≤ d.place
   pub ends : (d : Draw) → o ≡ Some d → d.place + words_of_draw (length d.dek) ≤ h.place + drawn
   pub born : (d : Draw) → o ≡ Some d → d.birth ≤ keys.keys.table.greatest
@@ -225,7 +225,7 @@ replies-reply w h keys drawn r o n f l =
       as_many = omega (arith, length-append h.replied (o ∷ []), length-append w.kept.replies (r ∷ []), l.as_many);
       keys_open = λ q p at. elim (replied-before w.kept.replies h.replied r o q p l.as_many at) [
         | inl old ↦ l.keys_open q p old
-        | inr is ↦ subst (λ (x : KeptReply). KeyLinked keys.keys.table.rows (given x.answer) p) (sym is.0) (subst (λ (x : Option Draw). KeyLinked keys.keys.table.rows (given r.answer) x) (sym is.1) n.opens)
+        | inr is ↦ subst (λ (x : KeptReply). KeyLinked keys.keys.table.rows (key_in_reply x) p) (sym is.0) (subst (λ (x : Option Draw). KeyLinked keys.keys.table.rows (key_in_reply r) x) (sym is.1) n.opens)
       ];
       one_reply = λ i j d at other_at. elim (numbered-more h.replied o i (Some d) at) [
         | inl old ↦ elim (numbered-more h.replied o j (Some d) other_at) [

@@ -22,6 +22,7 @@ use Rattle.hk_events.specs.declared.event.Event.TheVariants as event
 use Rattle.hk_events.specs.declared.event.Line.{Line}
 use Rattle.hk_events.specs.declared.event.Line.TheVariants as line
 use Rattle.world_run.specs.declared.kept.KeptReply.{KeptReply}
+use Rattle.world_run.specs.declared.kept.KeptReply.TheVariants.{ToAsk}
 use Rattle.world_run.specs.World.{WorldState, numbered}
 
 -- A data encryption key that was drawn: where its words begin in the stream of random words, the birth and the version
@@ -76,9 +77,14 @@ abbrev pub draw_noted : KmsState → (ℕ → ℕ) → ℕ → Option AskNote �
 draw_noted s words place None told = None
 draw_noted s words place (Some note) told = draw_told s words place note.want told
 
+-- the entry of a draw under the id of its ask, if there is a draw
+abbrev pub entry_under : ℕ → Option Draw → Ledger
+entry_under id None = []
+entry_under id (Some draw) = (id, draw) ∷ []
+
 -- the entry that a finish adds: the draw of the reply, under the id of the ask
 abbrev pub entry_of : Option KeptReply → Option (Option Draw) → Ledger
-entry_of (Some kept) (Some (Some draw)) = (kept.id, draw) ∷ []
+entry_of (Some (ToAsk id answer)) (Some drawn) = entry_under id drawn
 entry_of _ _ = []
 
 -- the operation makes the file of this id
@@ -88,7 +94,7 @@ makes_file id _ = false
 
 abbrev pub id_of_reply : Option KeptReply → ℕ
 id_of_reply None = 0
-id_of_reply (Some kept) = kept.id
+id_of_reply (Some (ToAsk id answer)) = id
 
 -- A finish enters its draw where it is done, and where the disk failed at its record: the file is pending then.
 abbrev pub enters : ℕ → Line → NameService → Bool

@@ -19,6 +19,7 @@ use Rattle.name_calls.specs.declared.calls.KeyAnswer.{KeyAnswer}
 use Rattle.name_calls.specs.declared.calls.KeyAnswer.TheVariants.{Given, Refused}
 use Rattle.name_core.specs.State.{IsNames, next_id, settled as settled_names}
 use Rattle.world_run.specs.declared.kept.KeptReply.{KeptReply}
+use Rattle.world_run.specs.declared.kept.KeptReply.TheVariants.{ToAsk}
 use Rattle.world_run.specs.World.{WorldState, numbered}
 use Rattle.world_run.specs.Ledger.{Draw, Hidden, Ledger, Past}
 use Rattle.world_run.specs.Promise.{Apart, FitsZone, In, edek_of}
@@ -55,13 +56,21 @@ abbrev pub given : KeyAnswer → Option Edek
 given (Refused why) = None
 given (Given edek) = edek
 
+-- the encrypted key that a kept reply gives, if it gives one
+abbrev pub key_in_reply : KeptReply → Option Edek
+key_in_reply (ToAsk id answer) = given answer
+
+-- the reply is to the ask of this id
+abbrev pub IsReplyTo : ℕ → KeptReply → Type 0
+IsReplyTo id (ToAsk ask_id answer) = ask_id ≡ id
+
 -- a reply and its draw, if it has one, kept under one number
 abbrev pub Replied : List KeptReply → List (Option Draw) → KeptReply → Option Draw → Type 0
 Replied replies replied r o = (n : ℕ) × (numbered replies n ≡ Some r) × (numbered replied n ≡ Some o)
 
 pub record RepliesLinked (keys : List KeyRow) (replies : List KeptReply) (replied : List (Option Draw)) : Type 0 where
   pub as_many : length replied ≡ length replies
-  pub keys_open : (r : KeptReply) (o : Option Draw) → Replied replies replied r o → KeyLinked keys (given r.answer) o
+  pub keys_open : (r : KeptReply) (o : Option Draw) → Replied replies replied r o → KeyLinked keys (key_in_reply r) o
   -- no two replies have one draw
   pub one_reply : (n m : ℕ) (d : Draw) → numbered replied n ≡ Some (Some d) → numbered replied m ≡ Some (Some d) → n ≡ m
 
@@ -93,7 +102,7 @@ pub record LedgerFits (ledger : Ledger) (replies : List KeptReply) (replied : Li
   -- an open ask has no entry
   pub not_open : (a : OpenAsk) (d : Draw) → In a asks → In (a.id, d) ledger → ⊥
   -- the draw of an entry is of no other ask's reply
-  pub its_ask : (id : ℕ) (r : KeptReply) (d : Draw) → In (id, d) ledger → Replied replies replied r (Some d) → r.id ≡ id
+  pub its_ask : (id : ℕ) (r : KeptReply) (d : Draw) → In (id, d) ledger → Replied replies replied r (Some d) → IsReplyTo id r
 
 -- From event to event, with and without the pending operation of the namesystem.
 pub record LinkedWorld (w : WorldState) (h : Hidden) : Type 0 where

@@ -11,6 +11,7 @@ use Rattle.kms_store.specs.Store.{AKeyOpening, NoCommand}
 use Rattle.kms_core.specs.Service.{OwnOf as OwnOfKeys}
 use Rattle.kms_core.specs.State.{ServiceState}
 use Rattle.name_store.specs.Store.{AnOpening, NothingMore}
+use Rattle.name_calls.specs.declared.calls.KeyAnswer.{KeyAnswer}
 use Rattle.name_calls.specs.declared.calls.NameCall.{NameCall}
 use Rattle.name_calls.specs.declared.calls.NameCall.TheVariants as call
 use Rattle.name_calls.specs.declared.calls.NameRefusal.{NameRefusal}
@@ -22,6 +23,7 @@ use Rattle.hk_events.specs.declared.event.Event.TheVariants as event
 use Rattle.hk_events.specs.declared.event.Line.{Line}
 use Rattle.hk_events.specs.declared.event.Line.TheVariants as line
 use Rattle.world_run.specs.declared.kept.KeptReply.{KeptReply}
+use Rattle.world_run.specs.declared.kept.KeptReply.TheVariants.{ToAsk}
 use Rattle.world_run.specs.Acknowledged.{Acknowledged, Survives}
 use Rattle.world_run.specs.Step.{delete_with, finish_line}
 use Rattle.world_run.specs.World.{WorldState, numbered}
@@ -60,15 +62,15 @@ abbrev pub OwnOfPath : NameService → (NPath → NameCall) → Option NPath →
 OwnOfPath s c None told s' kept op = ⊥
 OwnOfPath s c (Some path) told s' kept op = OwnOfNamesCall s (c path) told s' kept op
 
--- what a finish by a kept reply may write there that was answered by this line
-pub record OwnOfKept (s : NameService) (reply : KeptReply) (told : Line) (s' : NameService) (kept : Bool) (op : EditOp) : Type 0 where
+-- what a finish of an ask by what its reply means may write there that was answered by this line
+pub record OwnOfFinishedAsk (s : NameService) (id : ℕ) (answer : KeyAnswer) (told : Line) (s' : NameService) (kept : Bool) (op : EditOp) : Type 0 where
   pub result : Result (Unit {0}) NameRefusal
   pub told_is : told ≡ finish_line result
-  pub own : OwnOfFinish s reply.id reply.answer result s' kept op
+  pub own : OwnOfFinish s id answer result s' kept op
 
 abbrev pub OwnOfReply : NameService → Option KeptReply → Line → NameService → Bool → EditOp → Type 0
 OwnOfReply s None told s' kept op = ⊥
-OwnOfReply s (Some reply) told s' kept op = OwnOfKept s reply told s' kept op
+OwnOfReply s (Some (ToAsk id answer)) told s' kept op = OwnOfFinishedAsk s id answer told s' kept op
 
 -- what an event may write there that was answered so and left this world
 abbrev pub OwnOfEvent : WorldState → Event → Line → WorldState → Bool → EditOp → Type 0

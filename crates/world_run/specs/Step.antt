@@ -28,6 +28,7 @@ use Rattle.name_calls.specs.declared.calls.NameRefusal.TheVariants as refusal
 use Rattle.name_calls.specs.declared.calls.Ask.{Ask}
 use Rattle.name_calls.specs.declared.calls.Ask.TheVariants as ask
 use Rattle.name_calls.specs.declared.calls.AskNote.{AskNote}
+use Rattle.name_calls.specs.declared.calls.KeyAnswer.{KeyAnswer}
 use Rattle.name_calls.specs.declared.calls.Want.{Want}
 use Rattle.name_calls.specs.declared.calls.Want.TheVariants as want
 use Rattle.name_calls.specs.Answers.{answer_of}
@@ -40,6 +41,7 @@ use Rattle.hk_events.specs.declared.event.Event.TheVariants as event
 use Rattle.hk_events.specs.declared.event.Line.{Line}
 use Rattle.hk_events.specs.declared.event.Line.TheVariants as line
 use Rattle.world_run.specs.declared.kept.KeptReply.{KeptReply}
+use Rattle.world_run.specs.declared.kept.KeptReply.TheVariants.{ToAsk}
 use Rattle.world_run.specs.Acknowledged.{Acknowledged, nothing_acknowledged, of_keys, of_names}
 use Rattle.world_run.specs.World.{WorldState, next_note, next_reply, numbered, with_names, with_note, with_reply}
 
@@ -166,7 +168,7 @@ pub record NoRoomForReply (w : WorldState) (told : Line) (drawn : ℕ) (logged :
   pub same : w' ≡ w
 
 abbrev pub kept_reply : AskNote → Option KmsReply → KeptReply
-kept_reply note reply = record { id = note.id; answer = answer_of reply }
+kept_reply note reply = ToAsk note.id (answer_of reply)
 
 -- The call of the key management service that an ask wants, where it wants one. It is made as the superuser, whoever asked.
 pub record CallActs (lines : List PropLine) (s : ServiceState) (words : ℕ → ℕ) (now : ℕ) (c : KmsCall) (fault : Type 0) (told : Option KmsReply) (drawn : ℕ) (logged : List KeyCommand) (s' : ServiceState) : Type 0 where
@@ -198,17 +200,17 @@ abbrev pub DrawActs : List PropLine → WorldState → (ℕ → ℕ) → ℕ →
 DrawActs lines w words now None fault told drawn logged w' = IsUnknown w told drawn logged w'
 DrawActs lines w words now (Some note) fault told drawn logged w' = DrawNote lines w words now note fault told drawn logged w' ⊎ NoRoomForReply w told drawn logged w'
 
--- the ask that a kept reply answers is finished
+-- what a kept reply answers is finished: the ask with its id
 
 abbrev pub finish_line : Result (Unit {0}) NameRefusal → Line
 finish_line (Ok _) = line.Name reply.Done
 finish_line (Err why) = line.Refused why
 
-pub record FinishActs (w : WorldState) (kept : KeptReply) (fault : Type 0) (told : Line) (drawn : ℕ) (logged : Acknowledged) (w' : WorldState) : Type 0 where
+pub record FinishActs (w : WorldState) (id : ℕ) (answer : KeyAnswer) (fault : Type 0) (told : Line) (drawn : ℕ) (logged : Acknowledged) (w' : WorldState) : Type 0 where
   pub result : Result (Unit {0}) NameRefusal
   pub names : NameService
   pub ops : List EditOp
-  pub finishes : FinishServes w.names kept.id kept.answer fault result ops names
+  pub finishes : FinishServes w.names id answer fault result ops names
   pub logged_is : logged ≡ of_names ops
   pub told_is : told ≡ finish_line result
   pub none_drawn : drawn ≡ 0
@@ -216,7 +218,7 @@ pub record FinishActs (w : WorldState) (kept : KeptReply) (fault : Type 0) (told
 
 abbrev pub FinishReply : WorldState → Option KeptReply → Type 0 → Line → ℕ → Acknowledged → WorldState → Type 0
 FinishReply w None fault told drawn logged w' = IsUnknown w told drawn logged w'
-FinishReply w (Some kept) fault told drawn logged w' = FinishActs w kept fault told drawn logged w'
+FinishReply w (Some (ToAsk id answer)) fault told drawn logged w' = FinishActs w id answer fault told drawn logged w'
 
 abbrev pub zone_with : KeyName → NPath → Ask
 zone_with key path = ask.Zone path key

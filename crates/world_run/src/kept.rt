@@ -4,12 +4,11 @@ ghost use Rattle.world_run.specs.World.{numbered};
 
 use name_calls::{AskNote, KeyAnswer};
 
-/// The reply to the call that an ask wanted, as far as a finish needs it: the id of the ask, and
-/// what the reply means for it.
+/// A reply of the key management service, as far as a later event needs it.
 #[derive(Clone, Copy)]
-pub struct KeptReply {
-    pub id: u64,
-    pub answer: KeyAnswer,
+pub enum KeptReply {
+    /// The reply to the call that an ask wanted: the id of the ask, and what the reply means for it.
+    ToAsk { id: u64, answer: KeyAnswer },
 }
 
 /// Returns the note with a number, from 1, or `None` if there is none.

@@ -1,5 +1,5 @@
 //! The world and its events.
-ghost use Rattle.std.specs.Prelude.{◌≡◌, ◌⊎◌, ◌<◌, ℕ, List, IfOk, IsErrOf, MatchResult};
+ghost use Rattle.std.specs.Prelude.{◌≡◌, ◌⊎◌, ◌<◌, ℕ, List, Some, IfOk, IsErrOf, MatchResult};
 ghost use Rattle.hk_base.specs.Disk.{LeavesOnly, RunOn, Tells};
 ghost use Rattle.hk_base.specs.Faults.{Rose};
 ghost use Rattle.frame_log.specs.Stands.{LeavesFrom};
@@ -36,7 +36,7 @@ use kms_acls::Acls;
 use kms_calls::{KmsCall, KmsRefusal, KmsReply};
 use kms_core::Kms;
 use name_calls::{
-    Answered, Ask, AskNote, NPath, NameCall, NameRefusal, NameReply, PathFault, Want,
+    Answered, Ask, AskNote, KeyAnswer, NPath, NameCall, NameRefusal, NameReply, PathFault, Want,
 };
 use name_core::Name;
 use prop_text::Props;
@@ -456,7 +456,7 @@ impl World {
         let reply = call_wanted(&mut self.keys, disk, &self.superuser, words, now, &note);
         let answered = Answered { id: note.id, reply };
         let answer = answered.answer();
-        self.replies.push_reserved(KeptReply {
+        self.replies.push_reserved(KeptReply::ToAsk {
             id: note.id,
             answer,
         });
@@ -467,15 +467,26 @@ impl World {
         }
     }
 
-    /// Finishes the ask that a kept reply answers.
+    /// Finishes what a kept reply answers.
     fn finish<D: Disk>(&mut self, disk: &mut D, number: u32) -> Line
         requires stands { Tells (D.state disk.old) → ((done : Acknowledged) × HoldsLogs (D.state disk.old) self.old done) }
         ensures { FinishHappens (D.state disk.old) (D.state disk.new) self.old (numbered self.old.kept.replies number) result self.new }
     {
-        match reply_numbered(&self.replies, number) {
-            None => Line::Unknown,
-            Some(kept) => finish_line(self.names.finish_with(disk, kept.id, kept.answer)),
+        let kept = match reply_numbered(&self.replies, number) {
+            None => return Line::Unknown,
+            Some(kept) => *kept,
+        };
+        match kept {
+            KeptReply::ToAsk { id, answer } => self.finish_ask(disk, id, answer),
         }
+    }
+
+    /// Finishes the ask with an id by what the reply means for it.
+    fn finish_ask<D: Disk>(&mut self, disk: &mut D, id: u64, answer: KeyAnswer) -> Line
+        requires stands { Tells (D.state disk.old) → ((done : Acknowledged) × HoldsLogs (D.state disk.old) self.old done) }
+        ensures { FinishHappens (D.state disk.old) (D.state disk.new) self.old (Some (KeptReply.ToAsk id answer)) result self.new }
+    {
+        finish_line(self.names.finish_with(disk, id, answer))
     }
 }
 

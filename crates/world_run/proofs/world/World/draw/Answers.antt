@@ -1,6 +1,7 @@
 use Rattle.std.proofs.Common.{◌∙◌, ap, refl, ◌∷◌, ◌++◌, [], List, length, Some}
 use Rattle.name_calls.specs.declared.calls.KeyAnswer.{KeyAnswer}
 use Rattle.world_run.specs.declared.kept.KeptReply.{KeptReply}
+use Rattle.world_run.specs.declared.kept.KeptReply.TheVariants.{ToAsk}
 use Rattle.world_run.specs.World.{RunningWorld, numbered}
 use Rattle.world_run.proofs.StepLemmas.{draw-no-room, draw-unknown, drew-note, parts}
 use Rattle.world_run.proofs.world.World.draw.Goals as goal
@@ -23,6 +24,6 @@ returns g c lines lists =
     c.self.inside.notes.items c.self.inside.replies.items c.push_reserved.new.self.items c.call_wanted-reply.result c.args.number (length c.as_slice.result.now)
     (g.W.Words.to_come c.call_wanted-reply.new.words) c.self.view_is (ap Some c.again-note.ensures ∙ c.in-Some.ensures ∙ ap (λ (w : RunningWorld). numbered w.kept.notes c.args.number) c.self.view_is) (c.call_wanted-reply.ensures lines)
     (c.push_reserved.ensures.items
-    ∙ ap (λ (l : List KeptReply). l ++ record { id = c.again-note.result.id; answer = c.answer-answer.result } ∷ []) c.reserve.ensures.items
-    ∙ ap (λ (a : KeyAnswer). c.self.inside.replies.items ++ record { id = c.again-note.result.id; answer = a } ∷ []) c.answer-answer.ensures)
+    ∙ ap (λ (l : List KeptReply). l ++ ToAsk c.again-note.result.id c.answer-answer.result ∷ []) c.reserve.ensures.items
+    ∙ ap (λ (a : KeyAnswer). c.self.inside.replies.items ++ ToAsk c.again-note.result.id a ∷ []) c.answer-answer.ensures)
     (ap (λ (l : List KeptReply). length l) c.as_slice.ensures.value) lists
