@@ -9,6 +9,7 @@ pub mod Lasts
 pub mod Listings
 pub mod Orders
 pub mod Pasts
+pub mod PathBytes
 pub mod Pieces
 pub mod Places
 pub mod Prefixes

@@ -3,3 +3,4 @@ pub mod Below
 pub mod Listed
 pub mod Listing
 pub mod Rows
+pub mod Written

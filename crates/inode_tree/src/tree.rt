@@ -11,6 +11,7 @@ ghost use Rattle.inode_tree.specs.Rows.{IsRows, entry_of, has_children, is_dir, 
 
 mod by_place;
 mod children;
+mod path_bytes;
 mod removal;
 
 use crate::climbs::{below, compare, place};

@@ -3,8 +3,11 @@ pub mod Compares
 pub mod Counts
 pub mod Kept
 pub mod Kids
+pub mod Lookups
 pub mod OrderLemmas
+pub mod PathNames
+pub mod PathsOf
 pub mod Positions
-pub mod Standing
+pub mod Spaces
 pub mod Taken
 pub mod Zones

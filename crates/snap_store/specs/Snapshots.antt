@@ -1,5 +1,5 @@
 -- Snapshots: the directories that may have them, and the rows as they were.
-use Rattle.std.specs.Prelude.{◌≡◌, ℕ, ◌≤◌, Bool, true, not, ◌&&◌, ◌==◌, List, [], length, map, Option, Some, None, is_some, if◌then◌else◌, bytes_eq}
+use Rattle.std.specs.Prelude.{◌≡◌, ℕ, ◌<◌, ◌≤◌, Bool, true, not, ◌&&◌, ◌==◌, List, [], length, map, Option, Some, None, is_some, if◌then◌else◌, bytes_eq}
 use Rattle.std.specs.declared.cmp.Ordering.{Ordering}
 use Rattle.std.specs.List.{filter, find, list_all, list_any}
 use Rattle.std.specs.Option.{option_map, option_map_or}
@@ -8,8 +8,8 @@ use Rattle.std.specs.Cmp.Lexicographic.{slice_cmp}
 use Rattle.name_calls.specs.declared.listing.Child.{Child}
 use Rattle.inode_tree.specs.Below.{at_or_above, at_or_below, rows_below}
 use Rattle.inode_tree.specs.Listing.{children}
-use Rattle.name_calls.specs.Paths.{is_prefix}
 use Rattle.inode_tree.specs.Rows.{Entry, entry_of, is_dir_at, row_at, zone_of}
+use Rattle.snap_store.specs.Frozen.{bytes_of}
 use Rattle.snap_store.specs.Ordered.{IsRisingBy, put_by}
 
 -- of which directory a snapshot is, its name, and the rows at and below the directory as they were, seen from it
@@ -18,42 +18,26 @@ pub record Snapshot : Type 0 where
   pub name : List ℕ
   pub rows : List Entry
 
--- rows that were copied for a snapshot to be taken: the path of its directory, and the rows at and below it by their whole paths
-pub record Copied : Type 0 where
-  pub path : List (List ℕ)
-  pub rows : List Entry
-
 -- the ids of the directories that may have snapshots, and the snapshots
 pub record SnapTable : Type 0 where
   pub allowed : List ℕ
   pub taken : List Snapshot
 
--- The memory that is reserved beside the table: for how many more ids and for how many more snapshots there is
--- a place, and the rows that were copied for one.
+-- memory reserved for the rows of a snapshot: of which directory, by its path, and for how many rows and bytes of paths
+pub record RowRoom : Type 0 where
+  pub path : Option (List (List ℕ))
+  pub nodes : ℕ
+  pub bytes : ℕ
+
+-- memory reserved beside the table: for how many more ids, for how many more snapshots, and for the rows of one
 pub record SnapRoom : Type 0 where
-  pub spare : ℕ
-  pub spare_take : ℕ
-  pub ready : Option Copied
+  pub ids : ℕ
+  pub snapshots : ℕ
+  pub rows : RowRoom
 
 pub record SnapState : Type 0 where
   pub table : SnapTable
   pub room : SnapRoom
-
--- what has to be spare for one more directory
-abbrev pub need_allow : ℕ → ℕ
-need_allow dir = 1
-
--- what has to be spare for one more snapshot
-abbrev pub need_take : List Entry → ℕ → List ℕ → ℕ
-need_take rows dir name = 1
-
--- and the rows that have to be copied for it: those at and below its directory as they are
-abbrev pub copied_for : List Entry → ℕ → Option Copied
-copied_for rows dir = option_map (λ e. record { path = e.path; rows = filter (λ f. is_prefix e.path f.path) rows }) (entry_of rows dir)
-
--- all memory for a snapshot of the directory is put by
-abbrev pub IsReady : SnapRoom → List Entry → ℕ → List ℕ → Type 0
-IsReady room rows dir name = (need_take rows dir name ≤ room.spare_take) × (room.ready ≡ copied_for rows dir)
 
 -- by directory, and by name there, byte by byte
 abbrev pub snapshot_cmp : Snapshot → Snapshot → Ordering
@@ -95,6 +79,23 @@ rows_in taken dir name = option_map_or (λ s. s.rows) (snapshot_named taken dir 
 -- the rows at and below the directory that has the id, seen from it
 abbrev pub frozen : List Entry → ℕ → List Entry
 frozen rows dir = option_map_or (λ e. rows_below rows e.path) (entry_of rows dir) []
+
+-- how many rows and how many bytes of their paths a snapshot of the directory has
+abbrev pub nodes_for : List Entry → ℕ → ℕ
+nodes_for rows dir = length (frozen rows dir)
+
+abbrev pub bytes_for : List Entry → ℕ → ℕ
+bytes_for rows dir = bytes_of (frozen rows dir)
+
+pub record IsRoomFor (room : RowRoom) (rows : List Entry) (dir : ℕ) : Type 0 where
+  pub path : room.path ≡ option_map (λ e. e.path) (entry_of rows dir)
+  pub nodes : nodes_for rows dir ≤ room.nodes
+  pub bytes : bytes_for rows dir ≤ room.bytes
+
+-- all memory for one more snapshot of the directory is reserved
+pub record IsReady (room : SnapRoom) (rows : List Entry) (dir : ℕ) : Type 0 where
+  pub place : 0 < room.snapshots
+  pub rows_fit : IsRoomFor room.rows rows dir
 
 -- the names of a directory's snapshots, by bytes
 abbrev pub names_of : List Snapshot → ℕ → List (List ℕ)

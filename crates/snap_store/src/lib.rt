@@ -1,9 +1,10 @@
 //! Snapshots of directories: the rows at and below a directory as they were at one time.
 #![tactic(auto)]
 
-mod prepared;
+mod paths;
+mod reserved;
 mod rows;
-mod same;
 mod snaps;
+mod space;
 
 pub use snaps::{MOST_SNAPSHOTS, Snaps};

@@ -1,17 +1,18 @@
 //! Copies of rows, which do not change with the tree.
-ghost use Rattle.std.specs.Prelude.{◌≡◌, ◌≤◌, ◌<◌, ◌↔◌, Some, length, map, take, slice_get, true, false, IsSome, IsTrue, IfOk};
-ghost use Rattle.std.specs.List.{filter};
+ghost use Rattle.std.specs.Prelude.{◌≡◌, ◌≤◌, ◌<◌, [], length, take, true, false, IfOk, IsOk};
+ghost use Rattle.std.specs.List.{All};
 ghost use Rattle.std.specs.List.Sorted.{IsPartitionPoint};
-ghost use Rattle.std.specs.Option.{option_map, option_map_or};
-ghost use Rattle.std.specs.Ordering.{is_lt, nat_cmp};
-ghost use Rattle.std.specs.Cmp.Lexicographic.{slice_cmp};
-ghost use Rattle.inode_tree.specs.Below.{seen_from};
+ghost use Rattle.std.specs.Option.{option_map_or};
+ghost use Rattle.std.specs.Ordering.{is_lt};
+ghost use Rattle.inode_tree.specs.Below.{rows_below};
 ghost use Rattle.inode_tree.specs.Listing.{child_of, children};
-ghost use Rattle.name_calls.specs.Paths.{is_child, is_prefix, path_cmp};
-ghost use Rattle.inode_tree.specs.Rows.{IsRising, entry_of, is_marked, row_at};
-ghost use Rattle.snap_store.specs.Snapshots.{frozen, list_in, zone_depth};
+ghost use Rattle.name_calls.specs.Paths.{is_child, is_component, is_relative, path_cmp};
+ghost use Rattle.inode_tree.specs.Rows.{IsRising, is_marked, row_at};
+ghost use Rattle.snap_store.specs.Frozen.{bytes_of, entries_in, entry_in};
+ghost use Rattle.snap_store.specs.Snapshots.{list_in, zone_depth};
 
-use crate::same::same_row;
+use crate::paths::{compare, is_child_of, last_name};
+use crate::space::{FrozenRow, RowBuffer};
 use hk_base::{NoMemory, Text};
 use inode_tree::{Kind, Row, Tree};
 use name_calls::{Child, ChildList, NPath};
@@ -19,189 +20,96 @@ use std::alloc::Global;
 use std::cmp::Ordering;
 use std::marker::Model;
 
-/// A copy of a row, with its path. In contracts its value is an entry.
-#[derive(Drop)]
-pub struct FrozenRow {
-    path: NPath,
-    row: Row,
-}
-
-impl Model for FrozenRow {
-    ghost use Rattle.inode_tree.specs.Rows.{Entry};
-
-    ghost Value = { Entry };
-
-    ghost view = { λ frozen. record { path = frozen.path; row = frozen.row } };
-}
-
-/// Compares two names by their bytes.
-pub fn compare_names(name: &Text, other: &Text) -> Ordering
-    ensures { result ≡ slice_cmp nat_cmp name.now other.now }
+/// Compares the path of a row with the first `upto` names of another.
+fn compare_row(bytes: &Vec<u8>, row: &FrozenRow, path: &NPath, upto: usize) -> Ordering
+    requires { upto ≤ length path.now }
+    ensures { result ≡ path_cmp (entry_in bytes.now.items row.now).path (take upto path.now) }
 {
-    name.as_str().as_bytes().cmp(other.as_str().as_bytes())
+    compare(row.path(bytes), path, upto)
 }
 
-/// Compares a path with the first `upto` names of another.
-fn compare(path: &NPath, other: &NPath, upto: usize) -> Ordering
-    requires { upto ≤ length other.now }
-    ensures { result ≡ path_cmp path.now (take upto other.now) }
+fn comes_before(bytes: &Vec<u8>, row: &FrozenRow, path: &NPath, upto: usize) -> bool
+    requires { upto ≤ length path.now }
+    ensures { result ≡ is_lt (path_cmp (entry_in bytes.now.items row.now).path (take upto path.now)) }
 {
-    let len = path.len();
-    for k in 0..len {
-        if k == upto {
-            return Ordering::Greater;
-        }
-        match compare_names(path.name(k), other.name(k)) {
-            Ordering::Less => return Ordering::Less,
-            Ordering::Equal => {}
-            Ordering::Greater => return Ordering::Greater,
-        }
+    match compare_row(bytes, row, path, upto) {
+        Ordering::Less => true,
+        Ordering::Equal => false,
+        Ordering::Greater => false,
     }
-    len.cmp(&upto)
-}
-
-impl FrozenRow {
-    fn compare(&self, path: &NPath, upto: usize) -> Ordering
-        requires { upto ≤ length path.now }
-        ensures { result ≡ path_cmp self.now.path (take upto path.now) }
-    {
-        compare(&self.path, path, upto)
-    }
-
-    fn comes_before(&self, path: &NPath, upto: usize) -> bool
-        requires { upto ≤ length path.now }
-        ensures { result ≡ is_lt (path_cmp self.now.path (take upto path.now)) }
-    {
-        match self.compare(path, upto) {
-            Ordering::Less => true,
-            Ordering::Equal => false,
-            Ordering::Greater => false,
-        }
-    }
-
-    /// Returns whether the row lies directly in the directory at the path.
-    fn is_child_of(&self, path: &NPath) -> bool
-        ensures { result ≡ is_child path.now self.now.path }
-    {
-        let depth = path.len();
-        if self.path.len() != depth + 1 {
-            return false;
-        }
-        match compare(path, &self.path, depth) {
-            Ordering::Less => false,
-            Ordering::Equal => true,
-            Ordering::Greater => false,
-        }
-    }
-
-    /// Returns the last name of the path, and whether the row is that of a directory.
-    fn child(&self, alloc: Global) -> Result<Child, NoMemory>
-        requires { 0 < length self.now.path }
-        ensures { IfOk result (λ child. child ≡ child_of self.now) }
-    {
-        let name = copy_of(alloc, self.path.name(self.path.len() - 1))?;
-        let directory = self.row.kind.is_dir();
-        Ok(Child { name, directory })
-    }
-
-    fn row(&self) -> Row
-        ensures { result ≡ self.now.row }
-    {
-        self.row
-    }
-
-    /// Returns whether the tree has this row at place `at`. It does not allocate.
-    pub fn stands_at(&self, tree: &Tree, at: u32) -> bool
-        ensures { IsTrue result ↔ (slice_get tree.now.rows at ≡ Some self.now) }
-    {
-        if at >= tree.rows() {
-            return false;
-        }
-        let stands = tree.row_at_place(at);
-        if !tree.at_or_above(stands.id, &self.path) {
-            return false;
-        }
-        if !tree.place_is_below(at, &self.path) {
-            return false;
-        }
-        same_row(&self.row, &stands)
-    }
-}
-
-fn copy_of(alloc: Global, name: &Text) -> Result<Text, NoMemory>
-    ensures { IfOk result (λ copy. copy ≡ name.now) }
-{
-    Ok(Text::of(String::from_str(alloc, name.as_str())?))
-}
-
-/// Copies the row at a place in path order. The path of the copy is relative to the directory at
-/// its first `from` names.
-fn copy_row(tree: &Tree, at: u32, from: usize) -> Result<FrozenRow, NoMemory>
-    requires { at < length tree.now.rows }
-    ensures { IfOk result (λ row. option_map (seen_from from) (slice_get tree.now.rows at) ≡ Some row) }
-{
-    let path = tree.path_from(at, from)?;
-    let row = tree.row_at_place(at);
-    Ok(FrozenRow { path, row })
-}
-
-/// Copies the rows at and below a path. The paths of the copies are relative to the directory at
-/// their first `from` names.
-pub fn copy_rows(
-    alloc: Global,
-    tree: &Tree,
-    path: &NPath,
-    from: usize,
-) -> Result<Vec<FrozenRow>, NoMemory>
-    ensures { IfOk result (λ rows. rows.items ≡ map (seen_from from) (filter (λ e. is_prefix path.now e.path) tree.now.rows)) }
-{
-    let mut rows = Vec::new(alloc);
-    for at in tree.place(path)..tree.rows() {
-        if !tree.place_is_below(at, path) {
-            return Ok(rows);
-        }
-        rows.push(copy_row(tree, at, from)?)?;
-    }
-    Ok(rows)
 }
 
 /// Returns how many rows come before the path of the first `upto` names.
-fn place(rows: &Vec<FrozenRow>, path: &NPath, upto: usize) -> usize
-    requires rising { IsRising rows.now.items }
+fn place(bytes: &Vec<u8>, rows: &Vec<FrozenRow>, path: &NPath, upto: usize) -> usize
+    requires rising { IsRising (entries_in bytes.now.items rows.now.items) }
     requires upto { upto ≤ length path.now }
     ensures most { result ≤ length rows.now.items }
-    ensures parted { IsPartitionPoint (λ e. is_lt (path_cmp e.path (take upto path.now)) ≡ true) (λ e. is_lt (path_cmp e.path (take upto path.now)) ≡ false) rows.now.items result }
+    ensures parted { IsPartitionPoint (λ e. is_lt (path_cmp e.path (take upto path.now)) ≡ true) (λ e. is_lt (path_cmp e.path (take upto path.now)) ≡ false) (entries_in bytes.now.items rows.now.items) result }
 {
     rows.as_slice()
-        .partition_point(|row| row.comes_before(path, upto))
+        .partition_point(|row| comes_before(bytes, row, path, upto))
 }
 
 /// Returns the row at the first `upto` names of a path.
-fn find(rows: &Vec<FrozenRow>, path: &NPath, upto: usize) -> Option<Row>
-    requires rising { IsRising rows.now.items }
+fn find(bytes: &Vec<u8>, rows: &Vec<FrozenRow>, path: &NPath, upto: usize) -> Option<Row>
+    requires rising { IsRising (entries_in bytes.now.items rows.now.items) }
     requires upto { upto ≤ length path.now }
-    ensures { result ≡ row_at rows.now.items (take upto path.now) }
+    ensures { result ≡ row_at (entries_in bytes.now.items rows.now.items) (take upto path.now) }
 {
-    let at = place(rows, path, upto);
+    let at = place(bytes, rows, path, upto);
     if at == rows.len() {
         return None;
     }
     let row = &rows[at];
-    match row.compare(path, upto) {
+    match compare_row(bytes, row, path, upto) {
         Ordering::Less => None,
         Ordering::Equal => Some(row.row()),
         Ordering::Greater => None,
     }
 }
 
+/// Returns whether the row lies directly in the directory at the path.
+fn is_child_row(bytes: &Vec<u8>, row: &FrozenRow, path: &NPath) -> bool
+    ensures { result ≡ is_child path.now (entry_in bytes.now.items row.now).path }
+{
+    is_child_of(row.path(bytes), path)
+}
+
+fn text_of(alloc: Global, name: &[u8]) -> Result<Text, NoMemory>
+    requires { is_component name.now ≡ true }
+    ensures { IfOk result (λ text. text ≡ name.now) }
+{
+    match Text::from_utf8(Vec::from_slice(alloc, name)?) {
+        Some(text) => Ok(text),
+        None => unreachable!(),
+    }
+}
+
+/// Returns the last name of a row's path, and whether the row is that of a directory.
+fn child(alloc: Global, bytes: &Vec<u8>, row: &FrozenRow) -> Result<Child, NoMemory>
+    requires rule { is_relative (entry_in bytes.now.items row.now).path ≡ true }
+    requires deep { 0 < length (entry_in bytes.now.items row.now).path }
+    ensures { IfOk result (λ child. child ≡ child_of (entry_in bytes.now.items row.now)) }
+{
+    let name = text_of(alloc, last_name(row.path(bytes)))?;
+    let directory = row.is_dir();
+    Ok(Child { name, directory })
+}
+
 /// Returns the children of the directory at a path.
-fn list(alloc: Global, rows: &Vec<FrozenRow>, path: &NPath) -> Result<ChildList, NoMemory>
-    ensures { IfOk result (λ list. list ≡ children rows.now.items path.now) }
+fn list(
+    alloc: Global,
+    bytes: &Vec<u8>,
+    rows: &Vec<FrozenRow>,
+    path: &NPath,
+) -> Result<ChildList, NoMemory>
+    requires { All (λ e. is_relative e.path ≡ true) (entries_in bytes.now.items rows.now.items) }
+    ensures { IfOk result (λ list. list ≡ children (entries_in bytes.now.items rows.now.items) path.now) }
 {
     let mut list = ChildList::new(alloc);
     for row in rows {
-        if row.is_child_of(path) {
-            list.push(row.child(alloc)?)?;
+        if is_child_row(bytes, row, path) {
+            list.push(child(alloc, bytes, row)?)?;
         }
     }
     Ok(list)
@@ -221,18 +129,18 @@ fn marked(row: &Option<Row>) -> bool
 }
 
 /// Returns how many names of the path lead to the directory of its zone.
-fn zone(rows: &Vec<FrozenRow>, path: &NPath) -> Option<u8>
-    requires { IsRising rows.now.items }
-    ensures { result ≡ zone_depth rows.now.items path.now }
+fn zone(bytes: &Vec<u8>, rows: &Vec<FrozenRow>, path: &NPath) -> Option<u8>
+    requires { IsRising (entries_in bytes.now.items rows.now.items) }
+    ensures { result ≡ zone_depth (entries_in bytes.now.items rows.now.items) path.now }
 {
     let mut upto = path.len();
     'shorten: while upto > 0 {
-        if marked(&find(rows, path, upto)) {
+        if marked(&find(bytes, rows, path, upto)) {
             return Some(upto as u8);
         }
         upto -= 1;
     }
-    if marked(&find(rows, path, 0)) {
+    if marked(&find(bytes, rows, path, 0)) {
         return Some(0);
     }
     None
@@ -242,37 +150,49 @@ fn zone(rows: &Vec<FrozenRow>, path: &NPath) -> Option<u8>
 #[derive(Drop)]
 pub struct FrozenRows {
     alloc: Global,
+    bytes: Vec<u8>,
     rows: Vec<FrozenRow>,
 }
 
 impl Model for FrozenRows {
-    ghost use Rattle.std.specs.Prelude.{List};
+    ghost use Rattle.std.specs.Prelude.{◌≡◌, List, true};
+    ghost use Rattle.std.specs.List.{All};
+    ghost use Rattle.name_calls.specs.Paths.{is_relative};
     ghost use Rattle.inode_tree.specs.Rows.{Entry, IsRising};
+    ghost use Rattle.snap_store.specs.Frozen.{entries_in};
 
     ghost Value = { List Entry };
 
-    ghost view = { λ frozen. frozen.rows.items };
+    ghost view = { λ frozen. entries_in frozen.bytes.items frozen.rows.items };
 
-    ghost invariant = { λ frozen. IsRising frozen.rows.items };
+    ghost invariant = { λ frozen. IsRising (entries_in frozen.bytes.items frozen.rows.items) × All (λ e. is_relative e.path ≡ true) (entries_in frozen.bytes.items frozen.rows.items) };
 }
 
 impl FrozenRows {
-    /// Copies the rows at and below the directory with the id.
-    pub fn of(alloc: Global, tree: &Tree, dir: u64) -> Result<FrozenRows, NoMemory>
-        requires { IsSome (entry_of tree.now.rows dir) }
-        ensures { IfOk result (λ rows. rows ≡ frozen tree.now.rows dir) }
+    /// Copies the rows at and below the directory at a path into an empty buffer. It allocates only
+    /// if the buffer has too little room.
+    pub fn of(
+        alloc: Global,
+        buffer: RowBuffer,
+        tree: &Tree,
+        path: &NPath,
+    ) -> Result<FrozenRows, NoMemory>
+        requires { buffer.rows ≡ [] }
+        ensures rows { IfOk result (λ rows. rows ≡ rows_below tree.now.rows path.now) }
+        ensures room { length (rows_below tree.now.rows path.now) ≤ buffer.nodes → bytes_of (rows_below tree.now.rows path.now) ≤ buffer.bytes → IsOk result }
     {
         let _count = tree.rows();
-        let path = tree.path_of(dir)?;
-        let rows = copy_rows(alloc, tree, &path, path.len())?;
-        Ok(FrozenRows { alloc, rows })
+        let mut buffer = buffer;
+        buffer.fill(tree, path)?;
+        let (bytes, rows) = buffer.into_parts();
+        Ok(FrozenRows { alloc, bytes, rows })
     }
 
     /// Returns the row at a path.
     pub fn look(&self, path: &NPath) -> Option<Row>
         ensures { result ≡ row_at self.now path.now }
     {
-        find(&self.rows, path, path.len())
+        find(&self.bytes, &self.rows, path, path.len())
     }
 
     /// Returns the children of the directory at a path, or `None` if there is no directory at the
@@ -280,12 +200,12 @@ impl FrozenRows {
     pub fn list(&self, path: &NPath) -> Result<Option<ChildList>, NoMemory>
         ensures { IfOk result (λ list. list ≡ list_in self.now path.now) }
     {
-        match find(&self.rows, path, path.len()) {
+        match find(&self.bytes, &self.rows, path, path.len()) {
             Some(row) => {
                 if !row.kind.is_dir() {
                     return Ok(None);
                 }
-                let list = list(self.alloc, &self.rows, path)?;
+                let list = list(self.alloc, &self.bytes, &self.rows, path)?;
                 Ok(Some(list))
             }
             None => Ok(None),
@@ -296,6 +216,6 @@ impl FrozenRows {
     pub fn zone(&self, path: &NPath) -> Option<u8>
         ensures { result ≡ zone_depth self.now path.now }
     {
-        zone(&self.rows, path)
+        zone(&self.bytes, &self.rows, path)
     }
 }

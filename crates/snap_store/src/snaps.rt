@@ -7,16 +7,18 @@ ghost use Rattle.std.specs.Ordering.{is_lt, nat_cmp};
 ghost use Rattle.inode_tree.specs.Below.{at_or_above, at_or_below};
 ghost use Rattle.inode_tree.specs.Rows.{entry_of, row_at};
 ghost use Rattle.snap_store.specs.Ordered.{IsRisingBy};
-ghost use Rattle.snap_store.specs.Snapshots.{IsReady, IsSnapshots, allowed_above, allowed_below, count_in, count_of, holds_snapshot, is_among, is_named, key_of, list_in, names_of, need_allow, put_snapshot, rows_in, snapshot_cmp, snapshot_named, table_after_allow, table_after_disallow, table_after_disallow_below, table_after_remove, table_after_take, with_id, without_below, without_id, without_snapshot, zone_depth};
+ghost use Rattle.snap_store.specs.Snapshots.{IsReady, IsSnapshots, allowed_above, allowed_below, count_in, count_of, holds_snapshot, is_among, is_named, key_of, list_in, names_of, put_snapshot, rows_in, snapshot_cmp, snapshot_named, table_after_allow, table_after_disallow, table_after_disallow_below, table_after_remove, table_after_take, with_id, without_below, without_id, without_snapshot, zone_depth};
 
-use crate::prepared::{Prepared, prepare, rows_for};
-use crate::rows::{FrozenRows, compare_names};
+use crate::paths::compare_names;
+use crate::reserved::Reserved;
+use crate::rows::FrozenRows;
 use hk_base::{NoMemory, Text};
 use inode_tree::{Row, Tree};
 use name_calls::{ChildList, NPath};
 use std::alloc::Global;
 use std::cmp::Ordering;
 use std::marker::Model;
+use std::mem;
 
 /// The maximum number of snapshots of a directory.
 pub const MOST_SNAPSHOTS: u32 = 65_536;
@@ -236,7 +238,7 @@ pub struct Snaps {
     alloc: Global,
     allowed: Vec<u64>,
     taken: Vec<Taken>,
-    ready: Option<Prepared>,
+    reserved: Reserved,
 }
 
 impl Model for Snaps {
@@ -246,7 +248,7 @@ impl Model for Snaps {
 
     ghost Value = { SnapState };
 
-    ghost view = { λ snaps. record { table = record { allowed = snaps.allowed.items; taken = snaps.taken.items }; room = record { spare = vec_capacity snaps.allowed - vec_len snaps.allowed; spare_take = vec_capacity snaps.taken - vec_len snaps.taken; ready = snaps.ready } } };
+    ghost view = { λ snaps. record { table = record { allowed = snaps.allowed.items; taken = snaps.taken.items }; room = record { ids = vec_capacity snaps.allowed - vec_len snaps.allowed; snapshots = vec_capacity snaps.taken - vec_len snaps.taken; rows = snaps.reserved } } };
 
     ghost invariant = { λ snaps. IsSnapshots snaps.allowed.items snaps.taken.items };
 }
@@ -262,7 +264,7 @@ impl Snaps {
             alloc,
             allowed: Vec::new(alloc),
             taken: Vec::new(alloc),
-            ready: None,
+            reserved: Reserved::none(alloc),
         }
     }
 
@@ -271,15 +273,15 @@ impl Snaps {
     pub fn allow(&mut self, dir: u64) -> Result<(), NoMemory>
         ensures ok { OnOk result (self.new.table ≡ table_after_allow dir self.old.table) }
         ensures err { OnErr result (self.new.table ≡ self.old.table) }
-        ensures spare { need_allow dir ≤ self.old.room.spare → IsOk result }
+        ensures spare { 0 < self.old.room.ids → IsOk result }
     {
         put_id(&mut self.allowed, dir)
     }
 
     /// Reserves memory for one more directory that may have snapshots. Nothing else changes. After
     /// `Ok`, `allow` of the directory succeeds too.
-    pub fn reserve_allow(&mut self, dir: u64) -> Result<(), NoMemory>
-        ensures ok { OnOk result (need_allow dir ≤ self.new.room.spare) }
+    pub fn reserve_allow(&mut self, _dir: u64) -> Result<(), NoMemory>
+        ensures ok { OnOk result (0 < self.new.room.ids) }
         ensures same { self.new.table ≡ self.old.table }
     {
         self.allowed.reserve(1)?;
@@ -317,22 +319,21 @@ impl Snaps {
         ensures ok { OnOk result (self.new.table ≡ table_after_take tree.now.rows dir name self.old.table) }
         ensures err { OnErr result (self.new.table ≡ self.old.table) }
         ensures others { (d : ℕ) (n : List ℕ) → is_named dir name (key_of d n) ≡ false → snapshot_named self.new.table.taken d n ≡ snapshot_named self.old.table.taken d n }
-        ensures spare { IsReady self.old.room tree.now.rows dir name → IsOk result }
+        ensures spare { IsReady self.old.room tree.now.rows dir → IsOk result }
     {
-        let rows = rows_for(self.alloc, self.ready.take(), tree, dir)?;
+        let reserved = mem::replace(&mut self.reserved, Reserved::none(self.alloc));
+        let rows = reserved.into_rows(self.alloc, tree, dir)?;
         put(&mut self.taken, Taken { dir, name, rows })
     }
 
-    /// Reserves the memory for a snapshot of a directory, by copying its rows. Nothing else
-    /// changes. After `Ok`, `take` succeeds for the directory until the snapshots or those rows
-    /// change.
-    pub fn reserve_take(&mut self, tree: &Tree, dir: u64, name: &Text) -> Result<(), NoMemory>
-        ensures ok { OnOk result (IsReady self.new.room tree.now.rows dir name.now) }
+    /// Reserves the memory for a snapshot of a directory. Nothing else changes. After `Ok`, `take`
+    /// succeeds for the directory until the snapshots or the rows at and below it change.
+    pub fn reserve_take(&mut self, tree: &Tree, dir: u64, _name: &Text) -> Result<(), NoMemory>
+        ensures ok { OnOk result (IsReady self.new.room tree.now.rows dir) }
         ensures same { self.new.table ≡ self.old.table }
     {
         self.taken.reserve(1)?;
-        self.ready = None;
-        self.ready = prepare(self.alloc, tree, dir)?;
+        self.reserved = Reserved::of(self.alloc, tree, dir)?;
         Ok(())
     }
 
