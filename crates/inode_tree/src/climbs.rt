@@ -6,6 +6,7 @@ ghost use Rattle.std.specs.Cmp.Lexicographic.{slice_cmp};
 ghost use Rattle.std.specs.Ordering.{nat_cmp};
 
 use crate::hints::Hints;
+use crate::names::NodeName;
 use crate::order::Order;
 use crate::rows::Node;
 use hk_base::Text;
@@ -69,10 +70,10 @@ fn meet(nodes: &Vec<Node>, n: u32, path: &NPath, upto: usize) -> Met
     }
 }
 
-fn compare_names(name: &Text, other: &Text) -> Ordering
+fn compare_names(name: &NodeName, other: &Text) -> Ordering
     ensures { result ≡ slice_cmp nat_cmp name.now other.now }
 {
-    name.as_str().as_bytes().cmp(other.as_str().as_bytes())
+    name.as_bytes().cmp(other.as_str().as_bytes())
 }
 
 /// Compares the node's name with the `k`-th of the first `upto` names of a path. They are equal if

@@ -3,6 +3,7 @@ ghost use Rattle.std.specs.Prelude.{ℕ, Option, Some, ◌≡◌, ◌≤◌, IsT
 ghost use Rattle.std.specs.Str.{bytes_eq};
 ghost use Rattle.inode_tree.specs.Arena.{IsChildNode, IsHint, IsTree, number_of};
 
+use crate::names::NodeName;
 use crate::order::Order;
 use crate::rows::Node;
 use hk_base::Text;
@@ -34,7 +35,7 @@ impl Hints {
 
     /// Notes the number of the node that has a name in a directory.
     pub fn note(&mut self, parent: u32, name: &Text, n: u32) {
-        put(&mut self.slots, parent, name, n);
+        put(&mut self.slots, parent, name.as_str().as_bytes(), n);
         self.noted = self.noted.saturating_add(1);
     }
 
@@ -58,15 +59,15 @@ impl Hints {
     }
 }
 
-fn hash_of(parent: u32, name: &Text) -> usize {
+fn hash_of(parent: u32, name: &[u8]) -> usize {
     let mut hasher = FoldHasher::default();
     hasher.write_u32(parent);
-    hasher.write(name.as_str().as_bytes());
+    hasher.write(name);
     hasher.finish() as usize
 }
 
 /// Puts a number into an empty slot, or into the first slot of its hash if none is empty.
-fn put(slots: &mut Vec<u32>, parent: u32, name: &Text, n: u32) {
+fn put(slots: &mut Vec<u32>, parent: u32, name: &[u8], n: u32) {
     let len = slots.len();
     if len <= TRIES {
         return;
@@ -87,16 +88,17 @@ fn put_all(slots: &mut Vec<u32>, nodes: &Vec<Node>)
 {
     'nodes: for n in 1..nodes.len() {
         let node = &nodes[n];
-        if node.name.as_str().len() > 0 {
-            put(slots, node.parent, &node.name, n as u32);
+        let name = node.name.as_bytes();
+        if name.len() > 0 {
+            put(slots, node.parent, name, n as u32);
         }
     }
 }
 
-fn is_same(name: &Text, other: &Text) -> bool
+fn is_same(name: &NodeName, other: &Text) -> bool
     ensures { result ≡ bytes_eq name.now other.now }
 {
-    name.as_str().as_bytes() == other.as_str().as_bytes()
+    name.as_bytes() == other.as_str().as_bytes()
 }
 
 /// Returns whether the node with a number has the name in the directory.
@@ -126,7 +128,7 @@ fn child(slots: &Vec<u32>, nodes: &Vec<Node>, parent: u32, name: &Text) -> Optio
     if len <= TRIES {
         return None;
     }
-    let first = hash_of(parent, name) % (len - TRIES);
+    let first = hash_of(parent, name.as_str().as_bytes()) % (len - TRIES);
     'tries: for k in 0..TRIES {
         let n = slots[first + k];
         if n == 0 {

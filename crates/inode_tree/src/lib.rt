@@ -3,6 +3,7 @@
 
 mod climbs;
 mod hints;
+mod names;
 mod order;
 mod rows;
 mod tree;

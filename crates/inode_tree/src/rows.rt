@@ -3,7 +3,8 @@
 ghost use Rattle.std.specs.Prelude.{◌≡◌};
 ghost use Rattle.inode_tree.specs.Rows.{is_dir};
 
-use hk_base::{Edek, KeyName, Text};
+use crate::names::NodeName;
+use hk_base::{Edek, KeyName};
 
 /// The kind of a row: a directory or a file.
 #[derive(Clone, Copy, PartialEq, Eq)]
@@ -37,6 +38,6 @@ pub struct Row {
 #[derive(Drop)]
 pub struct Node {
     pub parent: u32,
-    pub name: Text,
+    pub name: NodeName,
     pub row: Row,
 }

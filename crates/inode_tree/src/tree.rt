@@ -16,16 +16,16 @@ mod removal;
 
 use crate::climbs::{below, compare, place};
 use crate::hints::{Hints, noted};
+use crate::names::{NodeName, copy_of, name_in};
 use crate::order::Order;
 use crate::rows::{Kind, Node, Row};
 use crate::zones::zone_at;
-use hk_base::{Edek, KeyName, NoMemory, Text};
+use hk_base::{Edek, KeyName, NoMemory};
 use name_calls::NPath;
 use std::alloc::Global;
 use std::cmp::Ordering;
 use std::collections::HashMap;
 use std::marker::Model;
-use std::mem;
 
 /// The maximum number of rows of a tree.
 pub const MOST_ROWS: u32 = 1_000_000;
@@ -75,7 +75,7 @@ impl Tree {
         order.reserve()?;
         places.reserve(1)?;
         free.reserve(1)?;
-        first(alloc, &mut nodes, &mut order, &mut places);
+        first(&mut nodes, &mut order, &mut places);
         Ok(Tree {
             alloc,
             nodes,
@@ -161,7 +161,6 @@ impl Tree {
         ensures ok { OnOk result (need path.now ≤ self.new.spare) }
     {
         make_room(
-            self.alloc,
             &mut self.nodes,
             &mut self.order,
             &mut self.places,
@@ -183,7 +182,6 @@ impl Tree {
         ensures ok { OnOk result (need path.now ≤ self.new.spare) }
     {
         make_room(
-            self.alloc,
             &mut self.nodes,
             &mut self.order,
             &mut self.places,
@@ -338,12 +336,12 @@ fn last_len(path: &NPath) -> usize
 }
 
 /// Creates a node that no row has.
-fn blank_node(alloc: Global) -> Node
+fn blank_node() -> Node
     ensures { result ≡ blank }
 {
     Node {
         parent: 0,
-        name: Text::of(String::new(alloc)),
+        name: NodeName::empty(),
         row: Row {
             id: 0,
             kind: Kind::Dir { key: None },
@@ -352,12 +350,7 @@ fn blank_node(alloc: Global) -> Node
 }
 
 /// Makes a free node if there is none.
-fn provide(
-    alloc: Global,
-    nodes: &mut Vec<Node>,
-    order: &Order,
-    free: &mut Vec<u32>,
-) -> Result<(), NoMemory>
+fn provide(nodes: &mut Vec<Node>, order: &Order, free: &mut Vec<u32>) -> Result<(), NoMemory>
     requires tree { (ids : ℕ → Option ℕ) × IsTree nodes.old.items order.now.items ids }
     requires free { IsFree nodes.old.items order.now.items free.old.items }
     requires capacity { length nodes.old.items ≤ vec_capacity free.old }
@@ -375,7 +368,7 @@ fn provide(
     let n = nodes.len();
     nodes.reserve(1)?;
     free.reserve(n + 1)?;
-    nodes.push_reserved(blank_node(alloc));
+    nodes.push_reserved(blank_node());
     free.push_reserved(n as u32);
     Ok(())
 }
@@ -383,7 +376,6 @@ fn provide(
 /// Reserves memory for one more row whose name has `name` bytes. Returns `NoMemory` if allocation
 /// fails; the rows are then unchanged.
 fn make_room(
-    alloc: Global,
     nodes: &mut Vec<Node>,
     order: &mut Order,
     places: &mut HashMap<u64, u32>,
@@ -400,7 +392,7 @@ fn make_room(
     ensures ok { OnOk result (HasRoom order.new places.new free.new ready.new name) }
     ensures had { HasRoom order.old places.old free.old ready.old name → IsOk result }
 {
-    provide(alloc, nodes, order, free)?;
+    provide(nodes, order, free)?;
     order.reserve()?;
     places.reserve(1)?;
     ready.reserve(name)?;
@@ -416,7 +408,7 @@ fn give(places: &mut HashMap<u64, u32>, id: u64, n: u32)
 }
 
 /// Adds the root, in reserved memory.
-fn first(alloc: Global, nodes: &mut Vec<Node>, order: &mut Order, places: &mut HashMap<u64, u32>)
+fn first(nodes: &mut Vec<Node>, order: &mut Order, places: &mut HashMap<u64, u32>)
     requires nodes { (nodes.old.items ≡ []) × (vec_len nodes.old < vec_capacity nodes.old) }
     requires order { (order.old.items ≡ []) × (0 < order.old.spare) }
     requires places { (0 < spare places.old) × ((q : ℕ) → get nat_eq places.old q ≡ None) }
@@ -427,19 +419,7 @@ fn first(alloc: Global, nodes: &mut Vec<Node>, order: &mut Order, places: &mut H
 {
     order.insert(0, 0);
     give(places, 0, 0);
-    nodes.push_reserved(blank_node(alloc));
-}
-
-/// Copies a name into the memory reserved in `ready`, which is then empty.
-fn name_in(alloc: Global, ready: &mut String, name: &Text) -> Text
-    requires ready { string_bytes ready.old ≡ [] }
-    requires room { length name.now ≤ string_capacity ready.old }
-    ensures name { result ≡ name.now }
-    ensures ready { string_bytes ready.new ≡ [] }
-{
-    let mut text = mem::replace(ready, String::new(alloc));
-    let _ = text.push_str(name.as_str());
-    Text::of(text)
+    nodes.push_reserved(blank_node());
 }
 
 /// Adds a row at the place `at`, in reserved memory. Its node is the last of the free ones.
@@ -471,12 +451,6 @@ fn commit(
     }
 }
 
-fn copy_of(alloc: Global, name: &Text) -> Result<Text, NoMemory>
-    ensures { IfOk result (λ copy. copy ≡ name.now) }
-{
-    Ok(Text::of(String::from_str(alloc, name.as_str())?))
-}
-
 /// Adds a row. Returns `NoMemory` if allocation fails; the rows are then unchanged.
 fn add(
     alloc: Global,
@@ -501,7 +475,7 @@ fn add(
     ensures err { OnErr result (rows_of nodes.new.items order.new.items ≡ rows_of nodes.old.items order.old.items) }
     ensures had { HasRoom order.old places.old free.old ready.old (length (last_name path.now)) → IsOk result }
 {
-    make_room(alloc, nodes, order, places, free, ready, last_len(path))?;
+    make_room(nodes, order, places, free, ready, last_len(path))?;
     hints.refresh(alloc, nodes);
     put_in(alloc, nodes, order, places, free, ready, hints, path, row);
     Ok(())

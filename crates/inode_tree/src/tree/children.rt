@@ -4,9 +4,10 @@ ghost use Rattle.inode_tree.specs.Arena.{IsSkip, IsTree, rows_of};
 ghost use Rattle.inode_tree.specs.Listing.{children};
 ghost use Rattle.inode_tree.specs.Rows.{is_dir};
 
-use super::{Tree, build, copy_of};
+use super::{Tree, build};
 use crate::climbs::{depth, past, place};
 use crate::hints::Hints;
+use crate::names::copy_of;
 use crate::order::Order;
 use crate::rows::Node;
 use hk_base::NoMemory;

@@ -12,7 +12,6 @@ use crate::hints::Hints;
 use crate::order::Order;
 use crate::rows::Node;
 use name_calls::NPath;
-use std::alloc::Global;
 use std::collections::HashMap;
 
 impl Tree {
@@ -23,7 +22,6 @@ impl Tree {
         ensures { self.new.rows ≡ removed path.now self.old.rows }
     {
         clear(
-            self.alloc,
             &mut self.nodes,
             &mut self.order,
             &mut self.places,
@@ -43,7 +41,6 @@ fn forget(places: &mut HashMap<u64, u32>, id: u64)
 
 /// Removes the row at the place `at`, which must not be the root or have children.
 fn take_out(
-    alloc: Global,
     nodes: &mut Vec<Node>,
     order: &mut Order,
     places: &mut HashMap<u64, u32>,
@@ -59,13 +56,12 @@ fn take_out(
     let id = nodes[n as usize].row.id;
     order.remove(at);
     forget(places, id);
-    nodes[n as usize] = blank_node(alloc);
+    nodes[n as usize] = blank_node();
     free.push_reserved(n);
 }
 
 /// Removes the row at a path and all rows below it, the last in path order first.
 fn clear(
-    alloc: Global,
     nodes: &mut Vec<Node>,
     order: &mut Order,
     places: &mut HashMap<u64, u32>,
@@ -82,6 +78,6 @@ fn clear(
     let mut end = past(nodes, order, path);
     'each: while from < end {
         end -= 1;
-        take_out(alloc, nodes, order, places, free, end);
+        take_out(nodes, order, places, free, end);
     }
 }
