@@ -1,4 +1,4 @@
--- Parts of a record both ways: what is read has the text that was read, and each text is read again.
+-- Parts of a record both ways: the bytes of a part are its text, and each text is read back as its part.
 use Rattle.std.proofs.Common.{◌≡◌, ℕ, ◌^◌, ◌<◌, Bool, true, false, cond, eqb, List, [], ◌∷◌, ◌++◌, length, Option, Some, None, refl, sym, ap, subst, ◌∙◌}
 use Rattle.std.specs.Int.{Width, to_be_bytes}
 use Rattle.std.proofs.lemmas.Bool.{eqb-true}
@@ -18,7 +18,7 @@ pub record IsWhole {X : Type 0} (whole : Whole X) (text : X → List ℕ) (Fits 
   pub takes : (bytes : List ℕ) (x : X) → IsBytes bytes → whole bytes ≡ Some x → (bytes ≡ text x) × Fits x
   pub again : (x : X) → Fits x → whole (text x) ≡ Some x
 
--- the same, of any numbers
+-- the same, for any numbers instead of bytes
 pub record IsText {X : Type 0} (whole : Whole X) (text : X → List ℕ) (Fits : X → Type 0) : Type 0 where
   pub takes : (bytes : List ℕ) (x : X) → whole bytes ≡ Some x → (bytes ≡ text x) × Fits x
   pub again : (x : X) → Fits x → whole (text x) ≡ Some x

@@ -1,4 +1,4 @@
--- Paths as they are written: each is read again, and how long they are.
+-- The text of paths: each is read back, and its length.
 use Rattle.std.proofs.Common.{◌≡◌, ℕ, ◌+◌, ◌<◌, ◌≤◌, Bool, true, false, cond, not, ◌&&◌, List, [], ◌∷◌, ◌++◌, length, get_or, take, drop, Option, Some, None, refl, sym, ap, subst, ◌∙◌, arith, length-append, append_assoc, take-append-drop}
 use Rattle.std.specs.Prelude.{◌==◌, nat_le}
 use Rattle.std.specs.List.{list_all, onto_first}
@@ -8,7 +8,7 @@ use Rattle.std.proofs.lemmas.Option.{cond_some}
 use Rattle.name_calls.specs.Paths.{is_component, is_plain_byte, is_short, is_relative, is_absolute, absolute, starts_reserved, names_text, path_text, read_path}
 use Rattle.name_calls.proofs.PathLemmas.{parts_of, path-text-parts, and-parts, names-text-snoc}
 
--- a test that gave a value
+-- a conditional that gave a value
 if_some : {A : Type 0} (b : Bool) (o : Option A) (y : A) → cond b o None ≡ Some y → (b ≡ true) × (o ≡ Some y)
 if_some true o y e = (refl, e)
 if_some false o y e = absurd cc
@@ -19,7 +19,7 @@ if_true b x y e = ap (λ t. cond t x y) e
 eq_47 : (b : ℕ) → (b == 47) ≡ true → b ≡ 47
 eq_47 b h = grind (arith, nat_tests)
 
--- what was read is the path as it is written
+-- bytes that are read as a path are its text, and the path is absolute
 pub path_takes : (bytes : List ℕ) (p : List (List ℕ)) → read_path bytes ≡ Some p → (bytes ≡ path_text p) × (is_absolute p ≡ true)
 path_takes [] p e = absurd cc
 path_takes (b ∷ []) p e =
@@ -37,7 +37,7 @@ plain_no_slash b h = let g = and-parts (not (b == 47) && not (b == 58)) (not (b 
     flip true e = sym e
     flip false e = refl
 
--- a name before parts
+-- a name before the parts
 name_before : (rest : List ℕ) (cs : List (List ℕ)) → parts_of rest ≡ [] ∷ cs → (c : List ℕ) → list_all is_plain_byte c ≡ true → parts_of (c ++ rest) ≡ c ∷ cs
 name_before rest cs is [] h = is
 name_before rest cs is (b ∷ c) h =
@@ -51,14 +51,14 @@ component_some : (c : List ℕ) → is_component c ≡ true → nat_le 1 (length
 component_some c h =
     let a = (and-parts _ _ h).0 in let b = (and-parts _ _ a).0 in let d = (and-parts _ _ b).0 in let e = (and-parts _ _ d).0 in let f = (and-parts _ _ e).0 in (and-parts _ _ f).0
 
--- names parted by slashes are parted again
+-- the text of names is split into an empty part and the names
 parts_again : (cs : List (List ℕ)) → list_all is_component cs ≡ true → parts_of (names_text cs) ≡ [] ∷ cs
 parts_again [] h = refl
 parts_again (d ∷ ds) h =
     let g = and-parts (is_component d) (list_all is_component ds) h in
     ap (λ (ps : List (List ℕ)). [] ∷ ps) (name_before (names_text ds) ds (parts_again ds g.1) d (component_plain d g.0))
 
--- what is written is read again
+-- the text of a path is read back as the path
 pub path_again : (p : List (List ℕ)) → is_absolute p ≡ true → read_path (path_text p) ≡ Some p
 path_again [] h = refl
 path_again ([] ∷ cs) h =
@@ -84,7 +84,7 @@ relative_length p h =
 pub absolute_length : (p : List (List ℕ)) → is_absolute p ≡ true → length (path_text p) ≤ 8000
 absolute_length p h = relative_length p (and-parts (is_relative p) (not (starts_reserved p)) h).0
 
--- a path that keeps the rule of paths, and doesn't begin with `.reserved`, is one from the root on
+-- a path that keeps the rule of paths, and doesn't begin with `.reserved`, is absolute
 pub absolute_from : (p : List (List ℕ)) → is_relative p ≡ true → not (starts_reserved p) ≡ true → is_absolute p ≡ true
 absolute_from p a b = cc
 
@@ -92,7 +92,7 @@ names_append : (a b : List (List ℕ)) → names_text (a ++ b) ≡ names_text a 
 names_append [] b = refl
 names_append (c ∷ a) b = ap (λ (t : List ℕ). 47 ∷ c ++ t) (names_append a b) ∙ sym (append_assoc (47 ∷ c) (names_text a) (names_text b))
 
--- one name more, and all of them, as they are written
+-- the length of the text with one more name, and with all of them
 pub length_more : (p : List (List ℕ)) (k : ℕ) → k < length p → length (names_text (take (k + 1) p)) ≡ length (names_text (take k p)) + 1 + length (get_or p k [])
 length_more p k h =
     let e : names_text (take (k + 1) p) ≡ names_text (take k p) ++ 47 ∷ get_or p k [] = ap names_text (take_more p k [] h) ∙ names-text-snoc (take k p) (get_or p k []) in
@@ -103,7 +103,7 @@ length_within p k =
     let e : names_text p ≡ names_text (take k p) ++ names_text (drop k p) = ap names_text (sym (take-append-drop k p)) ∙ names_append (take k p) (drop k p) in
     omega (arith, ap length e, length-append (names_text (take k p)) (names_text (drop k p)))
 
--- the bytes of the names so far and of one more
+-- the bytes of the names so far, and with one more
 pub one_name_more : (p : List (List ℕ)) (k : ℕ) (c : List ℕ) → is_relative p ≡ true → k < length p → c ≡ get_or p k []
     → (length (names_text (take k p)) + (1 + length c) ≡ length (names_text (take (k + 1) p))) × (length (names_text (take (k + 1) p)) ≤ 8000)
 one_name_more [] k c rule within is = absurd (omega arith)

@@ -1,4 +1,4 @@
--- Records both ways: what is read has the spelling that was read, and each spelling is read again.
+-- Records both ways: the bytes of an operation are its spelling, and each spelling is read back as its operation.
 use Rattle.std.proofs.Common.{◌≡◌, ℕ, ◌^◌, ◌<◌, ◌≤◌, Bool, true, false, cond, not, eqb, ◌==◌, ◌&&◌, List, [], ◌∷◌, ◌++◌, length, Option, Some, None, Result, Ok, Err, refl, sym, ap, subst, ◌∙◌, arith, length-append}
 use Rattle.std.specs.Prelude.{IfOk, nat_lt, nat_le}
 use Rattle.std.specs.List.{list_all}
@@ -64,7 +64,7 @@ opt_edek_whole : IsWhole opt_edek_of (opt_field edek_field) (IsOpt IsEdek)
 unfolding opt_edek_of
 opt_edek_whole = opt_whole edek_whole
 
--- an operation, by what stands behind its first byte
+-- an operation, by the bytes after its first byte
 record IsOp {X : Type 0} (whole : Whole X) (text : X → List ℕ) (Fits : X → Type 0) (tag : ℕ) (see : X → EditOp) : Type 0 where
   parts : IsWhole whole text Fits
   has : (x : X) → Fits x → HasSpelling (see x)
@@ -101,7 +101,7 @@ remove_is = record { parts = last_whole path_front; has = λ path is. is; spells
 zone_is : IsOp (then_of path_at (last name_at)) (λ x. path_field x.0 ++ name_field x.1) (λ x. IsAbsolute x.0 × IsKeyName x.1) 6 (λ x. Zone x.0 x.1)
 zone_is = record { parts = then_whole path_front (last_whole name_front); has = λ x is. is; spells = λ x. refl }
 
--- what is read of a record's bytes has them as its spelling
+-- an operation read from bytes has a spelling, which is these bytes
 op_read : (bytes : List ℕ) (op : EditOp) → IsBytes bytes → op_of bytes ≡ Some op → HasSpelling op × (bytes ≡ spelling op)
 unfolding op_of opened_of mkdir_of file_of remove_of zone_of
 op_read [] op fits e = absurd cc
@@ -120,7 +120,7 @@ op_read (tag ∷ bytes) op fits e =
     by_tag t false false false false true one two three four six rest e = tagged t 6 (six refl) (op_takes zone_is bytes op rest e)
     by_tag t false false false false false one two three four six rest e = absurd cc
 
--- each spelling is read again
+-- each spelling is read back as its operation
 spelling_read : (op : EditOp) → HasSpelling op → op_of (spelling op) ≡ Some op
 unfolding op_of opened_of mkdir_of file_of remove_of zone_of
 spelling_read (Opened opening) has = op_again opened_is opening has
@@ -129,7 +129,7 @@ spelling_read (File id path edek) has = op_again file_is (id, (path, edek)) (has
 spelling_read (Remove path) has = op_again remove_is path has
 spelling_read (Zone path key) has = op_again zone_is (path, key) has
 
--- two operations with one spelling are one
+-- two operations with the same spelling are the same
 pub one_spelling : (a b : EditOp) → HasSpelling a → HasSpelling b → spelling a ≡ spelling b → a ≡ b
 one_spelling a b of_a of_b same = same_Some a b (sym (spelling_read a of_a) ∙ ap op_of same ∙ spelling_read b of_b)
 
@@ -155,7 +155,7 @@ spelled_fits (File id path edek) has = not_reserved path has.1
 spelled_fits (Remove path) has = not_reserved path has
 spelled_fits (Zone path key) has = not_reserved path has.0
 
--- how long records are
+-- the length of records
 
 name_length : (name : List ℕ) → IsKeyName name → length name ≤ 64
 name_length name is =

@@ -1,4 +1,4 @@
--- What follows for the records of the edit log.
+-- Properties of the records of the edit log.
 use Rattle.std.specs.Prelude.{◌≡◌, ℕ, ◌≤◌, length, IsTrue}
 use Rattle.edit_ops.specs.declared.ops.EditOp.{EditOp}
 use Rattle.edit_ops.specs.Records.{HasSpelling, fits, spelling}

@@ -1,4 +1,4 @@
--- Records read from left to right: each field, and the bytes behind it.
+-- Records read from left to right: each field, and the bytes after it.
 use Rattle.std.specs.Prelude.{ℕ, List, [], ◌∷◌, length, Option, Some, None, ◌==◌, if◌then◌else◌}
 use Rattle.std.specs.Int.{w16, w32, w64}
 use Rattle.hk_base.specs.Names.{Encrypted}
@@ -7,28 +7,28 @@ use Rattle.key_rows.specs.Reading.{◌>>=◌, number_at, bytes_at, short_at, lon
 use Rattle.edit_ops.specs.declared.ops.EditOp.{EditOp}
 use Rattle.edit_ops.specs.declared.ops.EditOp.TheVariants.{Opened, Mkdir, File, Remove, Zone}
 
--- what stands at the front of bytes and the bytes behind it, if something of the kind stands there
+-- reads a value from the start of the bytes, if they begin with one: the value, and the bytes after it
 abbrev pub Front : Type 0 → Type 0
 Front X = List ℕ → Option (X × List ℕ)
 
--- what all of the bytes are, if they are something of the kind
+-- reads all of the bytes as one value, if they are one
 abbrev pub Whole : Type 0 → Type 0
 Whole X = List ℕ → Option X
 
--- a front that is something as a whole
+-- a value that fills a field at the start
 abbrev pub front_of : {X : Type 0} → Front (List ℕ) → Whole X → Front X
 front_of front whole bytes = do
   text ← front bytes
   x ← whole text.0
   Some (x, text.1)
 
--- a front that nothing follows
+-- a value with no bytes after it
 abbrev pub last : {X : Type 0} → Front X → Whole X
 last front bytes = do
   x ← front bytes
   if length x.1 == 0 then Some x.0 else None
 
--- a front, and what the bytes behind it are
+-- a value, and the value that all bytes after it are
 abbrev pub then_of : {X Y : Type 0} → Front X → Whole Y → Whole (X × Y)
 then_of front whole bytes = do
   x ← front bytes
@@ -40,7 +40,7 @@ as_of see whole bytes = do
   x ← whole bytes
   Some (see x)
 
--- a byte 0 alone, or a byte 1 and something
+-- a byte 0 alone, or a byte 1 and a value
 abbrev pub opt_of : {X : Type 0} → Whole X → Whole (Option X)
 opt_of whole [] = None
 opt_of whole (tag ∷ bytes) =

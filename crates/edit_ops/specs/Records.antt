@@ -7,16 +7,16 @@ use Rattle.key_rows.specs.Records.{name_field, text_field}
 use Rattle.edit_ops.specs.declared.ops.EditOp.{EditOp}
 use Rattle.edit_ops.specs.declared.ops.EditOp.TheVariants.{Opened, Mkdir, File, Remove, Zone}
 
--- a path is two bytes of length and the path as it is written
+-- a path: two bytes of length and the text of the path
 abbrev pub path_field : List (List ℕ) → List ℕ
 path_field path = text_field (path_text path)
 
--- an encrypted data encryption key is the name of a key with its length, the version's number, the
+-- an encrypted data encryption key: the name of its key with one byte of length, the version's number, the
 -- initialization vector, and the sealed bytes with one byte of length
 abbrev pub edek_field : Encrypted → List ℕ
 edek_field edek = name_field edek.version.key ++ (to_be_bytes w16 edek.version.number ++ (edek.iv ++ name_field edek.sealed))
 
--- what may be absent is a byte 0, or a byte 1 and what is there
+-- an optional value: a byte 0, or a byte 1 and the value
 abbrev pub opt_field : {X : Type 0} → (X → List ℕ) → Option X → List ℕ
 opt_field field None = 0 ∷ []
 opt_field field (Some x) = 1 ∷ field x
