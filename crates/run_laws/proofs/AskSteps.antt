@@ -1,4 +1,4 @@
--- What stays of open asks and of a zone from step to step.
+-- What stays true of open asks and of a zone from step to step.
 use Rattle.std.proofs.Common.{◌≡◌, ℕ, ◌+◌, ◌*◌, ◌^◌, ◌<◌, ◌≤◌, inl, inr, Bool, true, false, List, [], ◌∷◌, Option, Some, None, Result, is_some, refl, sym, ap, subst, arith}
 use Rattle.std.specs.List.{All, AllByRecursion}
 use Rattle.hk_base.specs.declared.names.Edek.{Edek}
@@ -30,15 +30,15 @@ use Rattle.name_core.proofs.KeepLemmas.{same-opening, settled-next, with_ask}
 use Rattle.name_core.proofs.Layers.{Asking, Same, Opened, asking}
 use Rattle.run_laws.proofs.ZoneMarks.{HasKey, LeavesZone, keys-stay}
 
--- A zone with its key, if there is one, and what holds of open asks: of each whose id is n or above, and of none with the id of the zone,
--- which lies below n.
+-- A zone with its key, if there is one, and a property of open asks: each ask whose id is n or above has it, and none with the id of the
+-- zone, which is below n.
 pub record Begun (under : Option ℕ) (key : Option KeyName) (P : OpenAsk → Type 0) (n : ℕ) : Type 0 where
   pub marked : (i : ℕ) → under ≡ Some i → is_some key ≡ true
   pub zone_below : (i : ℕ) → under ≡ Some i → i < n
   pub apart : (q : OpenAsk) → P q → under ≡ Some q.id → ⊥
   pub later_asks : (q : OpenAsk) → n ≤ q.id → P q
 
--- what stays so from step to step, whether the operation that waits will be kept or not
+-- what stays true from step to step, whether the pending operation will be kept or dropped
 pub record Stays (under : Option ℕ) (key : Option KeyName) (P : OpenAsk → Type 0) (n : ℕ) (s : NameService) : Type 0 where
   pub later : n ≤ next_id s.names
   pub asks : AllByRecursion P s.names.asks
@@ -47,7 +47,7 @@ pub record Stays (under : Option ℕ) (key : Option KeyName) (P : OpenAsk → Ty
 abbrev pub Alone : NameState → NameService
 Alone s = record { names = s; pending = None }
 
--- a directory that a finish marks lies outside all zones
+-- a directory that a finish marks is outside all zones
 may-mark : (rows : List Entry) (a : OpenAsk) (edek : Option Edek) (p : List (List ℕ)) (key : KeyName) → first_cause (finish_causes rows a edek (ask.Zone p key)) ≡ None
     → (is_dir_at (row_at rows p) ≡ true) × (is_some (zone_of rows p) ≡ false)
 may-mark rows a edek p key h = let m = markable rows p (may-make-zone rows a edek p key h) in (m.dir, ap is_some m.outside)
@@ -59,11 +59,11 @@ module _ (under : Option ℕ) (key : Option KeyName) (P : OpenAsk → Type 0) (n
   at : (s t : NameService) → s ≡ t → Still t → Still s
   at s t is h = subst Still (sym is) h
 
-  -- the operation that waited was settled
+  -- the pending operation was settled
   settles : (kept : Bool) (s : NameService) → Keeps s → Still s → Still (Alone (settled kept s))
   settles kept s k h = record { later = let e = settled-next kept s k in let l = h.later in omega (arith, e, l); asks = h.asks; rows = λ again. h.rows kept }
 
-  -- an operation takes effect, or waits
+  -- an operation takes effect, or is pending
   takes : (s : NameState) (o : EditOp) → LeavesZone under s.table.rows o → is_opening o ≡ false → Still (Alone s) → Still (Alone (done_with (Some o) s)) × Still (record { names = s; pending = Some o })
   takes s o leaves safe h = (
     record {
@@ -171,7 +171,7 @@ module _ (under : Option ℕ) (key : Option KeyName) (P : OpenAsk → Type 0) (n
   steps s [] t is k h = at t s is h
   steps s (m ∷ ms) t reaches k h = steps m ms t reaches.1 (ids_stay_below s m reaches.0 k) (step s m reaches.0 k h)
 
--- what holds of open asks and of each whose id is not used yet stays so, and used ids stay used
+-- a property of open asks, and of each ask with an id that is not used yet, stays true of open asks; used ids stay used
 pub asks-keep : (P : OpenAsk → Type 0) (n : ℕ) → ((q : OpenAsk) → n ≤ q.id → P q) → (s s' : NameService) → IsStep s s' → Keeps s → n ≤ next_id s.names → AllByRecursion P s.names.asks
     → (n ≤ next_id s'.names) × AllByRecursion P s'.names.asks
 asks-keep P n later s s' did k used asks = (still.later, still.asks)

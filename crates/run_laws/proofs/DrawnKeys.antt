@@ -1,4 +1,4 @@
--- A draw keeps what its ask wanted, where it keeps an encrypted key at all.
+-- The answer that a draw keeps has what its ask wanted, unless it is a refusal.
 use Rattle.std.proofs.Common.{◌≡◌, ℕ, false, inl, inr, List, Option, Some, None, Result, Ok, Err, is_none, refl, sym, ap, subst, ◌∙◌}
 use Rattle.hk_base.specs.declared.names.Edek.{Edek}
 use Rattle.hk_base.specs.declared.names.KeyName.{KeyName}
@@ -24,11 +24,11 @@ use Rattle.world_run.specs.Step.{WantActs}
 use Rattle.world_run.proofs.DrawLemmas.{OneDrawn, generate-one}
 use Rattle.run_laws.specs.Names.{Answers}
 
--- what is given is what was wanted
+-- an answer that is not a refusal has what was wanted
 abbrev pub Fits : Want → KeyAnswer → Type 0
 Fits wanted given = (edek : Option Edek) → given ≡ answer.Given edek → Answers wanted edek
 
--- the key under which a data encryption key was drawn has the name that was given
+-- the key under which a data encryption key was drawn has the given name
 of-key : (s : KmsState) (words : ℕ → ℕ) (name : KeyName) (e : Edek) (drawn : ℕ) (s' : KmsState) → OneDrawn s words name e drawn s' → e.version.key ≡ name
 of-key s words name e drawn s' one = ap (λ (k : Edek). k.version.key) one.drawn_is ∙ go (row_of s name) one.stands (named s.table.rows name)
   where

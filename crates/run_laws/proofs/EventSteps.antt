@@ -1,4 +1,4 @@
--- What an event does to the namesystem, and that what is kept stays.
+-- What an event does to the namesystem, and that kept notes and replies stay.
 use Rattle.std.proofs.Common.{◌≡◌, inl, inr, ℕ, zero, suc, ◌+◌, Bool, List, [], ◌∷◌, ◌++◌, length, Option, Some, None, Result, Ok, Err, refl, sym, ap, subst, arith}
 use Rattle.std.specs.Prelude.{slice_get}
 use Rattle.hk_base.specs.declared.texts.Text.{Text}
@@ -25,7 +25,7 @@ use Rattle.world_run.specs.Step.{AskAt, DrawActs, FinishReply, NamesAct, PathAct
 use Rattle.world_run.specs.World.{Kept, WorldState, numbered, with_names, with_reply}
 use Rattle.run_laws.specs.Runs.{DiskTells, Happens, Leads}
 
--- what is kept under numbers
+-- values kept under numbers
 
 got-stays : {X : Type 0} (xs : List X) (y : X) (n : ℕ) (x : X) → slice_get xs n ≡ Some x → slice_get (xs ++ y ∷ []) n ≡ Some x
 got-stays [] y n x h = absurd cc
@@ -43,7 +43,7 @@ got-last (z ∷ xs) y = got-last xs y
 pub numbered-last : {X : Type 0} (xs : List X) (y : X) → numbered (xs ++ y ∷ []) (length xs + 1) ≡ Some y
 numbered-last xs y = let next : suc (length xs) ≡ length xs + 1 = omega arith in subst (λ (n : ℕ). numbered (xs ++ y ∷ []) n ≡ Some y) next (got-last xs y)
 
--- what is kept stays under its number
+-- notes and replies stay under their numbers
 pub record StaysKept (k k' : Kept) : Type 0 where
   pub notes : (n : ℕ) (note : AskNote) → numbered k.notes n ≡ Some note → numbered k'.notes n ≡ Some note
   pub replies : (n : ℕ) (reply : KeptReply) → numbered k.replies n ≡ Some reply → numbered k'.replies n ≡ Some reply
@@ -51,7 +51,7 @@ pub record StaysKept (k k' : Kept) : Type 0 where
 kept-same : (k : Kept) → StaysKept k k
 kept-same k = record { notes = λ n note h. h; replies = λ n reply h. h }
 
--- the namesystem is as it was, or has taken a step, or was opened again from its log
+-- the namesystem is unchanged, or took a step, or was opened again from its log
 pub data Turns (s s' : NameService) : Type 0 where
   Rests : s' ≡ s → Turns s s'
   Stepped : IsStep s s' → Turns s s'

@@ -1,4 +1,4 @@
--- A finish that is refused for its zone: the key of the zone is as it was wherever the zone is the same.
+-- A finish that is refused for its zone: if the zone is the same, its key is the same.
 use Rattle.std.proofs.Common.{◌≡◌, ℕ, ◌<◌, inl, inr, Bool, true, false, cond, List, [], ◌∷◌, Option, Some, None, Ok, Err, IfSome, is_some, refl, sym, ap, ◌∙◌, subst, arith}
 use Rattle.std.specs.Prelude.{not, nat_le, is_none, length, ◌==◌}
 use Rattle.std.specs.Option.{option_and_then, option_map}
@@ -34,7 +34,7 @@ use Rattle.run_laws.specs.Names.{Answers, RefusedForItsZone}
 use Rattle.run_laws.proofs.ZoneMarks.{HasKey, LeavesZone, keys-stay, zone-holds}
 use Rattle.run_laws.proofs.AskSteps.{Begun, Stays, steps}
 
--- an open ask has not the id of the zone, and only the ask itself has its id
+-- an open ask doesn't have the id of the zone, and is the ask itself if it has its id
 abbrev IsOnly : Option ℕ → OpenAsk → OpenAsk → Type 0
 IsOnly under a q = (under ≡ Some q.id → ⊥) × (q.id ≡ a.id → q ≡ a)
 
@@ -85,7 +85,7 @@ module _ (s : NameService) (k : Ask) (names : IsNames s) where
   unused : (o : EditOp) (i : ℕ) → is_opening o ≡ false → uses o ≡ i ∷ [] → IsWaiting s.names o → under ≡ Some i → ⊥
   unused o i safe its w = taken i (ap is_some (id-may-be-used s.names.table i (subst (λ (ids : List ℕ). may_use_all s.names.table ids ≡ true) its (allowed s.names.table o safe w.pending.allowed).ids)).free)
 
-  -- nor does an operation that waits make one
+  -- nor does a pending operation make one
   leaves : (o : EditOp) → IsWaiting s.names o → LeavesZone under rows o
   leaves (op.Opened opening) w = tt
   leaves (op.Mkdir id p) w = unused (op.Mkdir id p) id refl refl w
@@ -118,7 +118,7 @@ accepted s user k note s' (Plain, may, is) = go (first_cause (ask_causes s user 
 
 -- its finish was refused
 
--- the causes that it was refused for were those of the settled rows, which it left
+-- it was refused for a cause in the settled rows, which it left unchanged
 record IsStopped (t : NameService) (a : OpenAsk) (edek : Option Edek) (t' : NameService) : Type 0 where
   kept : Bool
   stops : first_cause (finish_causes (settled kept t).table.rows a edek a.ask) ≡ Some refusal.ZoneChanged
@@ -179,7 +179,7 @@ fits None (Some e) h = absurd h
 fits (Some k) None h = absurd h
 fits (Some k) (Some e) h = (bytes_eq-Decides e.version.key k).1 h
 
--- a cause that is another refusal was not what stopped it
+-- a cause with another refusal did not stop it
 past : (b : Bool) (why : NameRefusal) (rest : Option NameRefusal) → (why ≡ refusal.ZoneChanged → ⊥) → cond b (Some why) rest ≡ Some refusal.ZoneChanged → rest ≡ Some refusal.ZoneChanged
 past true why rest another h = absurd (another cc)
 past false why rest another h = h

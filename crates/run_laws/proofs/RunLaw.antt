@@ -40,12 +40,12 @@ use Rattle.run_laws.proofs.DrawnKeys.{Fits, drawn-fits}
 use Rattle.run_laws.proofs.EventSteps.{Reopened, Rests, Stepped, Turns, leads-keep, moves, numbered-last}
 use Rattle.run_laws.proofs.RefusalLaw.{refused_for_its_zone}
 
--- what became of an ask since it was made
+-- an ask since it was made
 
 abbrev IsNot : ℕ → OpenAsk → Type 0
 IsNot id q = q.id ≡ id → ⊥
 
--- Since s, only steps of the namesystem came, or it was opened again and no ask with the id is open. The id is used.
+-- Since s, the namesystem only took steps, or no ask with the id is open, as after a restart. The id is used.
 record Since (id : ℕ) (s t : NameService) : Type 0 where
   keeps : Keeps t
   used : id < next_id t.names
@@ -170,7 +170,7 @@ gives w number note reply_number reply w' noted h =
           fits = drawn-fits h.lines w.keys h.words h.now note.want AnyFault d.reply h.drawn d.commands d.keys d.acts;
         }
 
--- the finish, which is refused as a zone that changed
+-- the finish, which is refused with ZoneChanged
 record Ends (w : WorldState) (id : ℕ) (given : KeyAnswer) (w' : WorldState) : Type 0 where
   ops : List EditOp
   serves : FinishServes w.names id given AnyFault (Err refusal.ZoneChanged) ops w'.names
@@ -189,7 +189,7 @@ ends w number id given w' replied h = go (subst (λ (o : Option KeptReply). Fini
           (subst (λ (r : Result (Unit {0}) NameRefusal). FinishServes w.names id given AnyFault r f.ops f.names) (refused f.result f.told_is) f.finishes);
     }
 
--- it is refused so only where its ask is open, and where it was given no refusal
+-- it is refused so only if its ask is open and it was given no refusal
 
 was-open : (s : NameService) (id : ℕ) (given : KeyAnswer) (logged : List EditOp) (s' : NameService) → FinishServes s id given AnyFault (Err refusal.ZoneChanged) logged s' → AllByRecursion (IsNot id) s.names.asks → ⊥
 was-open s id given logged s' finish gone = go (open_ask s.names.asks id) refl finish

@@ -16,7 +16,7 @@ use Rattle.edit_ops.specs.declared.ops.EditOp.TheVariants as op
 use Rattle.name_store.specs.Table.{NameTable, after_table, id_of, new_directory, new_file}
 use Rattle.name_core.proofs.RowLemmas.{all-put}
 
--- what holds of each marked row holds of the row of a zone
+-- a property of each marked row is true of the row of a zone
 pub zone-holds : (P : Entry → Type 0) (p : List (List ℕ)) (rows : List Entry) → All (λ (e : Entry). is_marked e.row ≡ true → P e) rows → IfSome (zone_of rows p) P
 zone-holds P p [] h = tt
 zone-holds P p (x ∷ rows) h = go (is_zone_over p x) refl (zone_of rows p) (zone-holds P p rows (All-tail (λ (e : Entry). is_marked e.row ≡ true → P e) x rows h))
@@ -37,7 +37,7 @@ zone-holds P p (x ∷ rows) h = go (is_zone_over p x) refl (zone_of rows p) (zon
 abbrev pub HasKey : Option ℕ → Option KeyName → Entry → Type 0
 HasKey under key e = under ≡ Some e.row.id → mark_of e.row.kind ≡ key
 
--- an operation that makes no row with the id of the zone, and marks no other than a directory outside all zones
+-- an operation that makes no row with the id of the zone, and marks only a directory outside all zones
 abbrev pub LeavesZone : Option ℕ → List Entry → EditOp → Type 0
 LeavesZone under rows (op.Opened opening) = ⊤
 LeavesZone under rows (op.Mkdir id p) = under ≡ Some id → ⊥
@@ -71,7 +71,7 @@ module _ (under : Option ℕ) (key : Option KeyName) (marked : (i : ℕ) → und
       go true here rest dir is = let f : true ≡ false = sym (over here is) ∙ (outside x rows p none).0 in absurd cc
       go false here rest dir is = rest dir is
 
-  -- the rows keep the key of the zone behind such an operation
+  -- the rows keep the key of the zone after such an operation
   pub keys-stay : (t : NameTable) (o : EditOp) → LeavesZone under t.rows o → All (HasKey under key) t.rows → All (HasKey under key) (after_table t o).rows
   keys-stay t (op.Opened opening) leaves h = h
   keys-stay t (op.Mkdir id p) leaves h = all-put (HasKey under key) (new_directory id p) t.rows (λ is. absurd (leaves is)) h

@@ -1,4 +1,4 @@
--- What follows in the namesystem for an ask, its finish and any steps between them.
+-- Properties of an ask of the namesystem, its finish and any steps between them.
 use Rattle.std.specs.Prelude.{◌≡◌, ⊤, true, List, Option, None, Some, Ok, Err}
 use Rattle.hk_base.specs.declared.names.Edek.{Edek}
 use Rattle.hk_base.specs.declared.texts.Text.{Text}
@@ -14,8 +14,8 @@ use Rattle.name_core.specs.Asks.{Asks, is_other_zone, opened}
 use Rattle.name_core.specs.Service.{FinishServes}
 use Rattle.name_core.specs.Laws.{AnyFault, Reaches}
 
--- The reply has what the ask wanted: an encrypted key of the key that was named where one was to be generated, and none where nothing
--- was wanted. What is given to the ask for a zone is not looked at.
+-- The reply has what the ask wanted: an encrypted key of the named key if one had to be generated, and none if nothing was wanted. The
+-- reply to an ask for a zone is not checked.
 abbrev pub Answers : Want → Option Edek → Type 0
 Answers want.Nothing None = ⊤
 Answers want.Nothing (Some e) = ⊥
@@ -23,8 +23,8 @@ Answers (want.Generate key) None = ⊥
 Answers (want.Generate key) (Some e) = e.version.key ≡ key
 Answers (want.Metadata key) edek = ⊤
 
--- A finish whose reply has what its ask wanted is refused as a zone that changed, after any steps behind the ask, only where the zone
--- that its path lies in is another one than when it was asked for.
+-- After an ask and any steps, a finish whose reply has what the ask wanted is refused with ZoneChanged only if the zone that its path
+-- lies in is another one than when the ask was made.
 abbrev pub RefusedForItsZone : Type 0
 RefusedForItsZone =
     (s : NameService) (user : Text) (ask : Ask) (note : AskNote) (s' : NameService) (between : List NameService) (t : NameService)

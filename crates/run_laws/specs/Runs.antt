@@ -1,4 +1,4 @@
--- What follows in a run of events of both services.
+-- Properties of a run of events of both services.
 use Rattle.std.specs.Prelude.{◌≡◌, ℕ, true, List, [], ◌∷◌, Option, None, Some}
 use Rattle.std.specs.Option.{option_map}
 use Rattle.name_calls.specs.Paths.{read_path}
@@ -23,8 +23,8 @@ use Rattle.world_run.specs.World.{WorldState}
 abbrev pub DiskTells : Type 0
 DiskTells = Unit {0}
 
--- From w, an event may be answered so and leave w': under the properties of some lines, with some words to come, at some moment. A store
--- fault may come at any time.
+-- From w, an event may get this answer and leave w': under the properties of some lines, with some words to come, at some moment. A
+-- store fault may come at any time.
 pub record Happens (w : WorldState) (e : Event) (told : Line) (w' : WorldState) : Type 0 where
   pub lines : List PropLine
   pub words : ℕ → ℕ
@@ -44,15 +44,14 @@ abbrev pub Leads : WorldState → List WorldState → WorldState → Type 0
 Leads w [] v = v ≡ w
 Leads w (m ∷ ms) v = SomeHappens w m × Leads m ms v
 
--- the ask that an event makes: for a file or for a zone, at a path inside the rule
+-- the ask that an event makes: for a file or for a zone, if its path keeps the rule of paths
 abbrev pub ask_of : Event → Option Ask
 ask_of (event.AskCreate user path) = option_map ask.Create (read_path path)
 ask_of (event.AskZone user path key) = option_map (zone_with key) (read_path path)
 ask_of _ = None
 
--- An ask is accepted; after any events its draw is made, by the number of its note, and kept; and after any events that reply is taken
--- for its finish. Where the finish is refused as a zone that changed, the zone that the path lies in is another one than when it was
--- asked for.
+-- An ask is accepted; after any events its draw is made, by the number of its note, and the reply is kept; after any events its finish
+-- takes that reply. If it is refused with ZoneChanged, the zone that the path lies in is another one than when the ask was made.
 abbrev pub RunsRefuseForTheZone : Type 0
 RunsRefuseForTheZone =
     (w : WorldState) (e : Event) (ask : Ask) (number : ℕ) (note : AskNote) (asked : WorldState) (before_draw : List WorldState) (ready : WorldState)
