@@ -2,6 +2,7 @@ pub mod CauseLemmas
 pub mod Commits
 pub mod IdLemmas
 pub mod Layers
+mod ReaderLemmas
 pub mod Replays
 pub mod RowLemmas
 pub mod SettleLemmas

@@ -1,14 +1,12 @@
 -- Operations one after another.
-use Rattle.std.proofs.Common.{◌≡◌, ℕ, ◌+◌, ◌<◌, ◌≤◌, Bool, true, false, not, ◌&&◌, ◌||◌, ◌==◌, List, [], ◌∷◌, ◌++◌, length, map, Option, Some, None, get_or, take, drop, take-append-drop, refl, sym, ◌∙◌, ap, subst}
+use Rattle.std.proofs.Common.{◌≡◌, ℕ, Bool, true, false, not, ◌&&◌, ◌||◌, ◌==◌, List, [], ◌∷◌, ◌++◌, map, Some, None, refl, sym, ◌∙◌, ap, subst}
 use Rattle.std.specs.Prelude.{if◌then◌else◌}
 use Rattle.std.specs.List.{list_any}
-use Rattle.std.proofs.lemmas.List.{map-append, take_all, take_more, drop_more}
+use Rattle.std.proofs.lemmas.List.{map-append}
 use Rattle.edit_ops.specs.Records.{spelling}
 use Rattle.edit_ops.specs.declared.ops.EditOp.{EditOp}
-use Rattle.edit_log.specs.declared.op_list.PlacedOp.{PlacedOp}
-use Rattle.edit_log.specs.Replay.{op_view}
 use Rattle.name_store.specs.Table.{NameTable, Replayed, after, allows, applies, is_among, nothing_logged, uses}
-use Rattle.name_store.specs.Replay.{Broken_off, Ids, IsMade, IsNext, IsRefusedAt, IsStuck, applies_beside, name_replay}
+use Rattle.name_store.specs.Replay.{Ids, IsNext, applies_beside, name_replay}
 
 -- an operation more, which applies
 pub replay_more : (t u : Replayed) (ops : List EditOp) (op : EditOp) → name_replay t ops ≡ Some u → applies u op ≡ true → name_replay t (ops ++ op ∷ []) ≡ Some (after u op)
@@ -65,40 +63,3 @@ comes_to_more ops op t u has had c n = record {
       ∙ ap (λ (x : NameTable). Some (record { table = x; used = uses op ++ c.used })) (sym n.table);
   ids = λ id. among_append (uses op) c.used id ∙ ap (λ (b : Bool). is_among (uses op) id || b) (c.ids id) ∙ sym (n.ids id);
 }
-
-module _ (list : List PlacedOp) (i : ℕ) (placed : PlacedOp) (inside : i < length list) (is : placed ≡ get_or list i placed) where
-  around : list ≡ take i list ++ placed ∷ drop (i + 1) list
-  around = sym (take-append-drop i list) ∙ ap (λ (l : List PlacedOp). take i list ++ l) (drop_more list i placed inside ∙ ap (λ (p : PlacedOp). p ∷ drop (i + 1) list) (sym is))
-
-  so_far : map op_view (take (i + 1) list) ≡ map op_view (take i list) ++ placed.op ∷ []
-  so_far =
-      ap (map op_view) (take_more list i placed inside ∙ ap (λ (p : PlacedOp). take i list ++ p ∷ []) (sym is))
-      ∙ map-append op_view (take i list) (placed ∷ [])
-
-  -- the next operation applies
-  pub taken_here : (t u : NameTable) (has had : Ids) → ComesTo (map op_view (take i list)) t has → IsNext t has placed.op u had → ComesTo (map op_view (take (i + 1) list)) u had
-  taken_here t u has had c n = subst (λ (l : List EditOp). ComesTo l u had) (sym so_far) (comes_to_more (map op_view (take i list)) placed.op t u has had c n)
-
-  -- it doesn't
-  pub stuck_here : (t : NameTable) (has : Ids) (at : ℕ) → ComesTo (map op_view (take i list)) t has → applies_beside t has placed.op ≡ false → at ≡ placed.at → IsStuck list at
-  stuck_here t has at c none place = record {
-    before = take i list;
-    placed = placed;
-    behind = drop (i + 1) list;
-    made = record { table = t; used = c.used };
-    split = around;
-    makes = c.makes;
-    not_next = applies_same t has c.used placed.op c.ids ∙ none;
-    place = place;
-  }
-
--- where all operations were taken
-
-all_taken : (list : List PlacedOp) (i : ℕ) (t : NameTable) (has : Ids) → length list ≤ i → ComesTo (map op_view (take i list)) t has → ComesTo (map op_view list) t has
-all_taken list i t has all c = subst (λ (l : List PlacedOp). ComesTo (map op_view l) t has) (take_all i list all) c
-
-pub made_here : (list : List PlacedOp) (damaged : Option ℕ) (i : ℕ) (t : NameTable) (has : Ids) → length list ≤ i → ComesTo (map op_view (take i list)) t has → damaged ≡ None → IsMade list damaged t
-made_here list damaged i t has all c none = let whole = all_taken list i t has all c in record { used = whole.used; makes = whole.makes; whole = none }
-
-pub broken_here : (list : List PlacedOp) (damaged : Option ℕ) (at i : ℕ) (t : NameTable) (has : Ids) → length list ≤ i → ComesTo (map op_view (take i list)) t has → damaged ≡ Some at → IsRefusedAt list damaged at
-broken_here list damaged at i t has all c some = let whole = all_taken list i t has all c in Broken_off (record { table = t; used = whole.used }) whole.makes some

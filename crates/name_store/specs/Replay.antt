@@ -1,10 +1,12 @@
 -- What the records of an edit log are together.
 use Rattle.std.specs.Prelude.{◌≡◌, ℕ, ◌+◌, ◌*◌, ◌^◌, ◌<◌, Bool, true, false, not, ◌&&◌, ◌||◌, List, [], ◌∷◌, ◌++◌, map, Option, Some, None, IfSome, if◌then◌else◌}
 use Rattle.std.specs.List.{All, AllByRecursion, list_any}
+use Rattle.hk_base.specs.Disk.{DiskState, Tells}
+use Rattle.frame_log.specs.Format.{end_of}
 use Rattle.edit_ops.specs.Records.{HasSpelling, spelling}
 use Rattle.edit_ops.specs.declared.ops.EditOp.{EditOp}
-use Rattle.edit_log.specs.declared.op_list.PlacedOp.{PlacedOp}
-use Rattle.edit_log.specs.Replay.{op_view}
+use Rattle.edit_log.specs.declared.reader.OpReader.{OpReader}
+use Rattle.edit_log.specs.Reader.{OpsAhead}
 use Rattle.name_store.specs.Table.{NameTable, Replayed, after, after_table, allows, applies, is_among, nothing_logged, uses}
 
 -- what the operations come to behind this, or None where one of them doesn't apply
@@ -47,25 +49,21 @@ abbrev pub IsTaken : NameTable → Ids → EditOp → NameTable → Ids → Bool
 IsTaken t used op t' used' true = IsNext t used op t' used'
 IsTaken t used op t' used' false = applies_beside t used op ≡ false
 
--- the operations that were read of a log come to this table, and the list has all records
-pub record IsMade (list : List PlacedOp) (damaged : Option ℕ) (table : NameTable) : Type 0 where
+-- the operations that a reader returned come to this table, and they are all that it had to return
+pub record IsMade (disk : DiskState) (reader : OpReader) (table : NameTable) : Type 0 where
+  pub ops : List EditOp
   pub used : List ℕ
-  pub makes : name_replay nothing_logged (map op_view list) ≡ Some (record { table = table; used = used })
-  pub whole : damaged ≡ None
+  pub makes : name_replay nothing_logged ops ≡ Some (record { table = table; used = used })
+  pub all : Tells disk → (todo : List (List ℕ)) → OpsAhead disk reader [] todo → AllByRecursion HasSpelling ops × (todo ≡ map spelling ops)
 
--- an operation doesn't apply behind those before it, and lies at this offset
-pub record IsStuck (list : List PlacedOp) (at : ℕ) : Type 0 where
-  pub before : List PlacedOp
-  pub placed : PlacedOp
-  pub behind : List PlacedOp
+-- these records begin with operations that apply; the one after them, whose gate is at this offset, is none that applies
+pub record IsRefusedAt (todo : List (List ℕ)) (at : ℕ) : Type 0 where
+  pub ops : List EditOp
+  pub payload : List ℕ
+  pub payloads : List (List ℕ)
   pub made : Replayed
-  pub split : list ≡ before ++ placed ∷ behind
-  pub makes : name_replay nothing_logged (map op_view before) ≡ Some made
-  pub not_next : applies made placed.op ≡ false
-  pub place : at ≡ placed.at
-
--- why the operations that were read of a log make no table, with the offset: the first that doesn't apply, or the record at which
--- the list broke off
-pub data IsRefusedAt (list : List PlacedOp) (damaged : Option ℕ) (at : ℕ) : Type 0 where
-  Stuck : IsStuck list at → IsRefusedAt list damaged at
-  Broken_off : (made : Replayed) → name_replay nothing_logged (map op_view list) ≡ Some made → damaged ≡ Some at → IsRefusedAt list damaged at
+  pub spelled : AllByRecursion HasSpelling ops
+  pub split : todo ≡ map spelling ops ++ payload ∷ payloads
+  pub makes : name_replay nothing_logged ops ≡ Some made
+  pub not_next : IsNoNext made payload
+  pub place : at ≡ end_of (map spelling ops)

@@ -1,16 +1,19 @@
 //! Reading an edit log: each record is an operation that applies to the table of those before it.
-ghost use Rattle.std.specs.Prelude.{ℕ, IfOk, IsErrOf};
+ghost use Rattle.std.specs.Prelude.{◌≡◌, ℕ, List, [], false, IfOk, OnOk, IsErrOf};
 ghost use Rattle.std.specs.HashSet.{contains};
 ghost use Rattle.std.specs.Bool.{nat_eq};
+ghost use Rattle.hk_base.specs.Disk.{Tells, Reads, RunOn, LeavesOnly};
+ghost use Rattle.hk_base.specs.Faults.{Rose};
 ghost use Rattle.frame_log.specs.declared.fault.StartFault.TheVariants.{Damaged, StoreFault, Spent};
-ghost use Rattle.name_store.specs.Replay.{IsMade, IsRefusedAt, IsTaken};
+ghost use Rattle.edit_log.specs.Reader.{OpsAhead};
+ghost use Rattle.name_store.specs.Replay.{IsMade, IsNext, IsRefusedAt, IsTaken, applies_beside};
 
 use crate::names::Names;
 use crate::used::UsedIds;
-use edit_log::OpList;
+use edit_log::{OpReader, PlacedOp};
 use edit_ops::EditOp;
 use frame_log::StartFault;
-use hk_base::NoMemory;
+use hk_base::{Disk, NoMemory};
 use std::alloc::Global;
 
 /// Lets an operation take effect if it applies. Returns whether it does.
@@ -27,24 +30,43 @@ fn take(names: &mut Names, used: &mut UsedIds, op: &EditOp) -> Result<bool, NoMe
     Ok(true)
 }
 
-/// Makes the table of the operations of a log. `Damaged` has the offset of the first operation that does
-/// not apply or, if all of them do, of the record at which the list ends early.
-pub(crate) fn replay(alloc: Global, ops: &OpList) -> Result<Names, StartFault>
-    ensures made { IfOk result (λ names. IsMade ops.now.list.items ops.now.damaged names.table) }
-    ensures damaged { (at : ℕ) → IsErrOf result (Damaged at) → IsRefusedAt ops.now.list.items ops.now.damaged at }
+/// Lets an operation take effect, or returns `Damaged` with its offset if it does not apply.
+fn take_placed(names: &mut Names, used: &mut UsedIds, placed: PlacedOp) -> Result<(), StartFault>
+    ensures taken { OnOk result (IsNext names.old.table (contains nat_eq used.old.ids) placed.op names.new.table (contains nat_eq used.new.ids)) }
+    ensures damaged { (at : ℕ) → IsErrOf result (Damaged at) → (placed.at ≡ at) × (applies_beside names.old.table (contains nat_eq used.old.ids) placed.op ≡ false) }
     ensures fault { IsErrOf result StoreFault → ⊥ }
     ensures spent { IsErrOf result Spent → ⊥ }
 {
+    let taken = take(names, used, &placed.op)?;
+    if !taken {
+        return Err(StartFault::Damaged { at: placed.at });
+    }
+    Ok(())
+}
+
+/// Makes the table of the operations that a reader returns. `Damaged` has the offset of the first record
+/// that is not an operation or does not apply.
+pub(crate) fn replay<D: Disk>(
+    alloc: Global,
+    disk: &mut D,
+    reader: &mut OpReader,
+) -> Result<Names, StartFault>
+    requires ahead { Tells (D.state disk.old) → ((todo : List (List ℕ)) × OpsAhead (D.state disk.old) reader.old [] todo) }
+
+    ensures made { IfOk result (λ names. IsMade (D.state disk.old) reader.old names.table) }
+    ensures damaged { (at : ℕ) → IsErrOf result (Damaged at) → Tells (D.state disk.old) → (todo : List (List ℕ)) → OpsAhead (D.state disk.old) reader.old [] todo → IsRefusedAt todo at }
+    ensures spent { IsErrOf result Spent → ⊥ }
+    ensures cause { IsErrOf result StoreFault → Rose (D.state disk.old).faults (D.state disk.new).faults }
+    ensures same { Reads 1 (D.state disk.old) (D.state disk.new) }
+    ensures run { RunOn 1 (D.state disk.old) (D.state disk.new) }
+    ensures moments { LeavesOnly 1 (D.state disk.old) (D.state disk.new) ((D.state disk.old).leaves 1) }
+{
     let mut names = Names::new(alloc)?;
     let mut used = UsedIds::new(alloc);
-    'each: for placed in &ops.list {
-        let taken = take(&mut names, &mut used, &placed.op)?;
-        if !taken {
-            return Err(StartFault::Damaged { at: placed.at });
+    'each: loop {
+        match reader.next(alloc, disk)? {
+            None => return Ok(names),
+            Some(placed) => take_placed(&mut names, &mut used, placed)?,
         }
-    }
-    match ops.damaged {
-        Some(at) => Err(StartFault::Damaged { at }),
-        None => Ok(names),
     }
 }

@@ -72,9 +72,10 @@ impl NameStore {
         ensures run { RunOn 1 (D.state disk.old) (D.state disk.new) }
         ensures cause { IsErrOf result start.StoreFault → Rose (D.state disk.old).faults (D.state disk.new).faults }
     {
-        let (log, ops) = EditLog::recover(alloc, disk)?;
+        let (log, reader) = EditLog::recover_records(alloc, disk)?;
         let mut log = log;
-        let mut names = replay(alloc, &ops)?;
+        let mut reader = reader;
+        let mut names = replay(alloc, disk, &mut reader)?;
         open(alloc, disk, &mut log, &mut names)?;
         Ok(NameStore { log, names })
     }

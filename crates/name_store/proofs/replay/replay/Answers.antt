@@ -1,31 +1,66 @@
-use Rattle.std.proofs.Common.{◌≡◌, ◌<◌, ◌≤◌, List, length, get_or, sym, subst}
-use Rattle.edit_log.specs.declared.op_list.PlacedOp.{PlacedOp}
+use Rattle.std.proofs.Common.{rules, Option, IsTrue, refl, sym, subst}
 use Rattle.std.specs.HashSet.{contains}
 use Rattle.std.specs.Bool.{nat_eq}
-use Rattle.name_store.specs.Replay.{IsRefusedAt, IsTaken, Stuck}
-use Rattle.name_store.proofs.Replays.{broken_here, comes_to_none, made_here, stuck_here, taken_here}
+use Rattle.hk_base.proofs.Runs.{begin, both_read, compose}
+use Rattle.edit_log.specs.declared.op_list.PlacedOp.{PlacedOp}
+use Rattle.edit_log.specs.Reader.{IsNextOp}
+use Rattle.name_store.proofs.ReaderLemmas.{made_here, no_operation, none_so_far, not_applied, one_more}
 use Rattle.name_store.proofs.replay.replay.Goals as goal
 
 pub each-init : goal.each-init
-each-init c = comes_to_none c.in_ok-names.names.table (contains nat_eq c.new-used.result.ids) c.in_ok-names.ensures c.new-used.ensures
+each-init g c =
+    let D0 = g.D.Disk.state c.args.disk.now in
+    record {
+      going = begin 1 D0 (D0.leaves 1);
+      same = record { reads = λ told. refl; leaves = λ b h. h };
+      read = none_so_far D0 c.args.reader.now c.in_ok-names.names.table (contains nat_eq c.new-used.result.ids) c.in_ok-names.ensures c.new-used.ensures;
+    }
 
-pub each-preserved : goal.each-preserved
-each-preserved c =
-    let next = subst (IsTaken c.each.names.table (contains nat_eq c.each.used.ids) c.placed-item.result.op c.take.new.names.table (contains nat_eq c.take.new.used.ids)) c.if-not-taken.false c.in_ok-taken.ensures in
-    taken_here c.args.ops.now.list.items c.each.placed-index c.placed-item.result (subst (λ (l : List PlacedOp). c.each.placed-index < length l) c.deref-placed-items.ensures.value c.each-test.true) (subst (λ (l : List PlacedOp). c.placed-item.result ≡ get_or l c.each.placed-index c.placed-item.result) c.deref-placed-items.ensures.value c.placed-item.is) c.each.names.table c.take.new.names.table (contains nat_eq c.each.used.ids) (contains nat_eq c.take.new.used.ids) c.each.invariant next
+pub next-requires : goal.next-requires
+next-requires g c = record {
+  ahead = λ told.
+      let read = c.each.invariant.read in
+      let told0 = subst (λ b. IsTrue b) c.each.invariant.going.run.tells told in
+      let first = c.requires.ahead told0 in
+      let partly = read.told told0 first.0 first.1 in
+      (read.ops, partly.0, partly.2);
+}
 
-pub returns-then-not-taken-clause-damaged : goal.returns-then-not-taken-clause-damaged
-returns-then-not-taken-clause-damaged c at is =
-    let here : c.placed-item.result.at ≡ at = cc is in
-    let none = subst (IsTaken c.each.names.table (contains nat_eq c.each.used.ids) c.placed-item.result.op c.take.new.names.table (contains nat_eq c.take.new.used.ids)) c.if-not-taken.true c.in_ok-taken.ensures in
-    Stuck (stuck_here c.args.ops.now.list.items c.each.placed-index c.placed-item.result (subst (λ (l : List PlacedOp). c.each.placed-index < length l) c.deref-placed-items.ensures.value c.each-test.true) (subst (λ (l : List PlacedOp). c.placed-item.result ≡ get_or l c.each.placed-index c.placed-item.result) c.deref-placed-items.ensures.value c.placed-item.is) c.each.names.table (contains nat_eq c.each.used.ids) at c.each.invariant none (sym here))
-
-pub returns-in-Some-clause-damaged : goal.returns-in-Some-clause-damaged
-returns-in-Some-clause-damaged c at is =
-    let here : c.in-Some.at ≡ at = cc is in
-    subst (λ n. IsRefusedAt c.args.ops.now.list.items c.args.ops.now.damaged n) here
-    (broken_here c.args.ops.now.list.items c.args.ops.now.damaged c.in-Some.at c.each.placed-index c.each.names.table (contains nat_eq c.each.used.ids) (subst (λ (l : List PlacedOp). length l ≤ c.each.placed-index) c.deref-placed-items.ensures.value c.each-test.false) c.each.invariant c.in-Some.is)
+pub returns-in_err-next-clause-damaged : goal.returns-in_err-next-clause-damaged
+returns-in_err-next-clause-damaged g c at is told todo a =
+    let read = c.each.invariant.read in
+    let told1 = subst (λ b. IsTrue b) (sym c.each.invariant.going.run.tells) told in
+    no_operation (g.D.Disk.state c.args.disk.now) (g.D.Disk.state c.each.disk) c.args.reader.now c.each.reader c.each.names.table (contains nat_eq c.each.used.ids) read at told (λ rest ahead. c.in_err-next.ensures.damaged at (search rules) told1 read.ops rest ahead) todo a
 
 pub returns-in-None-clause-made : goal.returns-in-None-clause-made
-returns-in-None-clause-made c =
-    made_here c.args.ops.now.list.items c.args.ops.now.damaged c.each.placed-index c.each.names.table (contains nat_eq c.each.used.ids) (subst (λ (l : List PlacedOp). length l ≤ c.each.placed-index) c.deref-placed-items.ensures.value c.each-test.false) c.each.invariant c.in-None.is
+returns-in-None-clause-made g c =
+    let read = c.each.invariant.read in
+    made_here (g.D.Disk.state c.args.disk.now) (g.D.Disk.state c.each.disk) c.args.reader.now c.each.reader c.each.names.table (contains nat_eq c.each.used.ids) read
+    (λ told rest ahead.
+    let told1 = subst (λ b. IsTrue b) (sym c.each.invariant.going.run.tells) told in
+    subst (λ (o : Option PlacedOp). IsNextOp (g.D.Disk.state c.next.new.disk) c.next.new.self read.ops rest o) c.in-None.is (c.in_ok-next.ensures.next told1 read.ops rest ahead))
+
+pub returns-in_err-take_placed-in-Some-clause-damaged : goal.returns-in_err-take_placed-in-Some-clause-damaged
+returns-in_err-take_placed-in-Some-clause-damaged g c at is told todo a =
+    let read = c.each.invariant.read in
+    let none = c.in_err-take_placed-in-Some.ensures.damaged at (search rules) in
+    not_applied (g.D.Disk.state c.args.disk.now) (g.D.Disk.state c.each.disk) c.args.reader.now c.each.reader c.each.names.table (contains nat_eq c.each.used.ids) read (g.D.Disk.state c.next.new.disk) c.next.new.self c.in-Some.placed
+    (λ told rest ahead.
+    let told1 = subst (λ b. IsTrue b) (sym c.each.invariant.going.run.tells) told in
+    subst (λ (o : Option PlacedOp). IsNextOp (g.D.Disk.state c.next.new.disk) c.next.new.self read.ops rest o) c.in-Some.is (c.in_ok-next.ensures.next told1 read.ops rest ahead))
+    at none.0 none.1 told todo a
+
+pub each-preserved : goal.each-preserved
+each-preserved g c =
+    let inv = c.each.invariant in
+    let read = inv.read in
+    let new = g.D.Disk.state c.next.new.disk in
+    record {
+      going = compose inv.going (record { run = c.next.ensures.run; moments = c.next.ensures.moments }) inv.same.leaves;
+      same = both_read inv.going inv.same c.next.ensures.same;
+      read = one_more (g.D.Disk.state c.args.disk.now) (g.D.Disk.state c.each.disk) c.args.reader.now c.each.reader c.each.names.table (contains nat_eq c.each.used.ids) read new c.next.new.self c.in-Some.placed
+          (λ told rest ahead.
+          let told1 = subst (λ b. IsTrue b) (sym inv.going.run.tells) told in
+          subst (λ (o : Option PlacedOp). IsNextOp new c.next.new.self read.ops rest o) c.in-Some.is (c.in_ok-next.ensures.next told1 read.ops rest ahead))
+          c.take_placed.new.names.table (contains nat_eq c.take_placed.new.used.ids) c.in_ok-take_placed-in-Some.ensures.taken;
+    }

@@ -1,9 +1,20 @@
-use Rattle.std.proofs.Common.{map, take}
-use Rattle.std.specs.HashSet.{contains}
 use Rattle.std.specs.Bool.{nat_eq}
-use Rattle.edit_log.specs.Replay.{op_view}
-use Rattle.name_store.proofs.Replays.{ComesTo}
+use Rattle.std.specs.HashSet.{contains}
+use Rattle.hk_base.specs.Disk.{Reads}
+use Rattle.hk_base.proofs.Runs.{Going}
+use Rattle.frame_log.specs.Ahead.{left}
+use Rattle.name_store.proofs.ReaderLemmas.{SoFar}
 use Rattle.name_store.proofs.replay.replay.Given as goal
 
 abbrev pub invariant-each : goal.invariant-each
-invariant-each l = ComesTo (map op_view (take l.placed-index l.ops.list.items)) l.names.table (contains nat_eq l.used.ids)
+invariant-each g l =
+    let old = g.D.Disk.state l.fn.disk in
+    let now = g.D.Disk.state l.disk in
+    record {
+      going : Going 1 old now (old.leaves 1);
+      same : Reads 1 old now;
+      read : SoFar old now l.fn.reader l.reader l.names.table (contains nat_eq l.used.ids);
+    }
+
+abbrev pub decreases-each : goal.decreases-each
+decreases-each g l = left l.reader.records
