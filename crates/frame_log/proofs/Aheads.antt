@@ -1,5 +1,5 @@
 -- What a reader of a log returns, by the bytes of its file.
-use Rattle.std.proofs.Common.{◌≡◌, ◌≢◌, ℕ, ◌+◌, ◌≤◌, List, [], ◌∷◌, ◌++◌, length, take, drop, refl, sym, ◌∙◌, ap, subst, arith, append_assoc, length-append, length-drop, None}
+use Rattle.std.proofs.Common.{◌≡◌, ◌≢◌, ℕ, ◌+◌, ◌≤◌, ◌<◌, List, [], ◌∷◌, ◌++◌, length, take, drop, refl, sym, ◌∙◌, ap, subst, arith, append_assoc, length-append, length-drop, None}
 use Rattle.std.specs.List.{AllByRecursion}
 use Rattle.std.specs.Int.{w32, to_be_bytes}
 use Rattle.std.proofs.lemmas.List.{drop-drop, drop_at, length-take-le}
@@ -28,6 +28,13 @@ module _ (bytes : List ℕ) (gate : ℕ) (rest : List ℕ) (shut : gate ≢ 1) w
   pub no_more : (todo : List (List ℕ)) → bytes ≡ frames todo ++ gate ∷ rest → (other : ℕ) → IsEnd bytes other → todo ≡ []
   no_more [] is other end = refl
   no_more (p ∷ ps) is other end = let open_gate : other ≡ 1 = cc (is, end.split) in absurd (end.shut open_gate)
+
+  -- a frame with its gate, and the next gate, take at least seven bytes
+  pub none_in_so_few : (todo : List (List ℕ)) → AllByRecursion IsPayload todo → bytes ≡ frames todo ++ gate ∷ rest → length bytes < 7 → todo ≡ []
+  none_in_so_few [] fit is few = refl
+  none_in_so_few (p ∷ ps) fit is few =
+      let some = fit.0.some in
+      absurd (omega (arith, few, ap length is, length-append (behind p ++ frames ps) (gate ∷ rest), length-append (behind p) (frames ps), length-append (to_be_bytes w32 (length p)) p, some))
 
   pub not_broken : (todo : List (List ℕ)) → AllByRecursion IsPayload todo → bytes ≡ frames todo ++ gate ∷ rest → part bytes ≡ Broken → ⊥
   not_broken [] fit is broken = let here : part bytes ≡ End gate = ap part is ∙ part_end gate rest shut in cc (here, broken)

@@ -97,6 +97,10 @@ impl Records {
         ensures moments { LeavesOnly self.old.file (D.state disk.old) (D.state disk.new) ((D.state disk.old).leaves self.old.file) }
     {
         let gate = self.at;
+        // A frame and the gates before and after it take at least seven bytes.
+        if self.size - gate < 7 {
+            return Ok(None);
+        }
         self.window.show(self.alloc, disk, self.file, gate, 5)?;
         match next_at(self.window.bytes_at(gate, 5), self.size - gate) {
             Next::Payload { count } => {

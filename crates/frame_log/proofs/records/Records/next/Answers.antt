@@ -1,9 +1,9 @@
-use Rattle.std.proofs.Common.{◌≡◌, ◌≤◌, ◌+◌, ◌-◌, [], List, ℕ, length, take, drop, refl, IsTrue, sym, ◌∙◌, ap, subst, arith, length-drop}
+use Rattle.std.proofs.Common.{◌≡◌, ◌≤◌, ◌<◌, ◌+◌, ◌-◌, [], List, ℕ, length, take, drop, refl, IsTrue, sym, ◌∙◌, ap, subst, arith, length-drop}
 use Rattle.frame_log.specs.declared.gates.Next.TheVariants as nexts
 use Rattle.frame_log.specs.Format.{part, Broken}
 use Rattle.frame_log.specs.Scan.{IsNext, IsEnd, NextFits}
 use Rattle.frame_log.specs.Ahead.{Ahead, HasBytesOf}
-use Rattle.frame_log.proofs.Aheads.{no_more, not_broken, still_ahead, given}
+use Rattle.frame_log.proofs.Aheads.{no_more, none_in_so_few, not_broken, still_ahead, given}
 use Rattle.frame_log.proofs.Windows.{shown}
 use Rattle.frame_log.proofs.records.Records.next.Goals as goal
 
@@ -61,3 +61,12 @@ returns-in-Broken-clause-damaged g c at is told =
     let inside : old.at ≤ length F = omega (arith, a.size, old.at_in) in
     let here : part B ≡ Broken = c.in-Broken.ensures.next B (sym long) (c.bytes_at.ensures ∙ shown F c.show.new.self old.at 5 inside shows) in
     not_broken B a.gate a.rest a.shut todo a.sized a.split here
+
+pub returns-then-self-gate-lt7-clause-first : goal.returns-then-self-gate-lt7-clause-first
+returns-then-self-gate-lt7-clause-first g c told todo a =
+    let old = c.args.self.now in
+    let D0 = g.D.Disk.state c.args.disk.now in
+    let B : List ℕ = drop old.at (D0.reads old.file) in
+    let few : length B < 7 = omega (arith, length-drop old.at (D0.reads old.file), a.size, c.if-self-gate-lt7.true) in
+    let none : todo ≡ [] = none_in_so_few B a.gate a.rest a.shut todo a.sized a.split few in
+    (none, subst (λ (l : List (List ℕ)). Ahead D0 old l) none a)
