@@ -114,6 +114,16 @@ fn disallow(snaps: &mut Snaps, dir: u64) -> bool {
     true
 }
 
+/// Disallows snapshots of the directories at and below a path if they have none. Returns whether it
+/// did.
+fn disallow_below(snaps: &mut Snaps, tree: &Tree, path: &NPath) -> bool {
+    if snaps.holds(tree, path) {
+        return false;
+    }
+    snaps.disallow_below(tree, path);
+    true
+}
+
 impl Bench {
     pub fn new(rt: &impl Abort, alloc: Global) -> Bench {
         Bench {
@@ -185,6 +195,12 @@ impl Bench {
 
     fn disallow(&mut self, rt: &impl Abort, dir: u64) {
         let done = disallow(&mut self.snaps, dir);
+        self.say_whether(rt, done);
+    }
+
+    fn disallow_below(&mut self, rt: &impl Abort, text: &str) {
+        let path = path(rt, self.alloc, text);
+        let done = disallow_below(&mut self.snaps, &self.tree, &path);
         self.say_whether(rt, done);
     }
 
@@ -279,6 +295,7 @@ impl Bench {
             ["mark", id] => self.mark(rt, number(rt, id)),
             ["find", path] => self.find(rt, path),
             ["places", path] => self.places(rt, path),
+            ["disallow-below", path] => self.disallow_below(rt, path),
             _ => return false,
         }
         true

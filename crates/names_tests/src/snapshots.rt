@@ -83,6 +83,25 @@ const DISALLOWED: Case = &[
     ("take 1 s", "no"),
 ];
 
+/// Directories at and below a path are disallowed together, unless one has a snapshot.
+const DISALLOWED_BELOW: Case = &[
+    ("mkdir /a 1", "yes"),
+    ("mkdir /a/d 2", "yes"),
+    ("mkdir /b 3", "yes"),
+    ("allow 1", "yes"),
+    ("allow 2", "yes"),
+    ("allow 3", "yes"),
+    ("disallow-below /a/d", "yes"),
+    ("count 2", "-"),
+    ("count 1", "0"),
+    ("take 1 s", "yes"),
+    ("disallow-below /", "no"),
+    ("drop 1 s", "0"),
+    ("disallow-below /a", "yes"),
+    ("count 1", "-"),
+    ("count 3", "0"),
+];
+
 /// For a path: whether snapshots are allowed above it, whether below it, whether it holds one.
 const PLACES: Case = &[
     ("mkdir /a 1", "yes"),
@@ -115,7 +134,15 @@ const RESERVED: Case = &[
     ("look 1 s /g", "-"),
 ];
 
-const CASES: [Case; 6] = [KEPT, ZONES, NAMES, DISALLOWED, PLACES, RESERVED];
+const CASES: [Case; 7] = [
+    KEPT,
+    ZONES,
+    NAMES,
+    DISALLOWED,
+    DISALLOWED_BELOW,
+    PLACES,
+    RESERVED,
+];
 
 #[test]
 fn each_line_is_answered_so(rt: HostRuntime) {
