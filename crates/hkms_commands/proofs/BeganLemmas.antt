@@ -12,11 +12,11 @@ use Rattle.world_run.specs.declared.fault.WorldFault.{WorldFault}
 use Rattle.world_run.specs.Acknowledged.{Acknowledged, LeavesBoth, RunBoth}
 use Rattle.world_run.specs.Keeps.{Begins, LeftByStarts}
 use Rattle.world_run.specs.Ledger.{Hidden}
-use Rattle.world_run.specs.Linked.{LinkedWorld}
+use Rattle.world_run.specs.Linked.{DrawsApart, LinkedWorld, WordsApart}
 use Rattle.world_run.specs.World.{RunningWorld, WorldState, first_world, world_of}
 use Rattle.hkms_commands.specs.declared.replay.ReplayEnd.{ReplayEnd}
 use Rattle.hkms_commands.specs.Replay.{HiddenBefore, LeftByStop, SurvivesLast, SurvivesUntil}
-use Rattle.hkms_commands.specs.Run.{FilesOpen, History, IsHidden, RestsAfter, SurvivesIn}
+use Rattle.hkms_commands.specs.Run.{FilesOpen, History, IsHidden, RestsAfter, StayApart, SurvivesIn}
 use Rattle.hkms_commands.proofs.LivedLemmas.{leaves_on, weaker}
 
 -- what may be hidden before a run is hidden beside the first world, which is linked, and whose zone files open
@@ -65,6 +65,12 @@ module _ (old mid new : DiskState) (r : RunningWorld) (b : Begins old mid r) (to
   -- the promise on zone files, with a ledger that the files at the start allow
   pub promise_kept : ((x : Hidden) → IsHidden (world_of r) x → FilesOpen x (world_of r) words h) → (x : Hidden) → HiddenBefore old x → FilesOpen x (first_world b.table b.names) words h
   promise_kept opens x before = subst (λ (w : WorldState). FilesOpen x w words h) b.first (opens x (first_hidden old mid r b told x before))
+
+  -- and its draws stay apart
+  pub apart_kept : ((x : Hidden) → LinkedWorld (world_of r) x → DrawsApart x → StayApart x (world_of r) words h) → (x : Hidden) → HiddenBefore old x → WordsApart x → StayApart x (first_world b.table b.names) words h
+  apart_kept stay x before apart =
+      subst (λ (w : WorldState). StayApart x w words h) b.first
+      (stay x (linked x before) (subst DrawsApart (sym before.is) (b.draws_apart told before.past before.sound (subst WordsApart before.is apart))))
 
 -- which fault a start had
 

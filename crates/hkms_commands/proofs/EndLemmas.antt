@@ -158,6 +158,7 @@ ran props old new b v count stop so h is text now plain wrote told here = record
     reads = reads_at stop b.left (lines_in so.history) new (also done (logged_in so.history)) (world_after (world_of b.world) so.history) (v.world, so.lived.world_is, so.lived.stands tells done holds);
   };
   promise = so.lived.files_open;
+  apart = so.lived.draws_apart;
   run = so.lived.run;
   counted_faults = omega (arith, so.lived.faults_are);
   restart = λ tells. plain.0 b.left (lines_in so.history) (world_after (world_of b.world) so.history);
@@ -290,6 +291,7 @@ stops_at_restart props old mid new b s line fault v so at wrote next = record {
     reads = unread fault.file fault.fault b.left (lines_in h) new (also done (logged_in h)) (world_after (world_of b.world) h) (cut_next b.left (lines_in h) at.restart fault.file at.fails.restart comes);
   };
   promise = lived.files_open;
+  apart = lived.draws_apart;
   run = run_on old mid new lived.run at.fails.run;
   counted_faults = omega (arith, lived.faults_are, at.fails.run.faults);
   restart = λ tells. why_stopped fault.file fault.fault b.left (lines_in h) (world_after (world_of b.world) h) (at.fails.never_damaged (tells_now old mid lived.run tells))

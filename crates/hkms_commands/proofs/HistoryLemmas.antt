@@ -10,7 +10,7 @@ use Rattle.hk_events.specs.declared.event.Event.TheVariants as event
 use Rattle.world_run.specs.World.{RunningWorld, WorldState, world_of}
 use Rattle.world_run.specs.Keeps.{KnowsWorld}
 use Rattle.world_run.specs.Ledger.{Hidden}
-use Rattle.world_run.specs.Linked.{LinkedWorld}
+use Rattle.world_run.specs.Linked.{DrawsApart, LinkedWorld}
 use Rattle.world_run.specs.Promise.{ZoneFilesOpen}
 use Rattle.hkms_commands.specs.Lines.{is_line, text_of}
 use Rattle.hkms_commands.specs.Run.{Happened, History, IsHidden, LineRuns, Runs, behind, drawn_in, events_in, faults_after, hidden_of, lines_in, told_of, transcript, world_after, world_of_line}
@@ -84,10 +84,16 @@ line_open : (props : List PropLine) (T : Type 0) (w : WorldState) (words : ℕ �
 line_open props T w words n f line None h runs t hidden = hidden.files_open
 line_open props T w words n f line (Some x) h runs t hidden = runs.step.files_open (knows x.event T t) h hidden.linked
 
+line_apart : (props : List PropLine) (T : Type 0) (w : WorldState) (words : ℕ → ℕ) (n f : ℕ) (line : List ℕ) (o : Option Happened) (h : Hidden) → LineRuns props T w words n f line o → T → LinkedWorld w h → DrawsApart h
+    → DrawsApart (hidden_of w words o h)
+line_apart props T w words n f line None h runs t linked apart = apart
+line_apart props T w words n f line (Some x) h runs t linked apart = runs.step.draws_apart (knows x.event T t) h linked apart.words
+
 line_adds : (props : List PropLine) (old new : DiskState) (v v' : View) (line : List ℕ) (event : Option Happened) → PlaysLine props old new v line event v' → Adds old new v.world v.words event v'.world v'.words
 line_adds props old new v v' line event plays = record {
   linked = λ told h linked. line_linked props (Tells old) (world_of v.world) v.words v.events old.faults line event h plays.runs told linked;
   files_open = λ told h hidden. line_open props (Tells old) (world_of v.world) v.words v.events old.faults line event h plays.runs told hidden;
+  draws_apart = λ told h linked apart. line_apart props (Tells old) (world_of v.world) v.words v.events old.faults line event h plays.runs told linked apart;
   world_is = plays.world_is;
   lists = plays.lists;
   faults_are = plays.faults_are;

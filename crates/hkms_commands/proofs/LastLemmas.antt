@@ -22,7 +22,7 @@ use Rattle.hkms_commands.specs.Properties.{HasPropsFault, ReadsProperties}
 use Rattle.hkms_commands.specs.Run.{History, Runs, lines_in, logged_in, transcript, world_after}
 use Rattle.hkms_commands.specs.Replay.{IsTold, NotOpened, OnDisk, Played, ReadsAt, Replay, ReplayUnder, RestartStops, Says, ended_by, ended_by_props, ended_by_text, last_line, opened_logs, status_of}
 use Rattle.hkms_commands.specs.Steps.{Caused, Closes, Ran}
-use Rattle.hkms_commands.proofs.BeganLemmas.{last_kept, promise_kept, survives_kept}
+use Rattle.hkms_commands.proofs.BeganLemmas.{apart_kept, last_kept, promise_kept, survives_kept}
 use Rattle.hkms_commands.proofs.LivedLemmas.{tells_now}
 
 -- what is written behind a body
@@ -155,6 +155,7 @@ played lines same old mid new r words words' left written told now stop how coun
       ended = ran.counted_faults;
       on_disk = disk;
       promise = λ tells. promise_kept old mid new r b tells words h stop (found tells) (ran.promise (tells_now old mid run tells));
+      apart = λ tells. apart_kept old mid new r b tells words h stop (found tells) (ran.apart (tells_now old mid run tells));
       reads = λ tells. subst (λ (v : WorldState). ReadsAt stop left (lines_in h) new (also (found tells) (logged_in h)) (world_after v h)) b.first (ran.kept (tells_now old mid run tells) b.rests (found tells) (b.log tells).holds).reads;
       restart = λ tells. subst (λ (v : WorldState). RestartStops stop left (lines_in h) (world_after v h)) b.first (ran.restart (tells_now old mid run tells));
       stops = ran.stops;

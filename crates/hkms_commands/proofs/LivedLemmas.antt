@@ -8,10 +8,10 @@ use Rattle.world_run.specs.Acknowledged.{Acknowledged, HoldsLogs, LeavesBoth, Ru
 use Rattle.world_run.specs.World.{RunningWorld, WorldState, world_of}
 use Rattle.world_run.specs.Ledger.{Hidden, past_of}
 use Rattle.world_run.specs.Keeps.{RestsNow, SoundFrom}
-use Rattle.world_run.specs.Linked.{LinkedWorld, SoundFiles}
+use Rattle.world_run.specs.Linked.{DrawsApart, LinkedWorld, SoundFiles}
 use Rattle.world_run.specs.Own.{SurvivesAtRest}
 use Rattle.world_run.specs.Promise.{ZoneFilesOpen}
-use Rattle.hkms_commands.specs.Run.{FilesOpen, Happened, History, IsHidden, RestsAfter, SurvivesIn, SurvivesLine, behind, drawn_in, drawn_of, faults_after, faults_of, hidden_in, hidden_of, logged_in, logged_of, world_after, world_of_line}
+use Rattle.hkms_commands.specs.Run.{FilesOpen, Happened, History, IsHidden, RestsAfter, StayApart, SurvivesIn, SurvivesLine, behind, drawn_in, drawn_of, faults_after, faults_of, hidden_in, hidden_of, logged_in, logged_of, world_after, world_of_line}
 use Rattle.hkms_commands.specs.Steps.{GoesOn, HasLists, SameLists}
 
 -- runs of calls on both files
@@ -67,6 +67,10 @@ pub open_last : (before : Hidden) (first : WorldState) (words : ℕ → ℕ) (hi
 open_last before first words [] f = f
 open_last before first words (x ∷ earlier) f = f.0
 
+pub apart_last : (before : Hidden) (first : WorldState) (words : ℕ → ℕ) (history : History) → StayApart before first words history → DrawsApart (hidden_in before first words history)
+apart_last before first words [] f = f
+apart_last before first words (x ∷ earlier) f = f.0
+
 pub rests_last : (done : Acknowledged) (Before : Hidden → Type 0) (first : WorldState) (words : ℕ → ℕ) (history : History) (image : Image) → RestsAfter done Before first words history image → SurvivesIn done Before first words history image
 rests_last done Before first words [] image s = s
 rests_last done Before first words (x ∷ earlier) image s = inl s
@@ -75,6 +79,7 @@ rests_last done Before first words (x ∷ earlier) image s = inl s
 pub record Adds (old new : DiskState) (r : RunningWorld) (words : ℕ → ℕ) (event : Option Happened) (r' : RunningWorld) (words' : ℕ → ℕ) : Type 0 where
   pub linked : Tells old → (h : Hidden) → LinkedWorld (world_of r) h → LinkedWorld (world_of_line (world_of r) event) (hidden_of (world_of r) words event h)
   pub files_open : Tells old → (h : Hidden) → IsHidden (world_of r) h → ZoneFilesOpen (world_of_line (world_of r) event) (hidden_of (world_of r) words event h)
+  pub draws_apart : Tells old → (h : Hidden) → LinkedWorld (world_of r) h → DrawsApart h → DrawsApart (hidden_of (world_of r) words event h)
   pub world_is : world_of r' ≡ world_of_line (world_of r) event
   pub lists : SameLists r r'
   pub faults_are : new.faults ≡ faults_of old.faults event
@@ -85,6 +90,7 @@ pub record Adds (old new : DiskState) (r : RunningWorld) (words : ℕ → ℕ) (
 pub record Lived (old new : DiskState) (first : RunningWorld) (words : ℕ → ℕ) (r : RunningWorld) (words' : ℕ → ℕ) (history : History) : Type 0 where
   pub linked : Tells old → (h : Hidden) → LinkedWorld (world_of first) h → LinkedWorld (world_of r) (hidden_in h (world_of first) words history)
   pub files_open : Tells old → (h : Hidden) → IsHidden (world_of first) h → FilesOpen h (world_of first) words history
+  pub draws_apart : Tells old → (h : Hidden) → LinkedWorld (world_of first) h → DrawsApart h → StayApart h (world_of first) words history
   pub stands : Tells old → (done : Acknowledged) → HoldsLogs old first done → HoldsLogs new r (also done (logged_in history))
   pub survives : Tells old → (done : Acknowledged) → HoldsLogs old first done → LeavesBoth old new (SurvivesIn done (LinkedWorld (world_of first)) (world_of first) words history)
   pub rests : RestsNow old first → RestsNow new r
@@ -99,6 +105,7 @@ pub lived_nothing : (d : DiskState) (r : RunningWorld) (words words' : ℕ → �
 lived_nothing d r words words' same = record {
   linked = λ told h linked. linked;
   files_open = λ told h hidden. hidden;
+  draws_apart = λ told h linked apart. apart;
   stands = λ told done holds. subst (λ (a : Acknowledged). HoldsLogs d r a) (sym (also_nothing done)) holds;
   survives = λ told done holds. nothing_left d (SurvivesIn done (LinkedWorld (world_of r)) (world_of r) words []);
   rests = λ now. now;
@@ -135,6 +142,7 @@ pub lived_on : (old mid new : DiskState) (first r r' : RunningWorld) (words word
 lived_on old mid new first r r' words words' history so same faults on = record {
   linked = λ told h linked. subst (λ (x : RunningWorld). LinkedWorld (world_of x) (hidden_in h (world_of first) words history)) (sym same) (so.linked told h linked);
   files_open = so.files_open;
+  draws_apart = so.draws_apart;
   stands = λ told done holds. subst (λ (a : Acknowledged). HoldsLogs new r' a) (also_nothing (also done (logged_in history)))
       (on.stands (tells_now old mid so.run told) (also done (logged_in history)) (so.stands told done holds));
   survives = λ told done holds. leaves_on so.run (so.survives told done holds)
@@ -161,6 +169,11 @@ lived_more old mid new first r r' words words' words'' earlier line event so a =
           (subst (λ (w : WorldState). IsHidden w (hidden_in h one words earlier)) (sym so.world_is) (open_last h one words earlier (so.files_open told h hidden))));
     },
     so.files_open told h hidden,
+  );
+  draws_apart = λ told h linked apart. (
+    subst DrawsApart (same_hidden (hidden_in h one words earlier))
+        (a.draws_apart (tells_now old mid so.run told) (hidden_in h one words earlier) (so.linked told h linked) (apart_last h one words earlier (so.draws_apart told h linked apart))),
+    so.draws_apart told h linked apart,
   );
   stands = λ told done holds. subst (λ (l : Acknowledged). HoldsLogs new r' l) (also_also done (logged_in earlier) (logged_of event))
       (a.goes_on.stands (tells_now old mid so.run told) (also done (logged_in earlier)) (so.stands told done holds));

@@ -24,7 +24,7 @@ use Rattle.hkms_commands.specs.Pipe.{Asks, Converses, Pipe, PipeUnder, connectio
 use Rattle.hkms_commands.specs.Replay.{ended_by, ended_by_props, opened_logs, status_of}
 use Rattle.hkms_commands.specs.Run.{Happened, History, behind, drawn_in, faults_after, world_after}
 use Rattle.hkms_commands.specs.Steps.{HasLists}
-use Rattle.hkms_commands.proofs.BeganLemmas.{last_kept, promise_kept, survives_kept}
+use Rattle.hkms_commands.proofs.BeganLemmas.{apart_kept, last_kept, promise_kept, survives_kept}
 use Rattle.hkms_commands.proofs.FollowLemmas.{ServedSo, served_so}
 use Rattle.hkms_commands.proofs.LivedLemmas.{Adds, Lived, has_lists, lived_more, lived_nothing, rests_after, tells_now, weaker}
 
@@ -80,6 +80,7 @@ call_more props o mid new r s words words' earlier now user asked reply so steps
     adds = record {
       linked = λ told hidden linked. steps.step.linked tt hidden linked;
       files_open = λ told hidden is. steps.step.files_open tt hidden is.linked;
+      draws_apart = λ told hidden linked apart. steps.step.draws_apart tt hidden linked apart.words;
       world_is = refl;
       lists = steps.lists;
       faults_are = refl;
@@ -123,6 +124,7 @@ converses {D} {W} state to_come props old v v' left left' written now unused how
             (inl (rests_after mid (state v'.disk) v.world v'.world words (to_come v'.words) h talked tells b.rests (found told) log.holds image is));
       };
   promise = λ told. promise_kept old mid (state v'.disk) v.world b told words h replayed.Done (found told) (talked.files_open (tells_now old mid run told));
+  apart = λ told. apart_kept old mid (state v'.disk) v.world b told words h replayed.Done (found told) (talked.draws_apart (tells_now old mid run told));
   reads = λ told.
       let log = b.log told in (
         v'.world,

@@ -14,6 +14,7 @@ use Rattle.world_run.specs.World.{WorldState, first_world}
 use Rattle.world_run.specs.Acknowledged.{also}
 use Rattle.world_run.specs.Keeps.{LinkedStep}
 use Rattle.world_run.specs.Ledger.{Hidden}
+use Rattle.world_run.specs.Linked.{WordsApart}
 use Rattle.http_wire.specs.Reading.{ahead}
 use Rattle.hk_base.specs.declared.ended.Ended.{Ended}
 use Rattle.hk_base.specs.declared.ended.Ended.TheVariants.{End, Closed, TooLong, Wire, ReadFault, WriteFault, NoMemory}
@@ -22,7 +23,7 @@ use Rattle.hkms_commands.specs.declared.props.PropsFault.{PropsFault}
 use Rattle.hkms_commands.specs.declared.replay.ReplayEnd.TheVariants.{Done}
 use Rattle.hkms_commands.specs.Properties.{HasPropsFault, ReadsProperties}
 use Rattle.hkms_commands.specs.Replay.{HiddenBefore, NotOpened, OnDisk, ReadsAs, ended_by, ended_by_props, opened_logs, status_of}
-use Rattle.hkms_commands.specs.Run.{FilesOpen, Happened, History, behind, drawn_in, faults_after, logged_in, world_after}
+use Rattle.hkms_commands.specs.Run.{FilesOpen, Happened, History, StayApart, behind, drawn_in, faults_after, logged_in, world_after}
 
 -- Under properties of these lines, a call of a user happens in this world as an event, at some moment, with these words to come.
 -- A store fault comes only where the disk's count of faults rose in the event.
@@ -56,6 +57,7 @@ pub record Converses (lines : List PropLine) (old new : DiskState) (words words'
   pub ended : faults_after before history ≤ new.faults
   pub on_disk : Tells old → OnDisk old new words table names history Done
   pub promise : Tells old → (h : Hidden) → HiddenBefore old h → FilesOpen h (first_world table names) words history
+  pub apart : Tells old → (h : Hidden) → HiddenBefore old h → WordsApart h → StayApart h (first_world table names) words history
   pub reads : (told : Tells old) → let found = on_disk told in ReadsAs new (also (opened_logs found.commands table found.ops names) (logged_in history)) (world_after (first_world table names) history)
 
 -- the status of a connection

@@ -23,7 +23,7 @@ use Rattle.hk_events.specs.declared.event.Event.TheVariants.{RestartKms, Restart
 use Rattle.world_run.specs.Acknowledged.{Acknowledged, HoldsLogs, LeavesBoth, also}
 use Rattle.world_run.specs.Keeps.{LeftByStarts}
 use Rattle.world_run.specs.Ledger.{Hidden, Past, drawn_before}
-use Rattle.world_run.specs.Linked.{StartsSound}
+use Rattle.world_run.specs.Linked.{StartsSound, WordsApart}
 use Rattle.world_run.specs.Own.{SurvivesRestart}
 use Rattle.world_run.specs.Starts.{KeysOpened}
 use Rattle.world_run.specs.World.{RunningWorld, WorldState, first_world, world_of}
@@ -33,7 +33,7 @@ use Rattle.hkms_commands.specs.declared.props.PropsFault.{PropsFault}
 use Rattle.hkms_commands.specs.declared.props.PropsFault.TheVariants as props_fault
 use Rattle.hkms_commands.specs.Lines.{lines_of, is_lf}
 use Rattle.hkms_commands.specs.Properties.{HasPropsFault, ReadsProperties}
-use Rattle.hkms_commands.specs.Run.{FilesOpen, History, RestsAfter, Runs, SoundAfter, SurvivesIn, behind, drawn_in, faults_after, lines_in, logged_in, transcript, world_after}
+use Rattle.hkms_commands.specs.Run.{FilesOpen, History, RestsAfter, Runs, SoundAfter, StayApart, SurvivesIn, behind, drawn_in, faults_after, lines_in, logged_in, transcript, world_after}
 
 -- an input has at most 2^40 bytes
 abbrev pub longest_input : ℕ
@@ -289,6 +289,8 @@ pub record Played (lines : List PropLine) (old new : DiskState) (words : ℕ →
   pub on_disk : Tells old → OnDisk old new words table names history stop
   -- with a ledger of draws that the files at the start allow, each world on the way is linked, and its zone files open
   pub promise : Tells old → (h : Hidden) → HiddenBefore old h → FilesOpen h (first_world table names) words history
+  -- and where its draws are apart, they stay so
+  pub apart : Tells old → (h : Hidden) → HiddenBefore old h → WordsApart h → StayApart h (first_world table names) words history
   pub reads : (told : Tells old) → let found = on_disk told in ReadsAt stop left (lines_in history) new (also (opened_logs found.commands table found.ops names) (logged_in history)) (world_after (first_world table names) history)
   pub restart : Tells old → RestartStops stop left (lines_in history) (world_after (first_world table names) history)
   pub stops : (all : List ℕ) → left ≡ Some all → Stops stop all (lines_in history)

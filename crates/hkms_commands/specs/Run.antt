@@ -11,7 +11,7 @@ use Rattle.world_run.specs.World.{WorldState}
 use Rattle.world_run.specs.Acknowledged.{Acknowledged, also, nothing_acknowledged}
 use Rattle.world_run.specs.Keeps.{LinkedStep, SoundFrom}
 use Rattle.world_run.specs.Ledger.{Hidden, hidden_after}
-use Rattle.world_run.specs.Linked.{LinkedWorld}
+use Rattle.world_run.specs.Linked.{DrawsApart, LinkedWorld}
 use Rattle.world_run.specs.Own.{SurvivesAtRest, SurvivesEvent}
 use Rattle.world_run.specs.Promise.{ZoneFilesOpen}
 
@@ -140,6 +140,11 @@ abbrev pub FilesOpen : Hidden → WorldState → (ℕ → ℕ) → History → T
 FilesOpen before first words [] = IsHidden first before
 FilesOpen before first words (x ∷ earlier) =
     IsHidden (world_after first (x ∷ earlier)) (hidden_in before first words (x ∷ earlier)) × FilesOpen before first words earlier
+
+-- In each world on the way the draws by then are apart.
+abbrev pub StayApart : Hidden → WorldState → (ℕ → ℕ) → History → Type 0
+StayApart before first words [] = DrawsApart before
+StayApart before first words (x ∷ earlier) = DrawsApart (hidden_in before first words (x ∷ earlier)) × StayApart before first words earlier
 
 -- what a crash may leave while a line is played in this world, with these words to come, these records being acknowledged before it;
 -- a quiet line writes nothing

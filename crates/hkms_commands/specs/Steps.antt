@@ -16,7 +16,7 @@ use Rattle.world_run.specs.Acknowledged.{Acknowledged, HoldsLogs, LeavesBoth, Ru
 use Rattle.world_run.specs.World.{RunningWorld, WorldState, world_of}
 use Rattle.world_run.specs.Keeps.{Fails, RestsNow, SoundFrom, SurvivesThrough}
 use Rattle.world_run.specs.Ledger.{Hidden}
-use Rattle.world_run.specs.Linked.{LinkedWorld}
+use Rattle.world_run.specs.Linked.{DrawsApart, LinkedWorld}
 use Rattle.world_run.specs.Own.{SurvivesAtRest}
 use Rattle.hkms_commands.specs.declared.lines.LineEnd.{LineEnd}
 use Rattle.hkms_commands.specs.declared.lines.LineEnd.TheVariants as line_end
@@ -26,7 +26,7 @@ use Rattle.hkms_commands.specs.declared.stage.LineOutcome.{LineOutcome}
 use Rattle.hkms_commands.specs.declared.stage.LineOutcome.TheVariants.{Played, BadLine, Unread, Untold, Unwritten, Unopened}
 use Rattle.hkms_commands.specs.Lines.{is_line, line_used}
 use Rattle.hkms_commands.specs.Replay.{HasProperties, IsTold, ReadsAt, RestartStops, Stops, SurvivesLast, SurvivesUntil, ended_by, last_line}
-use Rattle.hkms_commands.specs.Run.{FilesOpen, Happened, History, IsHidden, LineRuns, Runs, SurvivesLine, behind, drawn_in, drawn_of, events_of, faults_after, faults_of, hidden_of, lines_in, logged_in, logged_of, told_of, transcript, world_after, world_of_line}
+use Rattle.hkms_commands.specs.Run.{FilesOpen, Happened, History, IsHidden, LineRuns, Runs, StayApart, SurvivesLine, behind, drawn_in, drawn_of, events_of, faults_after, faults_of, hidden_of, lines_in, logged_in, logged_of, told_of, transcript, world_after, world_of_line}
 
 -- the access control lists of the world stand for these lines
 abbrev pub HasLists : RunningWorld → List PropLine → Type 0
@@ -189,6 +189,7 @@ pub record Ran (lines : List PropLine) (old new : DiskState) (r : RunningWorld) 
   pub rest : (k : ℕ) → words' k ≡ behind (drawn_in history) words k
   pub kept : Tells old → RestsNow old r → (done : Acknowledged) → HoldsLogs old r done → Kept old new (world_of r) words left history stop done
   pub promise : Tells old → (before : Hidden) → IsHidden (world_of r) before → FilesOpen before (world_of r) words history
+  pub apart : Tells old → (before : Hidden) → LinkedWorld (world_of r) before → DrawsApart before → StayApart before (world_of r) words history
   pub run : RunBoth old new
   -- the disk counts each fault of the history
   pub counted_faults : faults_after old.faults history ≤ new.faults

@@ -36,7 +36,7 @@ use Rattle.world_run.specs.Linked.{FilesLinked, LinkedWorld, ServicesFit, SoundF
 use Rattle.world_run.specs.Step.{FinishReply, Step, delete_with, finish_line}
 use Rattle.world_run.specs.World.{RunningWorld, WorldState, numbered, world_of}
 use Rattle.world_run.proofs.BothLemmas.{IsLeftOfBoth, LeavesLogs, keys-now, leaves-weaker, names-now, one-holds, one-leaves, one-runs}
-use Rattle.world_run.proofs.KeepLemmas.{keeps-linked, linked-promise}
+use Rattle.world_run.proofs.KeepLemmas.{draws-stay, keeps-linked, linked-promise}
 use Rattle.world_run.proofs.Laters.{may-wait, room-found}
 use Rattle.world_run.proofs.SoundLemmas.{LinkedFiles, OwnLinks, event-files, own-of-call, own-of-finish, own-of-nothing, own-of-opening, tables-through, world-files}
 use Rattle.name_store.proofs.Layers.{sound_left as sound_names_left}
@@ -161,6 +161,7 @@ steps lines old new r words now e told r' words' keys_file names_file fit keys_f
     step = does.acts;
     linked = linked;
     files_open = λ knows h l. linked-promise (world_of r') (hidden_after (world_of r) words e told does.drawn (world_of r') h) fit'.keys (linked knows h l);
+    draws_apart = λ knows h l. draws-stay lines (world_of r) words now e (Rose old.faults new.faults) (Tells old) told does.drawn does.logged (world_of r') h knows fit does.acts l;
   };
   rest = does.rest;
   stands = one-holds old new r r' own_keys own does.logged keys_file names_file does.disk;

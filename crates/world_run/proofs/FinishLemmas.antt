@@ -136,7 +136,7 @@ entered-ledger enter ledger keys replies replied asks a ask_id answer o next mem
 entered-draws : (enter : Bool) (ledger : Ledger) (replies : List KeptReply) (replied : List (Option Draw)) (ask_id : ℕ) (answer : KeyAnswer) (o : Option Draw) (place : ℕ) (IsBirth : ℕ → Type 0) → Replied replies replied (ToAsk ask_id answer) o
     → DrawsFit ledger replied place IsBirth → DrawsFit (with_entry enter ask_id o ledger) replied place IsBirth
 entered-draws enter ledger replies replied ask_id answer o place IsBirth at f =
-    record { taken = λ d i. f.taken d (was d i); born = λ d i. f.born d (was d i); recent = λ d i. f.recent d (was d i); apart = λ d g i j. f.apart d g (was d i) (was g j) }
+    record { below = λ d i. f.below d (was d i); one_place = λ d g i j. f.one_place d g (was d i) (was g j); born = λ d i. f.born d (was d i); recent = λ d i. f.recent d (was d i) }
   where
     was : (d : Draw) → IsDrawn (with_entry enter ask_id o ledger) replied d → IsDrawn ledger replied d
     was d (inl (id, i)) = elim (in-entry enter ledger ask_id o id d i) [

@@ -56,14 +56,14 @@ use Rattle.world_run.specs.Step.{AskAt, DrawActs, FinishReply, PathActs, Step, W
 use Rattle.world_run.specs.Keeps.{KnowsWorld}
 use Rattle.world_run.specs.Ledger.{Draw, Hidden, Ledger, Past, behind_words, draw_noted, draw_of, draw_told, entered, enters, entry_of, entry_under, hidden_after, id_of_reply, makes_file}
 use Rattle.world_run.specs.Promise.{FilesOpen, In, ZoneFilesOpen}
-use Rattle.world_run.specs.Linked.{DrawsFit, FilesLinked, IsOldBirth, IsRecordedBirth, KeyLinked, LedgerFits, LinkedTables, LinkedWorld, ServicesFit, given}
+use Rattle.world_run.specs.Linked.{DrawsApart, DrawsFit, FilesLinked, IsDrawn, IsOldBirth, IsRecordedBirth, KeyLinked, LedgerFits, LinkedTables, LinkedWorld, ServicesFit, WordsApart, given}
 use Rattle.world_run.proofs.DrawLemmas.{OneDrawn, fresh-key, generate-one, meta-answers, opens-among, opens-named, words-of-draw}
 use Rattle.world_run.proofs.FinishLemmas.{Answered, entered-files, entered_in, finish-drawn, finish-fits, linked-finished, linked-unentered, open-in, with_entry}
 use Rattle.world_run.proofs.Laters.{later-settled, may-wait, names-with, same-later, user-later}
-use Rattle.world_run.proofs.Members.{numbered-beside}
+use Rattle.world_run.proofs.Members.{in-append, numbered-beside, numbered-in}
 use Rattle.world_run.proofs.RowLemmas.{InPlace}
 use Rattle.world_run.proofs.RowsAfter.{files-after}
-use Rattle.world_run.proofs.WorldLemmas.{NewReply, files-later, ledger-more, linked-ask, linked-keys, linked-names, linked-reopened, linked-reply, linked-restart, linked-words, next-after, next-settled, rows-settled}
+use Rattle.world_run.proofs.WorldLemmas.{NewReply, apart-reply, apart-words, files-later, ledger-more, linked-ask, linked-keys, linked-names, linked-reopened, linked-reply, linked-restart, linked-words, next-after, next-settled, rows-settled}
 
 -- calls of the namesystem
 
@@ -161,16 +161,25 @@ ask-at-keeps w h user a (Some p) told w' l (inr r) = subst (λ (v : WorldState).
 
 -- draws
 
+-- the world is linked again, and draws that were apart still are
+abbrev StaysLinked : Hidden → WorldState → Hidden → Type 0
+StaysLinked h w h' = LinkedWorld w h' × (WordsApart h → WordsApart h')
+
 abbrev AfterDraw : WorldState → (ℕ → ℕ) → Hidden → AskNote → ℕ → ServiceState → Want → Option KmsReply → Type 0
 AfterDraw w words h note drawn keys wanted reply =
-    LinkedWorld (with_reply (kept_reply note reply) (record w { keys = keys })) (record (behind_words drawn h) { replied = h.replied ++ draw_told w.keys.keys words h.place wanted reply ∷ [] })
+    StaysLinked h (with_reply (kept_reply note reply) (record w { keys = keys })) (record (behind_words drawn h) { replied = h.replied ++ draw_told w.keys.keys words h.place wanted reply ∷ [] })
+
+-- of a reply with its draw
+reply-stays : (w : WorldState) (h : Hidden) (drawn : ℕ) (r : KeptReply) (o : Option Draw) → NewReply h w.keys drawn r o → LinkedWorld w h
+    → StaysLinked h (with_reply r (record w { keys = w.keys })) (record (behind_words drawn h) { replied = h.replied ++ o ∷ [] })
+reply-stays w h drawn r o new l = (linked-reply w h w.keys drawn r o (same-later w.keys.keys.table) new l, apart-reply h w.keys drawn r o new)
 
 -- a reply without a key
 unkeyed-keeps : (w : WorldState) (h : Hidden) (words : ℕ → ℕ) (note : AskNote) (wanted : Want) (reply : Option KmsReply) (drawn : ℕ) → LinkedWorld w h → given (answer_of reply) ≡ None
     → draw_told w.keys.keys words h.place wanted reply ≡ None → AfterDraw w words h note drawn w.keys wanted reply
 unkeyed-keeps w h words note wanted reply drawn l none undrawn =
-    subst (λ (d : Option Draw). LinkedWorld (with_reply (kept_reply note reply) w) (record (behind_words drawn h) { replied = h.replied ++ d ∷ [] })) (sym undrawn)
-    (linked-reply w h w.keys drawn (kept_reply note reply) None (same-later w.keys.keys.table) (
+    subst (λ (d : Option Draw). StaysLinked h (with_reply (kept_reply note reply) w) (record (behind_words drawn h) { replied = h.replied ++ d ∷ [] })) (sym undrawn)
+    (reply-stays w h drawn (kept_reply note reply) None (
     record {
       opens = subst (λ (x : Option Edek). KeyLinked w.keys.keys.table.rows x None) (sym none) tt;
       begins = λ d is. absurd cc;
@@ -207,7 +216,7 @@ made-keeps w h words now note name reply drawn fit l acts = elim (generate-one w
       (unkeyed-keeps w h words note (want.Generate name) (Some (key_reply.Refused refused.0)) drawn l refl refl)
   | inr ready ↦
       subst (λ (r : KmsReply). AfterDraw w words h note drawn w.keys (want.Generate name) (Some r)) (sym ready.1)
-      (linked-reply w h w.keys drawn (kept_reply note (Some (key_reply.Ready (ready.0 ∷ [])))) (Some (draw_of w.keys.keys words h.place name)) (same-later w.keys.keys.table)
+      (reply-stays w h drawn (kept_reply note (Some (key_reply.Ready (ready.0 ∷ [])))) (Some (draw_of w.keys.keys words h.place name))
       (generated-new w h words now note name ready.0 drawn fit
       (subst (λ (r : KmsReply). KmsActs w.keys.keys words now (key_call.Generate name 1) r drawn w.keys.keys) ready.1 acts) ready.2) l)
 ]
@@ -249,15 +258,15 @@ want-keeps lines w h words now note fault reply drawn logged keys (want.Metadata
     (metadata-keeps w h words now note name fault a.reply drawn logged keys (verdict lines superuser (key_call.Metadata name)) l a.serves)
 
 draw-keeps : (lines : List PropLine) (w : WorldState) (h : Hidden) (words : ℕ → ℕ) (now number : ℕ) (fault : Type 0) (told : Line) (drawn : ℕ) (logged : Acknowledged) (w' : WorldState) (o : Option AskNote) → ServicesFit w → LinkedWorld w h
-    → numbered w.kept.notes number ≡ o → DrawActs lines w words now o fault told drawn logged w' → LinkedWorld w' (hidden_after w words (event.Draw number) told drawn w' h)
+    → numbered w.kept.notes number ≡ o → DrawActs lines w words now o fault told drawn logged w' → StaysLinked h w' (hidden_after w words (event.Draw number) told drawn w' h)
 draw-keeps lines w h words now number fault told drawn logged w' None fit l is u =
-    subst (λ (t : Line). LinkedWorld w' (hidden_after w words (event.Draw number) t drawn w' h)) (sym u.told_is) (subst (λ (v : WorldState). LinkedWorld v (behind_words drawn h)) (sym u.same) (linked-words w h drawn l))
+    subst (λ (t : Line). StaysLinked h w' (hidden_after w words (event.Draw number) t drawn w' h)) (sym u.told_is) (subst (λ (v : WorldState). StaysLinked h v (behind_words drawn h)) (sym u.same) (linked-words w h drawn l, apart-words h drawn))
 draw-keeps lines w h words now number fault told drawn logged w' (Some note) fit l is (inr u) =
-    subst (λ (t : Line). LinkedWorld w' (hidden_after w words (event.Draw number) t drawn w' h)) (sym u.told_is) (subst (λ (v : WorldState). LinkedWorld v (behind_words drawn h)) (sym u.same) (linked-words w h drawn l))
+    subst (λ (t : Line). StaysLinked h w' (hidden_after w words (event.Draw number) t drawn w' h)) (sym u.told_is) (subst (λ (v : WorldState). StaysLinked h v (behind_words drawn h)) (sym u.same) (linked-words w h drawn l, apart-words h drawn))
 draw-keeps lines w h words now number fault told drawn logged w' (Some note) fit l is (inl a) =
-    subst (λ (t : Line). LinkedWorld w' (hidden_after w words (event.Draw number) t drawn w' h)) (sym a.told_is)
-    (subst (λ (q : Option AskNote). LinkedWorld w' (record (behind_words drawn h) { replied = h.replied ++ draw_noted w.keys.keys words h.place q a.reply ∷ [] })) (sym is)
-    (subst (λ (v : WorldState). LinkedWorld v (record (behind_words drawn h) { replied = h.replied ++ draw_told w.keys.keys words h.place note.want a.reply ∷ [] })) (sym a.left)
+    subst (λ (t : Line). StaysLinked h w' (hidden_after w words (event.Draw number) t drawn w' h)) (sym a.told_is)
+    (subst (λ (q : Option AskNote). StaysLinked h w' (record (behind_words drawn h) { replied = h.replied ++ draw_noted w.keys.keys words h.place q a.reply ∷ [] })) (sym is)
+    (subst (λ (v : WorldState). StaysLinked h v (record (behind_words drawn h) { replied = h.replied ++ draw_told w.keys.keys words h.place note.want a.reply ∷ [] })) (sym a.left)
     (want-keeps lines w h words now note fault a.reply drawn a.commands a.keys note.want fit l a.acts)))
 
 -- finishes
@@ -388,8 +397,66 @@ keeps-linked lines w words now (event.Zones user) fault tells told drawn logged 
     linked-words w' h drawn (subst (λ (v : WorldState). LinkedWorld v h) (sym s.left) (call-keeps w h user call.Zones fault s.reply s.ops s.names fit.names l s.serves))
 keeps-linked lines w words now (event.AskCreate user p) fault tells told drawn logged w' h knows fit s l = linked-words w' h drawn (ask-at-keeps w h user ask.Create (read_path p) told w' l s.1)
 keeps-linked lines w words now (event.AskZone user p key) fault tells told drawn logged w' h knows fit s l = linked-words w' h drawn (ask-at-keeps w h user (zone_with key) (read_path p) told w' l s.1)
-keeps-linked lines w words now (event.Draw number) fault tells told drawn logged w' h knows fit s l = draw-keeps lines w h words now number fault told drawn logged w' (numbered w.kept.notes number) fit l refl s
+keeps-linked lines w words now (event.Draw number) fault tells told drawn logged w' h knows fit s l = (draw-keeps lines w h words now number fault told drawn logged w' (numbered w.kept.notes number) fit l refl s).0
 keeps-linked lines w words now (event.Finish number) fault tells told drawn logged w' h knows fit s l = finish-reply-keeps w words h number fault told drawn logged w' (numbered w.kept.replies number) fit.names l refl s
+
+-- draws that were apart
+
+apart-finish : (h : Hidden) (drawn : ℕ) (enter : Bool) (kept : Option KeptReply) (o : Option (Option Draw)) → ((x : Option Draw) → o ≡ Some x → In x h.replied) → WordsApart h
+    → WordsApart (record (behind_words drawn h) { ledger = h.ledger ++ entered enter (entry_of kept o) })
+apart-finish h drawn enter kept o is_kept f = record { taken = λ d i. let t = f.taken d (was d i) in omega (arith, t); apart = λ d g i j. f.apart d g (was d i) (was g j) }
+  where
+    drew : (d : Draw) (id : ℕ) (b : Bool) (k : Option KeptReply) (q : Option (Option Draw)) → ((x : Option Draw) → q ≡ Some x → In x h.replied) → In (id, d) (entered b (entry_of k q)) → In (Some d) h.replied
+    drew d id false k q has i = absurd i
+    drew d id true None q has i = absurd i
+    drew d id true (Some (ToAsk ask_id answer)) None has i = absurd i
+    drew d id true (Some (ToAsk ask_id answer)) (Some None) has i = absurd i
+    drew d id true (Some (ToAsk ask_id answer)) (Some (Some g)) has (inl is) = subst (λ (x : Draw). In (Some x) h.replied) (sym (ap (λ (e : ℕ × Draw). e.1) is)) (has (Some g) refl)
+    drew d id true (Some (ToAsk ask_id answer)) (Some (Some g)) has (inr none) = absurd none
+
+    was : (d : Draw) → IsDrawn (h.ledger ++ entered enter (entry_of kept o)) h.replied d → IsDrawn h.ledger h.replied d
+    was d (inl (id, i)) = elim (in-append (id, d) h.ledger (entered enter (entry_of kept o)) i) [ inl old ↦ inl (id, old) | inr new ↦ inr (drew d id enter kept o is_kept new) ]
+    was d (inr i) = inr i
+
+words-stay : (lines : List PropLine) (w : WorldState) (words : ℕ → ℕ) (now : ℕ) (e : Event) (fault tells : Type 0) (told : Line) (drawn : ℕ) (logged : Acknowledged) (w' : WorldState) (h : Hidden) → ServicesFit w
+    → Step lines w words now e fault tells told drawn logged w' → LinkedWorld w h → WordsApart h → WordsApart (hidden_after w words e told drawn w' h)
+words-stay lines w words now e fault tells told drawn logged w' h fit s l f = go e s
+  where
+    go : (e : Event) → Step lines w words now e fault tells told drawn logged w' → WordsApart (hidden_after w words e told drawn w' h)
+    go (event.Kms user c) s = apart-words h drawn f
+    go event.RestartKms s = apart-words h drawn f
+    go event.RestartName s = apart-words h drawn f
+    go (event.Mkdir user p) s = apart-words h drawn f
+    go (event.Delete user p recursive) s = apart-words h drawn f
+    go (event.Info user p) s = apart-words h drawn f
+    go (event.List user p) s = apart-words h drawn f
+    go (event.Zones user) s = apart-words h drawn f
+    go (event.AskCreate user p) s = apart-words h drawn f
+    go (event.AskZone user p key) s = apart-words h drawn f
+    go (event.Draw number) s = (draw-keeps lines w h words now number fault told drawn logged w' (numbered w.kept.notes number) fit l refl s).1 f
+    go (event.Finish number) s =
+        apart-finish h drawn (enters (id_of_reply (numbered w.kept.replies number)) told w'.names) (numbered w.kept.replies number) (numbered h.replied number) (λ x at. numbered-in h.replied number x at) f
+
+-- and the draws of two files are apart, where each file has a draw of its own
+pub files-apart : (h : Hidden) (replies : List KeptReply) (asks : List OpenAsk) (next : ℕ) → LedgerFits h.ledger replies h.replied asks next → WordsApart h → DrawsApart h
+files-apart h replies asks next fits f = record {
+  words = f;
+  files = record {
+    apart = λ i j d g p q unlike. elim (f.apart d g (inl (i, p)) (inl (j, q))) [
+      | inl same ↦ absurd (unlike (fits.one_file i j d p (subst (λ (x : Draw). In (j, x) h.ledger) (sym same) q)))
+      | inr away ↦ away
+    ];
+  };
+}
+
+pub world-apart : (w : WorldState) (h : Hidden) → LinkedWorld w h → WordsApart h → DrawsApart h
+world-apart w h l f = files-apart h w.kept.replies w.names.names.asks (next_id w.names.names) l.ledger f
+
+pub draws-stay : (lines : List PropLine) (w : WorldState) (words : ℕ → ℕ) (now : ℕ) (e : Event) (fault tells : Type 0) (told : Line) (drawn : ℕ) (logged : Acknowledged) (w' : WorldState) (h : Hidden) → KnowsWorld e tells → ServicesFit w
+    → Step lines w words now e fault tells told drawn logged w' → LinkedWorld w h → WordsApart h → DrawsApart (hidden_after w words e told drawn w' h)
+draws-stay lines w words now e fault tells told drawn logged w' h knows fit s l f =
+    world-apart w' (hidden_after w words e told drawn w' h) (keeps-linked lines w words now e fault tells told drawn logged w' h knows fit s l)
+    (words-stay lines w words now e fault tells told drawn logged w' h fit s l f)
 
 -- the promise
 
@@ -406,10 +473,6 @@ files-open ledger replied place IsBirth keys names replies asks next once f draw
             opens = λ key j birth. let alone = d.opens key j birth in (opens-named key e d.draw.dek alone ∙ d.of_key, opens-among keys key e d.draw.dek once j alone);
           };
       one_draw = fits.one_draw;
-      apart = λ i j d g p q unlike. elim (draws.apart d g (inl (i, p)) (inl (j, q))) [
-        | inl same ↦ absurd (unlike (fits.one_file i j d p (subst (λ (x : Draw). In (j, x) ledger) (sym same) q)))
-        | inr away ↦ away
-      ];
       of_zone = f.zones;
     }
 

@@ -29,7 +29,7 @@ use Rattle.name_store.proofs.Layers.{not_damaged as names_not_damaged}
 at-rest : (file : ℕ) (bytes : List ℕ) → length bytes ≤ 9 → IsAtRest file [] bytes
 at-rest file bytes short = ap (λ (b : Bool). if b then Found [] 0 else (if starts_with (magic file) bytes then frames_at (length bytes) 8 (drop 8 bytes) else NoLog 0)) (le-leb (length bytes) 9 short)
 
-none-drawn : (d : Draw) → IsDrawn [] [] d → ⊥
+pub none-drawn : (d : Draw) → IsDrawn [] [] d → ⊥
 none-drawn d (inl (id, i)) = absurd i
 none-drawn d (inr i) = absurd i
 
@@ -39,7 +39,7 @@ nothing-linked = record {
     files = λ row e i h. elim i [ inl is ↦ let none : None ≡ Some e = ap (λ (r : Row). edek_of r.kind) (sym is) ∙ h in absurd cc | inr none ↦ absurd none ];
     zones = λ x i. elim i [ inl is ↦ subst (λ (y : Entry). FitsZone (key_of_zone root_only y.path) y.row.kind) (sym is) tt | inr none ↦ absurd none ];
   };
-  draws = record { taken = λ d i. absurd (none-drawn d i); born = λ d i. absurd (none-drawn d i); recent = λ d i. absurd (none-drawn d i); apart = λ d f i j. absurd (none-drawn d i) };
+  draws = record { below = λ d i. absurd (none-drawn d i); one_place = λ d f i j. absurd (none-drawn d i); born = λ d i. absurd (none-drawn d i); recent = λ d i. absurd (none-drawn d i) };
   fits = record { one_draw = λ id d f i j. absurd i; one_file = λ i j d p q. absurd p; below = λ id d i. absurd i; recent = λ id d i. absurd i; not_open = λ a d i j. absurd i; its_ask = λ id r d i at. absurd i };
 }
 

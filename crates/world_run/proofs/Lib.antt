@@ -1,3 +1,4 @@
+pub mod ApartLemmas
 pub mod AskLemmas
 pub mod BothLemmas
 pub mod CrashLemmas

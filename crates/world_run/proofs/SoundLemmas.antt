@@ -63,7 +63,7 @@ pub world-files : (w : WorldState) (h : Hidden) → LinkedWorld w h → LinkedFi
 world-files w h l =
     record {
       files = l.files;
-      draws = record { taken = λ d i. l.draws.taken d (was d i); born = λ d i. l.draws.born d (was d i); recent = λ d i. l.draws.recent d (was d i); apart = λ d f i j. l.draws.apart d f (was d i) (was f j) };
+      draws = record { below = λ d i. l.draws.below d (was d i); one_place = λ d f i j. l.draws.one_place d f (was d i) (was f j); born = λ d i. l.draws.born d (was d i); recent = λ d i. l.draws.recent d (was d i) };
       fits = record {
         one_draw = l.ledger.one_draw;
         one_file = l.ledger.one_file;
@@ -109,7 +109,7 @@ finish-reply-through w words h number fault told drawn logged w' (Some (ToAsk as
 
 more-words : (w : WorldState) (ledger : Ledger) (place drawn : ℕ) → LinkedFiles w ledger place → LinkedFiles w ledger (place + drawn)
 more-words w ledger place drawn f =
-    record { files = f.files; draws = record { taken = λ d i. let t = f.draws.taken d i in omega (arith, t); born = f.draws.born; recent = f.draws.recent; apart = f.draws.apart }; fits = f.fits }
+    record { files = f.files; draws = record { below = λ d i. let t = f.draws.below d i in omega (arith, t); one_place = f.draws.one_place; born = f.draws.born; recent = f.draws.recent }; fits = f.fits }
 
 -- a draw enters nothing
 draw-through : (w : WorldState) (words : ℕ → ℕ) (h : Hidden) (number drawn : ℕ) (told : Line) (w' : WorldState) → LinkedFiles w h.ledger (h.place + drawn)

@@ -40,7 +40,7 @@ use Rattle.world_run.specs.Starts.{KeysOpened, StartHappens}
 use Rattle.world_run.specs.World.{RunningWorld, WorldState, first_world, world_of}
 use Rattle.world_run.proofs.BothLemmas.{both-of, keys-beside, leaves-keys}
 use Rattle.world_run.proofs.CrashLemmas.{rests-now}
-use Rattle.world_run.proofs.KeepLemmas.{linked-promise}
+use Rattle.world_run.proofs.KeepLemmas.{linked-promise, world-apart}
 use Rattle.world_run.proofs.Laters.{next-rises, recorded-more}
 use Rattle.world_run.proofs.Members.{numbered-in}
 use Rattle.world_run.proofs.RowsAfter.{files-opened}
@@ -347,6 +347,7 @@ begins old mid new r m keys_file names_file fit nothing run other_run ks ns = re
       };
   linked = linked;
   files_open = λ told past sound. linked-promise (world_of r) (drawn_before past) fit.keys (linked told past sound);
+  draws_apart = λ told past sound apart. world-apart (world_of r) (drawn_before past) (linked told past sound) apart;
   rests = rests-now new r keys_file names_file fit;
 }
   where

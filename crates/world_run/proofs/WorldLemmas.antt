@@ -15,7 +15,7 @@ use Rattle.world_run.specs.declared.kept.KeptReply.{KeptReply}
 use Rattle.world_run.specs.World.{WorldState, with_note, with_reply}
 use Rattle.world_run.specs.Ledger.{Draw, Hidden, Ledger, behind_words}
 use Rattle.world_run.specs.Promise.{In}
-use Rattle.world_run.specs.Linked.{DrawsFit, FilesLinked, IsDrawn, IsOldBirth, KeyLinked, LedgerFits, LinkedWorld, RepliesLinked, Replied, key_in_reply}
+use Rattle.world_run.specs.Linked.{DrawsFit, FilesLinked, IsDrawn, IsOldBirth, KeyLinked, LedgerFits, LinkedWorld, RepliesLinked, Replied, WordsApart, key_in_reply}
 use Rattle.world_run.proofs.Laters.{KeysLater, LaterAt, draw-later, later-opened, later-settled, opens-later, then-later}
 use Rattle.world_run.proofs.Members.{in-more, numbered-in, numbered-more, numbered-within, some-is}
 use Rattle.world_run.proofs.RowLemmas.{InPlace, in-place}
@@ -49,7 +49,7 @@ replies-later ledger replied place IsBirth olds keys replies draws later l =
     }
 
 pub draws-later : (ledger : Ledger) (replied : List (Option Draw)) (place : ℕ) (IsBirth IsLater : ℕ → Type 0) → ((b : ℕ) → IsBirth b → IsLater b) → DrawsFit ledger replied place IsBirth → DrawsFit ledger replied place IsLater
-draws-later ledger replied place IsBirth IsLater later d = record { taken = d.taken; born = λ x i. later x.birth (d.born x i); recent = d.recent; apart = d.apart }
+draws-later ledger replied place IsBirth IsLater later d = record { below = d.below; one_place = d.one_place; born = λ x i. later x.birth (d.born x i); recent = d.recent }
 
 pub linked-keys : (w : WorldState) (h : Hidden) (keys : ServiceState) → KeysLater w.keys.keys.table keys.keys.table → LinkedWorld w h → LinkedWorld (record w { keys = keys }) h
 linked-keys w h keys later l =
@@ -65,9 +65,12 @@ linked-words w h drawn l =
     record {
       files = l.files;
       replies = l.replies;
-      draws = record { taken = λ x i. let t = l.draws.taken x i in omega (arith, t); born = l.draws.born; recent = l.draws.recent; apart = l.draws.apart };
+      draws = record { below = λ x i. let t = l.draws.below x i in omega (arith, t); one_place = l.draws.one_place; born = l.draws.born; recent = l.draws.recent };
       ledger = l.ledger;
     }
+
+pub apart-words : (h : Hidden) (drawn : ℕ) → WordsApart h → WordsApart (behind_words drawn h)
+apart-words h drawn f = record { taken = λ d i. let t = f.taken d i in omega (arith, t); apart = f.apart }
 
 -- the keys that a start finds where the pending command was kept, or not
 pub linked-restart : (w : WorldState) (h : Hidden) (kept : Bool) (table : Table) → table ≡ (settled kept w.keys).table → IsService w.keys → LinkedWorld w h → LinkedWorld (record w { keys = opened table }) h
@@ -182,15 +185,32 @@ drawn-before ledger replied o d (inr i) = elim (in-more (Some d) o replied i) [ 
 
 -- a new draw is none of those before
 draw-new : (ledger : Ledger) (replied : List (Option Draw)) (place : ℕ) (IsBirth : ℕ → Type 0) (d : Draw) → DrawsFit ledger replied place IsBirth → IsDrawn ledger replied d → place ≤ d.place → ⊥
-draw-new ledger replied place IsBirth d f i over = let h = f.taken d i in absurd (omega (arith, h, over))
+draw-new ledger replied place IsBirth d f i over = let h = f.below d i in absurd (omega (arith, h, over))
 
 draws-reply : (w : WorldState) (h : Hidden) (keys : ServiceState) (drawn : ℕ) (r : KeptReply) (o : Option Draw) → ((b : ℕ) → IsOldBirth w.keys.keys.table b → IsOldBirth keys.keys.table b) → NewReply h keys drawn r o
     → DrawsFit h.ledger h.replied h.place (IsOldBirth w.keys.keys.table) → DrawsFit h.ledger (h.replied ++ o ∷ []) (h.place + drawn) (IsOldBirth keys.keys.table)
 draws-reply w h keys drawn r o births n f =
     record {
-      taken = λ d i. elim (drawn-before h.ledger h.replied o d i) [ inl old ↦ let t = f.taken d old in omega (arith, t) | inr is ↦ n.ends d (sym is) ];
+      below = λ d i. elim (drawn-before h.ledger h.replied o d i) [ inl old ↦ let t = f.below d old in omega (arith, t) | inr is ↦ let t = n.ends d (sym is) in omega (arith, t) ];
+      one_place = λ d g i j same. elim (drawn-before h.ledger h.replied o d i) [
+        | inl old ↦ elim (drawn-before h.ledger h.replied o g j) [
+          | inl other ↦ f.one_place d g old other same
+          | inr is ↦ let b = n.begins g (sym is) in absurd (draw-new h.ledger h.replied h.place (IsOldBirth w.keys.keys.table) d f old (omega (arith, b, same)))
+        ]
+        | inr mine ↦ elim (drawn-before h.ledger h.replied o g j) [
+          | inl other ↦ let b = n.begins d (sym mine) in absurd (draw-new h.ledger h.replied h.place (IsOldBirth w.keys.keys.table) g f other (omega (arith, b, same)))
+          | inr is ↦ some-is d g (mine ∙ sym is)
+        ]
+      ];
       born = λ d i. elim (drawn-before h.ledger h.replied o d i) [ inl old ↦ births d.birth (f.born d old) | inr is ↦ inr (n.born d (sym is)) ];
       recent = λ d i. elim (drawn-before h.ledger h.replied o d i) [ inl old ↦ f.recent d old | inr is ↦ n.recent d (sym is) ];
+    }
+
+-- and its words are apart from theirs
+pub apart-reply : (h : Hidden) (keys : ServiceState) (drawn : ℕ) (r : KeptReply) (o : Option Draw) → NewReply h keys drawn r o → WordsApart h → WordsApart (record (behind_words drawn h) { replied = h.replied ++ o ∷ [] })
+apart-reply h keys drawn r o n f =
+    record {
+      taken = λ d i. elim (drawn-before h.ledger h.replied o d i) [ inl old ↦ let t = f.taken d old in omega (arith, t) | inr is ↦ n.ends d (sym is) ];
       apart = λ d g i j. elim (drawn-before h.ledger h.replied o d i) [
         | inl old ↦ elim (drawn-before h.ledger h.replied o g j) [
           | inl other ↦ f.apart d g old other

@@ -21,7 +21,7 @@ use Rattle.world_run.specs.Acknowledged.{Acknowledged, HoldsLogs, LeavesBoth, Ru
 use Rattle.world_run.specs.Own.{SurvivesAtRest, SurvivesEvent, SurvivesRestart}
 use Rattle.world_run.specs.Step.{Step}
 use Rattle.world_run.specs.Ledger.{Hidden, Past, drawn_before, hidden_after, past_of}
-use Rattle.world_run.specs.Linked.{LinkedWorld, SoundFiles, StartsSound}
+use Rattle.world_run.specs.Linked.{DrawsApart, LinkedWorld, SoundFiles, StartsSound, WordsApart}
 use Rattle.world_run.specs.Promise.{ZoneFilesOpen}
 
 -- What a restart finds is what the disk tells, and other events know the world after them whatever the disk.
@@ -36,6 +36,8 @@ pub record LinkedStep (lines : List PropLine) (w : WorldState) (words : ℕ → 
   pub step : Step lines w words now e fault tells told drawn logged w'
   pub linked : KnowsWorld e tells → (h : Hidden) → LinkedWorld w h → LinkedWorld w' (hidden_after w words e told drawn w' h)
   pub files_open : KnowsWorld e tells → (h : Hidden) → LinkedWorld w h → ZoneFilesOpen w' (hidden_after w words e told drawn w' h)
+  -- where draws were apart, they are apart after it
+  pub draws_apart : KnowsWorld e tells → (h : Hidden) → LinkedWorld w h → WordsApart h → DrawsApart (hidden_after w words e told drawn w' h)
 
 -- files that a run may start from, with what is hidden afterwards, whatever was hidden before
 abbrev pub SoundFrom : (Hidden → Type 0) → (Hidden → Hidden) → Image → Type 0
@@ -114,6 +116,7 @@ pub record Begins (old new : DiskState) (r : RunningWorld) : Type 0 where
   pub log : Tells old → BeganLogs old new r table names
   pub linked : Tells old → (past : Past) → StartsSound old past → LinkedWorld (world_of r) (drawn_before past)
   pub files_open : Tells old → (past : Past) → StartsSound old past → ZoneFilesOpen (world_of r) (drawn_before past)
+  pub draws_apart : Tells old → (past : Past) → StartsSound old past → WordsApart (drawn_before past) → DrawsApart (drawn_before past)
   pub rests : RestsNow new r
 
 -- The key log is opened first: it is what it may have been before, or what its start leaves of the log found, and the edit log is as

@@ -4,13 +4,25 @@ use Rattle.hk_base.specs.Disk.{Image}
 use Rattle.kms_store.specs.Store.{IsDamagedAt, settled_table}
 use Rattle.name_store.specs.Store.{IsDamagedAt as IsDamagedName}
 use Rattle.name_store.specs.Table.{settled_log}
-use Rattle.world_run.specs.Ledger.{Past}
-use Rattle.world_run.specs.Linked.{SoundFiles}
-use Rattle.world_run.specs.Promise.{FilesOpen}
+use Rattle.world_run.specs.Ledger.{Hidden, Past, drawn_before, past_of}
+use Rattle.world_run.specs.Linked.{SoundFiles, WordsApart}
+use Rattle.world_run.specs.Promise.{FilesApart, FilesOpen}
 
 -- two files that were never written are such files, with an empty ledger
 abbrev pub EmptyFilesAreSound : Type 0
 EmptyFilesAreSound = (c : Image) → length (c 0) ≤ 9 → length (c 1) ≤ 9 → SoundFiles (record { ledger = []; place = 0 }) c
+
+-- and with no draw, draws are apart
+abbrev pub NoDrawsAreApart : Type 0
+NoDrawsAreApart = WordsApart (drawn_before (record { ledger = []; place = 0 }))
+
+-- draws that are apart in a run are apart in what the next run finds of it
+abbrev pub PastDrawsAreApart : Type 0
+PastDrawsAreApart = (h : Hidden) → WordsApart h → WordsApart (drawn_before (past_of h))
+
+-- where draws are apart, those of two files are, with the ledger of files that a run may start from
+abbrev pub SoundFilesAreApart : Type 0
+SoundFilesAreApart = (past : Past) (c : Image) → SoundFiles past c → WordsApart (drawn_before past) → FilesApart past.ledger
 
 -- neither file is damaged
 abbrev pub SoundFilesAreWhole : Type 0

@@ -22,7 +22,7 @@ use Rattle.world_run.specs.declared.kept.KeptReply.{KeptReply}
 use Rattle.world_run.specs.declared.kept.KeptReply.TheVariants.{ToAsk}
 use Rattle.world_run.specs.World.{WorldState, numbered}
 use Rattle.world_run.specs.Ledger.{Draw, Hidden, Ledger, Past}
-use Rattle.world_run.specs.Promise.{Apart, FitsZone, In, edek_of}
+use Rattle.world_run.specs.Promise.{Apart, FilesApart, FitsZone, In, edek_of}
 
 -- what both services keep by themselves
 pub record ServicesFit (w : WorldState) : Type 0 where
@@ -86,12 +86,22 @@ IsOldBirth t birth = (birth < t.opening * 2 ^ 32) ⊎ (birth ≤ t.greatest)
 abbrev pub IsRecordedBirth : Table → ℕ → Type 0
 IsRecordedBirth t birth = birth < (t.opening + 1) * 2 ^ 32
 
--- draws: each of words that were drawn, under a key of such a birth, which is of an opening from 1 on, and no two with a word in common
+-- draws: each has a place below the next one, which no other draw has, and a key of such a birth, which is of an opening from 1 on
 pub record DrawsFit (ledger : Ledger) (replied : List (Option Draw)) (place : ℕ) (IsBirth : ℕ → Type 0) : Type 0 where
-  pub taken : (d : Draw) → IsDrawn ledger replied d → d.place + words_of_draw (length d.dek) ≤ place
+  pub below : (d : Draw) → IsDrawn ledger replied d → d.place < place
+  pub one_place : (d f : Draw) → IsDrawn ledger replied d → IsDrawn ledger replied f → d.place ≡ f.place → d ≡ f
   pub born : (d : Draw) → IsDrawn ledger replied d → IsBirth d.birth
   pub recent : (d : Draw) → IsDrawn ledger replied d → 2 ^ 32 ≤ d.birth
-  pub apart : (d f : Draw) → IsDrawn ledger replied d → IsDrawn ledger replied f → (d ≡ f) ⊎ Apart d f
+
+-- draws are of words that were drawn, and no two have a word in common
+pub record WordsApart (h : Hidden) : Type 0 where
+  pub taken : (d : Draw) → IsDrawn h.ledger h.replied d → d.place + words_of_draw (length d.dek) ≤ h.place
+  pub apart : (d f : Draw) → IsDrawn h.ledger h.replied d → IsDrawn h.ledger h.replied f → (d ≡ f) ⊎ Apart d f
+
+-- and so the draws of two files
+pub record DrawsApart (h : Hidden) : Type 0 where
+  pub words : WordsApart h
+  pub files : FilesApart h.ledger
 
 pub record LedgerFits (ledger : Ledger) (replies : List KeptReply) (replied : List (Option Draw)) (asks : List OpenAsk) (next : ℕ) : Type 0 where
   pub one_draw : (id : ℕ) (d f : Draw) → In (id, d) ledger → In (id, f) ledger → d ≡ f

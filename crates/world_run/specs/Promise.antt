@@ -51,11 +51,14 @@ pub record OpensToItsDraw (ledger : Ledger) (rows : List KeyRow) (id : ℕ) (ede
 pub record FilesOpen (ledger : Ledger) (keys : List KeyRow) (names : NameTable) : Type 0 where
   -- the encrypted key of each file that the table keeps opens to the data key drawn for it
   pub open_up : (file : Row) (edek : Edek) → In file (kept_rows names) → edek_of file.kind ≡ Some edek → OpensToItsDraw ledger keys file.id edek
-  -- the ledger has one draw for an id, and draws of two files have no word in common
+  -- the ledger has one draw for an id
   pub one_draw : (id : ℕ) (d f : Draw) → In (id, d) ledger → In (id, f) ledger → d ≡ f
-  pub apart : (i j : ℕ) (d f : Draw) → In (i, d) ledger → In (j, f) ledger → (i ≡ j → ⊥) → Apart d f
   -- a file has an encrypted key exactly where it lies in a zone, and then of that zone's key
   pub of_zone : (file : Entry) → In file names.rows → FitsZone (key_of_zone names.rows file.path) file.row.kind
+
+-- The draws of two files have no word in common.
+pub record FilesApart (ledger : Ledger) : Type 0 where
+  pub apart : (i j : ℕ) (d f : Draw) → In (i, d) ledger → In (j, f) ledger → (i ≡ j → ⊥) → Apart d f
 
 -- with and without the pending command, and with and without the pending operation
 abbrev pub ZoneFilesOpen : WorldState → Hidden → Type 0
