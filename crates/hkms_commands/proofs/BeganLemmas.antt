@@ -1,4 +1,4 @@
--- A start, and a history behind it.
+-- A start, and a history after it.
 use Rattle.std.proofs.Common.{◌≡◌, ◌⊎◌, inl, inr, ℕ, [], ◌∷◌, Err, ap, subst, sym, ◌∙◌}
 use Rattle.std.specs.Prelude.{IsErrOf}
 use Rattle.std.specs.declared.result.Result.{Result}
@@ -8,14 +8,14 @@ use Rattle.frame_log.specs.declared.fault.StartFault.{StartFault}
 use Rattle.frame_log.specs.declared.fault.StartFault.TheVariants as start
 use Rattle.kms_store.specs.Store.{IsLeftByStart}
 use Rattle.name_store.specs.Store.{IsLeftByStart as IsLeftByNameStart}
+use Rattle.hk_events.specs.declared.event.Event.{Event}
 use Rattle.world_run.specs.declared.fault.WorldFault.{WorldFault}
 use Rattle.world_run.specs.Acknowledged.{Acknowledged, LeavesBoth, RunBoth}
 use Rattle.world_run.specs.Keeps.{Begins, LeftByStarts}
 use Rattle.world_run.specs.Ledger.{Hidden}
 use Rattle.world_run.specs.Linked.{DrawsApart, LinkedWorld, WordsApart}
 use Rattle.world_run.specs.World.{RunningWorld, WorldState, first_world, world_of}
-use Rattle.hkms_commands.specs.declared.replay.ReplayEnd.{ReplayEnd}
-use Rattle.hkms_commands.specs.Replay.{HiddenBefore, LeftByStop, SurvivesLast, SurvivesUntil}
+use Rattle.hkms_commands.specs.Logs.{HiddenBefore, LeftByStop, SurvivesLast, SurvivesUntil}
 use Rattle.hkms_commands.specs.Run.{FilesOpen, History, IsHidden, RestsAfter, StayApart, SurvivesIn}
 use Rattle.hkms_commands.proofs.LivedLemmas.{leaves_on, weaker}
 
@@ -29,8 +29,9 @@ first_hidden old new r b told h before =
 rests_weaker : (A B : Hidden → Type 0) → ((h : Hidden) → B h → A h) → (done : Acknowledged) (first : WorldState) (words : ℕ → ℕ) (history : History) (image : Image) → RestsAfter done A first words history image → RestsAfter done B first words history image
 rests_weaker A B f done first words history image left = (left.0, λ h is. left.1 h (f h is))
 
-stop_weaker : (A B : Hidden → Type 0) → ((h : Hidden) → B h → A h) → (stop : ReplayEnd) (done : Acknowledged) (first : WorldState) (words : ℕ → ℕ) (history : History) (image : Image) → LeftByStop stop done A first words history image → LeftByStop stop done B first words history image
-stop_weaker A B f stop done first words history image left = (left.0, λ h is. left.1 h (f h is))
+stop_weaker : (A B : Hidden → Type 0) → ((h : Hidden) → B h → A h) → (Cut : Event → Type 0) (done : Acknowledged) (first : WorldState) (words : ℕ → ℕ) (history : History) (image : Image)
+    → LeftByStop Cut done A first words history image → LeftByStop Cut done B first words history image
+stop_weaker A B f Cut done first words history image left = (left.0, λ h is. left.1 h (f h is))
 
 in_weaker : (A B : Hidden → Type 0) → ((h : Hidden) → B h → A h) → (done : Acknowledged) (first : WorldState) (words : ℕ → ℕ) (history : History) (image : Image) → SurvivesIn done A first words history image → SurvivesIn done B first words history image
 in_weaker A B f done first words [] image left = rests_weaker A B f done first words [] image left
@@ -38,29 +39,29 @@ in_weaker A B f done first words (x ∷ earlier) image (inl left) = inl (rests_w
 in_weaker A B f done first words (x ∷ earlier) image (inr (inl left)) = inr (inl (left.0, λ h is. left.1 h (f h is)))
 in_weaker A B f done first words (x ∷ earlier) image (inr (inr left)) = inr (inr (in_weaker A B f done first words earlier image left))
 
-module _ (old mid new : DiskState) (r : RunningWorld) (b : Begins old mid r) (told : Tells old) (words : ℕ → ℕ) (h : History) (stop : ReplayEnd) (done : Acknowledged) where
+module _ (old mid new : DiskState) (r : RunningWorld) (b : Begins old mid r) (told : Tells old) (words : ℕ → ℕ) (h : History) (Cut : Event → Type 0) (done : Acknowledged) where
   linked : (x : Hidden) → HiddenBefore old x → LinkedWorld (world_of r) x
   linked x before = (first_hidden old mid r b told x before).linked
 
-  until_kept : (image : Image) → SurvivesUntil stop done (LinkedWorld (world_of r)) (world_of r) words h image → SurvivesUntil stop done (HiddenBefore old) (first_world b.table b.names) words h image
-  until_kept image left = subst (λ (w : WorldState). SurvivesUntil stop done (HiddenBefore old) w words h image) b.first (go left)
+  until_kept : (image : Image) → SurvivesUntil Cut done (LinkedWorld (world_of r)) (world_of r) words h image → SurvivesUntil Cut done (HiddenBefore old) (first_world b.table b.names) words h image
+  until_kept image left = subst (λ (w : WorldState). SurvivesUntil Cut done (HiddenBefore old) w words h image) b.first (go left)
     where
-      go : SurvivesUntil stop done (LinkedWorld (world_of r)) (world_of r) words h image → SurvivesUntil stop done (HiddenBefore old) (world_of r) words h image
+      go : SurvivesUntil Cut done (LinkedWorld (world_of r)) (world_of r) words h image → SurvivesUntil Cut done (HiddenBefore old) (world_of r) words h image
       go (inl way) = inl (in_weaker (LinkedWorld (world_of r)) (HiddenBefore old) linked done (world_of r) words h image way)
-      go (inr end) = inr (stop_weaker (LinkedWorld (world_of r)) (HiddenBefore old) linked stop done (world_of r) words h image end)
+      go (inr end) = inr (stop_weaker (LinkedWorld (world_of r)) (HiddenBefore old) linked Cut done (world_of r) words h image end)
 
   -- what the start and the history left of both files, where this was acknowledged by the start
-  pub survives_kept : LeavesBoth old mid (LeftByStarts old) → RunBoth old mid → LeavesBoth mid new (SurvivesUntil stop done (LinkedWorld (world_of r)) (world_of r) words h)
-      → LeavesBoth old new (λ image. LeftByStarts old image ⊎ SurvivesUntil stop done (HiddenBefore old) (first_world b.table b.names) words h image)
+  pub survives_kept : LeavesBoth old mid (LeftByStarts old) → RunBoth old mid → LeavesBoth mid new (SurvivesUntil Cut done (LinkedWorld (world_of r)) (world_of r) words h)
+      → LeavesBoth old new (λ image. LeftByStarts old image ⊎ SurvivesUntil Cut done (HiddenBefore old) (first_world b.table b.names) words h image)
   survives_kept moments run survives = leaves_on run (weaker (λ image left. inl left) moments) (weaker (λ image left. inr (until_kept image left)) survives)
 
   -- and what is left in the end
-  pub last_kept : (image : Image) → SurvivesLast stop done (LinkedWorld (world_of r)) (world_of r) words h image → SurvivesLast stop done (HiddenBefore old) (first_world b.table b.names) words h image
-  last_kept image left = subst (λ (w : WorldState). SurvivesLast stop done (HiddenBefore old) w words h image) b.first (go left)
+  pub last_kept : (image : Image) → SurvivesLast Cut done (LinkedWorld (world_of r)) (world_of r) words h image → SurvivesLast Cut done (HiddenBefore old) (first_world b.table b.names) words h image
+  last_kept image left = subst (λ (w : WorldState). SurvivesLast Cut done (HiddenBefore old) w words h image) b.first (go left)
     where
-      go : SurvivesLast stop done (LinkedWorld (world_of r)) (world_of r) words h image → SurvivesLast stop done (HiddenBefore old) (world_of r) words h image
+      go : SurvivesLast Cut done (LinkedWorld (world_of r)) (world_of r) words h image → SurvivesLast Cut done (HiddenBefore old) (world_of r) words h image
       go (inl rest) = inl (rests_weaker (LinkedWorld (world_of r)) (HiddenBefore old) linked done (world_of r) words h image rest)
-      go (inr end) = inr (stop_weaker (LinkedWorld (world_of r)) (HiddenBefore old) linked stop done (world_of r) words h image end)
+      go (inr end) = inr (stop_weaker (LinkedWorld (world_of r)) (HiddenBefore old) linked Cut done (world_of r) words h image end)
 
   -- the promise on zone files, with a ledger that the files at the start allow
   pub promise_kept : ((x : Hidden) → IsHidden (world_of r) x → FilesOpen x (world_of r) words h) → (x : Hidden) → HiddenBefore old x → FilesOpen x (first_world b.table b.names) words h

@@ -11,6 +11,7 @@ use Rattle.frame_log.specs.declared.fault.StartFault.{StartFault}
 use Rattle.frame_log.specs.declared.fault.StartFault.TheVariants as start
 use Rattle.prop_text.specs.declared.lines.PropLine.{PropLine}
 use Rattle.replay_text.specs.Events.{IsBad, Spells, longest_line}
+use Rattle.replay_text.specs.Transcript.{line_text}
 use Rattle.hk_events.specs.declared.event.Event.{Event}
 use Rattle.hk_events.specs.declared.event.Event.TheVariants as event
 use Rattle.world_run.specs.declared.fault.WorldFault.{WorldFault}
@@ -26,10 +27,12 @@ use Rattle.hkms_commands.specs.declared.replay.ReplayEnd.TheVariants as ended
 use Rattle.hkms_commands.specs.declared.stage.LineOutcome.{LineOutcome}
 use Rattle.hkms_commands.specs.declared.stage.LineOutcome.TheVariants.{Played, BadLine, Unread, Untold, Unwritten, Unopened}
 use Rattle.hkms_commands.specs.Lines.{is_line, is_lf, lines_of, text_of}
-use Rattle.hkms_commands.specs.Run.{Happened, History, events_in, hidden_in, lines_in, logged_in, told_of, transcript, world_after}
-use Rattle.hkms_commands.specs.Replay.{BadNext, ComesNext, HasProperties, IsCut, IsSpent, IsTold, LeftByStop, NextSpells, ReadsAs, ReadsAt, RestartStops, Starts, Stops, SurvivesStop, ended_by, longest_input}
-use Rattle.hkms_commands.specs.Steps.{Caused, HasLists, LinePlayed, Next, NextSo, PlaysLine, PlaysSo, Ran, Read, Stand, StopsAtRestart, StopsReading, Untouched, View, counts, end_of_play}
-use Rattle.hkms_commands.proofs.HistoryLemmas.{Begin, Course, SoFar, course_line, course_line_is, course_untouched, course_untouched_is, so_far_line}
+use Rattle.hkms_commands.specs.Logs.{LeftByStop, ReadsAs, SurvivesStop}
+use Rattle.hkms_commands.specs.PlayedLines.{PlayedLine, events_of_lines, lines_in, transcript}
+use Rattle.hkms_commands.specs.Run.{History, hidden_in, logged_in, world_after}
+use Rattle.hkms_commands.specs.Replay.{BadNext, ComesNext, CutAt, HasProperties, IsCut, IsSpent, IsTold, NextSpells, ReadsAt, RestartStops, Starts, Stops, ended_by, longest_input}
+use Rattle.hkms_commands.specs.Steps.{Caused, HasLists, LinePlayed, Next, NextSo, PlaysEvent, PlaysSo, Ran, Read, Stand, StaysQuiet, StopsAtRestart, StopsReading, Untouched, View, counts, end_of_play}
+use Rattle.hkms_commands.proofs.HistoryLemmas.{Begin, Course, SoFar, count_more, course_event, course_quiet, course_untouched, event_line, quiet_line, so_far_event, so_far_quiet}
 use Rattle.hkms_commands.proofs.LivedLemmas.{Lived, has_lists, leaves_on, rests_after, run_on, tells_now, weaker}
 use Rattle.hkms_commands.proofs.SplitLemmas.{split_text, split_last, split_on, split_ended, parts, count_lf}
 
@@ -144,50 +147,62 @@ all_told ended.Spent text told is = is
 IsPlain : ReplayEnd → Type 0
 IsPlain stop = ((left : Option (List ℕ)) (lines : List (List ℕ)) (w : WorldState) → RestartStops stop left lines w) × HasProperties stop
 
-ran : (props : List PropLine) (old new : DiskState) (b : Begin) (v : View) (count : ℕ) (stop : ReplayEnd) (so : Course props old new b v count) (h : History) → so.history ≡ h → (text : List ℕ) (now : Option (List ℕ)) → IsPlain stop
-    → Appends b.written now text → IsTold stop text (transcript h) → ((all : List ℕ) → b.left ≡ Some all → Stops stop all (lines_in h))
+ran : (props : List PropLine) (old new : DiskState) (b : Begin) (v : View) (count : ℕ) (stop : ReplayEnd) (played : List PlayedLine) → Course props old new b v played → count ≡ length (lines_in played) → (text : List ℕ) (now : Option (List ℕ)) → IsPlain stop
+    → Appends b.written now text → IsTold stop text (transcript (events_of_lines played)) → ((all : List ℕ) → b.left ≡ Some all → Stops stop all (lines_in played))
     → Ran props old new b.world b.words v.words b.left b.written now stop count
 unfolding IsPlain
-ran props old new b v count stop so h is text now plain wrote told here = record {
-  history = so.history;
-  runs = so.runs;
+ran props old new b v count stop played so counted text now plain wrote told here = record {
+  played = played;
+  spelled = so.spelled;
+  runs = so.lived.runs;
   rest = so.lived.rest;
   kept = λ tells now done holds. record {
     moments = weaker (λ image left. inl left) (so.lived.survives tells done holds);
-    last = λ image is. inl (rests_after old new b.world v.world b.words v.words so.history so.lived tells now done holds image is);
-    reads = reads_at stop b.left (lines_in so.history) new (also done (logged_in so.history)) (world_after (world_of b.world) so.history) (v.world, so.lived.world_is, so.lived.stands tells done holds);
+    last = λ image is. inl (rests_after props old new b.world v.world b.words v.words h so.lived tells now done holds image is);
+    reads = reads_at stop b.left (lines_in played) new (also done (logged_in h)) (world_after (world_of b.world) h) (v.world, so.lived.world_is, so.lived.stands tells done holds);
   };
   promise = so.lived.files_open;
   apart = so.lived.draws_apart;
   run = so.lived.run;
   counted_faults = omega (arith, so.lived.faults_are);
-  restart = λ tells. plain.0 b.left (lines_in so.history) (world_after (world_of b.world) so.history);
+  restart = λ tells. plain.0 b.left (lines_in played) (world_after (world_of b.world) h);
   has_properties = plain.1;
-  stops = λ all left. subst (λ (x : History). Stops stop all (lines_in x)) (sym is) (here all left);
+  stops = here;
   text = text;
   wrote = wrote;
-  told = subst (λ (x : History). IsTold stop text (transcript x)) (sym is) told;
-  counted = so.counted;
+  told = told;
+  counted = counted;
 }
+  where
+    h : History
+    h = events_of_lines played
 
 -- before a line is played
 stops_before : (props : List PropLine) (old mid new : DiskState) (b : Begin) (s : Stand) (stop : ReplayEnd) (v : View) (so : SoFar props old mid b s) → Untouched mid new s.view v → IsPlain stop
-    → ((all : List ℕ) → b.left ≡ Some all → Stops stop all (lines_in so.course.history)) → Ran props old new b.world b.words v.words b.left b.written v.written stop s.count
+    → ((all : List ℕ) → b.left ≡ Some all → Stops stop all (lines_in so.played)) → Ran props old new b.world b.words v.words b.left b.written v.written stop s.count
 stops_before props old mid new b s stop v so u plain here =
-    let told : List ℕ = transcript so.course.history in
-    ran props old new b (record s.view { world = v.world; words = v.words }) s.count stop (course_untouched props old mid new b s.view v s.count so.course u) so.course.history
-    (course_untouched_is props old mid new b s.view v s.count so.course u) told v.written plain
-    (subst (Appends b.written v.written) (append-nil told) (Appends-trans b.written s.view.written v.written _ _ so.wrote u.wrote)) (all_told stop told told refl) here
+    let told : List ℕ = transcript (events_of_lines so.played) in
+    ran props old new b v s.count stop so.played (course_untouched props old mid new b s.view v so.played so.course u) so.counted told v.written plain
+    (subst (λ (x : View). Appends b.written x.written told) (sym u.same) so.wrote) (all_told stop told told refl) here
 
--- behind a line that was played, of whose answer this much was written
-stops_behind : (props : List PropLine) (old mid new : DiskState) (b : Begin) (s : Stand) (stop : ReplayEnd) (line : List ℕ) (event : Option Happened) (v : View) (text : List ℕ) (so : SoFar props old mid b s) → PlaysLine props mid new s.view line event v
-    → is_line line ≡ true → IsPlain stop → Appends s.view.written v.written text → IsTold stop (transcript so.course.history ++ text) (transcript so.course.history ++ told_of (events_in so.course.history) event)
-    → ((all : List ℕ) → b.left ≡ Some all → Stops stop all (lines_in so.course.history ++ line ∷ []))
+-- after a quiet line
+stops_quiet : (props : List PropLine) (old mid new : DiskState) (b : Begin) (s : Stand) (stop : ReplayEnd) (line : List ℕ) (v : View) (so : SoFar props old mid b s) → StaysQuiet mid new s.view line v → is_line line ≡ true → IsPlain stop
+    → ((all : List ℕ) → b.left ≡ Some all → Stops stop all (lines_in so.played ++ line ∷ [])) → Ran props old new b.world b.words v.words b.left b.written v.written stop (s.count + 1)
+stops_quiet props old mid new b s stop line v so stays is plain here =
+    let told : List ℕ = transcript (events_of_lines so.played) in
+    ran props old new b v (s.count + 1) stop (quiet_line line ∷ so.played) (course_quiet props old mid new b s.view v line so.played so.course stays is) (count_more s.count (lines_in so.played) line so.counted) told v.written plain
+    (subst (λ (x : View). Appends b.written x.written told) (sym stays.untouched.same) so.wrote) (all_told stop told told refl) here
+
+-- after a line whose event happened, of whose answer this much was written
+stops_behind : (props : List PropLine) (old mid new : DiskState) (b : Begin) (s : Stand) (stop : ReplayEnd) (line : List ℕ) (v : View) (text : List ℕ) (so : SoFar props old mid b s) → (plays : PlaysEvent props mid new s.view line v)
+    → is_line line ≡ true → IsPlain stop → Appends s.view.written v.written text
+    → IsTold stop (transcript (events_of_lines so.played) ++ text) (transcript (events_of_lines so.played) ++ line_text (s.view.events + 1) plays.reply)
+    → ((all : List ℕ) → b.left ≡ Some all → Stops stop all (lines_in so.played ++ line ∷ []))
     → Ran props old new b.world b.words v.words b.left b.written v.written stop (s.count + 1)
-stops_behind props old mid new b s stop line event v text so plays is plain wrote told here =
-    ran props old new b v (s.count + 1) stop (course_line props old mid new b s.view v s.count line event so.course plays is) (record { line = line; event = event } ∷ so.course.history)
-    (course_line_is props old mid new b s.view v s.count line event so.course plays is) (transcript so.course.history ++ text) v.written plain
-    (Appends-trans b.written s.view.written v.written _ _ so.wrote wrote) told here
+stops_behind props old mid new b s stop line v text so plays is plain wrote told here =
+    let before : List ℕ = transcript (events_of_lines so.played) in
+    ran props old new b v (s.count + 1) stop (event_line plays ∷ so.played) (course_event props old mid new b s.view v line so.played so.course plays is) (count_more s.count (lines_in so.played) line so.counted) (before ++ text) v.written plain
+    (Appends-trans b.written s.view.written v.written _ _ so.wrote wrote) (subst (λ (n : ℕ). IsTold stop (before ++ text) (before ++ line_text (n + 1) plays.reply)) so.course.numbered told) here
 
 -- at a restart that could not open its log
 
@@ -238,16 +253,19 @@ why_stopped file start.Spent left lines w never spent = spent refl
 
 -- what a crash leaves in a restart that ends a replay
 
-either_restart : (e : Event) (file : ℕ) (w : WorldState) (done : Acknowledged) (image : Image) → is_restart e file → SurvivesRestart w e done image
-    → SurvivesRestart w event.RestartKms done image ⊎ SurvivesRestart w event.RestartName done image
-either_restart e file w done image r left =
-    ⊎_elim (λ keys. inl (subst (λ (x : Event). SurvivesRestart w x done image) keys.0 left)) (λ names. inr (subst (λ (x : Event). SurvivesRestart w x done image) names.0 left)) (which_restart e file r)
+-- it is the one that comes next
+cut_at : (file : ℕ) (f : StartFault) (left : Option (List ℕ)) (lines : List (List ℕ)) (e : Event) → ((at : ℕ) → f ≡ start.Damaged at → ⊥) → ComesNext left lines e → CutAt (ended_by file f) left lines e
+cut_at file (start.Damaged at) left lines e never next = absurd (never at refl)
+cut_at file start.StoreFault left lines e never next = next
+cut_at file start.NoMemory left lines e never next = next
+cut_at file start.Spent left lines e never next = next
 
-stop_left : (e : Event) (file : ℕ) (f : StartFault) (w : WorldState) (done : Acknowledged) (image : Image) → is_restart e file → ((at : ℕ) → f ≡ start.Damaged at → ⊥) → SurvivesRestart w e done image → SurvivesStop (ended_by file f) w done image
-stop_left e file (start.Damaged at) w done image r never left = absurd (never at refl)
-stop_left e file start.StoreFault w done image r never left = either_restart e file w done image r left
-stop_left e file start.NoMemory w done image r never left = either_restart e file w done image r left
-stop_left e file start.Spent w done image r never left = either_restart e file w done image r left
+stop_left : (Cut : Event → Type 0) (e : Event) (file : ℕ) (w : WorldState) (done : Acknowledged) (image : Image) → is_restart e file → Cut e → SurvivesRestart w e done image → SurvivesStop Cut w done image
+stop_left Cut e file w done image r cut left =
+    ⊎_elim
+    (λ keys. inl (subst Cut keys.0 cut, subst (λ (x : Event). SurvivesRestart w x done image) keys.0 left))
+    (λ names. inr (subst Cut names.0 cut, subst (λ (x : Event). SurvivesRestart w x done image) names.0 left))
+    (which_restart e file r)
 
 -- where the input stands at a restart of either service
 
@@ -279,50 +297,59 @@ cut_next : (left : Option (List ℕ)) (lines : List (List ℕ)) (e : Event) (fil
 cut_next left lines e file r next = ⊎_elim (λ keys. inl (subst (ComesNext left lines) keys.0 next)) (λ names. inr (subst (ComesNext left lines) names.0 next)) (which_restart e file r)
 
 stops_at_restart : (props : List PropLine) (old mid new : DiskState) (b : Begin) (s : Stand) (line : List ℕ) (fault : WorldFault) (v : View) (so : SoFar props old mid b s) → StopsAtRestart mid new s.view line fault v
-    → Appends s.view.written v.written [] → IsNext b.left (lines_in so.course.history) line → Ran props old new b.world b.words v.words b.left b.written v.written (ended_by fault.file fault.fault) s.count
+    → Appends s.view.written v.written [] → IsNext b.left (lines_in so.played) line → Ran props old new b.world b.words v.words b.left b.written v.written (ended_by fault.file fault.fault) s.count
 stops_at_restart props old mid new b s line fault v so at wrote next = record {
-  history = h;
-  runs = so.course.runs;
+  played = so.played;
+  spelled = so.course.spelled;
+  runs = lived.runs;
   rest = λ k. ap (λ (x : ℕ → ℕ). x k) at.fails.same_words ∙ lived.rest k;
   kept = λ tells now done holds. record {
     moments = leaves_on lived.run (weaker (λ image left. inl left) (lived.survives tells done holds))
         (weaker (λ image left. inr (stopped tells done image left)) (at.fails.survives (tells_now old mid lived.run tells) (also done (logged_in h)) (lived.stands tells done holds)));
     last = λ image is. inr (stopped tells done image (at.fails.survives_then (tells_now old mid lived.run tells) (also done (logged_in h)) (lived.stands tells done holds) image is));
-    reads = unread fault.file fault.fault b.left (lines_in h) new (also done (logged_in h)) (world_after (world_of b.world) h) (cut_next b.left (lines_in h) at.restart fault.file at.fails.restart comes);
+    reads = unread fault.file fault.fault b.left lines new (also done (logged_in h)) (world_after (world_of b.world) h) (cut_next b.left lines at.restart fault.file at.fails.restart comes);
   };
   promise = lived.files_open;
   apart = lived.draws_apart;
   run = run_on old mid new lived.run at.fails.run;
   counted_faults = omega (arith, lived.faults_are, at.fails.run.faults);
-  restart = λ tells. why_stopped fault.file fault.fault b.left (lines_in h) (world_after (world_of b.world) h) (at.fails.never_damaged (tells_now old mid lived.run tells))
+  restart = λ tells. why_stopped fault.file fault.fault b.left lines (world_after (world_of b.world) h) (at.fails.never_damaged (tells_now old mid lived.run tells))
       (λ is.
       let last = at.fails.spent is (tells_now old mid lived.run tells) in
-      subst (IsSpent b.left (lines_in h)) lived.world_is (spent_is b.left (lines_in h) at.restart fault.file (world_of s.view.world) last.0 at.fails.restart comes last.1));
+      subst (IsSpent b.left lines) lived.world_is (spent_is b.left lines at.restart fault.file (world_of s.view.world) last.0 at.fails.restart comes last.1));
   has_properties = has fault.file fault.fault;
-  stops = λ all told. restart_next at.restart fault.file fault.fault all (lines_in h) at.fails.restart (comes all told);
+  stops = λ all told. restart_next at.restart fault.file fault.fault all lines at.fails.restart (comes all told);
   text = transcript h;
   wrote = subst (Appends b.written v.written) (append-nil (transcript h)) (Appends-trans b.written s.view.written v.written _ _ so.wrote wrote);
   told = all_told (ended_by fault.file fault.fault) (transcript h) (transcript h) refl;
-  counted = so.course.counted;
+  counted = so.counted;
 }
   where
     h : History
-    h = so.course.history
+    h = events_of_lines so.played
 
-    lived : Lived old mid b.world b.words s.view.world s.view.words h
+    lines : List (List ℕ)
+    lines = lines_in so.played
+
+    lived : Lived props old mid b.world b.words s.view.world s.view.words h
     lived = so.course.lived
+
+    comes : ComesNext b.left lines at.restart
+    comes = spelled_next b.left lines line at.restart next at.spells
+
+    -- which restart was cut short
+    Cut : Event → Type 0
+    Cut = CutAt (ended_by fault.file fault.fault) b.left lines
 
     -- what the restart leaves
     stopped : Tells old → (done : Acknowledged) (image : Image) → LeftByRestart (world_of s.view.world) at.restart (also done (logged_in h)) image
-        → LeftByStop (ended_by fault.file fault.fault) done (LinkedWorld (world_of b.world)) (world_of b.world) b.words h image
+        → LeftByStop Cut done (LinkedWorld (world_of b.world)) (world_of b.world) b.words h image
     stopped tells done image left = (
-      stop_left at.restart fault.file fault.fault (world_after (world_of b.world) h) (also done (logged_in h)) image at.fails.restart (at.fails.never_damaged (tells_now old mid lived.run tells))
+      stop_left Cut at.restart fault.file (world_after (world_of b.world) h) (also done (logged_in h)) image at.fails.restart
+          (cut_at fault.file fault.fault b.left lines at.restart (at.fails.never_damaged (tells_now old mid lived.run tells)) comes)
           (subst (λ (w : WorldState). SurvivesRestart w at.restart (also done (logged_in h)) image) lived.world_is left.0),
       λ hidden linked. left.1 (hidden_in hidden (world_of b.world) b.words h) (lived.linked tells hidden linked),
     )
-
-    comes : ComesNext b.left (lines_in h) at.restart
-    comes = spelled_next b.left (lines_in h) line at.restart next at.spells
 
 -- how the loop goes on and stops
 
@@ -332,26 +359,29 @@ the_end a b is = cc
 
 -- a line that was played, or not, ends the replay
 line_stops : (props : List PropLine) (old mid new : DiskState) (b : Begin) (s : Stand) (line : List ℕ) (last : Bool) (v : View) (count : ℕ) (stop : ReplayEnd) (so : SoFar props old mid b s) → LinePlayed props mid new s.view line last (Some stop) v s.count count
-    → is_line line ≡ true → IsNext b.left (lines_in so.course.history) line → (last ≡ true → (all : List ℕ) → b.left ≡ Some all → lines_of all ≡ lines_in so.course.history ++ line ∷ [])
+    → is_line line ≡ true → IsNext b.left (lines_in so.played) line → (last ≡ true → (all : List ℕ) → b.left ≡ Some all → lines_of all ≡ lines_in so.played ++ line ∷ [])
     → Ran props old new b.world b.words v.words b.left b.written v.written stop count
 unfolding IsPlain
 line_stops props old mid new b s line last v count stop so p is next whole = go p.play last p.plays p.result_is p.counted whole
   where
-    h : History
-    h = so.course.history
+    lines : List (List ℕ)
+    lines = lines_in so.played
 
-    told_here : (event : Option Happened) → told_of s.view.events event ≡ told_of (events_in h) event
-    told_here event = ap (λ (n : ℕ). told_of n event) so.course.numbered
+    before : List ℕ
+    before = transcript (events_of_lines so.played)
 
     Goal : ℕ → ReplayEnd → Type 0
     Goal n e = Ran props old new b.world b.words v.words b.left b.written v.written e n
 
+    played : StaysQuiet mid new s.view line v ⊎ ((plays : PlaysEvent props mid new s.view line v) × Appends s.view.written v.written (line_text (s.view.events + 1) plays.reply))
+        → ((all : List ℕ) → b.left ≡ Some all → lines_of all ≡ lines ++ line ∷ []) → Goal (s.count + 1) ended.Done
+    played (inl stays) whole = stops_quiet props old mid new b s ended.Done line v so stays is ((λ left lines w. tt), tt) whole
+    played (inr (plays, wrote)) whole = stops_behind props old mid new b s ended.Done line v (line_text (s.view.events + 1) plays.reply) so plays is ((λ left lines w. tt), tt) wrote refl whole
+
     go : (play : LineOutcome) (last : Bool) → PlaysSo props mid new s.view line play v → Some stop ≡ end_of_play last play → count ≡ s.count + counts play
-        → (last ≡ true → (all : List ℕ) → b.left ≡ Some all → lines_of all ≡ lines_in h ++ line ∷ []) → Ran props old new b.world b.words v.words b.left b.written v.written stop count
-    go Played false (event, plays, wrote) is_end n whole = absurd cc
-    go Played true (event, plays, wrote) is_end n whole =
-        subst (λ (e : ReplayEnd). Goal count e) (sym (the_end stop ended.Done is_end)) (subst (λ (k : ℕ). Goal k ended.Done) (sym n)
-        (stops_behind props old mid new b s ended.Done line event v (told_of s.view.events event) so plays is ((λ left lines w. tt), tt) wrote (ap (λ (t : List ℕ). transcript h ++ t) (told_here event)) (whole refl)))
+        → (last ≡ true → (all : List ℕ) → b.left ≡ Some all → lines_of all ≡ lines ++ line ∷ []) → Ran props old new b.world b.words v.words b.left b.written v.written stop count
+    go Played false p is_end n whole = absurd cc
+    go Played true p is_end n whole = subst (λ (e : ReplayEnd). Goal count e) (sym (the_end stop ended.Done is_end)) (subst (λ (k : ℕ). Goal k ended.Done) (sym n) (played p (whole refl)))
     go BadLine last (bad, u) is_end n whole =
         subst (λ (e : ReplayEnd). Goal count e) (sym (the_end stop ended.BadLine (is_end ∙ bad_end last))) (subst (λ (k : ℕ). Goal k ended.BadLine) (sym (n ∙ omega arith))
         (stops_before props old mid new b s ended.BadLine v so u ((λ left lines w. tt), tt) (λ all told. let at = next.next all told in inl (line, at.0, at.1, bad))))
@@ -366,19 +396,18 @@ line_stops props old mid new b s line last v count stop so p is next whole = go 
         no_end : (l : Bool) → end_of_play l Unread ≡ Some ended.NoMemory
         no_end true = refl
         no_end false = refl
-    go Untold last (event, plays, wrote) is_end n whole =
+    go Untold last (plays, wrote) is_end n whole =
         subst (λ (e : ReplayEnd). Goal count e) (sym (the_end stop ended.NoMemory (is_end ∙ no_end last))) (subst (λ (k : ℕ). Goal k ended.NoMemory) (sym n)
-        (stops_behind props old mid new b s ended.NoMemory line event v [] so plays is ((λ left lines w. tt), tt) wrote (told_of (events_in h) event, ap (λ (t : List ℕ). t ++ told_of (events_in h) event) (append-nil (transcript h)))
-        (λ all told. begins b.left (lines_in h) line next all told)))
+        (stops_behind props old mid new b s ended.NoMemory line v [] so plays is ((λ left lines w. tt), tt) wrote
+        (line_text (s.view.events + 1) plays.reply, ap (λ (t : List ℕ). t ++ line_text (s.view.events + 1) plays.reply) (append-nil before)) (λ all told. begins b.left lines line next all told)))
       where
         no_end : (l : Bool) → end_of_play l Untold ≡ Some ended.NoMemory
         no_end true = refl
         no_end false = refl
-    go Unwritten last (event, plays, wrote) is_end n whole =
+    go Unwritten last (plays, wrote) is_end n whole =
         subst (λ (e : ReplayEnd). Goal count e) (sym (the_end stop ended.WriteFault (is_end ∙ no_end last))) (subst (λ (k : ℕ). Goal k ended.WriteFault) (sym n)
-        (stops_behind props old mid new b s ended.WriteFault line event v wrote.front so plays is ((λ left lines w. tt), tt) wrote.wrote
-        (wrote.more, append_assoc (transcript h) wrote.front wrote.more ∙ ap (λ (t : List ℕ). transcript h ++ t) (wrote.whole ∙ told_here event))
-        (λ all told. begins b.left (lines_in h) line next all told)))
+        (stops_behind props old mid new b s ended.WriteFault line v wrote.front so plays is ((λ left lines w. tt), tt) wrote.wrote
+        (wrote.more, append_assoc before wrote.front wrote.more ∙ ap (λ (t : List ℕ). before ++ t) wrote.whole) (λ all told. begins b.left lines line next all told)))
       where
         no_end : (l : Bool) → end_of_play l Unwritten ≡ Some ended.WriteFault
         no_end true = refl
@@ -391,7 +420,7 @@ line_stops props old mid new b s line last v count stop so p is next whole = go 
         no_end true = refl
         no_end false = refl
 
-ahead_of : (props : List PropLine) (old mid : DiskState) (b : Begin) (s : Stand) (so : SoFar props old mid b s) → IsAhead b.left s.ahead (lines_in so.course.history)
+ahead_of : (props : List PropLine) (old mid : DiskState) (b : Begin) (s : Stand) (so : SoFar props old mid b s) → IsAhead b.left s.ahead (lines_in so.played)
 ahead_of props old mid b s so = record { whole = so.course.whole; consumed = so.consumed }
 
 -- the next line ends the replay
@@ -400,7 +429,7 @@ unfolding IsPlain
 next_stops props old mid new b s s' stop so n = go n.how n.read n.next
   where
     lines : List (List ℕ)
-    lines = lines_in so.course.history
+    lines = lines_in so.played
 
     ahead : IsAhead b.left s.ahead lines
     ahead = ahead_of props old mid b s so
@@ -437,12 +466,16 @@ pub record GoesFurther (props : List PropLine) (old new : DiskState) (b : Begin)
 pub next_goes_on : (props : List PropLine) (old mid new : DiskState) (b : Begin) (s s' : Stand) → SoFar props old mid b s → Next props mid new s None s' → GoesFurther props old new b s s'
 next_goes_on props old mid new b s s' so n = go n.how n.read n.next
   where
+    quiet_or_event : StaysQuiet mid new s.view n.line s'.view ⊎ ((plays : PlaysEvent props mid new s.view n.line s'.view) × Appends s.view.written s'.view.written (line_text (s.view.events + 1) plays.reply))
+        → Read s line_end.Line n.line s' → SoFar props old new b (record { view = s'.view; ahead = s'.ahead; used = s'.used; count = s.count + 1 })
+    quiet_or_event (inl stays) read = so_far_quiet props old mid new b s n.line s'.view s'.ahead s'.used so stays read.is_line (read.consumed (λ e. cc)) (read.used (λ e. cc))
+    quiet_or_event (inr (plays, wrote)) read = so_far_event props old mid new b s n.line s'.view s'.ahead s'.used so plays wrote read.is_line (read.consumed (λ e. cc)) (read.used (λ e. cc))
+
     played : (play : LineOutcome) → PlaysSo props mid new s.view n.line play s'.view → None ≡ end_of_play false play → s'.count ≡ s.count + counts play → Read s line_end.Line n.line s' → GoesFurther props old new b s s'
-    played Played (event, plays, wrote) is_end count read =
+    played Played p is_end count read =
         let used = read.used (λ e. cc) in
         record {
-          so_far = subst (λ (k : ℕ). SoFar props old new b (record { view = s'.view; ahead = s'.ahead; used = s'.used; count = k })) (sym count)
-              (so_far_line props old mid new b s n.line event s'.view s'.ahead s'.used so plays wrote read.is_line (read.consumed (λ e. cc)) used);
+          so_far = subst (λ (k : ℕ). SoFar props old new b (record { view = s'.view; ahead = s'.ahead; used = s'.used; count = k })) (sym count) (quiet_or_event p read);
           further = omega (arith, used, length-append n.line (10 ∷ []));
           counted = count;
         }
@@ -477,10 +510,11 @@ SoFarUnder old new b s = (props : List PropLine) → HasLists b.world props → 
 pub stands_under : (old mid : DiskState) (b : Begin) (s : Stand) → SoFarUnder old mid b s → (props : List PropLine) × HasLists b.world props
     → (Tells old → (done : Acknowledged) × HoldsLogs old b.world done) → Tells mid → (done : Acknowledged) × HoldsLogs mid s.view.world done
 stands_under old mid b s so some stands tells =
-    let course = (so some.0 some.1).course in
-    let told : Tells old = subst (λ (t : Bool). IsTrue t) course.lived.run.tells tells in
+    let here = so some.0 some.1 in
+    let lived = here.course.lived in
+    let told : Tells old = subst (λ (t : Bool). IsTrue t) lived.run.tells tells in
     let before = stands told in
-    (also before.0 (logged_in course.history), course.lived.stands told before.0 before.1)
+    (also before.0 (logged_in (events_of_lines here.played)), lived.stands told before.0 before.1)
 
 pub lists_under : (old mid : DiskState) (b : Begin) (s : Stand) → SoFarUnder old mid b s → (props : List PropLine) × HasLists b.world props → (props : List PropLine) × HasLists s.view.world props
 lists_under old mid b s so some = (some.0, has_lists b.world s.view.world some.0 (so some.0 some.1).course.lived.lists some.1)
@@ -514,11 +548,12 @@ goes_on_untroubled input input' out out' disk disk' read write store = record {
 
 -- the count of the disk's faults never falls
 disk_later : (props : List PropLine) (old new : DiskState) (v v' : View) (line : List ℕ) (play : LineOutcome) → PlaysSo props old new v line play v' → old.faults ≤ new.faults
-disk_later props old new v v' line Played (event, plays, wrote) = plays.goes_on.run.faults
-disk_later props old new v v' line BadLine (bad, u) = u.goes_on.run.faults
-disk_later props old new v v' line Unread u = u.goes_on.run.faults
-disk_later props old new v v' line Untold (event, plays, wrote) = plays.goes_on.run.faults
-disk_later props old new v v' line Unwritten (event, plays, wrote) = plays.goes_on.run.faults
+disk_later props old new v v' line Played (inl stays) = stays.untouched.run.faults
+disk_later props old new v v' line Played (inr (plays, wrote)) = plays.steps.run.faults
+disk_later props old new v v' line BadLine (bad, u) = u.run.faults
+disk_later props old new v v' line Unread u = u.run.faults
+disk_later props old new v v' line Untold (plays, wrote) = plays.steps.run.faults
+disk_later props old new v v' line Unwritten (plays, wrote) = plays.steps.run.faults
 disk_later props old new v v' line (Unopened fault) (at, wrote) = at.fails.run.faults
 
 never_opened : (file : ℕ) (fault : StartFault) → Some (ended_by file fault) ≡ Some ended.ReadFault → ⊥

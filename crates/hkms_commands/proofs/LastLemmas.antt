@@ -11,6 +11,7 @@ use Rattle.kms_core.proofs.ServiceLemmas.{rose_before, rose_since}
 use Rattle.prop_text.specs.declared.lines.PropLine.{PropLine}
 use Rattle.prop_text.specs.declared.faults.PropFault.{PropFault}
 use Rattle.prop_text.specs.declared.faults.PropFault.TheVariants as prop_fault
+use Rattle.hk_events.specs.declared.event.Event.{Event}
 use Rattle.world_run.specs.Acknowledged.{Acknowledged, LeavesBoth, RunBoth, also}
 use Rattle.world_run.specs.Keeps.{Begins, LeftByStarts}
 use Rattle.world_run.specs.World.{RunningWorld, WorldState, first_world}
@@ -19,8 +20,10 @@ use Rattle.hkms_commands.specs.declared.replay.ReplayEnd.TheVariants as ended
 use Rattle.hkms_commands.specs.declared.props.PropsFault.{PropsFault}
 use Rattle.hkms_commands.specs.declared.props.PropsFault.TheVariants as props_fault
 use Rattle.hkms_commands.specs.Properties.{HasPropsFault, ReadsProperties}
-use Rattle.hkms_commands.specs.Run.{History, Runs, lines_in, logged_in, transcript, world_after}
-use Rattle.hkms_commands.specs.Replay.{IsTold, NotOpened, OnDisk, Played, ReadsAt, Replay, ReplayUnder, RestartStops, Says, ended_by, ended_by_props, ended_by_text, last_line, opened_logs, status_of}
+use Rattle.hkms_commands.specs.Logs.{OnDisk, opened_logs}
+use Rattle.hkms_commands.specs.PlayedLines.{events_of_lines, lines_in, transcript}
+use Rattle.hkms_commands.specs.Run.{History, Runs, logged_in, world_after}
+use Rattle.hkms_commands.specs.Replay.{CutAt, IsTold, NotOpened, Played, ReadsAt, Replay, ReplayUnder, RestartStops, Says, ended_by, ended_by_props, ended_by_text, last_line, status_of}
 use Rattle.hkms_commands.specs.Steps.{Caused, Closes, Ran}
 use Rattle.hkms_commands.proofs.BeganLemmas.{apart_kept, last_kept, promise_kept, survives_kept}
 use Rattle.hkms_commands.proofs.LivedLemmas.{tells_now}
@@ -106,21 +109,25 @@ has_read same_disk same old new acls acls' words words' left written now how lin
 
 -- lines were played
 
--- lines were played
-
 pub played : (lines : List PropLine) (same : Type 0) (old mid new : DiskState) (r : RunningWorld) (words words' : ℕ → ℕ) (left written told now : Option (List ℕ)) (stop how : ReplayEnd) (count : ℕ) → Begins old mid r
     → (Tells old → LeavesBoth old mid (LeftByStarts old)) → RunBoth old mid
     → Ran lines mid new r words words' left written told stop count → Closes stop count told now how → ReplayUnder lines same old new words words' left written now how
 played lines same old mid new r words words' left written told now stop how count b moments run ran c =
-    inr (record { history = h; stop = stop; played = whole; rest = ran.rest; text = w.text; wrote = w.wrote; says = w.says })
+    inr (record { played_lines = ran.played; stop = stop; played = whole; rest = ran.rest; text = w.text; wrote = w.wrote; says = w.says })
   where
     h : History
-    h = ran.history
+    h = events_of_lines ran.played
+
+    lines_played : List (List ℕ)
+    lines_played = lines_in ran.played
+
+    Cut : Event → Type 0
+    Cut = CutAt stop left lines_played
 
     first : WorldState
     first = first_world b.table b.names
 
-    w : Wrote stop how (length (lines_in h)) (transcript h) written now
+    w : Wrote stop how (length lines_played) (transcript h) written now
     w = subst (λ (n : ℕ). Wrote stop how n (transcript h) written now) ran.counted (closed stop how count (transcript h) ran.text written told now ran.told ran.wrote c)
 
     same_tells : Tells mid ≡ Tells old
@@ -129,7 +136,7 @@ played lines same old mid new r words words' left written told now stop how coun
     found : Tells old → Acknowledged
     found tells = opened_logs (b.log tells).commands b.table (b.log tells).ops b.names
 
-    disk : Tells old → OnDisk old new words b.table b.names h stop
+    disk : Tells old → OnDisk old new words b.table b.names h Cut
     disk tells =
         let log = b.log tells in
         let kept = ran.kept (tells_now old mid run tells) b.rests (found tells) log.holds in
@@ -141,23 +148,24 @@ played lines same old mid new r words words' left written told now stop how coun
           edits = log.edits;
           keys_room = log.keys_room;
           names_room = log.names_room;
-          moments = survives_kept old mid new r b tells words h stop (found tells) (moments tells) run kept.moments;
-          last = λ image is. last_kept old mid new r b tells words h stop (found tells) image (kept.last image is);
+          moments = survives_kept old mid new r b tells words h Cut (found tells) (moments tells) run kept.moments;
+          last = λ image is. last_kept old mid new r b tells words h Cut (found tells) image (kept.last image is);
         }
 
-    whole : Played lines old new words left stop h
+    whole : Played lines old new words left stop ran.played
     whole = record {
       table = b.table;
       names = b.names;
       before = mid.faults;
+      spelled = ran.spelled;
       runs = subst (λ (T : Type 0). Runs lines T first words mid.faults h) same_tells (subst (λ (v : WorldState). Runs lines (Tells mid) v words mid.faults h) b.first ran.runs);
       began = run.faults;
       ended = ran.counted_faults;
       on_disk = disk;
-      promise = λ tells. promise_kept old mid new r b tells words h stop (found tells) (ran.promise (tells_now old mid run tells));
-      apart = λ tells. apart_kept old mid new r b tells words h stop (found tells) (ran.apart (tells_now old mid run tells));
-      reads = λ tells. subst (λ (v : WorldState). ReadsAt stop left (lines_in h) new (also (found tells) (logged_in h)) (world_after v h)) b.first (ran.kept (tells_now old mid run tells) b.rests (found tells) (b.log tells).holds).reads;
-      restart = λ tells. subst (λ (v : WorldState). RestartStops stop left (lines_in h) (world_after v h)) b.first (ran.restart (tells_now old mid run tells));
+      promise = λ tells. promise_kept old mid new r b tells words h Cut (found tells) (ran.promise (tells_now old mid run tells));
+      apart = λ tells. apart_kept old mid new r b tells words h Cut (found tells) (ran.apart (tells_now old mid run tells));
+      reads = λ tells. subst (λ (v : WorldState). ReadsAt stop left lines_played new (also (found tells) (logged_in h)) (world_after v h)) b.first (ran.kept (tells_now old mid run tells) b.rests (found tells) (b.log tells).holds).reads;
+      restart = λ tells. subst (λ (v : WorldState). RestartStops stop left lines_played (world_after v h)) b.first (ran.restart (tells_now old mid run tells));
       stops = ran.stops;
       has_properties = ran.has_properties;
     }

@@ -11,7 +11,7 @@ use Rattle.hk_events.specs.declared.event.Line.{Line}
 use Rattle.hk_events.specs.declared.event.Line.TheVariants as line
 use Rattle.world_run.specs.Acknowledged.{Acknowledged, LeavesBoth, RunBoth}
 use Rattle.world_run.specs.World.{RunningWorld, WorldState, first_world, world_of}
-use Rattle.world_run.specs.Keeps.{Begins, LeftByStarts, LinkedStep, Steps}
+use Rattle.world_run.specs.Keeps.{Begins, LeftByStarts, Steps}
 use Rattle.hk_base.specs.declared.ended.Ended.{Ended}
 use Rattle.hk_base.specs.declared.ended.Ended.TheVariants as ended
 use Rattle.hk_serve.specs.Exchanges.{Stand}
@@ -21,12 +21,13 @@ use Rattle.http_wire.specs.Reading.{ahead}
 use Rattle.hkms_commands.specs.declared.replay.ReplayEnd.{ReplayEnd}
 use Rattle.hkms_commands.specs.declared.replay.ReplayEnd.TheVariants as replayed
 use Rattle.hkms_commands.specs.Pipe.{Asks, Converses, Pipe, PipeUnder, connection_status}
-use Rattle.hkms_commands.specs.Replay.{ended_by, ended_by_props, opened_logs, status_of}
-use Rattle.hkms_commands.specs.Run.{Happened, History, behind, drawn_in, faults_after, world_after}
+use Rattle.hkms_commands.specs.Logs.{NoRestart, opened_logs}
+use Rattle.hkms_commands.specs.Replay.{ended_by, ended_by_props, status_of}
+use Rattle.hkms_commands.specs.Run.{History, Runs, world_after}
 use Rattle.hkms_commands.specs.Steps.{HasLists}
 use Rattle.hkms_commands.proofs.BeganLemmas.{apart_kept, last_kept, promise_kept, survives_kept}
 use Rattle.hkms_commands.proofs.FollowLemmas.{ServedSo, served_so}
-use Rattle.hkms_commands.proofs.LivedLemmas.{Adds, Lived, has_lists, lived_more, lived_nothing, rests_after, tells_now, weaker}
+use Rattle.hkms_commands.proofs.LivedLemmas.{Lived, happened_in, has_lists, lived_more, lived_nothing, rests_after, tells_now, weaker}
 
 -- where a connection began: what the disk was, the services, and the words to come
 pub record Opened : Type 1 where
@@ -34,63 +35,27 @@ pub record Opened : Type 1 where
   pub services : RunningWorld
   pub words : ℕ → ℕ
 
--- the calls so far, and where they have led
-abbrev Talked : Opened → DiskState → RunningWorld → (ℕ → ℕ) → History → Type 0
-Talked o now r words history = Lived o.disk now o.services o.words r words history
-
--- a step is alike beside the same values
-same_step : (props : List PropLine) (T U : Type 0) (w v : WorldState) (words others : ℕ → ℕ) (f g after now drawn : ℕ) (e : Event) (told : Line) (logged : Acknowledged) (w' : WorldState)
-    → T ≡ U → w ≡ v → ((k : ℕ) → words k ≡ others k) → f ≡ g
-    → LinkedStep props w words now e (Rose f after) T told drawn logged w' → LinkedStep props v others now e (Rose g after) U told drawn logged w'
-same_step props T U w v words others f g after now drawn e told logged w' t p q r step =
-    let words_path : words ≡ others = λ i k. q k i in
-    subst (λ (X : Type 0). LinkedStep props v others now e (Rose g after) X told drawn logged w') t
-    (subst (λ (x : ℕ). LinkedStep props v others now e (Rose x after) T told drawn logged w') r
-    (subst (λ (x : ℕ → ℕ). LinkedStep props v x now e (Rose f after) T told drawn logged w') words_path
-    (subst (λ (x : WorldState). LinkedStep props x words now e (Rose f after) T told drawn logged w') p step)))
+-- the calls so far, under properties of these lines, and where they have led
+abbrev Talked : List PropLine → Opened → DiskState → RunningWorld → (ℕ → ℕ) → History → Type 0
+Talked props o now r words history = Lived props o.disk now o.services o.words r words history
 
 -- one call more: what it adds to the history
 pub record CallMore (props : List PropLine) (o : Opened) (new : DiskState) (r : RunningWorld) (words : ℕ → ℕ) (earlier : History) (user : List ℕ) (asked : KmsCall) (reply : KmsReply) : Type 0 where
   pub later : History
-  pub asks : Asks props (Tells o.disk) (world_of o.services) o.words o.disk.faults earlier user asked reply later
-  pub talked : Talked o new r words later
+  pub asks : Asks earlier user asked reply later
+  pub talked : Talked props o new r words later
 
 call_more : (props : List PropLine) (o : Opened) (mid new : DiskState) (r s : RunningWorld) (words words' : ℕ → ℕ) (earlier : History) (now : ℕ) (user : List ℕ) (asked : KmsCall) (reply : KmsReply)
-    → Talked o mid r words earlier → Steps props mid new r words now (event.Kms user asked) (line.Kms reply) s words' → CallMore props o new s words' earlier user asked reply
+    → Talked props o mid r words earlier → Steps props mid new r words now (event.Kms user asked) (line.Kms reply) s words' → CallMore props o new s words' earlier user asked reply
 call_more props o mid new r s words words' earlier now user asked reply so steps = record {
-  later = record { line = []; event = Some h } ∷ earlier;
-  asks = record {
-    happened = h;
-    grows = refl;
-    runs = record {
-      event_is = refl;
-      reply_is = refl;
-      later = subst (λ (n : ℕ). n ≤ new.faults) so.faults_are steps.run.faults;
-      step = same_step props (Tells mid) (Tells o.disk) (world_of r) (world_after (world_of o.services) earlier) words (behind (drawn_in earlier) o.words) mid.faults (faults_after o.disk.faults earlier) new.faults now steps.drawn
-          (event.Kms user asked) (line.Kms reply) steps.logged (world_of s) (ap (λ (t : Bool). IsTrue t) so.run.tells) so.world_is so.rest so.faults_are steps.step;
-    };
-  };
-  talked = lived_more o.disk mid new o.services r s o.words words words' earlier [] (Some h) so adds;
+  later = happened_in steps ∷ earlier;
+  asks = record { happened = happened_in steps; event_is = refl; reply_is = refl; grows = refl };
+  talked = lived_more props o.disk mid new o.services r s o.words words words' earlier now (event.Kms user asked) (line.Kms reply) so steps;
 }
-  where
-    h : Happened
-    h = record { event = event.Kms user asked; now = now; reply = line.Kms reply; drawn = steps.drawn; logged = steps.logged; world = world_of s; faults = new.faults }
-
-    adds : Adds mid new r words (Some h) s words'
-    adds = record {
-      linked = λ told hidden linked. steps.step.linked tt hidden linked;
-      files_open = λ told hidden is. steps.step.files_open tt hidden is.linked;
-      draws_apart = λ told hidden linked apart. steps.step.draws_apart tt hidden linked apart.words;
-      world_is = refl;
-      lists = steps.lists;
-      faults_are = refl;
-      rest = steps.rest;
-      goes_on = record { stands = steps.stands; survives = steps.survives; rests = λ now. steps.rests; run = steps.run };
-    }
 
 -- the services talk as their history says
-abbrev TalksAs : {D W : Type 0} → (D → DiskState) → (W → ℕ → ℕ) → Opened → WorldView D W → History → Type 0
-TalksAs state to_come o v history = Talked o (state v.disk) v.world (to_come v.words) history
+abbrev TalksAs : {D W : Type 0} → (D → DiskState) → (W → ℕ → ℕ) → List PropLine → Opened → WorldView D W → History → Type 0
+TalksAs state to_come props o v history = Talked props o (state v.disk) v.world (to_come v.words) history
 
 -- a connection was served, once both logs were opened
 pub converses : {D W : Type 0} (state : D → DiskState) (to_come : W → ℕ → ℕ) (props : List PropLine) (old : DiskState) (v v' : WorldView D W) (left left' written now : Option (List ℕ)) (unused : List ℕ) (how : Ended)
@@ -103,8 +68,9 @@ converses {D} {W} state to_come props old v v' left left' written now unused how
   before = mid.faults;
   history = h;
   unused = unused;
-  served = subst (λ (T : Type 0). Served (Asks props T (first_world b.table b.names) words mid.faults) begun ended_so how) (ap (λ (t : Bool). IsTrue t) run.tells)
-      (subst (λ (w : WorldState). Served (Asks props (Tells mid) w words mid.faults) begun ended_so how) b.first so.served);
+  served = so.served;
+  runs = subst (λ (T : Type 0). Runs props T (first_world b.table b.names) words mid.faults h) (ap (λ (t : Bool). IsTrue t) run.tells)
+      (subst (λ (w : WorldState). Runs props (Tells mid) w words mid.faults h) b.first talked.runs);
   rest = talked.rest;
   began = run.faults;
   ended = omega (arith, talked.faults_are);
@@ -119,12 +85,12 @@ converses {D} {W} state to_come props old v v' left left' written now unused how
         edits = log.edits;
         keys_room = log.keys_room;
         names_room = log.names_room;
-        moments = survives_kept old mid (state v'.disk) v.world b told words h replayed.Done (found told) (moments told) run (weaker (λ image left. inl left) (talked.survives tells (found told) log.holds));
-        last = λ image is. last_kept old mid (state v'.disk) v.world b told words h replayed.Done (found told) image
-            (inl (rests_after mid (state v'.disk) v.world v'.world words (to_come v'.words) h talked tells b.rests (found told) log.holds image is));
+        moments = survives_kept old mid (state v'.disk) v.world b told words h NoRestart (found told) (moments told) run (weaker (λ image left. inl left) (talked.survives tells (found told) log.holds));
+        last = λ image is. last_kept old mid (state v'.disk) v.world b told words h NoRestart (found told) image
+            (inl (rests_after props mid (state v'.disk) v.world v'.world words (to_come v'.words) h talked tells b.rests (found told) log.holds image is));
       };
-  promise = λ told. promise_kept old mid (state v'.disk) v.world b told words h replayed.Done (found told) (talked.files_open (tells_now old mid run told));
-  apart = λ told. apart_kept old mid (state v'.disk) v.world b told words h replayed.Done (found told) (talked.draws_apart (tells_now old mid run told));
+  promise = λ told. promise_kept old mid (state v'.disk) v.world b told words h NoRestart (found told) (talked.files_open (tells_now old mid run told));
+  apart = λ told. apart_kept old mid (state v'.disk) v.world b told words h NoRestart (found told) (talked.draws_apart (tells_now old mid run told));
   reads = λ told.
       let log = b.log told in (
         v'.world,
@@ -142,24 +108,18 @@ converses {D} {W} state to_come props old v v' left left' written now unused how
     o : Opened
     o = record { disk = mid; services = v.world; words = words }
 
-    so : ServedSo (Asks props (Tells mid) (world_of v.world) words mid.faults) (TalksAs state to_come o) (record { ahead = left; desk = v; written = written }) (record { ahead = ahead unused left'; desk = v'; written = now }) how []
-    so = served_so (Happens state to_come) (Asks props (Tells mid) (world_of v.world) words mid.faults) (TalksAs state to_come o)
+    so : ServedSo Asks (TalksAs state to_come props o) (record { ahead = left; desk = v; written = written }) (record { ahead = ahead unused left'; desk = v'; written = now }) how []
+    so = served_so (Happens state to_come) Asks (TalksAs state to_come props o)
         (λ d e user asked reply next r happens.
         let steps = happens.steps props (has_lists v.world d.world props r.lists has) in
         let more = call_more props o (state d.disk) (state next.disk) d.world next.world (to_come d.words) (to_come next.words) e happens.now user asked reply r steps in
         (more.later, (more.asks, more.talked)))
-        (record { ahead = left; desk = v; written = written }) (record { ahead = ahead unused left'; desk = v'; written = now }) how [] (lived_nothing mid v.world words words (λ k. refl)) served
+        (record { ahead = left; desk = v; written = written }) (record { ahead = ahead unused left'; desk = v'; written = now }) how [] (lived_nothing props mid v.world words words (λ k. refl)) served
 
     h : History
     h = so.then
 
-    begun : Stand History
-    begun = record { ahead = left; desk = []; written = written }
-
-    ended_so : Stand History
-    ended_so = record { ahead = ahead unused left'; desk = h; written = now }
-
-    talked : Talked o (state v'.disk) v'.world (to_come v'.words) h
+    talked : Talked props o (state v'.disk) v'.world (to_come v'.words) h
     talked = so.follows
 
     found : Tells old → Acknowledged

@@ -8,42 +8,30 @@ use Rattle.prop_text.specs.declared.lines.PropLine.{PropLine}
 use Rattle.replay_text.specs.Events.{Spells}
 use Rattle.hk_events.specs.declared.event.Event.{Event}
 use Rattle.hk_events.specs.declared.event.Line.{Line}
-use Rattle.world_run.specs.Acknowledged.{Acknowledged, HoldsLogs}
-use Rattle.world_run.specs.World.{RunningWorld, world_of}
-use Rattle.world_run.specs.Keeps.{SoundFrom, Steps}
-use Rattle.world_run.specs.Linked.{LinkedWorld}
-use Rattle.world_run.specs.Own.{SurvivesAtRest}
+use Rattle.world_run.specs.World.{RunningWorld}
+use Rattle.world_run.specs.Keeps.{Steps}
 use Rattle.hkms_commands.specs.declared.replay.ReplayEnd.{ReplayEnd}
 use Rattle.hkms_commands.specs.declared.replay.ReplayEnd.TheVariants as ended
 use Rattle.hkms_commands.specs.declared.stage.LineOutcome.{LineOutcome}
 use Rattle.hkms_commands.specs.declared.stage.LineOutcome.TheVariants.{Played, BadLine, Unread, Untold, Unwritten, Unopened}
 use Rattle.hkms_commands.specs.Replay.{last_line}
-use Rattle.hkms_commands.specs.Steps.{Closes, PlaysLine, PlaysSo, TellsSo, Untouched, View, WritesLast}
-use Rattle.hkms_commands.proofs.LivedLemmas.{also_nothing, no_run, nothing_left}
+use Rattle.hkms_commands.specs.Steps.{Closes, PlaysEvent, PlaysSo, TellsSo, Untouched, View, WritesLast}
+use Rattle.hkms_commands.proofs.LivedLemmas.{no_run, nothing_left}
 
 event_played : (props : List PropLine) (old new : DiskState) (r r' : RunningWorld) (words words' : ℕ → ℕ) (events : ℕ) (written now : Option (List ℕ)) (event : Event) (told : Line) (line : List ℕ)
-    → (s : Steps props old new r words (events + 1) event told r' words') → Spells line event
-    → PlaysLine props old new (record { world = r; words = words; events = events; written = written }) line
-    (Some (record { event = event; now = events + 1; reply = told; drawn = s.drawn; logged = s.logged; world = world_of r'; faults = new.faults }))
-    (record { world = r'; words = words'; events = events + 1; written = now })
-event_played props old new r r' words words' events written now event told line s spells = record {
-  runs = record { spells = spells; moment = refl; later = s.run.faults; step = s.step };
-  world_is = refl;
-  lists = s.lists;
-  faults_are = refl;
-  rest = s.rest;
-  counted = refl;
-  goes_on = record { stands = s.stands; survives = s.survives; rests = λ now. s.rests; run = s.run };
-}
+    → Steps props old new r words (events + 1) event told r' words' → Spells line event
+    → PlaysEvent props old new (record { world = r; words = words; events = events; written = written }) line (record { world = r'; words = words'; events = events + 1; written = now })
+event_played props old new r r' words words' events written now event told line s spells = record { event = event; reply = told; spells = spells; steps = s; counted = refl }
 
 told_so : (props : List PropLine) (old new : DiskState) (r r' : RunningWorld) (words words' : ℕ → ℕ) (events : ℕ) (written now : Option (List ℕ)) (event : Event) (told : Line) (play : LineOutcome)
     → Steps props old new r words (events + 1) event told r' words' → TellsSo (events + 1) told written now play → (line : List ℕ) → Spells line event
     → PlaysSo props old new (record { world = r; words = words; events = events; written = written }) line play (record { world = r'; words = words'; events = events + 1; written = now })
-told_so props old new r r' words words' events written now event told Played s wrote line spells = (_, event_played props old new r r' words words' events written now event told line s spells, wrote)
+unfolding event_played
+told_so props old new r r' words words' events written now event told Played s wrote line spells = inr (event_played props old new r r' words words' events written now event told line s spells, wrote)
 told_so props old new r r' words words' events written now event told BadLine s wrote line spells = absurd wrote
 told_so props old new r r' words words' events written now event told Unread s wrote line spells = absurd wrote
-told_so props old new r r' words words' events written now event told Untold s wrote line spells = (_, event_played props old new r r' words words' events written now event told line s spells, wrote)
-told_so props old new r r' words words' events written now event told Unwritten s wrote line spells = (_, event_played props old new r r' words words' events written now event told line s spells, wrote)
+told_so props old new r r' words words' events written now event told Untold s wrote line spells = (event_played props old new r r' words words' events written now event told line s spells, wrote)
+told_so props old new r r' words words' events written now event told Unwritten s wrote line spells = (event_played props old new r r' words words' events written now event told line s spells, wrote)
 told_so props old new r r' words words' events written now event told (Unopened fault) s wrote line spells = absurd wrote
 
 pub event_plays : (props : List PropLine) (old new : DiskState) (r r' r'' : RunningWorld) (words words' : ℕ → ℕ) (events count : ℕ) (written now : Option (List ℕ)) (event : Event) (told : Line) (play : LineOutcome)
@@ -57,15 +45,11 @@ event_plays props old new r r' r'' words words' events count written now event t
 -- nothing was done
 pub untouched : (d : DiskState) (v : View) → Untouched d d v v
 untouched d v = record {
-  wrote = Appends-nil v.written;
-  world_is = refl;
-  same_words = refl;
-  goes_on = record {
-    stands = λ told done holds. subst (λ (a : Acknowledged). HoldsLogs d v.world a) (sym (also_nothing done)) holds;
-    survives = λ told done holds. nothing_left d (λ image. SurvivesAtRest (world_of v.world) done image × SoundFrom (LinkedWorld (world_of v.world)) (λ h. h) image);
-    rests = λ now. now;
-    run = no_run d;
-  };
+  same = refl;
+  stands = λ done holds. holds;
+  survives = nothing_left d (λ image. ⊥);
+  rests = λ now. now;
+  run = no_run d;
   faults_are = refl;
 }
 

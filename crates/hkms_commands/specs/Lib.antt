@@ -1,6 +1,8 @@
 pub mod Lines
 pub mod Properties
 pub mod Run
+pub mod Logs
+pub mod PlayedLines
 pub mod Replay
 pub mod Steps
 pub mod Pipe

@@ -1,7 +1,6 @@
 -- A connection to the key management service.
 use Rattle.std.specs.Prelude.{◌≡◌, ◌⊎◌, ◌≤◌, ℕ, List, [], ◌∷◌, Option, Some}
 use Rattle.hk_base.specs.Disk.{DiskState, Tells}
-use Rattle.hk_base.specs.Faults.{Rose}
 use Rattle.frame_log.specs.declared.fault.StartFault.{StartFault}
 use Rattle.kms_calls.specs.declared.calls.KmsCall.{KmsCall}
 use Rattle.kms_calls.specs.declared.calls.KmsReply.{KmsReply}
@@ -10,9 +9,8 @@ use Rattle.name_store.specs.Table.{NameTable}
 use Rattle.prop_text.specs.declared.lines.PropLine.{PropLine}
 use Rattle.hk_events.specs.declared.event.Event.TheVariants as event
 use Rattle.hk_events.specs.declared.event.Line.TheVariants as line
-use Rattle.world_run.specs.World.{WorldState, first_world}
+use Rattle.world_run.specs.World.{first_world}
 use Rattle.world_run.specs.Acknowledged.{also}
-use Rattle.world_run.specs.Keeps.{LinkedStep}
 use Rattle.world_run.specs.Ledger.{Hidden}
 use Rattle.world_run.specs.Linked.{WordsApart}
 use Rattle.http_wire.specs.Reading.{ahead}
@@ -20,42 +18,35 @@ use Rattle.hk_base.specs.declared.ended.Ended.{Ended}
 use Rattle.hk_base.specs.declared.ended.Ended.TheVariants.{End, Closed, TooLong, Wire, ReadFault, WriteFault, NoMemory}
 use Rattle.hk_serve.specs.Served.{Served}
 use Rattle.hkms_commands.specs.declared.props.PropsFault.{PropsFault}
-use Rattle.hkms_commands.specs.declared.replay.ReplayEnd.TheVariants.{Done}
 use Rattle.hkms_commands.specs.Properties.{HasPropsFault, ReadsProperties}
-use Rattle.hkms_commands.specs.Replay.{HiddenBefore, NotOpened, OnDisk, ReadsAs, ended_by, ended_by_props, opened_logs, status_of}
-use Rattle.hkms_commands.specs.Run.{FilesOpen, Happened, History, StayApart, behind, drawn_in, faults_after, logged_in, world_after}
+use Rattle.hkms_commands.specs.Logs.{HiddenBefore, NoRestart, OnDisk, ReadsAs, opened_logs}
+use Rattle.hkms_commands.specs.Replay.{NotOpened, ended_by, ended_by_props, status_of}
+use Rattle.hkms_commands.specs.Run.{FilesOpen, Happened, History, Runs, StayApart, behind, drawn_in, faults_after, logged_in, world_after}
 
--- Under properties of these lines, a call of a user happens in this world as an event, at some moment, with these words to come.
--- A store fault comes only where the disk's count of faults rose in the event.
-pub record CallRuns (lines : List PropLine) (tells : Type 0) (w : WorldState) (words : ℕ → ℕ) (faults : ℕ) (user : List ℕ) (asked : KmsCall) (reply : KmsReply) (h : Happened) : Type 0 where
-  pub event_is : h.event ≡ event.Kms user asked
-  pub reply_is : h.reply ≡ line.Kms reply
-  pub later : faults ≤ h.faults
-  pub step : LinkedStep lines w words h.now h.event (Rose faults h.faults) tells h.reply h.drawn h.logged h.world
-
--- Under properties of these lines, a call of a user happens behind those of a history, which run from this world on, with these words
--- to come and this count of faults: then the history has one event more, which no line names.
-pub record Asks (lines : List PropLine) (tells : Type 0) (first : WorldState) (words : ℕ → ℕ) (before : ℕ) (earlier : History) (user : List ℕ) (asked : KmsCall) (reply : KmsReply) (later : History) : Type 0 where
+-- a call of a user is the next event of a history, with this reply
+pub record Asks (earlier : History) (user : List ℕ) (asked : KmsCall) (reply : KmsReply) (later : History) : Type 0 where
   pub happened : Happened
-  pub grows : later ≡ record { line = []; event = Some happened } ∷ earlier
-  pub runs : CallRuns lines tells (world_after first earlier) (behind (drawn_in earlier) words) (faults_after before earlier) user asked reply happened
+  pub event_is : happened.event ≡ event.Kms user asked
+  pub reply_is : happened.reply ≡ line.Kms reply
+  pub grows : later ≡ happened ∷ earlier
 
 -- Under properties of these lines, a connection was served from the world on that the two logs were found to stand for: its requests are
--- those of the bytes that were left of the input, each call happens behind those before it, and the responses were written behind
--- the old output. Bytes that were read behind the last request are unused. `words'` are to come now.
+-- those of the bytes that were left of the input, each call happens after those before it, and the responses were written after
+-- the old output. Bytes that were read after the last request are unused. `words'` are to come now.
 pub record Converses (lines : List PropLine) (old new : DiskState) (words words' : ℕ → ℕ) (left left' written now : Option (List ℕ)) (how : Ended) : Type 0 where
   pub table : Table
   pub names : NameTable
   pub before : ℕ
   pub history : History
   pub unused : List ℕ
-  pub served : Served (Asks lines (Tells old) (first_world table names) words before) (record { ahead = left; desk = []; written = written }) (record { ahead = ahead unused left'; desk = history; written = now }) how
+  pub served : Served Asks (record { ahead = left; desk = []; written = written }) (record { ahead = ahead unused left'; desk = history; written = now }) how
+  pub runs : Runs lines (Tells old) (first_world table names) words before history
   -- the words to come are those after the words that its calls drew
   pub rest : (k : ℕ) → words' k ≡ behind (drawn_in history) words k
   -- the count of faults in the calls is the disk's: it begins at no fewer than the disk had, and ends at no more than it has
   pub began : old.faults ≤ before
   pub ended : faults_after before history ≤ new.faults
-  pub on_disk : Tells old → OnDisk old new words table names history Done
+  pub on_disk : Tells old → OnDisk old new words table names history NoRestart
   pub promise : Tells old → (h : Hidden) → HiddenBefore old h → FilesOpen h (first_world table names) words history
   pub apart : Tells old → (h : Hidden) → HiddenBefore old h → WordsApart h → StayApart h (first_world table names) words history
   pub reads : (told : Tells old) → let found = on_disk told in ReadsAs new (also (opened_logs found.commands table found.ops names) (logged_in history)) (world_after (first_world table names) history)

@@ -33,7 +33,9 @@ use Rattle.hkms_commands.specs.declared.props.PropsFault.{PropsFault}
 use Rattle.hkms_commands.specs.declared.props.PropsFault.TheVariants as props_fault
 use Rattle.hkms_commands.specs.Lines.{lines_of, is_lf}
 use Rattle.hkms_commands.specs.Properties.{HasPropsFault, ReadsProperties}
-use Rattle.hkms_commands.specs.Run.{FilesOpen, History, RestsAfter, Runs, SoundAfter, StayApart, SurvivesIn, behind, drawn_in, faults_after, lines_in, logged_in, transcript, world_after}
+use Rattle.hkms_commands.specs.Logs.{HiddenBefore, OnDisk, ReadsAs, opened_logs}
+use Rattle.hkms_commands.specs.PlayedLines.{AreSpelled, PlayedLine, events_of_lines, lines_in, transcript}
+use Rattle.hkms_commands.specs.Run.{FilesOpen, Runs, StayApart, behind, drawn_in, faults_after, logged_in, world_after}
 
 -- an input has at most 2^40 bytes
 abbrev pub longest_input : ℕ
@@ -190,55 +192,6 @@ pub record Unopened (same : Type 0) (old new : DiskState) (written now : Option 
   pub wrote : Appends written now text
   pub says : Says (ended_by file fault) how 0 [] text
 
--- what both logs hold once they are opened: what was found, and the next openings
-abbrev pub opened_logs : List KeyCommand → Table → List EditOp → NameTable → Acknowledged
-opened_logs commands table ops names = record { keys = commands ++ next_opening table ∷ []; names = ops ++ next_opening_of_names names ∷ [] }
-
--- what a crash may leave during the restart of either service in this world, where that ended the replay
-abbrev pub SurvivesStop : ReplayEnd → WorldState → Acknowledged → Image → Type 0
-SurvivesStop StoreFault w done image = SurvivesRestart w RestartKms done image ⊎ SurvivesRestart w RestartName done image
-SurvivesStop NoMemory w done image = SurvivesRestart w RestartKms done image ⊎ SurvivesRestart w RestartName done image
-SurvivesStop Spent w done image = SurvivesRestart w RestartKms done image ⊎ SurvivesRestart w RestartName done image
-SurvivesStop _ w done image = ⊥
-
--- and files that the next run may start from, with what is hidden behind the history
-abbrev pub LeftByStop : ReplayEnd → Acknowledged → (Hidden → Type 0) → WorldState → (ℕ → ℕ) → History → Image → Type 0
-LeftByStop stop before Before first words history image =
-    SurvivesStop stop (world_after first history) (also before (logged_in history)) image × SoundAfter Before first words history image
-
--- the two files are what a crash may leave on the way, or in the end
-abbrev pub SurvivesUntil : ReplayEnd → Acknowledged → (Hidden → Type 0) → WorldState → (ℕ → ℕ) → History → Image → Type 0
-SurvivesUntil stop before Before first words history image = SurvivesIn before Before first words history image ⊎ LeftByStop stop before Before first words history image
-
--- the two files are what a crash may leave in the end: nothing of what was acknowledged is missing
-abbrev pub SurvivesLast : ReplayEnd → Acknowledged → (Hidden → Type 0) → WorldState → (ℕ → ℕ) → History → Image → Type 0
-SurvivesLast stop before Before first words history image = RestsAfter before Before first words history image ⊎ LeftByStop stop before Before first words history image
-
--- what is hidden before a run: draws of the runs before, with which it may start from every image of the files
-pub record HiddenBefore (old : DiskState) (h : Hidden) : Type 0 where
-  pub past : Past
-  pub sound : StartsSound old past
-  pub is : h ≡ drawn_before past
-
--- Both files were found to be logs, of these commands and operations. A crash at any moment since left what it may have left before,
--- or files on the way of the openings; or both logs, with the records acknowledged in a world on the way. A crash in the end leaves
--- all that was acknowledged.
-pub record OnDisk (old new : DiskState) (words : ℕ → ℕ) (table : Table) (names : NameTable) (history : History) (stop : ReplayEnd) : Type 0 where
-  pub commands : List KeyCommand
-  pub ops : List EditOp
-  pub used : List ℕ
-  pub keys : IsKeyLog (old.reads 0) commands table
-  pub edits : IsNameLog (old.reads 1) ops (record { table = names; used = used })
-  -- neither of the openings found was the last one
-  pub keys_room : table.opening < 4294967295
-  pub names_room : names.opening < 4294967295
-  pub moments : LeavesBoth old new (λ image. LeftByStarts old image ⊎ SurvivesUntil stop (opened_logs commands table ops names) (HiddenBefore old) (first_world table names) words history image)
-  pub last : (image : Image) → IsImage new image → SurvivesLast stop (opened_logs commands table ops names) (HiddenBefore old) (first_world table names) words history image
-
--- the disk holds both logs of the records acknowledged by now, beside those that are pending in this world
-abbrev pub ReadsAs : DiskState → Acknowledged → WorldState → Type 0
-ReadsAs new done w = (r : RunningWorld) × (world_of r ≡ w) × HoldsLogs new r done
-
 -- after these lines of the input, where it is told, comes one that spells this event
 abbrev pub ComesNext : Option (List ℕ) → List (List ℕ) → Event → Type 0
 ComesNext left lines e = (all : List ℕ) → left ≡ Some all → NextSpells all lines e
@@ -247,8 +200,8 @@ ComesNext left lines e = (all : List ℕ) → left ≡ Some all → NextSpells a
 abbrev pub IsCut : Option (List ℕ) → List (List ℕ) → Type 0
 IsCut left lines = ComesNext left lines RestartKms ⊎ ComesNext left lines RestartName
 
--- The same at an end behind these lines of the input, but where a restart may have been cut short. Want of memory leaves the logs too,
--- unless a restart comes next.
+-- At an end after these lines of the input the disk holds both logs, unless a restart may have been cut short. Want of memory leaves
+-- the logs too, unless a restart comes next.
 abbrev pub ReadsAt : ReplayEnd → Option (List ℕ) → List (List ℕ) → DiskState → Acknowledged → WorldState → Type 0
 ReadsAt (DamagedKeys at) left lines new done w = Unit {0}
 ReadsAt (DamagedNames at) left lines new done w = Unit {0}
@@ -256,6 +209,13 @@ ReadsAt StoreFault left lines new done w = Unit {0}
 ReadsAt NoMemory left lines new done w = ReadsAs new done w ⊎ IsCut left lines
 ReadsAt Spent left lines new done w = Unit {0}
 ReadsAt _ left lines new done w = ReadsAs new done w
+
+-- which restart may have been cut short at an end after these lines of the input: the one that comes next
+abbrev pub CutAt : ReplayEnd → Option (List ℕ) → List (List ℕ) → Event → Type 0
+CutAt StoreFault left lines e = ComesNext left lines e
+CutAt NoMemory left lines e = ComesNext left lines e
+CutAt Spent left lines e = ComesNext left lines e
+CutAt _ left lines e = ⊥
 
 -- the last opening of the key log is used, the record that was pending kept or not
 abbrev pub KeysSpent : WorldState → Type 0
@@ -277,35 +237,39 @@ RestartStops (DamagedNames at) left lines w = ⊥
 RestartStops Spent left lines w = IsSpent left lines w
 RestartStops _ left lines w = Unit {0}
 
--- Under properties of these lines, lines of the input were played from the world on that the two logs were found to stand for.
-pub record Played (lines : List PropLine) (old new : DiskState) (words : ℕ → ℕ) (left : Option (List ℕ)) (stop : ReplayEnd) (history : History) : Type 0 where
+-- Under properties of these lines, lines of the input were played from the world on that the two logs were found to stand for: their
+-- events happened one after another.
+pub record Played (lines : List PropLine) (old new : DiskState) (words : ℕ → ℕ) (left : Option (List ℕ)) (stop : ReplayEnd) (played : List PlayedLine) : Type 0 where
   pub table : Table
   pub names : NameTable
   pub before : ℕ
-  pub runs : Runs lines (Tells old) (first_world table names) words before history
+  pub spelled : AreSpelled played
+  pub runs : Runs lines (Tells old) (first_world table names) words before (events_of_lines played)
   -- the count of faults in the run is the disk's: it begins at no fewer than the disk had, and ends at no more than it has
   pub began : old.faults ≤ before
-  pub ended : faults_after before history ≤ new.faults
-  pub on_disk : Tells old → OnDisk old new words table names history stop
+  pub ended : faults_after before (events_of_lines played) ≤ new.faults
+  pub on_disk : Tells old → OnDisk old new words table names (events_of_lines played) (CutAt stop left (lines_in played))
   -- with a ledger of draws that the files at the start allow, each world on the way is linked, and its zone files open
-  pub promise : Tells old → (h : Hidden) → HiddenBefore old h → FilesOpen h (first_world table names) words history
-  -- and where its draws are apart, they stay so
-  pub apart : Tells old → (h : Hidden) → HiddenBefore old h → WordsApart h → StayApart h (first_world table names) words history
-  pub reads : (told : Tells old) → let found = on_disk told in ReadsAt stop left (lines_in history) new (also (opened_logs found.commands table found.ops names) (logged_in history)) (world_after (first_world table names) history)
-  pub restart : Tells old → RestartStops stop left (lines_in history) (world_after (first_world table names) history)
-  pub stops : (all : List ℕ) → left ≡ Some all → Stops stop all (lines_in history)
+  pub promise : Tells old → (h : Hidden) → HiddenBefore old h → FilesOpen h (first_world table names) words (events_of_lines played)
+  -- and if the draws before are apart, they stay so
+  pub apart : Tells old → (h : Hidden) → HiddenBefore old h → WordsApart h → StayApart h (first_world table names) words (events_of_lines played)
+  pub reads : (told : Tells old) → let found = on_disk told in
+      let history = events_of_lines played in
+      ReadsAt stop left (lines_in played) new (also (opened_logs found.commands table found.ops names) (logged_in history)) (world_after (first_world table names) history)
+  pub restart : Tells old → RestartStops stop left (lines_in played) (world_after (first_world table names) (events_of_lines played))
+  pub stops : (all : List ℕ) → left ≡ Some all → Stops stop all (lines_in played)
   pub has_properties : HasProperties stop
 
 -- Lines were played: `words` were to come before, and `words'` are to come now.
 pub record PlaysOn (lines : List PropLine) (old new : DiskState) (words words' : ℕ → ℕ) (left written now : Option (List ℕ)) (how : ReplayEnd) : Type 0 where
-  pub history : History
+  pub played_lines : List PlayedLine
   pub stop : ReplayEnd
-  pub played : Played lines old new words left stop history
+  pub played : Played lines old new words left stop played_lines
   -- the words to come are those after the words that its events drew
-  pub rest : (k : ℕ) → words' k ≡ behind (drawn_in history) words k
+  pub rest : (k : ℕ) → words' k ≡ behind (drawn_in (events_of_lines played_lines)) words k
   pub text : List ℕ
   pub wrote : Appends written now text
-  pub says : Says stop how (length (lines_in history)) (transcript history) text
+  pub says : Says stop how (length (lines_in played_lines)) (transcript (events_of_lines played_lines)) text
 
 -- Under properties of these lines, a replay of what was left of an input, with these words to come, wrote behind the old output
 -- and ended so; `words'` are to come now. `same` says that input and random source are as they were.

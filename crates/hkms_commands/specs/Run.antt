@@ -1,10 +1,8 @@
--- A run of lines: what their events did, and what holds in each world on the way.
-use Rattle.std.specs.Prelude.{◌≡◌, ◌⊎◌, ◌≤◌, ℕ, ◌+◌, List, [], ◌∷◌, ◌++◌, Option, None, Some}
+-- A run of events: what they did, and what holds in each world on the way.
+use Rattle.std.specs.Prelude.{◌≡◌, ◌⊎◌, ◌≤◌, ℕ, ◌+◌, List, [], ◌∷◌, ◌++◌}
 use Rattle.hk_base.specs.Disk.{Image}
 use Rattle.hk_base.specs.Faults.{Rose}
 use Rattle.prop_text.specs.declared.lines.PropLine.{PropLine}
-use Rattle.replay_text.specs.Events.{IsQuiet, Spells}
-use Rattle.replay_text.specs.Transcript.{line_text}
 use Rattle.hk_events.specs.declared.event.Event.{Event}
 use Rattle.hk_events.specs.declared.event.Line.{Line}
 use Rattle.world_run.specs.World.{WorldState}
@@ -30,105 +28,48 @@ pub record Happened : Type 0 where
   pub world : WorldState
   pub faults : ℕ
 
--- a line that was played, with its event; a quiet line has none
-pub record PlayedLine : Type 0 where
-  pub line : List ℕ
-  pub event : Option Happened
-
--- lines that were played, the newest one first
+-- events that happened one after another, the newest one first
 abbrev pub History : Type 0
-History = List PlayedLine
-
--- what a line adds
-
-abbrev pub events_of : Option Happened → ℕ
-events_of None = 0
-events_of (Some h) = 1
-
-abbrev pub drawn_of : Option Happened → ℕ
-drawn_of None = 0
-drawn_of (Some h) = h.drawn
-
-abbrev pub logged_of : Option Happened → Acknowledged
-logged_of None = nothing_acknowledged
-logged_of (Some h) = h.logged
-
-abbrev pub world_of_line : WorldState → Option Happened → WorldState
-world_of_line w None = w
-world_of_line w (Some h) = h.world
-
-abbrev pub faults_of : ℕ → Option Happened → ℕ
-faults_of before None = before
-faults_of before (Some h) = h.faults
-
--- the answer behind so many events
-abbrev pub told_of : ℕ → Option Happened → List ℕ
-told_of events None = []
-told_of events (Some h) = line_text (events + 1) h.reply
-
-abbrev pub hidden_of : WorldState → (ℕ → ℕ) → Option Happened → Hidden → Hidden
-hidden_of w words None hidden = hidden
-hidden_of w words (Some h) hidden = hidden_after w words h.event h.reply h.drawn h.world hidden
+History = List Happened
 
 -- what a history comes to
 
--- its lines, in the order in which they were played
-abbrev pub lines_in : History → List (List ℕ)
-lines_in [] = []
-lines_in (x ∷ earlier) = lines_in earlier ++ x.line ∷ []
-
-abbrev pub events_in : History → ℕ
-events_in [] = 0
-events_in (x ∷ earlier) = events_in earlier + events_of x.event
-
 abbrev pub drawn_in : History → ℕ
 drawn_in [] = 0
-drawn_in (x ∷ earlier) = drawn_in earlier + drawn_of x.event
+drawn_in (h ∷ earlier) = drawn_in earlier + h.drawn
 
 -- the records acknowledged in it
 abbrev pub logged_in : History → Acknowledged
 logged_in [] = nothing_acknowledged
-logged_in (x ∷ earlier) = also (logged_in earlier) (logged_of x.event)
+logged_in (h ∷ earlier) = also (logged_in earlier) h.logged
 
--- the world behind it, from this one on
+-- the world after it, from this one on
 abbrev pub world_after : WorldState → History → WorldState
 world_after first [] = first
-world_after first (x ∷ earlier) = world_of_line (world_after first earlier) x.event
+world_after first (h ∷ earlier) = h.world
 
 abbrev pub faults_after : ℕ → History → ℕ
 faults_after before [] = before
-faults_after before (x ∷ earlier) = faults_of (faults_after before earlier) x.event
+faults_after before (h ∷ earlier) = h.faults
 
--- the transcript: the answers, each with the number of its event
-abbrev pub transcript : History → List ℕ
-transcript [] = []
-transcript (x ∷ earlier) = transcript earlier ++ told_of (events_in earlier) x.event
-
--- what is hidden behind it, with this before it
+-- what is hidden after it, with this before it
 abbrev pub hidden_in : Hidden → WorldState → (ℕ → ℕ) → History → Hidden
 hidden_in before first words [] = before
-hidden_in before first words (x ∷ earlier) = hidden_of (world_after first earlier) (behind (drawn_in earlier) words) x.event (hidden_in before first words earlier)
+hidden_in before first words (h ∷ earlier) =
+    hidden_after (world_after first earlier) (behind (drawn_in earlier) words) h.event h.reply h.drawn h.world (hidden_in before first words earlier)
 
--- Under properties of these lines, the event of a line happens in this world, after so many events, with these words to come: the
--- moment of an event is its number. A store fault comes only where the disk's count of faults rose in the event.
-pub record EventRuns (lines : List PropLine) (tells : Type 0) (w : WorldState) (words : ℕ → ℕ) (events faults : ℕ) (line : List ℕ) (h : Happened) : Type 0 where
-  pub spells : Spells line h.event
-  pub moment : h.now ≡ events + 1
-  pub later : faults ≤ h.faults
-  pub step : LinkedStep lines w words (events + 1) h.event (Rose faults h.faults) tells h.reply h.drawn h.logged h.world
+-- Under properties of these lines, an event happens in this world, with these words to come and this count of faults. A store fault
+-- comes only where the disk's count of faults rose in the event.
+pub record EventRuns (lines : List PropLine) (tells : Type 0) (w : WorldState) (words : ℕ → ℕ) (before : ℕ) (h : Happened) : Type 0 where
+  pub later : before ≤ h.faults
+  pub step : LinkedStep lines w words h.now h.event (Rose before h.faults) tells h.reply h.drawn h.logged h.world
 
--- A line that is played has an event, or it is quiet.
-abbrev pub LineRuns : List PropLine → Type 0 → WorldState → (ℕ → ℕ) → ℕ → ℕ → List ℕ → Option Happened → Type 0
-LineRuns lines tells w words events faults line None = IsQuiet line
-LineRuns lines tells w words events faults line (Some h) = EventRuns lines tells w words events faults line h
-
--- Under properties of these lines, the lines of a history run one after another, from this world on, with these words to come and
+-- Under properties of these lines, the events of a history happen one after another, from this world on, with these words to come and
 -- this count of faults. `tells` is whether the disk tells what it holds.
 abbrev pub Runs : List PropLine → Type 0 → WorldState → (ℕ → ℕ) → ℕ → History → Type 0
 Runs lines tells first words before [] = Unit {0}
-Runs lines tells first words before (x ∷ earlier) =
-    LineRuns lines tells (world_after first earlier) (behind (drawn_in earlier) words) (events_in earlier) (faults_after before earlier) x.line x.event
-    × Runs lines tells first words before earlier
+Runs lines tells first words before (h ∷ earlier) =
+    EventRuns lines tells (world_after first earlier) (behind (drawn_in earlier) words) (faults_after before earlier) h × Runs lines tells first words before earlier
 
 -- what is hidden beside a world that is linked, and whose zone files open
 pub record IsHidden (w : WorldState) (h : Hidden) : Type 0 where
@@ -138,21 +79,14 @@ pub record IsHidden (w : WorldState) (h : Hidden) : Type 0 where
 -- Each world on the way is linked with what is hidden by then, and its zone files open.
 abbrev pub FilesOpen : Hidden → WorldState → (ℕ → ℕ) → History → Type 0
 FilesOpen before first words [] = IsHidden first before
-FilesOpen before first words (x ∷ earlier) =
-    IsHidden (world_after first (x ∷ earlier)) (hidden_in before first words (x ∷ earlier)) × FilesOpen before first words earlier
+FilesOpen before first words (h ∷ earlier) = IsHidden h.world (hidden_in before first words (h ∷ earlier)) × FilesOpen before first words earlier
 
 -- In each world on the way the draws by then are apart.
 abbrev pub StayApart : Hidden → WorldState → (ℕ → ℕ) → History → Type 0
 StayApart before first words [] = DrawsApart before
-StayApart before first words (x ∷ earlier) = DrawsApart (hidden_in before first words (x ∷ earlier)) × StayApart before first words earlier
+StayApart before first words (h ∷ earlier) = DrawsApart (hidden_in before first words (h ∷ earlier)) × StayApart before first words earlier
 
--- what a crash may leave while a line is played in this world, with these words to come, these records being acknowledged before it;
--- a quiet line writes nothing
-abbrev pub SurvivesLine : WorldState → (ℕ → ℕ) → Option Happened → Acknowledged → Image → Type 0
-SurvivesLine w words None done image = ⊥
-SurvivesLine w words (Some h) done image = SurvivesEvent w words h.now h.event h.reply h.world done image
-
--- files that the next run may start from, with what is hidden behind a history; `Before` says what may have been hidden before it
+-- files that the next run may start from, with what is hidden after a history; `Before` says what may have been hidden before it
 abbrev pub SoundAfter : (Hidden → Type 0) → WorldState → (ℕ → ℕ) → History → Image → Type 0
 SoundAfter Before first words history image = SoundFrom Before (λ h. hidden_in h first words history) image
 
@@ -162,13 +96,14 @@ abbrev pub RestsAfter : Acknowledged → (Hidden → Type 0) → WorldState → 
 RestsAfter before Before first words history image =
     SurvivesAtRest (world_after first history) (also before (logged_in history)) image × SoundAfter Before first words history image
 
--- the same during the event of the last line
-abbrev pub LeftByLine : Acknowledged → (Hidden → Type 0) → WorldState → (ℕ → ℕ) → PlayedLine → History → Image → Type 0
-LeftByLine before Before first words x earlier image =
-    SurvivesLine (world_after first earlier) (behind (drawn_in earlier) words) x.event (also before (logged_in earlier)) image × SoundAfter Before first words (x ∷ earlier) image
+-- the same during an event after this history: logs of what was acknowledged before it, and at most one record more
+abbrev pub LeftByEvent : Acknowledged → (Hidden → Type 0) → WorldState → (ℕ → ℕ) → Happened → History → Image → Type 0
+LeftByEvent before Before first words h earlier image =
+    SurvivesEvent (world_after first earlier) (behind (drawn_in earlier) words) h.now h.event h.reply h.world (also before (logged_in earlier)) image
+    × SoundAfter Before first words (h ∷ earlier) image
 
--- the same in some world on the way, at rest, or during the event of a line on the way
+-- the same in some world on the way, at rest, or during an event on the way
 abbrev pub SurvivesIn : Acknowledged → (Hidden → Type 0) → WorldState → (ℕ → ℕ) → History → Image → Type 0
 SurvivesIn before Before first words [] image = RestsAfter before Before first words [] image
-SurvivesIn before Before first words (x ∷ earlier) image =
-    RestsAfter before Before first words (x ∷ earlier) image ⊎ (LeftByLine before Before first words x earlier image ⊎ SurvivesIn before Before first words earlier image)
+SurvivesIn before Before first words (h ∷ earlier) image =
+    RestsAfter before Before first words (h ∷ earlier) image ⊎ (LeftByEvent before Before first words h earlier image ⊎ SurvivesIn before Before first words earlier image)

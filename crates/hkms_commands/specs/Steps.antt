@@ -7,17 +7,16 @@ use Rattle.hk_base.specs.Reading.{IsMore}
 use Rattle.hk_base.specs.Writing.{WroteFront}
 use Rattle.kms_acls.specs.StandsFor.{StandsFor as ListsFor}
 use Rattle.prop_text.specs.declared.lines.PropLine.{PropLine}
-use Rattle.replay_text.specs.Events.{IsBad, Spells}
+use Rattle.replay_text.specs.Events.{IsBad, IsQuiet, Spells}
 use Rattle.replay_text.specs.Transcript.{line_text}
 use Rattle.hk_events.specs.declared.event.Event.{Event}
 use Rattle.hk_events.specs.declared.event.Line.{Line}
 use Rattle.world_run.specs.declared.fault.WorldFault.{WorldFault}
-use Rattle.world_run.specs.Acknowledged.{Acknowledged, HoldsLogs, LeavesBoth, RunBoth, also, nothing_acknowledged}
+use Rattle.world_run.specs.Acknowledged.{Acknowledged, HoldsLogs, LeavesBoth, RunBoth, also}
 use Rattle.world_run.specs.World.{RunningWorld, WorldState, world_of}
-use Rattle.world_run.specs.Keeps.{Fails, RestsNow, SoundFrom, SurvivesThrough}
+use Rattle.world_run.specs.Keeps.{Fails, RestsNow, Steps}
 use Rattle.world_run.specs.Ledger.{Hidden}
 use Rattle.world_run.specs.Linked.{DrawsApart, LinkedWorld}
-use Rattle.world_run.specs.Own.{SurvivesAtRest}
 use Rattle.hkms_commands.specs.declared.lines.LineEnd.{LineEnd}
 use Rattle.hkms_commands.specs.declared.lines.LineEnd.TheVariants as line_end
 use Rattle.hkms_commands.specs.declared.replay.ReplayEnd.{ReplayEnd}
@@ -25,8 +24,10 @@ use Rattle.hkms_commands.specs.declared.replay.ReplayEnd.TheVariants as ended
 use Rattle.hkms_commands.specs.declared.stage.LineOutcome.{LineOutcome}
 use Rattle.hkms_commands.specs.declared.stage.LineOutcome.TheVariants.{Played, BadLine, Unread, Untold, Unwritten, Unopened}
 use Rattle.hkms_commands.specs.Lines.{is_line, line_used}
-use Rattle.hkms_commands.specs.Replay.{HasProperties, IsTold, ReadsAt, RestartStops, Stops, SurvivesLast, SurvivesUntil, ended_by, last_line}
-use Rattle.hkms_commands.specs.Run.{FilesOpen, Happened, History, IsHidden, LineRuns, Runs, StayApart, SurvivesLine, behind, drawn_in, drawn_of, events_of, faults_after, faults_of, hidden_of, lines_in, logged_in, logged_of, told_of, transcript, world_after, world_of_line}
+use Rattle.hkms_commands.specs.Logs.{SurvivesLast, SurvivesUntil}
+use Rattle.hkms_commands.specs.PlayedLines.{AreSpelled, PlayedLine, events_of_lines, lines_in, transcript}
+use Rattle.hkms_commands.specs.Replay.{CutAt, HasProperties, IsTold, ReadsAt, RestartStops, Stops, ended_by, last_line}
+use Rattle.hkms_commands.specs.Run.{FilesOpen, IsHidden, Runs, StayApart, behind, drawn_in, faults_after, logged_in, world_after}
 
 -- the access control lists of the world stand for these lines
 abbrev pub HasLists : RunningWorld → List PropLine → Type 0
@@ -43,23 +44,13 @@ pub record View : Type 0 where
   pub events : ℕ
   pub written : Option (List ℕ)
 
--- What the layer above needs of the logs: the records acknowledged are behind those before. A crash leaves what `left` says of the
--- records acknowledged before, and files that a run may start from, with what is hidden before made into what is hidden after.
-pub record GoesOn (old new : DiskState) (r r' : RunningWorld) (logged : Acknowledged) (after : Hidden → Hidden) (left : Acknowledged → Image → Type 0) : Type 0 where
-  pub stands : Tells old → (done : Acknowledged) → HoldsLogs old r done → HoldsLogs new r' (also done logged)
-  pub survives : SurvivesThrough old new r (λ done image. left done image × SoundFrom (LinkedWorld (world_of r)) after image)
-  pub rests : RestsNow old r → RestsNow new r'
-  pub run : RunBoth old new
-
--- under properties of these lines a line was played, with its event if it has one
-pub record PlaysLine (lines : List PropLine) (old new : DiskState) (v : View) (line : List ℕ) (event : Option Happened) (v' : View) : Type 0 where
-  pub runs : LineRuns lines (Tells old) (world_of v.world) v.words v.events old.faults line event
-  pub world_is : world_of v'.world ≡ world_of_line (world_of v.world) event
-  pub lists : SameLists v.world v'.world
-  pub faults_are : new.faults ≡ faults_of old.faults event
-  pub rest : (k : ℕ) → v'.words k ≡ v.words (drawn_of event + k)
-  pub counted : v'.events ≡ v.events + events_of event
-  pub goes_on : GoesOn old new v.world v'.world (logged_of event) (hidden_of (world_of v.world) v.words event) (SurvivesLine (world_of v.world) v.words event)
+-- under properties of these lines the event that a line spells happened, at the moment of its number, and was answered so
+pub record PlaysEvent (lines : List PropLine) (old new : DiskState) (v : View) (line : List ℕ) (v' : View) : Type 0 where
+  pub event : Event
+  pub reply : Line
+  pub spells : Spells line event
+  pub steps : Steps lines old new v.world v.words (v.events + 1) event reply v'.world v'.words
+  pub counted : v'.events ≡ v.events + 1
 
 -- a restart could not open its log
 pub record StopsAtRestart (old new : DiskState) (v : View) (line : List ℕ) (fault : WorldFault) (v' : View) : Type 0 where
@@ -69,19 +60,27 @@ pub record StopsAtRestart (old new : DiskState) (v : View) (line : List ℕ) (fa
 
 -- nothing was done
 pub record Untouched (old new : DiskState) (v v' : View) : Type 0 where
-  pub wrote : Appends v.written v'.written []
-  pub world_is : v'.world ≡ v.world
-  pub same_words : v'.words ≡ v.words
-  pub goes_on : GoesOn old new v.world v'.world nothing_acknowledged (λ h. h) (SurvivesAtRest (world_of v.world))
+  pub same : v' ≡ v
+  pub stands : (done : Acknowledged) → HoldsLogs old v.world done → HoldsLogs new v.world done
+  -- a crash leaves nothing that it might not have left before
+  pub survives : LeavesBoth old new (λ image. ⊥)
+  pub rests : RestsNow old v.world → RestsNow new v.world
+  pub run : RunBoth old new
   pub faults_are : new.faults ≡ old.faults
+
+-- a line that has no event
+pub record StaysQuiet (old new : DiskState) (v : View) (line : List ℕ) (v' : View) : Type 0 where
+  pub quiet : IsQuiet line
+  pub untouched : Untouched old new v v'
 
 -- how a line came out
 abbrev pub PlaysSo : List PropLine → DiskState → DiskState → View → List ℕ → LineOutcome → View → Type 0
-PlaysSo lines old new v line Played v' = (event : Option Happened) × PlaysLine lines old new v line event v' × Appends v.written v'.written (told_of v.events event)
+PlaysSo lines old new v line Played v' =
+    StaysQuiet old new v line v' ⊎ ((plays : PlaysEvent lines old new v line v') × Appends v.written v'.written (line_text (v.events + 1) plays.reply))
 PlaysSo lines old new v line BadLine v' = IsBad line × Untouched old new v v'
 PlaysSo lines old new v line Unread v' = Untouched old new v v'
-PlaysSo lines old new v line Untold v' = (event : Option Happened) × PlaysLine lines old new v line event v' × Appends v.written v'.written []
-PlaysSo lines old new v line Unwritten v' = (event : Option Happened) × PlaysLine lines old new v line event v' × WroteFront v.written v'.written (told_of v.events event)
+PlaysSo lines old new v line Untold v' = PlaysEvent lines old new v line v' × Appends v.written v'.written []
+PlaysSo lines old new v line Unwritten v' = (plays : PlaysEvent lines old new v line v') × WroteFront v.written v'.written (line_text (v.events + 1) plays.reply)
 PlaysSo lines old new v line (Unopened fault) v' = StopsAtRestart old new v line fault v' × Appends v.written v'.written []
 
 -- the end that goes with how a line came out, the last one or another
@@ -176,30 +175,31 @@ abbrev pub WritesLast : Option (List ℕ) → Option (List ℕ) → List ℕ →
 WritesLast written now last end how = ((how ≡ end) × Appends written now last) ⊎ ((how ≡ ended.WriteFault) × WroteFront written now last)
 
 -- what is known of the logs, which held these records before the lines of this input, once they were played
-pub record Kept (old new : DiskState) (first : WorldState) (words : ℕ → ℕ) (left : Option (List ℕ)) (history : History) (stop : ReplayEnd) (done : Acknowledged) : Type 0 where
-  pub moments : LeavesBoth old new (SurvivesUntil stop done (LinkedWorld first) first words history)
-  pub last : (image : Image) → IsImage new image → SurvivesLast stop done (LinkedWorld first) first words history image
-  pub reads : ReadsAt stop left (lines_in history) new (also done (logged_in history)) (world_after first history)
+pub record Kept (old new : DiskState) (first : WorldState) (words : ℕ → ℕ) (left : Option (List ℕ)) (played : List PlayedLine) (stop : ReplayEnd) (done : Acknowledged) : Type 0 where
+  pub moments : LeavesBoth old new (SurvivesUntil (CutAt stop left (lines_in played)) done (LinkedWorld first) first words (events_of_lines played))
+  pub last : (image : Image) → IsImage new image → SurvivesLast (CutAt stop left (lines_in played)) done (LinkedWorld first) first words (events_of_lines played) image
+  pub reads : ReadsAt stop left (lines_in played) new (also done (logged_in (events_of_lines played))) (world_after first (events_of_lines played))
 
 -- Lines were played, until one of them ended the replay; nothing was written of a last line yet.
 pub record Ran (lines : List PropLine) (old new : DiskState) (r : RunningWorld) (words words' : ℕ → ℕ) (left written now : Option (List ℕ)) (stop : ReplayEnd) (count : ℕ) : Type 0 where
-  pub history : History
-  pub runs : Runs lines (Tells old) (world_of r) words old.faults history
+  pub played : List PlayedLine
+  pub spelled : AreSpelled played
+  pub runs : Runs lines (Tells old) (world_of r) words old.faults (events_of_lines played)
   -- the words to come are those after the words that its events drew
-  pub rest : (k : ℕ) → words' k ≡ behind (drawn_in history) words k
-  pub kept : Tells old → RestsNow old r → (done : Acknowledged) → HoldsLogs old r done → Kept old new (world_of r) words left history stop done
-  pub promise : Tells old → (before : Hidden) → IsHidden (world_of r) before → FilesOpen before (world_of r) words history
-  pub apart : Tells old → (before : Hidden) → LinkedWorld (world_of r) before → DrawsApart before → StayApart before (world_of r) words history
+  pub rest : (k : ℕ) → words' k ≡ behind (drawn_in (events_of_lines played)) words k
+  pub kept : Tells old → RestsNow old r → (done : Acknowledged) → HoldsLogs old r done → Kept old new (world_of r) words left played stop done
+  pub promise : Tells old → (before : Hidden) → IsHidden (world_of r) before → FilesOpen before (world_of r) words (events_of_lines played)
+  pub apart : Tells old → (before : Hidden) → LinkedWorld (world_of r) before → DrawsApart before → StayApart before (world_of r) words (events_of_lines played)
   pub run : RunBoth old new
   -- the disk counts each fault of the history
-  pub counted_faults : faults_after old.faults history ≤ new.faults
-  pub restart : Tells old → RestartStops stop left (lines_in history) (world_after (world_of r) history)
+  pub counted_faults : faults_after old.faults (events_of_lines played) ≤ new.faults
+  pub restart : Tells old → RestartStops stop left (lines_in played) (world_after (world_of r) (events_of_lines played))
   pub has_properties : HasProperties stop
-  pub stops : (all : List ℕ) → left ≡ Some all → Stops stop all (lines_in history)
+  pub stops : (all : List ℕ) → left ≡ Some all → Stops stop all (lines_in played)
   pub text : List ℕ
   pub wrote : Appends written now text
-  pub told : IsTold stop text (transcript history)
-  pub counted : count ≡ length (lines_in history)
+  pub told : IsTold stop text (transcript (events_of_lines played))
+  pub counted : count ≡ length (lines_in played)
 
 -- Lines were played, until one of them ended the replay, and its last line was written behind them.
 pub record RanToEnd (lines : List PropLine) (old new : DiskState) (r : RunningWorld) (words words' : ℕ → ℕ) (left written now : Option (List ℕ)) (how : ReplayEnd) : Type 0 where

@@ -7,8 +7,9 @@ ghost use Rattle.name_calls.specs.Paths.{is_relative};
 
 use super::Tree;
 use crate::climbs::depth;
+use crate::names::NodeName;
 use crate::rows::Node;
-use hk_base::{NoMemory, Text};
+use hk_base::NoMemory;
 
 impl Tree {
     /// Appends the path of the row at a place without its first `from` names: each name after the
@@ -48,14 +49,14 @@ fn write_last(nodes: &Vec<Node>, n: u32, count: usize, out: &mut Vec<u8>) -> Res
 }
 
 /// Appends a name after the number of its bytes.
-fn append_name(out: &mut Vec<u8>, name: &Text) -> Result<(), NoMemory>
+fn append_name(out: &mut Vec<u8>, name: &NodeName) -> Result<(), NoMemory>
     requires { length name.now < 256 }
     ensures ok { OnOk result (out.new.items ≡ out.old.items ++ length name.now ∷ name.now) }
     ensures len { OnOk result (vec_len out.new ≡ vec_len out.old + length name.now + 1) }
     ensures full { OnErr result (vec_capacity out.old < vec_len out.old + length name.now + 1) }
     ensures capacity { vec_capacity out.old ≤ vec_capacity out.new }
 {
-    let bytes = name.as_str().as_bytes();
+    let bytes = name.as_bytes();
     out.push(bytes.len() as u8)?;
     out.extend_from_slice(bytes)?;
     Ok(())

@@ -1,4 +1,17 @@
-use Rattle.std.proofs.Common.{refl, arith}
+use Rattle.std.proofs.Common.{◌≡◌, ℕ, List, [], ◌∷◌, ◌∙◌, sym, refl, arith, Bool, true, false, zero, suc, Option, None, Some}
+use Rattle.std.specs.Io.KnownBytes.{IsAtEnd, prepend_known}
+use Rattle.hk_base.specs.Disk.{DiskState}
+use Rattle.frame_log.specs.declared.fault.StartFault.{StartFault}
+use Rattle.frame_log.specs.declared.fault.StartFault.TheVariants as start
+use Rattle.prop_text.specs.declared.lines.PropLine.{PropLine}
+use Rattle.hkms_commands.specs.declared.lines.LineEnd.{LineEnd}
+use Rattle.hkms_commands.specs.declared.lines.LineEnd.TheVariants as line_end
+use Rattle.hkms_commands.specs.declared.replay.ReplayEnd.{ReplayEnd}
+use Rattle.hkms_commands.specs.declared.replay.ReplayEnd.TheVariants as ended
+use Rattle.hkms_commands.specs.declared.stage.LineOutcome.{LineOutcome}
+use Rattle.hkms_commands.specs.declared.stage.LineOutcome.TheVariants.{Played, BadLine, Unread, Untold, Unwritten, Unopened}
+use Rattle.hkms_commands.specs.Replay.{ended_by}
+use Rattle.hkms_commands.specs.Steps.{Next, NextSo, Read, Stand, end_of_play}
 use Rattle.std.proofs.KnownBytes.{Appends-nil}
 use Rattle.hkms_commands.proofs.EndLemmas.{first_ahead, goes_on_under, goes_on_untroubled, lists_under, stands_under, stops_under}
 use Rattle.hkms_commands.proofs.HistoryLemmas.{nothing_yet}
@@ -39,3 +52,45 @@ lines-preserved g c =
 pub returns-in-Some-clause-ran : goal.returns-in-Some-clause-ran
 returns-in-Some-clause-ran g c =
     stops_under (g.D.Disk.state c.args.disk.now) (g.D.Disk.state c.lines.disk) (g.D.Disk.state c.next.new.disk) _ _ _ c.in-Some.ended c.lines.invariant.so_far (rw c.in-Some.is at c.next.ensures.next)
+
+-- a replay that is done has come to the end of its input
+
+not_opened : (file : ℕ) (fault : StartFault) → Some ended.Done ≡ Some (ended_by file fault) → ⊥
+not_opened zero (start.Damaged at) e = absurd cc
+not_opened (suc n) (start.Damaged at) e = absurd cc
+not_opened file start.StoreFault e = absurd cc
+not_opened file start.NoMemory e = absurd cc
+not_opened file start.Spent e = absurd cc
+
+not_between : (play : LineOutcome) → Some ended.Done ≡ end_of_play false play → ⊥
+not_between Played e = absurd cc
+not_between BadLine e = absurd cc
+not_between Unread e = absurd cc
+not_between Untold e = absurd cc
+not_between Unwritten e = absurd cc
+not_between (Unopened fault) e = not_opened fault.file fault.fault e
+
+some_end : (stop how : ReplayEnd) → stop ≡ how → Some how ≡ Some stop
+some_end stop how is = cc
+
+next_end : (props : List PropLine) (old new : DiskState) (s s' : Stand) (stop : ReplayEnd) → Next props old new s (Some stop) s' → stop ≡ ended.Done → IsAtEnd s'.ahead
+next_end props old new s s' stop n done = go n.how n.read n.next
+  where
+    go : (how : LineEnd) → Read s how n.line s' → NextSo props old new s how n.line (Some stop) s' → IsAtEnd s'.ahead
+    go line_end.Line read p = absurd (not_between p.play (some_end stop ended.Done done ∙ p.result_is))
+    go line_end.End read p = read.end refl
+    go line_end.TooLong read r = let no = r.result_is in absurd cc
+    go line_end.Past read r = let no = r.result_is in absurd cc
+    go line_end.Fault read r = let no = r.result_is in absurd cc
+    go line_end.NoMemory read r = let no = r.result_is in absurd cc
+
+left_at_end : (bytes : List ℕ) (left : Option (List ℕ)) → IsAtEnd (prepend_known bytes left) → IsAtEnd left
+left_at_end bytes None end = tt
+left_at_end [] (Some xs) end = end
+left_at_end (b ∷ bs) (Some xs) end = absurd cc
+
+pub returns-in-Some-clause-end : goal.returns-in-Some-clause-end
+returns-in-Some-clause-end g c = λ done.
+    let some = lists_under (g.D.Disk.state c.args.disk.now) (g.D.Disk.state c.lines.disk) _ _ c.lines.invariant.so_far c.requires.lists in
+    let next = (rw c.in-Some.is at c.next.ensures.next) in
+    left_at_end c.next.new.self.reader.bytes (g.S.Source.left c.next.new.input) (next_end some.0 (g.D.Disk.state c.lines.disk) (g.D.Disk.state c.next.new.disk) _ _ c.in-Some.ended (next some.0 some.1) done)
