@@ -54,7 +54,7 @@ not-reserved p h = (clear (starts_reserved p) refusal.BadPath None h).0
 pub not-spent : (s : NameState) → s.next < 2 ^ 32 → is_spent s ≡ false
 not-spent s h = grind (arith, nat_tests, h)
 
--- what each is allowed by
+-- why each is allowed
 
 usable : (t : NameTable) (id n : ℕ) → t.opening * 2 ^ 32 ≤ id → id < t.opening * 2 ^ 32 + n → n ≤ 2 ^ 32 → entry_of t.rows id ≡ None → may_use_all t (id ∷ []) ≡ true
 usable t id n low high few free =
@@ -91,7 +91,7 @@ allowed-remove s p recursive opened h =
       fits = refl;
     })
 
--- what a finish that nothing stops may do
+-- a finish that nothing stops
 
 pub record MayFinish (rows : List Entry) (a : OpenAsk) (edek : Option Edek) (p : List (List ℕ)) : Type 0 where
   pub made : first_cause (to_be_made rows p) ≡ None
@@ -135,7 +135,7 @@ allowed-finish s id a edek opened few ids recent stands free = go a.ask free
     go (ask.Zone p key) h =
         allows-it s.table (op.Zone p key) refl (record { opened = lt-yes 0 s.table.opening opened; ids = refl; free = may-make-zone s.table.rows a edek p key h; fits = refl })
 
--- what a call logs is allowed
+-- the operation that a call logs is allowed
 pub allowed-call : (s : NameState) (c : NameCall) (o : EditOp) → 0 < s.table.opening → IdsFit s.table.rows s.asks (next_id s) → first_cause (causes s c) ≡ None → (deed s c).logs ≡ Some o
     → allows s.table o ≡ true
 allowed-call s (call.Mkdir p) o opened ids free is =
@@ -159,7 +159,7 @@ pub no-opening-finish : (id : ℕ) (edek : Option Edek) (k : Ask) → is_opening
 no-opening-finish id edek (ask.Create p) = refl
 no-opening-finish id edek (ask.Zone p key) = refl
 
--- ids that nothing used
+-- ids that are not used
 
 pub not-among : (used : List ℕ) (n : ℕ) → AllBelow n used → is_among used n ≡ false
 not-among [] n h = refl
@@ -188,7 +188,7 @@ pub none-taken : (asks : List OpenAsk) → AreFree [] asks
 none-taken [] = tt
 none-taken (a ∷ asks) = (refl, none-taken asks)
 
--- ids behind an operation
+-- ids after an operation
 
 pub behind-make : (s : NameState) (p : List (List ℕ)) → IdsFit s.table.rows s.asks (next_id s) → AreRecent s.table.opening s.asks → s.next < 2 ^ 32
     → IsBehind s (op.Mkdir (next_id s) p) (record s { next = s.next + 1 })
@@ -239,7 +239,7 @@ behind-finish s id a edek few ids recent stands = record {
         (λ q other. one-apart a.id q.id (unlike q.id a.id (λ same. other (same ∙ open-id s.asks id a stands)))) (without s.asks id) (without-apart s.asks id ids.rising)
     apart (ask.Zone p key) = none-taken (without s.asks id)
 
--- what may be written
+-- operations that may be written
 
 pub may-make : (s : NameState) (p : List (List ℕ)) → 0 < s.table.opening → IdsFit s.table.rows s.asks (next_id s) → AreRecent s.table.opening s.asks → starts_reserved p ≡ false
     → first_cause (mkdir_causes s p) ≡ None → MayWrite s (op.Mkdir (next_id s) p) (record s { next = s.next + 1 })

@@ -35,7 +35,7 @@ use Rattle.name_core.proofs.LawLemmas.{other, row-new, row-other, told-by, zone-
 use Rattle.name_core.proofs.Layers.{Asking, Same, Opened, asking}
 use Rattle.name_core.proofs.RowLemmas.{room-left}
 
--- what a finish that was done was not stopped by, and what it left
+-- a finish that was done had no cause of a refusal, and left this state
 pub finished-by : (s : NameState) (a : OpenAsk) (edek : Option Edek) (s' : NameState) → Finishes s a edek (Ok tt) s'
     → (first_cause (finish_causes s.table.rows a edek a.ask) ≡ None) × (s' ≡ finished s a edek)
 finished-by s a edek s' (NoRoom, may, is) = let f : Ok tt ≡ Err refusal.NoMemory = ap (λ o. o.told) is in absurd cc
@@ -45,7 +45,7 @@ finished-by s a edek s' (Plain, may, is) = go (first_cause (finish_causes s.tabl
     go (Some why) is = let f : Ok tt ≡ Err why = ap (λ o. o.told) is in absurd cc
     go None is = (refl, ap (λ o. o.state) is)
 
--- what holds of a file that was made
+-- properties of a file that was made
 
 same-id-is : (i j : Option ℕ) → not (same_id i j) ≡ false → i ≡ j
 same-id-is None None h = refl
@@ -98,9 +98,9 @@ others_stay_by_file s a p edek s' q asks finishes apart =
     ap (λ (rows : List Entry). info_reply rows q) (made-by s a p edek s' asks finishes).rows
     ∙ (λ i. shown_at (option_map (λ e. e.path) (zone-same (new_file a.id p edek) s.table.rows q refl i)) (row-other (new_file a.id p edek) s.table.rows q (other p q apart) i))
 
--- what a step leaves of asks and ids
+-- asks and ids after a step
 
--- the same asks, and no lower next id
+-- the asks are the same, and the next id is no lower
 record Onward (s s' : NameState) : Type 0 where
   asks : s'.asks ≡ s.asks
   rises : next_id s ≤ next_id s'
@@ -108,7 +108,7 @@ record Onward (s s' : NameState) : Type 0 where
 onward-same : (s s' : NameState) → s' ≡ s → Onward s s'
 onward-same s s' is = record { asks = ap (λ (x : NameState). x.asks) is; rises = let n = ap next_id is in omega (arith, n) }
 
--- the parts of what a namesystem keeps
+-- a namesystem with nothing pending
 abbrev Alone : NameState → NameService
 Alone s = record { names = s; pending = None }
 
@@ -184,7 +184,7 @@ served s user c told logged s' serves k = early (first_cause (early_causes user 
     early (Some why) refused = served-same s s' refused.same k
     early None serves = by (is_change c) serves
 
--- what a finish leaves: its ask is away, but for want of memory
+-- after a finish its ask is not open, unless memory ran out
 data Finishing (s : NameState) (id : ℕ) (told : Result (Unit {0}) NameRefusal) (s' : NameService) : Type 0 where
   Wanting : told ≡ Err refusal.NoMemory → Served s s' → Finishing s id told s'
   Gone : open_ask s.asks id ≡ None → Served s s' → Finishing s id told s'
@@ -263,7 +263,7 @@ ids_stay_below s s' (Called user c told logged serves) k = (served s user c told
 ids_stay_below s s' (Asked user a told asks same) k = asked-keeps s s' user a same (asking s.names user a told s'.names asks) k
 ids_stay_below s s' (Finished id given told logged serves) k = finishing-keeps s.names id told s' (finishing s id given told logged s' serves k)
 
--- no ask is open any more
+-- no ask with the id is open
 
 unlike : (a b : ℕ) → (a ≡ b → ⊥) → (a == b) ≡ false
 unlike a b h = grind (arith, nat_tests)
@@ -293,7 +293,7 @@ pub finished_once : FinishedOnce
 finished_once s id given told logged s' given' told' logged' s'' k first room second =
     told-gone s' id given' told' logged' s'' (closes s.names id told s' k.ids.rising (finishing s id given told logged s' first k) room) second
 
--- an id that is used and not open stays so
+-- an id that is used, and not of an open ask, stays so
 
 record IsPast (id : ℕ) (s : NameService) : Type 0 where
   gone : open_ask s.names.asks id ≡ None

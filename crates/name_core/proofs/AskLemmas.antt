@@ -1,4 +1,4 @@
--- Open asks in the order of their ids: how they are kept under these, and what holds of those that stay.
+-- Open asks in the order of their ids: how they are kept under these, and properties of those that remain.
 use Rattle.std.proofs.Common.{◌≡◌, ℕ, ◌<◌, ◌^◌, nat_le, Bool, true, false, cond, not, List, [], ◌∷◌, ◌++◌, Option, Some, None, Ordering, Greater, refl, ap, sym, subst, ◌∙◌, arith}
 use Rattle.std.specs.Prelude.{◌==◌}
 use Rattle.std.specs.BTreeMap.{insert_entry, is_at}
@@ -24,7 +24,7 @@ use Rattle.name_core.specs.Calls.{is_superuser}
 use Rattle.name_core.specs.Steps.{AreKeyed}
 use Rattle.name_core.proofs.RowLemmas.{BelowId, id-free, room-left}
 
--- what holds of each ask
+-- properties of each ask
 
 pub each-map : (P Q : OpenAsk → Type 0) → ((a : OpenAsk) → P a → Q a) → (asks : List OpenAsk) → AllByRecursion P asks → AllByRecursion Q asks
 each-map P Q f [] h = tt
@@ -111,7 +111,7 @@ values-insert es q h k = ap (λ (put : List (ℕ × OpenAsk)). values_of put) (i
 pub keyed-insert : (es : List (ℕ × OpenAsk)) (q : OpenAsk) → AreKeyed es → AllByRecursion (λ (a : OpenAsk). a.id < q.id) (values_of es) → AreKeyed (insert_entry nat_cmp es q.id q)
 keyed-insert es q h k = subst (λ (put : List (ℕ × OpenAsk)). AreKeyed put) (sym (insert-last es q h k)) (keyed-append es q h)
 
--- the order of those that stay
+-- the order of those that remain
 
 rising-cond : (t : Bool) (xs ys : List OpenAsk) → IsRising xs → IsRising ys → IsRising (cond t xs ys)
 rising-cond true xs ys h k = h
@@ -132,7 +132,7 @@ equal a b h = grind (arith, nat_tests)
 other : (a b : ℕ) → (a == b) ≡ false → a ≡ b → ⊥
 other a b h k = absurd (grind (arith, nat_tests, h, k))
 
--- what stays has another id
+-- the asks that remain have another id
 pub without-apart : (asks : List OpenAsk) (id : ℕ) → IsRising asks → AllByRecursion (λ (q : OpenAsk). q.id ≡ id → ⊥) (without asks id)
 without-apart [] id r = tt
 without-apart (a ∷ asks) id r = go (a.id == id) refl (without-apart asks id r.1)
@@ -229,7 +229,7 @@ open-id (a ∷ asks) id q h = go (a.id == id) refl (open-id asks id q) h
     go true e rest h = let same : a ≡ q = cc in ap (λ (x : OpenAsk). x.id) (sym same) ∙ equal a.id id e
     go false e rest h = rest h
 
--- an ask that is accepted has an id left for it
+-- there is an id for an ask that is accepted
 
 not-last : (n : ℕ) → nat_le (2 ^ 32) n ≡ false → n < 2 ^ 32
 not-last n h = grind (arith, nat_tests, h)

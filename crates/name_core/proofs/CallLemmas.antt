@@ -125,7 +125,7 @@ settled-refused d r c why none is = record {
 abbrev pub done_deed : EditOp → NameState → Deed
 done_deed o left = record { answer = reply.Done; logs = Some o; state = left }
 
--- a change without a cause of refusal, whose operation was to be written
+-- a change without a cause of refusal, whose operation had to be written
 pub settled-written : (old new : DiskState) (r t : RunningNames) (c : NameCall) (o : EditOp) (left : NameState) (result : Result (Unit {0}) StoreRefusal)
     → takes_memory (names_of r) c ≡ true → first_cause (causes (names_of r) c) ≡ None → deed (names_of r) c ≡ done_deed o left → Writes old new r left o result t
     → ActsSettled old new r c (told_of result) t
@@ -185,7 +185,7 @@ closed-is : (r t : RunningNames) (id : ℕ) (a : OpenAsk) → open_ask r.asks id
 closed-is r t id a stands is =
     ap service_of is ∙ ap (λ (i : ℕ). record { names = closed (names_of r) i; pending = r.store.log.pending }) (sym (open-id r.asks id a stands))
 
--- the call that was wanted was refused
+-- the call that the ask wanted was refused
 pub finish-given-up : (d : DiskState) (r t : RunningNames) (id : ℕ) (a : OpenAsk) (why : KmsRefusal) → open_ask r.asks id ≡ Some a → t ≡ record r { asks = without r.asks id }
     → FinishActs d d r id (answer.Refused why) (Err (refusal.KeyRefused why)) t
 finish-given-up d r t id a why stands is = record {
@@ -270,7 +270,7 @@ finish-refused d r t id a edek why stands none stops is = record {
   disk = closing d d r r t id (Growing r (OwnFinish (names_of r) a edek (Err why) (service_of t))) [] is (unchanged d r (Growing r (OwnFinish (names_of r) a edek (Err why) (service_of t))));
 }
 
--- memory for its operation is wanting
+-- memory ran out for its operation
 pub finish-wanting : (d : DiskState) (r : RunningNames) (a : OpenAsk) (edek : Option Edek) → r.store.log.pending ≡ None → first_cause (finish_causes r.store.table.rows a edek a.ask) ≡ None
     → FinishesSettled d d r a edek (Err refusal.NoMemory) r
 finish-wanting d r a edek none free = record {
@@ -279,7 +279,7 @@ finish-wanting d r a edek none free = record {
   disk = unchanged d r (Growing r (OwnFinish (names_of r) a edek (Err refusal.NoMemory) (service_of r)));
 }
 
--- a finish that nothing stops, whose operation was to be written
+-- a finish that nothing stops, whose operation had to be written
 pub finish-written : (old new : DiskState) (r t : RunningNames) (id : ℕ) (a : OpenAsk) (edek : Option Edek) (result : Result (Unit {0}) StoreRefusal) → open_ask r.asks id ≡ Some a
     → first_cause (finish_causes r.store.table.rows a edek a.ask) ≡ None → Writes old new r (closed (names_of r) id) (finish_op a.id edek a.ask) result t
     → FinishesSettled old new r a edek (finish_told result) t
@@ -317,7 +317,7 @@ finish-written old new r t id a edek result stands free w = go result w
           (λ x is. (free, is, inr (ap (λ (y : NameService). y.pending) w.service ∙ ap Some (sym is)))) w.disk;
     }
 
--- the ask that is open
+-- the open ask
 
 abbrev pub IsOpen : List OpenAsk → ℕ → Type 0
 IsOpen asks id = (a : OpenAsk) × (open_ask asks id ≡ Some a)

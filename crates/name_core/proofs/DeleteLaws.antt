@@ -1,4 +1,4 @@
--- The laws of what is deleted and what is listed.
+-- The laws of deleted paths and of lists.
 use Rattle.std.proofs.Common.{◌≡◌, ℕ, ◌+◌, ◌<◌, Bool, true, false, cond, not, ◌&&◌, ◌||◌, is_none, is_some, length, map, List, [], ◌∷◌, ◌++◌, Option, Some, None, refl, sym, ap, ◌∙◌, arith}
 use Rattle.std.specs.Prelude.{◌==◌}
 use Rattle.std.specs.List.{filter, list_any}
@@ -30,7 +30,7 @@ deleted-by s p recursive s' (Plain, may, is) = go (first_cause (delete_causes s.
     go (Some why) is = let f : reply.Done ≡ reply.Refused why = ap (λ o. o.told) is in absurd cc
     go None is = ap (λ o. o.state.table.rows) is
 
--- the rows that stay
+-- the rows that remain
 
 gone-row : (p q : List (List ℕ)) (rows : List Entry) → is_prefix p q ≡ true → row_at (removed p rows) q ≡ None
 gone-row p q [] below = refl
@@ -56,7 +56,7 @@ other-row p q (e ∷ rows) out = go (is_prefix p e.path) refl (other-row p q row
     go true below rest = rest ∙ ap (λ (b : Bool). cond b (Some e.row) (row_at rows q)) (sym (apart (same_path e.path q) refl below))
     go false stays rest = ap (λ (o : Option Row). cond (same_path e.path q) (Some e.row) o) rest
 
--- a path above another is above what lies below that
+-- a prefix of a prefix of a path is a prefix of the path
 prefix-chain : (p x q : List (List ℕ)) → is_prefix p x ≡ true → is_prefix x q ≡ true → is_prefix p q ≡ true
 prefix-chain [] x q h g = refl
 prefix-chain (a ∷ p) [] q h g = absurd cc
@@ -111,7 +111,7 @@ others_stay_by_delete s p recursive s' q did out =
     ap (λ (rows : List Entry). info_reply rows q) (deleted-by s p recursive s' did)
     ∙ (λ i. shown_at (option_map (λ (e : Entry). e.path) (other-zone p q s.table.rows out i)) (other-row p q s.table.rows out i))
 
--- what is listed
+-- lists
 
 swap-bytes : (a b : List ℕ) → bytes_eq a b ≡ bytes_eq b a
 swap-bytes a b = go (bytes_eq a b) (bytes_eq b a) refl refl
@@ -122,7 +122,7 @@ swap-bytes a b = go (bytes_eq a b) (bytes_eq b a) refl refl
     go false true h g = let f : true ≡ false = sym ((bytes_eq-Decides a b).1 (sym ((bytes_eq-Decides b a).0 g))) ∙ h in absurd cc
     go false false h g = refl
 
--- a row lies in the directory under this name, where it stands at this path
+-- a row is in the directory under this name exactly if it is at this path
 
 and-true : (b : Bool) → (b && true) ≡ b
 and-true true = refl

@@ -1,4 +1,4 @@
--- What a namesystem keeps of ids, while operations are written, pending and settled.
+-- The rules of ids stay true while operations are written, pending and settled.
 use Rattle.std.proofs.Common.{◌≡◌, ℕ, ◌+◌, ◌*◌, ◌^◌, ◌<◌, ◌≤◌, ◌||◌, Bool, true, false, cond, not, List, [], ◌∷◌, ◌++◌, Option, Some, None, IfSome, refl, ap, sym, subst, ◌∙◌, arith}
 use Rattle.std.specs.Prelude.{◌==◌}
 use Rattle.std.specs.List.{All, filter}
@@ -35,7 +35,7 @@ fit-put e rows asks n low apart fit = record {
   rising = fit.rising;
 }
 
--- rows that stay have no id that none had
+-- rows that remain have no id that no row had
 
 entry-behind : (e : Entry) (rows : List Entry) (id : ℕ) → entry_of (e ∷ rows) id ≡ None → ((e.row.id == id) ≡ false) × (entry_of rows id ≡ None)
 entry-behind e rows id h = go (e.row.id == id) h
@@ -52,7 +52,7 @@ filter-free test (e ∷ rows) id h = go (test e) (filter-free test rows id (entr
     go true rest = ap (λ (b : Bool). cond b (Some e) (entry_of (filter test rows) id)) (entry-behind e rows id h).0 ∙ rest
     go false rest = rest
 
--- an operation whose ids are taken, and no open ask's, leaves ids as they have to be
+-- after an operation whose ids are taken, and not by an open ask, ids keep their rules
 pub fit-op : (t : NameTable) (o : EditOp) (asks : List OpenAsk) (n : ℕ) → is_opening o ≡ false → AllBelow n (uses o) → AreFree (uses o) asks → IdsFit t.rows asks n → IdsFit (after_table t o).rows asks n
 fit-op t (op.Opened opening) asks n safe below apart fit = absurd cc
 fit-op t (op.Mkdir id p) asks n safe below apart fit = fit-put (new_directory id p) t.rows asks n below.0 apart fit
@@ -86,7 +86,7 @@ module _ (s left : NameState) (o : EditOp) (may : IsBehind s o left) where
   opening-done : (after_table left.table o).opening ≡ left.table.opening
   opening-done = same-opening left.table o may.no_opening
 
-  -- the next id behind it is no lower
+  -- the next id after it is no lower
   pub ids-rise : next_id s ≤ next_id left
   ids-rise = let e = ap (λ (n : ℕ). n * 2 ^ 32) opening-left in let r = may.rises in omega (arith, e, r)
 
@@ -117,7 +117,7 @@ module _ (s left : NameState) (o : EditOp) (may : IsBehind s o left) where
 
 -- the pending operation was settled
 
--- one that was kept took effect
+-- a kept operation took effect
 pub settled-took : (s : NameState) (o : EditOp) → settled true (record { names = s; pending = Some o }) ≡ took s o
 settled-took s o = refl
 
@@ -142,7 +142,7 @@ keeps-settled kept s k = record {
   waits = tt;
 }
 
--- an ask is taken away, or one more is open
+-- an ask is closed, or one more is open
 
 pub keeps-closed : (s : NameService) (id : ℕ) → Keeps s → Keeps (record { names = closed s.names id; pending = s.pending })
 keeps-closed s id k = record {
@@ -179,7 +179,7 @@ keeps-asked s q is left k = record {
       free = each-append (λ (a : OpenAsk). is_among (uses o) a.id ≡ false) s.names.asks q h.free (subst (λ (n : ℕ). is_among (uses o) n ≡ false) (sym is) (not-among (uses o) (next_id s.names) h.below));
     }
 
--- ids are left out
+-- ids are skipped
 
 pub keeps_later : (s : NameService) (n : ℕ) → s.names.next ≤ n → n ≤ 2 ^ 32 → Keeps s → Keeps (record { names = record s.names { next = n }; pending = s.pending })
 keeps_later s n later few k = record {

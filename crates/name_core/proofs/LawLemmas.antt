@@ -21,7 +21,7 @@ use Rattle.name_core.specs.Asks.{ask_causes, asked, note_of, opened, unless_not_
 use Rattle.name_core.specs.Laws.{AskIdsRise, IdsRise, MadeIsTold, OthersStay}
 use Rattle.name_calls.specs.declared.calls.AskNote.{AskNote}
 
--- what holds of a mkdir that was done
+-- properties of a mkdir that was done
 
 abbrev made : NameState → List (List ℕ) → NameState
 made s p = done_with (Some (op.Mkdir (next_id s) p)) (numbered s)
@@ -78,7 +78,7 @@ none-below : (b : Bool) → (b && false) ≡ false
 none-below true = refl
 none-below false = refl
 
--- what lies above a path, but is not it, lies at or above its directory
+-- a prefix of a path, other than the path, is a prefix of its parent
 prefix-parent : (q p : List (List ℕ)) → same_path q p ≡ false → is_prefix q p ≡ is_prefix q (parent p)
 prefix-parent [] p h = refl
 prefix-parent (x ∷ q) [] h = refl
@@ -98,7 +98,7 @@ zone-above (x ∷ es) p h =
     let rest = zone-above es p (apart x es p h).1 in
     λ i. cond (over i) (Some (longer x (rest i))) (rest i)
 
--- what is told is the definition's reply, but for want of memory
+-- the reply is that of the definition, unless memory ran out
 pub told-by : (s : NameState) (p : List (List ℕ)) (told : NameReply) (s' : NameState) → NameActs s (call.Info p) told s' → (told ≡ Refused NoMemory) ⊎ (told ≡ info_reply s.table.rows p)
 told-by s p told s' (NoRoom, may, is) = inl (ap (λ o. o.told) is)
 told-by s p told s' (Plain, may, is) = inr (go (row_at s.table.rows p) is)

@@ -1,4 +1,4 @@
--- What the layers above need of the namesystem.
+-- Properties of the namesystem that the layers above need.
 use Rattle.std.proofs.Common.{◌≡◌, ℕ, ◌<◌, ◌≤◌, Bool, true, false, List, Option, None, Some, refl, ap, sym, subst, ◌∙◌, arith}
 use Rattle.std.specs.Prelude.{Result}
 use Rattle.hk_base.specs.Disk.{DiskState}
@@ -25,7 +25,7 @@ pub use Rattle.name_core.proofs.AllowedLemmas.{allowed-call, allowed-finish, no-
 
 -- asks
 
--- what an ask leaves: all as it was, or one more open ask
+-- after an ask the state is unchanged, or one more ask is open
 pub data Asking (s : NameState) (user : List ℕ) (a : Ask) (s' : NameState) : Type 0 where
   Same : s' ≡ s → Asking s user a s'
   Opened : first_cause (ask_causes s user a) ≡ None → s' ≡ asked s a → Asking s user a s'
@@ -47,7 +47,7 @@ moved d r t ops rises free same s = record {
   free = free s.used s.below s.free;
 }
 
--- the log stands for the same operations behind an ask
+-- the log holds the same operations after an ask
 pub stands_after_ask : (d : DiskState) (r t : RunningNames) (user : List ℕ) (a : Ask) (told : Result AskNote NameRefusal) (ops : List EditOp) → Asks (names_of r) user a told (names_of t)
     → t.store ≡ r.store → StandsFor d r ops → StandsFor d t ops
 stands_after_ask d r t user a told ops asks same s = go (asking (names_of r) user a told (names_of t) asks)
@@ -63,7 +63,7 @@ stands_after_ask d r t user a told ops asks same s = go (asking (names_of r) use
         (each-append (λ (q : OpenAsk). is_among used q.id ≡ false) r.asks (opened (names_of r) a) apart (not-among used (next_id (names_of r)) below)))
         same s
 
--- behind the settling of what waits, the namesystem keeps its rules of ids
+-- the rules of ids stay true after the pending operation is settled
 
 pub settled_keeps : (kept : Bool) (s : NameService) → IsNames s → Keeps (record { names = settled kept s; pending = None })
 settled_keeps kept s n = keeps-settled kept s (keeps-of s n)
@@ -71,13 +71,13 @@ settled_keeps kept s n = keeps-settled kept s (keeps-of s n)
 pub settled_opened : (kept : Bool) (s : NameService) → IsNames s → 0 < (settled kept s).table.opening
 settled_opened kept s n = subst (λ (o : ℕ). 0 < o) (sym (settled-opening kept s.pending s.names s.names.table (keeps-of s n).waits)) n.opened
 
--- what a call may write is allowed, and is no opening
+-- the operation that a call may write is allowed, and is not an opening
 pub own_of_call : (s : NameService) (c : NameCall) (told : NameReply) (s' : NameService) (kept : Bool) (o : EditOp) → IsNames s → OwnOf s c told s' kept o
     → (allows (settled kept s).table o ≡ true) × (is_opening o ≡ false)
 own_of_call s c told s' kept o n own =
     (allowed-call (settled kept s) c o (settled_opened kept s n) (settled_keeps kept s n).ids own.free own.is, no-opening (settled kept s) c o own.is)
 
--- what a finish may write is allowed, and is no opening
+-- the operation that a finish may write is allowed, and is not an opening
 pub own_of_finish : (s : NameService) (id : ℕ) (given : KeyAnswer) (told : Result (Unit {0}) NameRefusal) (s' : NameService) (kept : Bool) (o : EditOp) → IsNames s
     → OwnOfFinish s id given told s' kept o → (allows (settled kept s).table o ≡ true) × (is_opening o ≡ false)
 own_of_finish s id given told s' kept o n own =

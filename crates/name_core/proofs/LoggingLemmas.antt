@@ -1,4 +1,4 @@
--- What the steps of a call do to the disk, and what they are together.
+-- What the steps of a call do to the disk, each and together.
 use Rattle.std.proofs.Common.{◌≡◌, ◌⊎◌, inl, inr, ℕ, ◌≤◌, ◌&&◌, ◌||◌, Bool, cond, true, false, List, [], ◌∷◌, ◌++◌, Option, None, Some, IfSome, refl, ap, sym, ◌∙◌, subst, arith}
 use Rattle.std.specs.Prelude.{◌==◌, IsTrue, Result, Ok, Err, MatchResult}
 use Rattle.std.proofs.lemmas.List.{append-nil, append_assoc}
@@ -47,7 +47,7 @@ if-some : (P Q : EditOp → Type 0) → ((o : EditOp) → P o → Q o) → (more
 if-some P Q f None h = tt
 if-some P Q f (Some o) h = f o h
 
--- what may be written is among what may be written in another way
+-- the same log is left if more operations may be written
 pub leaving-more : (made : Replayed) (pending : Option EditOp) (own own' : Bool → EditOp → Type 0) (ops : List EditOp) (bytes : List ℕ) → ((kept : Bool) (o : EditOp) → own kept o → own' kept o)
     → IsLeftOf made pending own ops bytes → IsLeftOf made pending own' ops bytes
 leaving-more made pending own own' ops bytes f l = record {
@@ -82,7 +82,7 @@ logging-growing old new r t own own' logged f l = record {
   run = l.run;
 }
 
--- what the operations come to, with the pending one settled
+-- the replay of the operations, with the pending one settled
 
 replay-more : (t u : Replayed) (ops : List EditOp) (o : EditOp) → name_replay t ops ≡ Some u → applies u o ≡ true → name_replay t (ops ++ o ∷ []) ≡ Some (after u o)
 replay-more t u [] o is may =
@@ -132,7 +132,7 @@ behind-settling old mid new r s t kept own own' logged f a b = record {
       log = g.log;
     }
 
--- what a log stands for, while ids rise and asks go
+-- a log holds the same operations while ids rise and asks are closed
 
 below-both : (n : ℕ) (a b : List ℕ) → AllBelow n a → AllBelow n b → AllBelow n (a ++ b)
 below-both n [] b h k = k
@@ -194,7 +194,7 @@ free-pending : (kept : Bool) (pending : Option EditOp) (s : NameState) (used : L
 free-pending kept None s used h k = k
 free-pending kept (Some o) s used h k = free-settled kept o used s.asks h.free k
 
--- what a store says of the moments of its settling
+-- what a crash during its settling leaves of a store
 abbrev pub Moments : DiskState → DiskState → RunningNames → Type 0
 Moments old new r = Tells old → (used : List ℕ) (ops : List EditOp) → store.StandsFor old r.store used ops → LeavesOnly 1 old new (IsLeftOf (made_with r.store used) r.store.log.pending NothingMore ops)
 
@@ -236,7 +236,7 @@ unsettled old new r t same moments run k = record {
   };
 }
 
--- an ask is taken away behind a step
+-- an ask is closed after a step
 pub closing : (old new : DiskState) (r s t : RunningNames) (id : ℕ) (P : List ℕ → List EditOp → List ℕ → Type 0) (logged : List EditOp) → t ≡ record s { asks = without s.asks id }
     → Logging old new r s P logged → Logging old new r t P logged
 closing old new r s t id P logged is l = record {
@@ -254,7 +254,7 @@ store-stands d r s is stands told =
     let y : StandsFor d r x.0 = subst (λ (z : RunningNames). StandsFor d z x.0) (sym is) x.1 in
     (y.used, x.0, y.store)
 
--- behind a step that began where a log stood for operations, one stands for some
+-- if the log holds some operations before a step, it holds some after it
 pub stands-on : (old new : DiskState) (r t : RunningNames) (P : List ℕ → List EditOp → List ℕ → Type 0) (logged : List EditOp) → Logging old new r t P logged
     → (Tells old → (ops : List EditOp) × StandsFor old r ops) → Tells new → (ops : List EditOp) × StandsFor new t ops
 stands-on old new r t P logged l stands told =
@@ -262,7 +262,7 @@ stands-on old new r t P logged l stands told =
     let x = stands before in
     (x.0 ++ logged, l.stands before x.0 x.1)
 
--- what settling comes to
+-- the result of settling
 
 pub settle-result : (old new : DiskState) (r t : RunningNames) (result : Result (Unit {0}) StoreRefusal) → Keeps (service_of r) → t.next ≡ r.next → t.asks ≡ r.asks → Moments old new r → RunOn 1 old new
     → MatchResult result (λ _. Settles old new r.store t.store) (λ _. store.Unsettled old new r.store t.store) → MatchResult result (λ _. Settling old new r t) (λ _. IsUnsettled old new r t)

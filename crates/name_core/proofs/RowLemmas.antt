@@ -35,7 +35,7 @@ all-put P e (x ∷ xs) p h =
     all-either P (is_before e.path x.path) (e ∷ x ∷ xs) (x ∷ put e xs) (All-cons P e (x ∷ xs) p h)
     (All-cons P x (put e xs) (All-head P x xs h) (all-put P e xs p (All-tail P x xs h)))
 
--- with a row that has the id n, all are below a higher one
+-- with one more row of id n, all ids are below a higher one
 pub below-put : (e : Entry) (es : List Entry) (n m : ℕ) → e.row.id ≡ n → n < m → All (BelowId n) es → All (BelowId m) (put e es)
 below-put e es n m is more h = all-put (BelowId m) e es (omega (arith, is, more)) (λ k d b. omega (arith, more, h k d b))
 
@@ -55,7 +55,7 @@ longer-holds : (P : Entry → Type 0) (e : Entry) (o : Option Entry) → P e →
 longer-holds P e None h g = h
 longer-holds P e (Some f) h g = either-holds P (nat_lt (length e.path) (length f.path)) f e g h
 
--- what holds of all rows holds of the row of a zone
+-- a property of all rows is true of the row of a zone
 zone-holds : (P : Entry → Type 0) (p : List (List ℕ)) (es : List Entry) → All P es → HoldsOf P (zone_of es p)
 zone-holds P p [] h = tt
 zone-holds P p (e ∷ es) h =
@@ -85,7 +85,7 @@ not-all : (n : ℕ) (b : Bool) → (b || nat_le (2 ^ 32) n) ≡ false → n < 2 
 not-all n true h = absurd cc
 not-all n false h = grind (arith, nat_tests, h)
 
--- a path that may be made has an id left for it
+-- there is an id for a path that may be made
 pub room-left : (s : NameState) (p : List (List ℕ)) → first_cause (mkdir_causes s p) ≡ None → s.next < 2 ^ 32
 room-left s p h =
     let m = none-of-both (to_be_made s.table.rows p) ((is_full s, TooManyInodes) ∷ []) h in

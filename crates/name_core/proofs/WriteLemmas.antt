@@ -1,4 +1,4 @@
--- What comes of an operation that was to be written while nothing was pending.
+-- The result of writing an operation while nothing is pending.
 use Rattle.std.proofs.Common.{◌≡◌, [], Some, None, true, false, ap, sym, ◌∙◌, subst}
 use Rattle.hk_base.specs.Disk.{DiskState}
 use Rattle.hk_base.specs.Faults.{Rose}
@@ -11,7 +11,7 @@ use Rattle.name_core.specs.Steps.{Growing, IsDone, IsPendingNow, IsWanting, Keep
 use Rattle.name_core.proofs.KeepLemmas.{keeps-done, keeps-pending, next-done}
 use Rattle.name_core.proofs.LoggingLemmas.{committed, unchanged}
 
--- What is known where an operation was committed or not: what its call leaves of the state is F of it, seen from outside and inside.
+-- An operation that was committed, or was not: its call leaves F of the state, which is the same seen from outside and inside.
 pub record Committing (F : RunningNames → NameState) (r s t : RunningNames) (o : EditOp) : Type 0 where
   pub same : r ≡ s
   pub may : MayWrite (names_of s) o (F s)
@@ -54,7 +54,7 @@ write-failed F old new r s t o c table pending failed k =
     waits : IsPendingNow old new r (F r) o t
     waits = record { failed = failed; service = is; disk = committed old new r t (F r) o false may (ap (λ (x : NameService). next_id x.names) is) c.asks k }
 
--- memory is wanting
+-- memory ran out
 pub write-wanting : (old new : DiskState) (r s t : RunningNames) → r ≡ s → t ≡ r → new ≡ old → s.store.log.pending ≡ None → IsWanting old new s t
 write-wanting old new r s t same is disk none =
     let t_is : t ≡ s = is ∙ same in

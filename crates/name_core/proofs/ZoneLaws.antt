@@ -1,4 +1,4 @@
--- What is told of a directory that was made a zone.
+-- Info of a directory that was made a zone.
 use Rattle.std.proofs.Common.{◌≡◌, ℕ, ◌⊎◌, inl, inr, Bool, true, false, cond, ◌&&◌, is_some, nat_lt, length, List, [], ◌∷◌, Option, Some, None, refl, sym, ap, ◌∙◌, subst, arith}
 use Rattle.std.specs.Prelude.{◌==◌}
 use Rattle.std.specs.Bool.{⊤}

@@ -1,4 +1,4 @@
--- Asks: what each is refused for when it is made and when it is finished, and what it leaves.
+-- Asks: why each is refused when it is made and when it is finished, and the state it leaves.
 use Rattle.std.specs.Prelude.{◌≡◌, ℕ, ◌+◌, Bool, not, List, [], ◌∷◌, ◌++◌, Option, Some, None, if◌then◌else◌, Result, Ok, Err, ◌==◌}
 use Rattle.hk_base.specs.declared.names.Edek.{Edek}
 use Rattle.hk_base.specs.declared.names.KeyName.{KeyName}
@@ -45,7 +45,7 @@ abbrev pub wanted_under : Option KeyName → Want
 wanted_under None = want.Nothing
 wanted_under (Some key) = want.Generate key
 
--- a file in a zone wants a key of the zone's key, and a zone that its key stands
+-- a file in a zone wants an encrypted key of the zone's key, and a zone wants the metadata of its key
 abbrev pub wanted : List Entry → Ask → Want
 wanted rows (ask.Create p) = wanted_under (key_of_zone rows p)
 wanted rows (ask.Zone p key) = want.Metadata key
@@ -60,7 +60,7 @@ asked s a = record s { next = s.next + 1; asks = s.asks ++ opened s a ∷ [] }
 abbrev pub note_of : OpenAsk → AskNote
 note_of a = record { id = a.id; want = a.want }
 
--- what an ask comes to: its note or why it was refused, and the state after it
+-- the result of an ask: its note or its refusal, and the state after it
 pub record AskOutcome : Type 0 where
   pub told : Result AskNote NameRefusal
   pub state : NameState
@@ -76,12 +76,12 @@ abbrev pub ask_outcome : NameState → Text → Ask → Ending → AskOutcome
 ask_outcome s user a Plain = unless_not_asked (first_cause (ask_causes s user a)) s a
 ask_outcome s user a NoRoom = ask_refused refusal.NoMemory s
 
--- memory is wanting only where no other refusal comes
+-- memory may run out only if no other refusal applies
 abbrev pub AskMayEnd : NameState → Text → Ask → Ending → Type 0
 AskMayEnd s user a Plain = Unit {0}
 AskMayEnd s user a NoRoom = first_cause (ask_causes s user a) ≡ None
 
--- From s, an ask of the user may be answered so and leave s'.
+-- From s, an ask of the user may get this answer and leave s'.
 abbrev pub Asks : NameState → Text → Ask → Result AskNote NameRefusal → NameState → Type 0
 Asks s user a told s' = (e : Ending) × AskMayEnd s user a e × (record { told = told; state = s' } ≡ ask_outcome s user a e)
 
@@ -91,11 +91,11 @@ Asks s user a told s' = (e : Ending) × AskMayEnd s user a e × (record { told =
 abbrev pub is_other_zone : List Entry → OpenAsk → Bool
 is_other_zone rows a = not (same_id (zone_id rows (path_asked a.ask)) a.zone)
 
--- the encrypted key that was given is none of the zone's key, or one is missing or too much
+-- the given encrypted key is not of the zone's key, or is missing, or is given without a zone
 abbrev pub is_other_key : List Entry → NPath → Option Edek → Bool
 is_other_key rows p edek = not (fits_zone (key_of_zone rows p) edek)
 
--- All is checked again, but who asked. A reply that doesn't answer what the ask wanted is refused as a zone that changed.
+-- All is checked again, except the user and the next id. For a file, a key that doesn't fit the zone is refused with ZoneChanged.
 abbrev pub finish_causes : List Entry → OpenAsk → Option Edek → Ask → List (Bool × NameRefusal)
 finish_causes rows a edek (ask.Create p) =
     path_causes p ++ to_be_made rows p
@@ -107,7 +107,7 @@ abbrev pub finish_op : ℕ → Option Edek → Ask → EditOp
 finish_op id edek (ask.Create p) = op.File id p edek
 finish_op id edek (ask.Zone p key) = op.Zone p key
 
--- what a finish comes to: why it was refused, if it was, and the state after it
+-- the result of a finish: its refusal, if it was refused, and the state after it
 pub record FinishOutcome : Type 0 where
   pub told : Result (Unit {0}) NameRefusal
   pub state : NameState
@@ -115,7 +115,7 @@ pub record FinishOutcome : Type 0 where
 abbrev pub finish_refused : NameRefusal → NameState → FinishOutcome
 finish_refused why s = record { told = Err why; state = s }
 
--- the ask is open no more
+-- the ask is no longer open
 abbrev pub closed : NameState → ℕ → NameState
 closed s id = record s { asks = without s.asks id }
 
@@ -126,7 +126,7 @@ abbrev pub unless_stopped : Option NameRefusal → NameState → OpenAsk → Opt
 unless_stopped (Some why) s a edek = finish_refused why (closed s a.id)
 unless_stopped None s a edek = record { told = Ok tt; state = finished s a edek }
 
--- A finish takes its ask away, whatever it answers, but where memory is wanting, which is so only where nothing else stops it.
+-- A finish closes its ask, whatever it answers, unless memory runs out, which it may only if nothing else stops the finish.
 abbrev pub finish_outcome : NameState → OpenAsk → Option Edek → Ending → FinishOutcome
 finish_outcome s a edek Plain = unless_stopped (first_cause (finish_causes s.table.rows a edek a.ask)) s a edek
 finish_outcome s a edek NoRoom = finish_refused refusal.NoMemory s
@@ -135,7 +135,7 @@ abbrev pub FinishMayEnd : NameState → OpenAsk → Option Edek → Ending → T
 FinishMayEnd s a edek Plain = Unit {0}
 FinishMayEnd s a edek NoRoom = first_cause (finish_causes s.table.rows a edek a.ask) ≡ None
 
--- From s, while nothing is pending, a finish of an open ask with this encrypted key may be answered so and leave s'.
+-- From s, while nothing is pending, a finish of an open ask with this encrypted key may get this answer and leave s'.
 abbrev pub Finishes : NameState → OpenAsk → Option Edek → Result (Unit {0}) NameRefusal → NameState → Type 0
 Finishes s a edek told s' = (e : Ending) × FinishMayEnd s a edek e × (record { told = told; state = s' } ≡ finish_outcome s a edek e)
 

@@ -1,4 +1,4 @@
--- The calls of the namesystem: what each is refused for, what it answers, and what it leaves.
+-- The calls of the namesystem: why each is refused, what it answers, and the state it leaves.
 use Rattle.std.specs.Prelude.{◌≡◌, ℕ, ◌+◌, ◌&&◌, Bool, true, not, List, [], ◌∷◌, ◌++◌, Option, Some, None, is_some, is_none, option_map, bytes_eq, codes}
 use Rattle.hk_base.specs.declared.texts.Text.{Text}
 use Rattle.edit_ops.specs.declared.ops.EditOp.{EditOp}
@@ -32,7 +32,7 @@ info_causes rows p = (is_none (row_at rows p), refusal.NoSuchPath) ∷ []
 abbrev pub list_causes : List Entry → NPath → List (Bool × NameRefusal)
 list_causes rows p = (is_none (row_at rows p), refusal.NoSuchPath) ∷ (not (is_dir_at (row_at rows p)), refusal.NotADirectory) ∷ []
 
--- a directory that has something in it is deleted only together with that
+-- a directory that is not empty is deleted only recursively
 abbrev pub delete_causes : List Entry → NPath → Bool → List (Bool × NameRefusal)
 delete_causes rows p recursive = removal_causes rows p ++ (not recursive && has_children rows p, refusal.NotEmpty) ∷ []
 
@@ -43,7 +43,7 @@ causes s (call.Info p) = info_causes s.table.rows p
 causes s (call.List p) = list_causes s.table.rows p
 causes s call.Zones = []
 
--- why a call is refused before anything is settled: its path is outside the rule of absolute paths, or it is the superuser's alone
+-- why a call is refused before anything is settled: its path begins with `.reserved`, or only the superuser may make the call
 
 abbrev pub superuser : List ℕ
 superuser = codes "hdfs"
@@ -61,7 +61,7 @@ early_causes user (call.Info p) = path_causes p
 early_causes user (call.List p) = path_causes p
 early_causes user call.Zones = (not (is_superuser user), refusal.NotSuperuser) ∷ []
 
--- What a call that is not refused does: its answer, what it changes of the table, and the state in which that takes effect.
+-- What a call that is not refused does: its answer, its change of the table, and the state in which the change takes effect.
 pub record Deed : Type 0 where
   pub answer : NameReply
   pub logs : Option EditOp
@@ -78,7 +78,7 @@ only_answer s answer = record { answer = answer; logs = None; state = s }
 abbrev pub path_of_zone : List Entry → NPath → Option NPath
 path_of_zone rows p = option_map (λ e. e.path) (zone_of rows p)
 
--- what is told of a row: its id, the path of the zone that it lies in, and its own key
+-- the reply for a row: its id, the path of the zone that it lies in, and its own key
 abbrev pub shown : ℕ → Option NPath → Kind → NameReply
 shown id path (Dir key) = reply.Dir id path key
 shown id path (File edek) = reply.File id path edek
@@ -101,12 +101,12 @@ abbrev pub done_with : Option EditOp → NameState → NameState
 done_with None s = s
 done_with (Some op) s = took s op
 
--- what a call comes to: its reply, and the state after it
+-- the result of a call: its reply, and the state after it
 pub record Outcome : Type 0 where
   pub told : NameReply
   pub state : NameState
 
--- a refusal leaves the state as it was
+-- a refusal leaves the state unchanged
 abbrev pub refused : NameRefusal → NameState → Outcome
 refused why s = record { told = reply.Refused why; state = s }
 
@@ -114,12 +114,12 @@ abbrev pub unless_refused : Option NameRefusal → NameState → Deed → Outcom
 unless_refused (Some why) s d = refused why s
 unless_refused None s d = record { told = d.answer; state = done_with d.logs d.state }
 
--- what is free in a call: memory may be wanting
+-- what is left open in a call: memory may run out
 pub data Ending : Type 0 where
   Plain : Ending
   NoRoom : Ending
 
--- a change takes memory for its record, a list for itself, and the path of a zone
+-- the calls that allocate: a change its record, each list itself, and an info the path of a zone
 abbrev pub takes_memory : NameState → NameCall → Bool
 takes_memory s (call.Mkdir p) = true
 takes_memory s (call.Delete p recursive) = true
@@ -127,7 +127,7 @@ takes_memory s (call.Info p) = is_some (path_of_zone s.table.rows p)
 takes_memory s (call.List p) = true
 takes_memory s call.Zones = true
 
--- memory is wanting only where the call takes some and no other refusal comes
+-- memory may run out only if the call allocates and no other refusal applies
 abbrev pub MayEnd : NameState → NameCall → Ending → Type 0
 MayEnd s c Plain = Unit {0}
 MayEnd s c NoRoom = (takes_memory s c ≡ true) × (first_cause (causes s c) ≡ None)
@@ -136,6 +136,6 @@ abbrev pub outcome : NameState → NameCall → Ending → Outcome
 outcome s c Plain = unless_refused (first_cause (causes s c)) s (deed s c)
 outcome s c NoRoom = refused refusal.NoMemory s
 
--- From s, a call may be answered so and leave s'.
+-- From s, a call may get this reply and leave s'.
 abbrev pub NameActs : NameState → NameCall → NameReply → NameState → Type 0
 NameActs s c told s' = (e : Ending) × MayEnd s c e × (record { told = told; state = s' } ≡ outcome s c e)

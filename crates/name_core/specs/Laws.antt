@@ -1,4 +1,4 @@
--- What follows for what was made and what was deleted, for ids, and for asks that were finished.
+-- Properties of what was made or deleted, of ids, and of asks that were finished.
 use Rattle.std.specs.Prelude.{◌≡◌, ℕ, ◌<◌, ◌⊎◌, Bool, true, false, List, [], ◌∷◌, ◌++◌, Option, None, Some, Result, Ok, Err, bytes_eq, is_some}
 use Rattle.std.specs.List.{list_any}
 use Rattle.hk_base.specs.declared.names.Edek.{Edek}
@@ -27,22 +27,22 @@ use Rattle.name_core.specs.Calls.{NameActs, info_reply, path_of_zone}
 use Rattle.name_core.specs.Service.{FinishServes, Serves}
 use Rattle.name_core.specs.Steps.{Keeps}
 
--- what was made is told
+-- info of what was made
 
--- a directory that was made is told with the next id, the zone that its own directory lies in, and without a key
+-- info of a directory that was made returns the next id, the zone that its parent lies in, and no key, unless memory runs out
 abbrev pub MadeIsTold : Type 0
 MadeIsTold =
     (s : NameState) (p : NPath) (s' : NameState) (told : NameReply) (s'' : NameState)
     → NameActs s (call.Mkdir p) reply.Done s' → NameActs s' (call.Info p) told s''
     → (told ≡ reply.Refused refusal.NoMemory) ⊎ (told ≡ reply.Dir (next_id s) (path_of_zone s.table.rows (parent p)) None)
 
--- what is told of another path is what was told before
+-- info of another path is unchanged
 abbrev pub OthersStay : Type 0
 OthersStay =
     (s : NameState) (p : NPath) (s' : NameState) (q : NPath)
     → NameActs s (call.Mkdir p) reply.Done s' → (q ≡ p → ⊥) → info_reply s'.table.rows q ≡ info_reply s.table.rows q
 
--- a file that was made is told with the id of its ask, the zone that its own directory lies in, and the encrypted key that was given
+-- info of a file that was made returns the id of its ask, the zone of its parent, and the given encrypted key, unless memory runs out
 abbrev pub FileIsTold : Type 0
 FileIsTold =
     (s : NameState) (a : OpenAsk) (p : NPath) (edek : Option Edek) (s' : NameState) (told : NameReply) (s'' : NameState)
@@ -55,13 +55,13 @@ ZoneIsAsAsked =
     (s : NameState) (a : OpenAsk) (p : NPath) (edek : Option Edek) (s' : NameState)
     → a.ask ≡ ask.Create p → Finishes s a edek (Ok tt) s' → zone_id s.table.rows (parent p) ≡ a.zone
 
--- what is told of another path is what was told before the finish
+-- info of another path is unchanged by the finish
 abbrev pub OthersStayByFile : Type 0
 OthersStayByFile =
     (s : NameState) (a : OpenAsk) (p : NPath) (edek : Option Edek) (s' : NameState) (q : NPath)
     → a.ask ≡ ask.Create p → Finishes s a edek (Ok tt) s' → (q ≡ p → ⊥) → info_reply s'.table.rows q ≡ info_reply s.table.rows q
 
--- a directory that was made a zone is told with the id that it had, itself as its zone, and the key that was asked for
+-- info of a directory that was made a zone returns the id that it had, itself as its zone, and the key of the ask, unless memory runs out
 abbrev pub ZoneIsTold : Type 0
 ZoneIsTold =
     (s : NameState) (a : OpenAsk) (p : NPath) (key : KeyName) (edek : Option Edek) (s' : NameState) (told : NameReply) (s'' : NameState)
@@ -70,19 +70,19 @@ ZoneIsTold =
 
 -- what was deleted is gone
 
--- nothing is told of the path that was deleted, nor of one below it
+-- info of the path that was deleted, or of one below it, is refused with NoSuchPath
 abbrev pub DeletedIsGone : Type 0
 DeletedIsGone =
     (s : NameState) (p : NPath) (recursive : Bool) (s' : NameState) (q : NPath) (told : NameReply) (s'' : NameState)
     → NameActs s (call.Delete p recursive) reply.Done s' → is_prefix p q ≡ true → NameActs s' (call.Info q) told s'' → told ≡ reply.Refused refusal.NoSuchPath
 
--- what is told of another path is what was told before
+-- info of another path is unchanged
 abbrev pub OthersStayByDelete : Type 0
 OthersStayByDelete =
     (s : NameState) (p : NPath) (recursive : Bool) (s' : NameState) (q : NPath)
     → NameActs s (call.Delete p recursive) reply.Done s' → is_prefix p q ≡ false → info_reply s'.table.rows q ≡ info_reply s.table.rows q
 
--- a list tells a name exactly where something stands at that name in the directory
+-- a list has a name exactly if the directory has an entry of that name
 abbrev pub ListTellsChildren : Type 0
 ListTellsChildren =
     (s : NameState) (p : NPath) (list : List Child) (s' : NameState) (name : List ℕ)
@@ -99,11 +99,11 @@ abbrev pub AskIdsRise : Type 0
 AskIdsRise =
     (s : NameState) (user : Text) (a : Ask) (note : AskNote) (s' : NameState) → Asks s user a (Ok note) s' → (note.id ≡ next_id s) × (next_id s < next_id s')
 
--- the ids of rows, of open asks and of the operation that waits are below the next one, and no two of them are the same
+-- ids of rows, open asks and the pending operation are below the next one; no open ask has the id of another one, a row or the operation
 abbrev pub IdsBelowNext : NameService → Type 0
 IdsBelowNext s = Keeps s
 
--- that is so of what every namesystem is
+-- this is true of each namesystem
 abbrev pub NamesKeepIds : Type 0
 NamesKeepIds = (s : NameService) → IsNames s → IdsBelowNext s
 
@@ -117,13 +117,13 @@ pub data IsStep (s s' : NameService) : Type 0 where
   Asked : (user : Text) (a : Ask) (told : Result AskNote NameRefusal) → Asks s.names user a told s'.names → s'.pending ≡ s.pending → IsStep s s'
   Finished : (id : ℕ) (given : KeyAnswer) (told : Result (Unit {0}) NameRefusal) (logged : List EditOp) → FinishServes s id given AnyFault told logged s' → IsStep s s'
 
--- each step leaves it so, and the next id is no lower behind it
+-- it stays true in each step
 abbrev pub IdsStayBelow : Type 0
 IdsStayBelow = (s s' : NameService) → IsStep s s' → IdsBelowNext s → IdsBelowNext s'
 
 -- an ask is finished once
 
--- a finish right after one of the same id finds no open ask, whatever the first one answered but want of memory
+-- a finish right after one of the same id finds no open ask, whatever the first one answered except NoMemory
 abbrev pub FinishedOnce : Type 0
 FinishedOnce =
     (s : NameService) (id : ℕ) (given : KeyAnswer) (told : Result (Unit {0}) NameRefusal) (logged : List EditOp) (s' : NameService) (given' : KeyAnswer)
@@ -136,7 +136,7 @@ abbrev pub Reaches : NameService → List NameService → NameService → Type 0
 Reaches s [] t = t ≡ s
 Reaches s (m ∷ ms) t = IsStep s m × Reaches m ms t
 
--- nor is an ask that was open found by its id after any steps that come behind its finish
+-- nor is an ask that was open found by its id after such a finish and any steps
 abbrev pub FinishedForGood : Type 0
 FinishedForGood =
     (s : NameService) (id : ℕ) (a : OpenAsk) (given : KeyAnswer) (told : Result (Unit {0}) NameRefusal) (logged : List EditOp) (s' : NameService) (between : List NameService) (t : NameService)

@@ -32,7 +32,7 @@ abbrev pub listed : Option EditOp → List EditOp
 listed None = []
 listed (Some op) = op ∷ []
 
--- an operation is acknowledged by an answer that is no refusal
+-- an operation is acknowledged by an answer that is not a refusal
 abbrev pub acknowledged : NameReply → Option EditOp → List EditOp
 acknowledged (reply.Refused why) logs = []
 acknowledged _ logs = listed logs
@@ -49,7 +49,7 @@ pub record OnlyReads (s : NameService) (c : NameCall) (told : NameReply) (logged
   pub none_logged : logged ≡ []
   pub same : s' ≡ s
 
--- The pending operation could not be settled: it is still pending, and nothing was done.
+-- The pending operation could not be settled: it is still pending, and nothing changed.
 pub record Unsettled (s : NameService) (fault : Type 0) (told : NameReply) (logged : List EditOp) (s' : NameService) : Type 0 where
   pub waits : is_some s.pending ≡ true
   pub failed : fault
@@ -57,15 +57,14 @@ pub record Unsettled (s : NameService) (fault : Type 0) (told : NameReply) (logg
   pub none_logged : logged ≡ []
   pub same : s' ≡ s
 
--- A change beside which nothing is pending, behind the operations that were settled. What it did was written to the log, if it did
--- anything.
+-- A change while nothing is pending, after the operations that were settled. If it did anything, its operation was written.
 pub record Written (names : NameState) (before : List EditOp) (c : NameCall) (told : NameReply) (logged : List EditOp) (s' : NameService) : Type 0 where
   pub changed : NameState
   pub acts : NameActs names c told changed
   pub logged_is : logged ≡ before ++ acknowledged told (deed names c).logs
   pub left : s' ≡ record { names = changed; pending = None }
 
--- The disk failed when the record of the change was written: its operation is pending, its id is used, and nothing else changed.
+-- The disk failed while the change was written: its operation is pending, its id is used, and nothing else changed.
 pub record Unwritten (names : NameState) (before : List EditOp) (c : NameCall) (fault : Type 0) (told : NameReply) (logged : List EditOp) (s' : NameService) : Type 0 where
   pub failed : fault
   pub free : first_cause (causes names c) ≡ None
@@ -84,14 +83,14 @@ abbrev pub ServesUnless : Option NameRefusal → NameService → NameCall → Ty
 ServesUnless (Some why) s c fault told logged s' = RefusedEarly why s told logged s'
 ServesUnless None s c fault told logged s' = ServesBy (is_change c) s c fault told logged s'
 
--- From s, a call of a user may be answered so, have these operations acknowledged, and leave s'. A store fault comes only where
--- `fault` holds. An operation that was pending is acknowledged where it was found to be kept.
+-- From s, a call of a user may get this reply, acknowledge these operations and leave s'. A store fault comes only if `fault`
+-- holds. A pending operation is acknowledged if it is found in the log.
 abbrev pub Serves : NameService → Text → NameCall → Type 0 → NameReply → List EditOp → NameService → Type 0
 Serves s user c fault told logged s' = ServesUnless (first_cause (early_causes user c)) s c fault told logged s'
 
 -- finishing an ask
 
--- it is refused before anything is settled, and this is left
+-- it is refused before anything is settled, and `left` is the state after it
 pub record EndsEarly (why : NameRefusal) (left : NameService) (told : Result (Unit {0}) NameRefusal) (logged : List EditOp) (s' : NameService) : Type 0 where
   pub told_is : told ≡ Err why
   pub none_logged : logged ≡ []
@@ -100,7 +99,7 @@ pub record EndsEarly (why : NameRefusal) (left : NameService) (told : Result (Un
 abbrev pub closed_service : NameService → OpenAsk → NameService
 closed_service s a = record s { names = closed s.names a.id }
 
--- The pending operation could not be settled: it is still pending. The ask is open no more.
+-- The pending operation could not be settled: it is still pending. The ask is no longer open.
 pub record FinishUnsettled (s : NameService) (a : OpenAsk) (fault : Type 0) (told : Result (Unit {0}) NameRefusal) (logged : List EditOp) (s' : NameService) : Type 0 where
   pub waits : is_some s.pending ≡ true
   pub failed : fault
@@ -116,7 +115,7 @@ pub record FinishWritten (names : NameState) (before : List EditOp) (a : OpenAsk
   pub logged_is : logged ≡ before ++ finish_logs told (finish_op a.id edek a.ask)
   pub left : s' ≡ record { names = changed; pending = None }
 
--- The disk failed when the record was written: its operation is pending, and the ask is open no more.
+-- The disk failed while the record was written: its operation is pending, and the ask is no longer open.
 pub record FinishUnwritten (names : NameState) (before : List EditOp) (a : OpenAsk) (edek : Option Edek) (fault : Type 0) (told : Result (Unit {0}) NameRefusal) (logged : List EditOp) (s' : NameService) : Type 0 where
   pub failed : fault
   pub free : first_cause (finish_causes names.table.rows a edek a.ask) ≡ None
@@ -136,20 +135,20 @@ abbrev pub FinishServesAt : NameService → Option OpenAsk → KeyAnswer → Typ
 FinishServesAt s None given fault told logged s' = EndsEarly (ask_gone s.names) s told logged s'
 FinishServesAt s (Some a) given fault told logged s' = FinishServesOpen s a given fault told logged s'
 
--- From s, a finish of the ask of this id may be answered so, have these operations acknowledged, and leave s'.
+-- From s, a finish of the ask with this id may get this answer, acknowledge these operations and leave s'.
 abbrev pub FinishServes : NameService → ℕ → KeyAnswer → Type 0 → Result (Unit {0}) NameRefusal → List EditOp → NameService → Type 0
 FinishServes s id given fault told logged s' = FinishServesAt s (open_ask s.names.asks id) given fault told logged s'
 
 -- over a disk
 
--- What a call that was answered so and left this may write after the settled log: its own operation, if the answer acknowledges it or it
--- is pending afterwards. A call refused for a cause or for want of memory writes none, so no crash leaves one.
+-- What a call with this answer, and this state after it, may write after the settled log: its own operation, if the answer acknowledges
+-- it or it is pending afterwards. A call refused for a cause, or because memory ran out, writes none, so no crash leaves one.
 pub record OwnOf (s : NameService) (c : NameCall) (told : NameReply) (s' : NameService) (kept : Bool) (op : EditOp) : Type 0 where
   pub free : first_cause (causes (settled kept s) c) ≡ None
   pub is : (deed (settled kept s) c).logs ≡ Some op
   pub was_written : (acknowledged told (Some op) ≡ op ∷ []) ⊎ (s'.pending ≡ Some op)
 
--- and what a finish may that was answered so and left this: its own record is written where it is done, or is left pending
+-- what a finish with this answer, and this state after it, may write: its own operation, if it is done or pending afterwards
 pub record OwnOfFinish (s : NameService) (id : ℕ) (given : KeyAnswer) (told : Result (Unit {0}) NameRefusal) (s' : NameService) (kept : Bool) (op : EditOp) : Type 0 where
   pub ask : OpenAsk
   pub edek : Option Edek
@@ -159,8 +158,8 @@ pub record OwnOfFinish (s : NameService) (id : ℕ) (given : KeyAnswer) (told : 
   pub is : op ≡ finish_op ask.id edek ask.ask
   pub was_written : (told ≡ Ok tt) ⊎ (s'.pending ≡ Some op)
 
--- What a call does to its disk: the operations acknowledged are in the log behind those before, and a crash at any moment of the
--- call leaves what P says of those before.
+-- What a call does to its disk: the acknowledged operations are in the log after the earlier ones, and a crash at any moment of the
+-- call leaves the earlier ones, with the pending operation or without, and with one of `own` or without.
 pub record Logs (old new : DiskState) (r r' : RunningNames) (own : Bool → EditOp → Type 0) (logged : List EditOp) : Type 0 where
   pub stands : Tells old → (ops : List EditOp) → StandsFor old r ops → StandsFor new r' (ops ++ logged)
   pub moments : Tells old → (ops : List EditOp) → (s : StandsFor old r ops) → LeavesOnly 1 old new (IsLeftOf (made_with r.store s.used) r.store.log.pending own ops)
@@ -177,7 +176,7 @@ pub record FinishActs (old new : DiskState) (r : RunningNames) (id : ℕ) (given
   pub serves : FinishServes (service_of r) id given (Rose old.faults new.faults) told logged (service_of r')
   pub disk : Logs old new r r' (OwnOfFinish (service_of r) id given told (service_of r')) logged
 
--- A start found a table in the log, and recorded the next opening behind its operations.
+-- A start found a table in the log, and added the next opening after its operations.
 pub record Starts (old new : DiskState) (r : RunningNames) : Type 0 where
   pub found : NameTable
   pub opens : service_of r ≡ started found

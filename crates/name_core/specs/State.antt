@@ -29,25 +29,25 @@ is_spent s = nat_le (2 ^ 32) s.next
 abbrev pub is_full : NameState → Bool
 is_full s = has_most_rows s.table.rows || is_spent s
 
--- the state once an operation took effect
+-- the state after an operation took effect
 abbrev pub took : NameState → EditOp → NameState
 took s op = record s { table = after_table s.table op }
 
--- the namesystem over a disk: its state, and the operation of which the disk may or may not hold the record
+-- the namesystem over a disk: its state, and the operation whose record may or may not be on the disk
 pub record NameService : Type 0 where
   pub names : NameState
   pub pending : Option EditOp
 
--- The state once the pending operation was settled: it was kept, or not. A kept one has its effect (`took`), said field by field so
--- that a field is known without knowing the operation.
+-- The state after the pending operation was settled: kept or dropped. A kept operation takes effect (`took`); its effect is stated
+-- field by field here, so that a field is known without the operation.
 abbrev pub settled : Bool → NameService → NameState
 settled kept s = record s.names { table = settled_table kept s.pending s.names.table }
 
--- behind a start that found this table: in the opening that follows, with no ask open and nothing pending
+-- after a start that found this table: in the next opening, with no ask open and nothing pending
 abbrev pub started : NameTable → NameService
 started t = record { names = record { table = after_table t (next_opening t); next = 1; asks = [] }; pending = None }
 
--- A namesystem that runs: its store, the counter of the next id, and the open asks.
+-- A running namesystem: its store, the counter of the next id, and the open asks.
 pub record RunningNames : Type 0 where
   pub store : StoreState
   pub next : ℕ
@@ -56,7 +56,7 @@ pub record RunningNames : Type 0 where
 abbrev pub names_of : RunningNames → NameState
 names_of r = record { table = r.store.table; next = r.next; asks = r.asks }
 
--- what a running namesystem is, whatever its disk
+-- the state of a running namesystem, without its disk
 abbrev pub service_of : RunningNames → NameService
 service_of r = record { names = names_of r; pending = r.store.log.pending }
 
@@ -65,7 +65,7 @@ abbrev pub IsRising : List OpenAsk → Type 0
 IsRising [] = ⊤
 IsRising (a ∷ asks) = AllByRecursion (λ (b : OpenAsk). a.id < b.id) asks × IsRising asks
 
--- ids of rows and of open asks lie below the next one, and no row has the id of an open ask
+-- ids of rows and of open asks are below the next one, ids rise from ask to ask, and no row has the id of an open ask
 pub record IdsFit (rows : List Entry) (asks : List OpenAsk) (next : ℕ) : Type 0 where
   pub of_rows : All (λ e. e.row.id < next) rows
   pub of_asks : AllByRecursion (λ (a : OpenAsk). a.id < next) asks
@@ -86,7 +86,7 @@ pub record IsWaiting (s : NameState) (op : EditOp) : Type 0 where
   pub below : AllBelow (next_id s) (uses op)
   pub free : AreFree (uses op) s.asks
 
--- What every namesystem keeps: the rules of rows, ids in use below the next one, and the rules of the operation that waits.
+-- What is true of each namesystem: rows and the pending operation keep their rules, and ids in use are below the next one.
 pub record IsNames (s : NameService) : Type 0 where
   pub opened : 0 < s.names.table.opening
   pub few : s.names.next ≤ 2 ^ 32
@@ -95,7 +95,7 @@ pub record IsNames (s : NameService) : Type 0 where
   pub recent : AreRecent s.names.table.opening s.names.asks
   pub waits : IfSome s.pending (IsWaiting s.names)
 
--- The log stands for these acknowledged operations. The ids that they used lie below the next one, and no open ask has one.
+-- The log holds these acknowledged operations. The ids that they used are below the next one, and no open ask has one.
 pub record StandsFor (disk : DiskState) (r : RunningNames) (ops : List EditOp) : Type 0 where
   pub used : List ℕ
   pub store : store.StandsFor disk r.store used ops

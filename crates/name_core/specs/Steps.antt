@@ -1,4 +1,4 @@
--- The steps of a call that the namesystem takes one after another.
+-- The steps that the namesystem takes in a call.
 use Rattle.std.specs.Prelude.{◌≡◌, ◌⊎◌, ◌≤◌, ◌^◌, ℕ, Bool, true, false, List, [], ◌∷◌, ◌++◌, Option, None, Some, Result, Ok, Err, IfSome, is_some}
 use Rattle.std.specs.List.{AllByRecursion}
 use Rattle.hk_base.specs.Disk.{DiskState, Tells, RunOn, LeavesOnly}
@@ -24,7 +24,7 @@ use Rattle.name_core.specs.Asks.{finish_causes, finish_op}
 use Rattle.name_core.specs.Calls.{causes, deed, done_with, first_cause, info_causes, info_reply, path_of_zone}
 use Rattle.name_core.specs.Service.{Changes, Concludes, OwnOf, ServesBy, acknowledged}
 
--- what stands at the path is told, or memory is wanting for the path of its zone
+-- the reply of info at the path, or memory ran out for the path of its zone
 abbrev pub TellsOf : List Entry → NPath → NameReply → Type 0
 TellsOf rows p told =
     (told ≡ info_reply rows p) ⊎ ((told ≡ Refused NoMemory) × (is_some (path_of_zone rows p) ≡ true) × (first_cause (info_causes rows p) ≡ None))
@@ -33,21 +33,21 @@ TellsOf rows p told =
 abbrev pub AreKeyed : List (ℕ × OpenAsk) → Type 0
 AreKeyed entries = AllByRecursion (λ (e : ℕ × OpenAsk). e.0 ≡ e.1.id) entries
 
--- an operation that waits is no opening, its ids are taken, and no open ask has one
+-- a pending operation is not an opening, its ids are taken, and no open ask has one
 pub record IsApart (s : NameState) (op : EditOp) : Type 0 where
   pub no_opening : is_opening op ≡ false
   pub below : AllBelow (next_id s) (uses op)
   pub free : AreFree (uses op) s.asks
 
--- What a namesystem keeps of ids beside its store: those in use lie below the next one, those of open asks are of this opening, and
--- no open ask has one that the operation that waits uses.
+-- What is true of ids, apart from the rules of the store: those in use are below the next one, those of open asks are of this opening,
+-- and no open ask has one that the pending operation uses.
 pub record Keeps (s : NameService) : Type 0 where
   pub few : s.names.next ≤ 2 ^ 32
   pub ids : IdsFit s.names.table.rows s.names.asks (next_id s.names)
   pub recent : AreRecent s.names.table.opening s.names.asks
   pub waits : IfSome s.pending (IsApart s.names)
 
--- An operation and the state that its call leaves beside what the operation itself does: ids are in order behind it.
+-- An operation, and the state that its call leaves apart from the effect of the operation: ids are in order after it.
 pub record IsBehind (s : NameState) (op : EditOp) (left : NameState) : Type 0 where
   pub no_opening : is_opening op ≡ false
   pub same_table : left.table ≡ s.table
@@ -58,7 +58,7 @@ pub record IsBehind (s : NameState) (op : EditOp) (left : NameState) : Type 0 wh
   pub below : AllBelow (next_id left) (uses op)
   pub free : AreFree (uses op) left.asks
 
--- such an operation that may be written: the table allows it, and no operation before used its id
+-- such an operation that may be written: the table allows it, and no earlier operation used its id
 pub record MayWrite (s : NameState) (op : EditOp) (left : NameState) : Type 0 where
   pub behind : IsBehind s op left
   pub allowed : allows s.table op ≡ true
@@ -66,8 +66,8 @@ pub record MayWrite (s : NameState) (op : EditOp) (left : NameState) : Type 0 wh
   pub fresh : (used : List ℕ) → AllBelow (next_id s) used → AreFree used s.asks → is_fresh used op ≡ true
   pub fewer : (used : List ℕ) → AreFree used s.asks → AreFree used left.asks
 
--- What a crash may leave of a log of these operations, which come to this, while nothing is pending: that log, with one operation
--- more, which is its call's own and applies, or without it.
+-- What a crash may leave of a log of these operations, which replay to `made`, while nothing is pending: the log with or without one
+-- more operation, which is the call's own and applies.
 pub record Grows (made : Replayed) (own : EditOp → Type 0) (ops : List EditOp) (bytes : List ℕ) : Type 0 where
   pub more : Option EditOp
   pub more_is : IfSome more own
@@ -81,14 +81,14 @@ Growing r own used ops bytes = Grows (made_with r.store used) own ops bytes
 abbrev pub Leaving : RunningNames → (Bool → EditOp → Type 0) → List ℕ → List EditOp → List ℕ → Type 0
 Leaving r own used ops bytes = IsLeftOf (made_with r.store used) r.store.log.pending own ops bytes
 
--- What a step does to its disk: the operations acknowledged are in the log behind those before, and a crash at any moment of the
--- step leaves what P says of those before and the ids that they used.
+-- What a step does to its disk: the acknowledged operations are in the log after the earlier ones, and a crash at any moment of the
+-- step leaves what P allows for the earlier ones and the ids that they used.
 pub record Logging (old new : DiskState) (r r' : RunningNames) (P : List ℕ → List EditOp → List ℕ → Type 0) (logged : List EditOp) : Type 0 where
   pub stands : Tells old → (ops : List EditOp) → StandsFor old r ops → StandsFor new r' (ops ++ logged)
   pub moments : Tells old → (ops : List EditOp) → (s : StandsFor old r ops) → LeavesOnly 1 old new (P s.used ops)
   pub run : RunOn 1 old new
 
--- the pending operation was settled, and was kept or not
+-- the pending operation was settled: kept or dropped
 pub record Settling (old new : DiskState) (r r' : RunningNames) : Type 0 where
   pub kept : Bool
   pub service : service_of r' ≡ record { names = settled kept (service_of r); pending = None }
@@ -106,7 +106,7 @@ pub record IsDone (old new : DiskState) (r : RunningNames) (left : NameState) (o
   pub service : service_of r' ≡ record { names = done_with (Some op) left; pending = None }
   pub disk : Logging old new r r' (Growing r (λ own. own ≡ op)) (op ∷ [])
 
--- memory is wanting, and nothing changes
+-- memory ran out, and nothing changes
 pub record IsWanting (old new : DiskState) (r r' : RunningNames) : Type 0 where
   pub service : service_of r' ≡ record { names = names_of r; pending = None }
   pub disk : Logging old new r r' (Growing r (λ own. ⊥)) []
@@ -117,13 +117,13 @@ pub record IsPendingNow (old new : DiskState) (r : RunningNames) (left : NameSta
   pub service : service_of r' ≡ record { names = left; pending = Some op }
   pub disk : Logging old new r r' (Growing r (λ own. own ≡ op)) []
 
--- what comes of an operation that was to be written while nothing was pending
+-- the result of writing an operation while nothing is pending
 abbrev pub Writes : DiskState → DiskState → RunningNames → NameState → EditOp → Result (Unit {0}) StoreRefusal → RunningNames → Type 0
 Writes old new r left op (Ok done) r' = IsDone old new r left op r'
 Writes old new r left op (Err store.NoMemory) r' = IsWanting old new r r'
 Writes old new r left op (Err store.StoreFault) r' = IsPendingNow old new r left op r'
 
--- what a refusal of the store is told as
+-- the refusal of the namesystem for one of its store
 abbrev pub refusal_of : StoreRefusal → NameRefusal
 refusal_of store.NoMemory = NoMemory
 refusal_of store.StoreFault = StoreFault
@@ -136,13 +136,13 @@ abbrev pub finish_told : Result (Unit {0}) StoreRefusal → Result (Unit {0}) Na
 finish_told (Ok done) = Ok done
 finish_told (Err why) = Err (refusal_of why)
 
--- a call that is not refused before anything is settled
+-- a change that is not refused before anything is settled
 pub record ActsOn (old new : DiskState) (r : RunningNames) (c : NameCall) (told : NameReply) (r' : RunningNames) : Type 0 where
   pub logged : List EditOp
   pub serves : ServesBy true (service_of r) c (Rose old.faults new.faults) told logged (service_of r')
   pub disk : Logging old new r r' (Leaving r (OwnOf (service_of r) c told (service_of r'))) logged
 
--- what a change that was answered so and left this may write while nothing is pending
+-- the operation that a change with this answer and this state after it may write, while nothing is pending
 abbrev pub OwnChange : NameState → NameCall → NameReply → NameService → EditOp → Type 0
 OwnChange s c told s' op =
     (first_cause (causes s c) ≡ None) × ((deed s c).logs ≡ Some op) × ((acknowledged told (Some op) ≡ op ∷ []) ⊎ (s'.pending ≡ Some op))
@@ -153,7 +153,7 @@ pub record ActsSettled (old new : DiskState) (r : RunningNames) (c : NameCall) (
   pub changes : Changes (names_of r) [] c (Rose old.faults new.faults) told logged (service_of r')
   pub disk : Logging old new r r' (Growing r (OwnChange (names_of r) c told (service_of r'))) logged
 
--- what a finish that was answered so and left this may write while nothing is pending
+-- the operation that a finish with this answer and this state after it may write, while nothing is pending
 abbrev pub OwnFinish : NameState → OpenAsk → Option Edek → Result (Unit {0}) NameRefusal → NameService → EditOp → Type 0
 OwnFinish s a edek told s' op =
     (first_cause (finish_causes s.table.rows a edek a.ask) ≡ None) × (op ≡ finish_op a.id edek a.ask) × ((told ≡ Ok tt) ⊎ (s'.pending ≡ Some op))
