@@ -1,4 +1,4 @@
--- An ask leaves the edit log standing.
+-- After an ask the edit log holds the same operations.
 use Rattle.std.proofs.Common.{◌≡◌, ℕ, ◌≤◌, ◌==◌, false, List, [], ◌∷◌, ◌++◌, Option, Some, None, refl, sym, ap, subst, arith}
 use Rattle.std.specs.Prelude.{◌||◌}
 use Rattle.std.specs.declared.result.Result.{Result}

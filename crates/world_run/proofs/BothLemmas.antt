@@ -1,4 +1,4 @@
--- A run of calls on one file, beside the log of the other.
+-- A run of calls on one file, with the log of the other.
 use Rattle.std.proofs.Common.{◌≡◌, ◌⊎◌, inl, inr, ℕ, Bool, List, [], ◌++◌, map, option_map, sym, subst, ⊎_elim}
 use Rattle.std.proofs.lemmas.List.{append-nil}
 use Rattle.hk_base.specs.Disk.{DiskState, Image, LeavesOnly, RunOn, Tells}
@@ -20,7 +20,7 @@ use Rattle.world_run.proofs.KeyLemmas.{keys-weaker}
 use Rattle.world_run.proofs.StepLemmas.{own-weaker}
 use Rattle.name_store.proofs.Layers.{left_by_store as left_by_names}
 
--- what the other log stands for
+-- the records of the other log
 
 pub keys-beside : (old new : DiskState) (store : StoreState) (commands : List KeyCommand) → store.log.file ≡ 0 → RunOn 1 old new → Tells old → StandsFor old store commands → StandsFor new store commands
 keys-beside old new store commands of_file run told s = record {
@@ -60,7 +60,7 @@ leaves-names old new P Q f moments = record { before = λ t c le left. ⊎_elim 
 pub leaves-weaker : (old new : DiskState) (P Q : Image → Type 0) → ((c : Image) → P c → Q c) → LeavesBoth old new P → LeavesBoth old new Q
 leaves-weaker old new P Q f moments = record { before = λ t c le left. ⊎_elim (λ past. inl past) (λ now. inr (f c now)) (moments.before t c le left) }
 
--- what a crash may leave of both logs, these being acknowledged; `own_keys` and `own` say what may be written behind each settled log
+-- what a crash may leave of both logs, if these are acknowledged; `own_keys` and `own` say what may be written after each settled log
 pub record IsLeftOfBoth (r : RunningWorld) (own_keys : Bool → KeyCommand → Type 0) (own : Bool → EditOp → Type 0) (done : Acknowledged) (used : List ℕ) (c : Image) : Type 0 where
   pub keys : IsLeftOf r.keys.store.table.keys r.keys.store.pending own_keys done.keys (c 0)
   pub names : IsLeftOfNames (made_with r.names.store used) r.names.store.log.pending own done.names (c 1)
@@ -68,7 +68,7 @@ pub record IsLeftOfBoth (r : RunningWorld) (own_keys : Bool → KeyCommand → T
 abbrev pub LeavesLogs : DiskState → DiskState → RunningWorld → (Bool → KeyCommand → Type 0) → (Bool → EditOp → Type 0) → Type 0
 LeavesLogs old new r own_keys own = (done : Acknowledged) (s : HoldsLogs old r done) → LeavesBoth old new (IsLeftOfBoth r own_keys own done s.names.used)
 
--- of the file that an event doesn't work on a crash leaves what it might have left before
+-- a crash leaves of the other file, on which an event doesn't work, what it might have left before
 
 pub keys-now : (d : DiskState) (r : RunningWorld) (own_keys : Bool → KeyCommand → Type 0) (done : Acknowledged) → r.keys.store.log.file ≡ 0 → ServicesFit (world_of r) → HoldsLogs d r done → (bytes : List ℕ) → d.leaves 0 bytes
     → IsLeftOf r.keys.store.table.keys r.keys.store.pending own_keys done.keys bytes
@@ -101,7 +101,7 @@ pub one-runs : (old new : DiskState) (r r' : RunningWorld) (own_keys : Bool → 
 one-runs old new r r' own_keys own logged (inl k) = both-of 0 old new k.log.run
 one-runs old new r r' own_keys own logged (inr n) = both-of 1 old new n.log.run
 
--- what is acknowledged is in the logs
+-- acknowledged records are in the logs
 
 pub one-holds : (old new : DiskState) (r r' : RunningWorld) (own_keys : Bool → KeyCommand → Type 0) (own : Bool → EditOp → Type 0) (logged : Acknowledged) → r.keys.store.log.file ≡ 0 → r.names.store.log.log.file ≡ 1
     → OnKeys old new r r' own_keys logged ⊎ OnNames old new r r' own logged → Tells old → (done : Acknowledged) → HoldsLogs old r done → HoldsLogs new r' (also done logged)

@@ -60,7 +60,7 @@ survives-left d r own_keys own done s fit c left = record {
   names = record { kept = left.names.kept; more = left.names.more; more_is = left.names.more_is; used = _; log = names-left d r own_keys own done s c left };
 }
 
--- what is left now, while nothing is written
+-- what a crash leaves now, while nothing is written
 pub left-now : (d : DiskState) (r : RunningWorld) (own_keys : Bool → KeyCommand → Type 0) (own : Bool → EditOp → Type 0) (done : Acknowledged) → r.keys.store.log.file ≡ 0 → r.names.store.log.log.file ≡ 1 → ServicesFit (world_of r) → (s : HoldsLogs d r done) → (c : Image) → IsImage d c
     → IsLeftOfBoth r own_keys own done s.names.used c
 left-now d r own_keys own done keys_file names_file fit s c image =
@@ -88,7 +88,7 @@ sound-left d r ledger place own_keys own files owns done s fit c left = record {
         room-found (done.keys ++ settled_commands left.keys.kept r.keys.store.pending) found left.keys.more (settled left.keys.kept (world_of r).keys).table
         (keys-left d r own_keys own done s fit c left).makes left.keys.fits
 
--- what is left is both: logs of what is acknowledged, and files that a run may start from
+-- a crash leaves both: logs of the acknowledged records, and files that a run may start from
 pub left-sound : (d : DiskState) (r : RunningWorld) (after : Hidden → Hidden) (own_keys : Bool → KeyCommand → Type 0) (own : Bool → EditOp → Type 0) → ServicesFit (world_of r)
     → ((h : Hidden) → LinkedWorld (world_of r) h → LinkedFiles (world_of r) (after h).ledger (after h).place) → ((h : Hidden) → LinkedWorld (world_of r) h → OwnLinks (world_of r) (after h).ledger own)
     → (done : Acknowledged) (s : HoldsLogs d r done) → (c : Image) → IsLeftOfBoth r own_keys own done s.names.used c → Survives (world_of r) done own_keys own c × SoundFrom (LinkedWorld (world_of r)) after c
@@ -106,7 +106,7 @@ pub rests-now : (d : DiskState) (r : RunningWorld) → r.keys.store.log.file ≡
 rests-now d r keys_file names_file fit done s c image =
     left-sound d r (λ h. h) NoCommand NothingMore fit (world-files (world_of r)) (λ h l. own-of-nothing (world_of r) h) done s c (left-now d r NoCommand NothingMore done keys_file names_file fit s c image)
 
--- what an event may write keeps the files linked, with the ledger behind it
+-- a record that an event may write keeps the files linked, with the ledger after it
 
 finish-owns : (w : WorldState) (h : Hidden) (words : ℕ → ℕ) (drawn number : ℕ) (reply : Option KeptReply) (fault : Type 0) (told : Line) (logged : Acknowledged) (w' : WorldState) → numbered w.kept.replies number ≡ reply
     → FinishReply w reply fault told drawn logged w' → ServicesFit w → LinkedWorld w h → OwnLinks w (hidden_after w words (event.Finish number) told drawn w' h).ledger (OwnOfReply w.names reply told w'.names)
@@ -185,7 +185,7 @@ steps lines old new r words now e told r' words' keys_file names_file fit keys_f
     linked : KnowsWorld e (Tells old) → (h : Hidden) → LinkedWorld (world_of r) h → LinkedWorld (world_of r') (hidden_after (world_of r) words e told does.drawn (world_of r') h)
     linked knows h l = keeps-linked lines (world_of r) words now e (Rose old.faults new.faults) (Tells old) told does.drawn does.logged (world_of r') h knows fit does.acts l
 
--- what step answers, by what happened
+-- the answer of step, by the event that happened
 pub step-result : (old new : DiskState) (r : RunningWorld) (words : ℕ → ℕ) (now : ℕ) (e : Event) (result : Result Line WorldFault) (r' : RunningWorld) (words' : ℕ → ℕ) → r.keys.store.log.file ≡ 0 → r.names.store.log.log.file ≡ 1
     → ServicesFit (world_of r) → r'.keys.store.log.file ≡ 0 → r'.names.store.log.log.file ≡ 1 → ServicesFit (world_of r')
     → MatchResult result (λ told. (lines : List PropLine) → ListsFor r.keys.acls lines → Happens lines old new r words now e told r' words') (λ fault. Fails old new r words e fault.file fault.fault r' words')

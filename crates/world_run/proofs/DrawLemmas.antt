@@ -1,4 +1,4 @@
--- What a draw for an ask answers, and what the key that it draws opens to.
+-- The answer of a draw for an ask, and the key that the drawn key opens to.
 use Rattle.std.proofs.Common.{◌≡◌, ◌⊎◌, inl, inr, ℕ, ◌+◌, ◌^◌, ◌*◌, ◌/◌, ◌<◌, ◌≤◌, Bool, true, false, cond, List, [], ◌∷◌, length, Option, Some, None, is_none, find, refl, sym, ap, subst, ◌∙◌, arith}
 use Rattle.std.specs.Prelude.{nat_lt, ◌≢◌, slice_get}
 use Rattle.std.specs.List.{AllByRecursion}
@@ -61,7 +61,7 @@ each-in P [] x h i = absurd i
 each-in P (y ∷ ys) x h (inl is) = subst P (sym is) h.0
 each-in P (y ∷ ys) x h (inr i) = each-in P ys x h.1 i
 
--- a row is what is found under its name
+-- a row is found under its name
 only-named : (k : List ℕ) (rows : List KeyRow) (row : KeyRow) → NamesOnce rows → In row rows → is_named k row ≡ true → find_name rows k ≡ Some row
 only-named k [] row once i named = absurd i
 only-named k (y ∷ ys) row once (inl is) named =
@@ -90,7 +90,7 @@ unfolding at-number
 alone open_by rows row v dek found named h =
     ap (λ (b : Bool). option_map open_by (at-number v (cond b (Some row) None))) named ∙ ap (λ (o : Option KeyRow). option_map open_by (at-number v o)) (sym found) ∙ h
 
--- what a row opens by itself it opens among the others
+-- a row opens the same keys among the others as by itself
 pub opens-among : (rows : List KeyRow) (row : KeyRow) (e : Edek) (dek : Dek) → NamesOnce rows → In row rows → unseals (row ∷ []) e ≡ Some dek → unseals rows e ≡ Some dek
 opens-among rows row e dek once i h = among _ rows row e.version dek once i h
 
@@ -106,7 +106,7 @@ named open_by row v dek h = go (is_named v.key row) refl h
 pub opens-named : (row : KeyRow) (e : Edek) (dek : Dek) → unseals (row ∷ []) e ≡ Some dek → row.name ≡ e.version.key
 opens-named row e dek h = named _ row e.version dek h
 
--- and the other way round, where it is found under its name
+-- and the other way round, if it is found under its name
 opens-alone : (rows : List KeyRow) (row : KeyRow) (e : Edek) (dek : Dek) → find_name rows e.version.key ≡ Some row → is_named e.version.key row ≡ true → unseals rows e ≡ Some dek
     → unseals (row ∷ []) e ≡ Some dek
 opens-alone rows row e dek found named h = alone _ rows row e.version dek found named h

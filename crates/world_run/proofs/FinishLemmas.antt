@@ -1,4 +1,4 @@
--- What a finish makes of the ledger of draws, and of the files.
+-- The ledger of draws, and the files, after a finish.
 use Rattle.std.proofs.Common.{◌≡◌, ◌⊎◌, inl, inr, ℕ, ◌≤◌, ◌^◌, ◌*◌, ◌<◌, Bool, true, false, cond, not, ◌&&◌, List, [], ◌∷◌, ◌++◌, length, Option, Some, None, is_none, is_some, refl, sym, ap, subst, ◌∙◌, arith}
 use Rattle.std.specs.Prelude.{◌==◌, nat_le}
 use Rattle.std.specs.List.{AllByRecursion}
@@ -58,7 +58,7 @@ open-in (b ∷ asks) id a h = go (b.id == id) refl (open-in asks id a) h
     go true same ih h = let is : b ≡ a = cc in (inl (sym is), ap (λ (x : OpenAsk). x.id) (sym is) ∙ is-id b.id id same)
     go false same ih h = let q = ih h in (inr q.0, q.1)
 
--- once it is closed no open ask has the id
+-- after it is closed no open ask has the id
 without-apart : (asks : List OpenAsk) (id : ℕ) → IsRising asks → (b : OpenAsk) → In b (without asks id) → b.id ≡ id → ⊥
 without-apart [] id r b i same = absurd i
 without-apart (a ∷ asks) id r b i same = go (a.id == id) refl i (without-apart asks id r.1 b)
@@ -163,7 +163,7 @@ new-draw ledger keys ask_id (Some d) e k = record {
   opens = k.1;
 }
 
--- the operation of a finish has a draw, where its file is entered
+-- the operation of a finish has a draw, if its file is entered
 pub finish-drawn : (enter : Bool) (ledger : Ledger) (keys : List KeyRow) (a : OpenAsk) (ask_id : ℕ) (o : Option Draw) (edek : Option Edek) (x : Ask) → a.id ≡ ask_id → KeyLinked keys edek o
     → (makes_file ask_id (Some (finish_op a.id edek x)) ≡ true → enter ≡ true) → OpHasDraw (with_entry enter ask_id o ledger) keys (finish_op a.id edek x)
 finish-drawn enter ledger keys a ask_id o None (ask.Create p) same k enters = tt
@@ -172,7 +172,7 @@ finish-drawn enter ledger keys a ask_id o (Some e) (ask.Create p) same k enters 
     (subst (λ (n : ℕ). HasDraw (with_entry true ask_id o ledger) keys n e) (sym same) (new-draw ledger keys ask_id o e k))
 finish-drawn enter ledger keys a ask_id o edek (ask.Zone p key) same k enters = tt
 
--- what stops a finish stands not
+-- a finish without a cause of a refusal
 
 free-at : (before : List (Bool × NameRefusal)) (cause : Bool × NameRefusal) (behind : List (Bool × NameRefusal)) → first_cause (before ++ cause ∷ behind) ≡ None → cause.0 ≡ false
 free-at [] cause behind h = go cause.0 h
@@ -210,7 +210,7 @@ finish-fits rows a edek (ask.Zone p key) free =
     may-be (is_dir_at (row_at rows p)) (has_children rows p) (zone_of rows p) (free-at none dir (children ∷ in_zone ∷ other) free) (free-at (none ++ dir ∷ []) children (in_zone ∷ other) free)
     (free-at (none ++ dir ∷ children ∷ []) in_zone other free)
 
--- the world behind a finish
+-- the world after a finish
 
 -- an open ask, and the kept reply that answers it, with its draw
 pub record Answered (w : WorldState) (h : Hidden) (a : OpenAsk) (ask_id : ℕ) (answer : KeyAnswer) (o : Option Draw) : Type 0 where
@@ -224,7 +224,7 @@ entered_in enter ask_id o h = record h { ledger = with_entry enter ask_id o h.le
 from-one : (opening id : ℕ) → 0 < opening → opening * 2 ^ 32 ≤ id → 2 ^ 32 ≤ id
 from-one opening id opened here = omega (arith, opened, here)
 
--- the ask is open no more, and its draw may be entered
+-- the ask is no longer open, and its draw may be entered
 pub linked-finished : (w : WorldState) (h : Hidden) (enter : Bool) (a : OpenAsk) (ask_id : ℕ) (answer : KeyAnswer) (o : Option Draw) (names : NameService) → IsNames w.names → Answered w h a ask_id answer o
     → names.names.asks ≡ without w.names.names.asks a.id → next_id names.names ≡ next_id w.names.names
     → ((k : Bool) → FilesLinked (with_entry enter ask_id o h.ledger) w.keys.keys.table.rows (settled k names).table) → LinkedWorld w h → LinkedWorld (record w { names = names }) (entered_in enter ask_id o h)

@@ -82,7 +82,7 @@ settled-keeps w h k fit l =
     linked-names w h (record { names = settled k w.names; pending = None }) (λ kept. l.files k)
     (subst (λ (n : ℕ). LedgerFits h.ledger w.kept.replies h.replied w.names.names.asks n) (sym (next-settled k w.names fit)) l.ledger) l
 
--- what a call does was written, or is pending
+-- the operation of a call was written, or is pending
 abbrev DoneAndPending : WorldState → Hidden → NameState → NameCall → Type 0
 DoneAndPending w h s c =
     KeepsNames w h (record { names = done_with (deed s c).logs (deed s c).state; pending = None }) × KeepsNames w h (record { names = (deed s c).state; pending = (deed s c).logs })
@@ -169,7 +169,7 @@ abbrev AfterDraw : WorldState → (ℕ → ℕ) → Hidden → AskNote → ℕ �
 AfterDraw w words h note drawn keys wanted reply =
     StaysLinked h (with_reply (kept_reply note reply) (record w { keys = keys })) (record (behind_words drawn h) { replied = h.replied ++ draw_told w.keys.keys words h.place wanted reply ∷ [] })
 
--- of a reply with its draw
+-- for a reply with its draw
 reply-stays : (w : WorldState) (h : Hidden) (drawn : ℕ) (r : KeptReply) (o : Option Draw) → NewReply h w.keys drawn r o → LinkedWorld w h
     → StaysLinked h (with_reply r (record w { keys = w.keys })) (record (behind_words drawn h) { replied = h.replied ++ o ∷ [] })
 reply-stays w h drawn r o new l = (linked-reply w h w.keys drawn r o (same-later w.keys.keys.table) new l, apart-reply h w.keys drawn r o new)
@@ -271,7 +271,7 @@ draw-keeps lines w h words now number fault told drawn logged w' (Some note) fit
 
 -- finishes
 
--- the ledger of draws behind a finish of a kept reply
+-- the ledger of draws after a finish of a kept reply
 pub finish-ledger : (w : WorldState) (words : ℕ → ℕ) (h : Hidden) (number drawn : ℕ) (ask_id : ℕ) (answer : KeyAnswer) (o : Option Draw) (result : Result (Unit {0}) NameRefusal) (names : NameService)
     → numbered w.kept.replies number ≡ Some (ToAsk ask_id answer) → numbered h.replied number ≡ Some o
     → (hidden_after w words (event.Finish number) (finish_line result) drawn (record w { names = names }) h).ledger ≡ with_entry (enters ask_id (finish_line result) names) ask_id o h.ledger
@@ -290,7 +290,7 @@ finish-files w h enter k a ask_id answer o edek fit l answered said free enters 
     (finish-drawn enter h.ledger w.keys.keys.table.rows a ask_id o edek a.ask (open-in w.names.names.asks ask_id a answered.opened).1 linked enters)
     (entered-files h.ledger (entered enter (entry_under ask_id o)) w.keys.keys.table.rows (settled k w.names).table (l.files k))
 
--- a finish that was answered so and left this keeps the world linked, with the entry of its draw or without
+-- a finish with this answer, and this state after it, keeps the world linked, with the entry of its draw or without
 abbrev FinishKeeps : WorldState → Hidden → ℕ → Option Draw → Result (Unit {0}) NameRefusal → NameService → Type 0
 FinishKeeps w h ask_id o result names = LinkedWorld (record w { names = names }) (entered_in (enters ask_id (finish_line result) names) ask_id o h)
 
@@ -298,13 +298,13 @@ no-opening : (id : ℕ) (edek : Option Edek) (x : Ask) → is_opening (finish_op
 no-opening id edek (ask.Create p) = refl
 no-opening id edek (ask.Zone p key) = refl
 
--- what is left is put in place of what is equal to it
+-- the state after it is replaced by an equal one
 ends-keeps : (w : WorldState) (h : Hidden) (ask_id : ℕ) (o : Option Draw) (result told : Result (Unit {0}) NameRefusal) (left names : NameService) → told ≡ result → names ≡ left
     → FinishKeeps w h ask_id o result left → FinishKeeps w h ask_id o told names
 ends-keeps w h ask_id o result told left names same is l = subst (λ (r : Result (Unit {0}) NameRefusal). FinishKeeps w h ask_id o r names) (sym same) (subst (λ (n : NameService). FinishKeeps w h ask_id o result n) (sym is) l)
 
 module _ (w : WorldState) (h : Hidden) (ask_id : ℕ) (answer : KeyAnswer) (o : Option Draw) (a : OpenAsk) (fit : IsNames w.names) (l : LinkedWorld w h) (answered : Answered w h a ask_id answer o) where
-  -- the ask is closed, while the pending operation waits
+  -- the ask is closed, and the pending operation is still pending
   pub closed-keeps : (enter : Bool) → LinkedWorld (record w { names = closed_service w.names a }) (entered_in enter ask_id o h)
   closed-keeps enter =
       linked-finished w h enter a ask_id answer o (closed_service w.names a) fit answered refl refl
@@ -437,7 +437,7 @@ words-stay lines w words now e fault tells told drawn logged w' h fit s l f = go
     go (event.Finish number) s =
         apart-finish h drawn (enters (id_of_reply (numbered w.kept.replies number)) told w'.names) (numbered w.kept.replies number) (numbered h.replied number) (λ x at. numbered-in h.replied number x at) f
 
--- and the draws of two files are apart, where each file has a draw of its own
+-- and the draws of two files are apart, if each file has a draw of its own
 pub files-apart : (h : Hidden) (replies : List KeptReply) (asks : List OpenAsk) (next : ℕ) → LedgerFits h.ledger replies h.replied asks next → WordsApart h → DrawsApart h
 files-apart h replies asks next fits f = record {
   words = f;

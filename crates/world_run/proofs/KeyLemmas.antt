@@ -1,4 +1,4 @@
--- What a crash leaves of the key log: which one command more may stand behind the acknowledged ones.
+-- What a crash leaves of the key log: the one more command that may be after the acknowledged ones.
 use Rattle.std.proofs.Common.{◌≡◌, ℕ, Bool, List, Option, None, Some, refl}
 use Rattle.hk_base.specs.Disk.{DiskState}
 use Rattle.hk_base.specs.declared.names.KeyName.{KeyName}
@@ -14,7 +14,7 @@ use Rattle.hk_events.specs.declared.event.Line.TheVariants as line
 use Rattle.world_run.specs.Own.{OwnOfKeysCall}
 use Rattle.kms_core.proofs.ServiceLemmas.{leaving_more, logs_leaving}
 
--- what may be written, said in another way
+-- commands that may be written, stated in another way
 pub keys-weaker : (own other : Bool → KeyCommand → Type 0) (table : Table) (pending : Option KeyCommand) (commands : List KeyCommand) (bytes : List ℕ) → ((b : Bool) (c : KeyCommand) → own b c → other b c)
     → IsLeftOf table pending own commands bytes → IsLeftOf table pending other commands bytes
 keys-weaker own other table pending commands bytes f l = leaving_more table pending own other commands bytes f l
@@ -31,7 +31,7 @@ pub metadata-logs : (old new : DiskState) (store store' : StoreState) (s : Servi
 metadata-logs old new store store' s words now name told s' logged l =
     logs_leaving old new store store' (OwnOf s words now (call.Metadata name) told s') NoCommand logged (λ kept command own. let writes : None ≡ Some command = own.is in absurd (cc writes)) l
 
--- what a call of a user may write, beside the line that tells the reply
+-- the command that a call of a user may write, with the line of its reply
 pub call-logs : (old new : DiskState) (store store' : StoreState) (s : ServiceState) (words : ℕ → ℕ) (now : ℕ) (c : KmsCall) (told : KmsReply) (s' : ServiceState) (logged : List KeyCommand)
     → Logs old new store store' (IsLeftOf store.table.keys store.pending (OwnOf s words now c told s')) logged
     → Logs old new store store' (IsLeftOf store.table.keys store.pending (OwnOfKeysCall s words now c (line.Kms told) s')) logged

@@ -1,4 +1,4 @@
--- What opens under a table of keys opens under a later one.
+-- A key that opens under a table of keys opens under a later one.
 use Rattle.std.proofs.Common.{◌≡◌, ◌⊎◌, inl, inr, ℕ, zero, suc, ◌+◌, ◌*◌, ◌^◌, ◌<◌, ◌≤◌, ◌/◌, ◌==◌, Bool, true, false, cond, List, [], ◌∷◌, ◌++◌, length, Option, Some, None, is_none, slice_get, refl, sym, ap, subst, ◌∙◌, arith}
 use Rattle.std.specs.Prelude.{⊤, not, ◌&&◌, nat_lt, IfSome, Result, Ok, Err}
 use Rattle.std.specs.List.{filter}
@@ -38,7 +38,7 @@ use Rattle.world_run.specs.Linked.{IsOldBirth, IsRecordedBirth, KeyLinked, Opens
 use Rattle.world_run.specs.Promise.{In}
 use Rattle.world_run.proofs.Members.{in-map, in-more}
 
--- what one row opens, the other opens alike
+-- each key that one row opens, the other opens alike
 abbrev pub Grew : KeyRow → KeyRow → Type 0
 Grew old row = (e : Edek) (dek : Dek) → unseals (old ∷ []) e ≡ Some dek → unseals (row ∷ []) e ≡ Some dek
 
@@ -112,7 +112,7 @@ later-still olds mids rows b first next row p h =
     let r = first q.0 q.1 q.2 in
     (r.0, r.1, r.2, λ e dek o. q.3 e dek (r.3 e dek o))
 
--- what opens under keys of old births opens alike under a later table, and the births are old there too
+-- a key that opens under keys of old births opens alike under a later table, and the births are old there too
 pub record KeysLater (t u : Table) : Type 0 where
   pub rows : (b : ℕ) → IsOldBirth t b → LaterAt t.rows u.rows b
   pub births : (b : ℕ) → IsOldBirth t b → IsOldBirth u b
@@ -186,7 +186,7 @@ pub may-wait : (pending : Option KeyCommand) (s : KmsState) → IfSome pending (
 may-wait None s waits = tt
 may-wait (Some c) s waits = waits.fits
 
--- the keys once the pending command was settled
+-- the keys after the pending command was settled
 pub later-settled : (kept : Bool) (s : ServiceState) → IsService s → KeysLater s.keys.table (settled kept s).table
 later-settled kept s is = later-with kept s.pending s.keys.table (may-wait s.pending s.keys is.waits)
 
@@ -221,7 +221,7 @@ old-recorded t room b (inr used) = omega (arith, room, used)
 pub later-opened : (t : Table) → KeysLater t (opened t).keys.table
 later-opened t = later-by t (next_opening t) (omega arith)
 
--- what a call of the key management service leaves
+-- the keys after a call of the key management service
 
 deed-later : (s : KmsState) (words : ℕ → ℕ) (now : ℕ) (c : KmsCall) → s.table.greatest < next_birth s → KeysLater s.table (done_with (deed s words now c).logs (deed s words now c).state).table
 deed-later s words now (call.Create name bits material description) below = later-by s.table (Create (next_birth s) name bits description now _) (omega arith, below)
@@ -262,7 +262,7 @@ serves-later s words now c fault told drawn logged s' is serves = go (is_change 
         subst (λ (t : ServiceState). KeysLater s.keys.table t.keys.table) (sym u.left)
         (subst (λ (t : Table). KeysLater s.keys.table t) (sym (deed_keeps (settled kept s) words now c)) (later-settled kept s is))
 
--- what a call of a user leaves: all as it was, where it is denied
+-- the keys after a call of a user: unchanged if it is denied
 pub user-later : (lines : List PropLine) (user : Text) (s : ServiceState) (words : ℕ → ℕ) (now : ℕ) (c : KmsCall) (fault : Type 0) (told : KmsReply) (drawn : ℕ) (logged : List KeyCommand) (s' : ServiceState) → IsService s
     → ServesUser lines user s words now c fault told drawn logged s' → KeysLater s.keys.table s'.keys.table
 user-later lines user s words now c fault told drawn logged s' is serves = by-verdict (verdict lines user c) serves

@@ -1,4 +1,4 @@
--- Members of lists, and what is kept under numbers.
+-- Members of lists, and values kept under numbers.
 use Rattle.std.proofs.Common.{◌≡◌, ◌⊎◌, inl, inr, ℕ, zero, suc, List, [], ◌∷◌, ◌++◌, length, map, Some, slice_get, refl, sym, ap, arith}
 use Rattle.world_run.specs.Promise.{In}
 use Rattle.world_run.specs.World.{numbered}
@@ -44,7 +44,7 @@ got-more [] y (suc n) x h = absurd cc
 got-more (z ∷ xs) y zero x h = inl h
 got-more (z ∷ xs) y (suc n) x h = elim (got-more xs y n x h) [ inl g ↦ inl g | inr g ↦ inr (ap suc g.0, g.1) ]
 
--- what is kept in a list with one more: what was kept before, or the new one under the next number
+-- a value in a list with one more: one of the values before, or the new one under the next number
 pub numbered-more : {X : Type 0} (xs : List X) (y : X) (n : ℕ) (x : X) → numbered (xs ++ y ∷ []) n ≡ Some x → (numbered xs n ≡ Some x) ⊎ ((n ≡ suc (length xs)) × (x ≡ y))
 numbered-more xs y zero x h = absurd cc
 numbered-more xs y (suc n) x h = elim (got-more xs y n x h) [ inl g ↦ inl g | inr g ↦ inr (ap suc g.0, g.1) ]
@@ -65,7 +65,7 @@ got-beside (z ∷ xs) [] n x same h = absurd (omega (arith, same))
 got-beside (z ∷ xs) (y ∷ ys) zero x same h = (y, refl)
 got-beside (z ∷ xs) (y ∷ ys) (suc n) x same h = got-beside xs ys n x (omega (arith, same)) h
 
--- what is kept beside in a list as long
+-- the value under the same number in another list of the same length
 pub numbered-beside : {X Y : Type 0} (xs : List X) (ys : List Y) (n : ℕ) (x : X) → length ys ≡ length xs → numbered xs n ≡ Some x → (y : Y) × (numbered ys n ≡ Some y)
 numbered-beside xs ys zero x same h = absurd cc
 numbered-beside xs ys (suc n) x same h = got-beside xs ys n x same h

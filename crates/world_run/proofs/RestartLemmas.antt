@@ -38,7 +38,7 @@ use Rattle.name_store.proofs.Layers.{finds as finds_names, left_by_start as name
 abbrev Held : DiskState → RunningWorld → Type 0
 Held d w = Tells d → (done : Acknowledged) × HoldsLogs d w done
 
--- what a crash leaves in the end was left before the restart began, or is left by it
+-- an image that a crash leaves at the end was left before the restart began, or is left by it
 left-then : (old new : DiskState) (w : RunningWorld) (own_keys : Bool → KeyCommand → Type 0) (own : Bool → EditOp → Type 0) → Moment old → Moment new → old.moment ≤ new.moment → (done : Acknowledged)
     → LeavesBoth old new (λ c. Survives (world_of w) done own_keys own c × SoundFrom (LinkedWorld (world_of w)) (λ h. h) c)
     → ((c : Image) → IsImage old c → Survives (world_of w) done own_keys own c × SoundFrom (LinkedWorld (world_of w)) (λ h. h) c)
@@ -51,7 +51,7 @@ left-then old new w own_keys own m n later done moments now c image =
 may-be-kept : (w : RunningWorld) → ServicesFit (world_of w) → Applies w.keys.store.table.keys w.keys.store.pending
 may-be-kept w fit = may-wait w.keys.store.pending (world_of w).keys.keys fit.keys.waits
 
--- a start leaves of the log of a service what a crash may leave of it
+-- each image that a start leaves of the log of a service is one that a crash may leave
 keys-left-by-restart : (old new : DiskState) (w : RunningWorld) → w.keys.store.log.file ≡ 0 → ServicesFit (world_of w) → (Tells old → LeavesOnly 0 old new (λ c. old.leaves 0 c ⊎ IsLeftByStart (old.reads 0) c))
     → Tells old → (commands : List KeyCommand) → StandsFor old w.keys.store commands → LeavesOnly 0 old new (IsLeftOf w.keys.store.table.keys w.keys.store.pending AKeyOpening commands)
 keys-left-by-restart old new w of_file fit moments told commands s =
@@ -60,7 +60,7 @@ keys-left-by-restart old new w of_file fit moments told commands s =
     (λ before. keys-weaker NoCommand AKeyOpening w.keys.store.table.keys w.keys.store.pending commands c (λ k command none. absurd none) (left_by_store old w.keys.store commands of_file (may-be-kept w fit) s c before))
     (λ found. left_by_start (old.reads 0) commands w.keys.store.pending w.keys.store.table.keys sound c found) left) (moments told)
 
--- what a start found beside the log of a service
+-- what a start found in the log of a service
 record KeysReopened (old new : DiskState) (w w' : RunningWorld) (table : Table) : Type 0 where
   logged : List KeyCommand
   found : Tells old → Recovers (world_of w).keys table logged
@@ -91,7 +91,7 @@ keys-reopened old new w w' of_file fit held s = go old.tells refl
               subst (StandsFor new w'.keys.store) (all ∙ ap (λ (l : List KeyCommand). l ++ logged) (sym one)) log.2;
         }
 
--- the new keys are put in place of the old ones, beside the same lists
+-- the new keys replace the old ones, and the lists are the same
 pub keys-restarted : (old new : DiskState) (w w' : RunningWorld) (opening : ℕ) → w'.keys.acls ≡ w.keys.acls → w.keys.store.log.file ≡ 0 → ServicesFit (world_of w) → Held old w → Starts old new (running w'.keys)
     → (Tells old → LeavesOnly 0 old new (λ c. old.leaves 0 c ⊎ IsLeftByStart (old.reads 0) c)) → RunOn 0 old new → opening ≡ w'.keys.store.table.keys.opening → w' ≡ record w { keys = w'.keys }
     → (lines : List PropLine) (words : ℕ → ℕ) (now : ℕ) → Happens lines old new w words now event.RestartKms (line.Opened opening) w' words
@@ -194,7 +194,7 @@ names-reopened old new w w' of_file held s = go old.tells refl
               subst (NamesStandFor new w'.names) (all ∙ ap (λ (l : List EditOp). l ++ logged) (sym one)) log.3;
         }
 
--- the new rows are put in place of the old ones
+-- the new rows replace the old ones
 pub names-restarted : (old new : DiskState) (w w' : RunningWorld) (opening : ℕ) → w'.keys ≡ w.keys → w.names.store.log.log.file ≡ 1 → Held old w → NamesStart old new w'.names
     → (Tells old → LeavesOnly 1 old new (λ c. old.leaves 1 c ⊎ IsLeftByNameStart (old.reads 1) c)) → RunOn 1 old new → opening ≡ w'.names.store.table.opening → w' ≡ record w { names = w'.names }
     → (lines : List PropLine) (words : ℕ → ℕ) (now : ℕ) → Happens lines old new w words now event.RestartName (line.Opened opening) w' words

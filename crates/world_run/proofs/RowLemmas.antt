@@ -63,7 +63,7 @@ key-put e rows p h = ap (option_and_then (λ (z : Entry). mark_of z.row.kind)) (
 
 -- members and their paths and ids
 
--- where a path has no zone, no row over it is marked
+-- if a path has no zone, no row over it is marked
 unmarked-over : (rows : List Entry) (p : List (List ℕ)) → zone_of rows p ≡ None → (x : Entry) → In x rows → is_zone_over p x ≡ false
 unmarked-over [] p h x i = absurd i
 unmarked-over (e ∷ es) p h x i = go (is_zone_over p e) refl (unmarked-over es p) h i
@@ -101,7 +101,7 @@ member-at (e ∷ es) p row h = go (same_path e.path p) refl (member-at es p row)
 one-of-id : (rows : List Entry) → InPlace rows → (x y : Entry) → In x rows → In y rows → x.row.id ≡ y.row.id → x ≡ y
 one-of-id rows good x y i j same = some-is x y (sym (good.once x i) ∙ ap (entry_of rows) same ∙ good.once y j)
 
--- what lies below a directory without children: nothing
+-- no row is below a directory without children
 
 any-in : (test : Entry → Bool) (rows : List Entry) (x : Entry) → In x rows → test x ≡ true → list_any test rows ≡ true
 any-in test [] x i h = absurd i
@@ -116,7 +116,7 @@ none-below : (b : Bool) → (b && false) ≡ false
 none-below true = refl
 none-below false = refl
 
--- what lies above a path, but is not it, lies at or above its directory
+-- a prefix of a path, other than the path, is a prefix of its parent
 prefix-parent : (q p : List (List ℕ)) → same_path q p ≡ false → is_prefix q p ≡ is_prefix q (parent p)
 prefix-parent [] p h = refl
 prefix-parent (x ∷ q) [] h = refl
@@ -148,7 +148,7 @@ child : (p : List (List ℕ)) (a : List ℕ) (q : List (List ℕ)) → is_prefix
 child p a q over up =
     ap (λ b. b && length (a ∷ q) == length p + 1) over ∙ same-number (length (a ∷ q)) (length p + 1) (omega (arith, ap (λ (r : List (List ℕ)). length r) up, length-parent a q))
 
--- of the rows at most so deep
+-- for rows of at most this depth
 abbrev HasBelow : List Entry → List (List ℕ) → ℕ → Type 0
 HasBelow rows p n = (x : Entry) → In x rows → length x.path ≤ n → is_prefix p x.path ≡ true → same_path p x.path ≡ false → has_children rows p ≡ true
 
@@ -180,7 +180,7 @@ below-has (suc n) rows p good x i short over apart = below-step n rows p good (b
 
 -- a directory that becomes a zone
 
--- the directory stands without children, and in no zone
+-- the directory exists, without children and in no zone
 pub record Markable (rows : List Entry) (p : List (List ℕ)) (dir : ℕ) : Type 0 where
   pub row : Row
   pub stands : row_at rows p ≡ Some row
@@ -235,7 +235,7 @@ which dir key x = go (x.row.id == dir) refl
     go true h = inl (equal x.row.id dir h, refl)
     go false h = inr refl
 
--- the zone of a path beside the new one
+-- the zone of a path outside the new one
 zone-beside : (dir : ℕ) (key : KeyName) (rows : List Entry) (p q : List (List ℕ)) → is_prefix p q ≡ false
     → ((x : Entry) → In x rows → x.row.id ≡ dir → (is_marked x.row ≡ false) × (x.path ≡ p)) → zone_of (set_kind rows dir (Dir (Some key))) q ≡ zone_of rows q
 zone-beside dir key [] p q out dirs = refl
@@ -271,7 +271,7 @@ in-mark dir key rows x i = go (in-map (with_kind dir (Dir (Some key))) x rows i)
 
 -- rows that are taken away
 
--- what lies at or below a path below p does so too
+-- a path at or below one that is at or below p is at or below p
 below-too : (p q r : List (List ℕ)) → is_prefix p q ≡ true → is_prefix q r ≡ true → is_prefix p r ≡ true
 below-too [] q r h k = refl
 below-too (x ∷ p) [] r h k = absurd cc

@@ -1,4 +1,4 @@
--- The rows behind an operation of the edit log, and the files linked there.
+-- The rows after an operation of the edit log, and the files linked there.
 use Rattle.std.proofs.Common.{◌≡◌, ◌⊎◌, inl, inr, ℕ, Bool, true, false, cond, not, ◌&&◌, List, [], ◌∷◌, ◌++◌, Option, Some, None, is_none, refl, sym, ap, subst, ◌∙◌, arith}
 use Rattle.std.specs.Prelude.{◌==◌, ⊤}
 use Rattle.std.specs.Option.{option_map}
@@ -56,7 +56,7 @@ entry-new e (y ∷ ys) h = go (is_before e.path y.path) (y.row.id == e.row.id) r
     go true false is h ih = ap (λ c. cond c (Some e) (entry_of (y ∷ ys) e.row.id)) (same-id e.row.id)
     go false false is h ih = ap (λ c. cond c (Some y) (entry_of (put e ys) e.row.id)) is ∙ ih h
 
--- and what has another id keeps it
+-- and a row of another id keeps it
 entry-old : (e : Entry) (rows : List Entry) (id : ℕ) → (e.row.id == id) ≡ false → entry_of (put e rows) id ≡ entry_of rows id
 entry-old e [] id h = ap (λ b. cond b (Some e) None) h
 entry-old e (y ∷ ys) id h = go (is_before e.path y.path) (entry-old e ys id h)
@@ -138,7 +138,7 @@ row-removed p (y ∷ ys) q out = go (is_prefix p y.path) refl (same_path y.path 
     go false beside true is ih = ap (λ c. cond c (Some y.row) (row_at (removed p ys) q)) is
     go false beside false is ih = ap (λ c. cond c (Some y.row) (row_at (removed p ys) q)) is ∙ ih
 
--- the directory of what lies not below a path lies not below it
+-- if a path is not at or below another, neither is its parent
 parent-out : (p q : List (List ℕ)) → is_prefix p q ≡ false → is_prefix p (parent q) ≡ false
 parent-out [] q h = absurd cc
 parent-out (x ∷ p) [] h = refl
@@ -209,14 +209,14 @@ module _ (dir : ℕ) (key : KeyName) where
         dir-mark rows (parent x.path) (ap (λ (q : List (List ℕ)). is_dir_at (row_at rows (parent q))) (ap (λ (z : Entry). z.path) y.2 ∙ path-stays y.0) ∙ good.housed y.0 y.1);
   }
 
--- the rows behind an operation
+-- the rows after an operation
 
 made-in-place : (t : NameTable) (e : Entry) → MayUse t e.row.id → first_cause (to_be_made t.rows e.path ++ row_causes t.rows) ≡ None → InPlace t.rows → InPlace (put e t.rows)
 made-in-place t e used free good =
     let made = makeable t.rows e.path (none-of-both (to_be_made t.rows e.path) (row_causes t.rows) free).0 in
     put-in-place e t.rows made.absent used.free made.house good
 
--- they are in place where the table allows it
+-- they are in place if the table allows it
 pub rows-after : (t : NameTable) (op : EditOp) → InPlace t.rows → allows t op ≡ true → InPlace (after_table t op).rows
 rows-after t (Opened opening) good may = good
 rows-after t (Mkdir id p) good may =
@@ -241,7 +241,7 @@ OpFits rows (File id p edek) = fits_zone (key_of_zone rows p) edek ≡ true
 OpFits rows (Zone p key) = (is_dir_at (row_at rows p) && not (has_children rows p) && is_none (zone_of rows p)) ≡ true
 OpFits rows _ = ⊤
 
--- the rows that are kept behind it
+-- the rows that are kept after it
 
 of-entry : (row : Row) (es : List Entry) → In row (rows_of_entries es) → (x : Entry) × In x es × (row ≡ x.row)
 of-entry row [] i = absurd i

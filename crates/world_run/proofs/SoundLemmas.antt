@@ -1,4 +1,4 @@
--- What a crash leaves while an event goes on is linked with the ledger of draws behind that event.
+-- The files that a crash leaves during an event are linked with the ledger of draws after that event.
 use Rattle.std.proofs.Common.{◌≡◌, ◌⊎◌, inl, inr, ℕ, zero, suc, ◌+◌, ◌*◌, ◌^◌, ◌<◌, ◌≤◌, Bool, true, false, List, [], ◌++◌, Option, Some, None, Err, refl, sym, ap, subst, ◌∙◌, arith}
 use Rattle.std.specs.Prelude.{IfSome, ◌==◌}
 use Rattle.std.specs.declared.result.Result.{Result}
@@ -46,7 +46,7 @@ use Rattle.world_run.proofs.Members.{numbered-beside, some-is}
 use Rattle.world_run.proofs.RowsAfter.{files-after, files-opened}
 use Rattle.world_run.proofs.WorldLemmas.{draws-later, files-later, opening-settled, rows-settled}
 
--- what is linked with a ledger, whatever is kept: the files with and without the pending operation, and the ledger itself
+-- linked with a ledger, whatever is kept: the files with and without the pending operation, and the ledger itself
 pub record LinkedFiles (w : WorldState) (ledger : Ledger) (place : ℕ) : Type 0 where
   pub files : (kept : Bool) → FilesLinked ledger w.keys.keys.table.rows (settled_names kept w.names).table
   pub draws : DrawsFit ledger [] place (IsOldBirth w.keys.keys.table)
@@ -78,7 +78,7 @@ world-files w h l =
     was d (inl i) = inl i
     was d (inr none) = absurd none
 
--- the world before an event, with the ledger behind it
+-- the world before an event, with the ledger after it
 
 finish-through : (w : WorldState) (words : ℕ → ℕ) (h : Hidden) (number drawn : ℕ) (ask_id : ℕ) (answer : KeyAnswer) (fault : Type 0) (result : Result (Unit {0}) NameRefusal) (ops : List EditOp) (names : NameService) → ServicesFit w → LinkedWorld w h
     → numbered w.kept.replies number ≡ Some (ToAsk ask_id answer) → FinishServes w.names ask_id answer fault result ops names
@@ -145,7 +145,7 @@ event-files lines w words now e fault tells told drawn logged w' h fit s l = go 
         more-words w (hidden_after w words (event.Finish number) told drawn w' h).ledger h.place drawn
         (finish-reply-through w words h number fault told drawn logged w' (numbered w.kept.replies number) fit l refl s)
 
--- what an event may write behind the settled edit log keeps the files linked
+-- an operation that an event may write after the settled edit log keeps the files linked
 
 abbrev pub OwnLinks : WorldState → Ledger → (Bool → EditOp → Type 0) → Type 0
 OwnLinks w ledger own = (kept : Bool) (op : EditOp) → own kept op → allows (settled_names kept w.names).table op ≡ true → FilesLinked ledger w.keys.keys.table.rows (after_table (settled_names kept w.names).table op)
@@ -174,7 +174,7 @@ own-of-call w h c told names fit l kept written own may = go c own.own.is
     go (call.List p) is = absurd cc
     go call.Zones is = absurd cc
 
--- a finish that leaves an operation pending was answered so
+-- the answer of a finish that leaves an operation pending
 pending-told : (s : NameService) (a : OpenAsk) (given : KeyAnswer) (edek : Option Edek) (fault : Type 0) (result : Result (Unit {0}) NameRefusal) (ops : List EditOp) (names : NameService) (waiting : EditOp) → given ≡ Given edek
     → FinishServesOpen s a given fault result ops names → names.pending ≡ Some waiting → result ≡ Err refusal.StoreFault
 pending-told s a given edek fault result ops names waiting said serves waits = go (subst (λ (x : KeyAnswer). FinishServesOpen s a x fault result ops names) said serves)
@@ -184,7 +184,7 @@ pending-told s a given edek fault result ops names waiting said serves waits = g
     go (inr (k, inl d)) = let none : None ≡ Some waiting = sym (ap (λ (n : NameService). n.pending) d.left) ∙ waits in absurd cc
     go (inr (k, inr u)) = u.told_is
 
--- what a finish wrote, or left pending, is entered where it is a file
+-- an operation that a finish wrote, or left pending, is entered if it makes a file
 written-enters : (s : NameService) (ask_id : ℕ) (answer : KeyAnswer) (fault : Type 0) (result : Result (Unit {0}) NameRefusal) (ops : List EditOp) (names : NameService) (k : Bool) (written : EditOp) (own : OwnOfFinish s ask_id answer result names k written)
     → FinishServes s ask_id answer fault result ops names → makes_file ask_id (Some (finish_op own.ask.id own.edek own.ask.ask)) ≡ true → enters ask_id (finish_line result) names ≡ true
 written-enters s ask_id answer fault result ops names k written own serves file = elim own.was_written [
@@ -254,7 +254,7 @@ opening-left w own made ops bytes is fit left found =
 
 -- both tables
 
--- the keys of a log, which grew from the world's, beside rows that are linked with the world's keys
+-- the keys of a log, which grew from the world's, and rows that are linked with the world's keys
 tables-of-files : (w : WorldState) (ledger : Ledger) (place : ℕ) (keys : Table) (names : NameTable) → ServicesFit w → KeysLater w.keys.keys.table keys → HasRoomForBirths keys
     → LinkedFiles w ledger place → w.names.names.table.opening ≤ names.opening → FilesLinked ledger w.keys.keys.table.rows names → LinkedTables (record { ledger = ledger; place = place }) keys names
 tables-of-files w ledger place keys names fit grew room f rises files =

@@ -67,7 +67,7 @@ last-has : (commands : List KeyCommand) (command : KeyCommand) → AllByRecursio
 last-has [] command all = all.0
 last-has (x ∷ xs) command all = last-has xs command all.1
 
--- what a start leaves of one file, beside the other, is sound again
+-- the file that a start leaves is sound again with the other
 
 -- a later opening of the key log
 key-opened-linked : (past : Past) (t : Table) (names : NameTable) (opening : ℕ) → t.opening ≤ opening → LinkedTables past t names → LinkedTables past (record t { opening = opening }) names
@@ -165,7 +165,7 @@ pub record Moment (d : DiskState) : Type 0 where
   pub only : (c : Image) → d.left_since d.moment c → IsImage d c
   pub is_one : Tells d → (file : ℕ) → file < 2 → d.leaves file (d.reads file)
 
--- what an opened key log is, it is by its start
+-- an opened key log is one that a start leaves
 by-start : (found bytes : List ℕ) → IsOpenedLog found bytes → IsLeftByStart found bytes
 by-start found bytes o =
     let command : KeyCommand = next_opening o.table in
@@ -364,7 +364,7 @@ begins old mid new r m keys_file names_file fit nothing run other_run ks ns = re
         (found-linked past (old.reads 0) (old.reads 1) (ks.log told).0 ks.table (ns.log (tells-on 0 old mid run told)).0 _
         (sound (pair (old.reads 0) (old.reads 1)) (pair-image old (old.reads 0) (old.reads 1) (m.is_one told 0 (omega arith)) (m.is_one told 1 (omega arith)))) (ks.log told).1 (edits told)))
 
--- a start, by how it came out
+-- a start, by its result
 
 abbrev failed-by : WorldFault → Result RunningWorld WorldFault
 failed-by fault = Err fault
@@ -406,7 +406,7 @@ keys-are-opened old new r of_file s told =
           };
     }
 
--- memory is wanting before a log is opened
+-- memory runs out before a log is opened
 pub no-start : (old : DiskState) (lines : List PropLine) → StartHappens old old lines (Err (record { file = 0; fault = start.NoMemory }))
 no-start old lines = record {
   began = tt;

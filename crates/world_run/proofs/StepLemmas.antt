@@ -70,7 +70,7 @@ no-log d r P = record {
 no-log-to : (d : DiskState) (r r' : RunningKms) (P : List KeyCommand → List ℕ → Type 0) → r' ≡ r → Logs d d r.store r'.store P []
 no-log-to d r r' P same = subst (λ (q : RunningKms). Logs d d r.store q.store P []) (sym same) (no-log d r P)
 
--- no word is drawn, the disk is not touched, and the world is as it was
+-- no word is drawn, the disk is not touched, and the world is unchanged
 pub does-nothing : (d : DiskState) (r r' : RunningWorld) (words : ℕ → ℕ) (own_keys : Bool → KeyCommand → Type 0) (own : Bool → EditOp → Type 0) (P : ℕ → Acknowledged → Type 0) → r' ≡ r → P 0 nothing_acknowledged
     → Does d d r r' words words own_keys own P
 does-nothing d r r' words own_keys own P same p = record {
@@ -84,7 +84,7 @@ does-nothing d r r' words own_keys own P same p = record {
 
 -- an ask changes no row and no record of the log
 
--- the same of the namesystem, of which an ask leaves another state beside the same store
+-- the same for the namesystem, of which an ask leaves another state with the same store
 
 names-no-log : (d : DiskState) (r r' : RunningNames) (own : Bool → EditOp → Type 0) → ((ops : List EditOp) → NamesStandFor d r ops → NamesStandFor d r' ops) → NameLogs d d r r' own []
 names-no-log d r r' own stands = record {
@@ -146,7 +146,7 @@ zone-happens lines d w w' words now e user path key told is keys store at =
 more-by-one : {X : Type 0} (xs ys : List X) (x : X) → ys ≡ xs ++ x ∷ [] → length ys ≡ length xs + 1
 more-by-one xs ys x is = ap length is ∙ length-append xs (x ∷ [])
 
--- what may be written, said in another way
+-- operations that may be written, stated in another way
 
 more-weaker : (own other : Bool → EditOp → Type 0) (k : Bool) (pending more : Option EditOp) → ((b : Bool) (op : EditOp) → own b op → other b op)
     → IfSome more (λ op. ((k ≡ false) × (pending ≡ Some op)) ⊎ own k op) → IfSome more (λ op. ((k ≡ false) × (pending ≡ Some op)) ⊎ other k op)
@@ -167,7 +167,7 @@ own-weaker own other r used ops bytes f left = record {
 
 -- calls of the namesystem
 
--- what may be written, beside the line that tells the reply
+-- the operation that may be written, with the line of the reply
 own-told : (old new : DiskState) (names names' : RunningNames) (c : NameCall) (told : NameReply) (logged : List EditOp) → NameLogs old new names names' (OwnOf (names_service names) c told (names_service names')) logged
     → NameLogs old new names names' (OwnOfNamesCall (names_service names) c (line.Name told) (names_service names')) logged
 own-told old new names names' c told logged l = record {
@@ -223,7 +223,7 @@ finished old new w keys names names' notes replies id answer result told view ac
       lists = refl;
     }))
   where
-    -- what may be written, beside the line that tells the result
+    -- the operation that may be written, with the line of the result
     own-by : NameLogs old new names names' (OwnOfReply (names_service names) (Some (ToAsk id answer)) (finish_line result) (names_service names')) acts.logged
     own-by = record {
       stands = acts.disk.stands;
@@ -231,7 +231,7 @@ finished old new w keys names names' notes replies id answer result told view ac
       run = acts.disk.run;
     }
 
--- of the reply that is kept under a number
+-- a finish by the reply that is kept under a number
 pub so-finished : (old new : DiskState) (w w' : RunningWorld) (kept made : KeptReply) (read : Option KeptReply) (told : Line) → made ≡ kept → Some kept ≡ read → FinishHappens old new w (Some made) told w' → FinishHappens old new w read told w'
 so-finished old new w w' kept made read told same is happens = subst (λ (o : Option KeptReply). FinishHappens old new w o told w') (ap (λ (k : KeptReply). Some k) same ∙ is) happens
 
@@ -304,7 +304,7 @@ metadata-wanted lines old new r r' words words' now user wanted name told as_sup
     made : ActsFor lines superuser old new r words now (call.Metadata name) told r' words' → WantHappens lines old new r words now (want.Metadata name) (Some told) r' words'
     made a = record { drawn = a.drawn; commands = a.logged; acts = record { reply = told; serves = a.serves; told_is = refl }; rest = a.rest; log = metadata-logs old new r.store r'.store (service_of (running r)) words now name told (service_of (running r')) a.logged a.disk; lists = a.lists }
 
--- an event, by what it was
+-- each event
 
 pub kms-happens : (lines : List PropLine) (old new : DiskState) (w : RunningWorld) (keys keys' : RunningKms) (names : RunningNames) (notes : List AskNote) (replies : List KeptReply) (words words' : ℕ → ℕ) (now : ℕ) (e : Event) (user : Text) (c : KmsCall) (reply : KmsReply)
     → parts keys names notes replies ≡ w → e ≡ event.Kms user c → (ListsFor keys.acls lines → ActsFor lines user old new keys words now c reply keys' words')

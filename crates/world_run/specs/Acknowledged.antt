@@ -1,4 +1,4 @@
--- What is acknowledged of both logs, and what a disk holds of a running world.
+-- The acknowledged records of both logs, and what a disk holds of a running world.
 use Rattle.std.specs.Prelude.{◌≡◌, ◌⊎◌, ◌≤◌, ℕ, Bool, false, List, [], ◌++◌, Option, Some, IfSome}
 use Rattle.hk_base.specs.Disk.{DiskState, Image}
 use Rattle.edit_ops.specs.declared.ops.EditOp.{EditOp}
@@ -33,8 +33,8 @@ pub record HoldsLogs (disk : DiskState) (r : RunningWorld) (done : Acknowledged)
   pub keys : StandsFor disk r.keys.store done.keys
   pub names : NamesStandFor disk r.names done.names
 
--- What a crash may leave of the key log of a service: its acknowledged commands, none left out, then the pending one if that was
--- kept, and at most one more. That one is the pending command itself, or one of `own`, which says what is being written; it applies.
+-- What a crash may leave of the key log of a service: its acknowledged commands, none left out, then the pending one if it was
+-- kept, and at most one more, which applies. That one is the pending command itself, or one of `own`, which says what is being written.
 pub record KeysSurvive (s : ServiceState) (own : Bool → KeyCommand → Type 0) (commands : List KeyCommand) (bytes : List ℕ) : Type 0 where
   pub kept : Bool
   pub more : Option KeyCommand
@@ -54,11 +54,11 @@ pub record Survives (w : WorldState) (done : Acknowledged) (own_keys : Bool → 
   pub keys : KeysSurvive w.keys own_keys done.keys (image 0)
   pub names : NamesSurvive w.names own_names done.names (image 1)
 
--- a crash at any moment since the old one leaves what it might have left before, or what has P
+-- a crash at any moment since the old one leaves an image that it might have left before, or one with P
 pub record LeavesBoth (old new : DiskState) (P : Image → Type 0) : Type 0 where
   pub before : (t : ℕ) (c : Image) → t ≤ old.moment → new.left_since t c → old.left_since t c ⊎ P c
 
--- what calls on both files keep
+-- what stays true in calls on both files
 pub record RunBoth (old new : DiskState) : Type 0 where
   pub tells : new.tells ≡ old.tells
   pub faults : old.faults ≤ new.faults

@@ -25,22 +25,22 @@ use Rattle.world_run.specs.Step.{DrawActs, FinishReply, NamesAct, PathActs, Step
 use Rattle.world_run.specs.Own.{OwnKeysOfEvent, OwnOfEvent, OwnOfNamesCall, OwnOfPath, OwnOfReply}
 use Rattle.world_run.specs.World.{RunningWorld, world_of}
 
--- The key log grew by the commands acknowledged, and the namesystem is as it was.
+-- The key log grew by the acknowledged commands, and the namesystem is unchanged.
 pub record OnKeys (old new : DiskState) (r r' : RunningWorld) (own : Bool → KeyCommand → Type 0) (logged : Acknowledged) : Type 0 where
   pub commands : List KeyCommand
   pub logged_is : logged ≡ of_keys commands
   pub log : Logs old new r.keys.store r'.keys.store (IsLeftOf r.keys.store.table.keys r.keys.store.pending own) commands
   pub names : r'.names ≡ r.names
 
--- The edit log grew by the operations acknowledged, and the key management service is as it was.
+-- The edit log grew by the acknowledged operations, and the key management service is unchanged.
 pub record OnNames (old new : DiskState) (r r' : RunningWorld) (own : Bool → EditOp → Type 0) (logged : Acknowledged) : Type 0 where
   pub ops : List EditOp
   pub logged_is : logged ≡ of_names ops
   pub log : NameLogs old new r.names r'.names own ops
   pub keys : r'.keys ≡ r.keys
 
--- What a step, or a part of one, does beside what has P of the words drawn and of what is acknowledged. It works on one log, and the
--- access control lists stay as they are.
+-- What a step, or a part of one, does: P is true of the number of words drawn and the acknowledged records, it works on one log, and
+-- the access control lists stay as they are.
 pub record Does (old new : DiskState) (r r' : RunningWorld) (words words' : ℕ → ℕ) (own_keys : Bool → KeyCommand → Type 0) (own : Bool → EditOp → Type 0) (P : ℕ → Acknowledged → Type 0) : Type 0 where
   pub drawn : ℕ
   pub logged : Acknowledged
@@ -49,7 +49,7 @@ pub record Does (old new : DiskState) (r r' : RunningWorld) (words words' : ℕ 
   pub disk : OnKeys old new r r' own_keys logged ⊎ OnNames old new r r' own logged
   pub lists : r'.keys.acls ≡ r.keys.acls
 
--- an event that happens so
+-- an event happens, with this answer and this world after it
 abbrev pub Happens : List PropLine → DiskState → DiskState → RunningWorld → (ℕ → ℕ) → ℕ → Event → Line → RunningWorld → (ℕ → ℕ) → Type 0
 Happens lines old new r words now e told r' words' =
     Does old new r r' words words' (OwnKeysOfEvent (world_of r) words now e told (world_of r')) (OwnOfEvent (world_of r) e told (world_of r'))

@@ -1,4 +1,4 @@
--- An event over the disk, and what it keeps.
+-- An event over the disk, and what stays true in it.
 use Rattle.std.specs.Prelude.{◌≡◌, ◌⊎◌, ℕ, ◌+◌, ◌<◌, Bool, List, ◌∷◌, [], ◌++◌, None}
 use Rattle.hk_base.specs.Disk.{DiskState, Image, IsImage, Tells}
 use Rattle.hk_base.specs.Faults.{Rose}
@@ -24,19 +24,19 @@ use Rattle.world_run.specs.Ledger.{Hidden, Past, drawn_before, hidden_after, pas
 use Rattle.world_run.specs.Linked.{DrawsApart, LinkedWorld, SoundFiles, StartsSound, WordsApart}
 use Rattle.world_run.specs.Promise.{ZoneFilesOpen}
 
--- What a restart finds is what the disk tells, and other events know the world after them whatever the disk.
+-- The world after a restart is known only if the disk tells its content, and the world after another event always.
 abbrev pub KnowsWorld : Event → Type 0 → Type 0
 KnowsWorld event.RestartKms tells = tells
 KnowsWorld event.RestartName tells = tells
 KnowsWorld _ tells = Unit {0}
 
--- An event that happens so under the properties of these lines. Whatever is hidden beside a world that is linked, the world
--- after it is linked again, and its zone files open.
+-- An event under the properties of these lines. If the world is linked with what is hidden, so is the world after the event, and
+-- its zone files open.
 pub record LinkedStep (lines : List PropLine) (w : WorldState) (words : ℕ → ℕ) (now : ℕ) (e : Event) (fault tells : Type 0) (told : Line) (drawn : ℕ) (logged : Acknowledged) (w' : WorldState) : Type 0 where
   pub step : Step lines w words now e fault tells told drawn logged w'
   pub linked : KnowsWorld e tells → (h : Hidden) → LinkedWorld w h → LinkedWorld w' (hidden_after w words e told drawn w' h)
   pub files_open : KnowsWorld e tells → (h : Hidden) → LinkedWorld w h → ZoneFilesOpen w' (hidden_after w words e told drawn w' h)
-  -- where draws were apart, they are apart after it
+  -- if draws were apart, they are apart after it
   pub draws_apart : KnowsWorld e tells → (h : Hidden) → LinkedWorld w h → WordsApart h → DrawsApart (hidden_after w words e told drawn w' h)
 
 -- files that a run may start from, with what is hidden afterwards, whatever was hidden before
@@ -52,8 +52,8 @@ abbrev pub RestsNow : DiskState → RunningWorld → Type 0
 RestsNow disk r =
     (done : Acknowledged) → HoldsLogs disk r done → (c : Image) → IsImage disk c → SurvivesAtRest (world_of r) done c × SoundFrom (LinkedWorld (world_of r)) (λ h. h) c
 
--- An event of a world over its disk, under the properties of these lines. What is acknowledged is in the logs behind what was
--- before, the next event begins with the words that are left, and the access control lists stay as they are.
+-- An event of a world over its disk, under the properties of these lines. The acknowledged records are in the logs after the
+-- earlier ones, the next event begins with the words that are left, and the access control lists stay as they are.
 pub record Steps (lines : List PropLine) (old new : DiskState) (r : RunningWorld) (words : ℕ → ℕ) (now : ℕ) (e : Event) (told : Line) (r' : RunningWorld) (words' : ℕ → ℕ) : Type 0 where
   pub drawn : ℕ
   pub logged : Acknowledged
@@ -81,8 +81,8 @@ last_opening w _ kept = (settled_names kept w.names).table.opening
 abbrev pub LeftByRestart : WorldState → Event → Acknowledged → Image → Type 0
 LeftByRestart w e done c = SurvivesRestart w e done c × SoundFrom (LinkedWorld w) (λ h. h) c
 
--- A restart whose opening failed. The log was opened before, so it is not damaged. The world is as it was, but its log may have
--- grown: it is not to go on with this disk.
+-- A restart whose opening failed. The log was opened before, so it is not damaged. The world is unchanged, but its log may have
+-- grown: it must not go on with this disk.
 pub record Fails (old new : DiskState) (r : RunningWorld) (words : ℕ → ℕ) (e : Event) (file : ℕ) (fault : StartFault) (r' : RunningWorld) (words' : ℕ → ℕ) : Type 0 where
   pub restart : is_restart e file
   pub same : r' ≡ r
@@ -91,11 +91,11 @@ pub record Fails (old new : DiskState) (r : RunningWorld) (words : ℕ → ℕ) 
   pub spent : fault ≡ start.Spent → Tells old → (kept : Bool) × (last_opening (world_of r) e kept ≡ 4294967295)
   pub cause : fault ≡ start.StoreFault → Rose old.faults new.faults
   pub survives : SurvivesThrough old new r (LeftByRestart (world_of r) e)
-  -- and a crash at the end of it leaves no less than what is acknowledged
+  -- a crash at the end of it leaves what is acknowledged, too
   pub survives_then : Tells old → (done : Acknowledged) → HoldsLogs old r done → (c : Image) → IsImage new c → LeftByRestart (world_of r) e done c
   pub run : RunBoth old new
 
--- What a start found in both logs, where the disk tells it, and what they hold behind it: what was found, and the next openings.
+-- What a start found in both logs, and what they hold after it: the records found, and the next openings.
 pub record BeganLogs (old new : DiskState) (r : RunningWorld) (table : Table) (names : NameTable) : Type 0 where
   pub commands : List KeyCommand
   pub ops : List EditOp
@@ -107,8 +107,8 @@ pub record BeganLogs (old new : DiskState) (r : RunningWorld) (table : Table) (n
   pub names_room : names.opening < 4294967295
   pub holds : HoldsLogs new r (record { keys = commands ++ next_opening table ∷ []; names = ops ++ next_opening_of_names names ∷ [] })
 
--- A start found a table in each log, and recorded the next opening behind its records. Where every image of the files was one that
--- a run may start from, with a ledger of draws of earlier runs, the first world is linked with it.
+-- A start found a table in each log, and recorded the next opening after its records. If a run may start from every image of the old
+-- files, with a ledger of draws of earlier runs, the first world is linked with it.
 pub record Begins (old new : DiskState) (r : RunningWorld) : Type 0 where
   pub table : Table
   pub names : NameTable
@@ -119,8 +119,8 @@ pub record Begins (old new : DiskState) (r : RunningWorld) : Type 0 where
   pub draws_apart : Tells old → (past : Past) → StartsSound old past → WordsApart (drawn_before past) → DrawsApart (drawn_before past)
   pub rests : RestsNow new r
 
--- The key log is opened first: it is what it may have been before, or what its start leaves of the log found, and the edit log is as
--- it was.
+-- The key log is opened first: it is what it may have been before, or what its start leaves of the log found, and the edit log is
+-- what it may have been before.
 pub record LeftByFirst (old : DiskState) (c : Image) : Type 0 where
   pub keys : old.leaves 0 (c 0) ⊎ IsLeftByStart (old.reads 0) (c 0)
   pub names : old.leaves 1 (c 1)
@@ -133,8 +133,8 @@ pub record IsOpenedLog (found bytes : List ℕ) : Type 0 where
   pub room : table.opening < 4294967295
   pub sound : IsSoundLog bytes (commands ++ next_opening table ∷ []) None (after table (next_opening table))
 
--- Then the edit log is opened: it is what it may have been before, or what its start leaves of the log found, beside the key log with
--- its opening.
+-- Then the edit log is opened: it is what it may have been before, or what its start leaves of the log found, and the key log has its
+-- new opening.
 pub record LeftBySecond (old : DiskState) (c : Image) : Type 0 where
   pub keys : IsOpenedLog (old.reads 0) (c 0)
   pub names : old.leaves 1 (c 1) ⊎ IsLeftByNameStart (old.reads 1) (c 1)

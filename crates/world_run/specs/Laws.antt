@@ -1,4 +1,4 @@
--- What follows for files that a run may start from.
+-- Properties of files that a run may start from.
 use Rattle.std.specs.Prelude.{◌≤◌, ℕ, Bool, [], length}
 use Rattle.hk_base.specs.Disk.{Image}
 use Rattle.kms_store.specs.Store.{IsDamagedAt, settled_table}
@@ -12,7 +12,7 @@ use Rattle.world_run.specs.Promise.{FilesApart, FilesOpen}
 abbrev pub EmptyFilesAreSound : Type 0
 EmptyFilesAreSound = (c : Image) → length (c 0) ≤ 9 → length (c 1) ≤ 9 → SoundFiles (record { ledger = []; place = 0 }) c
 
--- and with no draw, draws are apart
+-- without draws, draws are apart
 abbrev pub NoDrawsAreApart : Type 0
 NoDrawsAreApart = WordsApart (drawn_before (record { ledger = []; place = 0 }))
 
@@ -20,7 +20,7 @@ NoDrawsAreApart = WordsApart (drawn_before (record { ledger = []; place = 0 }))
 abbrev pub PastDrawsAreApart : Type 0
 PastDrawsAreApart = (h : Hidden) → WordsApart h → WordsApart (drawn_before (past_of h))
 
--- where draws are apart, those of two files are, with the ledger of files that a run may start from
+-- if draws are apart, those of two files are, with the ledger of files that a run may start from
 abbrev pub SoundFilesAreApart : Type 0
 SoundFilesAreApart = (past : Past) (c : Image) → SoundFiles past c → WordsApart (drawn_before past) → FilesApart past.ledger
 

@@ -37,19 +37,19 @@ pub record Draw : Type 0 where
 abbrev pub Ledger : Type 0
 Ledger = List (ℕ × Draw)
 
--- how many words were drawn so far; of each kept reply the draw of its key, if it has one; and which draw the file of
+-- the number of words drawn so far; for each kept reply the draw of its key, if it has one; and which draw the file of
 -- each id got
 pub record Hidden : Type 0 where
   pub place : ℕ
   pub replied : List (Option Draw)
   pub ledger : Ledger
 
--- what is hidden of the runs before: which draw the file of each id got, and how many words were drawn by then
+-- what is hidden of earlier runs: which draw the file of each id got, and the number of words drawn by then
 pub record Past : Type 0 where
   pub ledger : Ledger
   pub place : ℕ
 
--- what is left of what is hidden by now, once the replies that were kept are lost
+-- the rest of what is hidden, after the kept replies are lost
 abbrev pub past_of : Hidden → Past
 past_of h = record { ledger = h.ledger; place = h.place }
 
@@ -68,7 +68,7 @@ draw_of s words place name =
       dek = drawn_dek words 0 (length (current_material s name));
     }
 
--- the draw behind the reply to what an ask wanted
+-- the draw of the reply to the call that an ask wanted
 abbrev pub draw_told : KmsState → (ℕ → ℕ) → ℕ → Want → Option KmsReply → Option Draw
 draw_told s words place (Generate name) (Some (Ready (edek ∷ []))) = Some (draw_of s words place name)
 draw_told s words place _ _ = None
@@ -96,7 +96,7 @@ abbrev pub id_of_reply : Option KeptReply → ℕ
 id_of_reply None = 0
 id_of_reply (Some (ToAsk id answer)) = id
 
--- A finish enters its draw where it is done, and where the disk failed at its record: the file is pending then.
+-- A finish enters its draw if it is done, and if the disk failed at its record: the file is pending then.
 abbrev pub enters : ℕ → Line → NameService → Bool
 enters id (line.Name Done) left = true
 enters id (line.Refused StoreFault) left = makes_file id left.pending
@@ -106,12 +106,12 @@ abbrev pub entered : Bool → Ledger → Ledger
 entered true entry = entry
 entered false entry = []
 
--- so many words more were drawn
+-- `drawn` more words were drawn
 abbrev pub behind_words : ℕ → Hidden → Hidden
 behind_words drawn h = record h { place = h.place + drawn }
 
--- What is hidden after an event that was answered so and left this world: a draw keeps what was drawn for its reply, and a finish
--- enters the draw of the reply that it used, where it enters one.
+-- What is hidden after an event with this answer, and this world after it: a draw keeps what was drawn for its reply, and a finish
+-- enters the draw of the reply that it used, if it enters one.
 abbrev pub hidden_after : WorldState → (ℕ → ℕ) → Event → Line → ℕ → WorldState → Hidden → Hidden
 hidden_after w words (event.Draw number) (line.Replied n told) drawn w' h =
     record (behind_words drawn h) { replied = h.replied ++ draw_noted w.keys.keys words h.place (numbered w.kept.notes number) told ∷ [] }

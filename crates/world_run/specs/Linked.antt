@@ -1,4 +1,4 @@
--- What holds from event to event, and gives the promise on zone files.
+-- What stays true from event to event, and gives the promise on zone files.
 use Rattle.std.specs.Prelude.{◌≡◌, ◌⊎◌, ◌+◌, ◌*◌, ◌^◌, ◌<◌, ◌≤◌, ℕ, ⊤, Bool, List, [], ◌∷◌, length, Option, None, Some}
 use Rattle.hk_base.specs.Disk.{DiskState, Image, IsImage}
 use Rattle.hk_base.specs.declared.names.Edek.{Edek}
@@ -24,12 +24,12 @@ use Rattle.world_run.specs.World.{WorldState, numbered}
 use Rattle.world_run.specs.Ledger.{Draw, Hidden, Ledger, Past}
 use Rattle.world_run.specs.Promise.{Apart, FilesApart, FitsZone, In, edek_of}
 
--- what both services keep by themselves
+-- what is true of each service by itself
 pub record ServicesFit (w : WorldState) : Type 0 where
   pub keys : IsService w.keys
   pub names : IsNames w.names
 
--- the row of the draw's birth, while that stands, opens the encrypted key to the data key drawn
+-- the row of the draw's birth, while it exists, opens the encrypted key to the data key drawn
 abbrev pub OpensTo : List KeyRow → Draw → Edek → Type 0
 OpensTo rows d e = (row : KeyRow) → In row rows → row.birth ≡ d.birth → unseals (row ∷ []) e ≡ Some d.dek
 
@@ -121,14 +121,14 @@ pub record LinkedWorld (w : WorldState) (h : Hidden) : Type 0 where
   pub draws : DrawsFit h.ledger h.replied h.place (IsOldBirth w.keys.keys.table)
   pub ledger : LedgerFits h.ledger w.kept.replies h.replied w.names.names.asks (next_id w.names.names)
 
--- What holds of two tables that are found in the files, while nothing is kept: files are linked, the births of the ledger are of
+-- What is true of two tables that are found in the files, while nothing is kept: files are linked, the births of the ledger are of
 -- openings that the key log records, and its ids of openings that the edit log records.
 pub record LinkedTables (past : Past) (keys : Table) (names : NameTable) : Type 0 where
   pub files : FilesLinked past.ledger keys.rows names
   pub draws : DrawsFit past.ledger [] past.place (IsRecordedBirth keys)
   pub fits : LedgerFits past.ledger [] [] [] ((names.opening + 1) * 2 ^ 32)
 
--- Files that a run may start from, with what is hidden of the runs before: two logs, and one more record may be behind each,
+-- Files that a run may start from, with what is hidden of earlier runs: two logs, and after each there may be one more record,
 -- which applies. The two tables are linked with those records and without them.
 pub record SoundFiles (past : Past) (image : Image) : Type 0 where
   pub commands : List KeyCommand

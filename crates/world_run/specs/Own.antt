@@ -1,4 +1,4 @@
--- What may stand in a log behind the acknowledged records, and what a crash leaves then: at rest, and while an event happens.
+-- What may be in a log after the acknowledged records, and what a crash leaves then: at rest, and while an event happens.
 use Rattle.std.specs.Prelude.{◌≡◌, ℕ, Bool, Option, None, Some, Result}
 use Rattle.hk_base.specs.Disk.{Image}
 use Rattle.name_calls.specs.declared.paths.NPath.{NPath}
@@ -30,14 +30,14 @@ use Rattle.world_run.specs.World.{WorldState, numbered}
 
 -- the key log
 
--- what a call that was answered by this line, and left this, may write there
+-- the command that a call with this answer, and this state after it, may write there
 pub record OwnOfKeysCall (s : ServiceState) (words : ℕ → ℕ) (now : ℕ) (c : KmsCall) (told : Line) (s' : ServiceState) (kept : Bool) (command : KeyCommand) : Type 0 where
   pub reply : KmsReply
   pub told_is : told ≡ line.Kms reply
   pub own : OwnOfKeys s words now c reply s' kept command
 
--- What an event may write there that was answered so and left this world: an opening, where it restarts the key management service,
--- and the command of its own call, where that is acknowledged, or is pending afterwards. The call that a draw makes changes no key,
+-- What an event with this answer, and this world after it, may write there: an opening, if it restarts the key management service,
+-- and the command of its own call, if that is acknowledged, or is pending afterwards. The call that a draw makes changes no key,
 -- and writes nothing.
 abbrev pub OwnKeysOfEvent : WorldState → (ℕ → ℕ) → ℕ → Event → Line → WorldState → Bool → KeyCommand → Type 0
 OwnKeysOfEvent w words now (event.Kms user c) told w' kept command = OwnOfKeysCall w.keys words now c told w'.keys kept command
@@ -51,18 +51,18 @@ OwnKeysOfRestart _ kept command = NoCommand kept command
 
 -- the edit log
 
--- what a call that was answered by this line, and left this, may write behind the settled edit log
+-- the operation that a call with this answer, and this state after it, may write after the settled edit log
 pub record OwnOfNamesCall (s : NameService) (c : NameCall) (told : Line) (s' : NameService) (kept : Bool) (op : EditOp) : Type 0 where
   pub reply : NameReply
   pub told_is : told ≡ line.Name reply
   pub own : OwnOf s c reply s' kept op
 
--- the same of a call at a path as it was given
+-- the same for a call at a path as it was given
 abbrev pub OwnOfPath : NameService → (NPath → NameCall) → Option NPath → Line → NameService → Bool → EditOp → Type 0
 OwnOfPath s c None told s' kept op = ⊥
 OwnOfPath s c (Some path) told s' kept op = OwnOfNamesCall s (c path) told s' kept op
 
--- what a finish of an ask by what its reply means may write there that was answered by this line
+-- the operation that a finish of an ask, by the meaning of its reply, may write there with this answer
 pub record OwnOfFinishedAsk (s : NameService) (id : ℕ) (answer : KeyAnswer) (told : Line) (s' : NameService) (kept : Bool) (op : EditOp) : Type 0 where
   pub result : Result (Unit {0}) NameRefusal
   pub told_is : told ≡ finish_line result
@@ -72,7 +72,7 @@ abbrev pub OwnOfReply : NameService → Option KeptReply → Line → NameServic
 OwnOfReply s None told s' kept op = ⊥
 OwnOfReply s (Some (ToAsk id answer)) told s' kept op = OwnOfFinishedAsk s id answer told s' kept op
 
--- what an event may write there that was answered so and left this world
+-- the operation that an event with this answer, and this world after it, may write there
 abbrev pub OwnOfEvent : WorldState → Event → Line → WorldState → Bool → EditOp → Type 0
 OwnOfEvent w (event.Kms user c) told w' kept op = NothingMore kept op
 OwnOfEvent w event.RestartKms told w' kept op = NothingMore kept op
@@ -92,13 +92,13 @@ abbrev pub OwnOfRestart : Event → Bool → EditOp → Type 0
 OwnOfRestart event.RestartName kept op = AnOpening kept op
 OwnOfRestart _ kept op = NothingMore kept op
 
--- what a crash leaves of both logs, these records being acknowledged
+-- what a crash leaves of both logs, if these records are acknowledged
 
 -- between two events, while nothing is written
 abbrev pub SurvivesAtRest : WorldState → Acknowledged → Image → Type 0
 SurvivesAtRest w done image = Survives w done NoCommand NothingMore image
 
--- during an event that begins in this world at this moment, with these words to come, is answered so, and leaves that world
+-- during an event that begins in this world at this moment, with these words to come, and gets this answer and that world after it
 abbrev pub SurvivesEvent : WorldState → (ℕ → ℕ) → ℕ → Event → Line → WorldState → Acknowledged → Image → Type 0
 SurvivesEvent w words now e told w' done image = Survives w done (OwnKeysOfEvent w words now e told w') (OwnOfEvent w e told w') image
 

@@ -1,4 +1,4 @@
--- What is promised of files in encryption zones.
+-- The promise on files in encryption zones.
 use Rattle.std.specs.Prelude.{◌≡◌, ◌⊎◌, ◌+◌, ◌≤◌, ℕ, ⊤, Bool, List, [], ◌∷◌, length, Option, None, Some}
 use Rattle.hk_base.specs.declared.names.Edek.{Edek}
 use Rattle.hk_base.specs.declared.names.KeyName.{KeyName}
@@ -15,7 +15,7 @@ use Rattle.name_core.specs.State.{settled as settled_names}
 use Rattle.world_run.specs.World.{WorldState}
 use Rattle.world_run.specs.Ledger.{Draw, Hidden, Ledger}
 
--- x stands in the list
+-- x is in the list
 abbrev pub In : {X : Type 0} → X → List X → Type 0
 In x [] = ⊥
 In x (y ∷ ys) = (x ≡ y) ⊎ In x ys
@@ -47,13 +47,13 @@ pub record OpensToItsDraw (ledger : Ledger) (rows : List KeyRow) (id : ℕ) (ede
   pub of_key : edek.version.key ≡ draw.version.key
   pub opens : (row : KeyRow) → In row rows → row.birth ≡ draw.birth → (row.name ≡ draw.version.key) × (unseals rows edek ≡ Some draw.dek)
 
--- The promise on zone files, of the table of the namesystem beside the rows of the keys.
+-- The promise on zone files, for a table of the namesystem and rows of keys.
 pub record FilesOpen (ledger : Ledger) (keys : List KeyRow) (names : NameTable) : Type 0 where
   -- the encrypted key of each file that the table keeps opens to the data key drawn for it
   pub open_up : (file : Row) (edek : Edek) → In file (kept_rows names) → edek_of file.kind ≡ Some edek → OpensToItsDraw ledger keys file.id edek
   -- the ledger has one draw for an id
   pub one_draw : (id : ℕ) (d f : Draw) → In (id, d) ledger → In (id, f) ledger → d ≡ f
-  -- a file has an encrypted key exactly where it lies in a zone, and then of that zone's key
+  -- a file has an encrypted key exactly if it is in a zone, and then of that zone's key
   pub of_zone : (file : Entry) → In file names.rows → FitsZone (key_of_zone names.rows file.path) file.row.kind
 
 -- The draws of two files have no word in common.

@@ -32,8 +32,8 @@ pub record SpentNames (bytes : List ℕ) : Type 0 where
   pub log : IsNameLog bytes ops made
   pub last : made.table.opening ≡ 4294967295
 
--- The key log was found good and opened: the commands found and the new opening are acknowledged, and the file holds them in whatever
--- state a crash leaves it.
+-- The key log was found good and opened: the commands found and the new opening are acknowledged, and each crash leaves them in the
+-- file.
 pub record KeysOpened (old new : DiskState) : Type 0 where
   pub commands : List KeyCommand
   pub table : Table
@@ -41,8 +41,8 @@ pub record KeysOpened (old new : DiskState) : Type 0 where
   pub room : table.opening < 4294967295
   pub left : (bytes : List ℕ) → new.leaves 0 bytes → IsSoundLog bytes (commands ++ next_opening table ∷ []) None (after table (next_opening table))
 
--- A start under the properties of these lines came to this: a world, or the first file that has a fault, and the fault. Where that is
--- the second file, the first was found to be a key log and opened; where it is the first, the second was not touched.
+-- The result of a start under the properties of these lines: a world, or the first file that has a fault, and the fault. If that is
+-- the second file, the first was found to be a key log and opened; if it is the first, the second was not touched.
 pub record StartHappens (old new : DiskState) (lines : List PropLine) (result : Result RunningWorld WorldFault) : Type 0 where
   pub began : IfOk result (Begins old new)
   pub lists : IfOk result (λ (world : RunningWorld). ListsFor world.keys.acls lines)

@@ -49,7 +49,7 @@ use Rattle.world_run.specs.World.{WorldState, next_note, next_reply, numbered, w
 abbrev pub IsQuiet : ℕ → Acknowledged → Type 0
 IsQuiet drawn logged = (drawn ≡ 0) × (logged ≡ nothing_acknowledged)
 
--- A call of the key management service under the properties of these lines leaves the namesystem as it was.
+-- A call of the key management service under the properties of these lines leaves the namesystem unchanged.
 pub record KeysAct (lines : List PropLine) (w : WorldState) (words : ℕ → ℕ) (now : ℕ) (user : Text) (c : KmsCall) (fault : Type 0) (told : Line) (drawn : ℕ) (logged : Acknowledged) (w' : WorldState) : Type 0 where
   pub reply : KmsReply
   pub keys : ServiceState
@@ -59,15 +59,15 @@ pub record KeysAct (lines : List PropLine) (w : WorldState) (words : ℕ → ℕ
   pub told_is : told ≡ line.Kms reply
   pub left : w' ≡ record w { keys = keys }
 
--- What a start finds in the log of a service: its table, once the pending command was settled. That is acknowledged where it
+-- What a start finds in the log of a service: its table, after the pending command was settled. That command is acknowledged if it
 -- was kept, and so is the next opening.
 pub record Recovers (s : ServiceState) (table : Table) (commands : List KeyCommand) : Type 0 where
   pub kept : Bool
   pub table_is : table ≡ (settled kept s).table
   pub commands_are : commands ≡ settled_commands kept s.pending ++ next_opening table ∷ []
 
--- The key management service is dropped, and opened again from its log. All else stays. What it finds is what the log is known
--- to hold where the disk tells it.
+-- The key management service is dropped, and opened again from its log. All else stays. If the disk tells its content, the service
+-- finds what the log is known to hold.
 pub record Restarts (w : WorldState) (tells : Type 0) (told : Line) (drawn : ℕ) (logged : Acknowledged) (w' : WorldState) : Type 0 where
   pub table : Table
   pub commands : List KeyCommand
@@ -93,7 +93,7 @@ pub record RestartsNames (w : WorldState) (tells : Type 0) (told : Line) (drawn 
   pub none_drawn : drawn ≡ 0
   pub left : w' ≡ record w { names = started table }
 
--- a call of the namesystem leaves the key management service as it was, and draws nothing
+-- a call of the namesystem leaves the key management service unchanged, and draws nothing
 pub record NamesAct (w : WorldState) (user : Text) (c : NameCall) (fault : Type 0) (told : Line) (drawn : ℕ) (logged : Acknowledged) (w' : WorldState) : Type 0 where
   pub reply : NameReply
   pub names : NameService
@@ -104,7 +104,7 @@ pub record NamesAct (w : WorldState) (user : Text) (c : NameCall) (fault : Type 
   pub none_drawn : drawn ≡ 0
   pub left : w' ≡ record w { names = names }
 
--- a path is refused where it is outside the rule, and where there is no memory to read it; nothing changes then
+-- a path is refused if it is outside the rule, or if there is no memory to read it; nothing changes then
 pub record Unread (w : WorldState) (why : NameReply) (told : Line) (drawn : ℕ) (logged : Acknowledged) (w' : WorldState) : Type 0 where
   pub told_is : told ≡ line.Name why
   pub quiet : IsQuiet drawn logged
@@ -137,7 +137,7 @@ abbrev pub unread_refusal : PathFault → NameRefusal
 unread_refusal BadPath = refusal.BadPath
 unread_refusal NoMemory = refusal.NoMemory
 
--- what an ask answers: its note is kept where it is accepted
+-- the answer of an ask: its note is kept if the ask is accepted
 
 abbrev pub ask_line : Result AskNote NameRefusal → ℕ → Line
 ask_line (Ok note) number = line.Asked number note
@@ -154,7 +154,7 @@ pub record AskActs (w : WorldState) (user : Text) (a : Ask) (told : Line) (w' : 
   pub told_is : told ≡ ask_line result (next_note w)
   pub left : w' ≡ after_ask result (with_names names w)
 
--- an ask at a path as it was given; room for the note, too, may be wanting
+-- an ask at a path as it was given; there may be no memory for the path or the note
 abbrev pub AskAt : WorldState → Text → (NPath → Ask) → Option NPath → Line → WorldState → Type 0
 AskAt w user a None told w' = Refuses w refusal.BadPath told w'
 AskAt w user a (Some path) told w' = AskActs w user (a path) told w' ⊎ Refuses w refusal.NoMemory told w'
@@ -170,7 +170,7 @@ pub record NoRoomForReply (w : WorldState) (told : Line) (drawn : ℕ) (logged :
 abbrev pub kept_reply : AskNote → Option KmsReply → KeptReply
 kept_reply note reply = ToAsk note.id (answer_of reply)
 
--- The call of the key management service that an ask wants, where it wants one. It is made as the superuser, whoever asked.
+-- The call of the key management service that an ask wants, if it wants one. It is made as the superuser, whoever asked.
 pub record CallActs (lines : List PropLine) (s : ServiceState) (words : ℕ → ℕ) (now : ℕ) (c : KmsCall) (fault : Type 0) (told : Option KmsReply) (drawn : ℕ) (logged : List KeyCommand) (s' : ServiceState) : Type 0 where
   pub reply : KmsReply
   pub serves : ServesUser lines superuser s words now c fault reply drawn logged s'
@@ -200,7 +200,7 @@ abbrev pub DrawActs : List PropLine → WorldState → (ℕ → ℕ) → ℕ →
 DrawActs lines w words now None fault told drawn logged w' = IsUnknown w told drawn logged w'
 DrawActs lines w words now (Some note) fault told drawn logged w' = DrawNote lines w words now note fault told drawn logged w' ⊎ NoRoomForReply w told drawn logged w'
 
--- what a kept reply answers is finished: the ask with its id
+-- a finish of the ask that a kept reply answers
 
 abbrev pub finish_line : Result (Unit {0}) NameRefusal → Line
 finish_line (Ok _) = line.Name reply.Done
@@ -223,9 +223,9 @@ FinishReply w (Some (ToAsk id answer)) fault told drawn logged w' = FinishActs w
 abbrev pub zone_with : KeyName → NPath → Ask
 zone_with key path = ask.Zone path key
 
--- From w, with these words to come, an event may be answered so, draw so many words, have these records acknowledged, and leave
--- w'. Calls of the key management service are judged by the properties of these lines. A store fault comes only where `fault`
--- holds, and `tells` is whether the disk tells what it holds.
+-- From w, with these words to come, an event may get this answer, draw this number of words, acknowledge these records, and leave
+-- w'. Calls of the key management service are judged by the properties of these lines. A store fault comes only if `fault`
+-- holds, and `tells` is whether the disk tells its content.
 abbrev pub Step : List PropLine → WorldState → (ℕ → ℕ) → ℕ → Event → Type 0 → Type 0 → Line → ℕ → Acknowledged → WorldState → Type 0
 Step lines w words now (event.Kms user c) fault tells told drawn logged w' = KeysAct lines w words now user c fault told drawn logged w'
 Step lines w words now event.RestartKms fault tells told drawn logged w' = Restarts w tells told drawn logged w'

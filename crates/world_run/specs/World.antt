@@ -1,4 +1,4 @@
--- Both services, and what is kept.
+-- Both services, and the notes and replies that are kept.
 use Rattle.std.specs.Prelude.{ℕ, zero, suc, ◌+◌, List, [], ◌∷◌, ◌++◌, length, Option, None, slice_get}
 use Rattle.key_rows.specs.Table.{Table}
 use Rattle.kms_core.specs.State.{ServiceState, opened, service_of}
@@ -13,13 +13,13 @@ pub record Kept : Type 0 where
   pub notes : List AskNote
   pub replies : List KeptReply
 
--- the key management service, the namesystem, and what is kept
+-- the key management service, the namesystem, and the kept notes and replies
 pub record WorldState : Type 0 where
   pub keys : ServiceState
   pub names : NameService
   pub kept : Kept
 
--- behind a start that found these two tables: nothing is kept
+-- after a start that found these two tables: nothing is kept
 abbrev pub first_world : Table → NameTable → WorldState
 first_world table names = record { keys = opened table; names = started names; kept = record { notes = []; replies = [] } }
 
@@ -31,13 +31,13 @@ found_in table names w =
       names = record { names = record w.names.names { table = names }; pending = None };
     }
 
--- A world that runs: its key management service has access control lists and a store, and its namesystem has a store.
+-- A running world: its key management service has access control lists and a store, and its namesystem has a store.
 pub record RunningWorld : Type 0 where
   pub keys : RunningKms
   pub names : RunningNames
   pub kept : Kept
 
--- what a running world is, whatever its disk and its lists
+-- the state of a running world, without its disk and its lists
 abbrev pub world_of : RunningWorld → WorldState
 world_of r = record { keys = service_of (running r.keys); names = names_service r.names; kept = r.kept }
 
@@ -45,7 +45,7 @@ world_of r = record { keys = service_of (running r.keys); names = names_service 
 abbrev pub with_names : NameState → WorldState → WorldState
 with_names names w = record w { names = record w.names { names = names } }
 
--- what is kept under a number, from 1
+-- the value kept under a number, from 1
 abbrev pub numbered : {X : Type 0} → List X → ℕ → Option X
 numbered xs zero = None
 numbered xs (suc n) = slice_get xs n
@@ -57,7 +57,7 @@ with_note note w = record w { kept = record w.kept { notes = w.kept.notes ++ not
 abbrev pub with_reply : KeptReply → WorldState → WorldState
 with_reply reply w = record w { kept = record w.kept { replies = w.kept.replies ++ reply ∷ [] } }
 
--- the numbers under which these are kept
+-- the numbers under which the next ones are kept
 abbrev pub next_note : WorldState → ℕ
 next_note w = length w.kept.notes + 1
 
