@@ -1,4 +1,4 @@
--- What a commit and a settling leave.
+-- The store after a commit and after a settling.
 use Rattle.std.proofs.Common.{◌≡◌, ℕ, Bool, true, false, ◌&&◌, List, [], ◌∷◌, ◌++◌, Option, Some, None, Result, Ok, Err, refl, sym, ap, ◌∙◌, subst}
 use Rattle.std.specs.Prelude.{IfSome, IsErr, MatchResult}
 use Rattle.std.specs.List.{AllByRecursion}
@@ -28,7 +28,7 @@ each_last P [] x each = each.0
 each_last P (y ∷ ys) x each = each_last P ys x each.1
 
 module _ (old new : DiskState) (store store' : StoreState) (used : List ℕ) (ops : List EditOp) where
-  -- an operation more
+  -- one more operation
   pub one_more : (op : EditOp) → StandsFor old store used ops → applies (made_with store used) op ≡ true → store'.log.pending ≡ None → store'.table ≡ after_table store.table op
       → edits.StandsFor new store'.log (ops ++ op ∷ []) → StandsFor new store' (uses op ++ used) (ops ++ op ∷ [])
   one_more op s may none then_is stands = record {
@@ -39,7 +39,7 @@ module _ (old new : DiskState) (store store' : StoreState) (used : List ℕ) (op
     waits = subst (λ (o : Option EditOp). Applies (made_with store' (uses op ++ used)) o) (sym none) tt;
   }
 
-  -- none more
+  -- no more operation
   pub as_before : StandsFor old store used ops → store'.table ≡ store.table → Applies (made_with store used) store'.log.pending → edits.StandsFor new store'.log ops → StandsFor new store' used ops
   as_before s same waits stands = record {
     log = stands;

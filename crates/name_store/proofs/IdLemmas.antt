@@ -43,7 +43,7 @@ used-weaker : (n m : ℕ) → n ≤ m → (ids : List ℕ) → AllBelow n ids �
 used-weaker n m le [] h = tt
 used-weaker n m le (id ∷ ids) h = (omega (arith, le, h.0), used-weaker n m le ids h.1)
 
--- what an id of an opening is below
+-- the bound of the ids of an opening
 abbrev end_of_ids : ℕ → ℕ
 end_of_ids opening = (opening + 1) * 2 ^ 32
 

@@ -1,4 +1,4 @@
--- What layers above a store need of its log.
+-- Properties of a store's log that the layers above need.
 use Rattle.std.proofs.Common.{◌≡◌, inl, inr, ℕ, suc, Bool, true, false, List, [], ◌∷◌, ◌++◌, map, Option, Some, None, refl, sym, ap, ◌∙◌, subst, arith}
 use Rattle.std.specs.Prelude.{IfSome, if◌then◌else◌, length, option_map}
 use Rattle.std.specs.List.{AllByRecursion}
@@ -19,7 +19,7 @@ use Rattle.name_store.proofs.IdLemmas as ids
 use Rattle.name_store.proofs.Replays.{replay_more, spelled_more}
 use Rattle.name_store.proofs.Starts.{opens}
 
--- what the file of a store may be is a log of its operations, with the pending one or without it
+-- each image of the file of a store is a log of its operations, with the pending one or without it
 pub log_of_store : (d : DiskState) (store : StoreState) (used : List ℕ) (ops : List EditOp) → store.log.log.file ≡ 1 → StandsFor d store used ops
     → (bytes : List ℕ) → Is (front store.log.log.file (map spelling ops)) (option_map spelling store.log.pending) bytes → IsLogOf ops store.log.pending bytes
 log_of_store d store used ops of_file s bytes is = go store.log.pending is s.log.log.payload
@@ -41,7 +41,7 @@ one_list (x ∷ xs) (y ∷ ys) p q is =
     let rest : map spelling xs ≡ map spelling ys = cc is in
     λ i. one_spelling x y p.0 q.0 first i ∷ one_list xs ys p.1 q.1 rest i
 
--- what a sound log is found to be
+-- the operations that are found in a sound log
 pub found_is : (bytes : List ℕ) (ops : List EditOp) (more : Option EditOp) (made : Replayed) → IsSoundLog bytes ops more made
     → (payloads : List (List ℕ)) (gate : ℕ) → log_of 1 bytes ≡ Found payloads gate → (kept : Bool) × (payloads ≡ map spelling (ops ++ settled_ops kept more))
 found_is bytes ops more made s payloads gate found = go more s.log
@@ -55,7 +55,7 @@ found_is bytes ops more made s payloads gate found = go more s.log
     go (Some op) (inr (inl with)) = let is : payloads ≡ map spelling ops ++ spelling op ∷ [] = cc (found, with) in (true, is ∙ sym (spelled_more ops op))
     go (Some op) (inr (inr half)) = let is : payloads ≡ map spelling ops = cc (found, half.now) in (false, is ∙ as_they_are)
 
--- the operations of a log, and what they come to, once its last one was settled
+-- the operations of a log, and the table that they make, after its last one was settled
 spelled_behind : (ops : List EditOp) (more : Option EditOp) → AllByRecursion HasSpelling ops → IfSome more HasSpelling → (kept : Bool) → AllByRecursion HasSpelling (ops ++ settled_ops kept more)
 spelled_behind ops None spelled h kept = subst (AllByRecursion HasSpelling) (sym (append-nil ops)) spelled
 spelled_behind ops (Some op) spelled h true = each_more HasSpelling ops op spelled h
@@ -132,7 +132,7 @@ left_by_start bytes ops more made s left (Recovered (Log_as_found (Opened payloa
     go (Some op) (inr (inr half)) may spelled =
         record { kept = false; more = Some op; more_is = inl (refl, refl); fits = may; spelled = spelled; log = subst (λ (l : List EditOp). IsWithOrWithout l op left) (sym (append-nil ops)) (inr (inl (ap (log_of 1) same ∙ half.then_on))) }
 
--- what a crash may leave of the log of these operations is a sound log, of them and of what was settled of the pending one
+-- a crash leaves of the log of these operations a sound log, of them and of the pending one if it was kept
 pub sound_left : (made : Replayed) (pending : Option EditOp) (own : Bool → EditOp → Type 0) (ops : List EditOp) (bytes : List ℕ) → AllByRecursion HasSpelling ops → IfSome pending HasSpelling
     → name_replay nothing_logged ops ≡ Some made → Applies made pending → (l : IsLeftOf made pending own ops bytes)
     → IsSoundLog bytes (ops ++ settled_ops l.kept pending) l.more (settled_log l.kept pending made)
@@ -181,7 +181,7 @@ split_at (x ∷ xs) (y ∷ ys) payload payloads p q is =
     let s = split_at xs ys payload payloads p.1 q.1 rest in
     (s.0, s.1, (λ i. one_spelling x y p.0 q.0 first i ∷ s.2 i), s.3, s.4)
 
--- an operation of a list of which each applies, applies behind those before it
+-- in a list of operations that apply one after another, each applies after the earlier ones
 applies_at : (t u made : Replayed) (front : List EditOp) (op : EditOp) (rest : List EditOp) → name_replay t front ≡ Some u → name_replay t (front ++ op ∷ rest) ≡ Some made → applies u op ≡ true
 applies_at t u made [] op rest before whole = go (applies t op) refl whole
   where
@@ -233,7 +233,7 @@ found_log bytes ops more made s =
     is_found (Some op) (inr (inl with)) = (map spelling ops ++ spelling op ∷ [], 0, with)
     is_found (Some op) (inr (inr half)) = (map spelling ops, half.gate, half.now)
 
--- a store stands for one list of operations, and these used one list of ids
+-- a store holds one list of operations, and these used one list of ids
 pub stands_once : (d : DiskState) (store : StoreState) (used others_used : List ℕ) (ops others : List EditOp) → store.log.log.file ≡ 1 → StandsFor d store used ops → StandsFor d store others_used others
     → (others ≡ ops) × (others_used ≡ used)
 stands_once d store used others_used ops others of_file s t = (same, ap used_by one)

@@ -1,4 +1,4 @@
--- The operations that a reader of a log has returned, and the table that they come to.
+-- The operations that a reader of a log has returned, and the table that they make.
 use Rattle.std.proofs.Common.{◌≡◌, ℕ, false, List, [], ◌∷◌, ◌++◌, map, refl, sym, ◌∙◌, ap, subst}
 use Rattle.std.proofs.lemmas.List.{append_assoc, append-nil}
 use Rattle.hk_base.specs.Disk.{DiskState, Tells}
@@ -14,7 +14,7 @@ use Rattle.name_store.proofs.Commits.{each_last}
 use Rattle.name_store.proofs.Replays.{ComesTo, applies_same, comes_to_more, comes_to_none, spelled_more}
 use Rattle.name_store.proofs.Starts.{no-next, openings-of}
 
--- operations were returned since `first`, and come to this table
+-- operations were returned since `first`, and make this table
 pub record SoFar (old now : DiskState) (first reader : OpReader) (t : NameTable) (has : Ids) : Type 0 where
   pub ops : List EditOp
   pub comes : ComesTo ops t has

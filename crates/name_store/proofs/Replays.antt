@@ -8,7 +8,7 @@ use Rattle.edit_ops.specs.declared.ops.EditOp.{EditOp}
 use Rattle.name_store.specs.Table.{NameTable, Replayed, after, allows, applies, is_among, nothing_logged, uses}
 use Rattle.name_store.specs.Replay.{Ids, IsNext, applies_beside, name_replay}
 
--- an operation more, which applies
+-- one more operation, which applies
 pub replay_more : (t u : Replayed) (ops : List EditOp) (op : EditOp) → name_replay t ops ≡ Some u → applies u op ≡ true → name_replay t (ops ++ op ∷ []) ≡ Some (after u op)
 replay_more t u [] op is may =
     let same : t ≡ u = cc is in
@@ -41,13 +41,13 @@ among_append : (ids used : List ℕ) (id : ℕ) → is_among (ids ++ used) id �
 among_append [] used id = refl
 among_append (i ∷ ids) used id = ap (λ (b : Bool). i == id || b) (among_append ids used id) ∙ or_assoc (i == id) (is_among ids id) (is_among used id)
 
--- operations come to this table, where these ids were used
+-- the operations make this table, and used these ids
 pub record ComesTo (ops : List EditOp) (t : NameTable) (has : Ids) : Type 0 where
   pub used : List ℕ
   pub makes : name_replay nothing_logged ops ≡ Some (record { table = t; used = used })
   pub ids : AreIds has used
 
--- no operations come to the root alone
+-- no operations make the root alone
 pub comes_to_none : (t : NameTable) (has : Ids) → t ≡ nothing_logged.table → ((id : ℕ) → has id ≡ false) → ComesTo [] t has
 comes_to_none t has is none = record {
   used = [];

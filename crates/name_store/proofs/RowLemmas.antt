@@ -34,7 +34,7 @@ longer-holds : (P : Entry → Type 0) (e : Entry) (o : Option Entry) → P e →
 longer-holds P e None h g = h
 longer-holds P e (Some f) h g = either-holds P (nat_lt (length e.path) (length f.path)) f e g h
 
--- what holds of all rows holds of the row of a zone
+-- a property of all rows is true of the row of a zone
 zone-holds : (P : Entry → Type 0) (p : List (List ℕ)) (es : List Entry) → All P es → HoldsOf P (zone_of es p)
 zone-holds P p [] h = tt
 zone-holds P p (e ∷ es) h =
@@ -60,7 +60,7 @@ key-of-row rows p id good h = ap (λ (o : Option Entry). option_and_then (λ (r 
 
 -- the row at a path
 
--- a row that stands at a path is the row of its id
+-- a row at a path is the row of its id
 pub entry-at : (rows : List Entry) (p : List (List ℕ)) (row : Row) → IsRows rows → row_at rows p ≡ Some row → (dir : Entry) × (dir.row ≡ row) × (entry_of rows row.id ≡ Some dir)
 entry-at rows p row good h = go rows good.once h
   where
@@ -89,7 +89,7 @@ not-over x es p h = go (is_zone_over p x) h
     go true h = absurd cc
     go false h = (refl, h)
 
--- where a path lies in no zone, the row that stands there has no mark
+-- if a path is in no zone, the row at the path has no mark
 unmarked : (es : List Entry) (p : List (List ℕ)) (row : Row) → row_at es p ≡ Some row → zone_of es p ≡ None → mark_of row.kind ≡ None
 unmarked [] p row is none = absurd cc
 unmarked (x ∷ es) p row is none = step (λ stands. unmarked es p row stands outside.1) (same_path x.path p) refl is
@@ -107,7 +107,7 @@ unmarked (x ∷ es) p row is none = step (λ stands. unmarked es p row stands ou
         ap (λ (r : Row). mark_of r.kind) (sym same) ∙ plain (mark_of x.row.kind) (is_prefix x.path p) (same-prefix x.path p here) outside.0
     step rest false here is = rest is
 
--- what becomes a zone is a directory without a mark
+-- a row that becomes a zone is a directory without a mark
 module _ (rows : List Entry) (p : List (List ℕ)) (row : Row) (may : first_cause (zone_causes rows p) ≡ None) (is : row_at rows p ≡ Some row) where
   pub is-directory : is_dir row.kind ≡ true
   is-directory = ap is_dir_at (sym is) ∙ (markable rows p may).dir

@@ -1,4 +1,4 @@
--- What a settling leaves.
+-- The store after a settling.
 use Rattle.std.proofs.Common.{◌≡◌, ◌⊎◌, inl, inr, ⊎_elim, ℕ, suc, zero, true, false, List, [], ◌∷◌, ◌++◌, Option, Some, None, refl, sym, ap, ◌∙◌, subst}
 use Rattle.std.specs.Prelude.{IfSome, is_some, ◌≢◌, slice_get}
 use Rattle.std.proofs.lemmas.List.{append-nil}

@@ -47,7 +47,7 @@ last-of t (op.File id p edek) = refl
 last-of t (op.Remove p) = refl
 last-of t (op.Zone p key) = refl
 
--- the last opening of operations is that of the table that they come to
+-- the last opening of operations is that of the table that they make
 pub openings-of : (r made : Replayed) (ops : List EditOp) → name_replay r ops ≡ Some made → openings r.table.opening ops ≡ Some made.table.opening
 openings-of r made [] is = let same : r ≡ made = cc is in ap (λ (x : Replayed). Some x.table.opening) same
 openings-of r made (o ∷ ops) is = go (openings-of (after r o) made ops) (applies r o) refl is
@@ -85,7 +85,7 @@ damaged_at bytes todo gate at found r = Not_a_name_log (record {
   place = r.place;
 })
 
--- a log that was recovered, and the table that its reader's operations come to
+-- a log that was recovered, and the table that its reader's operations make
 module _ (bytes : List ℕ) (disk : DiskState) (log : EditLogState) (reader : OpReader) (table : NameTable) (m : IsMade disk reader table) (opened : IsOpened bytes disk log reader) (told : Tells disk) where
   pub name_log : IsNameLog bytes m.ops (record { table = table; used = m.used })
   name_log =

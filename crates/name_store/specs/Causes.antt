@@ -6,7 +6,7 @@ use Rattle.name_calls.specs.declared.paths.NPath.{NPath}
 use Rattle.name_calls.specs.Paths.{parent}
 use Rattle.inode_tree.specs.Rows.{Entry, has_children, is_dir_at, row_at, zone_of}
 
--- causes of a refusal in the order of the rules; the first one that holds counts
+-- the causes of a refusal, in the order of the rules; the first that is true counts
 abbrev pub first_cause : List (Bool × NameRefusal) → Option NameRefusal
 first_cause [] = None
 first_cause (cause ∷ causes) = if cause.0 then Some cause.1 else first_cause causes

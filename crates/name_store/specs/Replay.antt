@@ -1,4 +1,4 @@
--- What the records of an edit log are together.
+-- The table that the records of an edit log make.
 use Rattle.std.specs.Prelude.{◌≡◌, ℕ, ◌+◌, ◌*◌, ◌^◌, ◌<◌, Bool, true, false, not, ◌&&◌, ◌||◌, List, [], ◌∷◌, ◌++◌, map, Option, Some, None, IfSome, if◌then◌else◌}
 use Rattle.std.specs.List.{All, AllByRecursion, list_any}
 use Rattle.hk_base.specs.Disk.{DiskState, Tells}
@@ -9,7 +9,7 @@ use Rattle.edit_log.specs.declared.reader.OpReader.{OpReader}
 use Rattle.edit_log.specs.Reader.{OpsAhead}
 use Rattle.name_store.specs.Table.{NameTable, Replayed, after, after_table, allows, applies, is_among, nothing_logged, uses}
 
--- what the operations come to behind this, or None where one of them doesn't apply
+-- the result of the operations after `r`, or None if one of them doesn't apply
 abbrev pub name_replay : Replayed → List EditOp → Option Replayed
 name_replay r [] = Some r
 name_replay r (op ∷ ops) = if applies r op then name_replay (after r op) ops else None
@@ -21,11 +21,11 @@ IsNoNext r payload = (op : EditOp) → HasSpelling op → payload ≡ spelling o
 abbrev pub Applies : Replayed → Option EditOp → Type 0
 Applies r more = IfSome more (λ op. applies r op ≡ true)
 
--- ids lie below that of the next opening
+-- all ids are below the bound
 abbrev pub AllBelow : ℕ → List ℕ → Type 0
 AllBelow bound ids = AllByRecursion (λ (id : ℕ). id < bound) ids
 
--- the ids of rows, and those used
+-- the ids of rows, and the used ids, are below those of the next opening
 pub record IdsOfOpening (r : Replayed) : Type 0 where
   pub rows : All (λ e. e.row.id < (r.table.opening + 1) * 2 ^ 32) r.table.rows
   pub used : AllBelow ((r.table.opening + 1) * 2 ^ 32) r.used
@@ -34,7 +34,7 @@ pub record IdsOfOpening (r : Replayed) : Type 0 where
 abbrev pub Ids : Type 0
 Ids = ℕ → Bool
 
--- the operation applies to the table, where these ids were used
+-- the operation applies to the table, if these ids were used
 abbrev pub applies_beside : NameTable → Ids → EditOp → Bool
 applies_beside t used op = allows t op && not (list_any used (uses op))
 
@@ -49,14 +49,14 @@ abbrev pub IsTaken : NameTable → Ids → EditOp → NameTable → Ids → Bool
 IsTaken t used op t' used' true = IsNext t used op t' used'
 IsTaken t used op t' used' false = applies_beside t used op ≡ false
 
--- the operations that a reader returned come to this table, and they are all that it had to return
+-- the operations that a reader returned make this table, and they are all that it had to return
 pub record IsMade (disk : DiskState) (reader : OpReader) (table : NameTable) : Type 0 where
   pub ops : List EditOp
   pub used : List ℕ
   pub makes : name_replay nothing_logged ops ≡ Some (record { table = table; used = used })
   pub all : Tells disk → (todo : List (List ℕ)) → OpsAhead disk reader [] todo → AllByRecursion HasSpelling ops × (todo ≡ map spelling ops)
 
--- these records begin with operations that apply; the one after them, whose gate is at this offset, is none that applies
+-- these records begin with operations that apply; the one after them, whose gate is at this offset, is not one that applies
 pub record IsRefusedAt (todo : List (List ℕ)) (at : ℕ) : Type 0 where
   pub ops : List EditOp
   pub payload : List ℕ

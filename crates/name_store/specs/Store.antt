@@ -1,4 +1,4 @@
--- The namesystem over its edit log, and what it stands for.
+-- The table of the namesystem over its edit log, and the operations that the log holds.
 use Rattle.std.specs.Prelude.{◌≡◌, ◌⊎◌, ℕ, ◌*◌, ◌^◌, ◌<◌, Bool, true, false, is_some, List, [], ◌∷◌, ◌++◌, map, Option, Some, None, IfSome, IsTrue}
 use Rattle.std.specs.List.{All, AllByRecursion}
 use Rattle.hk_base.specs.Disk.{DiskState, Tells, RunOn, LeavesOnly}
@@ -13,7 +13,7 @@ use Rattle.edit_log.specs.Log as edits
 use Rattle.name_store.specs.Table.{NameTable, Replayed, after_table, allows, is_fresh, next_opening, nothing_logged, settled_log, settled_ops, settled_table, settled_used}
 use Rattle.name_store.specs.Replay.{AllBelow, Applies, IsNoNext, name_replay}
 
--- its edit log with the operation that waits to be settled, and the table
+-- its edit log with the pending operation, and the table
 pub record StoreState : Type 0 where
   pub log : EditLogState
   pub table : NameTable
@@ -21,25 +21,25 @@ pub record StoreState : Type 0 where
 abbrev pub made_with : StoreState → List ℕ → Replayed
 made_with store used = record { table = store.table; used = used }
 
--- The store stands for these acknowledged operations on the disk: they make its table, they used these ids, and they are the
--- records of its log, beside the one that waits, which applies behind them.
+-- The store holds these acknowledged operations on the disk: they make its table, they used these ids, and they are the
+-- records of its log, apart from the pending one, which applies after them.
 pub record StandsFor (disk : DiskState) (store : StoreState) (used : List ℕ) (ops : List EditOp) : Type 0 where
   pub log : edits.StandsFor disk store.log ops
   pub makes : name_replay nothing_logged ops ≡ Some (made_with store used)
   pub waits : Applies (made_with store used) store.log.pending
 
--- a log of these operations, with one more or without it, now and where its end gate byte is read as 1; that one can be written
+-- a log of these operations, with one more or without it, now and if its end gate byte is read as 1; that one can be written
 abbrev pub IsWritten : List EditOp → EditOp → List ℕ → Type 0
 IsWritten ops op bytes = HasSpelling op × edits.IsWithOrWithout ops op bytes
 
--- the file is a log of these operations, each of which applies, and they come to this
+-- the file is a log of these operations, each of which applies, and they make `made`
 pub record IsNameLog (bytes : List ℕ) (ops : List EditOp) (made : Replayed) : Type 0 where
   pub gate : ℕ
   pub spelled : AllByRecursion HasSpelling ops
   pub found : log_of 1 bytes ≡ Found (map spelling ops) gate
   pub makes : name_replay nothing_logged ops ≡ Some made
 
--- The file is a log, and the record whose gate is at this offset is no operation that applies behind those before it.
+-- The file is a log, and the record whose gate is at this offset is no operation that applies after the earlier ones.
 pub record IsNoNameLog (bytes : List ℕ) (at : ℕ) : Type 0 where
   pub ops : List EditOp
   pub payload : List ℕ
@@ -57,18 +57,18 @@ pub data IsDamagedAt (bytes : List ℕ) (at : ℕ) : Type 0 where
   Not_a_log : log_of 1 bytes ≡ NoLog at → IsDamagedAt bytes at
   Not_a_name_log : IsNoNameLog bytes at → IsDamagedAt bytes at
 
--- what a start leaves of the file found, since it synced it: what recovering leaves, or the log with the record of the new
--- opening or without it
+-- what a crash leaves of the file found, since a start synced it: what recovering leaves, or the log with the record of the
+-- new opening or without it
 pub data IsLeftByStart (found bytes : List ℕ) : Type 0 where
   Recovered : IsRecovered 1 found bytes → IsLeftByStart found bytes
   Opening : (ops : List EditOp) (made : Replayed) → IsNameLog found ops made → IsWritten ops (next_opening made.table) bytes → IsLeftByStart found bytes
 
--- what a crash may leave of a log: these operations, with one more or without it, now and where the end gate byte is read as 1
+-- what a crash may leave of a log: these operations, with one more or without it, now and if the end gate byte is read as 1
 abbrev pub IsLogOf : List EditOp → Option EditOp → List ℕ → Type 0
 IsLogOf ops None bytes = IsAtRest 1 (map spelling ops) bytes
 IsLogOf ops (Some op) bytes = edits.IsWithOrWithout ops op bytes
 
--- An edit log that a run may start from: its operations come to this, and one more, which applies, may be behind them.
+-- An edit log that a run may start from: its operations make `made`, and one more, which applies, may follow them.
 pub record IsSoundLog (bytes : List ℕ) (ops : List EditOp) (more : Option EditOp) (made : Replayed) : Type 0 where
   pub spelled : AllByRecursion HasSpelling ops
   pub spelled_more : IfSome more HasSpelling
@@ -76,9 +76,9 @@ pub record IsSoundLog (bytes : List ℕ) (ops : List EditOp) (more : Option Edit
   pub fits : Applies made more
   pub log : IsLogOf ops more bytes
 
--- What a crash may leave of the log of these operations, which come to this, while one is pending: that log, or the one with the
+-- What a crash may leave of the log of these operations, which make `made`, while one is pending: that log, or the one with the
 -- pending operation; with one more operation, which applies, or without it. That one is the pending operation itself, or one of
--- `own`, which says what may be written behind the settled log.
+-- `own`, which says what may be written after the settled log.
 pub record IsLeftOf (made : Replayed) (pending : Option EditOp) (own : Bool → EditOp → Type 0) (ops : List EditOp) (bytes : List ℕ) : Type 0 where
   pub kept : Bool
   pub more : Option EditOp
@@ -91,7 +91,7 @@ abbrev pub is_opening : EditOp → Bool
 is_opening (op.Opened opening) = true
 is_opening _ = false
 
--- what may be written: nothing, and the record of an opening
+-- operations that may be written: none, and an opening
 
 abbrev pub NothingMore : Bool → EditOp → Type 0
 NothingMore kept op = ⊥
@@ -99,7 +99,7 @@ NothingMore kept op = ⊥
 abbrev pub AnOpening : Bool → EditOp → Type 0
 AnOpening kept op = is_opening op ≡ true
 
--- What a start found in the log, where the disk tells it, and what the log holds behind it: the operations found, and the next opening.
+-- What a start found in the log, and what the log holds after it: the operations found, and the next opening.
 pub record StartedLog (old new : DiskState) (store : StoreState) (found : NameTable) : Type 0 where
   pub ops : List EditOp
   pub used : List ℕ
@@ -108,7 +108,7 @@ pub record StartedLog (old new : DiskState) (store : StoreState) (found : NameTa
   -- the ids used are of earlier openings
   pub earlier : AllBelow (store.table.opening * 2 ^ 32) used
 
--- A start found a table in the log, and recorded the next opening behind its operations.
+-- A start found a table in the log, and added the next opening after its operations.
 pub record Started (old new : DiskState) (store : StoreState) : Type 0 where
   pub found : NameTable
   pub table : store.table ≡ after_table found (next_opening found)
@@ -117,16 +117,16 @@ pub record Started (old new : DiskState) (store : StoreState) : Type 0 where
   pub earlier : All (λ e. e.row.id < store.table.opening * 2 ^ 32) store.table.rows
   pub log : Tells old → StartedLog old new store found
 
--- What is known of a log while an operation is committed: of each list of acknowledged operations among whose ids its own is not,
--- it stands for that list, with the operation where it was written.
+-- A log during the commit of an operation: if the store held a list of acknowledged operations, among whose ids the operation's is
+-- not, it holds that list after it, with the operation if it was written.
 pub record Commits (old new : DiskState) (store : StoreState) (op : EditOp) (written : Bool) (store' : StoreState) : Type 0 where
   pub stands : Tells old → (used : List ℕ) (ops : List EditOp) → StandsFor old store used ops → IsTrue (is_fresh used op)
       → StandsFor new store' (settled_used written (Some op) used) (ops ++ settled_ops written (Some op))
-  -- a crash at any moment leaves the operations from before it, with the new one or without
+  -- a crash at any moment leaves the earlier operations, with the new one or without
   pub moments : Tells old → (used : List ℕ) (ops : List EditOp) → StandsFor old store used ops → LeavesOnly 1 old new (IsWritten ops op)
   pub run : RunOn 1 old new
 
--- The pending operation was settled, and was kept or not.
+-- The pending operation was settled: kept or dropped.
 pub record Settles (old new : DiskState) (store store' : StoreState) : Type 0 where
   pub kept : Bool
   pub none : store'.log.pending ≡ None
@@ -141,7 +141,7 @@ pub record Unsettled (old new : DiskState) (store store' : StoreState) : Type 0 
   pub same : store' ≡ store
   pub stands : Tells old → (used : List ℕ) (ops : List EditOp) → StandsFor old store used ops → StandsFor new store' used ops
 
--- What a store keeps by itself: the operation that waits is allowed, and it is no opening.
+-- What is true of a pending operation: it is allowed, and it is not an opening.
 pub record IsPending (t : NameTable) (waiting : EditOp) : Type 0 where
   pub allowed : allows t waiting ≡ true
   pub no_opening : is_opening waiting ≡ false

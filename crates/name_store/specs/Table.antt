@@ -17,7 +17,7 @@ pub record NameTable : Type 0 where
   pub opening : ℕ
   pub rows : List Entry
 
--- what the operations of a log come to: the table that they make, and the ids that they used
+-- the result of the operations of a log: the table that they make, and the ids that they used
 pub record Replayed : Type 0 where
   pub table : NameTable
   pub used : List ℕ
@@ -38,7 +38,7 @@ may_use t id = is_of_opening t.opening id && is_none (entry_of t.rows id)
 abbrev pub key_of_zone : List Entry → List (List ℕ) → Option KeyName
 key_of_zone rows p = option_and_then (λ e. mark_of e.row.kind) (zone_of rows p)
 
--- a file has an encrypted key exactly where it lies in a zone, and then of that zone's key
+-- a file has an encrypted key exactly if it is in a zone, and then of that zone's key
 abbrev pub fits_zone : Option KeyName → Option Edek → Bool
 fits_zone None None = true
 fits_zone None (Some e) = false
@@ -95,7 +95,7 @@ id_of (Some row) = row.id
 abbrev pub marked : List Entry → List (List ℕ) → KeyName → List Entry
 marked rows p key = set_kind rows (id_of (row_at rows p)) (Dir (Some key))
 
--- the table once the operation took effect
+-- the table after the operation took effect
 abbrev pub after_table : NameTable → EditOp → NameTable
 after_table t (Opened opening) = record t { opening = opening }
 after_table t (Mkdir id p) = record t { rows = put (new_directory id p) t.rows }
@@ -106,7 +106,7 @@ after_table t (Zone p key) = record t { rows = marked t.rows p key }
 abbrev pub is_among : List ℕ → ℕ → Bool
 is_among used id = list_any (λ i. i == id) used
 
--- no operation before used its id
+-- no earlier operation used its id
 abbrev pub is_fresh : List ℕ → EditOp → Bool
 is_fresh used op = not (list_any (is_among used) (uses op))
 
@@ -120,7 +120,7 @@ after r op = record { table = after_table r.table op; used = uses op ++ r.used }
 abbrev pub next_opening : NameTable → EditOp
 next_opening t = Opened (t.opening + 1)
 
--- the table, the ids and what is acknowledged, once the pending operation was settled: it was kept, or not
+-- the table, the ids and the acknowledged operations, after the pending operation was settled: kept or dropped
 
 abbrev pub settled_table : Bool → Option EditOp → NameTable → NameTable
 settled_table kept None t = t
