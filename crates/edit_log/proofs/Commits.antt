@@ -1,4 +1,4 @@
--- What a commit and a settling leave.
+-- The log after a commit and after a settling.
 use Rattle.std.proofs.Common.{◌≡◌, ◌≤◌, ℕ, Bool, true, false, List, [], ◌∷◌, ◌++◌, map, Option, Some, None, refl, sym, subst, arith}
 use Rattle.std.specs.Prelude.{if◌then◌else◌, option_map, IfSome}
 use Rattle.std.proofs.lemmas.List.{map-append}

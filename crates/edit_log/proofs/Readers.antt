@@ -1,4 +1,4 @@
--- What a reader of operations returns, by the payloads of the log.
+-- The operations that a reader returns, by the payloads of the log.
 use Rattle.std.proofs.Common.{◌≡◌, ℕ, ◌+◌, ◌-◌, List, [], ◌∷◌, ◌++◌, length, map, Some, None, sym, ◌∙◌, ap, subst, arith}
 use Rattle.std.specs.List.{AllByRecursion}
 use Rattle.std.proofs.lemmas.List.{map-append}
@@ -53,11 +53,11 @@ no_next_op disk now old records done todo a offset got other at none = record {
   place = omega (arith, at, got.place, a.place);
 }
 
--- a log whose payloads are the records of operations stands for them
+-- a log whose payloads are the records of operations holds them
 pub stands_for_ops : (disk : DiskState) (log : Log) (payloads : List (List ℕ)) (ops : List EditOp) → Stands disk log payloads None → AllByRecursion HasSpelling ops → payloads ≡ map spelling ops → StandsFor disk (record { log = log; pending = None }) ops
 stands_for_ops disk log payloads ops s spelled are = record { spelled = spelled; waits = tt; log = subst (λ (l : List (List ℕ)). Stands disk log l None) are s }
 
--- calls that only read leave the log standing
+-- the log holds the same operations after calls that only read
 pub still_stands_for : (old new : DiskState) (edits : EditLogState) (ops : List EditOp) → Reads 1 old new → edits.log.file ≡ 1 → Tells old → StandsFor old edits ops → StandsFor new edits ops
 still_stands_for old new edits ops same is told s = record { spelled = s.spelled; waits = s.waits; log = still_stands 1 old new edits.log (map spelling ops) _ same is told s.log }
 

@@ -63,7 +63,7 @@ module _ (frames : List Frame) (i : ℕ) (frame : Frame) (inside : i < length fr
       subst (λ (l : List (ℕ × List ℕ)). IsRead l (list ++ placed ∷ []) (then_last last placed.op)) (sym so_far)
       (read_more (map frame_view (take i frames)) (frame_view frame) list last placed r (subst (λ (p : List ℕ). IsNext last p placed.op) same n) place)
 
-  -- it is none
+  -- it is not
   pub stuck_here : (payload : List ℕ) (list : List PlacedOp) (last at : ℕ) → IsRead (map frame_view (take i frames)) list last → payload ≡ frame.payload.items → IsNoNext last payload
       → at ≡ frame.at - 5 → IsStuck (map frame_view frames) list last at
   stuck_here payload list last at r same none place = record {

@@ -18,7 +18,7 @@ pub placed_payloads : (at : ℕ) (list : List (List ℕ)) → map payload_of (pl
 placed_payloads at [] = refl
 placed_payloads at (p ∷ list) = ap (λ (l : List (List ℕ)). p ∷ l) (placed_payloads (at + 5 + length p) list)
 
--- frames that a log begins with lie where their payloads say
+-- frames that a log begins with are at the places that their payloads give
 front_placed : (at : ℕ) (list : List (List ℕ)) (before rest : List (ℕ × List ℕ)) → placed at list ≡ before ++ rest → before ≡ placed at (map payload_of before)
 front_placed at list [] rest e = refl
 front_placed at [] (b ∷ before) rest e = absurd (cc e)
@@ -31,7 +31,7 @@ front_placed at (p ∷ list) (b ∷ before) rest e =
     ap (λ (l : List (ℕ × List ℕ)). b ∷ l) (tail ∙ ap (λ (x : List ℕ). placed (at + 5 + length x) (map payload_of before)) same)
     ∙ ap (λ (x : ℕ × List ℕ). x ∷ placed (at + 5 + length (payload_of b)) (map payload_of before)) head
 
--- where a frame lies, by the payloads before it
+-- the place of a frame, by the payloads before it
 place_at : (at : ℕ) (list : List (List ℕ)) (before : List (ℕ × List ℕ)) (frame : ℕ × List ℕ) (rest : List (ℕ × List ℕ)) → placed at list ≡ before ++ frame ∷ rest → place_of frame ≡ at + 5 + length (frames (map payload_of before))
 place_at at [] [] frame rest e = absurd (cc e)
 place_at at [] (b ∷ before) frame rest e = absurd (cc e)
@@ -106,7 +106,7 @@ module _ (bytes : List ℕ) (payloads : List (List ℕ)) (gate : ℕ) (framed : 
   read_of list last None r = edit_log list last r
   read_of list last (Some at) s = no_edit_log list last at s
 
-  -- where all frames were read, the log stands for them
+  -- if all frames were read, the log holds their operations
   pub stands_for : (disk : DiskState) (log : Log) (list : List PlacedOp) (last : ℕ) → IsRead framed list last → Stands disk log payloads None → StandsFor disk (record { log = log; pending = None }) (map op_view list)
   stands_for disk log list last r stands = record {
     spelled = r.spelled;

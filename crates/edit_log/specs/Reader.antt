@@ -1,4 +1,4 @@
--- What a reader of an edit log has returned, and what it has not returned yet.
+-- The operations that a reader of an edit log has returned, and the records that it has not returned yet.
 use Rattle.std.specs.Prelude.{◌≡◌, ℕ, List, [], ◌∷◌, ◌++◌, map, Option, Some, None}
 use Rattle.std.specs.List.{AllByRecursion}
 use Rattle.hk_base.specs.Disk.{DiskState}
@@ -39,7 +39,7 @@ pub record HasNoNextOp (reader : OpReader) (done : List EditOp) (todo : List (Li
   pub place : offset ≡ end_of (map spelling done)
 
 -- A file of these bytes was recovered: the reader is at its first record, a crash leaves the log found, and if all records are
--- operations, the log stands for them.
+-- operations, the log holds them.
 pub record IsOpened (bytes : List ℕ) (disk : DiskState) (edits : EditLogState) (reader : OpReader) : Type 0 where
   pub payloads : List (List ℕ)
   pub gate : ℕ

@@ -1,4 +1,4 @@
--- What the records of an edit log are together.
+-- The order of the records of an edit log.
 use Rattle.std.specs.Prelude.{◌≡◌, ℕ, ◌+◌, ◌-◌, Bool, true, false, ◌==◌, nat_lt, List, [], ◌∷◌, ◌++◌, map, Option, Some, None, if◌then◌else◌}
 use Rattle.std.specs.List.{AllByRecursion}
 use Rattle.edit_ops.specs.Records.{HasSpelling, spelling}
@@ -6,7 +6,7 @@ use Rattle.edit_ops.specs.declared.ops.EditOp.{EditOp}
 use Rattle.edit_ops.specs.declared.ops.EditOp.TheVariants.{Opened, Mkdir, File, Remove, Zone}
 use Rattle.edit_log.specs.declared.op_list.PlacedOp.{PlacedOp}
 
--- where an operation may follow this last opening: openings count from 1, and the others come behind the first
+-- whether an operation may follow this last opening: openings count from 1, and the others come after the first
 abbrev pub in_turn : ℕ → EditOp → Bool
 in_turn last (Opened opening) = opening == last + 1
 in_turn last (Mkdir id path) = nat_lt 0 last
@@ -14,7 +14,7 @@ in_turn last (File id path edek) = nat_lt 0 last
 in_turn last (Remove path) = nat_lt 0 last
 in_turn last (Zone path key) = nat_lt 0 last
 
--- the last opening behind an operation
+-- the last opening after an operation
 abbrev pub then_last : ℕ → EditOp → ℕ
 then_last last (Opened opening) = opening
 then_last last (Mkdir id path) = last
@@ -22,7 +22,7 @@ then_last last (File id path edek) = last
 then_last last (Remove path) = last
 then_last last (Zone path key) = last
 
--- the last opening behind operations, or None where one of them is out of turn
+-- the last opening after operations, or None if one of them is out of turn
 abbrev pub openings : ℕ → List EditOp → Option ℕ
 openings last [] = Some last
 openings last (op ∷ ops) = if in_turn last op then openings (then_last last op) ops else None
@@ -37,7 +37,7 @@ pub record IsNext (last : ℕ) (payload : List ℕ) (op : EditOp) : Type 0 where
 abbrev pub IsNoNext : ℕ → List ℕ → Type 0
 IsNoNext last payload = (op : EditOp) → HasSpelling op → payload ≡ spelling op → in_turn last op ≡ false
 
--- what was taken of a record: the next operation, or none
+-- the operation taken from a record: the next one, or none
 abbrev pub IsTaken : ℕ → List ℕ → Option EditOp → Type 0
 IsTaken last payload None = IsNoNext last payload
 IsTaken last payload (Some op) = IsNext last payload op
@@ -48,7 +48,7 @@ place_of frame = frame.0
 abbrev pub payload_of : ℕ × List ℕ → List ℕ
 payload_of frame = frame.1
 
--- a payload, and the offset of the gate byte before it in place of its own
+-- a payload, and the offset of the gate byte before it instead of its own
 abbrev pub gate_view : ℕ × List ℕ → ℕ × List ℕ
 gate_view frame = (place_of frame - 5, payload_of frame)
 
@@ -65,7 +65,7 @@ pub record IsRead (frames : List (ℕ × List ℕ)) (list : List PlacedOp) (last
   pub are : map gate_view frames ≡ map record_view list
   pub turns : openings 0 (map op_view list) ≡ Some last
 
--- so many frames are; the next is none, and its gate is at this offset
+-- the first frames are; the next is not, and its gate is at this offset
 pub record IsStuck (frames : List (ℕ × List ℕ)) (list : List PlacedOp) (last at : ℕ) : Type 0 where
   pub before : List (ℕ × List ℕ)
   pub frame : ℕ × List ℕ
