@@ -1,4 +1,4 @@
--- What is asked of rows, asked of the parts.
+-- Questions about rows, answered by the parts.
 use Rattle.std.proofs.Common.{◌≡◌, ℕ, ◌-◌, ◌<◌, zero, suc, Bool, true, false, cond, List, [], ◌∷◌, length, get_or, take, Option, Some, None, refl, sym, ap, ◌∙◌, subst, arith}
 use Rattle.std.specs.Option.{option_map}
 use Rattle.name_calls.specs.Paths.{parent, same_path}
@@ -46,7 +46,7 @@ parent-take (x ∷ y ∷ p) = ap (λ (q : List (List ℕ)). x ∷ q) (parent-tak
     step : (n : ℕ) → x ∷ take (suc n - 1) (y ∷ p) ≡ take (suc (suc n) - 1) (x ∷ y ∷ p)
     step n = let e : suc (suc n) - 1 ≡ suc n = omega arith in let f : suc n - 1 ≡ n = omega arith in rw (e, f) refl
 
--- what a path lies in, by its number
+-- the directory at a path, by its number
 pub directory-number : (ns : List Node) (order : List ℕ) (q : List (List ℕ)) (n : ℕ) → is_dir_at (row_at (rows_of ns order) q) ≡ true → number_of ns order q ≡ Some n → is_dir (node_at ns n).row.kind ≡ true
 directory-number ns order q n h e = sym (ap is_dir_at (row-number ns order q ∙ ap (option_map (λ (m : ℕ). (node_at ns m).row)) e)) ∙ h
 

@@ -13,7 +13,7 @@ use Rattle.name_calls.proofs.PathLemmas.{and-parts}
 cmp-self : (x : List ℕ) → slice_cmp nat_cmp x x ≡ Equal
 cmp-self x = tied_itself nat_list_cmp_total x
 
--- a path doesn't come before what it lies below
+-- a path doesn't come before a prefix of it
 pub prefix-not-before : (p x : List (List ℕ)) → is_prefix p x ≡ true → is_before x p ≡ false
 prefix-not-before [] [] h = refl
 prefix-not-before [] (y ∷ x) h = refl
@@ -24,7 +24,7 @@ prefix-not-before (a ∷ p) (b ∷ x) h =
     let o : slice_cmp nat_cmp b a ≡ Equal = subst (λ (c : List ℕ). slice_cmp nat_cmp b c ≡ Equal) (sym e) (cmp-self b) in
     ap (λ (r : Ordering). is_lt (ordering_then r (path_cmp x p))) o ∙ prefix-not-before p x parts.1
 
--- what stands between p and a path below p lies below p
+-- a path between p and a path below p is below p
 pub between : (p e x : List (List ℕ)) → is_before e p ≡ false → is_before e x ≡ true → is_prefix p x ≡ true → is_prefix p e ≡ true
 between [] e x b c h = refl
 between (a ∷ p) [] x b c h = cc

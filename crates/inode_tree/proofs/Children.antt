@@ -25,7 +25,7 @@ yes-eq a b h = grind (arith, nat_tests)
 both : (a b : Bool) → a ≡ true → b ≡ true → (a && b) ≡ true
 both a b e f = cc
 
--- a path that lies below another comes behind it
+-- a path below another comes after it
 below-after : (p q : List (List ℕ)) → is_prefix p q ≡ true → same_path p q ≡ false → is_before p q ≡ true
 below-after p q h s = other-before q p (same-turned p q s) (prefix-not-before p q h)
 
@@ -64,7 +64,7 @@ module _ (ns : List Node) (order : List ℕ) (ids : ℕ → Option ℕ) (t : IsT
   rising-at (n ∷ os) zero (suc j) r h b = rising-before ns n os j r.0 (omega arith)
   rising-at (n ∷ os) (suc i) (suc j) r h b = rising-at os i j r.1 (omega arith) (omega arith)
 
-  -- a row whose path comes before that of another stands before it
+  -- a row whose path comes before that of another is before it
   place-before : (i j : ℕ) → i < length order → j < length order → is_before (at i) (at j) ≡ true → i < j
   place-before i j b c h = elim (cases_lt i j) [ inl a ↦ a | inr a ↦ absurd (no a) ]
     where
@@ -74,7 +74,7 @@ module _ (ns : List Node) (order : List ℕ) (ids : ℕ → Option ℕ) (t : IsT
         | inr u ↦ (let e : i ≡ j = omega arith in let f : is_before (at j) (at j) ≡ true = subst (λ (k : ℕ). is_before (at k) (at j) ≡ true) e h in let g = not-before-itself (at j) in cc)
       ]
 
-  -- the rank of a row that stands is its place
+  -- the rank of a row that exists is its place
   rank-place : (k : ℕ) → k < length order → at k ≡ p → rank (rows_of ns order) p ≡ k
   rank-place k b e = elim (cases_lt (rank (rows_of ns order) p) k) [ inl a ↦ absurd (no a) | inr a ↦ omega (arith, most, a) ]
     where
@@ -110,7 +110,7 @@ module _ (ns : List Node) (order : List ℕ) (ids : ℕ → Option ℕ) (t : IsT
             ∙ ap (λ (m : ℕ). path_of ns m ++ (node_at ns (get_or order k 0)).name ∷ []) (sym w.2);
       }
 
-  -- the row behind p is in p where it is below p
+  -- the row after p is a child of p if it is below p
   next-child : (k : ℕ) → k + 1 < length order → at k ≡ p → is_prefix p (at (k + 1)) ≡ true → is_child p (at (k + 1)) ≡ true
   next-child k b e h =
       let after : is_before p (at (k + 1)) ≡ true = subst (λ (q : List (List ℕ)). is_before q (at (k + 1)) ≡ true) e (rising-at order k (k + 1) t.rising (omega arith) b) in
@@ -152,7 +152,7 @@ module _ (ns : List Node) (order : List ℕ) (ids : ℕ → Option ℕ) (t : IsT
       let parts = and-parts (is_prefix p (at j)) (length (at j) == length p + 1) h in
       (parts.0, below-after p (at j) parts.0 (longer-apart p (at j) (eq-yes _ _ parts.1)))
 
-  -- no row is in p where the one behind p is not below p
+  -- no row is a child of p if the one after p is not below p
   none-child : (k : ℕ) → k < length order → at k ≡ p → (k + 1 < length order → is_prefix p (at (k + 1)) ≡ false) → (j : ℕ) → j < length order → is_child p (at j) ≡ false
   none-child k b e h j c = go (is_child p (at j)) refl
     where
@@ -180,7 +180,7 @@ module _ (ns : List Node) (order : List ℕ) (ids : ℕ → Option ℕ) (t : IsT
               by true g = absurd (not-both p q f g)
               by false g = refl
 
-  -- no row is in a path that doesn't stand
+  -- no row is a child of a path that doesn't exist
   none-housed : number_of ns order p ≡ None → (j : ℕ) → j < length order → is_child p (at j) ≡ false
   none-housed none j b = go (is_child p (at j)) refl
     where

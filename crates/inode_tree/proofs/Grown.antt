@@ -26,7 +26,7 @@ places-of k i = elim (cases_lt k i) [ inl a ↦ inl a | inr b ↦ inr (above k b
     above zero b = inl (omega arith)
     above (suc k) b = elim (cases_lt i (suc k)) [ inl a ↦ inr (k, omega arith, omega arith) | inr e ↦ inl (omega arith) ]
 
--- what holds of the old numbers and of the new one holds of all
+-- a property of the old numbers and of the new one is true of all
 pub each-insert : (P : ℕ → Type 0) (order : List ℕ) (i n : ℕ) → i ≤ length order → ((k : ℕ) → k < length order → P (get_or order k 0)) → P n → (k : ℕ) → k < length (insert order i n) → P (get_or (insert order i n) k 0)
 each-insert P order i n h old new k b = elim (places-of k i) [
   | inl a ↦ subst P (sym (get_or-insert_below order i n 0 k a h)) (old k (omega arith))

@@ -41,7 +41,7 @@ false-of : (b : Bool) → (b ≡ true → ⊥) → b ≡ false
 false-of true h = absurd (h refl)
 false-of false h = refl
 
--- no row before the path lies in it
+-- no row before the path is a child of it
 pub children-rank : (es : List Entry) (p : List (List ℕ)) → children (drop (rank es p) es) p ≡ children es p
 children-rank [] p = refl
 children-rank (e ∷ es) p = go (is_before e.path p) refl (children-rank es p)
@@ -68,7 +68,7 @@ drop-all : (es : List Entry) → drop (length es) es ≡ []
 drop-all [] = refl
 drop-all (e ∷ es) = drop-all es
 
--- no row behind those below the path lies in it
+-- no row after those below the path is a child of it
 pub children-past : (es : List Entry) (p : List (List ℕ)) (at : ℕ) → IsRising es → rank_past es p ≤ at → children (drop at es) p ≡ []
 children-past es p at r h = elim (cases_lt at (length es)) [
   | inl a ↦ children-none es p at (length es) (omega arith) (omega arith) (λ k i j. off k i j) ∙ ap (λ (xs : List Entry). children xs p) (drop-all es)
@@ -109,7 +109,7 @@ module _ (ns : List Node) (order : List ℕ) (ids : ℕ → Option ℕ) (t : IsT
   inside-rows : at < length (rows_of ns order)
   inside-rows = omega (arith, length-rows ns order)
 
-  -- the place behind all below the row
+  -- the place after all rows below the row
   pub skip-past : IsSkip ns order at (rank_past (rows_of ns order) (path_of ns (get_or order at 0)))
   skip-past = record {
     after = let a = past-on ns order (path_of ns (get_or order at 0)) at (get_or order at 0) t.rising inside refl (upto (is_before (path_of ns (get_or order at 0)) (path_of ns (get_or order at 0))) _ (prefix-itself (path_of ns (get_or order at 0)))) in omega arith;
@@ -138,7 +138,7 @@ module _ (ns : List Node) (order : List ℕ) (ids : ℕ → Option ℕ) (t : IsT
         ap (λ (m : ℕ). is_child p (get_or (rows_of ns order) m any_entry).path) e ∙ ap (is_child p) (path-at at inside)
         ∙ not-right (is_prefix p (path_of ns (get_or order at 0))) (length (path_of ns (get_or order at 0)) == length p + 1) (no-eq (length (path_of ns (get_or order at 0))) (length p + 1) a))
 
-    -- a child, and what lies below it
+    -- a child, and the rows below it
     pub taken : (next : ℕ) → IsSkip ns order at next → length (path_of ns (get_or order at 0)) ≡ length p + 1
         → children (drop at (rows_of ns order)) p ≡ record { name = (node_at ns (get_or order at 0)).name; directory = is_dir (node_at ns (get_or order at 0)).row.kind } ∷ children (drop next (rows_of ns order)) p
     taken next s long =

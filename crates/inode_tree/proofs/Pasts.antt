@@ -17,7 +17,7 @@ use Rattle.inode_tree.proofs.Ranks.{after-at, any_entry, before-trans, length-ro
 use Rattle.inode_tree.proofs.Ups.{path-root}
 use Rattle.inode_tree.proofs.ZoneLemmas.{prefix-itself, prefix-snoc, rising-before}
 
--- a row comes before the path, is at it or lies below it
+-- a row comes before the path, is at it or is below it
 abbrev pub is_upto : List (List ℕ) → List (List ℕ) → Bool
 is_upto p q = is_before q p || is_prefix p q
 
@@ -48,7 +48,7 @@ or-left : (a b : Bool) → a ≡ true → (a || b) ≡ true
 or-left true b h = refl
 or-left false b h = cc
 
--- what comes before a row up to the path is one too
+-- a row before such a row is one, too
 pub upto-before : (p q r : List (List ℕ)) → is_before q r ≡ true → is_upto p r ≡ true → is_upto p q ≡ true
 upto-before p q r b h = go (is_before q p) refl (is_before r p) refl h
   where
@@ -157,7 +157,7 @@ none-removed e (x ∷ es) p a h = go (is_prefix p x.path) refl (none-removed e e
     go true f ih = let g = upto-before p e.path x.path a.0 (or-right (is_before x.path p) (is_prefix p x.path) f) in cc
     go false f ih = ap (λ (ys : List Entry). x ∷ ys) ih
 
--- where no row is at or below the path, none is removed
+-- if no row is at or below the path, none is removed
 pub removed-none : (es : List Entry) (p : List (List ℕ)) → IsRising es → rank_past es p ≤ rank es p → removed p es ≡ es
 removed-none [] p r h = refl
 removed-none (e ∷ es) p r h = go (is_before e.path p) refl (is_prefix p e.path) refl h (removed-none es p r.1)
@@ -168,7 +168,7 @@ removed-none (e ∷ es) p r h = go (is_before e.path p) refl (is_prefix p e.path
     go false f true g b ih = absurd (omega arith)
     go false f false g b ih = ap (λ (ys : List Entry). e ∷ ys) (none-removed e es p r.0 (ap (λ (u : Bool). u || is_prefix p e.path) f ∙ g))
 
--- no row lies in the last one at or below a path that is not the root
+-- the last row at or below a path that is not the root has no children
 pub last-leaf : (ns : List Node) (order : List ℕ) (ids : ℕ → Option ℕ) (p : List (List ℕ)) (at : ℕ) → IsTree ns order ids → 0 < length p → rank (rows_of ns order) p ≤ at → rank_past (rows_of ns order) p ≡ at + 1 → IsLeaf ns order at
 last-leaf ns order ids p at t deep low high = record {
   inside = inside;

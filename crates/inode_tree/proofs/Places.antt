@@ -41,7 +41,7 @@ front-turned (x ∷ p) (y ∷ q) =
     ∙ ap (λ (b : Bool). is_eq (slice_cmp nat_cmp y x) && b) (front-turned p q)
     ∙ sym (eq-then (slice_cmp nat_cmp y x) (cmp_front q p))
 
--- a prefix, by comparing it with what it leads to
+-- a prefix, by comparing it with the path
 pub prefix-back : (p q : List (List ℕ)) → is_prefix p q ≡ (is_eq (cmp_front p q) && nat_le (length p) (length q))
 prefix-back p q = prefix-front p q ∙ ap (λ (b : Bool). b && nat_le (length p) (length q)) (front-turned q p)
 
@@ -80,7 +80,7 @@ drop-snoc zero q x h = refl
 drop-snoc (suc n) [] x h = absurd (omega arith)
 drop-snoc (suc n) (y ∷ q) x h = drop-snoc n q x (omega arith)
 
--- the last names of a path, by those of what it lies in
+-- the last names of a path, by those of its parent
 pub last-names : (p q : List (List ℕ)) (x : List ℕ) (count : ℕ) → p ≡ q ++ x ∷ [] → 0 < count → count ≤ length p
     → drop (length p - count) p ≡ drop (length q - (count - 1)) q ++ x ∷ []
 last-names p q x count e some most =
@@ -120,7 +120,7 @@ get-row ns [] at h = absurd (omega arith)
 get-row ns (n ∷ order) zero h = refl
 get-row ns (n ∷ order) (suc at) h = get-row ns order at (omega arith)
 
--- what is asked of the row at a place, asked of its node
+-- a question about the row at a place, answered by its node
 pub at-place : {X : Type 0} (f : Entry → X) (ns : List Node) (order : List ℕ) (at n : ℕ) (x : X) → at < length order → n ≡ get_or order at 0 → x ≡ f (entry_at ns n) → option_map f (slice_get (rows_of ns order) at) ≡ Some x
 at-place f ns order at n x h e g = ap (option_map f) (get-row ns order at h) ∙ ap (λ (k : ℕ). Some (f (entry_at ns k))) (sym e) ∙ ap (λ (y : _). Some y) (sym g)
 

@@ -11,11 +11,11 @@ lt-yes a b h = grind (arith, nat_tests)
 yes-lt : (a b : ℕ) → a < b → nat_lt a b ≡ true
 yes-lt a b h = grind (arith, nat_tests)
 
--- what is spare where there is room
+-- enough is spare if there is room
 pub enough : (a b d e n : ℕ) (p : List (List ℕ)) → n ≡ length (last_name p) → (0 < a) × (0 < b) × (0 < d) × (n ≤ e) → need p ≤ cond (nat_lt 0 a && nat_lt 0 b && nat_lt 0 d) (suc e) 0
 enough a b d e n p en h = rw (yes-lt 0 a h.0, yes-lt 0 b h.1, yes-lt 0 d h.2) (let k = h.3 in omega arith)
 
--- and the room where so much is spare
+-- and there is room if enough is spare
 pub room-parts : (a b d e : ℕ) (p : List (List ℕ)) → need p ≤ cond (nat_lt 0 a && nat_lt 0 b && nat_lt 0 d) (suc e) 0 → (0 < a) × (0 < b) × (0 < d) × (length (last_name p) ≤ e)
 room-parts a b d e p h = go (nat_lt 0 a) refl (nat_lt 0 b) refl (nat_lt 0 d) refl h
   where

@@ -1,4 +1,4 @@
--- What holds of the rows of a tree.
+-- Properties of the rows of a tree.
 use Rattle.std.proofs.Common.{◌≡◌, ℕ, ◌<◌, true, List, [], ◌∷◌, ◌++◌, length, get_or, Option, Some, None, refl, sym, ap, ◌∙◌, subst, arith, inl, inr}
 use Rattle.std.specs.Option.{option_map}
 use Rattle.std.specs.List.{All}
@@ -21,7 +21,7 @@ parent-snoc (y ∷ []) x = refl
 parent-snoc (y ∷ z ∷ q) x = ap (λ (r : List (List ℕ)). y ∷ r) (parent-snoc (z ∷ q) x)
 
 module _ (ns : List Node) (order : List ℕ) (ids : ℕ → Option ℕ) (t : IsTree ns order ids) where
-  -- what holds at each place holds of all rows
+  -- a property at each place is true of all rows
   each-row : (P : Entry → Type 0) → ((k : ℕ) → k < length order → P (entry_at ns (get_or order k 0))) → All P (rows_of ns order)
   each-row P h = All-from_get_or P (rows_of ns order) any_entry (λ k b. let c : k < length order = omega (arith, length-rows ns order) in subst P (sym (rows-at ns order k c)) (h k c))
 

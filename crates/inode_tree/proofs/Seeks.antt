@@ -58,7 +58,7 @@ before-not-same p q h = go (path_cmp p q) h (same-cmp p q)
     go Equal e f = cc
     go Greater e f = f
 
--- what comes after a path that doesn't come before p isn't at p
+-- if a path doesn't come before p, no row after it is at p
 pub none-after : (ns : List Node) (order : List ℕ) (q p : List (List ℕ)) → AllAfter q (rows_of ns order) → is_before q p ≡ false → number_of ns order p ≡ None
 none-after ns [] q p a b = refl
 none-after ns (n ∷ order) q p a b = go (same_path (path_of ns n) p) refl (none-after ns order q p a.1 b)
@@ -93,7 +93,7 @@ pick-at ns [] k p h = absurd (omega arith)
 pick-at ns (n ∷ order) zero p h = refl
 pick-at ns (n ∷ order) (suc k) p h = pick-at ns order k p (omega arith)
 
--- what is found is live and at that path
+-- a node that is found is live and at that path
 pub number-live : (ns : List Node) (order : List ℕ) (p : List (List ℕ)) (n : ℕ) → number_of ns order p ≡ Some n → (k : ℕ) × (k < length order) × (get_or order k 0 ≡ n) × (path_of ns n ≡ p)
 number-live ns [] p n h = cc
 number-live ns (m ∷ order) p n h = go (same_path (path_of ns m) p) refl h (number-live ns order p n)

@@ -64,7 +64,7 @@ tree-shape ns ns' s dirs order ids t = record {
   held = λ m h a. t.held m (subst (λ (k : ℕ). m < k) s.length_is h) (λ e. a (ap length (s.name m) ∙ e));
 }
 
--- what holds of the node with another kind, and of the others
+-- a property of the node with another kind, and of the others
 each-rekind : (ns : List Node) (n : ℕ) (kind : Kind) → n < length ns → (P : Node → Type 0) (m : ℕ) → (m ≡ n → P (record { parent = (node_at ns n).parent; name = (node_at ns n).name; row = record { id = (node_at ns n).row.id; kind = kind } })) → P (node_at ns m) → P (node_at (rekind ns n kind) m)
 each-rekind ns n kind h P m here there = elim (cases_eq m n) [
   | inl e ↦ subst P (sym (ap (λ (k : ℕ). node_at (rekind ns n kind) k) e ∙ get_or-set_same ns n _ blank h)) (here e)

@@ -1,4 +1,4 @@
--- A tree without a row that no other lies in.
+-- A tree without a row that had no children.
 use Rattle.std.proofs.Common.{◌≡◌, ℕ, ◌+◌, ◌-◌, ◌<◌, zero, suc, Bool, true, false, cond, List, [], ◌∷◌, ◌++◌, length, get_or, set, Option, Some, None, refl, sym, ap, ◌∙◌, subst, arith, length-append, length-set, inl, inr}
 use Rattle.std.specs.Bool.{nat_eq}
 use Rattle.std.specs.List.{remove}
@@ -16,7 +16,7 @@ use Rattle.inode_tree.proofs.Ups.{path-root}
 use Rattle.inode_tree.proofs.Writes.{IsUnpassed, linked-written, path-other, rows-other, unpassed-leaf, unwritten, written}
 use Rattle.inode_tree.proofs.ZoneLemmas.{rising-before}
 
--- what holds of the other numbers holds of all that are left
+-- a property of the other numbers is true of all that are left
 each-remove : (P : ℕ → Type 0) (order : List ℕ) (at : ℕ) → at < length order → ((k : ℕ) → k < length order → (k ≡ at → ⊥) → P (get_or order k 0)) → (k : ℕ) → k < length (remove order at) → P (get_or (remove order at) k 0)
 each-remove P order at h old k b = elim (cases_lt k at) [
   | inl a ↦ subst P (sym (get_or-remove_below order at 0 k a h)) (old k (omega (arith, length-remove order at h)) (λ e. omega arith))
@@ -35,7 +35,7 @@ stays-in order at m k h b e apart = elim (cases_lt k at) [
   ]
 ]
 
--- no number stands twice
+-- no number comes twice
 pub number-once : (ns : List Node) (order : List ℕ) (i j : ℕ) → IsRising (rows_of ns order) → i < j → j < length order → get_or order i 0 ≡ get_or order j 0 → ⊥
 number-once ns [] i j r h b e = absurd (omega arith)
 number-once ns (n ∷ order) i zero r h b e = absurd (omega arith)

@@ -1,4 +1,4 @@
--- A node written where no other lies in it.
+-- A node without children is written.
 use Rattle.std.proofs.Common.{◌≡◌, ℕ, ◌<◌, ◌≤◌, zero, suc, cond, List, [], ◌∷◌, ◌++◌, length, get_or, set, Option, refl, sym, ap, ◌∙◌, subst, arith, inl, inr, length-set, get_or-set_same, get_or-set_other}
 use Rattle.std.specs.Prelude.{◌==◌}
 use Rattle.std.proofs.lemmas.Bool.{cases_eq}
@@ -7,13 +7,13 @@ use Rattle.inode_tree.specs.Arena.{AllWithin, IsLeaf, IsLinked, IsLive, IsTree, 
 use Rattle.inode_tree.proofs.Grows.{path-new}
 use Rattle.inode_tree.proofs.Ranks.{within-at}
 
--- a node below the root that no node lies in
+-- a node below the root without children
 pub record IsUnpassed (ns : List Node) (n : ℕ) : Type 0 where
   pub below : n < length ns
   pub deep : n ≡ 0 → ⊥
   pub none : (m : ℕ) → m < length ns → (node_at ns m).parent ≡ n → ⊥
 
--- what any node lies in is live
+-- the parent of each node is live
 pub parent-live : (ns : List Node) (order : List ℕ) (ids : ℕ → Option ℕ) → IsTree ns order ids → (m : ℕ) → m < length ns → IsLive order (node_at ns m).parent
 parent-live ns order ids t m h = elim (cases_eq (node_at ns m).parent 0) [
   | inl e ↦ let w = t.rooted in (w.0, w.1, w.2 ∙ sym e)
@@ -31,7 +31,7 @@ unpassed-free ns order ids n t h apart = record {
   none = λ m b e. let w = parent-live ns order ids t m b in apart w.0 w.1 (w.2 ∙ e);
 }
 
--- a live one that no live one lies in
+-- a live node without live children
 pub unpassed-leaf : (ns : List Node) (order : List ℕ) (ids : ℕ → Option ℕ) (at : ℕ) → IsTree ns order ids → IsLeaf ns order at → IsUnpassed ns (get_or order at 0)
 unpassed-leaf ns order ids at t l = record {
   below = within-at (length ns) order at t.within l.inside;

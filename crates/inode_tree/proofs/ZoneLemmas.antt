@@ -60,7 +60,7 @@ zone-short (e ∷ es) p f h = go (is_marked e.row && is_prefix e.path p) refl (z
         two false k = let g2 : e ≡ f = cc in subst (λ (x : Entry). length x.path ≤ length p) g2 (mine t)
     go false t o eo ih k = ih f (eo ∙ k)
 
--- no marked row stands at q: its zone is that of the directory
+-- no marked row is at q: its zone is that of the directory
 zone-above : (ns : List Node) (order : List ℕ) (p : List (List ℕ)) (x : List ℕ) → ((k : ℕ) → k < length order → same_path (path_of ns (get_or order k 0)) (p ++ x ∷ []) ≡ true → is_marked (node_at ns (get_or order k 0)).row ≡ false)
     → zone_of (rows_of ns order) (p ++ x ∷ []) ≡ zone_of (rows_of ns order) p
 zone-above ns [] p x h = refl
@@ -166,7 +166,7 @@ zone-root ns order ids t h =
 pub below-live : (ns : List Node) (order : List ℕ) (ids : ℕ → Option ℕ) (m : ℕ) → IsTree ns order ids → IsLive order m → m < length ns
 below-live ns order ids m t w = subst (λ (j : ℕ). j < length ns) w.2 (within-at (length ns) order w.0 t.within w.1)
 
--- where no row stands at a front of a path, the zone is that of the front without its last name
+-- if no row is at a prefix of a path, the zone is that of the prefix without its last name
 pub zone-shorter : (ns : List Node) (order : List ℕ) (p : List (List ℕ)) (u : ℕ) → 0 < u → u ≤ length p → number_of ns order (take u p) ≡ None → zone_of (rows_of ns order) (take (u - 1) p) ≡ zone_of (rows_of ns order) (take u p)
 zone-shorter ns order p zero h l e = absurd (omega arith)
 zone-shorter ns order p (suc v) h l e =

@@ -1,4 +1,4 @@
--- Nodes in one list, named by their places in it, and the paths that they stand for.
+-- Nodes in one list, named by their places in it, and their paths.
 use Rattle.std.specs.Prelude.{◌≡◌, ℕ, ◌+◌, ◌<◌, ◌≤◌, ◌||◌, zero, suc, true, ◌==◌, List, [], ◌∷◌, ◌++◌, length, map, slice_index_or, slice_set, Option, Some, None, if◌then◌else◌, String, ⊤}
 use Rattle.std.specs.declared.cmp.Ordering.{Ordering}
 use Rattle.std.specs.declared.cmp.Ordering.TheVariants.{Equal}
@@ -23,7 +23,7 @@ blank = record { parent = 0; name = []; row = record { id = 0; kind = Dir None }
 abbrev pub node_at : List Node → ℕ → Node
 node_at ns n = slice_index_or ns n blank
 
--- the names from a node up to the root, in at most so many steps
+-- the names from a node up to the root, in at most the given number of steps
 unfoldable pub up : ℕ → List Node → ℕ → List (List ℕ)
 up zero ns n = []
 up (suc f) ns n = if n == 0 then [] else up f ns (node_at ns n).parent ++ ((node_at ns n).name ∷ [])
@@ -59,7 +59,7 @@ rank (e ∷ es) p = if is_before e.path p then suc (rank es p) else 0
 abbrev pub HoldsRank : List Node → List ℕ → List (List ℕ) → ℕ → ℕ → Type 0
 HoldsRank ns order p low high = (low ≤ rank (rows_of ns order) p) × (rank (rows_of ns order) p ≤ high) × (high ≤ length order)
 
--- how many rows come before what stands behind a path and behind all below it
+-- the number of first rows that come before a path, or are at or below it
 abbrev pub rank_past : List Entry → List (List ℕ) → ℕ
 rank_past [] p = 0
 rank_past (e ∷ es) p = if is_before e.path p || is_prefix p e.path then suc (rank_past es p) else 0
@@ -100,13 +100,13 @@ pub record IsTree (ns : List Node) (order : List ℕ) (ids : ℕ → Option ℕ)
   pub few : length order ≤ 1000000
   -- each live node is found by its id
   pub named : (k : ℕ) → k < length order → ids (node_at ns (slice_index_or order k 0)).row.id ≡ Some (slice_index_or order k 0)
-  -- and what is found is live and has that id
+  -- and each node that is found is live and has that id
   pub stands : (id n : ℕ) → ids id ≡ Some n → (k : ℕ) × (k < length order) × (slice_index_or order k 0 ≡ n) × ((node_at ns n).row.id ≡ id)
-  -- what a live node lies in is a directory
+  -- the parent of a live node is a directory
   pub nested : (k : ℕ) → k < length order → is_dir (node_at ns (node_at ns (slice_index_or order k 0)).parent).row.kind ≡ true
   -- and it is live
   pub housed : (k : ℕ) → k < length order → (j : ℕ) × (j < length order) × (slice_index_or order j 0 ≡ (node_at ns (slice_index_or order k 0)).parent)
-  -- a node that lies in another than the root is live
+  -- a node whose parent is not the root is live
   pub used : (m : ℕ) → m < length ns → ((node_at ns m).parent ≡ 0 → ⊥) → IsLive order m
   -- and so is one that has a name
   pub held : (m : ℕ) → m < length ns → (length (node_at ns m).name ≡ 0 → ⊥) → IsLive order m
@@ -131,25 +131,25 @@ pub record IsFree (ns : List Node) (order free : List ℕ) : Type 0 where
   pub count : length order + length free ≡ length ns
   pub most : length ns ≤ 1000001
 
--- the row at a place is not the root's, and no row lies in it
+-- the row at a place is not the root's, and has no children
 pub record IsLeaf (ns : List Node) (order : List ℕ) (at : ℕ) : Type 0 where
   pub inside : at < length order
   pub deep : slice_index_or order at 0 ≡ 0 → ⊥
   pub none : (k : ℕ) → k < length order → (node_at ns (slice_index_or order k 0)).parent ≡ slice_index_or order at 0 → ⊥
 
--- a later place, where each row between lies below that at the place
+-- a later place; each row between the places is below the row at the first
 pub record IsSkip (ns : List Node) (order : List ℕ) (at next : ℕ) : Type 0 where
   pub after : at < next
   pub most : next ≤ length order
   pub below : (k : ℕ) → at < k → k < next → is_prefix (path_of ns (slice_index_or order at 0)) (path_of ns (slice_index_or order k 0)) ≡ true
 
--- the parts of a tree; where a node becomes free there is memory to note it
+-- the parts of a tree; there is memory to note each node that becomes free
 pub record IsKept {S : Type 0} (nodes : Vec Node) (order : Listed) (places : HashMap ℕ ℕ S) (slots : Vec ℕ) : Type 0 where
   pub tree : IsTree nodes.items order.items (get nat_eq places)
   pub free : IsFree nodes.items order.items slots.items
   pub capacity : length nodes.items ≤ vec_capacity slots
 
--- there are a free node and memory for one more row, whose name has so many bytes
+-- there are a free node and memory for one more row, with a name of n bytes
 abbrev pub HasRoom : {S : Type 0} → Listed → HashMap ℕ ℕ S → Vec ℕ → String Global → ℕ → Type 0
 HasRoom order places free ready n = (0 < length free.items) × (0 < order.spare) × (0 < spare places) × (n ≤ string_capacity ready)
 

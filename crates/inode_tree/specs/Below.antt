@@ -5,7 +5,7 @@ use Rattle.std.specs.Option.{option_map_or}
 use Rattle.name_calls.specs.Paths.{is_prefix}
 use Rattle.inode_tree.specs.Rows.{Entry, entry_of}
 
--- the path of the row that has the id is the path or lies below it
+-- the path of the row that has the id is the path or is below it
 abbrev pub at_or_below : List Entry → ℕ → List (List ℕ) → Bool
 at_or_below rows id p = option_map_or (λ e. is_prefix p e.path) (entry_of rows id) false
 
@@ -13,7 +13,7 @@ at_or_below rows id p = option_map_or (λ e. is_prefix p e.path) (entry_of rows 
 abbrev pub at_or_above : List Entry → ℕ → List (List ℕ) → Bool
 at_or_above rows id p = option_map_or (λ e. is_prefix e.path p) (entry_of rows id) false
 
--- a row as it is seen from a directory whose path has so many names
+-- a row as it is seen from a directory whose path has n names
 abbrev pub seen_from : ℕ → Entry → Entry
 seen_from n e = record e { path = drop n e.path }
 

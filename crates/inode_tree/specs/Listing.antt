@@ -1,4 +1,4 @@
--- What lies in a directory.
+-- The children of a directory.
 use Rattle.std.specs.Prelude.{ℕ, List, map}
 use Rattle.std.specs.List.{filter}
 use Rattle.name_calls.specs.declared.listing.Child.{Child}

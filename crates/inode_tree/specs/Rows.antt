@@ -20,7 +20,7 @@ pub record TreeState : Type 0 where
   pub rows : List Entry
   pub spare : ℕ
 
--- what has to be spare for a row at the path: a place, and room for its name
+-- the room that a row at the path needs: a place, and room for its name
 abbrev pub need : List (List ℕ) → ℕ
 need p = length (last_name p) + 1
 
@@ -48,7 +48,7 @@ abbrev pub is_dir_at : Option Row → Bool
 is_dir_at None = false
 is_dir_at (Some row) = is_dir row.kind
 
--- a row lies in the directory
+-- some row is a child of the directory
 abbrev pub has_children : List Entry → List (List ℕ) → Bool
 has_children rows p = list_any (λ e. is_child p e.path) rows
 
@@ -109,9 +109,9 @@ abbrev pub IsRoot : Option Row → Type 0
 IsRoot None = ⊥
 IsRoot (Some row) = (row.id ≡ 0) × (is_dir row.kind ≡ true)
 
--- what always holds of the rows
+-- what is always true of the rows
 pub record IsRows (rows : List Entry) : Type 0 where
-  -- they stand in path order, and no path twice
+  -- they are in path order, and no path comes twice
   pub rising : IsRising rows
   -- each path keeps the rule
   pub ruled : All (λ e. is_relative e.path ≡ true) rows
@@ -119,5 +119,5 @@ pub record IsRows (rows : List Entry) : Type 0 where
   pub once : All (λ e. entry_of rows e.row.id ≡ Some e) rows
   -- the root is there
   pub rooted : IsRoot (row_at rows [])
-  -- and what each row lies in is a directory
+  -- and the parent of each row is a directory
   pub housed : All (λ e. is_dir_at (row_at rows (parent e.path)) ≡ true) rows

@@ -7,7 +7,7 @@ use Rattle.inode_tree.proofs.Pieces.{end-within, same-length, set-starts}
 use Rattle.inode_tree.proofs.Removals.{flat-remove}
 use Rattle.inode_tree.proofs.order.take_from.Goals as goal
 
--- what the code reads, over plain variables
+-- values that the code reads, over plain variables
 start-is : (ps : List (List ℕ)) (starts : List ℕ) (c i s : ℕ) → starts ≡ starts_of 0 ps → HoldsPlace starts ps c i → s ≡ get_or starts c s → s ≡ get_or starts c 0
 start-is ps starts c i s e h es = let n = same-length starts ps e in let a = h.among in es ∙ get_or_default starts c s 0 (omega arith)
 

@@ -12,7 +12,7 @@ some-of : (o : Option ℕ) → IsSome o → (n : ℕ) × (o ≡ Some n)
 some-of None h = cc
 some-of (Some n) h = (n, refl)
 
--- the place behind the row of a path, as it was found
+-- the place after the row of a path, as it was found
 module _ (ns : List Node) (order : List ℕ) (ids : ℕ → Option ℕ) (t : IsTree ns order ids) (p : List (List ℕ)) (u k : ℕ) (eu : u ≡ length p) (ek : k ≡ rank (rows_of ns order) (take u p)) (stands : IsSome (number_of ns order p)) where
   place : k ≡ rank (rows_of ns order) p
   place = ek ∙ ap (rank (rows_of ns order)) (take_all u p (omega arith))

@@ -13,7 +13,7 @@ use Rattle.inode_tree.specs.declared.rows.Node.{Node}
 use Rattle.inode_tree.specs.declared.rows.Row.{Row}
 use Rattle.inode_tree.proofs.tree.put_in.Goals as goal
 
--- what the code has found, over plain variables
+-- facts that the code has found, over plain variables
 record HasFound (ns : List Node) (order free : List ℕ) (ids : ℕ → Option ℕ) (p : List (List ℕ)) (len m at : ℕ) (row : Row) (name : List ℕ) : Type 0 where
   tree : IsTree ns order ids
   unused : IsFree ns order free
@@ -77,7 +77,7 @@ module _ (ns : List Node) (order free : List ℕ) (ids : ℕ → Option ℕ) (p 
   free-after : IsFree (set ns slot node) (insert order at slot) (take (length free - 1) free)
   free-after = free-grown ns order free at slot node h.unused h.some refl at-most
 
--- what the parts are afterwards
+-- the parts afterwards
 module _ (ns ns' : List Node) (order order' free free' : List ℕ) (ids ids' : ℕ → Option ℕ) (p : List (List ℕ)) (len m at : ℕ) (row : Row) (name : List ℕ) (h : HasFound ns order free ids p len m at row name)
     (en : ns' ≡ set ns (get_or free (length free - 1) 0) (record { parent = m; name = name; row = row })) (eo : order' ≡ insert order at (get_or free (length free - 1) 0)) where
   after-tree : ((id : ℕ) → ids' id ≡ cond (nat_eq row.id id) (Some (get_or free (length free - 1) 0)) (ids id)) → IsTree ns' order' ids'
