@@ -1,4 +1,4 @@
--- The rows at and below a path stand together, and seen from it they stand in order.
+-- The rows at and below a path are next to each other, and seen from it they are in order.
 use Rattle.std.proofs.Common.{◌≡◌, ℕ, ◌+◌, ◌≤◌, zero, suc, Bool, true, false, cond, List, [], ◌∷◌, ◌++◌, length, drop, map, Option, Some, None, refl, sym, ap, ◌∙◌, subst, arith, append_assoc, Ordering}
 use Rattle.std.proofs.lemmas.List.{append-nil}
 use Rattle.std.specs.Prelude.{◌==◌, IsSome, is_some, slice_get}
@@ -24,12 +24,12 @@ use Rattle.inode_tree.proofs.ZoneLemmas.{prefix-itself}
 abbrev pub under : List (List ℕ) → List Entry → List Entry
 under p es = filter (λ e. is_prefix p e.path) es
 
--- the front of the rows that lie at or below p
+-- the first rows, as long as they are at or below p
 abbrev pub front : List (List ℕ) → List Entry → List Entry
 front p [] = []
 front p (e ∷ es) = cond (is_prefix p e.path) (e ∷ front p es) []
 
--- nothing behind a path that isn't below p, and doesn't come before p, is below p
+-- no row after a path that isn't below p, and doesn't come before p, is below p
 none-behind : (p q : List (List ℕ)) (es : List Entry) → AllAfter q es → is_before q p ≡ false → is_prefix p q ≡ false → under p es ≡ []
 none-behind p q [] a b c = refl
 none-behind p q (e ∷ es) a b c = go (is_prefix p e.path) refl (none-behind p q es a.1 b c)
@@ -57,7 +57,7 @@ block (e ∷ es) p r = go (is_before e.path p) refl (is_prefix p e.path) refl (b
     go false h true k ih = ap (λ (xs : List Entry). e ∷ xs) (ih ∙ ap (λ (n : ℕ). front p (drop n es)) (not-before-after p e es r.0 h)) ∙ sym (ap (λ (b : Bool). cond b (e ∷ front p es) []) k)
     go false h false k ih = none-behind p e.path es r.0 h k ∙ sym (ap (λ (b : Bool). cond b (e ∷ front p es) []) k)
 
--- the copies so far, and what is still to be copied from a place on
+-- the copies so far, and those that are still to make from a place on
 abbrev pub copied : ℕ → List Entry → List Entry → List (List ℕ) → ℕ → List Entry
 copied n done es p at = done ++ map (seen_from n) (front p (drop at es))
 
@@ -83,7 +83,7 @@ copied-step n done es p at x h g =
     ∙ ap (λ (y : Entry). done ++ y ∷ map (seen_from n) (front p (drop (at + 1) es))) f
     ∙ sym (append_assoc done (x ∷ []) (map (seen_from n) (front p (drop (at + 1) es))))
 
--- no more
+-- no further copy
 pub copied-stop : (n : ℕ) (done es : List Entry) (p : List (List ℕ)) (at : ℕ) → option_map (λ (e : Entry). is_prefix p e.path) (slice_get es at) ≡ Some false → copied n done es p at ≡ done
 copied-stop n done es p at h = let w = front-step es p at false h in ap (λ (xs : List Entry). done ++ map (seen_from n) xs) w.2 ∙ append-nil done
 

@@ -24,7 +24,7 @@ compare-step (suc k) (x ∷ p) (y ∷ q) h l = compare-step k p q (omega arith) 
 cmp-suc : (a b : ℕ) → nat_cmp (suc a) (suc b) ≡ nat_cmp a b
 cmp-suc a b = grind (arith, nat_tests)
 
--- where one of two paths is at its end
+-- one of two paths is at its end
 pub compare-end : (k : ℕ) (p q : List (List ℕ)) → k ≤ length p → k ≤ length q → (k < length p → k < length q → ⊥) → from k p q ≡ nat_cmp (length p) (length q)
 compare-end zero [] q h l n = path-cmp-is [] q
 compare-end zero (x ∷ p) [] h l n = path-cmp-is (x ∷ p) []

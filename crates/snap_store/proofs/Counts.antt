@@ -1,4 +1,4 @@
--- The snapshots of one directory stand together.
+-- The snapshots of one directory are next to each other.
 use Rattle.std.proofs.Common.{◌≡◌, ℕ, ◌+◌, ◌-◌, ◌<◌, ◌≤◌, zero, suc, Bool, true, false, cond, List, [], ◌∷◌, length, get_or, take, drop, map, Some, None, refl, sym, ap, ◌∙◌, arith, inl, inr}
 use Rattle.std.specs.Prelude.{◌==◌, nat_le, nat_lt, slice_get}
 use Rattle.std.specs.List.{filter}
@@ -76,7 +76,7 @@ le-not-same a b h = grind (arith, nat_tests)
 lt-le : (a b : ℕ) → nat_lt a b ≡ true → nat_le a b ≡ false → ⊥
 lt-le a b h k = grind (arith, nat_tests)
 
--- by the first snapshot of the directory, and the first behind those
+-- by the first snapshot of the directory, and the first after those
 module _ (xs : List Snapshot) (dir first end : ℕ) (most : first ≤ length xs) (all : end ≤ length xs)
     (low : IsPartitionPoint (λ x. nat_lt x.dir dir ≡ true) (λ x. nat_lt x.dir dir ≡ false) xs first) (high : IsPartitionPoint (λ x. nat_le x.dir dir ≡ true) (λ x. nat_le x.dir dir ≡ false) xs end) where
   pub in-order : first ≤ end

@@ -1,4 +1,4 @@
--- What always holds of the snapshots holds after each change.
+-- What is always true of the snapshots is true after each change.
 use Rattle.std.proofs.Common.{◌≡◌, ℕ, ◌<◌, ◌≤◌, suc, Bool, true, false, cond, not, ◌&&◌, ◌||◌, List, [], ◌∷◌, length, Option, Some, None, is_some, refl, sym, ap, ◌∙◌, subst, arith}
 use Rattle.std.specs.Prelude.{◌==◌, Result, Ok, Err, OnOk, OnErr}
 use Rattle.std.specs.List.{filter, find, insert, list_all, list_any}
@@ -181,7 +181,7 @@ rows-found xs dir name rows h = go (snapshot_named xs dir name) h
     go None f = cc
     go (Some x) f = cc
 
--- a snapshot is there where the directory's own row is
+-- a snapshot exists exactly if it has the directory's own row
 pub named-look : (xs : List Snapshot) (dir : ℕ) (name : List ℕ) → list_all (λ t. is_some (row_at t.rows [])) xs ≡ true → is_some (row_at (rows_in xs dir name) []) ≡ is_some (snapshot_named xs dir name)
 named-look xs dir name h = go (snapshot_named xs dir name) refl
   where

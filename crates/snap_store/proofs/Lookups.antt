@@ -1,4 +1,4 @@
--- What is looked up among rows in memory.
+-- Look-ups among rows in memory.
 use Rattle.std.proofs.Common.{◌≡◌, ℕ, ◌+◌, ◌<◌, zero, suc, Bool, true, false, cond, List, [], ◌∷◌, ◌++◌, length, get_or, take, map, Option, Some, None, refl, sym, ap, ◌∙◌, subst, arith}
 use Rattle.std.specs.List.{All, list_all}
 use Rattle.std.specs.Option.{option_map, option_map_or}

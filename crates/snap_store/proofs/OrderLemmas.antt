@@ -1,4 +1,4 @@
--- Lists in the order of a comparison: where an element stands, and what an edit there makes.
+-- Lists in the order of a comparison: the place of an element, and the list after an edit there.
 use Rattle.std.proofs.Common.{◌≡◌, ℕ, ◌<◌, ◌≤◌, zero, suc, Bool, true, false, cond, not, List, [], ◌∷◌, length, get_or, Option, Some, None, refl, sym, ap, ◌∙◌, arith, Ordering}
 use Rattle.std.specs.declared.cmp.Ordering.TheVariants.{Less, Equal, Greater}
 use Rattle.std.specs.Cmp.{IsTotalOrder}
@@ -68,7 +68,7 @@ module _ {A : Type 0} (R : A → A → Ordering) (total : IsTotalOrder R) where
   after-at x (y ∷ ys) zero d a h = a.0
   after-at x (y ∷ ys) (suc k) d a h = after-at x ys k d a.1 (omega arith)
 
-  -- in a rising list what comes before a key stands in front
+  -- in a rising list the elements before a key come first
   pub rising-parted : (key : A) (xs : List A) → IsRisingBy R xs → IsPartitionedBy (λ x. is_lt (R x key)) xs
   rising-parted key [] r i j d le h b = absurd (omega arith)
   rising-parted key (x ∷ xs) r zero zero d le h b = b
@@ -127,7 +127,7 @@ module _ {A : Type 0} (R : A → A → Ordering) (total : IsTotalOrder R) where
         ap (λ (t : Bool). cond (not t) (x ∷ rid key xs) (rid key xs)) f ∙ ap (λ (ys : List A). x ∷ ys) w.1,
       )
 
-  -- what is found is the element at the place, if it is the same
+  -- the element found is the one at the place, if it is the same
   pub seek-at : (key : A) (xs : List A) (i : ℕ) (d : A) → IsRisingBy R xs → i < length xs → Parted key xs i
       → (seek key xs ≡ cond (same (get_or xs i d) key) (Some (get_or xs i d)) None) × (rid key xs ≡ cond (same (get_or xs i d) key) (remove xs i) xs)
   seek-at key [] i d r b h = absurd (omega arith)

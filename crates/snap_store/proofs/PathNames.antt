@@ -50,7 +50,7 @@ pub drop-front : (xs ys : List ℕ) → drop (length xs) (xs ++ ys) ≡ ys
 drop-front [] ys = refl
 drop-front (x ∷ xs) ys = drop-front xs ys
 
--- what is written is read again
+-- a path that is written is read back
 pub path-written : (p : List (List ℕ)) → path_in (path_bytes p) ≡ p
 path-written [] = path-none
 path-written (x ∷ p) =

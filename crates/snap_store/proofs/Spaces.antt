@@ -20,7 +20,7 @@ left (suc n) k (x ∷ xs) h = left n k xs (omega arith)
 at-front : (from count : ℕ) (bytes more : List ℕ) → from + count ≤ length bytes → bytes_at from count (bytes ++ more) ≡ bytes_at from count bytes
 at-front from count bytes more h = ap (take count) (drop-append-le from bytes more (omega arith)) ∙ take-append-le count (drop from bytes) more (left from count bytes h)
 
--- bytes behind them change no rows
+-- bytes after them change no rows
 inside-same : (bytes more : List ℕ) (rows : List PlacedRow) → AllInside (length bytes) rows → entries_in (bytes ++ more) rows ≡ entries_in bytes rows
 inside-same bytes more [] i = refl
 inside-same bytes more (r ∷ rs) i =

@@ -43,7 +43,7 @@ get-at [] k d h = absurd (omega arith)
 get-at (x ∷ xs) zero d h = refl
 get-at (x ∷ xs) (suc k) d h = get-at xs k d (omega arith)
 
--- where a snapshot is found
+-- the place at which a snapshot is found
 module _ (xs : List Snapshot) (dir : ℕ) (name : List ℕ) (i : ℕ) (r : IsRisingBy snapshot_cmp xs) (h : Parted snapshot_cmp snapshot-total (key_of dir name) xs i) where
   pub missing : length xs ≤ i → (snapshot_named xs dir name ≡ None) × (without_snapshot xs dir name ≡ xs)
   missing b = let w = seek-past snapshot_cmp snapshot-total (key_of dir name) xs i b h in (named-sought xs dir name ∙ w.0, without-rid xs dir name ∙ w.1)
@@ -74,7 +74,7 @@ rest-rid xs id = λ i. filter (λ x. not (eq-turned x id i)) xs
 lt-cmp : (a b : ℕ) → nat_lt a b ≡ is_lt (nat_cmp a b)
 lt-cmp a b = grind (arith, nat_tests)
 
--- where an id is found
+-- the place at which an id is found
 module _ (xs : List ℕ) (id i : ℕ) (r : IsRisingBy nat_cmp xs) (p : IsPartitionPoint (λ x. nat_lt x id ≡ true) (λ x. nat_lt x id ≡ false) xs i) where
   pub id-parted : Parted nat_cmp nat_cmp_total id xs i
   id-parted = (λ k d low high. sym (lt-cmp (get_or xs k d) id) ∙ p.0 k d low high, λ k d low high. sym (lt-cmp (get_or xs k d) id) ∙ p.1 k d low high)
@@ -116,6 +116,6 @@ dirs-rise (x ∷ xs) r zero (suc j) d le h = low-high x (get_or xs j d) (after-a
 dirs-rise (x ∷ xs) r (suc i) zero d le h = absurd (omega arith)
 dirs-rise (x ∷ xs) r (suc i) (suc j) d le h = dirs-rise xs r.1 i j d (omega arith) (omega arith)
 
--- in rising ids the lower ones stand in front
+-- in rising ids the lower ones come first
 pub ids-parted : (xs : List ℕ) (id : ℕ) → IsRisingBy nat_cmp xs → IsPartitionedBy (λ x. nat_lt x id) xs
 ids-parted xs id r i j d le h b = lt-cmp (get_or xs i d) id ∙ rising-parted nat_cmp nat_cmp_total id xs r i j d le h (sym (lt-cmp (get_or xs j d) id) ∙ b)

@@ -1,4 +1,4 @@
--- The zone of a path among rising rows, by the fronts of the path.
+-- The zone of a path among rising rows, by the prefixes of the path.
 use Rattle.std.proofs.Common.{◌≡◌, ℕ, ◌+◌, ◌-◌, ◌<◌, ◌≤◌, zero, suc, Bool, true, false, cond, ◌&&◌, ◌||◌, List, [], ◌∷◌, ◌++◌, length, get_or, take, Option, Some, None, refl, sym, ap, ◌∙◌, subst, arith}
 use Rattle.std.specs.Prelude.{nat_lt, ⊤}
 use Rattle.std.specs.Option.{option_map, option_map_or}
@@ -13,7 +13,7 @@ use Rattle.inode_tree.proofs.Puts.{same-turned}
 use Rattle.inode_tree.proofs.ZoneLemmas.{prefix-itself, prefix-snoc, prefix-whole}
 use Rattle.snap_store.specs.Snapshots.{zone_depth}
 
--- no marked row stands at the path
+-- no marked row is at the path
 abbrev pub UnmarkedAt : List (List ℕ) → List Entry → Type 0
 UnmarkedAt q [] = ⊤
 UnmarkedAt q (e ∷ es) = (same_path e.path q ≡ true → is_marked e.row ≡ false) × UnmarkedAt q es
@@ -51,7 +51,7 @@ zone-above (e ∷ es) p x h = go (is_marked e.row) (is_prefix e.path p) (same_pa
     go true true false em hs ep ih = rw (em, ep, ih) refl
     go true false false em hs ep ih = rw (em, ep, ih) refl
 
--- no zone at a directory that is not marked and lies in none
+-- no zone at a directory that is not marked and is in none
 zone-none : (es : List Entry) → UnmarkedAt [] es → zone_of es [] ≡ None
 zone-none [] h = refl
 zone-none (e ∷ es) h = go e.path refl (zone-none es h.1)

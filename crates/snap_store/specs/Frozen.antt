@@ -25,7 +25,7 @@ names_upto zero bytes = []
 names_upto (suc n) [] = []
 names_upto (suc n) (b ∷ bytes) = take b bytes ∷ names_upto n (drop b bytes)
 
--- the path that bytes stand for
+-- the path that is written in the bytes
 unfoldable pub path_in : List ℕ → List (List ℕ)
 path_in bytes = names_upto (length bytes) bytes
 
@@ -38,7 +38,7 @@ entry_in bytes r = record { path = path_in (bytes_at r.from r.count bytes); row 
 abbrev pub entries_in : List ℕ → List PlacedRow → List Entry
 entries_in bytes rows = map (entry_in bytes) rows
 
--- the path of each row lies among so many bytes
+-- the path of each row is within the first n bytes
 abbrev pub AllInside : ℕ → List PlacedRow → Type 0
 AllInside n [] = ⊤
 AllInside n (r ∷ rs) = (r.from + r.count ≤ n) × AllInside n rs

@@ -12,7 +12,7 @@ use Rattle.inode_tree.specs.Rows.{Entry, entry_of, is_dir_at, row_at, zone_of}
 use Rattle.snap_store.specs.Frozen.{bytes_of}
 use Rattle.snap_store.specs.Ordered.{IsRisingBy, put_by}
 
--- of which directory a snapshot is, its name, and the rows at and below the directory as they were, seen from it
+-- the directory of a snapshot, its name, and the rows at and below the directory as they were, seen from it
 pub record Snapshot : Type 0 where
   pub dir : ℕ
   pub name : List ℕ
@@ -29,7 +29,7 @@ pub record RowRoom : Type 0 where
   pub nodes : ℕ
   pub bytes : ℕ
 
--- memory reserved beside the table: for how many more ids, for how many more snapshots, and for the rows of one
+-- memory reserved apart from the table: for how many more ids, for how many more snapshots, and for the rows of one
 pub record SnapRoom : Type 0 where
   pub ids : ℕ
   pub snapshots : ℕ
@@ -43,7 +43,7 @@ pub record SnapState : Type 0 where
 abbrev pub snapshot_cmp : Snapshot → Snapshot → Ordering
 snapshot_cmp s t = ordering_then (nat_cmp s.dir t.dir) (slice_cmp nat_cmp s.name t.name)
 
--- what a snapshot is sought by
+-- the key by which a snapshot is sought
 abbrev pub key_of : ℕ → List ℕ → Snapshot
 key_of dir name = record { dir = dir; name = name; rows = [] }
 
@@ -72,7 +72,7 @@ without_snapshot taken dir name = filter (λ s. not (is_named dir name s)) taken
 abbrev pub put_snapshot : Snapshot → List Snapshot → List Snapshot
 put_snapshot = put_by snapshot_cmp
 
--- the rows of a snapshot; where there is none, no rows
+-- the rows of a snapshot, or no rows if there is none
 abbrev pub rows_in : List Snapshot → ℕ → List ℕ → List Entry
 rows_in taken dir name = option_map_or (λ s. s.rows) (snapshot_named taken dir name) []
 
@@ -104,15 +104,15 @@ names_of taken dir = map (λ s. s.name) (filter (is_of dir) taken)
 abbrev pub count_of : List Snapshot → ℕ → ℕ
 count_of taken dir = length (filter (is_of dir) taken)
 
--- how many snapshots a directory has, where it may have some
+-- the number of snapshots of a directory, if it may have some
 abbrev pub count_in : SnapTable → ℕ → Option ℕ
 count_in t dir = if is_among dir t.allowed then Some (count_of t.taken dir) else None
 
--- what lies in a directory, where the rows have it as one
+-- the children of a directory, if the rows have it as one
 abbrev pub list_in : List Entry → List (List ℕ) → Option (List Child)
 list_in rows p = if is_dir_at (row_at rows p) then Some (children rows p) else None
 
--- how many names lead to the zone that a path lies in
+-- the number of names in the path of the zone that a path lies in
 abbrev pub zone_depth : List Entry → List (List ℕ) → Option ℕ
 zone_depth rows p = option_map (λ e. length e.path) (zone_of rows p)
 
@@ -140,7 +140,7 @@ table_after_allow dir t = record t { allowed = with_id dir t.allowed }
 abbrev pub table_after_disallow : ℕ → SnapTable → SnapTable
 table_after_disallow dir t = record t { allowed = without_id dir t.allowed }
 
--- the rows are those that stand before the directories are removed
+-- the rows are those from before the directories are removed
 abbrev pub table_after_disallow_below : List Entry → List (List ℕ) → SnapTable → SnapTable
 table_after_disallow_below rows p t = record t { allowed = without_below rows p t.allowed }
 
@@ -150,11 +150,11 @@ table_after_take rows dir name t = record t { taken = put_snapshot (record { dir
 abbrev pub table_after_remove : ℕ → List ℕ → SnapTable → SnapTable
 table_after_remove dir name t = record t { taken = without_snapshot t.taken dir name }
 
--- what always holds of them
+-- what is always true of them
 pub record IsSnapshots (allowed : List ℕ) (taken : List Snapshot) : Type 0 where
   -- the ids rise
   pub ids : IsRisingBy nat_cmp allowed
-  -- the snapshots stand by directory and name, none twice
+  -- the snapshots are in the order of directory and name, none twice
   pub order : IsRisingBy snapshot_cmp taken
   -- each is of a directory that may have some
   pub housed : list_all (λ t. is_among t.dir allowed) taken ≡ true
