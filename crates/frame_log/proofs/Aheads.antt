@@ -1,4 +1,4 @@
--- What a reader of a log returns, by the bytes of its file.
+-- The payloads that a reader of a log returns, by the bytes of its file.
 use Rattle.std.proofs.Common.{◌≡◌, ◌≢◌, ℕ, ◌+◌, ◌≤◌, ◌<◌, List, [], ◌∷◌, ◌++◌, length, take, drop, refl, sym, ◌∙◌, ap, subst, arith, append_assoc, length-append, length-drop, None}
 use Rattle.std.specs.List.{AllByRecursion}
 use Rattle.std.specs.Int.{w32, to_be_bytes}
@@ -57,7 +57,7 @@ module _ (disk now : DiskState) (old new : Records) (todo : List (List ℕ)) (ah
   file_is : now.reads new.file ≡ disk.reads old.file
   file_is = ap (λ (k : ℕ). now.reads k) file ∙ same
 
-  -- the reader is where it was
+  -- the reader is at the same offset
   pub still_ahead : new.at ≡ old.at → Ahead now new todo
   still_ahead at = record {
     gate = ahead.gate;
@@ -96,7 +96,7 @@ module _ (disk now : DiskState) (old new : Records) (todo : List (List ℕ)) (ah
         };
       }
 
--- one payload more is returned
+-- one more payload is returned
 pub partly_more : (disk now : DiskState) (at : ℕ) (todo : List (List ℕ)) (old new : Records) (before : List (ℕ × List ℕ)) (partly : IsPartlyRead disk at todo old before) (offset : ℕ)
     → IsFirstPayload now old new partly.rest offset → IsPartlyRead now at todo new (before ++ (offset, new.payload.items) ∷ [])
 partly_more disk now at todo old new before partly offset got =
@@ -112,7 +112,7 @@ partly_more disk now at todo old new before partly offset got =
       ahead = got.ahead;
     }
 
--- a new reader of a log that stands has all its payloads to return
+-- a new reader of a log has all payloads of the log to return
 pub log_ahead : (disk : DiskState) (log : Log) (payloads : List (List ℕ)) (records : Records) → Stands disk log payloads None → records.file ≡ log.file → records.size ≡ length (disk.reads log.file) → records.at ≡ 8 → records.window.bytes.items ≡ [] → Ahead disk records payloads
 log_ahead disk log payloads records s file size at none =
     let shut = s.reads in

@@ -32,7 +32,7 @@ shown file window at want place s =
           ∙ take-take want (window.from + k - at) (drop at file) (omega arith)
     ]
 
--- the same of a file that a read left as it was
+-- the same for a file that a read left unchanged
 pub still_shown : (file now : List ℕ) (old new : Window) (at want : ℕ) → now ≡ file → (HasBytesOf now old → Shows now new at want) → HasBytesOf file old → Shows file new at want
 still_shown file now old new at want same shows has = subst (λ (l : List ℕ). Shows l new at want) same (shows (subst (λ (l : List ℕ). HasBytesOf l old) (sym same) has))
 

@@ -26,7 +26,7 @@ returns-clause-log g c told =
       found.4,
     )
 
--- a sync, and then the opening of what it made durable
+-- a sync, and then the opening of the bytes that it made durable
 module _ (file : ℕ) (old mid new : DiskState) (file_in : file < 2) (told : Tells old) (call : CallOn file old mid) (same : Reads file old mid) (run : RunOn file mid new) (moments : LeavesOnly file mid new (IsRecovered file (mid.reads file))) where
   any_moment : old.leaves file (old.reads file) → LeavesOnly file old new (λ b. old.leaves file b ⊎ IsAsFound file (old.reads file) b)
   any_moment one =
