@@ -72,14 +72,14 @@ linked-words w h drawn l =
 pub apart-words : (h : Hidden) (drawn : ℕ) → WordsApart h → WordsApart (behind_words drawn h)
 apart-words h drawn f = record { taken = λ d i. let t = f.taken d i in omega (arith, t); apart = f.apart }
 
--- the keys that a start finds where the pending command was kept, or not
+-- the keys that a start finds, with the pending command kept or dropped
 pub linked-restart : (w : WorldState) (h : Hidden) (kept : Bool) (table : Table) → table ≡ (settled kept w.keys).table → IsService w.keys → LinkedWorld w h → LinkedWorld (record w { keys = opened table }) h
 linked-restart w h kept table is fit l =
     linked-keys w h (opened table) (then-later w.keys.keys.table table (opened table).keys.table (subst (KeysLater w.keys.keys.table) (sym is) (later-settled kept w.keys fit)) (later-opened table)) l
 
 -- another namesystem
 
--- the rows are in place once the pending operation was settled
+-- the rows are in place after the pending operation was settled
 pub rows-settled : (kept : Bool) (s : NameService) → IsNames s → InPlace (settled_names kept s).table.rows
 rows-settled kept s fit = go kept s.pending fit.waits
   where
@@ -88,7 +88,7 @@ rows-settled kept s fit = go kept s.pending fit.waits
     go true (Some op) waits = rows-after s.names.table op (in-place s.names.table.rows fit.rows) waits.pending.allowed
     go false (Some op) waits = in-place s.names.table.rows fit.rows
 
--- the opening is the same behind an operation that is none
+-- the opening is the same after an operation that is not an opening
 same-opening : (t : NameTable) (op : EditOp) → is_opening op ≡ false → (after_table t op).opening ≡ t.opening
 same-opening t (Opened opening) h = absurd cc
 same-opening t (Mkdir id p) h = refl
@@ -96,11 +96,11 @@ same-opening t (File id p edek) h = refl
 same-opening t (Remove p) h = refl
 same-opening t (Zone p key) h = refl
 
--- the next id behind an operation that is no opening
+-- the next id after an operation that is not an opening
 pub next-after : (s : NameState) (op : EditOp) → is_opening op ≡ false → next_id (record s { table = after_table s.table op }) ≡ next_id s
 next-after s op h = ap (λ (n : ℕ). n * 2 ^ 32 + s.next) (same-opening s.table op h)
 
--- and once the pending operation was settled
+-- and after the pending operation was settled
 pub opening-settled : (kept : Bool) (s : NameService) → IsNames s → (settled_names kept s).table.opening ≡ s.names.table.opening
 opening-settled kept s fit = go kept s.pending fit.waits
   where
@@ -122,7 +122,7 @@ pub linked-names : (w : WorldState) (h : Hidden) (names : NameService) → ((kep
     → LedgerFits h.ledger w.kept.replies h.replied names.names.asks (next_id names.names) → LinkedWorld w h → LinkedWorld (record w { names = names }) h
 linked-names w h names files fits l = record { files = files; replies = l.replies; draws = l.draws; ledger = fits }
 
--- the one that a start finds where the pending operation was kept, or not
+-- the one that a start finds, with the pending operation kept or dropped
 pub linked-reopened : (w : WorldState) (h : Hidden) (kept : Bool) (table : NameTable) → table ≡ (settled_names kept w.names).table → IsNames w.names → LinkedWorld w h → LinkedWorld (record w { names = started table }) h
 linked-reopened w h kept table is fit l =
     linked-names w h (started table) (λ again. files-opened h.ledger w.keys.keys.table.rows table (table.opening + 1) (subst (FilesLinked h.ledger w.keys.keys.table.rows) (sym is) (l.files kept))) (
@@ -183,7 +183,7 @@ drawn-before : (ledger : Ledger) (replied : List (Option Draw)) (o : Option Draw
 drawn-before ledger replied o d (inl i) = inl (inl i)
 drawn-before ledger replied o d (inr i) = elim (in-more (Some d) o replied i) [ inl old ↦ inl (inr old) | inr is ↦ inr is ]
 
--- a new draw is none of those before
+-- a new draw is none of the earlier ones
 draw-new : (ledger : Ledger) (replied : List (Option Draw)) (place : ℕ) (IsBirth : ℕ → Type 0) (d : Draw) → DrawsFit ledger replied place IsBirth → IsDrawn ledger replied d → place ≤ d.place → ⊥
 draw-new ledger replied place IsBirth d f i over = let h = f.below d i in absurd (omega (arith, h, over))
 
@@ -223,7 +223,7 @@ apart-reply h keys drawn r o n f =
       ];
     }
 
--- what is kept under one number in both lists with one more
+-- a reply and its draw under one number, in both lists with one more
 replied-before : (replies : List KeptReply) (replied : List (Option Draw)) (r : KeptReply) (o : Option Draw) (q : KeptReply) (p : Option Draw) → length replied ≡ length replies
     → Replied (replies ++ r ∷ []) (replied ++ o ∷ []) q p → Replied replies replied q p ⊎ ((q ≡ r) × (p ≡ o))
 replied-before replies replied r o q p many at =
