@@ -1,5 +1,5 @@
 -- What was read, played and written so far.
-use Rattle.std.proofs.Common.{◌≡◌, ℕ, ◌+◌, List, [], ◌∷◌, ◌++◌, length, refl, ap, sym, ◌∙◌, subst, IsTrue, true, Option, None, Some, arith, append-nil, length-append}
+use Rattle.std.proofs.Common.{◌≡◌, ℕ, ◌+◌, List, [], ◌∷◌, ◌++◌, length, refl, ap, sym, subst, IsTrue, true, Option, None, Some, arith, length-append}
 use Rattle.std.specs.List.{list_all}
 use Rattle.std.specs.Io.KnownBytes.{Appends, Consumes}
 use Rattle.std.proofs.KnownBytes.{Appends-trans, Consumes-trans}
@@ -9,7 +9,6 @@ use Rattle.replay_text.specs.Transcript.{line_text}
 use Rattle.world_run.specs.World.{RunningWorld}
 use Rattle.hkms_commands.specs.Lines.{is_line, text_of}
 use Rattle.hkms_commands.specs.PlayedLines.{AreSpelled, PlayedLine, events_of_lines, lines_in, transcript}
-use Rattle.hkms_commands.specs.Run.{Happened}
 use Rattle.hkms_commands.specs.Steps.{PlaysEvent, Stand, StaysQuiet, Untouched, View}
 use Rattle.hkms_commands.proofs.LivedLemmas.{Lived, happened_in, lived_more, lived_nothing, lived_untouched}
 use Rattle.hkms_commands.proofs.SplitLemmas.{text_more, whole_more}

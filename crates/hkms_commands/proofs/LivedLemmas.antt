@@ -15,7 +15,7 @@ use Rattle.world_run.specs.Keeps.{KnowsWorld, LinkedStep, RestsNow, Steps}
 use Rattle.world_run.specs.Linked.{DrawsApart, LinkedWorld, SoundFiles}
 use Rattle.world_run.specs.Own.{SurvivesAtRest, SurvivesEvent}
 use Rattle.world_run.specs.Promise.{ZoneFilesOpen}
-use Rattle.hkms_commands.specs.Run.{EventRuns, FilesOpen, Happened, History, IsHidden, RestsAfter, Runs, StayApart, SurvivesIn, behind, drawn_in, faults_after, hidden_in, logged_in, world_after}
+use Rattle.hkms_commands.specs.Run.{FilesOpen, Happened, History, IsHidden, RestsAfter, Runs, StayApart, SurvivesIn, behind, drawn_in, faults_after, hidden_in, logged_in, world_after}
 use Rattle.hkms_commands.specs.Steps.{HasLists, SameLists, Untouched, View}
 
 -- runs of calls on both files

@@ -1,20 +1,16 @@
 -- The calls of a connection, and a connection as a whole.
-use Rattle.std.proofs.Common.{◌≡◌, ◌≢◌, inl, inr, ◌≤◌, ℕ, List, [], ◌∷◌, refl, ap, sym, ◌∙◌, subst, IsTrue, Bool, Option, Some, arith}
+use Rattle.std.proofs.Common.{◌≡◌, ◌≢◌, inl, inr, ℕ, List, [], ◌∷◌, refl, ap, sym, ◌∙◌, subst, IsTrue, Bool, Option, arith}
 use Rattle.hk_base.specs.Disk.{DiskState, Tells}
-use Rattle.hk_base.specs.Faults.{Rose}
 use Rattle.kms_calls.specs.declared.calls.KmsCall.{KmsCall}
 use Rattle.kms_calls.specs.declared.calls.KmsReply.{KmsReply}
 use Rattle.prop_text.specs.declared.lines.PropLine.{PropLine}
-use Rattle.hk_events.specs.declared.event.Event.{Event}
 use Rattle.hk_events.specs.declared.event.Event.TheVariants as event
-use Rattle.hk_events.specs.declared.event.Line.{Line}
 use Rattle.hk_events.specs.declared.event.Line.TheVariants as line
 use Rattle.world_run.specs.Acknowledged.{Acknowledged, LeavesBoth, RunBoth}
 use Rattle.world_run.specs.World.{RunningWorld, WorldState, first_world, world_of}
 use Rattle.world_run.specs.Keeps.{Begins, LeftByStarts, Steps}
 use Rattle.hk_base.specs.declared.ended.Ended.{Ended}
 use Rattle.hk_base.specs.declared.ended.Ended.TheVariants as ended
-use Rattle.hk_serve.specs.Exchanges.{Stand}
 use Rattle.hk_serve.specs.Served.{Served}
 use Rattle.hk_serve.specs.Worlds.{Happens, WorldView}
 use Rattle.http_wire.specs.Reading.{ahead}

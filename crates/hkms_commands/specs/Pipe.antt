@@ -1,5 +1,5 @@
 -- A connection to the key management service.
-use Rattle.std.specs.Prelude.{◌≡◌, ◌⊎◌, ◌≤◌, ℕ, List, [], ◌∷◌, Option, Some}
+use Rattle.std.specs.Prelude.{◌≡◌, ◌⊎◌, ◌≤◌, ℕ, List, [], ◌∷◌, Option}
 use Rattle.hk_base.specs.Disk.{DiskState, Tells}
 use Rattle.frame_log.specs.declared.fault.StartFault.{StartFault}
 use Rattle.kms_calls.specs.declared.calls.KmsCall.{KmsCall}

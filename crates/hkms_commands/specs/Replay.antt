@@ -2,7 +2,7 @@
 use Rattle.std.specs.Prelude.{◌≡◌, ◌⊎◌, ℕ, zero, suc, ◌+◌, ◌<◌, ◌≤◌, ◌^◌, Bool, List, [], ◌∷◌, ◌++◌, length, count_by, take, codes, Option, Some}
 use Rattle.std.specs.Fmt.{decimal}
 use Rattle.std.specs.Io.KnownBytes.{Appends}
-use Rattle.hk_base.specs.Disk.{DiskState, Image, IsImage, LeavesOnly, RunOn, Tells}
+use Rattle.hk_base.specs.Disk.{DiskState, LeavesOnly, RunOn, Tells}
 use Rattle.frame_log.specs.Stands.{LeavesFrom}
 use Rattle.frame_log.specs.declared.fault.StartFault.{StartFault}
 use Rattle.frame_log.specs.declared.fault.StartFault.TheVariants as start
@@ -13,20 +13,19 @@ use Rattle.prop_text.specs.declared.faults.PropFault.{PropFault}
 use Rattle.prop_text.specs.declared.faults.PropFault.TheVariants as prop_fault
 use Rattle.prop_text.specs.declared.lines.PropLine.{PropLine}
 use Rattle.kms_core.specs.State.{settled}
-use Rattle.kms_store.specs.Store.{IsDamagedAt, IsKeyLog, IsLeftByStart, next_opening}
+use Rattle.kms_store.specs.Store.{IsDamagedAt, IsKeyLog, IsLeftByStart}
 use Rattle.name_core.specs.State.{settled as settled_names}
-use Rattle.name_store.specs.Table.{NameTable, Replayed, next_opening as next_opening_of_names}
+use Rattle.name_store.specs.Table.{NameTable, Replayed}
 use Rattle.name_store.specs.Store.{IsDamagedAt as IsDamagedName, IsLeftByStart as IsLeftByNameStart, IsNameLog}
 use Rattle.replay_text.specs.Events.{IsBad, Spells}
 use Rattle.hk_events.specs.declared.event.Event.{Event}
 use Rattle.hk_events.specs.declared.event.Event.TheVariants.{RestartKms, RestartName}
-use Rattle.world_run.specs.Acknowledged.{Acknowledged, HoldsLogs, LeavesBoth, also}
+use Rattle.world_run.specs.Acknowledged.{Acknowledged, LeavesBoth, also}
 use Rattle.world_run.specs.Keeps.{LeftByStarts}
-use Rattle.world_run.specs.Ledger.{Hidden, Past, drawn_before}
-use Rattle.world_run.specs.Linked.{StartsSound, WordsApart}
-use Rattle.world_run.specs.Own.{SurvivesRestart}
+use Rattle.world_run.specs.Ledger.{Hidden}
+use Rattle.world_run.specs.Linked.{WordsApart}
 use Rattle.world_run.specs.Starts.{KeysOpened}
-use Rattle.world_run.specs.World.{RunningWorld, WorldState, first_world, world_of}
+use Rattle.world_run.specs.World.{WorldState, first_world}
 use Rattle.hkms_commands.specs.declared.replay.ReplayEnd.{ReplayEnd}
 use Rattle.hkms_commands.specs.declared.replay.ReplayEnd.TheVariants.{Done, AclRefused, AclRepeated, AclUnknown, AclTooLong, BadLine, DamagedKeys, DamagedNames, StoreFault, NoMemory, ReadFault, WriteFault, Spent}
 use Rattle.hkms_commands.specs.declared.props.PropsFault.{PropsFault}

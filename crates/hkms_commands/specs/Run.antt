@@ -1,5 +1,5 @@
 -- A run of events: what they did, and what holds in each world on the way.
-use Rattle.std.specs.Prelude.{◌≡◌, ◌⊎◌, ◌≤◌, ℕ, ◌+◌, List, [], ◌∷◌, ◌++◌}
+use Rattle.std.specs.Prelude.{◌⊎◌, ◌≤◌, ℕ, ◌+◌, List, [], ◌∷◌}
 use Rattle.hk_base.specs.Disk.{Image}
 use Rattle.hk_base.specs.Faults.{Rose}
 use Rattle.prop_text.specs.declared.lines.PropLine.{PropLine}

@@ -1,10 +1,9 @@
 -- Draws whose words are apart, from run to run.
 use Rattle.std.proofs.Common.{inl, inr, ◌+◌, ◌*◌, ◌^◌, false, []}
 use Rattle.name_store.specs.Table.{settled_log}
-use Rattle.kms_store.specs.Store.{settled_table}
 use Rattle.world_run.specs.Laws.{NoDrawsAreApart, PastDrawsAreApart, SoundFilesAreApart}
-use Rattle.world_run.specs.Ledger.{Draw, Hidden, Past, drawn_before}
-use Rattle.world_run.specs.Linked.{DrawsApart, IsDrawn, LinkedTables, WordsApart}
+use Rattle.world_run.specs.Ledger.{Draw, drawn_before}
+use Rattle.world_run.specs.Linked.{IsDrawn}
 use Rattle.world_run.proofs.KeepLemmas.{files-apart}
 use Rattle.world_run.proofs.LawLemmas.{none-drawn}
 

@@ -7,7 +7,6 @@ use Rattle.hk_base.specs.Disk.{DiskState}
 use Rattle.hk_base.specs.declared.texts.Text.{Text}
 use Rattle.edit_ops.specs.declared.ops.EditOp.{EditOp}
 use Rattle.name_store.specs.Replay.{AllBelow}
-use Rattle.name_store.specs.Store.{is_opening}
 use Rattle.name_store.specs.Store as store
 use Rattle.name_store.specs.Table.{is_among}
 use Rattle.name_core.specs.declared.asks.OpenAsk.{OpenAsk}

@@ -1,4 +1,4 @@
-use Rattle.std.proofs.Common.{◌≡◌, ℕ, ◌+◌, Bool, true, false, List, Option, None, Some, refl, ap, sym, subst}
+use Rattle.std.proofs.Common.{◌≡◌, ℕ, ◌+◌, Bool, true, false, List, Option, Some, refl, ap, sym, subst}
 use Rattle.hk_base.specs.Disk.{DiskState}
 use Rattle.prop_text.specs.declared.lines.PropLine.{PropLine}
 use Rattle.hkms_commands.specs.declared.replay.ReplayEnd.{ReplayEnd}

@@ -1,4 +1,4 @@
-use Rattle.std.proofs.Common.{◌≡◌, ℕ, List, [], ◌∷◌, ◌∙◌, sym, refl, arith, Bool, true, false, zero, suc, Option, None, Some}
+use Rattle.std.proofs.Common.{◌≡◌, ℕ, List, [], ◌∷◌, ◌∙◌, refl, arith, false, zero, suc, Option, None, Some}
 use Rattle.std.specs.Io.KnownBytes.{IsAtEnd, prepend_known}
 use Rattle.hk_base.specs.Disk.{DiskState}
 use Rattle.frame_log.specs.declared.fault.StartFault.{StartFault}
