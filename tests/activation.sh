@@ -61,7 +61,7 @@ same 'inetd: a create' '{"material":"K34VFiiu0qar9xWICc9PPA","name":"k@0"} 201' 
     "$(ask -d '{"name":"k","length":128,"material":"K34VFiiu0qar9xWICc9PPA"}' "$base/keys?user.name=alice")"
 same 'inetd: a decryption' "$decrypted" "$(decrypt)"
 same 'inetd: many at once' '20 ["k"] 200' \
-    "$(for _ in $(seq 20); do { ask "$base/keys/names?user.name=alice"; echo; } & done | sort | uniq -c | sed 's/^ *//')"
+    "$(for _ in $(seq 20); do { printf "%s\n" "$(ask "$base/keys/names?user.name=alice")"; } & done | sort | uniq -c | sed 's/^ *//')"
 stop
 serve inetd -i "$room/inetd.conf"
 same 'inetd: a decryption after a restart' "$decrypted" "$(decrypt)"
@@ -80,6 +80,6 @@ same 'systemd: a request that is no HTTP' 400 "$(ask -o /dev/null -X 'A B' "$bas
 stop
 serve systemd-socket-activate --accept --inetd --listen="$room/kms.sock" "$room/connection"
 same 'systemd: many at once after a restart' '20 ["j","k"] 200' \
-    "$(for _ in $(seq 20); do { ask "$base/keys/names?user.name=alice"; echo; } & done | sort | uniq -c | sed 's/^ *//')"
+    "$(for _ in $(seq 20); do { printf "%s\n" "$(ask "$base/keys/names?user.name=alice")"; } & done | sort | uniq -c | sed 's/^ *//')"
 
 exit $((failures > 0))
