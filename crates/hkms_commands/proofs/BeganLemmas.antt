@@ -50,7 +50,7 @@ module _ (old mid new : DiskState) (r : RunningWorld) (b : Begins old mid r) (to
       go (inl way) = inl (in_weaker (LinkedWorld (world_of r)) (HiddenBefore old) linked done (world_of r) words h image way)
       go (inr end) = inr (stop_weaker (LinkedWorld (world_of r)) (HiddenBefore old) linked Cut done (world_of r) words h image end)
 
-  -- what the start and the history left of both files, where this was acknowledged by the start
+  -- what the start and the history left of both files, if the start acknowledged this
   pub survives_kept : LeavesBoth old mid (LeftByStarts old) → RunBoth old mid → LeavesBoth mid new (SurvivesUntil Cut done (LinkedWorld (world_of r)) (world_of r) words h)
       → LeavesBoth old new (λ image. LeftByStarts old image ⊎ SurvivesUntil Cut done (HiddenBefore old) (first_world b.table b.names) words h image)
   survives_kept moments run survives = leaves_on run (weaker (λ image left. inl left) moments) (weaker (λ image left. inr (until_kept image left)) survives)

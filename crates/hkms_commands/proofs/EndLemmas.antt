@@ -38,7 +38,7 @@ use Rattle.hkms_commands.proofs.SplitLemmas.{split_text, split_last, split_on, s
 
 -- the lines of the input
 
--- what is left behind what was used
+-- the rest after the bytes used
 after_text : (left ahead : Option (List ℕ)) (bytes : List ℕ) → Consumes left ahead bytes → (all : List ℕ) → left ≡ Some all → (rest : List ℕ) × (ahead ≡ Some rest) × (all ≡ bytes ++ rest)
 after_text None ahead bytes consumed all is = absurd cc
 after_text (Some xs) None bytes consumed all is = absurd consumed
@@ -110,7 +110,7 @@ past left before ahead lines line used0 used so is consumed used0_is used_is lon
       },
     )
 
--- where the replay stops
+-- the place where the replay stops
 
 reads_at : (stop : ReplayEnd) (left : Option (List ℕ)) (lines : List (List ℕ)) (d : DiskState) (done : Acknowledged) (w : WorldState) → ReadsAs d done w → ReadsAt stop left lines d done w
 reads_at ended.Done left lines d done w r = r
@@ -127,7 +127,7 @@ reads_at ended.ReadFault left lines d done w r = r
 reads_at ended.WriteFault left lines d done w r = r
 reads_at ended.Spent left lines d done w r = tt
 
--- a front of the transcript that is all of it
+-- a prefix of the transcript that is all of it
 all_told : (stop : ReplayEnd) (text told : List ℕ) → text ≡ told → IsTold stop text told
 all_told ended.Done text told is = is
 all_told (ended.AclRefused number) text told is = is
@@ -267,7 +267,7 @@ stop_left Cut e file w done image r cut left =
     (λ names. inr (subst Cut names.0 cut, subst (λ (x : Event). SurvivesRestart w x done image) names.0 left))
     (which_restart e file r)
 
--- where the input stands at a restart of either service
+-- the place of the input at a restart of either service
 
 keys_next : (f : StartFault) (all : List ℕ) (lines : List (List ℕ)) → NextSpells all lines event.RestartKms → Stops (ended_by 0 f) all lines
 keys_next (start.Damaged at) all lines next = next
@@ -585,7 +585,7 @@ never_read false Unwritten e = absurd cc
 never_read true (Unopened fault) e = never_opened fault.file fault.fault e
 never_read false (Unopened fault) e = never_opened fault.file fault.fault e
 
--- a store fault comes where a restart failed
+-- a store fault comes from a restart that failed
 store_rose : (props : List PropLine) (old new : DiskState) (v v' : View) (line : List ℕ) (last : Bool) (play : LineOutcome) → PlaysSo props old new v line play v' → end_of_play last play ≡ Some ended.StoreFault
     → Rose old.faults new.faults
 store_rose props old new v v' line true Played p e = absurd cc

@@ -18,7 +18,7 @@ Follows {D} {E} answers others R =
     (d : D) (e : E) (user : List ℕ) (asked : KmsCall) (reply : KmsReply) (next : D) → R d e → answers d user asked reply next
     → (then : E) × (others e user asked reply then × R next then)
 
--- where a connection stands, with another desk
+-- the state of a connection, with another desk
 abbrev pub beside : {D E : Type 0} → Stand D → E → Stand E
 beside stand e = record { ahead = stand.ahead; desk = e; written = stand.written }
 

@@ -13,7 +13,7 @@ use Rattle.hkms_commands.specs.Steps.{PlaysEvent, Stand, StaysQuiet, Untouched, 
 use Rattle.hkms_commands.proofs.LivedLemmas.{Lived, happened_in, lived_more, lived_nothing, lived_untouched}
 use Rattle.hkms_commands.proofs.SplitLemmas.{text_more, whole_more}
 
--- where a replay began: the world, the words to come, what was left to read, and what was written
+-- the state in which a replay began: the world, the words to come, what was left to read, and what was written
 pub record Begin : Type 0 where
   pub world : RunningWorld
   pub words : ℕ → ℕ

@@ -28,7 +28,7 @@ use Rattle.hkms_commands.specs.Steps.{Caused, Closes, Ran}
 use Rattle.hkms_commands.proofs.BeganLemmas.{apart_kept, last_kept, promise_kept, survives_kept}
 use Rattle.hkms_commands.proofs.LivedLemmas.{tells_now}
 
--- what is written behind a body
+-- the text written after a body
 
 -- all that is written in a replay
 record Wrote (stop how : ReplayEnd) (lines : ℕ) (told : List ℕ) (written now : Option (List ℕ)) : Type 0 where

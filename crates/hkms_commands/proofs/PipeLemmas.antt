@@ -25,13 +25,13 @@ use Rattle.hkms_commands.proofs.BeganLemmas.{apart_kept, last_kept, promise_kept
 use Rattle.hkms_commands.proofs.FollowLemmas.{ServedSo, served_so}
 use Rattle.hkms_commands.proofs.LivedLemmas.{Lived, happened_in, has_lists, lived_more, lived_nothing, rests_after, tells_now, weaker}
 
--- where a connection began: what the disk was, the services, and the words to come
+-- the state in which a connection began: the disk, the services, and the words to come
 pub record Opened : Type 1 where
   pub disk : DiskState
   pub services : RunningWorld
   pub words : ℕ → ℕ
 
--- the calls so far, under properties of these lines, and where they have led
+-- the calls so far, under properties of these lines, and the state after them
 abbrev Talked : List PropLine → Opened → DiskState → RunningWorld → (ℕ → ℕ) → History → Type 0
 Talked props o now r words history = Lived props o.disk now o.services o.words r words history
 

@@ -62,7 +62,7 @@ pub closes_with : (stop last how : ReplayEnd) (lines : ℕ) (written now : Optio
 closes_with stop last how lines written now text is says (inl h) = record { last = last; last_is = inl (sym is); writes = inl (h.0, subst (Appends written now) says h.1) }
 closes_with stop last how lines written now text is says (inr h) = record { last = last; last_is = inl (sym is); writes = inr (h.0, subst (WroteFront written now) says h.1) }
 
--- a last line with a number, where there was memory for it
+-- a last line with a number, if there was memory for it
 pub closes_numbered : {S E : Type 0} (bytes : S → List ℕ) (line : Result S E) (stop last how : ReplayEnd) (lines : ℕ) (written now : Option (List ℕ)) → stop ≡ last → IfOk line (λ text. bytes text ≡ last_line last lines)
     → MatchResult line (λ text. WritesLast written now (bytes text) last how) (λ _. WritesLast written now (codes "no memory\n") ended.NoMemory how) → Closes stop lines written now how
 closes_numbered bytes (Ok text) stop last how lines written now is says w = closes_with stop last how lines written now (bytes text) is says w

@@ -7,7 +7,7 @@ use Rattle.hkms_commands.specs.declared.lines.LineEnd.TheVariants.{Line, End, To
 abbrev pub is_lf : ℕ → Bool
 is_lf b = b == 10
 
--- the lines of a text are parted by LF; what stands behind the last LF is one too
+-- the lines of a text are separated by LF; the bytes after the last LF are one too
 abbrev pub lines_of : List ℕ → List (List ℕ)
 lines_of text = slice_split is_lf text
 

@@ -7,7 +7,7 @@ use Rattle.command_line.specs.declared.order.Order.TheVariants.{Replay, Pipe, He
 use Rattle.command_line.specs.declared.order.OrderFault.{OrderFault}
 use Rattle.command_line.specs.declared.order.OrderFault.TheVariants.{Usage, NoMemory}
 
--- A text was written, and the status is this one; or a front of it, and the output failed.
+-- A text was written, and the status is this one; or a prefix of it, and the output failed.
 abbrev pub Shows : List ℕ → ℕ → Option (List ℕ) → Option (List ℕ) → ℕ → Type 0
 Shows text own written now status = ((status ≡ own) × Appends written now text) ⊎ ((status ≡ 8) × WroteFront written now text)
 

@@ -93,7 +93,7 @@ pub record PipesUnder (same : Type 0) (old new : DiskState) (acls acls' : Option
   pub pipe : PipeUnder lines same old new words words' left left' written now status
 
 -- The properties were read first, then both logs were opened, and then the connection was served. What could not be done ends it,
--- and nothing is written of that. `same_disk` says that the disk is as it was, and `same` that all else is, but for the properties.
+-- and nothing is written of that. `same_disk` says that the disk is unchanged, and `same` that all else is, except for the properties.
 abbrev pub Pipe : Type 0 → Type 0 → DiskState → DiskState → Option (List ℕ) → Option (List ℕ) → (ℕ → ℕ) → (ℕ → ℕ) → Option (List ℕ) → Option (List ℕ) → Option (List ℕ) → Option (List ℕ) → ℕ → Type 0
 Pipe same_disk same old new acls acls' words words' left left' written now status =
     RefusesProperties (same_disk × same) acls status ⊎ PipesUnder same old new acls acls' words words' left left' written now status

@@ -24,7 +24,7 @@ abbrev pub lines_in : List PlayedLine → List (List ℕ)
 lines_in [] = []
 lines_in (x ∷ earlier) = lines_in earlier ++ x.line ∷ []
 
--- A line spells its event, which comes after so many others, and whose moment is its number; or it has none, and is quiet.
+-- A line spells its event, which comes after `events` others, and whose moment is its number; or it has none, and is quiet.
 abbrev pub IsSpelledBy : ℕ → Option Happened → List ℕ → Type 0
 IsSpelledBy events None line = IsQuiet line
 IsSpelledBy events (Some h) line = Spells line h.event × (h.now ≡ events + 1)

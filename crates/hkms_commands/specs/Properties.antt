@@ -7,7 +7,7 @@ use Rattle.prop_text.specs.declared.props.Props.{Props}
 use Rattle.hkms_commands.specs.declared.props.PropsFault.{PropsFault}
 use Rattle.hkms_commands.specs.declared.props.PropsFault.TheVariants.{ReadFault, TextFault}
 
--- A text was read from what a source had left: all of it, or a front that is too long already.
+-- A text was read from what a source had left: all of it, or a prefix that is already too long.
 pub record ReadsText (left left' : Option (List ℕ)) (text : List ℕ) : Type 0 where
   pub front : (all : List ℕ) → left ≡ Some all → (rest : List ℕ) × (all ≡ text ++ rest)
   pub consumed : length text ≤ longest_text → Consumes left left' text
@@ -22,7 +22,7 @@ pub record ReadsProperties (left left' : Option (List ℕ)) (lines : List PropLi
   pub is_props : IsProps text props
   pub lines_are : lines ≡ props.lines
 
--- why properties could not be read: the source failed, or its whole text has the fault, where the source tells it
+-- why properties could not be read: the source failed, or its whole text has the fault, if the source tells its text
 abbrev pub HasPropsFault : Option (List ℕ) → PropsFault → Type 0
 HasPropsFault left ReadFault = Unit {0}
 HasPropsFault left (TextFault fault) = (all : List ℕ) → left ≡ Some all → HasFault all fault

@@ -40,7 +40,7 @@ use Rattle.hkms_commands.specs.Run.{FilesOpen, Runs, StayApart, behind, drawn_in
 abbrev pub longest_input : ℕ
 longest_input = 2 ^ 40
 
--- the first byte past the longest input stands behind so many LF
+-- `lines` LF come before the first byte past the longest input
 pub record IsPast (all : List ℕ) (lines : ℕ) : Type 0 where
   pub long : longest_input < length all
   pub place : count_by is_lf (take longest_input all) ≡ lines
@@ -77,7 +77,7 @@ status_of ReadFault = 7
 status_of WriteFault = 8
 status_of Spent = 10
 
--- the last line, after so many lines
+-- the last line of the output, after a number of input lines
 abbrev pub last_line : ReplayEnd → ℕ → List ℕ
 last_line Done lines = []
 last_line (AclRefused number) lines = codes "acl line " ++ decimal number ++ codes " refused\n"
@@ -93,7 +93,7 @@ last_line ReadFault lines = codes "read fault\n"
 last_line WriteFault lines = []
 last_line Spent lines = codes "openings spent\n"
 
--- where the input stands at an end, after these lines
+-- the place of the input at an end, after these lines
 abbrev pub Stops : ReplayEnd → List ℕ → List (List ℕ) → Type 0
 Stops Done all lines = lines_of all ≡ lines
 Stops BadLine all lines = BadNext all lines
@@ -103,18 +103,18 @@ Stops StoreFault all lines = RestartNext all lines
 Stops Spent all lines = RestartNext all lines
 Stops _ all lines = Starts all lines
 
--- the text is a front of the other
+-- the text is a prefix of the other
 abbrev pub IsFront : List ℕ → List ℕ → Type 0
 IsFront text whole = (more : List ℕ) × (text ++ more ≡ whole)
 
--- What is written of a transcript at an end: all of it, but where memory was wanting for an answer or the output failed.
+-- What is written of a transcript at an end: all of it, or a prefix if there was no memory for an answer or the output failed.
 abbrev pub IsTold : ReplayEnd → List ℕ → List ℕ → Type 0
 IsTold NoMemory text told = IsFront text told
 IsTold WriteFault text told = IsFront text told
 IsTold _ text told = text ≡ told
 
--- The replay stopped for the one cause, after so many lines, and ended so. Behind what was told stands the last line of that
--- cause, or the one of want of memory, where there was none for it; or a front of this, and the output failed.
+-- The replay stopped for the one cause, after `lines` lines, and ended with the other. The answers are followed by the last line of
+-- that cause, or by the one for lack of memory, if there was none for it; or by a prefix of this, and the output failed.
 pub record Says (stop how : ReplayEnd) (lines : ℕ) (told text : List ℕ) : Type 0 where
   pub body : List ℕ
   pub is_told : IsTold stop body told
@@ -122,7 +122,7 @@ pub record Says (stop how : ReplayEnd) (lines : ℕ) (told text : List ℕ) : Ty
   pub last_is : (last ≡ stop) ⊎ (last ≡ NoMemory)
   pub closes : ((how ≡ last) × (text ≡ body ++ last_line last lines)) ⊎ ((how ≡ WriteFault) × IsFront text (body ++ last_line last lines))
 
--- how a replay ends where the text has a fault
+-- how a replay ends if the text has a fault
 abbrev pub ended_by_text : PropFault → ReplayEnd
 ended_by_text (prop_fault.BadLine number) = AclRefused number
 ended_by_text (prop_fault.Repeated number) = AclRepeated number
@@ -130,7 +130,7 @@ ended_by_text (prop_fault.UnknownName number) = AclUnknown number
 ended_by_text prop_fault.TooLong = AclTooLong
 ended_by_text prop_fault.NoMemory = NoMemory
 
--- how a replay ends where the properties could not be read
+-- how a replay ends if the properties could not be read
 abbrev pub ended_by_props : PropsFault → ReplayEnd
 ended_by_props props_fault.ReadFault = ReadFault
 ended_by_props (props_fault.TextFault fault) = ended_by_text fault
@@ -157,7 +157,7 @@ abbrev pub damaged_in : ℕ → ℕ → ReplayEnd
 damaged_in zero at = DamagedKeys at
 damaged_in (suc n) at = DamagedNames at
 
--- how a replay ends where the log of a file could not be opened
+-- how a replay ends if the log of a file could not be opened
 abbrev pub ended_by : ℕ → StartFault → ReplayEnd
 ended_by file (start.Damaged at) = damaged_in file at
 ended_by file start.StoreFault = StoreFault
@@ -191,7 +191,7 @@ pub record Unopened (same : Type 0) (old new : DiskState) (written now : Option 
   pub wrote : Appends written now text
   pub says : Says (ended_by file fault) how 0 [] text
 
--- after these lines of the input, where it is told, comes one that spells this event
+-- if the source tells the input, a line that spells this event comes after these lines
 abbrev pub ComesNext : Option (List ℕ) → List (List ℕ) → Event → Type 0
 ComesNext left lines e = (all : List ℕ) → left ≡ Some all → NextSpells all lines e
 
@@ -228,7 +228,7 @@ NamesSpent w = (kept : Bool) × ((settled_names kept w.names).table.opening ≡ 
 abbrev pub IsSpent : Option (List ℕ) → List (List ℕ) → WorldState → Type 0
 IsSpent left lines w = (KeysSpent w × ComesNext left lines RestartKms) ⊎ (NamesSpent w × ComesNext left lines RestartName)
 
--- why a restart behind these lines of the input could not open its log, where the disk tells what it holds: it is never damaged, and
+-- why a restart after these lines of the input could not open its log, if the disk tells its content: it is never damaged, and
 -- spent only with the last opening of that log
 abbrev pub RestartStops : ReplayEnd → Option (List ℕ) → List (List ℕ) → WorldState → Type 0
 RestartStops (DamagedKeys at) left lines w = ⊥
@@ -270,8 +270,8 @@ pub record PlaysOn (lines : List PropLine) (old new : DiskState) (words words' :
   pub wrote : Appends written now text
   pub says : Says stop how (length (lines_in played_lines)) (transcript (events_of_lines played_lines)) text
 
--- Under properties of these lines, a replay of what was left of an input, with these words to come, wrote behind the old output
--- and ended so; `words'` are to come now. `same` says that input and random source are as they were.
+-- Under properties of these lines, a replay of what was left of an input, with these words to come, wrote after the old output,
+-- and this is how it ended; `words'` are to come now. `same` says that input and random source are unchanged.
 abbrev pub ReplayUnder : List PropLine → Type 0 → DiskState → DiskState → (ℕ → ℕ) → (ℕ → ℕ) → Option (List ℕ) → Option (List ℕ) → Option (List ℕ) → ReplayEnd → Type 0
 ReplayUnder lines same old new words words' left written now how = Unopened same old new written now how ⊎ PlaysOn lines old new words words' left written now how
 
@@ -281,8 +281,8 @@ pub record HasRead (same : Type 0) (old new : DiskState) (acls acls' : Option (L
   pub read : ReadsProperties acls acls' lines
   pub replay : ReplayUnder lines same old new words words' left written now how
 
--- A replay read the properties first, and replayed the input under their lines; or it ended where they could not be read.
--- `same_disk` says that the disk is as it was, and `same` that input and random source are.
+-- A replay read the properties first, and replayed the input under their lines; or it ended since they could not be read.
+-- `same_disk` says that the disk is unchanged, and `same` that input and random source are.
 abbrev pub Replay : Type 0 → Type 0 → DiskState → DiskState → Option (List ℕ) → Option (List ℕ) → (ℕ → ℕ) → (ℕ → ℕ) → Option (List ℕ) → Option (List ℕ) → Option (List ℕ) → ReplayEnd → Type 0
 Replay same_disk same old new acls acls' words words' left written now how =
     BadProperties (same_disk × same) acls written now how ⊎ HasRead same old new acls acls' words words' left written now how

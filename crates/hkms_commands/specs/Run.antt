@@ -13,7 +13,7 @@ use Rattle.world_run.specs.Linked.{DrawsApart, LinkedWorld}
 use Rattle.world_run.specs.Own.{SurvivesAtRest, SurvivesEvent}
 use Rattle.world_run.specs.Promise.{ZoneFilesOpen}
 
--- the words behind the first n
+-- the words after the first n
 abbrev pub behind : ℕ → (ℕ → ℕ) → ℕ → ℕ
 behind n words k = words (n + k)
 
@@ -59,7 +59,7 @@ hidden_in before first words (h ∷ earlier) =
     hidden_after (world_after first earlier) (behind (drawn_in earlier) words) h.event h.reply h.drawn h.world (hidden_in before first words earlier)
 
 -- Under properties of these lines, an event happens in this world, with these words to come and this count of faults. A store fault
--- comes only where the disk's count of faults rose in the event.
+-- comes only if the disk's count of faults rose in the event.
 pub record EventRuns (lines : List PropLine) (tells : Type 0) (w : WorldState) (words : ℕ → ℕ) (before : ℕ) (h : Happened) : Type 0 where
   pub later : before ≤ h.faults
   pub step : LinkedStep lines w words h.now h.event (Rose before h.faults) tells h.reply h.drawn h.logged h.world

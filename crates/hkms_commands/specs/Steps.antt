@@ -37,7 +37,7 @@ HasLists r lines = ListsFor r.keys.acls lines
 abbrev pub SameLists : RunningWorld → RunningWorld → Type 0
 SameLists r r' = r'.keys.acls ≡ r.keys.acls
 
--- where a replay stands between two lines
+-- the state of a replay between two lines
 pub record View : Type 0 where
   pub world : RunningWorld
   pub words : ℕ → ℕ
@@ -102,7 +102,7 @@ counts Untold = 1
 counts Unwritten = 1
 counts (Unopened fault) = 0
 
--- where a replay stands, with what is ahead, how many bytes were used, and how many lines were played
+-- the state of a replay with the rest of its input, the number of bytes used, and the number of lines played
 pub record Stand : Type 0 where
   pub view : View
   pub ahead : Option (List ℕ)
@@ -131,7 +131,7 @@ pub record StopsReading (old new : DiskState) (v v' : View) (count count' : ℕ)
   pub counted : count' ≡ count
   pub result_is : result ≡ Some how
 
--- the next line was read, and played where there was one
+-- the next line was read, and played if there was one
 abbrev pub NextSo : List PropLine → DiskState → DiskState → Stand → LineEnd → List ℕ → Option ReplayEnd → Stand → Type 0
 NextSo lines old new s line_end.Line line result s' = LinePlayed lines old new s.view line false result s'.view s.count s'.count
 NextSo lines old new s line_end.End line result s' = LinePlayed lines old new s.view line true result s'.view s.count s'.count
@@ -146,7 +146,7 @@ pub record Next (lines : List PropLine) (old new : DiskState) (s : Stand) (resul
   pub read : Read s how line s'
   pub next : NextSo lines old new s how line result s'
 
--- the answer of an event was written, or there was no memory for it, or a front of it was written and the output failed
+-- the answer of an event was written, or there was no memory for it, or a prefix of it was written and the output failed
 abbrev pub TellsSo : ℕ → Line → Option (List ℕ) → Option (List ℕ) → LineOutcome → Type 0
 TellsSo number told written now Played = Appends written now (line_text number told)
 TellsSo number told written now Untold = Appends written now []
@@ -155,7 +155,7 @@ TellsSo number told written now BadLine = ⊥
 TellsSo number told written now Unread = ⊥
 TellsSo number told written now (Unopened fault) = ⊥
 
--- Faults come only where the count of the object rose in the call: that of the input, of the output, of the disk.
+-- Faults come only if the count of the object rose in the call: that of the input, of the output, of the disk.
 pub record Caused (input input' out out' disk disk' : ℕ) (how : Option ReplayEnd) : Type 0 where
   pub read_later : input ≤ input'
   pub write_later : out ≤ out'
@@ -164,13 +164,13 @@ pub record Caused (input input' out out' disk disk' : ℕ) (how : Option ReplayE
   pub write : how ≡ Some ended.WriteFault → Rose out out'
   pub store : how ≡ Some ended.StoreFault → Rose disk disk'
 
--- the last line of a cause, or a front of it and the output failed; where there was no memory for it, the line that says so
+-- the last line of a cause, or a prefix of it and the output failed; if there was no memory for it, the line that says so
 pub record Closes (stop : ReplayEnd) (lines : ℕ) (written now : Option (List ℕ)) (how : ReplayEnd) : Type 0 where
   pub last : ReplayEnd
   pub last_is : (last ≡ stop) ⊎ (last ≡ ended.NoMemory)
   pub writes : ((how ≡ last) × Appends written now (last_line last lines)) ⊎ ((how ≡ ended.WriteFault) × WroteFront written now (last_line last lines))
 
--- a last line was written, or a front of it and the output failed
+-- a last line was written, or a prefix of it and the output failed
 abbrev pub WritesLast : Option (List ℕ) → Option (List ℕ) → List ℕ → ReplayEnd → ReplayEnd → Type 0
 WritesLast written now last end how = ((how ≡ end) × Appends written now last) ⊎ ((how ≡ ended.WriteFault) × WroteFront written now last)
 
@@ -201,7 +201,7 @@ pub record Ran (lines : List PropLine) (old new : DiskState) (r : RunningWorld) 
   pub told : IsTold stop text (transcript (events_of_lines played))
   pub counted : count ≡ length (lines_in played)
 
--- Lines were played, until one of them ended the replay, and its last line was written behind them.
+-- Lines were played, until one of them ended the replay, and its last line was written after their answers.
 pub record RanToEnd (lines : List PropLine) (old new : DiskState) (r : RunningWorld) (words words' : ℕ → ℕ) (left written now : Option (List ℕ)) (how : ReplayEnd) : Type 0 where
   pub body : Option (List ℕ)
   pub stop : ReplayEnd
