@@ -3,7 +3,7 @@ use hk_base::{ByteList, KeyName, Text};
 use kms_calls::{KmsCall, KmsReply};
 use name_calls::{AskNote, NameRefusal, NameReply};
 
-/// An event: one call of one service. A path is given by its bytes. Kept asks and kept replies are
+/// An event: one call of one service. A path and the name of a snapshot are given by their bytes. Kept asks and kept replies are
 /// numbered from 1, each kind by itself, and stay: each may be used late, again or never.
 #[derive(Drop)]
 pub enum Event {
@@ -27,15 +27,37 @@ pub enum Event {
         path: ByteList,
         recursive: bool,
     },
-    /// Asks for the entry at a path of the namesystem.
+    /// Asks for the entry at a path of the namesystem, or at a path in a snapshot.
     Info {
         user: Text,
         path: ByteList,
     },
-    /// Asks for the entries of a directory of the namesystem.
+    /// Asks for the entries of a directory of the namesystem, or of a directory in a snapshot.
     List {
         user: Text,
         path: ByteList,
+    },
+    /// Allows snapshots of a directory of the namesystem.
+    Allow {
+        user: Text,
+        path: ByteList,
+    },
+    /// Disallows snapshots of a directory of the namesystem that has none.
+    Disallow {
+        user: Text,
+        path: ByteList,
+    },
+    /// Takes a snapshot of a directory of the namesystem under a name.
+    Snap {
+        user: Text,
+        path: ByteList,
+        name: ByteList,
+    },
+    /// Removes the snapshot of a directory of the namesystem with a name.
+    Unsnap {
+        user: Text,
+        path: ByteList,
+        name: ByteList,
     },
     /// Asks for the encryption zones.
     Zones {

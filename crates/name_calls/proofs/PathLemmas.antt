@@ -53,18 +53,16 @@ path-text-parts bs = let w = first-part bs in ap path_text w.1 ∙ ap names_text
 lt-le : (a b : ℕ) → nat_lt a b ≡ nat_le (a + 1) b
 lt-le a b = grind (arith, nat_tests)
 
-regroup : (a b c d : Bool) → (a && b && c && d) ≡ (a && (b && c) && d)
-regroup true true c d = refl
-regroup true false c d = refl
-regroup false b c d = refl
+and-assoc : (a b c : Bool) → (a && b && c) ≡ (a && (b && c))
+and-assoc true b c = refl
+and-assoc false b c = refl
 
--- the rule of absolute paths, tested on the bytes after the first slash
-pub tested-parts : (bs : List ℕ) → (list_all is_component (parts_of bs) && nat_lt (length bs) 8000 && nat_lt (count_by is_slash bs) 100 && not (bytes_eq (before_first is_slash bs) (codes ".reserved"))) ≡ is_absolute (parts_of bs)
+-- the rule of relative paths, tested on names with slashes between
+pub tested-parts : (bs : List ℕ) → (list_all is_component (parts_of bs) && nat_lt (length bs) 8000 && nat_lt (count_by is_slash bs) 100) ≡ is_relative (parts_of bs)
 tested-parts bs =
-    regroup (list_all is_component (parts_of bs)) (nat_lt (length bs) 8000) (nat_lt (count_by is_slash bs) 100) (not (bytes_eq (before_first is_slash bs) (codes ".reserved")))
-    ∙ ap (λ (u : Bool). list_all is_component (parts_of bs) && (u && nat_lt (count_by is_slash bs) 100) && not (bytes_eq (before_first is_slash bs) (codes ".reserved"))) bytes
-    ∙ ap (λ (u : Bool). list_all is_component (parts_of bs) && (nat_le (length (path_text (parts_of bs))) 8000 && u) && not (bytes_eq (before_first is_slash bs) (codes ".reserved"))) names
-    ∙ ap (λ (u : Bool). is_relative (parts_of bs) && not u) (sym (reserved-part bs))
+    ap (λ (u : Bool). list_all is_component (parts_of bs) && u && nat_lt (count_by is_slash bs) 100) bytes
+    ∙ ap (λ (u : Bool). list_all is_component (parts_of bs) && nat_le (length (path_text (parts_of bs))) 8000 && u) names
+    ∙ and-assoc (list_all is_component (parts_of bs)) (nat_le (length (path_text (parts_of bs))) 8000) (nat_le (length (parts_of bs)) 100)
   where
     bytes : nat_lt (length bs) 8000 ≡ nat_le (length (path_text (parts_of bs))) 8000
     bytes = let e : length (path_text (parts_of bs)) ≡ length bs + 1 = ap length (path-text-parts bs) ∙ omega arith in lt-le (length bs) 8000 ∙ ap (λ (n : ℕ). nat_le n 8000) (sym e)

@@ -4,8 +4,9 @@ ghost use Rattle.name_calls.specs.Answers.{answer_of};
 
 use crate::listing::ChildList;
 use crate::paths::NPath;
+use crate::read_paths::ReadPath;
 use crate::zone_list::ZoneList;
-use hk_base::{Edek, KeyName};
+use hk_base::{Edek, KeyName, Text};
 use kms_calls::{KmsRefusal, KmsReply};
 
 /// A call of the namesystem. Its paths are absolute.
@@ -16,10 +17,20 @@ pub enum NameCall {
     /// Deletes the entry at a path. A directory that is not empty is deleted only if `recursive` is
     /// set (`rm` and `rm -r` of the HDFS shell, without the trash).
     Delete { path: NPath, recursive: bool },
-    /// Asks for the entry at a path.
-    Info { path: NPath },
-    /// Asks for the entries of a directory.
-    List { path: NPath },
+    /// Asks for the entry at a path, or at a path in a snapshot.
+    Info { path: ReadPath },
+    /// Asks for the entries of a directory, or of a directory in a snapshot.
+    List { path: ReadPath },
+    /// Allows snapshots of a directory (`hdfs dfsadmin -allowSnapshot`). Only the superuser `hdfs`
+    /// may.
+    Allow { path: NPath },
+    /// Disallows snapshots of a directory that has none (`hdfs dfsadmin -disallowSnapshot`). Only
+    /// the superuser `hdfs` may.
+    Disallow { path: NPath },
+    /// Takes a snapshot of a directory under a name (`hdfs dfs -createSnapshot`).
+    Snap { path: NPath, name: Text },
+    /// Removes the snapshot of a directory with a name (`hdfs dfs -deleteSnapshot`).
+    Unsnap { path: NPath, name: Text },
     /// Asks for the encryption zones (`hdfs crypto -listZones`). Only the superuser `hdfs` may.
     Zones,
 }
@@ -27,8 +38,9 @@ pub enum NameCall {
 /// Why a call is refused.
 #[derive(Clone, Copy, Debug, PartialEq, Eq)]
 pub enum NameRefusal {
-    /// The bytes given as a path break the rule of paths. A call on a path that was read is refused
-    /// like this only if the first name of the path is `.reserved`.
+    /// The bytes given as a path break the rule of paths, or a name of a snapshot can't be a name.
+    /// A call on a path that was read is refused like this only if the first name of the path is
+    /// `.reserved`.
     BadPath,
     /// There is no entry at the path, or no parent for the path that is to be made.
     NoSuchPath,
@@ -38,10 +50,21 @@ pub enum NameRefusal {
     NotADirectory,
     /// A directory that is to become a zone, or is to be deleted alone, is not empty.
     NotEmpty,
-    /// Only the user `hdfs` makes zones and asks for them.
+    /// Only the user `hdfs` makes zones and asks for them, and allows and disallows snapshots.
     NotSuperuser,
     /// A directory that is to become a zone is one already, or lies in one.
     AlreadyInZone,
+    /// There is a snapshot of the directory, or of one below it. It is neither deleted, nor are
+    /// snapshots of it disallowed.
+    HasSnapshots,
+    /// Snapshots of the directory are not allowed.
+    NotSnapshottable,
+    /// The directory has a snapshot of that name.
+    SnapshotExists,
+    /// The directory has no snapshot of that name.
+    NoSuchSnapshot,
+    /// The directory has 65,536 snapshots.
+    TooManySnapshots,
     /// No ask with the id is open: it was finished, or a restart dropped it. `opening` and `next`
     /// are the number of the opening and the counter of its next id.
     AskGone { opening: u32, next: u64 },
@@ -58,6 +81,9 @@ pub enum NameRefusal {
     /// pending: the disk may or may not hold the record, and the next call that changes something
     /// settles it first.
     StoreFault,
+    /// Snapshots are allowed of a directory above or below, and such directories don't lie in one
+    /// another.
+    NestedSnapshottable,
     /// The root cannot be deleted.
     RootOrInside,
 }
@@ -101,9 +127,9 @@ pub struct Answered {
     pub reply: Option<KmsReply>,
 }
 
-/// The reply to a call: Refused if the call is refused, else Done to Mkdir and Delete, Dir or File
-/// to Info, and List and Zones to calls of those names. `zone` is the path of the encryption zone
-/// that the path lies in, or `None`.
+/// The reply to a call: Refused if the call is refused, else Dir or File to Info, List and Zones to
+/// calls of those names, and Done to the others. `zone` is the path of the encryption zone that the
+/// path lies in, or `None`; in a snapshot it is the zone that the path lay in.
 #[derive(Drop)]
 pub enum NameReply {
     Done,

@@ -2,7 +2,7 @@
 ghost use Rattle.std.specs.Prelude.{◌≡◌, ◌<◌, ◌≤◌, ◌++◌, ◌∷◌, ◌↔◌, ◌==◌, ◌&&◌, ◌||◌, [], nat_lt, not, None, Some, Err, length, drop, take, slice_index_or, is_some, true, map, count_by, position, codes, IsTrue, IfOk, OnOk, OnErr};
 ghost use Rattle.std.specs.List.{before_first, list_all, slice_split};
 ghost use Rattle.std.specs.Str.{bytes_eq, is_utf8};
-ghost use Rattle.name_calls.specs.Paths.{is_component, is_plain_byte, is_relative, path_text, read_path};
+ghost use Rattle.name_calls.specs.Paths.{is_absolute, is_component, is_plain_byte, is_relative, path_text, read_path, starts_reserved};
 
 use hk_base::{ByteList, NoMemory, Text};
 use std::alloc::{AllocError, Global};
@@ -68,13 +68,15 @@ fn is_special(name: &[u8]) -> bool
     name == b".".as_slice() || name == b"..".as_slice() || name == b".snapshot".as_slice()
 }
 
-fn can_be_a_name(name: &[u8]) -> bool
-    ensures { result ≡ is_component name.now }
+/// Returns whether the bytes can be a name of a path: 1 to 255 bytes of UTF-8, without `/`, `:` or
+/// byte 0, and not `.`, `..` or `.snapshot`.
+pub fn is_component(bytes: &[u8]) -> bool
+    ensures { result ≡ is_component bytes.now }
 {
-    let len = name.len();
-    let text = is_text(name);
-    let plain = is_plain(name);
-    let special = is_special(name);
+    let len = bytes.len();
+    let text = is_text(bytes);
+    let plain = is_plain(bytes);
+    let special = is_special(bytes);
     1 <= len && len <= LONGEST_NAME && text && plain && !special
 }
 
@@ -84,7 +86,7 @@ fn each_can_be_a_name(bytes: &[u8]) -> bool
 {
     bytes
         .split(|byte| *byte == b'/')
-        .all(|name| can_be_a_name(name))
+        .all(|name| is_component(name))
 }
 
 /// Splits bytes at their slashes.
@@ -107,7 +109,7 @@ fn first_slash(bytes: &[u8]) -> Option<usize>
 }
 
 /// Returns the bytes before the first slash, or all if there is none.
-fn first_part(bytes: &[u8]) -> &[u8]
+pub(crate) fn first_part(bytes: &[u8]) -> &[u8]
     ensures { result.now ≡ before_first (λ b. b == 47) bytes.now }
 {
     match first_slash(bytes) {
@@ -116,19 +118,41 @@ fn first_part(bytes: &[u8]) -> &[u8]
     }
 }
 
-/// Whether the bytes are names with slashes between, within the rule.
-fn are_names(bytes: &[u8]) -> bool
-    ensures { result ≡ (list_all is_component (slice_split (λ b. b == 47) bytes.now) && nat_lt (length bytes.now) 8000 && nat_lt (count_by (λ b. b == 47) bytes.now) 100 && not (bytes_eq (before_first (λ b. b == 47) bytes.now) (codes ".reserved"))) }
+/// Whether each part between slashes can be a name, and the bytes and the parts are not too many.
+fn are_few_names(bytes: &[u8]) -> bool
+    ensures { result ≡ (list_all is_component (slice_split (λ b. b == 47) bytes.now) && nat_lt (length bytes.now) 8000 && nat_lt (count_by (λ b. b == 47) bytes.now) 100) }
 {
     let each = each_can_be_a_name(bytes);
     let short = bytes.len() < MOST_BYTES;
     let few = slashes(bytes) < MOST_NAMES;
-    let reserved = first_part(bytes) == b".reserved".as_slice();
-    each && short && few && !reserved
+    each && short && few
+}
+
+/// Whether the bytes are the names of a path, with slashes between.
+pub(crate) fn are_names(bytes: &[u8]) -> bool
+    ensures { result ≡ is_relative (slice_split (λ b. b == 47) bytes.now) }
+{
+    are_few_names(bytes)
+}
+
+/// Whether the first name is `.reserved`.
+fn is_reserved(bytes: &[u8]) -> bool
+    ensures { result ≡ starts_reserved (slice_split (λ b. b == 47) bytes.now) }
+{
+    first_part(bytes) == b".reserved".as_slice()
+}
+
+/// Whether the bytes are the names of a path from the root, with slashes between.
+fn are_names_from_root(bytes: &[u8]) -> bool
+    ensures { result ≡ is_absolute (slice_split (λ b. b == 47) bytes.now) }
+{
+    let relative = are_names(bytes);
+    let reserved = is_reserved(bytes);
+    relative && !reserved
 }
 
 /// Returns all but the first byte.
-fn after_first_byte(bytes: &[u8]) -> &[u8]
+pub(crate) fn after_first_byte(bytes: &[u8]) -> &[u8]
     requires { 1 ≤ length bytes.now }
     ensures { result.now ≡ drop 1 bytes.now }
 {
@@ -136,7 +160,7 @@ fn after_first_byte(bytes: &[u8]) -> &[u8]
 }
 
 /// Whether the bytes are the text form of a path.
-fn is_path(bytes: &[u8]) -> bool
+pub(crate) fn is_path(bytes: &[u8]) -> bool
     ensures { result ≡ is_some (read_path bytes.now) }
 {
     if bytes.len() == 0 || bytes[0] != b'/' {
@@ -145,10 +169,10 @@ fn is_path(bytes: &[u8]) -> bool
     if bytes.len() == 1 {
         return true;
     }
-    are_names(after_first_byte(bytes))
+    are_names_from_root(after_first_byte(bytes))
 }
 
-fn text_of(alloc: Global, name: &[u8]) -> Result<Text, NoMemory>
+pub(crate) fn text_of(alloc: Global, name: &[u8]) -> Result<Text, NoMemory>
     requires { is_component name.now ≡ true }
     ensures { IfOk result (λ text. text ≡ name.now) }
 {
@@ -170,7 +194,7 @@ fn texts_of(alloc: Global, names: &[&[u8]]) -> Result<Vec<Text>, NoMemory>
 }
 
 /// Reads the names between slashes.
-fn names_of(alloc: Global, bytes: &[u8]) -> Result<Vec<Text>, NoMemory>
+pub(crate) fn names_of(alloc: Global, bytes: &[u8]) -> Result<Vec<Text>, NoMemory>
     requires { list_all is_component (slice_split (λ b. b == 47) bytes.now) ≡ true }
     ensures { IfOk result (λ names. names.items ≡ slice_split (λ b. b == 47) bytes.now) }
 {
@@ -215,6 +239,14 @@ impl NPath {
             Ok(names) => Ok(NPath { names }),
             Err(_) => Err(PathFault::NoMemory),
         }
+    }
+
+    /// Makes the path of these names.
+    pub(crate) fn of_names(names: Vec<Text>) -> NPath
+        requires { is_relative names.items ≡ true }
+        ensures { result ≡ names.items }
+    {
+        NPath { names }
     }
 
     /// Returns the number of names.
