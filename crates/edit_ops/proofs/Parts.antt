@@ -6,7 +6,7 @@ use Rattle.std.proofs.lemmas.List.{append-nil, nil_from_length}
 use Rattle.std.proofs.lemmas.Option.{cond_some, same_Some}
 use Rattle.key_rows.specs.Records.{name_field, text_field}
 use Rattle.key_rows.specs.Reading.{◌>>=◌, number_at, bytes_at, short_at, long_at}
-use Rattle.key_rows.proofs.Fields.{IsBytes, IsBytes-rest, IsWide, Takes, bind_some, bind_is, number_takes, number_again, bytes_take, bytes_again, short_takes, short_again, long_takes, long_again}
+use Rattle.key_rows.proofs.FieldLemmas.{IsBytes, IsBytes-rest, IsWide, Takes, bind_some, bind_is, number_takes, number_again, bytes_take, bytes_again, short_takes, short_again, long_takes, long_again}
 use Rattle.edit_ops.specs.Records.{opt_field, IsOpt}
 use Rattle.edit_ops.specs.Reading.{Front, Whole, front_of, last, then_of, as_of, opt_of}
 

@@ -44,12 +44,20 @@ name_before rest cs is (b ∷ c) h =
     let g = and-parts (is_plain_byte b) (list_all is_plain_byte c) h in
     ap (λ (t : Bool). cond t ([] ∷ parts_of (c ++ rest)) (onto_first b (parts_of (c ++ rest)))) (plain_no_slash b g.0) ∙ ap (onto_first b) (name_before rest cs is c g.1)
 
+le_from : (a b : ℕ) → nat_le a b ≡ true → a ≤ b
+le_from a b h = grind (arith, nat_tests)
+
 component_plain : (c : List ℕ) → is_component c ≡ true → list_all is_plain_byte c ≡ true
 component_plain c h = let a = (and-parts _ _ h).0 in let b = (and-parts _ _ a).0 in let d = (and-parts _ _ b).0 in (and-parts _ _ d).1
 
 component_some : (c : List ℕ) → is_component c ≡ true → nat_le 1 (length c) ≡ true
 component_some c h =
     let a = (and-parts _ _ h).0 in let b = (and-parts _ _ a).0 in let d = (and-parts _ _ b).0 in let e = (and-parts _ _ d).0 in let f = (and-parts _ _ e).0 in (and-parts _ _ f).0
+
+pub component_length : (c : List ℕ) → is_component c ≡ true → length c ≤ 255
+component_length c h =
+    let a = (and-parts _ _ h).0 in let b = (and-parts _ _ a).0 in let d = (and-parts _ _ b).0 in let e = (and-parts _ _ d).0 in let f = (and-parts _ _ e).0 in
+    le_from (length c) 255 (and-parts _ _ f).1
 
 -- the text of names is split into an empty part and the names
 parts_again : (cs : List (List ℕ)) → list_all is_component cs ≡ true → parts_of (names_text cs) ≡ [] ∷ cs
@@ -72,9 +80,6 @@ path_again ((b ∷ c) ∷ cs) h =
     let g = and-parts (is_component (b ∷ c)) (list_all is_component cs) l in
     ap absolute (name_before (names_text cs) cs (parts_again cs g.1) (b ∷ c) (component_plain (b ∷ c) g.0))
     ∙ if_true (is_absolute ((b ∷ c) ∷ cs)) (Some ((b ∷ c) ∷ cs)) None h
-
-le_from : (a b : ℕ) → nat_le a b ≡ true → a ≤ b
-le_from a b h = grind (arith, nat_tests)
 
 pub relative_length : (p : List (List ℕ)) → is_relative p ≡ true → length (path_text p) ≤ 8000
 relative_length p h =

@@ -9,17 +9,17 @@ use Rattle.std.proofs.lemmas.Option.{same_Some}
 use Rattle.hk_base.specs.Names.{Encrypted, IsKeyName, is_key_name, is_name_byte, is_key_length}
 use Rattle.hk_base.specs.declared.records.RecordFault.{RecordFault}
 use Rattle.hk_base.specs.declared.records.RecordFault.TheVariants.{NoRecord, NoMemory}
-use Rattle.name_calls.specs.Paths.{is_absolute, is_relative, path_text, read_path, starts_reserved}
+use Rattle.name_calls.specs.Paths.{is_absolute, is_component, is_relative, path_text, read_path, starts_reserved}
 use Rattle.name_calls.proofs.PathLemmas.{and-parts}
-use Rattle.key_rows.specs.Records.{name_field}
+use Rattle.key_rows.specs.Records.{name_field, text_field}
 use Rattle.key_rows.specs.Reading.{Gives, number_at}
-use Rattle.key_rows.proofs.Fields.{IsBytes, IsBytes-rest, bind_some, bind_is, wide16, wide32, wide64}
+use Rattle.key_rows.proofs.FieldLemmas.{IsBytes, IsBytes-rest, bind_some, bind_is, wide16, wide32, wide64}
 use Rattle.edit_ops.specs.declared.ops.EditOp.{EditOp}
-use Rattle.edit_ops.specs.declared.ops.EditOp.TheVariants.{Opened, Mkdir, File, Remove, Zone}
+use Rattle.edit_ops.specs.declared.ops.EditOp.TheVariants.{Opened, Mkdir, File, Remove, Zone, Allow, Disallow, Snap, Unsnap}
 use Rattle.edit_ops.specs.Laws.{longest_record}
 use Rattle.edit_ops.specs.Records.{path_field, edek_field, opt_field, spelling, fits, IsEdek, IsOpt, HasSpelling}
-use Rattle.edit_ops.specs.Reading.{Whole, last, then_of, as_of, name_at, path_at, iv_at, sealed_at, encrypted, edek_of, opt_edek_of, opened_of, mkdir_of, file_of, remove_of, zone_of, op_of}
-use Rattle.edit_ops.proofs.PathText.{path_takes, path_again, absolute_length}
+use Rattle.edit_ops.specs.Reading.{Whole, last, then_of, as_of, name_at, path_at, component_at, iv_at, sealed_at, path_and_name_of, encrypted, edek_of, opt_edek_of, opened_of, mkdir_of, file_of, remove_of, zone_of, allow_of, disallow_of, snap_of, unsnap_of, op_of}
+use Rattle.edit_ops.proofs.PathText.{path_takes, path_again, absolute_length, component_length}
 use Rattle.edit_ops.proofs.Parts.{IsFront, IsWhole, IsText, number_front, bytes_front, short_front, long_front, tested, front_whole, last_whole, then_whole, as_whole, opt_whole}
 
 abbrev IsAbsolute : List (List ℕ) → Type 0
@@ -33,6 +33,9 @@ unfolding path_at
 path_front =
     let read : IsText read_path path_text IsAbsolute = record { takes = path_takes; again = path_again } in
     front_whole long_front read (λ path is. let short = absolute_length path is in omega arith)
+
+component_front : IsFront component_at text_field (λ name. is_component name ≡ true)
+component_front = front_whole long_front (tested is_component) (λ name is. let short = component_length name is in omega arith)
 
 abbrev is_iv : List ℕ → Bool
 is_iv iv = length iv == 16
@@ -101,33 +104,65 @@ remove_is = record { parts = last_whole path_front; has = λ path is. is; spells
 zone_is : IsOp (then_of path_at (last name_at)) (λ x. path_field x.0 ++ name_field x.1) (λ x. IsAbsolute x.0 × IsKeyName x.1) 6 (λ x. Zone x.0 x.1)
 zone_is = record { parts = then_whole path_front (last_whole name_front); has = λ x is. is; spells = λ x. refl }
 
+allow_is : IsOp (last path_at) path_field IsAbsolute 7 Allow
+allow_is = record { parts = last_whole path_front; has = λ path is. is; spells = λ path. refl }
+
+disallow_is : IsOp (last path_at) path_field IsAbsolute 8 Disallow
+disallow_is = record { parts = last_whole path_front; has = λ path is. is; spells = λ path. refl }
+
+abbrev snapshot_text : List (List ℕ) × List ℕ → List ℕ
+snapshot_text x = path_field x.0 ++ text_field x.1
+
+abbrev IsSnapshot : List (List ℕ) × List ℕ → Type 0
+IsSnapshot x = IsAbsolute x.0 × (is_component x.1 ≡ true)
+
+path_and_name_whole : IsWhole path_and_name_of snapshot_text IsSnapshot
+unfolding path_and_name_of
+path_and_name_whole = then_whole path_front (last_whole component_front)
+
+snap_is : IsOp path_and_name_of snapshot_text IsSnapshot 9 (λ x. Snap x.0 x.1)
+snap_is = record { parts = path_and_name_whole; has = λ x is. is; spells = λ x. refl }
+
+unsnap_is : IsOp path_and_name_of snapshot_text IsSnapshot 10 (λ x. Unsnap x.0 x.1)
+unsnap_is = record { parts = path_and_name_whole; has = λ x is. is; spells = λ x. refl }
+
+-- a first byte that was compared with one more record's
+by_tag : {op : EditOp} {bytes : List ℕ} (tag n : ℕ) (this others : Option EditOp) → (this ≡ Some op → HasSpelling op × (n ∷ bytes ≡ spelling op))
+    → (others ≡ Some op → HasSpelling op × (tag ∷ bytes ≡ spelling op)) → cond (eqb tag n) this others ≡ Some op → HasSpelling op × (tag ∷ bytes ≡ spelling op)
+by_tag {op} {bytes} tag n this others held other e = go (eqb tag n) (eqb-true tag n) e
+  where
+    go : (b : Bool) → (b ≡ true → tag ≡ n) → cond b this others ≡ Some op → HasSpelling op × (tag ∷ bytes ≡ spelling op)
+    go true is e = subst (λ (k : ℕ). HasSpelling op × (k ∷ bytes ≡ spelling op)) (sym (is refl)) (held e)
+    go false is e = other e
+
 -- an operation read from bytes has a spelling, which is these bytes
 op_read : (bytes : List ℕ) (op : EditOp) → IsBytes bytes → op_of bytes ≡ Some op → HasSpelling op × (bytes ≡ spelling op)
-unfolding op_of opened_of mkdir_of file_of remove_of zone_of
+unfolding op_of opened_of mkdir_of file_of remove_of zone_of allow_of disallow_of snap_of unsnap_of
 op_read [] op fits e = absurd cc
 op_read (tag ∷ bytes) op fits e =
-    by_tag tag (eqb tag 1) (eqb tag 2) (eqb tag 3) (eqb tag 4) (eqb tag 6) (eqb-true tag 1) (eqb-true tag 2) (eqb-true tag 3) (eqb-true tag 4) (eqb-true tag 6) (IsBytes-rest tag bytes fits) e
-  where
-    tagged : (t n : ℕ) → t ≡ n → HasSpelling op × (n ∷ bytes ≡ spelling op) → HasSpelling op × (t ∷ bytes ≡ spelling op)
-    tagged t n is held = subst (λ (k : ℕ). HasSpelling op × (k ∷ bytes ≡ spelling op)) (sym is) held
-
-    by_tag : (t : ℕ) (a b c d f : Bool) → (a ≡ true → t ≡ 1) → (b ≡ true → t ≡ 2) → (c ≡ true → t ≡ 3) → (d ≡ true → t ≡ 4) → (f ≡ true → t ≡ 6) → IsBytes bytes
-        → cond a (opened_of bytes) (cond b (mkdir_of bytes) (cond c (file_of bytes) (cond d (remove_of bytes) (cond f (zone_of bytes) None)))) ≡ Some op → HasSpelling op × (t ∷ bytes ≡ spelling op)
-    by_tag t true b c d f one two three four six rest e = tagged t 1 (one refl) (op_takes opened_is bytes op rest e)
-    by_tag t false true c d f one two three four six rest e = tagged t 2 (two refl) (op_takes mkdir_is bytes op rest e)
-    by_tag t false false true d f one two three four six rest e = tagged t 3 (three refl) (op_takes file_is bytes op rest e)
-    by_tag t false false false true f one two three four six rest e = tagged t 4 (four refl) (op_takes remove_is bytes op rest e)
-    by_tag t false false false false true one two three four six rest e = tagged t 6 (six refl) (op_takes zone_is bytes op rest e)
-    by_tag t false false false false false one two three four six rest e = absurd cc
+    let rest = IsBytes-rest tag bytes fits in
+    by_tag tag 1 _ _ (op_takes opened_is bytes op rest)
+    (by_tag tag 2 _ _ (op_takes mkdir_is bytes op rest)
+    (by_tag tag 3 _ _ (op_takes file_is bytes op rest)
+    (by_tag tag 4 _ _ (op_takes remove_is bytes op rest)
+    (by_tag tag 6 _ _ (op_takes zone_is bytes op rest)
+    (by_tag tag 7 _ _ (op_takes allow_is bytes op rest)
+    (by_tag tag 8 _ _ (op_takes disallow_is bytes op rest)
+    (by_tag tag 9 _ _ (op_takes snap_is bytes op rest)
+    (by_tag tag 10 _ None (op_takes unsnap_is bytes op rest) (λ none. absurd cc))))))))) e
 
 -- each spelling is read back as its operation
 spelling_read : (op : EditOp) → HasSpelling op → op_of (spelling op) ≡ Some op
-unfolding op_of opened_of mkdir_of file_of remove_of zone_of
+unfolding op_of opened_of mkdir_of file_of remove_of zone_of allow_of disallow_of snap_of unsnap_of
 spelling_read (Opened opening) has = op_again opened_is opening has
 spelling_read (Mkdir id path) has = op_again mkdir_is (id, path) has
 spelling_read (File id path edek) has = op_again file_is (id, (path, edek)) (has.0, (has.1, has.2))
 spelling_read (Remove path) has = op_again remove_is path has
 spelling_read (Zone path key) has = op_again zone_is (path, key) has
+spelling_read (Allow path) has = op_again allow_is path has
+spelling_read (Disallow path) has = op_again disallow_is path has
+spelling_read (Snap path name) has = op_again snap_is (path, name) has
+spelling_read (Unsnap path name) has = op_again unsnap_is (path, name) has
 
 -- two operations with the same spelling are the same
 pub one_spelling : (a b : EditOp) → HasSpelling a → HasSpelling b → spelling a ≡ spelling b → a ≡ b
@@ -147,6 +182,9 @@ was_none bytes (Err NoMemory) given e other has same = absurd cc
 not_reserved : (path : List (List ℕ)) → is_absolute path ≡ true → not (starts_reserved path) ≡ true
 not_reserved path is = (and-parts (is_relative path) (not (starts_reserved path)) is).1
 
+both_true : (a b : Bool) → a ≡ true → b ≡ true → (a && b) ≡ true
+both_true a b x y = ap (λ (t : Bool). t && b) x ∙ y
+
 -- an operation that has a spelling fits
 pub spelled_fits : (op : EditOp) → HasSpelling op → fits op ≡ true
 spelled_fits (Opened opening) has = refl
@@ -154,6 +192,10 @@ spelled_fits (Mkdir id path) has = not_reserved path has.1
 spelled_fits (File id path edek) has = not_reserved path has.1
 spelled_fits (Remove path) has = not_reserved path has
 spelled_fits (Zone path key) has = not_reserved path has.0
+spelled_fits (Allow path) has = not_reserved path has
+spelled_fits (Disallow path) has = not_reserved path has
+spelled_fits (Snap path name) has = both_true (not (starts_reserved path)) (is_component name) (not_reserved path has.0) has.1
+spelled_fits (Unsnap path name) has = both_true (not (starts_reserved path)) (is_component name) (not_reserved path has.0) has.1
 
 -- the length of records
 
@@ -180,6 +222,10 @@ opt_length : (edek : Option Encrypted) → IsOpt IsEdek edek → length (opt_fie
 opt_length None is = omega arith
 opt_length (Some edek) is = let l = edek_length edek is in omega arith
 
+snapshot_length : (path : List (List ℕ)) (name : List ℕ) → is_absolute path ≡ true → is_component name ≡ true → length (path_field path ++ text_field name) ≤ 8259
+snapshot_length path name is may =
+    omega (arith, path_length path is, component_length name may, length-append (path_field path) (text_field name), length-append (to_be_bytes w16 (length name)) name)
+
 pub records_are_short : (op : EditOp) → HasSpelling op → (1 ≤ length (spelling op)) × (length (spelling op) ≤ longest_record)
 records_are_short (Opened opening) has = (omega arith, omega arith)
 records_are_short (Mkdir id path) has =
@@ -195,3 +241,7 @@ records_are_short (Zone path key) has =
     let l = path_length path has.0 in
     let m = name_length key has.1 in
     let e = length-append (path_field path) (name_field key) in (omega arith, omega arith)
+records_are_short (Allow path) has = let l = path_length path has in (omega arith, omega arith)
+records_are_short (Disallow path) has = let l = path_length path has in (omega arith, omega arith)
+records_are_short (Snap path name) has = let l = snapshot_length path name has.0 has.1 in (omega arith, omega arith)
+records_are_short (Unsnap path name) has = let l = snapshot_length path name has.0 has.1 in (omega arith, omega arith)

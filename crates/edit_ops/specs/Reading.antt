@@ -2,10 +2,10 @@
 use Rattle.std.specs.Prelude.{ℕ, List, [], ◌∷◌, length, Option, Some, None, ◌==◌, if◌then◌else◌}
 use Rattle.std.specs.Int.{w16, w32, w64}
 use Rattle.hk_base.specs.Names.{Encrypted}
-use Rattle.name_calls.specs.Paths.{read_path}
+use Rattle.name_calls.specs.Paths.{is_component, read_path}
 use Rattle.key_rows.specs.Reading.{◌>>=◌, number_at, bytes_at, short_at, long_at, name_of, material_of}
 use Rattle.edit_ops.specs.declared.ops.EditOp.{EditOp}
-use Rattle.edit_ops.specs.declared.ops.EditOp.TheVariants.{Opened, Mkdir, File, Remove, Zone}
+use Rattle.edit_ops.specs.declared.ops.EditOp.TheVariants.{Opened, Mkdir, File, Remove, Zone, Allow, Disallow, Snap, Unsnap}
 
 -- reads a value from the start of the bytes, if they begin with one: the value, and the bytes after it
 abbrev pub Front : Type 0 → Type 0
@@ -52,6 +52,16 @@ name_at = front_of short_at name_of
 unfoldable pub path_at : Front (List (List ℕ))
 path_at bytes = front_of long_at read_path bytes
 
+-- all of the bytes, if they can be a name of a path
+abbrev pub component_of : Whole (List ℕ)
+component_of bytes = if is_component bytes then Some bytes else None
+
+abbrev pub component_at : Front (List ℕ)
+component_at = front_of long_at component_of
+
+unfoldable pub path_and_name_of : Whole (List (List ℕ) × List ℕ)
+path_and_name_of bytes = then_of path_at (last component_at) bytes
+
 abbrev pub iv_of : Whole (List ℕ)
 iv_of bytes = if length bytes == 16 then Some bytes else None
 
@@ -85,6 +95,18 @@ remove_of bytes = as_of Remove (last path_at) bytes
 unfoldable pub zone_of : Whole EditOp
 zone_of bytes = as_of (λ x. Zone x.0 x.1) (then_of path_at (last name_at)) bytes
 
+unfoldable pub allow_of : Whole EditOp
+allow_of bytes = as_of Allow (last path_at) bytes
+
+unfoldable pub disallow_of : Whole EditOp
+disallow_of bytes = as_of Disallow (last path_at) bytes
+
+unfoldable pub snap_of : Whole EditOp
+snap_of bytes = as_of (λ x. Snap x.0 x.1) path_and_name_of bytes
+
+unfoldable pub unsnap_of : Whole EditOp
+unsnap_of bytes = as_of (λ x. Unsnap x.0 x.1) path_and_name_of bytes
+
 -- the operation of a record, by the record's first byte
 unfoldable pub op_of : Whole EditOp
 op_of [] = None
@@ -93,4 +115,8 @@ op_of (tag ∷ bytes) =
     else (if tag == 2 then mkdir_of bytes
     else (if tag == 3 then file_of bytes
     else (if tag == 4 then remove_of bytes
-    else (if tag == 6 then zone_of bytes else None))))
+    else (if tag == 6 then zone_of bytes
+    else (if tag == 7 then allow_of bytes
+    else (if tag == 8 then disallow_of bytes
+    else (if tag == 9 then snap_of bytes
+    else (if tag == 10 then unsnap_of bytes else None))))))))

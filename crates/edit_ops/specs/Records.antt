@@ -1,11 +1,11 @@
 -- The records of the edit log: the one spelling of each operation. Numbers are big-endian.
-use Rattle.std.specs.Prelude.{◌≡◌, ℕ, ◌<◌, ◌^◌, Bool, true, not, List, [], ◌∷◌, ◌++◌, length, Option, Some, None, IsTrue}
+use Rattle.std.specs.Prelude.{◌≡◌, ℕ, ◌<◌, ◌^◌, Bool, true, not, ◌&&◌, List, [], ◌∷◌, ◌++◌, length, Option, Some, None, IsTrue}
 use Rattle.std.specs.Int.{w16, w32, w64, to_be_bytes}
 use Rattle.hk_base.specs.Names.{Encrypted, IsKeyName, is_key_length}
-use Rattle.name_calls.specs.Paths.{is_absolute, path_text, starts_reserved}
+use Rattle.name_calls.specs.Paths.{is_absolute, is_component, path_text, starts_reserved}
 use Rattle.key_rows.specs.Records.{name_field, text_field}
 use Rattle.edit_ops.specs.declared.ops.EditOp.{EditOp}
-use Rattle.edit_ops.specs.declared.ops.EditOp.TheVariants.{Opened, Mkdir, File, Remove, Zone}
+use Rattle.edit_ops.specs.declared.ops.EditOp.TheVariants.{Opened, Mkdir, File, Remove, Zone, Allow, Disallow, Snap, Unsnap}
 
 -- a path: two bytes of length and the text of the path
 abbrev pub path_field : List (List ℕ) → List ℕ
@@ -28,14 +28,22 @@ spelling (Mkdir id path) = 2 ∷ (to_be_bytes w64 id ++ path_field path)
 spelling (File id path edek) = 3 ∷ (to_be_bytes w64 id ++ (path_field path ++ opt_field edek_field edek))
 spelling (Remove path) = 4 ∷ path_field path
 spelling (Zone path key) = 6 ∷ (path_field path ++ name_field key)
+spelling (Allow path) = 7 ∷ path_field path
+spelling (Disallow path) = 8 ∷ path_field path
+spelling (Snap path name) = 9 ∷ (path_field path ++ text_field name)
+spelling (Unsnap path name) = 10 ∷ (path_field path ++ text_field name)
 
--- a path of an operation doesn't begin with `.reserved`
+-- a path of an operation doesn't begin with `.reserved`, and a snapshot's name can be a name of a path
 abbrev pub fits : EditOp → Bool
 fits (Opened opening) = true
 fits (Mkdir id path) = not (starts_reserved path)
 fits (File id path edek) = not (starts_reserved path)
 fits (Remove path) = not (starts_reserved path)
 fits (Zone path key) = not (starts_reserved path)
+fits (Allow path) = not (starts_reserved path)
+fits (Disallow path) = not (starts_reserved path)
+fits (Snap path name) = not (starts_reserved path) && is_component name
+fits (Unsnap path name) = not (starts_reserved path) && is_component name
 
 -- a key's name, a number below 65,536, 16 bytes, and 16, 24 or 32 bytes
 pub record IsEdek (edek : Encrypted) : Type 0 where
@@ -55,3 +63,7 @@ HasSpelling (Mkdir id path) = (id < 2 ^ 64) × IsTrue (is_absolute path)
 HasSpelling (File id path edek) = (id < 2 ^ 64) × IsTrue (is_absolute path) × IsOpt IsEdek edek
 HasSpelling (Remove path) = IsTrue (is_absolute path)
 HasSpelling (Zone path key) = IsTrue (is_absolute path) × IsKeyName key
+HasSpelling (Allow path) = IsTrue (is_absolute path)
+HasSpelling (Disallow path) = IsTrue (is_absolute path)
+HasSpelling (Snap path name) = IsTrue (is_absolute path) × IsTrue (is_component name)
+HasSpelling (Unsnap path name) = IsTrue (is_absolute path) × IsTrue (is_component name)

@@ -1,11 +1,11 @@
 //! Operations that change the namesystem.
-ghost use Rattle.std.specs.Prelude.{◌≡◌, not, length};
+ghost use Rattle.std.specs.Prelude.{◌≡◌, ◌&&◌, not, length};
 ghost use Rattle.std.specs.Str.{bytes_eq};
-ghost use Rattle.name_calls.specs.Paths.{is_relative, starts_reserved};
+ghost use Rattle.name_calls.specs.Paths.{is_component, is_relative, starts_reserved};
 ghost use Rattle.edit_ops.specs.Records.{fits};
 
-use hk_base::{Edek, KeyName};
-use name_calls::NPath;
+use hk_base::{Edek, KeyName, Text};
+use name_calls::{NPath, is_component};
 
 /// An operation that changes the namesystem. An id is a number that no other operation uses.
 #[derive(Drop)]
@@ -34,6 +34,24 @@ pub enum EditOp {
         path: NPath,
         key: KeyName,
     },
+    /// Snapshots of a directory were allowed.
+    Allow {
+        path: NPath,
+    },
+    /// Snapshots of a directory were disallowed.
+    Disallow {
+        path: NPath,
+    },
+    /// A snapshot of a directory was taken under a name.
+    Snap {
+        path: NPath,
+        name: Text,
+    },
+    /// A snapshot of a directory was removed.
+    Unsnap {
+        path: NPath,
+        name: Text,
+    },
 }
 
 /// Returns whether the first name of a path is `.reserved`.
@@ -46,10 +64,19 @@ fn is_reserved(path: &NPath) -> bool
     path.name(0).as_str().as_bytes() == b".reserved".as_slice()
 }
 
+/// Returns whether a snapshot with this directory and name can be written.
+fn can_be_a_snapshot(path: &NPath, name: &Text) -> bool
+    ensures { result ≡ (not (starts_reserved path.now) && is_component name.now) }
+{
+    let reserved = is_reserved(path);
+    let component = is_component(name.as_str().as_bytes());
+    !reserved && component
+}
+
 impl EditOp {
     /// Returns whether the operation can be written as a record of the edit log: its path, if it
-    /// has one, doesn't begin with the name `.reserved`. This holds for each operation that was
-    /// read.
+    /// has one, doesn't begin with the name `.reserved`, and the name of a snapshot can be a name
+    /// of a path. This holds for each operation that was read.
     pub fn has_spelling(&self) -> bool
         ensures { result ≡ fits self.now }
     {
@@ -59,6 +86,10 @@ impl EditOp {
             EditOp::File { path, .. } => !is_reserved(path),
             EditOp::Remove { path } => !is_reserved(path),
             EditOp::Zone { path, .. } => !is_reserved(path),
+            EditOp::Allow { path } => !is_reserved(path),
+            EditOp::Disallow { path } => !is_reserved(path),
+            EditOp::Snap { path, name } => can_be_a_snapshot(path, name),
+            EditOp::Unsnap { path, name } => can_be_a_snapshot(path, name),
         }
     }
 }

@@ -1,102 +1,16 @@
 //! Reading the records of the edit log.
-ghost use Rattle.std.specs.Prelude.{◌≡◌, IfOk, IsErrOf};
-ghost use Rattle.std.specs.Int.{w16, w32, w64};
+ghost use Rattle.std.specs.Prelude.{◌≡◌, true, IfOk, IsErrOf};
 ghost use Rattle.hk_base.specs.declared.records.RecordFault.TheVariants as fault;
-ghost use Rattle.name_calls.specs.Paths.{read_path};
-ghost use Rattle.key_rows.specs.Reading.{Gives, bytes_at, long_at, material_of, name_of, number_at, short_at};
+ghost use Rattle.name_calls.specs.Paths.{is_component, read_path};
+ghost use Rattle.key_rows.specs.Reading.{Gives};
 ghost use Rattle.edit_ops.specs.Records.{HasSpelling, spelling};
-ghost use Rattle.edit_ops.specs.Reading.{edek_of, file_of, iv_of, mkdir_of, op_of, opened_of, opt_edek_of, path_at, remove_of, zone_of};
+ghost use Rattle.edit_ops.specs.Reading.{allow_of, component_of, disallow_of, edek_of, file_of, iv_of, last, mkdir_of, op_of, opened_of, opt_edek_of, path_and_name_of, path_at, remove_of, snap_of, unsnap_of, zone_of};
 
 use crate::ops::EditOp;
-use hk_base::{Dek, Edek, Iv, KeyName, RecordFault, VersionName};
-use name_calls::{NPath, PathFault};
+use hk_base::{Edek, Iv, NoMemory, RecordFault, Text, VersionName};
+use key_rows::fields::{cut, cut_long, cut_short, material_of, name_of, u16_at, u32_at, u64_at};
+use name_calls::{NPath, PathFault, is_component};
 use std::alloc::Global;
-
-fn u16_at(bytes: &[u8]) -> Result<(u16, &[u8]), RecordFault>
-    ensures { Gives (λ x. (x.0, x.1.now)) result (number_at w16 bytes.now) }
-{
-    if bytes.len() < 2 {
-        return Err(RecordFault::NoRecord);
-    }
-    let (front, rest) = bytes.split_at(2);
-    let number = u16::from_be_bytes([front[0], front[1]]);
-    Ok((number, rest))
-}
-
-fn u32_at(bytes: &[u8]) -> Result<(u32, &[u8]), RecordFault>
-    ensures { Gives (λ x. (x.0, x.1.now)) result (number_at w32 bytes.now) }
-{
-    if bytes.len() < 4 {
-        return Err(RecordFault::NoRecord);
-    }
-    let (front, rest) = bytes.split_at(4);
-    let number = u32::from_be_bytes([front[0], front[1], front[2], front[3]]);
-    Ok((number, rest))
-}
-
-fn u64_at(bytes: &[u8]) -> Result<(u64, &[u8]), RecordFault>
-    ensures { Gives (λ x. (x.0, x.1.now)) result (number_at w64 bytes.now) }
-{
-    if bytes.len() < 8 {
-        return Err(RecordFault::NoRecord);
-    }
-    let (front, rest) = bytes.split_at(8);
-    let number = u64::from_be_bytes([
-        front[0], front[1], front[2], front[3], front[4], front[5], front[6], front[7],
-    ]);
-    Ok((number, rest))
-}
-
-/// Splits off the first `len` bytes: those bytes, and the bytes after them.
-fn cut(bytes: &[u8], len: usize) -> Result<(&[u8], &[u8]), RecordFault>
-    ensures { Gives (λ x. (x.0.now, x.1.now)) result (bytes_at len bytes.now) }
-{
-    if bytes.len() < len {
-        return Err(RecordFault::NoRecord);
-    }
-    let (front, rest) = bytes.split_at(len);
-    Ok((front, rest))
-}
-
-/// Splits off the bytes after a one-byte length: those bytes, and the rest.
-#[tactic(auto, unfolding(key_rows::specs::Reading::short_at))]
-fn cut_short(bytes: &[u8]) -> Result<(&[u8], &[u8]), RecordFault>
-    ensures { Gives (λ x. (x.0.now, x.1.now)) result (short_at bytes.now) }
-{
-    match bytes {
-        [] => Err(RecordFault::NoRecord),
-        [len, rest @ ..] => cut(rest, *len as usize),
-    }
-}
-
-/// Splits off the bytes after a two-byte length: those bytes, and the rest.
-#[tactic(auto, unfolding(key_rows::specs::Reading::long_at))]
-fn cut_long(bytes: &[u8]) -> Result<(&[u8], &[u8]), RecordFault>
-    ensures { Gives (λ x. (x.0.now, x.1.now)) result (long_at bytes.now) }
-{
-    let (len, rest) = u16_at(bytes)?;
-    cut(rest, len as usize)
-}
-
-/// Reads all of the bytes as a key name.
-fn name_of(bytes: &[u8]) -> Result<KeyName, RecordFault>
-    ensures { Gives (λ x. x) result (name_of bytes.now) }
-{
-    match KeyName::read(bytes) {
-        None => Err(RecordFault::NoRecord),
-        Some(name) => Ok(name),
-    }
-}
-
-/// Reads all of the bytes as the sealed bytes of a key.
-fn sealed_of(bytes: &[u8]) -> Result<Dek, RecordFault>
-    ensures { Gives (λ x. x) result (material_of bytes.now) }
-{
-    match Dek::read(bytes) {
-        None => Err(RecordFault::NoRecord),
-        Some(sealed) => Ok(sealed),
-    }
-}
 
 /// Reads all of the bytes as an initialization vector.
 fn iv_of(bytes: &[u8]) -> Result<Iv, RecordFault>
@@ -128,6 +42,53 @@ fn path_at(alloc: Global, bytes: &[u8]) -> Result<(NPath, &[u8]), RecordFault>
     Ok((path, rest))
 }
 
+/// Reads all of the bytes as a path.
+fn last_path(alloc: Global, bytes: &[u8]) -> Result<NPath, RecordFault>
+    ensures { Gives (λ x. x) result (last path_at bytes.now) }
+{
+    let (path, rest) = path_at(alloc, bytes)?;
+    if !rest.is_empty() {
+        return Err(RecordFault::NoRecord);
+    }
+    Ok(path)
+}
+
+/// Copies the name of a snapshot.
+fn text_of(alloc: Global, name: &[u8]) -> Result<Text, NoMemory>
+    requires { is_component name.now ≡ true }
+    ensures { IfOk result (λ text. text ≡ name.now) }
+{
+    match Text::from_utf8(Vec::from_slice(alloc, name)?) {
+        Some(text) => Ok(text),
+        None => unreachable!(),
+    }
+}
+
+/// Reads all of the bytes as the name of a snapshot.
+fn component_of(alloc: Global, bytes: &[u8]) -> Result<Text, RecordFault>
+    ensures { Gives (λ x. x) result (component_of bytes.now) }
+{
+    if !is_component(bytes) {
+        return Err(RecordFault::NoRecord);
+    }
+    let text = text_of(alloc, bytes)?;
+    Ok(text)
+}
+
+/// Reads all of the bytes as a directory and the name of a snapshot of it.
+#[tactic(auto, unfolding(crate::specs::Reading::path_and_name_of))]
+fn path_and_name_of(alloc: Global, bytes: &[u8]) -> Result<(NPath, Text), RecordFault>
+    ensures { Gives (λ x. x) result (path_and_name_of bytes.now) }
+{
+    let (path, rest) = path_at(alloc, bytes)?;
+    let (name, rest) = cut_long(rest)?;
+    let name = component_of(alloc, name)?;
+    if !rest.is_empty() {
+        return Err(RecordFault::NoRecord);
+    }
+    Ok((path, name))
+}
+
 /// Reads all of the bytes as an encrypted data encryption key.
 #[tactic(auto, unfolding(crate::specs::Reading::edek_of))]
 fn edek_of(bytes: &[u8]) -> Result<Edek, RecordFault>
@@ -139,7 +100,7 @@ fn edek_of(bytes: &[u8]) -> Result<Edek, RecordFault>
     let (iv, rest) = cut(rest, 16)?;
     let iv = iv_of(iv)?;
     let (sealed, rest) = cut_short(rest)?;
-    let sealed = sealed_of(sealed)?;
+    let sealed = material_of(sealed)?;
     if !rest.is_empty() {
         return Err(RecordFault::NoRecord);
     }
@@ -203,10 +164,7 @@ fn file_of(alloc: Global, bytes: &[u8]) -> Result<EditOp, RecordFault>
 fn remove_of(alloc: Global, bytes: &[u8]) -> Result<EditOp, RecordFault>
     ensures { Gives (λ x. x) result (remove_of bytes.now) }
 {
-    let (path, rest) = path_at(alloc, bytes)?;
-    if !rest.is_empty() {
-        return Err(RecordFault::NoRecord);
-    }
+    let path = last_path(alloc, bytes)?;
     Ok(EditOp::Remove { path })
 }
 
@@ -223,6 +181,38 @@ fn zone_of(alloc: Global, bytes: &[u8]) -> Result<EditOp, RecordFault>
     Ok(EditOp::Zone { path, key })
 }
 
+#[tactic(auto, unfolding(crate::specs::Reading::allow_of))]
+fn allow_of(alloc: Global, bytes: &[u8]) -> Result<EditOp, RecordFault>
+    ensures { Gives (λ x. x) result (allow_of bytes.now) }
+{
+    let path = last_path(alloc, bytes)?;
+    Ok(EditOp::Allow { path })
+}
+
+#[tactic(auto, unfolding(crate::specs::Reading::disallow_of))]
+fn disallow_of(alloc: Global, bytes: &[u8]) -> Result<EditOp, RecordFault>
+    ensures { Gives (λ x. x) result (disallow_of bytes.now) }
+{
+    let path = last_path(alloc, bytes)?;
+    Ok(EditOp::Disallow { path })
+}
+
+#[tactic(auto, unfolding(crate::specs::Reading::snap_of))]
+fn snap_of(alloc: Global, bytes: &[u8]) -> Result<EditOp, RecordFault>
+    ensures { Gives (λ x. x) result (snap_of bytes.now) }
+{
+    let (path, name) = path_and_name_of(alloc, bytes)?;
+    Ok(EditOp::Snap { path, name })
+}
+
+#[tactic(auto, unfolding(crate::specs::Reading::unsnap_of))]
+fn unsnap_of(alloc: Global, bytes: &[u8]) -> Result<EditOp, RecordFault>
+    ensures { Gives (λ x. x) result (unsnap_of bytes.now) }
+{
+    let (path, name) = path_and_name_of(alloc, bytes)?;
+    Ok(EditOp::Unsnap { path, name })
+}
+
 #[tactic(auto, unfolding(crate::specs::Reading::op_of))]
 fn op_of(alloc: Global, bytes: &[u8]) -> Result<EditOp, RecordFault>
     ensures { Gives (λ x. x) result (op_of bytes.now) }
@@ -233,6 +223,10 @@ fn op_of(alloc: Global, bytes: &[u8]) -> Result<EditOp, RecordFault>
         [3, rest @ ..] => file_of(alloc, rest),
         [4, rest @ ..] => remove_of(alloc, rest),
         [6, rest @ ..] => zone_of(alloc, rest),
+        [7, rest @ ..] => allow_of(alloc, rest),
+        [8, rest @ ..] => disallow_of(alloc, rest),
+        [9, rest @ ..] => snap_of(alloc, rest),
+        [10, rest @ ..] => unsnap_of(alloc, rest),
         _ => Err(RecordFault::NoRecord),
     }
 }

@@ -2,24 +2,14 @@
 ghost use Rattle.std.specs.Prelude.{◌≡◌, ◌≤◌, ◌++◌, ◌∷◌, true, IsTrue, OnOk, OnErr, length, take};
 ghost use Rattle.std.specs.Int.{w16, w32, w64, to_be_bytes};
 ghost use Rattle.hk_base.specs.Names.{IsKeyName};
-ghost use Rattle.name_calls.specs.Paths.{is_relative, names_text, path_text};
-ghost use Rattle.key_rows.specs.Records.{name_field};
+ghost use Rattle.name_calls.specs.Paths.{is_component, is_relative, names_text, path_text};
+ghost use Rattle.key_rows.specs.Records.{name_field, text_field};
 ghost use Rattle.edit_ops.specs.Records.{HasSpelling, IsEdek, IsOpt, edek_field, fits, opt_field, path_field, spelling};
 
 use crate::ops::EditOp;
-use hk_base::{ByteList, Edek, KeyName, NoMemory};
+use hk_base::{ByteList, Edek, KeyName, NoMemory, Text};
+use key_rows::fields::{append_head, append_name};
 use name_calls::NPath;
-
-/// Appends a name after its length. If allocation fails, a prefix may have been appended.
-fn append_name(out: &mut ByteList, name: &KeyName) -> Result<(), NoMemory>
-    ensures ok { OnOk result (out.new ≡ out.old ++ name_field name.now) }
-    ensures is_name { OnOk result (IsKeyName name.now) }
-    ensures err { OnErr result (take (length out.old) out.new ≡ out.old) }
-{
-    let bytes = name.as_bytes();
-    out.push(bytes.len() as u8)?;
-    out.append(bytes)
-}
 
 /// Returns the length of a path in bytes as it is written, at most 8,000.
 fn text_len(path: &NPath) -> usize
@@ -79,16 +69,6 @@ fn append_opt_edek(out: &mut ByteList, edek: &Option<Edek>) -> Result<(), NoMemo
     }
 }
 
-/// Appends the first byte of a record and an id. If allocation fails, a prefix may have been
-/// appended.
-fn append_head(out: &mut ByteList, tag: u8, id: u64) -> Result<(), NoMemory>
-    ensures ok { OnOk result (out.new ≡ out.old ++ tag ∷ to_be_bytes w64 id) }
-    ensures err { OnErr result (take (length out.old) out.new ≡ out.old) }
-{
-    out.push(tag)?;
-    out.append(&id.to_be_bytes())
-}
-
 /// Appends the first byte of a record, an id and a path. If allocation fails, a prefix may have
 /// been appended.
 fn append_front(out: &mut ByteList, tag: u8, id: u64, path: &NPath) -> Result<(), NoMemory>
@@ -117,14 +97,39 @@ fn append_file(
     append_opt_edek(out, edek)
 }
 
-/// Appends the record of a removal. If allocation fails, a prefix may have been appended.
-fn append_remove(out: &mut ByteList, path: &NPath) -> Result<(), NoMemory>
-    ensures ok { OnOk result (out.new ≡ out.old ++ 4 ∷ path_field path.now) }
+/// Appends the first byte of a record and a path. If allocation fails, a prefix may have been
+/// appended.
+fn append_tagged_path(out: &mut ByteList, tag: u8, path: &NPath) -> Result<(), NoMemory>
+    ensures ok { OnOk result (out.new ≡ out.old ++ tag ∷ path_field path.now) }
     ensures rule { OnOk result (is_relative path.now ≡ true) }
     ensures err { OnErr result (take (length out.old) out.new ≡ out.old) }
 {
-    out.push(4)?;
+    out.push(tag)?;
     append_path(out, path)
+}
+
+/// Appends the name of a snapshot after its length. If allocation fails, a prefix may have been
+/// appended.
+fn append_component(out: &mut ByteList, name: &Text) -> Result<(), NoMemory>
+    requires { is_component name.now ≡ true }
+    ensures ok { OnOk result (out.new ≡ out.old ++ text_field name.now) }
+    ensures err { OnErr result (take (length out.old) out.new ≡ out.old) }
+{
+    let bytes = name.as_str().as_bytes();
+    out.append(&(bytes.len() as u16).to_be_bytes())?;
+    out.append(bytes)
+}
+
+/// Appends the first byte of a record, a path and the name of a snapshot. If allocation fails, a
+/// prefix may have been appended.
+fn append_snapshot(out: &mut ByteList, tag: u8, path: &NPath, name: &Text) -> Result<(), NoMemory>
+    requires { is_component name.now ≡ true }
+    ensures ok { OnOk result (out.new ≡ out.old ++ tag ∷ (path_field path.now ++ text_field name.now)) }
+    ensures rule { OnOk result (is_relative path.now ≡ true) }
+    ensures err { OnErr result (take (length out.old) out.new ≡ out.old) }
+{
+    append_tagged_path(out, tag, path)?;
+    append_component(out, name)
 }
 
 /// Appends the record of a directory that was made a zone. If allocation fails, a prefix may have
@@ -135,8 +140,7 @@ fn append_zone(out: &mut ByteList, path: &NPath, key: &KeyName) -> Result<(), No
     ensures is_name { OnOk result (IsKeyName key.now) }
     ensures err { OnErr result (take (length out.old) out.new ≡ out.old) }
 {
-    out.push(6)?;
-    append_path(out, path)?;
+    append_tagged_path(out, 6, path)?;
     append_name(out, key)
 }
 
@@ -173,8 +177,12 @@ impl EditOp {
             }
             EditOp::Mkdir { id, path } => append_front(out, 2, *id, path),
             EditOp::File { id, path, edek } => append_file(out, *id, path, edek),
-            EditOp::Remove { path } => append_remove(out, path),
+            EditOp::Remove { path } => append_tagged_path(out, 4, path),
             EditOp::Zone { path, key } => append_zone(out, path, key),
+            EditOp::Allow { path } => append_tagged_path(out, 7, path),
+            EditOp::Disallow { path } => append_tagged_path(out, 8, path),
+            EditOp::Snap { path, name } => append_snapshot(out, 9, path, name),
+            EditOp::Unsnap { path, name } => append_snapshot(out, 10, path, name),
         }
     }
 }

@@ -2,5 +2,5 @@ pub mod Births
 pub mod Rolls
 pub mod TableLemmas
 pub mod Orders
-pub mod Fields
+pub mod FieldLemmas
 pub mod RecordLemmas

@@ -16,9 +16,9 @@ use Rattle.key_rows.specs.Records.{name_field, text_field, spelling, fits, fits_
 use Rattle.key_rows.specs.Table.{Table, applies, find_name, opening_of, is_length}
 use Rattle.key_rows.proofs.Births.{both}
 use Rattle.key_rows.specs.Reading.{◌>>=◌, Gives, number_at, short_at, long_at, name_of, text_of, material_of, material_of_bits, last_number, opened_at, create_at, roll_at, delete_at, command_at}
-use Rattle.key_rows.proofs.Fields.{IsBytes, IsBytes-rest, bind_some, bind_is, wide16, wide32, wide64, number_takes, number_again, short_takes, short_again, long_takes, long_again}
+use Rattle.key_rows.proofs.FieldLemmas.{IsBytes, IsBytes-rest, bind_some, bind_is, wide16, wide32, wide64, number_takes, number_again, short_takes, short_again, long_takes, long_again}
 use Rattle.std.specs.Int.{Width}
-use Rattle.key_rows.proofs.Fields.{IsWide}
+use Rattle.key_rows.proofs.FieldLemmas.{IsWide}
 
 -- a number that ends the record
 last_takes : (w : Width) (limit : ℕ) (wide : IsWide w limit) (bytes : List ℕ) (n : ℕ) → IsBytes bytes → last_number w bytes ≡ Some n → (bytes ≡ to_be_bytes w n) × (n < limit)

@@ -3,6 +3,7 @@
 
 mod applying;
 mod by_name;
+pub mod fields;
 mod laws;
 mod reading;
 mod rows;

@@ -6,87 +6,11 @@ ghost use Rattle.key_rows.specs.Records.{HasSpelling, fits_bits, spelling};
 ghost use Rattle.key_rows.specs.Table.{is_length};
 ghost use Rattle.key_rows.specs.Reading.{Gives, bytes_at, command_at, create_at, delete_at, long_at, material_of, material_of_bits, name_of, number_at, opened_at, roll_at, short_at, text_of};
 
+use crate::fields::{cut_long, cut_short, material_of, name_of, u16_at, u32_at, u64_at};
 use crate::rows::KeyCommand;
-use hk_base::{Dek, KeyName, RecordFault};
+use hk_base::{Dek, RecordFault};
 use kms_calls::Description;
 use std::alloc::Global;
-
-fn u16_at(bytes: &[u8]) -> Result<(u16, &[u8]), RecordFault>
-    ensures { Gives (λ x. (x.0, x.1.now)) result (number_at w16 bytes.now) }
-{
-    if bytes.len() < 2 {
-        return Err(RecordFault::NoRecord);
-    }
-    let (front, rest) = bytes.split_at(2);
-    let number = u16::from_be_bytes([front[0], front[1]]);
-    Ok((number, rest))
-}
-
-fn u32_at(bytes: &[u8]) -> Result<(u32, &[u8]), RecordFault>
-    ensures { Gives (λ x. (x.0, x.1.now)) result (number_at w32 bytes.now) }
-{
-    if bytes.len() < 4 {
-        return Err(RecordFault::NoRecord);
-    }
-    let (front, rest) = bytes.split_at(4);
-    let number = u32::from_be_bytes([front[0], front[1], front[2], front[3]]);
-    Ok((number, rest))
-}
-
-fn u64_at(bytes: &[u8]) -> Result<(u64, &[u8]), RecordFault>
-    ensures { Gives (λ x. (x.0, x.1.now)) result (number_at w64 bytes.now) }
-{
-    if bytes.len() < 8 {
-        return Err(RecordFault::NoRecord);
-    }
-    let (front, rest) = bytes.split_at(8);
-    let number = u64::from_be_bytes([
-        front[0], front[1], front[2], front[3], front[4], front[5], front[6], front[7],
-    ]);
-    Ok((number, rest))
-}
-
-/// Splits off the first `len` bytes.
-fn cut(bytes: &[u8], len: usize) -> Result<(&[u8], &[u8]), RecordFault>
-    ensures { Gives (λ x. (x.0.now, x.1.now)) result (bytes_at len bytes.now) }
-{
-    if bytes.len() < len {
-        return Err(RecordFault::NoRecord);
-    }
-    let (front, rest) = bytes.split_at(len);
-    Ok((front, rest))
-}
-
-/// Splits off the bytes whose length the first byte gives.
-#[tactic(auto, unfolding(crate::specs::Reading::short_at))]
-fn cut_short(bytes: &[u8]) -> Result<(&[u8], &[u8]), RecordFault>
-    ensures { Gives (λ x. (x.0.now, x.1.now)) result (short_at bytes.now) }
-{
-    match bytes {
-        [] => Err(RecordFault::NoRecord),
-        [len, rest @ ..] => cut(rest, *len as usize),
-    }
-}
-
-/// Splits off the bytes whose length the first two bytes give.
-#[tactic(auto, unfolding(crate::specs::Reading::long_at))]
-fn cut_long(bytes: &[u8]) -> Result<(&[u8], &[u8]), RecordFault>
-    ensures given { Gives (λ x. (x.0.now, x.1.now)) result (long_at bytes.now) }
-    ensures short { IfOk result (λ x. length x.0.now ≤ 65535) }
-{
-    let (len, rest) = u16_at(bytes)?;
-    cut(rest, len as usize)
-}
-
-/// Decodes all of the bytes as a name.
-fn name_of(bytes: &[u8]) -> Result<KeyName, RecordFault>
-    ensures { Gives (λ x. x) result (name_of bytes.now) }
-{
-    match KeyName::read(bytes) {
-        None => Err(RecordFault::NoRecord),
-        Some(name) => Ok(name),
-    }
-}
 
 /// Decodes all of the bytes as a text.
 fn text_of(bytes: &[u8]) -> Result<&str, RecordFault>
@@ -106,16 +30,6 @@ fn description_of(alloc: Global, bytes: &[u8]) -> Result<Description, RecordFaul
     let text = text_of(bytes)?;
     let description = Description::from_str(alloc, text)?;
     Ok(description)
-}
-
-/// Decodes all of the bytes as material.
-fn material_of(bytes: &[u8]) -> Result<Dek, RecordFault>
-    ensures { Gives (λ x. x) result (material_of bytes.now) }
-{
-    match Dek::read(bytes) {
-        None => Err(RecordFault::NoRecord),
-        Some(material) => Ok(material),
-    }
 }
 
 pub(crate) fn is_length(bits: u16) -> bool

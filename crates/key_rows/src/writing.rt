@@ -5,20 +5,10 @@ ghost use Rattle.hk_base.specs.Names.{IsKeyName, is_key_length};
 ghost use Rattle.std.specs.Int.{w16, w32, w64, to_be_bytes};
 ghost use Rattle.key_rows.specs.Records.{HasSpelling, fits, name_field, spelling, text_field};
 
+use crate::fields::{append_head, append_name};
 use crate::rows::KeyCommand;
 use hk_base::{ByteList, Dek, KeyName, NoMemory};
 use kms_calls::Description;
-
-/// Appends a name after its length. If allocation fails, a prefix of that may have been appended.
-fn append_name(out: &mut ByteList, name: &KeyName) -> Result<(), NoMemory>
-    ensures ok { OnOk result (out.new ≡ out.old ++ name_field name.now) }
-    ensures is_name { OnOk result (IsKeyName name.now) }
-    ensures err { OnErr result (take (length out.old) out.new ≡ out.old) }
-{
-    let bytes = name.as_bytes();
-    out.push(bytes.len() as u8)?;
-    out.append(bytes)
-}
 
 /// Appends a description after its length. If allocation fails, a prefix of that may have been
 /// appended.
@@ -31,16 +21,6 @@ fn append_text(out: &mut ByteList, description: &Description) -> Result<(), NoMe
     let text = description.as_text().as_str();
     out.append(&(text.len() as u16).to_be_bytes())?;
     out.append(text.as_bytes())
-}
-
-/// Appends the first byte of a record and a birth. If allocation fails, a prefix of that may have
-/// been appended.
-fn append_head(out: &mut ByteList, tag: u8, birth: u64) -> Result<(), NoMemory>
-    ensures ok { OnOk result (out.new ≡ out.old ++ tag ∷ to_be_bytes w64 birth) }
-    ensures err { OnErr result (take (length out.old) out.new ≡ out.old) }
-{
-    out.push(tag)?;
-    out.append(&birth.to_be_bytes())
 }
 
 /// Appends the first fields of the record of a creation. If allocation fails, a prefix of that may
