@@ -1,4 +1,3 @@
 mod Replays
 mod Commits
 pub mod Readers
-mod Starts

@@ -4,7 +4,7 @@ use Rattle.std.specs.List.{AllByRecursion}
 use Rattle.std.proofs.lemmas.List.{map-append}
 use Rattle.hk_base.specs.Disk.{DiskState, Tells, Reads}
 use Rattle.frame_log.specs.Format.{log_of, Found, end_of}
-use Rattle.frame_log.specs.Ahead.{Ahead, IsFirstPayload}
+use Rattle.frame_log.specs.Ahead.{Ahead, IsFirstPayload, IsNextPayload}
 use Rattle.frame_log.specs.Stands.{Stands}
 use Rattle.frame_log.specs.declared.log.Log.{Log}
 use Rattle.frame_log.specs.declared.records.Records.{Records}
@@ -12,11 +12,11 @@ use Rattle.frame_log.proofs.Reading.{end_push, front_long}
 use Rattle.frame_log.proofs.Layers.{left_as_found, still_stands}
 use Rattle.edit_ops.specs.Records.{HasSpelling, spelling}
 use Rattle.edit_ops.specs.declared.ops.EditOp.{EditOp}
-use Rattle.edit_log.specs.declared.op_list.PlacedOp.{PlacedOp}
+use Rattle.edit_log.specs.declared.replay.PlacedOp.{PlacedOp}
 use Rattle.edit_log.specs.declared.reader.OpReader.{OpReader}
 use Rattle.edit_log.specs.Replay.{then_last, IsNext, IsNoNext}
 use Rattle.edit_log.specs.Log.{EditLogState, StandsFor}
-use Rattle.edit_log.specs.Reader.{OpsAhead, IsFirstOp, HasNoNextOp, IsOpened}
+use Rattle.edit_log.specs.Reader.{OpsAhead, IsFirstOp, IsNextOp, HasNoNextOp, IsOpened}
 use Rattle.edit_log.proofs.Replays.{each_more, openings_more}
 
 -- the end of a log with one record more
@@ -41,6 +41,12 @@ first_op disk now old new done todo a offset got placed at n last =
         ahead = got.ahead;
       };
     }
+
+-- there is none, and the reader stayed at the end
+pub no_op_left : (disk now : DiskState) (old new : OpReader) (done : List EditOp) (todo : List (List ℕ)) → OpsAhead disk old done todo → IsNextPayload now old.records new.records todo None
+    → new.opening ≡ old.opening → IsNextOp now new done todo None
+no_op_left disk now old new done todo a end same =
+    (end.0, record { spelled = a.spelled; turns = a.turns ∙ ap Some (sym same); place = end.1 ∙ a.place; ahead = end.2 })
 
 -- it spells none
 pub no_next_op : (disk now : DiskState) (old : OpReader) (records : Records) (done : List EditOp) (todo : List (List ℕ)) → OpsAhead disk old done todo → (offset : ℕ) → IsFirstPayload now old.records records todo offset

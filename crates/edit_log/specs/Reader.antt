@@ -6,7 +6,7 @@ use Rattle.frame_log.specs.Format.{log_of, Found, end_of, IsAsFound}
 use Rattle.frame_log.specs.Ahead.{Ahead}
 use Rattle.edit_ops.specs.Records.{HasSpelling, spelling}
 use Rattle.edit_ops.specs.declared.ops.EditOp.{EditOp}
-use Rattle.edit_log.specs.declared.op_list.PlacedOp.{PlacedOp}
+use Rattle.edit_log.specs.declared.replay.PlacedOp.{PlacedOp}
 use Rattle.edit_log.specs.declared.reader.OpReader.{OpReader}
 use Rattle.edit_log.specs.Replay.{openings, IsNoNext}
 use Rattle.edit_log.specs.Log.{EditLogState, StandsFor}
@@ -25,10 +25,10 @@ pub record IsFirstOp (disk : DiskState) (new : OpReader) (done : List EditOp) (t
   pub place : placed.at ≡ end_of (map spelling done)
   pub ahead : OpsAhead disk new (done ++ placed.op ∷ []) rest
 
--- a reader returns the operation of the first record, or None if there are no more records
+-- a reader returns the operation of the first record, or None if there are no more records, and then has nothing ahead
 abbrev pub IsNextOp : DiskState → OpReader → List EditOp → List (List ℕ) → Option PlacedOp → Type 0
 IsNextOp disk new done todo (Some placed) = IsFirstOp disk new done todo placed
-IsNextOp disk new done todo None = todo ≡ []
+IsNextOp disk new done todo None = (todo ≡ []) × OpsAhead disk new done []
 
 -- the first record, whose gate is at this offset, is not an operation or is out of turn
 pub record HasNoNextOp (reader : OpReader) (done : List EditOp) (todo : List (List ℕ)) (offset : ℕ) : Type 0 where

@@ -4,10 +4,9 @@
 
 mod copies;
 mod log;
-mod op_list;
 mod reader;
 mod replay;
 
 pub use log::EditLog;
-pub use op_list::{OpList, PlacedOp};
 pub use reader::OpReader;
+pub use replay::PlacedOp;

@@ -1,8 +1,6 @@
 //! The log of the namesystem's operations.
 use crate::copies::operation_of;
-use crate::op_list::OpList;
 use crate::reader::OpReader;
-use crate::replay::read_ops;
 use edit_ops::EditOp;
 use frame_log::{Log, LogFault, StartFault, StoreRefusal};
 use hk_base::{ByteList, Disk};
@@ -44,61 +42,21 @@ impl EditLog {
     ghost use Rattle.edit_ops.specs.Records.{fits};
     ghost use Rattle.edit_ops.specs.declared.ops.EditOp.{EditOp};
     ghost use Rattle.edit_ops.specs.declared.ops.EditOp.TheVariants as op;
-    ghost use Rattle.edit_log.specs.declared.op_list.PlacedOp.{PlacedOp};
-    ghost use Rattle.edit_log.specs.Replay.{op_view};
     ghost use Rattle.edit_log.specs.Reader.{IsOpened};
-    ghost use Rattle.edit_log.specs.Log.{StandsFor, IsWithOrWithout, IsReadOf, IsEditLog, IsDamagedAt, IsLeftByStart};
+    ghost use Rattle.edit_log.specs.Log.{StandsFor, IsWithOrWithout};
 
-    /// Opens the edit log of a disk: reads its operations, and commits the record of a new opening. A
-    /// crash may stop this call at any moment; start again then. The operations returned are those found,
-    /// without the new opening, whose number is one more than the list's.
+    /// Recovers a disk's edit log. The reader returns its operations one after another. Nothing is
+    /// committed: the file is unchanged, or its end gate is set to 0. Returns `Damaged` only if the file is
+    /// not a log.
     ///
-    /// Returns `Damaged` only if the file is not a log, or a record is not an operation, or is an opening
-    /// that is not one more than the last, or another operation before the first opening. The offset is
-    /// that of the gate before the first such record. This call does not check that the operations apply
-    /// to one another: for that, call `recover` and then `open`. Returns `Spent` only if opening
-    /// 4,294,967,295 is recorded.
-    pub fn start<D: Disk>(alloc: Global, disk: &mut D) -> Result<(EditLog, OpList), StartFault>
-        ensures log { IfOk result (λ r. Tells (D.state disk.old) → IsEditLog ((D.state disk.old).reads 1) r.1.list.items r.1.opening
-            × StandsFor (D.state disk.new) r.0 (map op_view r.1.list.items ++ op.Opened (r.1.opening + 1) ∷ [])) }
-        ensures opened { IfOk result (λ r. (r.0.pending ≡ None) × (r.1.damaged ≡ None)) }
-        ensures damaged { (at : ℕ) → IsErrOf result (start.Damaged at) → Tells (D.state disk.old) → IsDamagedAt ((D.state disk.old).reads 1) at }
-        ensures spent { IsErrOf result start.Spent → Tells (D.state disk.old) → ((list : List PlacedOp) × IsEditLog ((D.state disk.old).reads 1) list 4294967295) }
-
-        // A crash at any moment leaves what it might have left before, or the log found, now or with its end
-        // gate read as 1, or its operations with the new opening or without it.
-        ensures any_moment { Tells (D.state disk.old) → LeavesOnly 1 (D.state disk.old) (D.state disk.new)
-            (λ c. (D.state disk.old).leaves 1 c ⊎ IsLeftByStart ((D.state disk.old).reads 1) c) }
-
-        // Whatever the result, after the first sync of the call it leaves the latter alone. If that sync
-        // failed, nothing was written.
-        ensures since_sync { Tells (D.state disk.old) →
-            (IsErrOf result start.StoreFault × LeavesOnly 1 (D.state disk.old) (D.state disk.new) ((D.state disk.old).leaves 1))
-            ⊎ LeavesFrom 1 (D.state disk.old) (D.state disk.new) (IsLeftByStart ((D.state disk.old).reads 1)) }
-
-        ensures run { RunOn 1 (D.state disk.old) (D.state disk.new) }
-        ensures cause { IsErrOf result start.StoreFault → Rose (D.state disk.old).faults (D.state disk.new).faults }
-    {
-        let (found, ops) = EditLog::recover(alloc, disk)?;
-        if let Some(at) = ops.damaged {
-            return Err(StartFault::Damaged { at });
-        }
-        let mut log = found;
-        log.open(alloc, disk, ops.opening)?;
-        Ok((log, ops))
-    }
-
-    /// Reads the operations of a disk's edit log, up to the first record that is not an operation or is
-    /// out of turn. The list has the offset of that record. Nothing is committed: the file is unchanged,
-    /// or its end gate is set to 0. Returns `Damaged` only if the file is not a log.
-    ///
-    /// If the list has all records, call `open` once the operations are known to apply to one another.
-    /// Otherwise the file is damaged, at the first operation that does not apply or at the offset that
-    /// the list has.
-    pub fn recover<D: Disk>(alloc: Global, disk: &mut D) -> Result<(EditLog, OpList), StartFault>
-        ensures list { IfOk result (λ r. Tells (D.state disk.old) → IsReadOf ((D.state disk.old).reads 1) r.1.list.items r.1.opening r.1.damaged) }
-        ensures log { IfOk result (λ r. r.1.damaged ≡ None → Tells (D.state disk.old) → StandsFor (D.state disk.new) r.0 (map op_view r.1.list.items)) }
-        ensures settled { IfOk result (λ r. r.0.pending ≡ None) }
+    /// Call `open` once the reader has returned all operations and they are known to apply to one another.
+    /// If it returns `Damaged`, or an operation does not apply, the file is damaged at the first such place.
+    pub fn recover_records<D: Disk>(
+        alloc: Global,
+        disk: &mut D,
+    ) -> Result<(EditLog, OpReader), StartFault>
+        ensures opened { IfOk result (λ r. Tells (D.state disk.old) → IsOpened ((D.state disk.old).reads 1) (D.state disk.new) r.0 r.1) }
+        ensures settled { IfOk result (λ r. (r.0.pending ≡ None) × (r.0.log.file ≡ 1)) }
         ensures damaged { (at : ℕ) → IsErrOf result (start.Damaged at) → Tells (D.state disk.old) → log_of 1 ((D.state disk.old).reads 1) ≡ NoLog at }
         ensures spent { IsErrOf result start.Spent → ⊥ }
 
@@ -110,34 +68,6 @@ impl EditLog {
         // Whatever the result, after the first sync of the call it leaves the log found, or that log with its
         // end gate read as 1. A file that is not a log stays byte for byte. If that sync failed, nothing was
         // written.
-        ensures since_sync { Tells (D.state disk.old) →
-            (IsErrOf result start.StoreFault × LeavesOnly 1 (D.state disk.old) (D.state disk.new) ((D.state disk.old).leaves 1))
-            ⊎ LeavesFrom 1 (D.state disk.old) (D.state disk.new) (IsRecovered 1 ((D.state disk.old).reads 1)) }
-
-        ensures run { RunOn 1 (D.state disk.old) (D.state disk.new) }
-        ensures cause { IsErrOf result start.StoreFault → Rose (D.state disk.old).faults (D.state disk.new).faults }
-    {
-        let (log, frames) = Log::recover(alloc, disk, NAMES)?;
-        let ops = read_ops(alloc, frames.list.as_slice())?;
-        Ok((EditLog { log, pending: None }, ops))
-    }
-
-    /// Recovers a disk's edit log as `recover` does, but reads no operations: the reader returns them one after
-    /// another. `Damaged` of this call means that the file is not a log.
-    ///
-    /// Call `open` once the reader has returned all operations and they are known to apply to one another.
-    pub fn recover_records<D: Disk>(
-        alloc: Global,
-        disk: &mut D,
-    ) -> Result<(EditLog, OpReader), StartFault>
-        ensures opened { IfOk result (λ r. Tells (D.state disk.old) → IsOpened ((D.state disk.old).reads 1) (D.state disk.new) r.0 r.1) }
-        ensures settled { IfOk result (λ r. (r.0.pending ≡ None) × (r.0.log.file ≡ 1)) }
-        ensures damaged { (at : ℕ) → IsErrOf result (start.Damaged at) → Tells (D.state disk.old) → log_of 1 ((D.state disk.old).reads 1) ≡ NoLog at }
-        ensures spent { IsErrOf result start.Spent → ⊥ }
-
-        // As for `recover`: a crash at any moment, a crash after the first sync.
-        ensures any_moment { Tells (D.state disk.old) → LeavesOnly 1 (D.state disk.old) (D.state disk.new)
-            (λ c. (D.state disk.old).leaves 1 c ⊎ IsAsFound 1 ((D.state disk.old).reads 1) c) }
         ensures since_sync { Tells (D.state disk.old) →
             (IsErrOf result start.StoreFault × LeavesOnly 1 (D.state disk.old) (D.state disk.new) ((D.state disk.old).leaves 1))
             ⊎ LeavesFrom 1 (D.state disk.old) (D.state disk.new) (IsRecovered 1 ((D.state disk.old).reads 1)) }

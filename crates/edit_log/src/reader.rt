@@ -1,8 +1,7 @@
 //! The operations of an edit log, one after another.
 ghost use Rattle.std.specs.Prelude.{◌≡◌};
 
-use crate::op_list::PlacedOp;
-use crate::replay::{opening_after, read_record};
+use crate::replay::{PlacedOp, opening_after, read_record};
 use frame_log::{Records, StartFault};
 use hk_base::Disk;
 use std::alloc::Global;
@@ -26,10 +25,11 @@ impl OpReader {
     ghost use Rattle.edit_ops.specs.declared.ops.EditOp.{EditOp};
     ghost use Rattle.edit_log.specs.Reader.{OpsAhead, IsNextOp, HasNoNextOp};
 
-    /// Reads the next operation, or `None` after the last. Returns `Damaged` only if the next record is not
-    /// an operation, or is an opening that is not one more than the last, or another operation before the
-    /// first opening, or if the disk doesn't tell what the file holds. The offset is that of the gate before
-    /// the record. After an error the reader must not be used.
+    /// Reads the next operation, or `None` after the last. After `None` nothing is ahead: unless the disk
+    /// fails, the next call returns `None` again. Returns `Damaged` only if the next record is not an
+    /// operation, or is an opening that is not one more than the last, or another operation before the first
+    /// opening, or if the disk doesn't tell what the file holds. The offset is that of the gate before the
+    /// record. After an error the reader must not be used.
     pub fn next<D: Disk>(
         &mut self,
         alloc: Global,

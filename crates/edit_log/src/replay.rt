@@ -1,14 +1,19 @@
-//! Reading an edit log: each record is an operation, and the openings among them count from 1.
-ghost use Rattle.std.specs.Prelude.{◌≡◌, ℕ, IfOk, IsErrOf, map};
+//! Reading the records of an edit log: each is an operation, and the openings among them count from 1.
+ghost use Rattle.std.specs.Prelude.{◌≡◌, ℕ, IfOk, IsErrOf};
 ghost use Rattle.frame_log.specs.declared.fault.StartFault.TheVariants.{Damaged, StoreFault, Spent};
-ghost use Rattle.frame_log.specs.Scan.{frame_view};
-ghost use Rattle.edit_log.specs.Replay.{IsListOf, IsNext, IsNoNext, IsTaken, in_turn, then_last};
+ghost use Rattle.edit_log.specs.Replay.{IsNext, IsNoNext, IsTaken, in_turn, then_last};
 
-use crate::op_list::{OpList, PlacedOp};
 use edit_ops::EditOp;
-use frame_log::{Frame, StartFault};
+use frame_log::StartFault;
 use hk_base::{NoMemory, RecordFault};
 use std::alloc::Global;
+
+/// An operation and the offset of the gate byte before its record.
+#[derive(Drop)]
+pub struct PlacedOp {
+    pub at: u64,
+    pub op: EditOp,
+}
 
 /// Returns whether an operation may follow this last opening.
 fn is_in_turn(last: u32, op: &EditOp) -> bool
@@ -16,10 +21,7 @@ fn is_in_turn(last: u32, op: &EditOp) -> bool
 {
     match op {
         EditOp::Opened { opening } => *opening as u64 == last as u64 + 1,
-        EditOp::Mkdir { .. } => 0 < last,
-        EditOp::File { .. } => 0 < last,
-        EditOp::Remove { .. } => 0 < last,
-        EditOp::Zone { .. } => 0 < last,
+        _ => 0 < last,
     }
 }
 
@@ -29,10 +31,7 @@ pub(crate) fn opening_after(last: u32, op: &EditOp) -> u32
 {
     match op {
         EditOp::Opened { opening } => *opening,
-        EditOp::Mkdir { .. } => last,
-        EditOp::File { .. } => last,
-        EditOp::Remove { .. } => last,
-        EditOp::Zone { .. } => last,
+        _ => last,
     }
 }
 
@@ -68,34 +67,4 @@ pub(crate) fn read_record(
         None => return Err(StartFault::Damaged { at }),
         Some(op) => return Ok(PlacedOp { at, op }),
     }
-}
-
-/// Reads the operations of the frames of a log, up to the first that is not one or is out of turn.
-pub(crate) fn read_ops(alloc: Global, frames: &[Frame]) -> Result<OpList, NoMemory>
-    ensures { IfOk result (λ ops. IsListOf (map frame_view frames.now) ops.list.items ops.opening ops.damaged) }
-{
-    let mut list = Vec::new(alloc);
-    let mut opening = 0;
-    'frames: for frame in frames {
-        let at = frame.at.saturating_sub(5);
-        let next = next_op(alloc, opening, frame.payload.as_slice())?;
-        match next {
-            None => {
-                return Ok(OpList {
-                    list,
-                    opening,
-                    damaged: Some(at),
-                });
-            }
-            Some(op) => {
-                opening = opening_after(opening, &op);
-                list.push(PlacedOp { at, op })?;
-            }
-        }
-    }
-    Ok(OpList {
-        list,
-        opening,
-        damaged: None,
-    })
 }

@@ -34,10 +34,10 @@ pub record IsFirstPayload (disk : DiskState) (old new : Records) (todo : List (L
   pub next_place : new.at ≡ old.at + 5 + length new.payload.items
   pub ahead : Ahead disk new rest
 
--- a reader returns the first of these payloads, or None if there are none
+-- a reader returns the first of these payloads, or None if there are none, and then stays where it is
 abbrev pub IsNextPayload : DiskState → Records → Records → List (List ℕ) → Option ℕ → Type 0
 IsNextPayload disk old new todo (Some place) = IsFirstPayload disk old new todo place
-IsNextPayload disk old new todo None = (todo ≡ []) × Ahead disk new []
+IsNextPayload disk old new todo None = (todo ≡ []) × (new.at ≡ old.at) × Ahead disk new []
 
 -- the number of bytes from the reader's offset to the end of the file
 abbrev pub left : Records → ℕ

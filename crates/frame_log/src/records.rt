@@ -76,8 +76,8 @@ impl Records {
     }
 
     /// Reads the next payload and returns its offset in the file, or `None` after the last. Returns
-    /// `Damaged` only if the disk doesn't tell what the file holds. On an error the reader stays at the
-    /// same payload.
+    /// `Damaged` only if the disk doesn't tell what the file holds. After `None` and after an error the
+    /// reader stays at the same place.
     pub fn next<D: Disk>(&mut self, disk: &mut D) -> Result<Option<u64>, LogFault>
         requires ahead { Tells (D.state disk.old) → ((todo : List (List ℕ)) × Ahead (D.state disk.old) self.old todo) }
 

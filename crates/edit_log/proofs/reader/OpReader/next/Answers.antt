@@ -1,12 +1,15 @@
-use Rattle.std.proofs.Common.{rules, ℕ, List, Option, ◌∙◌, subst}
+use Rattle.std.proofs.Common.{rules, ℕ, List, Option, refl, ◌∙◌, subst}
 use Rattle.frame_log.specs.Ahead.{IsFirstPayload, IsNextPayload}
 use Rattle.edit_log.specs.Replay.{IsNext, IsNoNext}
-use Rattle.edit_log.proofs.Readers.{first_op, no_next_op}
+use Rattle.edit_log.proofs.Readers.{first_op, no_next_op, no_op_left}
 use Rattle.edit_log.proofs.reader.OpReader.next.Goals as goal
 
 pub returns-in-None-clause-next : goal.returns-in-None-clause-next
 returns-in-None-clause-next g c told done todo a =
-    (subst (λ (o : Option ℕ). IsNextPayload (g.D.Disk.state c.next.new.disk) c.args.self.now.records c.next.new.self todo o) c.in-None.is (c.in_ok-next.ensures.first told todo a.ahead)).0
+    let old = c.args.self.now in
+    let D1 = g.D.Disk.state c.next.new.disk in
+    let end = subst (λ (o : Option ℕ). IsNextPayload D1 old.records c.next.new.self todo o) c.in-None.is (c.in_ok-next.ensures.first told todo a.ahead) in
+    no_op_left (g.D.Disk.state c.args.disk.now) D1 old _ done todo a end refl
 
 pub returns-in_err-placed-in-Some-clause-damaged : goal.returns-in_err-placed-in-Some-clause-damaged
 returns-in_err-placed-in-Some-clause-damaged g c at is told done todo a =

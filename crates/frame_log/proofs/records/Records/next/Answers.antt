@@ -47,7 +47,7 @@ returns-in-End-clause-first g c told todo a =
     let inside : old.at ≤ length F = omega (arith, a.size, old.at_in) in
     let here : IsEnd B c.in-End.gate = c.in-End.ensures.next B (sym long) (c.bytes_at.ensures ∙ shown F c.show.new.self old.at 5 inside shows) in
     let none : todo ≡ [] = no_more B a.gate a.rest a.shut todo a.split c.in-End.gate here in
-    (none, still_ahead D0 D1 old _ [] (subst (λ (l : List (List ℕ)). Ahead D0 old l) none a) (c.show.ensures.same.reads told) refl refl shows.bytes refl)
+    (none, refl, still_ahead D0 D1 old _ [] (subst (λ (l : List (List ℕ)). Ahead D0 old l) none a) (c.show.ensures.same.reads told) refl refl shows.bytes refl)
 
 pub returns-in-Broken-clause-damaged : goal.returns-in-Broken-clause-damaged
 returns-in-Broken-clause-damaged g c at is told =
@@ -69,4 +69,4 @@ returns-then-self-gate-lt7-clause-first g c told todo a =
     let B : List ℕ = drop old.at (D0.reads old.file) in
     let few : length B < 7 = omega (arith, length-drop old.at (D0.reads old.file), a.size, c.if-self-gate-lt7.true) in
     let none : todo ≡ [] = none_in_so_few B a.gate a.rest a.shut todo a.sized a.split few in
-    (none, subst (λ (l : List (List ℕ)). Ahead D0 old l) none a)
+    (none, refl, subst (λ (l : List (List ℕ)). Ahead D0 old l) none a)
