@@ -7,6 +7,7 @@ pub mod Grows
 pub mod HintLemmas
 pub mod Lasts
 pub mod Listings
+pub mod NearLemmas
 pub mod Orders
 pub mod Pasts
 pub mod PathBytes
@@ -15,6 +16,7 @@ pub mod Places
 pub mod Prefixes
 pub mod Provided
 pub mod Puts
+pub mod Raises
 pub mod Ranks
 pub mod Removals
 pub mod Rooms

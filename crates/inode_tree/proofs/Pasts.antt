@@ -85,6 +85,15 @@ past-above (e ∷ es) p (suc k) r h b =
 pub past-below : (es : List Entry) (p : List (List ℕ)) (k : ℕ) → k < length es → is_upto p (get_or es k any_entry).path ≡ false → rank_past es p ≤ k
 past-below es p k h b = elim (cases_lt k (rank_past es p)) [ inl a ↦ (let e = past-at es p k a in cc) | inr a ↦ a ]
 
+-- the rows before a path are among those
+pub rank-past : (es : List Entry) (p : List (List ℕ)) → rank es p ≤ rank_past es p
+rank-past [] p = omega arith
+rank-past (e ∷ es) p = go (is_before e.path p) (is_prefix p e.path) (rank-past es p)
+  where
+    go : (t u : Bool) → rank es p ≤ rank_past es p → cond t (suc (rank es p)) 0 ≤ cond (t || u) (suc (rank_past es p)) 0
+    go true u h = omega arith
+    go false u h = omega arith
+
 pub past-most : (es : List Entry) (p : List (List ℕ)) → rank_past es p ≤ length es
 past-most [] p = omega arith
 past-most (e ∷ es) p = go (is_upto p e.path) (past-most es p)

@@ -1,10 +1,11 @@
 -- Nodes in one list, named by their places in it, and their paths.
-use Rattle.std.specs.Prelude.{◌≡◌, ℕ, ◌+◌, ◌<◌, ◌≤◌, ◌||◌, zero, suc, true, ◌==◌, List, [], ◌∷◌, ◌++◌, length, map, slice_index_or, slice_set, Option, Some, None, if◌then◌else◌, String, ⊤}
+use Rattle.std.specs.Prelude.{◌≡◌, ℕ, ◌+◌, ◌-◌, ◌<◌, ◌≤◌, ◌||◌, zero, suc, true, ◌==◌, List, [], ◌∷◌, ◌++◌, length, map, slice_index_or, slice_set, take, Option, Some, None, if◌then◌else◌, String, ⊤}
 use Rattle.std.specs.declared.cmp.Ordering.{Ordering}
 use Rattle.std.specs.declared.cmp.Ordering.TheVariants.{Equal}
 use Rattle.std.specs.Ordering.{nat_cmp, ordering_then}
 use Rattle.std.specs.Cmp.Lexicographic.{slice_cmp}
 use Rattle.inode_tree.specs.declared.rows.Node.{Node}
+use Rattle.inode_tree.specs.declared.near.Near.{Near}
 use Rattle.inode_tree.specs.declared.rows.Kind.{Kind}
 use Rattle.inode_tree.specs.declared.rows.Kind.TheVariants.{Dir}
 use Rattle.std.specs.Vec.{vec_capacity}
@@ -122,6 +123,12 @@ pub record IsChildNode (ns : List Node) (n parent : ℕ) (name : List ℕ) : Typ
 abbrev pub IsHint : List Node → ℕ → List ℕ → Option ℕ → Type 0
 IsHint ns parent name None = ⊤
 IsHint ns parent name (Some n) = IsChildNode ns n parent name
+
+-- the nodes at a prefix of a path and above it
+pub record IsNear (ns : List Node) (p : List (List ℕ)) (near : Near) : Type 0 where
+  pub path : path_of ns near.node ≡ take near.depth p
+  pub parent : path_of ns near.above ≡ take (near.depth - 1) p
+  pub depth : near.depth ≤ length p
 
 -- the nodes that are not live, each once
 pub record IsFree (ns : List Node) (order free : List ℕ) : Type 0 where

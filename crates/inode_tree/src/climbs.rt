@@ -1,12 +1,12 @@
 //! Paths of nodes, by climbing from a node to the root.
 ghost use Rattle.std.specs.Prelude.{◌≡◌, ◌<◌, ◌≤◌, ◌-◌, ◌||◌, length, take};
-ghost use Rattle.inode_tree.specs.Arena.{IsLinked, path_of, cmp_front, name_cmp, rows_of, IsRising, AllWithin, HoldsRank, rank, rank_past};
+ghost use Rattle.inode_tree.specs.Arena.{IsLinked, path_of, cmp_front, name_cmp, rows_of, IsRising, AllWithin, HoldsRank, IsNear, rank, rank_past};
 ghost use Rattle.name_calls.specs.Paths.{is_before, is_prefix, path_cmp};
 ghost use Rattle.std.specs.Cmp.Lexicographic.{slice_cmp};
 ghost use Rattle.std.specs.Ordering.{nat_cmp};
 
-use crate::hints::Hints;
 use crate::names::NodeName;
+use crate::near::Near;
 use crate::order::Order;
 use crate::rows::Node;
 use hk_base::Text;
@@ -37,11 +37,12 @@ struct Met {
 }
 
 /// Compares the node's path with the first `upto` names of a path, as far as both go: the names
-/// from the root on, up to the first that differs.
-fn meet(nodes: &Vec<Node>, n: u32, path: &NPath, upto: usize) -> Met
+/// from the root or a near node on, up to the first that differs.
+fn meet(nodes: &Vec<Node>, n: u32, path: &NPath, upto: usize, near: Near) -> Met
     requires linked { IsLinked nodes.now.items }
     requires live { n < length nodes.now.items }
     requires upto { upto ≤ length path.now }
+    requires near { IsNear nodes.now.items path.now near }
     ensures found { result.found ≡ cmp_front (path_of nodes.now.items n) (take upto path.now) }
     ensures depth { result.depth ≡ length (path_of nodes.now.items n) }
 {
@@ -51,8 +52,20 @@ fn meet(nodes: &Vec<Node>, n: u32, path: &NPath, upto: usize) -> Met
             depth: 0,
         };
     }
+    if n == near.node {
+        return Met {
+            found: Ordering::Equal,
+            depth: near.depth,
+        };
+    }
+    if n == near.above {
+        return Met {
+            found: Ordering::Equal,
+            depth: near.depth.saturating_sub(1),
+        };
+    }
     let node = &nodes[n as usize];
-    let above = meet(nodes, node.parent, path, upto);
+    let above = meet(nodes, node.parent, path, upto, near);
     let depth = above.depth + 1;
     match above.found {
         Ordering::Less => Met {
@@ -89,13 +102,14 @@ fn compare_at(node: &Node, k: usize, path: &NPath, upto: usize) -> Ordering
     }
 }
 
-pub fn compare(nodes: &Vec<Node>, n: u32, path: &NPath, upto: usize) -> Ordering
+pub fn compare(nodes: &Vec<Node>, n: u32, path: &NPath, upto: usize, near: Near) -> Ordering
     requires linked { IsLinked nodes.now.items }
     requires live { n < length nodes.now.items }
     requires upto { upto ≤ length path.now }
+    requires near { IsNear nodes.now.items path.now near }
     ensures { result ≡ path_cmp (path_of nodes.now.items n) (take upto path.now) }
 {
-    let met = meet(nodes, n, path, upto);
+    let met = meet(nodes, n, path, upto, near);
     match met.found {
         Ordering::Less => Ordering::Less,
         Ordering::Equal => met.depth.cmp(&upto),
@@ -117,6 +131,7 @@ fn narrow(
     order: &Order,
     path: &NPath,
     upto: usize,
+    near: Near,
     span: Span,
     c: usize,
     at: usize,
@@ -124,6 +139,7 @@ fn narrow(
     requires linked { IsLinked nodes.now.items }
     requires within { AllWithin (length nodes.now.items) order.now.items }
     requires upto { upto ≤ length path.now }
+    requires near { IsNear nodes.now.items path.now near }
     requires rising { IsRising (rows_of nodes.now.items order.now.items) }
     requires around { HoldsRank nodes.now.items order.now.items (take upto path.now) span.low span.high }
     ensures around { HoldsRank nodes.now.items order.now.items (take upto path.now) result.low result.high }
@@ -135,7 +151,7 @@ fn narrow(
     if span.high <= at {
         return span;
     }
-    match compare(nodes, order.get_near(c, at), path, upto) {
+    match compare(nodes, order.get_near(c, at), path, upto, near) {
         Ordering::Less => Span {
             low: at + 1,
             high: span.high,
@@ -159,11 +175,20 @@ fn pieces_for(order: &Order, span: Span) -> usize {
     0
 }
 
-/// Returns how many rows come before the path formed by the first `upto` names of `path`.
-pub fn place(nodes: &Vec<Node>, order: &Order, hints: &Hints, path: &NPath, upto: usize) -> usize
+/// Returns how many rows come before the path formed by the first `upto` names of `path`. Tries the places
+/// after `last` first.
+pub fn place_from(
+    nodes: &Vec<Node>,
+    order: &Order,
+    last: usize,
+    path: &NPath,
+    upto: usize,
+    near: Near,
+) -> usize
     requires linked { IsLinked nodes.now.items }
     requires within { AllWithin (length nodes.now.items) order.now.items }
     requires upto { upto ≤ length path.now }
+    requires near { IsNear nodes.now.items path.now near }
     requires rising { IsRising (rows_of nodes.now.items order.now.items) }
     ensures { result ≡ rank (rows_of nodes.now.items order.now.items) (take upto path.now) }
 {
@@ -171,15 +196,23 @@ pub fn place(nodes: &Vec<Node>, order: &Order, hints: &Hints, path: &NPath, upto
         low: 0,
         high: order.len(),
     };
-    // rows that are added in path order lie right after one another
-    let after = narrow(nodes, order, path, upto, all, order.pieces(), hints.last);
-    let mut span = narrow(nodes, order, path, upto, after, order.pieces(), after.low);
+    let after = narrow(nodes, order, path, upto, near, all, order.pieces(), last);
+    let mut span = narrow(
+        nodes,
+        order,
+        path,
+        upto,
+        near,
+        after,
+        order.pieces(),
+        after.low,
+    );
     let mut c = 0usize;
     let mut end = pieces_for(order, span);
     'pieces: while end - c > 1 {
         let middle = c + (end - c) / 2;
         let start = order.start(middle);
-        let next = narrow(nodes, order, path, upto, span, middle, start);
+        let next = narrow(nodes, order, path, upto, near, span, middle, start);
         span = next;
         if start < next.low {
             c = middle;
@@ -189,7 +222,7 @@ pub fn place(nodes: &Vec<Node>, order: &Order, hints: &Hints, path: &NPath, upto
     }
     'halve: while span.low < span.high {
         let middle = span.low + (span.high - span.low) / 2;
-        let next = narrow(nodes, order, path, upto, span, c, middle);
+        let next = narrow(nodes, order, path, upto, near, span, c, middle);
         span = next;
     }
     span.low
@@ -201,7 +234,7 @@ fn before_or_below(nodes: &Vec<Node>, n: u32, path: &NPath) -> bool
     requires live { n < length nodes.now.items }
     ensures { result ≡ (is_before (path_of nodes.now.items n) path.now || is_prefix path.now (path_of nodes.now.items n)) }
 {
-    let met = meet(nodes, n, path, path.len());
+    let met = meet(nodes, n, path, path.len(), Near::root());
     match met.found {
         Ordering::Less => true,
         Ordering::Equal => true,
@@ -209,18 +242,36 @@ fn before_or_below(nodes: &Vec<Node>, n: u32, path: &NPath) -> bool
     }
 }
 
-/// Returns how many rows come before the path, are at the path or lie below it.
-pub fn past(nodes: &Vec<Node>, order: &Order, path: &NPath) -> usize
+/// Returns a place to look at in a search from `low` up to `high`: in the middle, but at most `width` places
+/// on.
+fn place_between(low: usize, high: usize, width: usize) -> usize
+    requires { low < high }
+    ensures from { low ≤ result }
+    ensures to { result < high }
+{
+    let half = (high - low) / 2;
+    if width < half {
+        return low + width;
+    }
+    low + half
+}
+
+/// Returns how many rows come before the path, are at the path or lie below it. The search takes long steps
+/// only if there are many more of them than `from`.
+pub fn past(nodes: &Vec<Node>, order: &Order, path: &NPath, from: usize) -> usize
     requires linked { IsLinked nodes.now.items }
     requires within { AllWithin (length nodes.now.items) order.now.items }
     requires rising { IsRising (rows_of nodes.now.items order.now.items) }
+    requires from { from ≤ rank_past (rows_of nodes.now.items order.now.items) path.now }
     ensures { result ≡ rank_past (rows_of nodes.now.items order.now.items) path.now }
 {
-    let mut low = 0usize;
+    let mut low = from;
     let mut high = order.len();
+    let mut width = 0usize;
     'halve: while low < high {
-        let middle = low + (high - low) / 2;
+        let middle = place_between(low, high, width);
         if before_or_below(nodes, order.get(middle), path) {
+            width = (middle - low).saturating_mul(2).saturating_add(1);
             low = middle + 1;
         } else {
             high = middle;
@@ -235,7 +286,7 @@ pub fn below(nodes: &Vec<Node>, n: u32, path: &NPath) -> bool
     requires live { n < length nodes.now.items }
     ensures { result ≡ is_prefix path.now (path_of nodes.now.items n) }
 {
-    let met = meet(nodes, n, path, path.len());
+    let met = meet(nodes, n, path, path.len(), Near::root());
     match met.found {
         Ordering::Less => false,
         Ordering::Equal => path.len() <= met.depth,
@@ -249,7 +300,7 @@ pub fn above(nodes: &Vec<Node>, n: u32, path: &NPath) -> bool
     requires live { n < length nodes.now.items }
     ensures { result ≡ is_prefix (path_of nodes.now.items n) path.now }
 {
-    let met = meet(nodes, n, path, path.len());
+    let met = meet(nodes, n, path, path.len(), Near::root());
     match met.found {
         Ordering::Less => false,
         Ordering::Equal => met.depth <= path.len(),

@@ -1,9 +1,11 @@
 //! Hints for searches. No answer depends on them, only the time until it is found.
-ghost use Rattle.std.specs.Prelude.{ℕ, Option, Some, ◌≡◌, ◌≤◌, IsTrue, IfSome, length, take};
+ghost use Rattle.std.specs.Prelude.{ℕ, Option, ◌≡◌, ◌<◌, ◌≤◌, [], IsTrue, length, slice_index_or, take};
 ghost use Rattle.std.specs.Str.{bytes_eq};
-ghost use Rattle.inode_tree.specs.Arena.{IsChildNode, IsHint, IsTree, number_of};
+ghost use Rattle.inode_tree.specs.Arena.{IsChildNode, IsHint, IsLive, IsNear, IsTree, rank, rows_of};
 
+use crate::climbs::place_from;
 use crate::names::NodeName;
+use crate::near::{Near, near_at};
 use crate::order::Order;
 use crate::rows::Node;
 use hk_base::Text;
@@ -14,12 +16,16 @@ use std::hash::{FoldHasher, Hasher};
 /// How many slots are tried for a name. So names whose hashes collide cost no more than this.
 const TRIES: usize = 16;
 
-/// The place where the last row was added, and the numbers of nodes by their directories and names.
+/// The path that is likely to be looked for next, and the numbers of nodes by their directories and names.
 /// A number is in one of the `TRIES` slots from its hash on. Slots may hold numbers of nodes that
 /// have changed since, so each number that is found is checked at its node.
 #[derive(Drop)]
 pub struct Hints {
-    pub last: usize,
+    /// The place right before that of the path.
+    last: usize,
+    /// The deepest node that was found on the way to the path, and the length of its path.
+    node: u32,
+    depth: usize,
     slots: Vec<u32>,
     noted: usize,
 }
@@ -28,9 +34,19 @@ impl Hints {
     pub fn new(alloc: Global) -> Hints {
         Hints {
             last: 0,
+            node: 0,
+            depth: 0,
             slots: Vec::new(alloc),
             noted: 0,
         }
+    }
+
+    /// Notes the path that is likely to be looked for next: the place right before its place, and a node on
+    /// the way to it.
+    pub fn set_next(&mut self, last: usize, near: Near) {
+        self.last = last;
+        self.node = near.node;
+        self.depth = near.depth;
     }
 
     /// Notes the number of the node that has a name in a directory.
@@ -141,28 +157,124 @@ fn child(slots: &Vec<u32>, nodes: &Vec<Node>, parent: u32, name: &Text) -> Optio
     None
 }
 
-/// Returns the number of the row at the first `upto` names of a path, if each node on the way is
-/// noted.
-pub fn noted(
+/// Returns a node if it has a name, and so is that of a row, else the root.
+fn live_or_root(nodes: &Vec<Node>, order: &Order, n: u32) -> u32
+    requires tree { (ids : ℕ → Option ℕ) × IsTree nodes.now.items order.now.items ids }
+    ensures { IsLive order.now.items result }
+{
+    let _ = order;
+    if n as usize >= nodes.len() {
+        return 0;
+    }
+    if nodes[n as usize].name.as_bytes().len() == 0 {
+        return 0;
+    }
+    n
+}
+
+/// Returns whether the node has the `k`-th name of the first `upto` names of a path.
+fn has_name(node: &Node, path: &NPath, k: usize, upto: usize) -> bool
+    requires upto { upto ≤ length path.now }
+    ensures { IsTrue result → (k < upto) × (node.now.name ≡ slice_index_or path.now k []) }
+{
+    if k < upto {
+        return is_same(&node.name, path.name(k));
+    }
+    false
+}
+
+/// Returns the deepest node at a prefix of the path that is the expected node or lies above it. That of
+/// the root if the node has changed since.
+fn expected(nodes: &Vec<Node>, order: &Order, hints: &Hints, path: &NPath, upto: usize) -> Near
+    requires tree { (ids : ℕ → Option ℕ) × IsTree nodes.now.items order.now.items ids }
+    requires upto { upto ≤ length path.now }
+    ensures near { IsNear nodes.now.items path.now result }
+    ensures live { IsLive order.now.items result.node }
+    ensures upto { result.depth ≤ upto }
+{
+    let mut m = live_or_root(nodes, order, hints.node);
+    let mut k = hints.depth;
+    let mut near = m;
+    let mut depth = k;
+    'climb: while m != 0 {
+        if k == 0 {
+            return near_at(nodes, order, path, 0, 0);
+        }
+        k -= 1;
+        let node = &nodes[m as usize];
+        m = node.parent;
+        if !has_name(node, path, k, upto) {
+            near = m;
+            depth = k;
+        }
+    }
+    if k != 0 {
+        return near_at(nodes, order, path, 0, 0);
+    }
+    near_at(nodes, order, path, near, depth)
+}
+
+/// Follows the first `upto` names of a path, as long as the nodes are noted. Returns the last of these
+/// nodes.
+pub fn follow(nodes: &Vec<Node>, order: &Order, hints: &Hints, path: &NPath, upto: usize) -> Near
+    requires tree { (ids : ℕ → Option ℕ) × IsTree nodes.now.items order.now.items ids }
+    requires upto { upto ≤ length path.now }
+    ensures near { IsNear nodes.now.items path.now result }
+    ensures live { IsLive order.now.items result.node }
+    ensures upto { result.depth ≤ upto }
+{
+    let start = expected(nodes, order, hints, path, upto);
+    let mut m = start.node;
+    let mut k = start.depth;
+    'names: while k < upto {
+        match child(&hints.slots, nodes, m, path.name(k)) {
+            Some(n) => m = n,
+            None => return near_at(nodes, order, path, m, k),
+        }
+        k += 1;
+    }
+    near_at(nodes, order, path, m, k)
+}
+
+/// Returns how many rows come before the path formed by the first `upto` names of `path`.
+pub fn place(nodes: &Vec<Node>, order: &Order, hints: &Hints, path: &NPath, upto: usize) -> usize
+    requires tree { (ids : ℕ → Option ℕ) × IsTree nodes.now.items order.now.items ids }
+    requires upto { upto ≤ length path.now }
+    ensures { result ≡ rank (rows_of nodes.now.items order.now.items) (take upto path.now) }
+{
+    place_near(
+        nodes,
+        order,
+        hints,
+        path,
+        upto,
+        follow(nodes, order, hints, path, upto),
+    )
+}
+
+/// Notes that a path is likely to be looked for next.
+pub fn expect(nodes: &Vec<Node>, order: &Order, hints: &mut Hints, path: &NPath)
+    requires tree { (ids : ℕ → Option ℕ) × IsTree nodes.now.items order.now.items ids }
+{
+    let upto = path.len();
+    let near = follow(nodes, order, hints, path, upto);
+    let at = place_near(nodes, order, hints, path, upto, near);
+    hints.set_next(at.saturating_sub(1), near);
+}
+
+/// Returns the same as `place`, by comparing from a near node on.
+pub fn place_near(
     nodes: &Vec<Node>,
     order: &Order,
     hints: &Hints,
     path: &NPath,
     upto: usize,
-) -> Option<u32>
+    near: Near,
+) -> usize
     requires tree { (ids : ℕ → Option ℕ) × IsTree nodes.now.items order.now.items ids }
     requires upto { upto ≤ length path.now }
-    ensures { IfSome result (λ n. number_of nodes.now.items order.now.items (take upto path.now) ≡ Some n) }
+    requires near { IsNear nodes.now.items path.now near }
+    ensures { result ≡ rank (rows_of nodes.now.items order.now.items) (take upto path.now) }
 {
-    let _ = order;
-    let mut m = 0u32;
-    let mut k = 0usize;
-    'names: while k < upto {
-        match child(&hints.slots, nodes, m, path.name(k)) {
-            Some(n) => m = n,
-            None => return None,
-        }
-        k += 1;
-    }
-    Some(m)
+    place_from(nodes, order, hints.last, path, upto, near)
 }

@@ -4,6 +4,7 @@
 mod climbs;
 mod hints;
 mod names;
+mod near;
 mod order;
 mod rows;
 mod tree;

@@ -1,7 +1,7 @@
 //! A list of numbers, stored in pieces of bounded length.
-ghost use Rattle.std.specs.Prelude.{◌≡◌, ◌<◌, ◌≤◌, ◌+◌, ◌++◌, ◌∷◌, [], length, take, drop, slice_index_or, OnOk, OnErr, IfOk, IsOk, IsSome, vec_capacity, vec_len};
+ghost use Rattle.std.specs.Prelude.{ℕ, true, false, ◌≡◌, ◌<◌, ◌≤◌, ◌+◌, ◌++◌, ◌∷◌, [], length, take, drop, slice_index_or, OnOk, OnErr, IfOk, IsOk, IsSome, vec_capacity, vec_len};
 ghost use Rattle.std.specs.List.{insert, remove};
-ghost use Rattle.inode_tree.specs.Listed.{starts_of, flat, halved, FitsAt, HoldsPlace, IsEmptyOr};
+ghost use Rattle.inode_tree.specs.Listed.{starts_of, flat, halved, raised, FitsAt, HoldsPlace, IsEmptyOr};
 
 use hk_base::NoMemory;
 use std::alloc::Global;
@@ -181,6 +181,19 @@ fn renumber(pieces: &Vec<Piece>, starts: &mut Vec<u32>, c: usize)
     }
 }
 
+/// Adds one to the starts after the `c`-th one.
+fn raise(starts: &mut [u32], c: usize)
+    requires c { c < length starts.old }
+    requires few { (k : ℕ) → k < length starts.old → slice_index_or starts.old k 0 ≤ 1000000 }
+    ensures { starts.new ≡ raised c starts.old }
+{
+    let mut j = c + 1;
+    'raise: while j < starts.len() {
+        starts[j] += 1;
+        j += 1;
+    }
+}
+
 /// Inserts `n` at index `i`, into the `c`-th piece, which must have room.
 fn put_in(pieces: &mut Vec<Piece>, starts: &mut Vec<u32>, c: usize, i: usize, n: u32)
     requires starts { starts.old.items ≡ starts_of 0 pieces.old.items }
@@ -191,7 +204,7 @@ fn put_in(pieces: &mut Vec<Piece>, starts: &mut Vec<u32>, c: usize, i: usize, n:
 {
     let k = i - starts[c] as usize;
     pieces[c].insert(k, n);
-    renumber(pieces, starts, c);
+    raise(starts.as_mut_slice(), c);
 }
 
 fn slip_piece(pieces: &mut Vec<Piece>, i: usize, piece: Piece)
@@ -333,8 +346,8 @@ fn put(pieces: &mut Vec<Piece>, starts: &mut Vec<u32>, extra: &mut Option<Piece>
     ensures empty { IsEmptyOr extra.new }
     ensures flat { flat pieces.new.items ≡ insert (flat pieces.old.items) i n }
 {
-    if pieces.len() == 0 {
-        begin(pieces, starts, extra, n);
+    if begins_piece(pieces, starts, i) {
+        append(pieces, starts, extra, n);
         return;
     }
     let c = locate(starts, i);
@@ -355,22 +368,41 @@ fn put(pieces: &mut Vec<Piece>, starts: &mut Vec<u32>, extra: &mut Option<Piece>
     }
 }
 
-/// Inserts the first number, in reserved memory.
-fn begin(pieces: &mut Vec<Piece>, starts: &mut Vec<u32>, extra: &mut Option<Piece>, n: u32)
-    requires none { pieces.old.items ≡ [] }
-    requires starts { starts.old.items ≡ [] }
+/// Returns whether a number at index `i` comes after all others and begins a piece: if the last piece is
+/// full. So pieces that are filled in order are full.
+fn begins_piece(pieces: &Vec<Piece>, starts: &Vec<u32>, i: usize) -> bool
+    requires starts { starts.now.items ≡ starts_of 0 pieces.now.items }
+    requires within { i ≤ length (flat pieces.now.items) }
+    ensures end { result ≡ true → i ≡ length (flat pieces.now.items) }
+    ensures some { result ≡ false → 0 < length pieces.now.items }
+{
+    let len = pieces.len();
+    if len == 0 {
+        return true;
+    }
+    if pieces[len - 1].len() < 1024 {
+        return false;
+    }
+    i == count(pieces, starts)
+}
+
+/// Appends a number in a piece of its own, in reserved memory.
+fn append(pieces: &mut Vec<Piece>, starts: &mut Vec<u32>, extra: &mut Option<Piece>, n: u32)
+    requires starts { starts.old.items ≡ starts_of 0 pieces.old.items }
     requires empty { IsEmptyOr extra.old }
+    requires count { length (flat pieces.old.items) < 1000000 }
     requires room { (vec_len pieces.old < vec_capacity pieces.old) × (vec_len starts.old < vec_capacity starts.old) × IsSome extra.old }
-    ensures starts { starts.new.items ≡ 0 ∷ [] }
-    ensures pieces { pieces.new.items ≡ (n ∷ []) ∷ [] }
+    ensures starts { starts.new.items ≡ starts_of 0 pieces.new.items }
+    ensures flat { flat pieces.new.items ≡ flat pieces.old.items ++ n ∷ [] }
     ensures empty { IsEmptyOr extra.new }
 {
     match mem::replace(extra, None) {
         Some(empty) => {
+            let start = count(pieces, starts);
             let mut piece = empty;
             piece.insert(0, n);
             pieces.push_reserved(piece);
-            starts.push_reserved(0);
+            starts.push_reserved(start as u32);
         }
         None => (),
     }

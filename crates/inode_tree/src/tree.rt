@@ -5,7 +5,7 @@ ghost use Rattle.std.specs.Bool.{nat_eq};
 ghost use Rattle.std.specs.List.{insert};
 ghost use Rattle.std.specs.Option.{option_map};
 ghost use Rattle.name_calls.specs.Paths.{is_relative, last_name, parent};
-ghost use Rattle.inode_tree.specs.Arena.{HasRoom, IsFree, IsKept, IsLinked, IsTree, blank, number_of, path_of, rekind, rows_of};
+ghost use Rattle.inode_tree.specs.Arena.{HasRoom, IsFree, IsKept, IsLinked, IsLive, IsNear, IsTree, blank, number_of, path_of, rekind, rows_of};
 ghost use Rattle.inode_tree.specs.declared.rows.Kind.TheVariants.{Dir, File};
 ghost use Rattle.inode_tree.specs.Rows.{IsRows, entry_of, has_children, is_dir, is_dir_at, need, put, root_only, row_at, set_kind, zone_id};
 
@@ -14,9 +14,10 @@ mod children;
 mod path_bytes;
 mod removal;
 
-use crate::climbs::{below, compare, place};
-use crate::hints::{Hints, noted};
+use crate::climbs::{below, compare};
+use crate::hints::{Hints, expect, follow, place, place_near};
 use crate::names::{NodeName, copy_of, name_in};
+use crate::near::Near;
 use crate::order::Order;
 use crate::rows::{Kind, Node, Row};
 use crate::zones::zone_at;
@@ -154,6 +155,13 @@ impl Tree {
         zone_at(&self.nodes, &self.order, &self.hints, path)
     }
 
+    /// Notes where the path is or would be, so that the next calls for this path find it faster.
+    pub fn focus(&mut self, path: &NPath)
+        ensures { self.new ≡ self.old }
+    {
+        expect(&self.nodes, &self.order, &mut self.hints, path);
+    }
+
     /// Reserves the memory that `mkdir` at this path needs, so that `mkdir` can't fail. Returns
     /// `NoMemory` if allocation fails. The rows are unchanged in either case.
     pub fn reserve_mkdir(&mut self, path: &NPath, _id: u64) -> Result<(), NoMemory>
@@ -266,22 +274,38 @@ pub fn seek(
     requires upto { upto ≤ length path.now }
     ensures { result ≡ number_of nodes.now.items order.now.items (take upto path.now) }
 {
-    match noted(nodes, order, hints, path, upto) {
-        Some(n) => Some(n),
-        None => search(nodes, order, hints, path, upto),
-    }
+    search(
+        nodes,
+        order,
+        hints,
+        path,
+        upto,
+        follow(nodes, order, hints, path, upto),
+    )
 }
 
-/// Returns the same as `seek` by a search in the order.
-fn search(nodes: &Vec<Node>, order: &Order, hints: &Hints, path: &NPath, upto: usize) -> Option<u32>
+/// Returns the same as `seek`: the near node if it is at the path, else by a search in the order.
+pub fn search(
+    nodes: &Vec<Node>,
+    order: &Order,
+    hints: &Hints,
+    path: &NPath,
+    upto: usize,
+    near: Near,
+) -> Option<u32>
     requires tree { (ids : ℕ → Option ℕ) × IsTree nodes.now.items order.now.items ids }
     requires upto { upto ≤ length path.now }
+    requires near { IsNear nodes.now.items path.now near }
+    requires live { IsLive order.now.items near.node }
     ensures { result ≡ number_of nodes.now.items order.now.items (take upto path.now) }
 {
-    let at = place(nodes, order, hints, path, upto);
+    if near.depth == upto {
+        return Some(near.node);
+    }
+    let at = place_near(nodes, order, hints, path, upto, near);
     if at < order.len() {
         let n = order.get(at);
-        match compare(nodes, n, path, upto) {
+        match compare(nodes, n, path, upto, near) {
             Ordering::Less => None,
             Ordering::Equal => Some(n),
             Ordering::Greater => None,
@@ -505,14 +529,15 @@ fn put_in(
     ensures rows { rows_of nodes.new.items order.new.items ≡ put (record { path = path.now; row = row }) (rows_of nodes.old.items order.old.items) }
 {
     let upto = path.len() - 1;
-    let parent = match seek(nodes, order, hints, path, upto) {
+    let near = follow(nodes, order, hints, path, upto);
+    let parent = match search(nodes, order, hints, path, upto, near) {
         Some(n) => n,
         None => unreachable!(),
     };
-    let at = place(nodes, order, hints, path, upto + 1);
+    let at = place_near(nodes, order, hints, path, upto + 1, near);
     let name = name_in(alloc, ready, path.name(upto));
     hints.note(parent, path.name(upto), free[free.len() - 1]);
-    hints.last = at;
+    hints.set_next(at, near);
     commit(nodes, order, places, free, at, Node { parent, name, row });
 }
 

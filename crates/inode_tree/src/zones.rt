@@ -3,10 +3,10 @@ ghost use Rattle.std.specs.Prelude.{◌≡◌, ◌<◌, ◌≤◌, length, ℕ, 
 ghost use Rattle.inode_tree.specs.Arena.{IsTree, IsLive, rows_of, path_of};
 ghost use Rattle.inode_tree.specs.Rows.{zone_id, is_marked};
 
-use crate::hints::Hints;
+use crate::hints::{Hints, follow};
 use crate::order::Order;
 use crate::rows::{Kind, Node};
-use crate::tree::seek;
+use crate::tree::search;
 use name_calls::NPath;
 
 /// Returns whether the node is a directory that is marked with a key.
@@ -47,13 +47,14 @@ fn standing(nodes: &Vec<Node>, order: &Order, hints: &Hints, path: &NPath) -> u3
     ensures zone { zone_id (rows_of nodes.now.items order.now.items) (path_of nodes.now.items result) ≡ zone_id (rows_of nodes.now.items order.now.items) path.now }
 {
     let mut upto = path.len();
-    'shorten: while upto > 0 {
-        match seek(nodes, order, hints, path, upto) {
+    let near = follow(nodes, order, hints, path, upto);
+    'shorten: while upto > near.depth {
+        match search(nodes, order, hints, path, upto, near) {
             Some(n) => return n,
             None => upto -= 1,
         }
     }
-    0
+    near.node
 }
 
 /// Returns the id of the deepest marked directory that is the path or lies above it.

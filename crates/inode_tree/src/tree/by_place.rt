@@ -6,7 +6,8 @@ ghost use Rattle.inode_tree.specs.Below.{at_or_above, at_or_below};
 ghost use Rattle.name_calls.specs.Paths.{is_prefix, is_relative};
 
 use super::Tree;
-use crate::climbs::{above, below, depth, place};
+use crate::climbs::{above, below, depth};
+use crate::hints::place;
 use crate::names::copy_of;
 use crate::rows::{Node, Row};
 use hk_base::NoMemory;

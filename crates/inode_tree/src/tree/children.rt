@@ -5,8 +5,8 @@ ghost use Rattle.inode_tree.specs.Listing.{children};
 ghost use Rattle.inode_tree.specs.Rows.{is_dir};
 
 use super::{Tree, build};
-use crate::climbs::{depth, past, place};
-use crate::hints::Hints;
+use crate::climbs::{depth, past};
+use crate::hints::{Hints, place};
 use crate::names::copy_of;
 use crate::order::Order;
 use crate::rows::Node;
@@ -38,7 +38,7 @@ fn list(
 {
     let mut list = ChildList::new(alloc);
     let mut at = place(nodes, order, hints, path, path.len());
-    let end = past(nodes, order, path);
+    let end = past(nodes, order, path, at);
     'each: while at < end {
         let n = order.get(at);
         if depth(nodes, n) == path.len() + 1 {
@@ -77,5 +77,5 @@ fn skip(alloc: Global, nodes: &Vec<Node>, order: &Order, at: usize) -> Result<us
         return Ok(next);
     }
     let path = build(alloc, nodes, n)?;
-    Ok(past(nodes, order, &path))
+    Ok(past(nodes, order, &path, next))
 }

@@ -7,8 +7,8 @@ ghost use Rattle.inode_tree.specs.Arena.{IsKept, IsLeaf, rows_of};
 ghost use Rattle.inode_tree.specs.Rows.{removed};
 
 use super::{Tree, blank_node};
-use crate::climbs::{past, place};
-use crate::hints::Hints;
+use crate::climbs::past;
+use crate::hints::{Hints, place};
 use crate::order::Order;
 use crate::rows::Node;
 use name_calls::NPath;
@@ -75,7 +75,7 @@ fn clear(
     ensures rows { rows_of nodes.new.items order.new.items ≡ removed path.now (rows_of nodes.old.items order.old.items) }
 {
     let from = place(nodes, order, hints, path, path.len());
-    let mut end = past(nodes, order, path);
+    let mut end = past(nodes, order, path, from);
     'each: while from < end {
         end -= 1;
         take_out(nodes, order, places, free, end);

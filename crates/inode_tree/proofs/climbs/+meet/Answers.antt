@@ -1,6 +1,7 @@
-use Rattle.std.proofs.Common.{arith, ◌≡◌, ◌<◌, length, take, ℕ, List, get_or, sym, ap, ◌∙◌, Ordering, Less, Equal, Greater}
+use Rattle.std.proofs.Common.{arith, ◌≡◌, ◌<◌, length, take, ℕ, ◌-◌, List, get_or, sym, ap, ◌∙◌, Ordering, Less, Equal, Greater}
 use Rattle.inode_tree.specs.Arena.{IsLinked, path_of, cmp_front, name_cmp}
 use Rattle.inode_tree.proofs.Ups.{full-from, length-root, path-root, path-short}
+use Rattle.inode_tree.proofs.NearLemmas.{front-near, length-near}
 use Rattle.inode_tree.proofs.Orders.{front-snoc}
 use Rattle.std.specs.Ordering.{ordering_then}
 use Rattle.inode_tree.specs.declared.rows.Node.{Node}
@@ -19,6 +20,18 @@ returns-then-n-eq0-clause-found t c = sym (ap (λ (k : ℕ). cmp_front (path_of 
 
 pub returns-then-n-eq0-clause-depth : goal.returns-then-n-eq0-clause-depth
 returns-then-n-eq0-clause-depth t c = sym (length-root c.args.nodes.now.items c.args.n c.if-n-eq0.true)
+
+pub returns-then-n-near-clause-found : goal.returns-then-n-near-clause-found
+returns-then-n-near-clause-found t c = sym (front-near c.args.nodes.now.items c.args.n c.args.near.depth c.args.upto c.args.path.now (ap (path_of c.args.nodes.now.items) c.if-n-near.true ∙ c.requires.near.path))
+
+pub returns-then-n-near-clause-depth : goal.returns-then-n-near-clause-depth
+returns-then-n-near-clause-depth t c = sym (length-near c.args.nodes.now.items c.args.n c.args.near.depth c.args.path.now (ap (path_of c.args.nodes.now.items) c.if-n-near.true ∙ c.requires.near.path) c.requires.near.depth)
+
+pub returns-then-n-near-2-clause-found : goal.returns-then-n-near-2-clause-found
+returns-then-n-near-2-clause-found t c = sym (front-near c.args.nodes.now.items c.args.n (c.args.near.depth - 1) c.args.upto c.args.path.now (ap (path_of c.args.nodes.now.items) c.if-n-near-2.true ∙ c.requires.near.parent))
+
+pub returns-then-n-near-2-clause-depth : goal.returns-then-n-near-2-clause-depth
+returns-then-n-near-2-clause-depth t c = c.saturating_sub.ensures ∙ sym (length-near c.args.nodes.now.items c.args.n (c.args.near.depth - 1) c.args.path.now (ap (path_of c.args.nodes.now.items) c.if-n-near-2.true ∙ c.requires.near.parent) (let d = c.requires.near.depth in omega arith))
 
 pub overflow_add-depth : goal.overflow_add-depth
 overflow_add-depth t c = let short = path-short c.args.nodes.now.items c.index-node.result.now.parent in let e = c.meet-above.ensures.depth in omega arith

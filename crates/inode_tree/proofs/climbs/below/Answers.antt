@@ -1,10 +1,14 @@
-use Rattle.std.proofs.Common.{arith, ◌≡◌, length, take, ℕ, Bool, ◌&&◌, List, refl, sym, ap, ◌∙◌, take_all, Ordering, Less, Equal, Greater}
+use Rattle.std.proofs.Common.{arith, ◌≡◌, length, take, ℕ, Bool, ◌&&◌, List, refl, sym, ap, ◌∙◌, take_all, subst, Ordering, Less, Equal, Greater}
 use Rattle.std.specs.Prelude.{nat_le}
 use Rattle.std.specs.Ordering.{is_eq}
-use Rattle.inode_tree.specs.Arena.{path_of, cmp_front}
+use Rattle.inode_tree.specs.Arena.{IsNear, path_of, cmp_front}
 use Rattle.name_calls.specs.Paths.{is_prefix}
 use Rattle.inode_tree.proofs.Prefixes.{prefix-front}
+use Rattle.inode_tree.proofs.NearLemmas.{near-root}
 use Rattle.inode_tree.proofs.climbs.below.Goals as goal
+
+pub meet-met-requires-clause-near : goal.meet-met-requires-clause-near
+meet-met-requires-clause-near c = subst (IsNear c.args.nodes.now.items c.args.path.now) (sym c.root.ensures) (near-root c.args.nodes.now.items c.args.path.now)
 
 reads : (p q : List (List ℕ)) (u : ℕ) (o : Ordering) (c : Bool) → u ≡ length p → o ≡ cmp_front q (take u p) → c ≡ nat_le (length p) (length q) → (is_eq o && c) ≡ is_prefix p q
 reads p q u o c eu eo ec = sym (prefix-front p q ∙ ap (λ (x : List (List ℕ)). is_eq (cmp_front q x) && nat_le (length p) (length q)) (sym (take_all u p (omega arith))) ∙ ap (λ (r : Ordering). is_eq r && nat_le (length p) (length q)) (sym eo) ∙ ap (λ (b : Bool). is_eq o && b) (sym ec))

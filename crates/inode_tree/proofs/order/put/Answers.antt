@@ -3,10 +3,16 @@ use Rattle.std.specs.List.{insert}
 use Rattle.inode_tree.specs.Listed.{starts_of, flat, FitsAt}
 use Rattle.std.proofs.lemmas.List.{get_or_default}
 use Rattle.inode_tree.proofs.Pieces.{first-start, same-length, end-of, flat-halved, length-halved, fits-located, fits-left, fits-right}
+use Rattle.inode_tree.proofs.Raises.{insert-last}
 use Rattle.inode_tree.proofs.order.put.Goals as goal
 
 pub locate-c-requires-clause-some : goal.locate-c-requires-clause-some
-locate-c-requires-clause-some c = let e = same-length _ _ c.requires.starts in let f = c.if-len-eq0.false in omega arith
+locate-c-requires-clause-some c = let e = same-length _ _ c.requires.starts in let f = c.begins_piece.ensures.some c.if-begins_piece.false in omega arith
+
+pub returns-then-begins_piece-clause-flat : goal.returns-then-begins_piece-clause-flat
+returns-then-begins_piece-clause-flat c =
+    c.append.ensures.flat ∙ sym (insert-last (flat c.args.pieces.now.items) c.args.n)
+    ∙ ap (λ (k : ℕ). insert (flat c.args.pieces.now.items) k c.args.n) (sym (c.begins_piece.ensures.end c.if-begins_piece.true))
 
 pub locate-c-requires-clause-first : goal.locate-c-requires-clause-first
 locate-c-requires-clause-first c = ap (λ (xs : List ℕ). get_or xs 0 0) c.requires.starts ∙ first-start c.args.pieces.now.items
@@ -21,7 +27,7 @@ pub put_in-requires-clause-fits : goal.put_in-requires-clause-fits
 put_in-requires-clause-fits c =
     let h = among _ _ _ c.requires.starts c.locate-c.ensures.within in
     let e = ap length (c.index.ensures ∙ get_or_default c.args.pieces.now.items c.locate-c.result _ [] h) in
-    let l = c.len-2.ensures.len in let t = c.if-len-lt1024.true in
+    let l = c.len.ensures.len in let t = c.if-len-lt1024.true in
     fits-located c.args.pieces.now.items c.args.starts.now.items c.locate-c.result c.args.i c.requires.starts c.locate-c.ensures.within c.locate-c.ensures.from c.locate-c.ensures.to c.requires.within (omega arith)
 
 pub halve-requires-clause-c : goal.halve-requires-clause-c
@@ -31,7 +37,7 @@ pub halve-requires-clause-full : goal.halve-requires-clause-full
 halve-requires-clause-full c =
     let h = among _ _ _ c.requires.starts c.locate-c.ensures.within in
     let e = ap length (c.index.ensures ∙ get_or_default c.args.pieces.now.items c.locate-c.result _ [] h) in
-    let l = c.len-2.ensures.len in let t = c.if-len-lt1024.false in omega arith
+    let l = c.len.ensures.len in let t = c.if-len-lt1024.false in omega arith
 
 pub index-requires-in-Some : goal.index-requires-in-Some
 index-requires-in-Some c =
@@ -60,8 +66,8 @@ put_in-requires-else-i-index-clause-fits c =
     let s : c.index-in-Some.result.now ≡ get_or c.halve.new.starts.items (c.locate-c.result + 1) 0 = c.index-in-Some.ensures ∙ get_or_default c.halve.new.starts.items (c.locate-c.result + 1) _ 0 (omega arith) in
     let t = c.if-i-index.false in
     let p = ap length (c.index.ensures ∙ get_or_default c.args.pieces.now.items c.locate-c.result _ [] h) in
-    let l = c.len-2.ensures.len in
-    let most = c.len-2.ensures.most in
+    let l = c.len.ensures.len in
+    let most = c.len.ensures.most in
     let upto = subst (λ (xs : List ℕ). c.args.i ≤ get_or xs c.locate-c.result 0 + length (get_or c.args.pieces.now.items c.locate-c.result [])) (sym c.requires.starts)
     (end-of c.args.pieces.now.items c.locate-c.result c.args.i h (λ a. subst (λ (xs : List ℕ). c.args.i < get_or xs (c.locate-c.result + 1) 0) c.requires.starts (c.locate-c.ensures.to (let k = same-length _ _ c.requires.starts in omega arith))) c.requires.within) in
     subst (λ (ps : List (List ℕ)). FitsAt c.halve.new.starts.items ps (c.locate-c.result + 1) c.args.i) (sym c.halve.ensures.halved)

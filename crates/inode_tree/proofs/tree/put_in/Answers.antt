@@ -91,7 +91,7 @@ module _ (ns ns' : List Node) (order order' free free' : List ℕ) (ids ids' : �
   after-rows : rows_of ns' order' ≡ put (record { path = p; row = row }) (rows_of ns order)
   after-rows = ap (λ (ms : List Node). rows_of ms order') en ∙ ap (rows_of (set ns (get_or free (length free - 1) 0) (record { parent = m; name = name; row = row }))) eo ∙ rows-after ns order free ids p len m at row name h
 
-found : (c : goal.After-commit) → HasFound c.args.nodes.now.items c.args.order.now.items c.args.free.now.items (get nat_eq c.args.places.now) c.args.path.now c.len-upto.result c.in-Some.n c.place-at.result c.args.row c.name_in-name.result
+found : (c : goal.After-commit) → HasFound c.args.nodes.now.items c.args.order.now.items c.args.free.now.items (get nat_eq c.args.places.now) c.args.path.now c.len-upto.result c.in-Some.n c.place_near-at.result c.args.row c.name_in-name.result
 found c = record {
   tree = c.requires.kept.tree;
   unused = c.requires.kept.free;
@@ -103,7 +103,7 @@ found c = record {
   directory = c.requires.housed;
   fresh = c.requires.fresh;
   found = c.in-Some.ensures;
-  at_is = c.place-at.ensures;
+  at_is = c.place_near-at.ensures;
   name_is = c.name_in-name.ensures.name ∙ c.name.ensures;
 }
 
@@ -124,13 +124,13 @@ name_in-name-requires-clause-room c =
 pub commit-requires-clause-at : goal.commit-requires-clause-at
 commit-requires-clause-at c =
     let most = rank-most (rows_of c.args.nodes.now.items c.args.order.now.items) (take (c.len-upto.result - 1 + 1) c.args.path.now) in
-    let e = c.place-at.ensures in
+    let e = c.place_near-at.ensures in
     omega (arith, length-rows c.args.nodes.now.items c.args.order.now.items)
 
 pub returns-clause-kept : goal.returns-clause-kept
 returns-clause-kept c = record {
-  tree = after-tree _ _ _ _ _ c.commit.new.free.items (get nat_eq c.args.places.now) (get nat_eq c.commit.new.places) c.args.path.now c.len-upto.result c.in-Some.n c.place-at.result c.args.row c.name_in-name.result (found c) c.commit.ensures.nodes c.commit.ensures.order c.commit.ensures.places;
-  free = after-free _ _ _ _ _ _ (get nat_eq c.args.places.now) (get nat_eq c.args.places.now) c.args.path.now c.len-upto.result c.in-Some.n c.place-at.result c.args.row c.name_in-name.result (found c) c.commit.ensures.nodes c.commit.ensures.order c.commit.ensures.free;
+  tree = after-tree _ _ _ _ _ c.commit.new.free.items (get nat_eq c.args.places.now) (get nat_eq c.commit.new.places) c.args.path.now c.len-upto.result c.in-Some.n c.place_near-at.result c.args.row c.name_in-name.result (found c) c.commit.ensures.nodes c.commit.ensures.order c.commit.ensures.places;
+  free = after-free _ _ _ _ _ _ (get nat_eq c.args.places.now) (get nat_eq c.args.places.now) c.args.path.now c.len-upto.result c.in-Some.n c.place_near-at.result c.args.row c.name_in-name.result (found c) c.commit.ensures.nodes c.commit.ensures.order c.commit.ensures.free;
   capacity =
       let a = c.requires.kept.capacity in
       let b = c.commit.ensures.capacity in
@@ -139,4 +139,4 @@ returns-clause-kept c = record {
 }
 
 pub returns-clause-rows : goal.returns-clause-rows
-returns-clause-rows c = after-rows _ _ _ _ c.args.free.now.items c.commit.new.free.items (get nat_eq c.args.places.now) (get nat_eq c.args.places.now) c.args.path.now c.len-upto.result c.in-Some.n c.place-at.result c.args.row c.name_in-name.result (found c) c.commit.ensures.nodes c.commit.ensures.order
+returns-clause-rows c = after-rows _ _ _ _ c.args.free.now.items c.commit.new.free.items (get nat_eq c.args.places.now) (get nat_eq c.args.places.now) c.args.path.now c.len-upto.result c.in-Some.n c.place_near-at.result c.args.row c.name_in-name.result (found c) c.commit.ensures.nodes c.commit.ensures.order

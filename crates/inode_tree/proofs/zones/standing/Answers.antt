@@ -3,7 +3,6 @@ use Rattle.std.specs.Option.{option_map}
 use Rattle.inode_tree.specs.Arena.{rows_of}
 use Rattle.inode_tree.specs.Rows.{Entry, zone_id}
 use Rattle.inode_tree.proofs.Seeks.{number-live}
-use Rattle.inode_tree.proofs.Ups.{path-root}
 use Rattle.inode_tree.proofs.ZoneLemmas.{zone-shorter}
 use Rattle.inode_tree.proofs.zones.standing.Goals as goal
 
@@ -23,6 +22,7 @@ pub shorten-preserved : goal.shorten-preserved
 shorten-preserved c =
     let most = c.shorten.invariant.upto in
     record {
+      least = let l = c.shorten.invariant.least in let t = c.shorten-test.true in omega arith;
       upto = omega arith;
       zone = zone-shorter c.args.nodes.now.items c.args.order.now.items c.args.path.now c.shorten.upto (let t = c.shorten-test.true in omega arith) most (sym c.in-None.ensures) ∙ c.shorten.invariant.zone;
     }
@@ -30,7 +30,7 @@ shorten-preserved c =
 pub returns-clause-zone : goal.returns-clause-zone
 unfolding id-of
 returns-clause-zone c =
-    let none : c.shorten.upto ≡ 0 = let t = c.shorten-test.false in omega arith in
-    ap (zone_id (rows_of c.args.nodes.now.items c.args.order.now.items)) (path-root c.args.nodes.now.items)
-    ∙ ap (λ (n : ℕ). zone_id (rows_of c.args.nodes.now.items c.args.order.now.items) (take n c.args.path.now)) (sym none)
+    let last : c.follow-near.result.depth ≡ c.shorten.upto = let l = c.shorten.invariant.least in let t = c.shorten-test.false in omega arith in
+    ap (zone_id (rows_of c.args.nodes.now.items c.args.order.now.items)) c.follow-near.ensures.near.path
+    ∙ ap (λ (n : ℕ). zone_id (rows_of c.args.nodes.now.items c.args.order.now.items) (take n c.args.path.now)) last
     ∙ ap id-of c.shorten.invariant.zone

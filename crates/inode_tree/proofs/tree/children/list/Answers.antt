@@ -6,7 +6,7 @@ use Rattle.inode_tree.specs.Arena.{IsSkip, node_at, path_of, rank, rank_past, ro
 use Rattle.inode_tree.specs.Listing.{children}
 use Rattle.inode_tree.specs.Rows.{is_dir}
 use Rattle.inode_tree.proofs.Listings.{children-past, children-rank, passed, taken}
-use Rattle.inode_tree.proofs.Pasts.{past-most}
+use Rattle.inode_tree.proofs.Pasts.{past-most, rank-past}
 use Rattle.inode_tree.proofs.Ranks.{length-rows, within-at}
 use Rattle.inode_tree.proofs.Ups.{node-default}
 use Rattle.inode_tree.proofs.tree.children.list.Goals as goal
@@ -18,6 +18,11 @@ inside ns order p at end e h = let m = past-most (rows_of ns order) p in omega (
 -- the list with one more child
 with-child : (list list' rest all : List Child) (x y : Child) → list' ≡ list ++ x ∷ [] → x ≡ y → list ++ y ∷ rest ≡ all → list' ++ rest ≡ all
 with-child list list' rest all x y e f g = ap (λ (cs : List Child). cs ++ rest) (e ∙ ap (λ (z : Child). list ++ z ∷ []) f) ∙ append_assoc list (y ∷ []) rest ∙ g
+
+pub past-end-requires-clause-from : goal.past-end-requires-clause-from
+past-end-requires-clause-from c =
+    let e = c.place-at.ensures ∙ ap (rank (rows_of c.args.nodes.now.items c.args.order.now.items)) (take_all c.len.result c.args.path.now (let l = c.len.ensures.len in omega arith)) in
+    let f = rank-past (rows_of c.args.nodes.now.items c.args.order.now.items) c.args.path.now in omega arith
 
 pub each-init : goal.each-init
 each-init c =

@@ -3,8 +3,13 @@ use Rattle.std.specs.Bool.{nat_eq}
 use Rattle.std.specs.HashMap.{get}
 use Rattle.inode_tree.specs.Arena.{rank, rank_past, rows_of}
 use Rattle.inode_tree.specs.Rows.{Entry, removed}
-use Rattle.inode_tree.proofs.Pasts.{block-at, last-leaf, past-most, past-remove, rank-remove, removed-none, removed-remove}
+use Rattle.inode_tree.proofs.Pasts.{block-at, last-leaf, past-most, past-remove, rank-past, rank-remove, removed-none, removed-remove}
 use Rattle.inode_tree.proofs.tree.removal.clear.Goals as goal
+
+pub past-end-requires-clause-from : goal.past-end-requires-clause-from
+past-end-requires-clause-from c =
+    let e = c.place-from.ensures ∙ ap (rank (rows_of c.args.nodes.now.items c.args.order.now.items)) (take_all c.len.result c.args.path.now (let l = c.len.ensures.len in omega arith)) in
+    let f = rank-past (rows_of c.args.nodes.now.items c.args.order.now.items) c.args.path.now in omega arith
 
 pub each-init : goal.each-init
 each-init c = record {

@@ -1,6 +1,6 @@
 use Rattle.std.proofs.Common.{◌-◌, ◌≤◌, take}
 use Rattle.inode_tree.specs.Arena.{HoldsRank}
-use Rattle.inode_tree.proofs.climbs.place.Given as goal
+use Rattle.inode_tree.proofs.climbs.place_from.Given as goal
 
 abbrev pub invariant-pieces : goal.invariant-pieces
 invariant-pieces l = record {

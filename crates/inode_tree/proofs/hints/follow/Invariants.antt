@@ -1,6 +1,6 @@
 use Rattle.std.proofs.Common.{◌≡◌, ◌≤◌, ◌-◌, take}
 use Rattle.inode_tree.specs.Arena.{IsLive, path_of}
-use Rattle.inode_tree.proofs.hints.noted.Given as goal
+use Rattle.inode_tree.proofs.hints.follow.Given as goal
 
 abbrev pub invariant-names : goal.invariant-names
 invariant-names l = record {
