@@ -45,7 +45,7 @@ up-less (suc f) ns n h = go (n == 0) h (up-less f ns (node_at ns n).parent)
 eqb-no : (n : ℕ) → (n ≡ 0 → ⊥) → (n == 0) ≡ false
 eqb-no n h = grind (arith, nat_tests)
 
-up-step : (f : ℕ) (ns : List Node) (n : ℕ) → (n ≡ 0 → ⊥) → up (suc f) ns n ≡ up f ns (node_at ns n).parent ++ ((node_at ns n).name ∷ [])
+pub up-step : (f : ℕ) (ns : List Node) (n : ℕ) → (n ≡ 0 → ⊥) → up (suc f) ns n ≡ up f ns (node_at ns n).parent ++ ((node_at ns n).name ∷ [])
 unfolding up
 up-step f ns n apart = go (n == 0) (eqb-no n apart)
   where

@@ -1,12 +1,23 @@
 pub mod Asked
 pub mod Blocks
 pub mod Children
+pub mod Each
 pub mod Firsts
 pub mod Grown
 pub mod Grows
 pub mod HintLemmas
 pub mod Lasts
 pub mod Listings
+mod MoveExamples
+pub mod MovedLaws
+pub mod MovedLengths
+pub mod MovedNodes
+pub mod MovedPaths
+pub mod MovedPlaces
+pub mod MovedRows
+pub mod MovedRules
+pub mod MovedTrees
+pub mod MovedZones
 pub mod NearLemmas
 pub mod Orders
 pub mod Pasts
@@ -21,6 +32,7 @@ pub mod Ranks
 pub mod Removals
 pub mod Rooms
 pub mod RowFacts
+pub mod Runs
 pub mod Seeks
 pub mod Shapes
 pub mod Shrunk

@@ -3,7 +3,7 @@ use Rattle.std.proofs.Common.{◌≡◌, ℕ, ◌+◌, ◌-◌, ◌<◌, ◌≤�
 use Rattle.std.proofs.lemmas.Bool.{cases_lt}
 use Rattle.std.proofs.lemmas.List.Edits.{insert-append_left, insert-append_right}
 use Rattle.std.specs.List.{insert}
-use Rattle.inode_tree.specs.Listed.{flat, starts_of, halved, FitsAt}
+use Rattle.inode_tree.specs.Listed.{flat, starts_of, parted, FitsAt}
 
 pub length-starts : (a : ℕ) (ps : List (List ℕ)) → length (starts_of a ps) ≡ length ps
 length-starts a [] = refl
@@ -104,55 +104,55 @@ pub set-starts : (ps : List (List ℕ)) (c : ℕ) (q : List ℕ) (starts : List 
 set-starts ps c q starts e = ap (take (c + 1)) e ∙ (let f : c + 1 ≡ suc c = omega arith in rw f (sym (take-starts 0 ps c q)))
 
 -- a piece cut in two
-pub halved-is : (ps : List (List ℕ)) (c : ℕ) → c < length ps → insert (set ps c (take 512 (get_or ps c []))) (c + 1) (drop 512 (get_or ps c [])) ≡ halved ps c
-halved-is ps c h = let f : c + 1 ≡ suc c = omega arith in rw f (go ps c h)
+pub parted-is : (ps : List (List ℕ)) (c k : ℕ) → c < length ps → insert (set ps c (take k (get_or ps c []))) (c + 1) (drop k (get_or ps c [])) ≡ parted ps c k
+parted-is ps c k h = let f : c + 1 ≡ suc c = omega arith in rw f (go ps c h)
   where
-    go : (ps : List (List ℕ)) (c : ℕ) → c < length ps → insert (set ps c (take 512 (get_or ps c []))) (suc c) (drop 512 (get_or ps c [])) ≡ halved ps c
+    go : (ps : List (List ℕ)) (c : ℕ) → c < length ps → insert (set ps c (take k (get_or ps c []))) (suc c) (drop k (get_or ps c [])) ≡ parted ps c k
     go [] c h = absurd (omega arith)
     go (p ∷ ps) zero h = refl
     go (p ∷ ps) (suc c) h = ap (λ (qs : List (List ℕ)). p ∷ qs) (go ps c (omega arith))
 
-pub flat-halved : (ps : List (List ℕ)) (c : ℕ) → flat (halved ps c) ≡ flat ps
-flat-halved [] c = refl
-flat-halved (p ∷ ps) zero = sym (append_assoc (take 512 p) (drop 512 p) (flat ps)) ∙ ap (λ (ys : List ℕ). ys ++ flat ps) (take-append-drop 512 p)
-flat-halved (p ∷ ps) (suc c) = ap (λ (ys : List ℕ). p ++ ys) (flat-halved ps c)
+pub flat-parted : (ps : List (List ℕ)) (c k : ℕ) → flat (parted ps c k) ≡ flat ps
+flat-parted [] c k = refl
+flat-parted (p ∷ ps) zero k = sym (append_assoc (take k p) (drop k p) (flat ps)) ∙ ap (λ (ys : List ℕ). ys ++ flat ps) (take-append-drop k p)
+flat-parted (p ∷ ps) (suc c) k = ap (λ (ys : List ℕ). p ++ ys) (flat-parted ps c k)
 
-pub length-halved : (ps : List (List ℕ)) (c : ℕ) → c < length ps → length (halved ps c) ≡ length ps + 1
-length-halved [] c h = absurd (omega arith)
-length-halved (p ∷ ps) zero h = omega arith
-length-halved (p ∷ ps) (suc c) h = let i = length-halved ps c (omega arith) in omega arith
+pub length-parted : (ps : List (List ℕ)) (c k : ℕ) → c < length ps → length (parted ps c k) ≡ length ps + 1
+length-parted [] c k h = absurd (omega arith)
+length-parted (p ∷ ps) zero k h = omega arith
+length-parted (p ∷ ps) (suc c) k h = let i = length-parted ps c k (omega arith) in omega arith
 
-pub halved-left : (ps : List (List ℕ)) (c : ℕ) → c < length ps → get_or (halved ps c) c [] ≡ take 512 (get_or ps c [])
-halved-left [] c h = absurd (omega arith)
-halved-left (p ∷ ps) zero h = refl
-halved-left (p ∷ ps) (suc c) h = halved-left ps c (omega arith)
+pub parted-left : (ps : List (List ℕ)) (c k : ℕ) → c < length ps → get_or (parted ps c k) c [] ≡ take k (get_or ps c [])
+parted-left [] c k h = absurd (omega arith)
+parted-left (p ∷ ps) zero k h = refl
+parted-left (p ∷ ps) (suc c) k h = parted-left ps c k (omega arith)
 
-pub halved-right : (ps : List (List ℕ)) (c : ℕ) → c < length ps → get_or (halved ps c) (c + 1) [] ≡ drop 512 (get_or ps c [])
-halved-right ps c h = let f : c + 1 ≡ suc c = omega arith in rw f (go ps c h)
+pub parted-right : (ps : List (List ℕ)) (c k : ℕ) → c < length ps → get_or (parted ps c k) (c + 1) [] ≡ drop k (get_or ps c [])
+parted-right ps c k h = let f : c + 1 ≡ suc c = omega arith in rw f (go ps c h)
   where
-    go : (ps : List (List ℕ)) (c : ℕ) → c < length ps → get_or (halved ps c) (suc c) [] ≡ drop 512 (get_or ps c [])
+    go : (ps : List (List ℕ)) (c : ℕ) → c < length ps → get_or (parted ps c k) (suc c) [] ≡ drop k (get_or ps c [])
     go [] c h = absurd (omega arith)
     go (p ∷ ps) zero h = refl
     go (p ∷ ps) (suc c) h = go ps c (omega arith)
 
-pub halved-start : (a : ℕ) (ps : List (List ℕ)) (c : ℕ) → c < length ps → get_or (starts_of a (halved ps c)) c 0 ≡ get_or (starts_of a ps) c 0
-halved-start a [] c h = absurd (omega arith)
-halved-start a (p ∷ ps) zero h = refl
-halved-start a (p ∷ ps) (suc c) h = halved-start (a + length p) ps c (omega arith)
+pub parted-start : (a : ℕ) (ps : List (List ℕ)) (c k : ℕ) → c < length ps → get_or (starts_of a (parted ps c k)) c 0 ≡ get_or (starts_of a ps) c 0
+parted-start a [] c k h = absurd (omega arith)
+parted-start a (p ∷ ps) zero k h = refl
+parted-start a (p ∷ ps) (suc c) k h = parted-start (a + length p) ps c k (omega arith)
 
-take-halved : (a : ℕ) (ps : List (List ℕ)) (c : ℕ) → take (suc c) (starts_of a (halved ps c)) ≡ take (suc c) (starts_of a ps)
-take-halved a [] c = refl
-take-halved a (p ∷ ps) zero = refl
-take-halved a (p ∷ ps) (suc c) = ap (λ (xs : List ℕ). a ∷ xs) (take-halved (a + length p) ps c)
+take-parted : (a : ℕ) (ps : List (List ℕ)) (c k : ℕ) → take (suc c) (starts_of a (parted ps c k)) ≡ take (suc c) (starts_of a ps)
+take-parted a [] c k = refl
+take-parted a (p ∷ ps) zero k = refl
+take-parted a (p ∷ ps) (suc c) k = ap (λ (xs : List ℕ). a ∷ xs) (take-parted (a + length p) ps c k)
 
 take-inserted : (xs : List ℕ) (k n : ℕ) → k ≤ length xs → take k (insert xs k n) ≡ take k xs
 take-inserted xs zero n h = refl
 take-inserted [] (suc k) n h = absurd (omega arith)
 take-inserted (x ∷ xs) (suc k) n h = ap (λ (ys : List ℕ). x ∷ ys) (take-inserted xs k n (omega arith))
 
-pub halved-starts : (ps : List (List ℕ)) (c n : ℕ) (starts : List ℕ) → c < length ps → starts ≡ starts_of 0 ps → take (c + 1) (insert starts (c + 1) n) ≡ take (c + 1) (starts_of 0 (halved ps c))
-halved-starts ps c n starts h e =
-    take-inserted starts (c + 1) n (let f = same-length starts ps e in omega arith) ∙ ap (take (c + 1)) e ∙ (let f : c + 1 ≡ suc c = omega arith in rw f (sym (take-halved 0 ps c)))
+pub parted-starts : (ps : List (List ℕ)) (c k n : ℕ) (starts : List ℕ) → c < length ps → starts ≡ starts_of 0 ps → take (c + 1) (insert starts (c + 1) n) ≡ take (c + 1) (starts_of 0 (parted ps c k))
+parted-starts ps c k n starts h e =
+    take-inserted starts (c + 1) n (let f = same-length starts ps e in omega arith) ∙ ap (take (c + 1)) e ∙ (let f : c + 1 ≡ suc c = omega arith in rw f (sym (take-parted 0 ps c k)))
 
 pub fits-located : (ps : List (List ℕ)) (starts : List ℕ) (c i : ℕ) → starts ≡ starts_of 0 ps → c < length starts → get_or starts c 0 ≤ i → (c + 1 < length starts → i < get_or starts (c + 1) 0) → i ≤ length (flat ps) → length (get_or ps c []) < 1024 → FitsAt starts ps c i
 fits-located ps starts c i e h from to within room =
@@ -164,23 +164,23 @@ fits-located ps starts c i e h from to within room =
       room = room;
     }
 
-pub fits-left : (ps : List (List ℕ)) (starts starts' : List ℕ) (c i : ℕ) → starts ≡ starts_of 0 ps → starts' ≡ starts_of 0 (halved ps c) → c < length ps → get_or starts c 0 ≤ i → i ≤ get_or starts' (c + 1) 0 → FitsAt starts' (halved ps c) c i
+pub fits-left : (ps : List (List ℕ)) (starts starts' : List ℕ) (c i : ℕ) → starts ≡ starts_of 0 ps → starts' ≡ starts_of 0 (parted ps c 512) → c < length ps → get_or starts c 0 ≤ i → i ≤ get_or starts' (c + 1) 0 → FitsAt starts' (parted ps c 512) c i
 fits-left ps starts starts' c i e e' h from to =
-    let n = length-halved ps c h in
-    let s : get_or starts' c 0 ≡ get_or starts c 0 = ap (λ (xs : List ℕ). get_or xs c 0) e' ∙ halved-start 0 ps c h ∙ ap (λ (xs : List ℕ). get_or xs c 0) (sym e) in
+    let n = length-parted ps c 512 h in
+    let s : get_or starts' c 0 ≡ get_or starts c 0 = ap (λ (xs : List ℕ). get_or xs c 0) e' ∙ parted-start 0 ps c 512 h ∙ ap (λ (xs : List ℕ). get_or xs c 0) (sym e) in
     let t = ap (λ (xs : List ℕ). get_or xs (c + 1) 0) e' in
     let u = ap (λ (xs : List ℕ). get_or xs c 0) e' in
-    let x = next-start 0 (halved ps c) c (omega arith) in
-    let l = ap length (halved-left ps c h) in
+    let x = next-start 0 (parted ps c 512) c (omega arith) in
+    let l = ap length (parted-left ps c 512 h) in
     record { among = omega arith; from = omega arith; upto = omega arith; room = omega (arith, length-take 512 (get_or ps c [])) }
 
-pub fits-right : (ps : List (List ℕ)) (starts starts' : List ℕ) (c i : ℕ) → starts ≡ starts_of 0 ps → starts' ≡ starts_of 0 (halved ps c) → c < length ps → i ≤ get_or starts c 0 + length (get_or ps c []) → length (get_or ps c []) ≤ 1024 → get_or starts' (c + 1) 0 < i → FitsAt starts' (halved ps c) (c + 1) i
+pub fits-right : (ps : List (List ℕ)) (starts starts' : List ℕ) (c i : ℕ) → starts ≡ starts_of 0 ps → starts' ≡ starts_of 0 (parted ps c 512) → c < length ps → i ≤ get_or starts c 0 + length (get_or ps c []) → length (get_or ps c []) ≤ 1024 → get_or starts' (c + 1) 0 < i → FitsAt starts' (parted ps c 512) (c + 1) i
 fits-right ps starts starts' c i e e' h to most from =
-    let n = length-halved ps c h in
-    let s : get_or starts' c 0 ≡ get_or starts c 0 = ap (λ (xs : List ℕ). get_or xs c 0) e' ∙ halved-start 0 ps c h ∙ ap (λ (xs : List ℕ). get_or xs c 0) (sym e) in
+    let n = length-parted ps c 512 h in
+    let s : get_or starts' c 0 ≡ get_or starts c 0 = ap (λ (xs : List ℕ). get_or xs c 0) e' ∙ parted-start 0 ps c 512 h ∙ ap (λ (xs : List ℕ). get_or xs c 0) (sym e) in
     let t = ap (λ (xs : List ℕ). get_or xs (c + 1) 0) e' in
     let u = ap (λ (xs : List ℕ). get_or xs c 0) e' in
-    let x = next-start 0 (halved ps c) c (omega arith) in
-    let l = ap length (halved-left ps c h) in
-    let r = ap length (halved-right ps c h) in
+    let x = next-start 0 (parted ps c 512) c (omega arith) in
+    let l = ap length (parted-left ps c 512 h) in
+    let r = ap length (parted-right ps c 512 h) in
     record { among = omega arith; from = omega arith; upto = omega (arith, length-take 512 (get_or ps c []), length-drop 512 (get_or ps c [])); room = omega (arith, length-drop 512 (get_or ps c [])) }

@@ -9,7 +9,7 @@ use Rattle.inode_tree.specs.Arena.{AllAfter, IsRising, rank, rows_of, entry_at}
 use Rattle.inode_tree.proofs.Ranks.{before-trans}
 use Rattle.inode_tree.proofs.Seeks.{other-before, same-itself, same-is, not-before-itself}
 
-absent-parts : (e : Entry) (es : List Entry) (p : List (List ℕ)) → row_at (e ∷ es) p ≡ None → (same_path e.path p ≡ false) × (row_at es p ≡ None)
+pub absent-parts : (e : Entry) (es : List Entry) (p : List (List ℕ)) → row_at (e ∷ es) p ≡ None → (same_path e.path p ≡ false) × (row_at es p ≡ None)
 absent-parts e es p h = go (same_path e.path p) h
   where
     go : (t : Bool) → cond t (Some e.row) (row_at es p) ≡ None → (t ≡ false) × (row_at es p ≡ None)

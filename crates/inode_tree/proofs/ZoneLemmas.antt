@@ -26,7 +26,7 @@ prefix-snoc (y ∷ []) [] x = refl
 prefix-snoc (y ∷ z ∷ a) [] x = refl
 prefix-snoc (y ∷ a) (z ∷ p) x = ap (λ (b : Bool). bytes_eq y z && b) (prefix-snoc a p x) ∙ spread (bytes_eq y z) (is_prefix a p) (same_path a (p ++ x ∷ []))
 
-prefix-length : (a p : List (List ℕ)) → is_prefix a p ≡ true → length a ≤ length p
+pub prefix-length : (a p : List (List ℕ)) → is_prefix a p ≡ true → length a ≤ length p
 prefix-length [] p h = omega arith
 prefix-length (x ∷ a) [] h = cc
 prefix-length (x ∷ a) (y ∷ p) h = let i = prefix-length a p (and-parts _ _ h).1 in omega arith
@@ -44,7 +44,7 @@ pub prefix-itself : (p : List (List ℕ)) → is_prefix p p ≡ true
 prefix-itself [] = refl
 prefix-itself (x ∷ p) = ap (λ (b : Bool). b && is_prefix p p) ((bytes_eq-Decides x x).1 refl) ∙ prefix-itself p
 
-zone-short : (es : List Entry) (p : List (List ℕ)) (f : Entry) → zone_of es p ≡ Some f → length f.path ≤ length p
+pub zone-short : (es : List Entry) (p : List (List ℕ)) (f : Entry) → zone_of es p ≡ Some f → length f.path ≤ length p
 zone-short [] p f h = cc
 zone-short (e ∷ es) p f h = go (is_marked e.row && is_prefix e.path p) refl (zone_of es p) refl (zone-short es p) h
   where

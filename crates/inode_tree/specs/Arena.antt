@@ -163,3 +163,7 @@ HasRoom order places free ready n = (0 < length free.items) × (0 < order.spare)
 -- the nodes with another kind at n
 abbrev pub rekind : List Node → ℕ → Kind → List Node
 rekind ns n kind = slice_set ns n (record { parent = (node_at ns n).parent; name = (node_at ns n).name; row = record { id = (node_at ns n).row.id; kind = kind } })
+
+-- the nodes with another directory and another name at n
+abbrev pub with_place : List Node → ℕ → ℕ → List ℕ → List Node
+with_place ns n parent name = slice_set ns n (record { parent = parent; name = name; row = (node_at ns n).row })

@@ -2,6 +2,8 @@ pub mod Arena
 pub mod Below
 pub mod Listed
 pub mod Listing
+pub mod MoveLaws
+pub mod Moves
 pub mod NodeNames
 pub mod Rows
 pub mod Written

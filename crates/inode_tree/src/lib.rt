@@ -3,6 +3,7 @@
 
 mod climbs;
 mod hints;
+mod laws;
 mod names;
 mod near;
 mod order;
@@ -10,6 +11,7 @@ mod rows;
 mod tree;
 mod zones;
 
+pub use laws::rows_move_together;
 pub use name_calls::{Child, ChildList, MOST_BYTES, MOST_NAMES, NPath, PathFault};
 pub use rows::{Kind, Row};
 pub use tree::{MOST_ROWS, Tree};

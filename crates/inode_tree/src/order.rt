@@ -1,12 +1,13 @@
 //! A list of numbers, stored in pieces of bounded length.
-ghost use Rattle.std.specs.Prelude.{ℕ, true, false, ◌≡◌, ◌<◌, ◌≤◌, ◌+◌, ◌++◌, ◌∷◌, [], length, take, drop, slice_index_or, OnOk, OnErr, IfOk, IsOk, IsSome, vec_capacity, vec_len};
+ghost use Rattle.std.specs.Prelude.{ℕ, true, false, ◌≡◌, ◌<◌, ◌≤◌, ◌+◌, ◌++◌, ◌∷◌, [], length, take, drop, slice_index_or, OnOk, OnErr, IfOk, IsOk, vec_capacity, vec_len};
 ghost use Rattle.std.specs.List.{insert, remove};
-ghost use Rattle.inode_tree.specs.Listed.{starts_of, flat, halved, raised, FitsAt, HoldsPlace, IsEmptyOr};
+ghost use Rattle.inode_tree.specs.Listed.{AreEmpty, FitsAt, HoldsPlace, flat, parted, raised, starts_of};
+
+mod runs;
 
 use hk_base::NoMemory;
 use std::alloc::Global;
 use std::marker::Model;
-use std::mem;
 
 /// Up to 1,024 numbers, in memory that is allocated when the piece is made.
 #[derive(Drop)]
@@ -62,6 +63,14 @@ impl Piece {
         let _ = self.numbers.remove(i);
     }
 
+    /// Appends the numbers of another piece. The piece must have room for them.
+    fn append(&mut self, other: &Piece)
+        requires { length self.old + length other.now ≤ 1024 }
+        ensures { self.new ≡ self.old ++ other.now }
+    {
+        let _ = self.numbers.extend_from_slice(other.numbers.as_slice());
+    }
+
     /// Moves the numbers from index `i` on into an empty piece.
     fn split(&mut self, i: usize, other: &mut Piece)
         requires at { i ≤ length self.old }
@@ -90,19 +99,20 @@ pub struct Order {
     alloc: Global,
     pieces: Vec<Piece>,
     starts: Vec<u32>,
-    extra: Option<Piece>,
+    /// Empty pieces: one insertion takes up to one, one swap of runs up to three.
+    extra: Vec<Piece>,
 }
 
 impl Model for Order {
-    ghost use Rattle.std.specs.Prelude.{◌≡◌, ◌<◌, ◌&&◌, nat_lt, length, if◌then◌else◌, is_some, Some, []};
+    ghost use Rattle.std.specs.Prelude.{◌≡◌, ◌+◌, ◌&&◌, nat_le, length, if◌then◌else◌};
     ghost use Rattle.std.specs.Vec.{vec_len, vec_capacity};
-    ghost use Rattle.inode_tree.specs.Listed.{Listed, starts_of, flat, IsEmptyOr};
+    ghost use Rattle.inode_tree.specs.Listed.{AreEmpty, Listed, flat, starts_of};
 
     ghost Value = { Listed };
 
-    ghost view = { λ s. record { items = flat s.pieces.items; spare = if nat_lt (vec_len s.pieces) (vec_capacity s.pieces) && nat_lt (vec_len s.starts) (vec_capacity s.starts) && is_some s.extra then 1 else 0 } };
+    ghost view = { λ s. record { items = flat s.pieces.items; spare = if nat_le (vec_len s.pieces + 3) (vec_capacity s.pieces) && nat_le (vec_len s.starts + 3) (vec_capacity s.starts) && nat_le 3 (length s.extra.items) then 1 else 0 } };
 
-    ghost invariant = { λ s. (s.starts.items ≡ starts_of 0 s.pieces.items) × IsEmptyOr s.extra };
+    ghost invariant = { λ s. (s.starts.items ≡ starts_of 0 s.pieces.items) × AreEmpty s.extra.items };
 }
 
 /// Returns the index of the last piece that begins at or before the `i`-th number.
@@ -210,7 +220,8 @@ fn put_in(pieces: &mut Vec<Piece>, starts: &mut Vec<u32>, c: usize, i: usize, n:
 fn slip_piece(pieces: &mut Vec<Piece>, i: usize, piece: Piece)
     requires at { i ≤ length pieces.old.items }
     requires room { vec_len pieces.old < vec_capacity pieces.old }
-    ensures { pieces.new.items ≡ insert pieces.old.items i piece }
+    ensures items { pieces.new.items ≡ insert pieces.old.items i piece }
+    ensures room { vec_capacity pieces.new ≡ vec_capacity pieces.old }
 {
     let _ = pieces.insert(i, piece);
 }
@@ -218,24 +229,26 @@ fn slip_piece(pieces: &mut Vec<Piece>, i: usize, piece: Piece)
 fn slip_start(starts: &mut Vec<u32>, i: usize, start: u32)
     requires at { i ≤ length starts.old.items }
     requires room { vec_len starts.old < vec_capacity starts.old }
-    ensures { starts.new.items ≡ insert starts.old.items i start }
+    ensures items { starts.new.items ≡ insert starts.old.items i start }
+    ensures room { vec_capacity starts.new ≡ vec_capacity starts.old }
 {
     let _ = starts.insert(i, start);
 }
 
-/// Splits the `c`-th piece in two after its first 512 numbers.
-fn halve(pieces: &mut Vec<Piece>, starts: &mut Vec<u32>, c: usize, empty: Piece)
+/// Splits the `c`-th piece in two after its first `k` numbers.
+fn part(pieces: &mut Vec<Piece>, starts: &mut Vec<u32>, c: usize, k: usize, empty: Piece)
     requires starts { starts.old.items ≡ starts_of 0 pieces.old.items }
     requires c { c < length pieces.old.items }
-    requires full { 512 ≤ length (slice_index_or pieces.old.items c []) }
+    requires k { k ≤ length (slice_index_or pieces.old.items c []) }
     requires empty { empty ≡ [] }
-    requires count { length (flat pieces.old.items) < 1000000 }
+    requires count { length (flat pieces.old.items) ≤ 1000000 }
     requires room { (vec_len pieces.old < vec_capacity pieces.old) × (vec_len starts.old < vec_capacity starts.old) }
     ensures starts { starts.new.items ≡ starts_of 0 pieces.new.items }
-    ensures halved { pieces.new.items ≡ halved pieces.old.items c }
+    ensures parted { pieces.new.items ≡ parted pieces.old.items c k }
+    ensures room { (vec_len pieces.new ≤ vec_len pieces.old + 1) × (vec_capacity pieces.new ≡ vec_capacity pieces.old) × (vec_len starts.new ≤ vec_len starts.old + 1) × (vec_capacity starts.new ≡ vec_capacity starts.old) }
 {
     let mut other = empty;
-    pieces[c].split(512, &mut other);
+    pieces[c].split(k, &mut other);
     slip_piece(pieces, c + 1, other);
     slip_start(starts, c + 1, 0);
     renumber(pieces, starts, c);
@@ -249,7 +262,7 @@ impl Order {
             alloc,
             pieces: Vec::new(alloc),
             starts: Vec::new(alloc),
-            extra: None,
+            extra: Vec::new(alloc),
         }
     }
 
@@ -287,15 +300,15 @@ impl Order {
         0
     }
 
-    /// Reserves memory for one more number. Returns `NoMemory` if allocation fails; the numbers are
+    /// Reserves memory for one more number, or for one swap of runs. Returns `NoMemory` if allocation fails; the numbers are
     /// then unchanged.
     pub fn reserve(&mut self) -> Result<(), NoMemory>
         ensures same { self.new.items ≡ self.old.items }
         ensures ok { OnOk result (0 < self.new.spare) }
         ensures had { 0 < self.old.spare → IsOk result }
     {
-        self.pieces.reserve(1)?;
-        self.starts.reserve(1)?;
+        self.pieces.reserve(3)?;
+        self.starts.reserve(3)?;
         more(self.alloc, &mut self.extra)?;
         Ok(())
     }
@@ -319,31 +332,43 @@ impl Order {
     }
 }
 
-/// Makes an empty piece if there is none.
-fn more(alloc: Global, extra: &mut Option<Piece>) -> Result<(), NoMemory>
-    requires { IsEmptyOr extra.old }
-    ensures empty { IsEmptyOr extra.new }
-    ensures ok { OnOk result (IsSome extra.new) }
-    ensures had { IsSome extra.old → IsOk result }
+/// Makes empty pieces until there are three.
+fn more(alloc: Global, extra: &mut Vec<Piece>) -> Result<(), NoMemory>
+    requires { AreEmpty extra.old.items }
+    ensures empty { AreEmpty extra.new.items }
+    ensures ok { OnOk result (3 ≤ length extra.new.items) }
+    ensures had { 3 ≤ length extra.old.items → IsOk result }
 {
-    match extra {
-        Some(_) => Ok(()),
-        None => {
-            *extra = Some(Piece::new(alloc)?);
-            Ok(())
-        }
+    'more: while extra.len() < 3 {
+        let piece = Piece::new(alloc)?;
+        extra.push(piece)?;
+    }
+    Ok(())
+}
+
+/// Takes one of the empty pieces.
+fn take_empty(extra: &mut Vec<Piece>) -> Piece
+    requires empty { AreEmpty extra.old.items }
+    requires some { 0 < length extra.old.items }
+    ensures piece { result ≡ [] }
+    ensures empty { AreEmpty extra.new.items }
+    ensures fewer { length extra.new.items + 1 ≡ length extra.old.items }
+{
+    match extra.pop() {
+        Some(piece) => piece,
+        None => unreachable!(),
     }
 }
 
 /// Inserts `n` at index `i`, in reserved memory.
-fn put(pieces: &mut Vec<Piece>, starts: &mut Vec<u32>, extra: &mut Option<Piece>, i: usize, n: u32)
+fn put(pieces: &mut Vec<Piece>, starts: &mut Vec<u32>, extra: &mut Vec<Piece>, i: usize, n: u32)
     requires starts { starts.old.items ≡ starts_of 0 pieces.old.items }
-    requires empty { IsEmptyOr extra.old }
+    requires empty { AreEmpty extra.old.items }
     requires within { i ≤ length (flat pieces.old.items) }
-    requires room { (vec_len pieces.old < vec_capacity pieces.old) × (vec_len starts.old < vec_capacity starts.old) × IsSome extra.old }
+    requires room { (vec_len pieces.old < vec_capacity pieces.old) × (vec_len starts.old < vec_capacity starts.old) × (0 < length extra.old.items) }
     requires count { length (flat pieces.old.items) < 1000000 }
     ensures starts { starts.new.items ≡ starts_of 0 pieces.new.items }
-    ensures empty { IsEmptyOr extra.new }
+    ensures empty { AreEmpty extra.new.items }
     ensures flat { flat pieces.new.items ≡ insert (flat pieces.old.items) i n }
 {
     if begins_piece(pieces, starts, i) {
@@ -355,16 +380,11 @@ fn put(pieces: &mut Vec<Piece>, starts: &mut Vec<u32>, extra: &mut Option<Piece>
         put_in(pieces, starts, c, i, n);
         return;
     }
-    match mem::replace(extra, None) {
-        Some(empty) => {
-            halve(pieces, starts, c, empty);
-            if i <= starts[c + 1] as usize {
-                put_in(pieces, starts, c, i, n);
-            } else {
-                put_in(pieces, starts, c + 1, i, n);
-            }
-        }
-        None => (),
+    part(pieces, starts, c, 512, take_empty(extra));
+    if i <= starts[c + 1] as usize {
+        put_in(pieces, starts, c, i, n);
+    } else {
+        put_in(pieces, starts, c + 1, i, n);
     }
 }
 
@@ -387,25 +407,20 @@ fn begins_piece(pieces: &Vec<Piece>, starts: &Vec<u32>, i: usize) -> bool
 }
 
 /// Appends a number in a piece of its own, in reserved memory.
-fn append(pieces: &mut Vec<Piece>, starts: &mut Vec<u32>, extra: &mut Option<Piece>, n: u32)
+fn append(pieces: &mut Vec<Piece>, starts: &mut Vec<u32>, extra: &mut Vec<Piece>, n: u32)
     requires starts { starts.old.items ≡ starts_of 0 pieces.old.items }
-    requires empty { IsEmptyOr extra.old }
+    requires empty { AreEmpty extra.old.items }
     requires count { length (flat pieces.old.items) < 1000000 }
-    requires room { (vec_len pieces.old < vec_capacity pieces.old) × (vec_len starts.old < vec_capacity starts.old) × IsSome extra.old }
+    requires room { (vec_len pieces.old < vec_capacity pieces.old) × (vec_len starts.old < vec_capacity starts.old) × (0 < length extra.old.items) }
     ensures starts { starts.new.items ≡ starts_of 0 pieces.new.items }
     ensures flat { flat pieces.new.items ≡ flat pieces.old.items ++ n ∷ [] }
-    ensures empty { IsEmptyOr extra.new }
+    ensures empty { AreEmpty extra.new.items }
 {
-    match mem::replace(extra, None) {
-        Some(empty) => {
-            let start = count(pieces, starts);
-            let mut piece = empty;
-            piece.insert(0, n);
-            pieces.push_reserved(piece);
-            starts.push_reserved(start as u32);
-        }
-        None => (),
-    }
+    let start = count(pieces, starts);
+    let mut piece = take_empty(extra);
+    piece.insert(0, n);
+    pieces.push_reserved(piece);
+    starts.push_reserved(start as u32);
 }
 
 /// Removes the number at index `i` from the `c`-th piece, which holds it.

@@ -11,6 +11,8 @@ ghost use Rattle.inode_tree.specs.Rows.{IsRows, entry_of, has_children, is_dir, 
 
 mod by_place;
 mod children;
+mod lengths;
+mod moves;
 mod path_bytes;
 mod removal;
 
@@ -152,7 +154,16 @@ impl Tree {
     pub fn zone_of(&self, path: &NPath) -> Option<u64>
         ensures { result ≡ zone_id self.now.rows path.now }
     {
-        zone_at(&self.nodes, &self.order, &self.hints, path)
+        zone_at(&self.nodes, &self.order, &self.hints, path, path.len())
+    }
+
+    /// Returns the id of the zone that the parent of a path lies in, or `None` if it lies in none.
+    /// The root is its own parent.
+    pub fn zone_of_parent(&self, path: &NPath) -> Option<u64>
+        ensures { result ≡ zone_id self.now.rows (parent path.now) }
+    {
+        let names = path.len().saturating_sub(1);
+        zone_at(&self.nodes, &self.order, &self.hints, path, names)
     }
 
     /// Notes where the path is or would be, so that the next calls for this path find it faster.

@@ -1,5 +1,5 @@
 //! The zone of a path, by climbing from a node to the root.
-ghost use Rattle.std.specs.Prelude.{◌≡◌, ◌<◌, ◌≤◌, length, ℕ, Option};
+ghost use Rattle.std.specs.Prelude.{◌≡◌, ◌<◌, ◌≤◌, length, take, ℕ, Option};
 ghost use Rattle.inode_tree.specs.Arena.{IsTree, IsLive, rows_of, path_of};
 ghost use Rattle.inode_tree.specs.Rows.{zone_id, is_marked};
 
@@ -39,15 +39,16 @@ fn zone_above(nodes: &Vec<Node>, order: &Order, n: u32) -> Option<u64>
     None
 }
 
-/// Returns the number of the row at the longest prefix of the path that has a row. That row lies in
-/// the same zone as the path.
-fn standing(nodes: &Vec<Node>, order: &Order, hints: &Hints, path: &NPath) -> u32
+/// Returns the number of the row at the longest prefix of the first `names` names of a path that has
+/// a row. That row lies in the same zone as those names.
+fn standing(nodes: &Vec<Node>, order: &Order, hints: &Hints, path: &NPath, names: usize) -> u32
     requires tree { (ids : ℕ → Option ℕ) × IsTree nodes.now.items order.now.items ids }
+    requires names { names ≤ length path.now }
     ensures live { IsLive order.now.items result }
-    ensures zone { zone_id (rows_of nodes.now.items order.now.items) (path_of nodes.now.items result) ≡ zone_id (rows_of nodes.now.items order.now.items) path.now }
+    ensures zone { zone_id (rows_of nodes.now.items order.now.items) (path_of nodes.now.items result) ≡ zone_id (rows_of nodes.now.items order.now.items) (take names path.now) }
 {
-    let mut upto = path.len();
-    let near = follow(nodes, order, hints, path, upto);
+    let near = follow(nodes, order, hints, path, names);
+    let mut upto = names;
     'shorten: while upto > near.depth {
         match search(nodes, order, hints, path, upto, near) {
             Some(n) => return n,
@@ -57,10 +58,18 @@ fn standing(nodes: &Vec<Node>, order: &Order, hints: &Hints, path: &NPath) -> u3
     near.node
 }
 
-/// Returns the id of the deepest marked directory that is the path or lies above it.
-pub fn zone_at(nodes: &Vec<Node>, order: &Order, hints: &Hints, path: &NPath) -> Option<u64>
+/// Returns the id of the deepest marked directory at the first `names` names of a path or above
+/// them.
+pub fn zone_at(
+    nodes: &Vec<Node>,
+    order: &Order,
+    hints: &Hints,
+    path: &NPath,
+    names: usize,
+) -> Option<u64>
     requires tree { (ids : ℕ → Option ℕ) × IsTree nodes.now.items order.now.items ids }
-    ensures { result ≡ zone_id (rows_of nodes.now.items order.now.items) path.now }
+    requires names { names ≤ length path.now }
+    ensures { result ≡ zone_id (rows_of nodes.now.items order.now.items) (take names path.now) }
 {
-    zone_above(nodes, order, standing(nodes, order, hints, path))
+    zone_above(nodes, order, standing(nodes, order, hints, path, names))
 }

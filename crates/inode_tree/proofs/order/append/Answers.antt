@@ -1,5 +1,5 @@
-use Rattle.std.proofs.Common.{arith, ◌≡◌, ◌+◌, ◌++◌, ◌∷◌, [], ℕ, List, length, sym, ap, subst, ◌∙◌}
-use Rattle.inode_tree.specs.Listed.{IsEmptyOr, flat, starts_of}
+use Rattle.std.proofs.Common.{arith, ◌≡◌, ◌+◌, ◌++◌, ◌∷◌, [], ℕ, List, length, sym, ap, ◌∙◌}
+use Rattle.inode_tree.specs.Listed.{flat, starts_of}
 use Rattle.inode_tree.proofs.Raises.{flat-more, starts-more}
 use Rattle.inode_tree.proofs.order.append.Goals as goal
 
@@ -11,8 +11,8 @@ more-starts ps ps' starts starts' q s ep es e f =
 more-flat : (ps ps' : List (List ℕ)) (p q : List ℕ) (n : ℕ) → ps' ≡ ps ++ q ∷ [] → q ≡ n ∷ p → p ≡ [] → flat ps' ≡ flat ps ++ n ∷ []
 more-flat ps ps' p q n ep eq e = ap flat ep ∙ flat-more ps q ∙ ap (λ (xs : List ℕ). flat ps ++ xs) (eq ∙ ap (λ (xs : List ℕ). n ∷ xs) e)
 
-pub returns-in-Some-clause-starts : goal.returns-in-Some-clause-starts
-returns-in-Some-clause-starts c = more-starts c.args.pieces.now.items c.push_reserved.new.self.items c.args.starts.now.items c.push_reserved-in-Some.new.self.items c.insert.new.self c.count-start.result c.push_reserved.ensures.items c.push_reserved-in-Some.ensures.items c.requires.starts c.count-start.ensures
+pub returns-clause-starts : goal.returns-clause-starts
+returns-clause-starts c = more-starts c.args.pieces.now.items c.push_reserved.new.self.items c.args.starts.now.items c.push_reserved-2.new.self.items c.insert.new.self c.count-start.result c.push_reserved.ensures.items c.push_reserved-2.ensures.items c.requires.starts c.count-start.ensures
 
-pub returns-in-Some-clause-flat : goal.returns-in-Some-clause-flat
-returns-in-Some-clause-flat c = more-flat c.args.pieces.now.items c.push_reserved.new.self.items c.in-Some.empty c.insert.new.self c.args.n c.push_reserved.ensures.items c.insert.ensures (subst IsEmptyOr (sym c.in-Some.ensures.value) c.requires.empty)
+pub returns-clause-flat : goal.returns-clause-flat
+returns-clause-flat c = more-flat c.args.pieces.now.items c.push_reserved.new.self.items c.take_empty-piece.result c.insert.new.self c.args.n c.push_reserved.ensures.items c.insert.ensures c.take_empty-piece.ensures.piece

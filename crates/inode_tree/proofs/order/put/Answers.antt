@@ -2,7 +2,7 @@ use Rattle.std.proofs.Common.{arith, ◌≡◌, ◌<◌, ◌≤◌, length, ℕ,
 use Rattle.std.specs.List.{insert}
 use Rattle.inode_tree.specs.Listed.{starts_of, flat, FitsAt}
 use Rattle.std.proofs.lemmas.List.{get_or_default}
-use Rattle.inode_tree.proofs.Pieces.{first-start, same-length, end-of, flat-halved, length-halved, fits-located, fits-left, fits-right}
+use Rattle.inode_tree.proofs.Pieces.{first-start, same-length, end-of, flat-parted, length-parted, fits-located, fits-left, fits-right}
 use Rattle.inode_tree.proofs.Raises.{insert-last}
 use Rattle.inode_tree.proofs.order.put.Goals as goal
 
@@ -30,57 +30,57 @@ put_in-requires-clause-fits c =
     let l = c.len.ensures.len in let t = c.if-len-lt1024.true in
     fits-located c.args.pieces.now.items c.args.starts.now.items c.locate-c.result c.args.i c.requires.starts c.locate-c.ensures.within c.locate-c.ensures.from c.locate-c.ensures.to c.requires.within (omega arith)
 
-pub halve-requires-clause-c : goal.halve-requires-clause-c
-halve-requires-clause-c c = among _ _ _ c.requires.starts c.locate-c.ensures.within
+pub part-requires-clause-c : goal.part-requires-clause-c
+part-requires-clause-c c = among _ _ _ c.requires.starts c.locate-c.ensures.within
 
-pub halve-requires-clause-full : goal.halve-requires-clause-full
-halve-requires-clause-full c =
+pub part-requires-clause-k : goal.part-requires-clause-k
+part-requires-clause-k c =
     let h = among _ _ _ c.requires.starts c.locate-c.ensures.within in
     let e = ap length (c.index.ensures ∙ get_or_default c.args.pieces.now.items c.locate-c.result _ [] h) in
     let l = c.len.ensures.len in let t = c.if-len-lt1024.false in omega arith
 
-pub index-requires-in-Some : goal.index-requires-in-Some
-index-requires-in-Some c =
+pub index-requires-2 : goal.index-requires-2
+index-requires-2 c =
     let h = among _ _ _ c.requires.starts c.locate-c.ensures.within in
-    let e = ap length c.halve.ensures.halved in
-    let n = length-halved c.args.pieces.now.items c.locate-c.result h in
-    let m = same-length _ _ c.halve.ensures.starts in omega arith
+    let e = ap length c.part.ensures.parted in
+    let n = length-parted c.args.pieces.now.items c.locate-c.result 512 h in
+    let m = same-length _ _ c.part.ensures.starts in omega arith
 
 pub put_in-requires-then-i-index-clause-fits : goal.put_in-requires-then-i-index-clause-fits
 put_in-requires-then-i-index-clause-fits c =
     let h = among _ _ _ c.requires.starts c.locate-c.ensures.within in
-    let n = length-halved c.args.pieces.now.items c.locate-c.result h in
-    let e = ap length c.halve.ensures.halved in
-    let m = same-length _ _ c.halve.ensures.starts in
-    let s : c.index-in-Some.result.now ≡ get_or c.halve.new.starts.items (c.locate-c.result + 1) 0 = c.index-in-Some.ensures ∙ get_or_default c.halve.new.starts.items (c.locate-c.result + 1) _ 0 (omega arith) in
+    let n = length-parted c.args.pieces.now.items c.locate-c.result 512 h in
+    let e = ap length c.part.ensures.parted in
+    let m = same-length _ _ c.part.ensures.starts in
+    let s : c.index-2.result.now ≡ get_or c.part.new.starts.items (c.locate-c.result + 1) 0 = c.index-2.ensures ∙ get_or_default c.part.new.starts.items (c.locate-c.result + 1) _ 0 (omega arith) in
     let t = c.if-i-index.true in
-    subst (λ (ps : List (List ℕ)). FitsAt c.halve.new.starts.items ps c.locate-c.result c.args.i) (sym c.halve.ensures.halved)
-    (fits-left c.args.pieces.now.items c.args.starts.now.items c.halve.new.starts.items c.locate-c.result c.args.i c.requires.starts (c.halve.ensures.starts ∙ ap (starts_of 0) c.halve.ensures.halved) h c.locate-c.ensures.from (omega arith))
+    subst (λ (ps : List (List ℕ)). FitsAt c.part.new.starts.items ps c.locate-c.result c.args.i) (sym c.part.ensures.parted)
+    (fits-left c.args.pieces.now.items c.args.starts.now.items c.part.new.starts.items c.locate-c.result c.args.i c.requires.starts (c.part.ensures.starts ∙ ap (starts_of 0) c.part.ensures.parted) h c.locate-c.ensures.from (omega arith))
 
 pub put_in-requires-else-i-index-clause-fits : goal.put_in-requires-else-i-index-clause-fits
 put_in-requires-else-i-index-clause-fits c =
     let h = among _ _ _ c.requires.starts c.locate-c.ensures.within in
-    let n = length-halved c.args.pieces.now.items c.locate-c.result h in
-    let e = ap length c.halve.ensures.halved in
-    let m = same-length _ _ c.halve.ensures.starts in
-    let s : c.index-in-Some.result.now ≡ get_or c.halve.new.starts.items (c.locate-c.result + 1) 0 = c.index-in-Some.ensures ∙ get_or_default c.halve.new.starts.items (c.locate-c.result + 1) _ 0 (omega arith) in
+    let n = length-parted c.args.pieces.now.items c.locate-c.result 512 h in
+    let e = ap length c.part.ensures.parted in
+    let m = same-length _ _ c.part.ensures.starts in
+    let s : c.index-2.result.now ≡ get_or c.part.new.starts.items (c.locate-c.result + 1) 0 = c.index-2.ensures ∙ get_or_default c.part.new.starts.items (c.locate-c.result + 1) _ 0 (omega arith) in
     let t = c.if-i-index.false in
     let p = ap length (c.index.ensures ∙ get_or_default c.args.pieces.now.items c.locate-c.result _ [] h) in
     let l = c.len.ensures.len in
     let most = c.len.ensures.most in
     let upto = subst (λ (xs : List ℕ). c.args.i ≤ get_or xs c.locate-c.result 0 + length (get_or c.args.pieces.now.items c.locate-c.result [])) (sym c.requires.starts)
     (end-of c.args.pieces.now.items c.locate-c.result c.args.i h (λ a. subst (λ (xs : List ℕ). c.args.i < get_or xs (c.locate-c.result + 1) 0) c.requires.starts (c.locate-c.ensures.to (let k = same-length _ _ c.requires.starts in omega arith))) c.requires.within) in
-    subst (λ (ps : List (List ℕ)). FitsAt c.halve.new.starts.items ps (c.locate-c.result + 1) c.args.i) (sym c.halve.ensures.halved)
-    (fits-right c.args.pieces.now.items c.args.starts.now.items c.halve.new.starts.items c.locate-c.result c.args.i c.requires.starts (c.halve.ensures.starts ∙ ap (starts_of 0) c.halve.ensures.halved) h upto (omega arith) (omega arith))
+    subst (λ (ps : List (List ℕ)). FitsAt c.part.new.starts.items ps (c.locate-c.result + 1) c.args.i) (sym c.part.ensures.parted)
+    (fits-right c.args.pieces.now.items c.args.starts.now.items c.part.new.starts.items c.locate-c.result c.args.i c.requires.starts (c.part.ensures.starts ∙ ap (starts_of 0) c.part.ensures.parted) h upto (omega arith) (omega arith))
 
 pub put_in-requires-then-i-index-clause-count : goal.put_in-requires-then-i-index-clause-count
-put_in-requires-then-i-index-clause-count c = let e = ap length (ap flat c.halve.ensures.halved ∙ flat-halved c.args.pieces.now.items c.locate-c.result) in let n = c.requires.count in omega arith
+put_in-requires-then-i-index-clause-count c = let e = ap length (ap flat c.part.ensures.parted ∙ flat-parted c.args.pieces.now.items c.locate-c.result 512) in let n = c.requires.count in omega arith
 
 pub put_in-requires-else-i-index-clause-count : goal.put_in-requires-else-i-index-clause-count
-put_in-requires-else-i-index-clause-count c = let e = ap length (ap flat c.halve.ensures.halved ∙ flat-halved c.args.pieces.now.items c.locate-c.result) in let n = c.requires.count in omega arith
+put_in-requires-else-i-index-clause-count c = let e = ap length (ap flat c.part.ensures.parted ∙ flat-parted c.args.pieces.now.items c.locate-c.result 512) in let n = c.requires.count in omega arith
 
 pub returns-then-i-index-clause-flat : goal.returns-then-i-index-clause-flat
-returns-then-i-index-clause-flat c = c.put_in-then-i-index.ensures.flat ∙ ap (λ (xs : List ℕ). insert xs c.args.i c.args.n) (ap flat c.halve.ensures.halved ∙ flat-halved c.args.pieces.now.items c.locate-c.result)
+returns-then-i-index-clause-flat c = c.put_in-then-i-index.ensures.flat ∙ ap (λ (xs : List ℕ). insert xs c.args.i c.args.n) (ap flat c.part.ensures.parted ∙ flat-parted c.args.pieces.now.items c.locate-c.result 512)
 
 pub returns-else-i-index-clause-flat : goal.returns-else-i-index-clause-flat
-returns-else-i-index-clause-flat c = c.put_in-else-i-index.ensures.flat ∙ ap (λ (xs : List ℕ). insert xs c.args.i c.args.n) (ap flat c.halve.ensures.halved ∙ flat-halved c.args.pieces.now.items c.locate-c.result)
+returns-else-i-index-clause-flat c = c.put_in-else-i-index.ensures.flat ∙ ap (λ (xs : List ℕ). insert xs c.args.i c.args.n) (ap flat c.part.ensures.parted ∙ flat-parted c.args.pieces.now.items c.locate-c.result 512)
