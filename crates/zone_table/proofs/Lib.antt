@@ -1,5 +1,6 @@
 pub mod Kept
 pub mod Listed
 pub mod Marks
+pub mod Moves
 pub mod Sorts
 pub mod Tables

@@ -78,7 +78,7 @@ put-swap a b xs d = go (nat_lt a.dir b.dir) refl
     go true e = put-two a b xs e
     go false e = sym (put-two b a xs (lt-other _ _ d e))
 
-mark-put : (m : Option KeyName) (id : ℕ) (z : ZoneRow) (xs : List ZoneRow) → (id == z.dir) ≡ false → with_mark m id (put_zone z xs) ≡ put_zone z (with_mark m id xs)
+pub mark-put : (m : Option KeyName) (id : ℕ) (z : ZoneRow) (xs : List ZoneRow) → (id == z.dir) ≡ false → with_mark m id (put_zone z xs) ≡ put_zone z (with_mark m id xs)
 mark-put None id z xs d = refl
 mark-put (Some key) id z xs d = put-swap (record { dir = id; key = key }) z xs d
 

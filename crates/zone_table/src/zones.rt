@@ -1,7 +1,7 @@
 //! The table of zones.
 ghost use Rattle.std.specs.Prelude.{ℕ, ◌≡◌, ◌≤◌, [], None, IfOk, IsOk, OnOk, OnErr};
 ghost use Rattle.std.specs.Option.{option_map};
-ghost use Rattle.inode_tree.specs.Rows.{removed, zone_id};
+ghost use Rattle.inode_tree.specs.Rows.{move_allowed, removed, same_id, zone_id};
 ghost use Rattle.zone_table.specs.Zones.{need_add, put_zone, without_zone, zone_paths, zone_row, zones_of};
 
 use crate::list::{list_places, places_of};
@@ -40,6 +40,19 @@ impl Model for Zones {
     ghost invariant = { λ zones. IsUnique nat_eq zones.keys };
 }
 
+/// Returns whether two zones are the same, or both are none.
+fn is_same(zone: Option<u64>, other: Option<u64>) -> bool
+    ensures { result ≡ same_id zone other }
+{
+    match zone {
+        Some(dir) => match other {
+            Some(id) => dir == id,
+            None => false,
+        },
+        None => other.is_none(),
+    }
+}
+
 impl Zones {
     /// Creates an empty table. It does not allocate.
     pub fn new(alloc: Global) -> Zones
@@ -58,6 +71,14 @@ impl Zones {
         ensures { result ≡ zone_id tree.now.rows path.now }
     {
         tree.zone_of(path)
+    }
+
+    /// Returns whether a row may move from a path to another as far as zones go: whether the parents
+    /// of both paths lie in the same zone, or both in none. It does not allocate.
+    pub fn may_move(&self, tree: &Tree, path: &NPath, to: &NPath) -> bool
+        ensures { result ≡ move_allowed tree.now.rows path.now to.now }
+    {
+        is_same(tree.zone_of_parent(path), tree.zone_of_parent(to))
     }
 
     /// Returns the key of the zone of this directory, or `None` if the directory is not a zone.
