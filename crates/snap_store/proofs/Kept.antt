@@ -19,11 +19,11 @@ none-from : {X : Type 0} (o : Option X) → is_some o ≡ false → o ≡ None
 none-from None h = refl
 none-from (Some x) h = cc
 
-new-id : (ids : List ℕ) (id : ℕ) → is_among id ids ≡ false → seek nat_cmp nat_cmp_total id ids ≡ None
+new-id : (ids : List ℕ) (id : ℕ) → is_among ids id ≡ false → seek nat_cmp nat_cmp_total id ids ≡ None
 new-id ids id h = none-from (seek nat_cmp nat_cmp_total id ids) (sym (among-sought ids id) ∙ h)
 
 -- an id that isn't among them is put in at its place
-pub id-put : (ids : List ℕ) (id i : ℕ) → IsRisingBy nat_cmp ids → is_among id ids ≡ false → i ≤ length ids → Parted nat_cmp nat_cmp_total id ids i → (insert ids i id ≡ with_id id ids) × IsRisingBy nat_cmp (insert ids i id)
+pub id-put : (ids : List ℕ) (id i : ℕ) → IsRisingBy nat_cmp ids → is_among ids id ≡ false → i ≤ length ids → Parted nat_cmp nat_cmp_total id ids i → (insert ids i id ≡ with_id id ids) × IsRisingBy nat_cmp (insert ids i id)
 id-put ids id i r h b p =
     let e : put_by nat_cmp id ids ≡ insert ids i id = put-insert nat_cmp nat_cmp_total id ids i b p (new-id ids id h) in (
       sym (ap (λ (t : Bool). cond t ids (put_by nat_cmp id ids)) h ∙ e),
@@ -49,26 +49,26 @@ any-put p z (x ∷ xs) h = go (is_lt (nat_cmp z x)) (any-put p z xs)
     go true ih = or-right (p z) (p x || list_any p xs) h
     go false ih = or-map (p x) (list_any p xs) (list_any p (put_by nat_cmp z xs)) ih h
 
-among-with : (x id : ℕ) (ids : List ℕ) → is_among x ids ≡ true → is_among x (with_id id ids) ≡ true
-among-with x id ids h = go (is_among id ids)
+among-with : (x id : ℕ) (ids : List ℕ) → is_among ids x ≡ true → is_among (with_id id ids) x ≡ true
+among-with x id ids h = go (is_among ids id)
   where
-    go : (t : Bool) → is_among x (cond t ids (put_by nat_cmp id ids)) ≡ true
+    go : (t : Bool) → is_among (cond t ids (put_by nat_cmp id ids)) x ≡ true
     go true = h
     go false = any-put (λ i. i == x) id ids h
 
-among-kept : (p : ℕ → Bool) (x : ℕ) (ids : List ℕ) → p x ≡ false → is_among x ids ≡ true → is_among x (filter (λ i. not (p i)) ids) ≡ true
+among-kept : (p : ℕ → Bool) (x : ℕ) (ids : List ℕ) → p x ≡ false → is_among ids x ≡ true → is_among (filter (λ i. not (p i)) ids) x ≡ true
 among-kept p x [] e h = cc
 among-kept p x (y ∷ ys) e h = go (p y) refl (y == x) refl (among-kept p x ys e) h
   where
     same : (a b : ℕ) → (a == b) ≡ true → a ≡ b
     same a b h = grind (arith, nat_tests)
 
-    go : (t : Bool) → p y ≡ t → (u : Bool) → (y == x) ≡ u → (is_among x ys ≡ true → is_among x (filter (λ i. not (p i)) ys) ≡ true) → (u || is_among x ys) ≡ true
-        → is_among x (cond (not t) (y ∷ filter (λ i. not (p i)) ys) (filter (λ i. not (p i)) ys)) ≡ true
+    go : (t : Bool) → p y ≡ t → (u : Bool) → (y == x) ≡ u → (is_among ys x ≡ true → is_among (filter (λ i. not (p i)) ys) x ≡ true) → (u || is_among ys x) ≡ true
+        → is_among (cond (not t) (y ∷ filter (λ i. not (p i)) ys) (filter (λ i. not (p i)) ys)) x ≡ true
     go true f true g ih k = let m : p x ≡ true = subst (λ (i : ℕ). p i ≡ true) (same y x g) f in cc
     go true f false g ih k = ih k
-    go false f true g ih k = ap (λ (b : Bool). b || is_among x (filter (λ i. not (p i)) ys)) g
-    go false f false g ih k = or-right (y == x) (is_among x (filter (λ i. not (p i)) ys)) (ih k)
+    go false f true g ih k = ap (λ (b : Bool). b || is_among (filter (λ i. not (p i)) ys) x) g
+    go false f false g ih k = or-right (y == x) (is_among (filter (λ i. not (p i)) ys) x) (ih k)
 
 both : (a b : Bool) → a ≡ true → b ≡ true → (a && b) ≡ true
 both a b e f = cc
@@ -195,7 +195,7 @@ module _ (ids : List ℕ) (xs : List Snapshot) (s : IsSnapshots ids xs) where
     ids = rising;
     order = s.order;
     rooted = s.rooted;
-    housed = either (λ (is : List ℕ). list_all (λ t. is_among t.dir is) xs ≡ true) r new (with_id id ids) ids h k (all-from (λ t. is_among t.dir ids) (λ t. is_among t.dir (with_id id ids)) xs (λ x. among-with x.dir id ids) s.housed) s.housed;
+    housed = either (λ (is : List ℕ). list_all (λ t. is_among is t.dir) xs ≡ true) r new (with_id id ids) ids h k (all-from (λ t. is_among ids t.dir) (λ t. is_among (with_id id ids) t.dir) xs (λ x. among-with x.dir id ids) s.housed) s.housed;
     few = s.few;
   }
 
@@ -205,9 +205,9 @@ module _ (ids : List ℕ) (xs : List Snapshot) (s : IsSnapshots ids xs) where
     ids = rising-filter nat_cmp nat_cmp_total (λ i. not (p i)) ids s.ids;
     order = s.order;
     rooted = s.rooted;
-    housed = all-from (λ t. not (p t.dir) && is_among t.dir ids) (λ t. is_among t.dir (filter (λ i. not (p i)) ids)) xs
-        (λ x b. let w = and-parts (not (p x.dir)) (is_among x.dir ids) b in among-kept p x.dir ids (not-true (p x.dir) w.0) w.1)
-        (all-both (λ t. not (p t.dir)) (λ t. is_among t.dir ids) xs (none-any (λ t. p t.dir) xs h) s.housed);
+    housed = all-from (λ t. not (p t.dir) && is_among ids t.dir) (λ t. is_among (filter (λ i. not (p i)) ids) t.dir) xs
+        (λ x b. let w = and-parts (not (p x.dir)) (is_among ids x.dir) b in among-kept p x.dir ids (not-true (p x.dir) w.0) w.1)
+        (all-both (λ t. not (p t.dir)) (λ t. is_among ids t.dir) xs (none-any (λ t. p t.dir) xs h) s.housed);
     few = s.few;
   }
 
@@ -218,16 +218,16 @@ module _ (ids : List ℕ) (xs : List Snapshot) (s : IsSnapshots ids xs) where
   kept-remove dir name = record {
     ids = s.ids;
     order = rising-filter snapshot_cmp snapshot-total (λ t. not (is_named dir name t)) xs s.order;
-    housed = all-filter (λ t. is_among t.dir ids) (λ t. not (is_named dir name t)) xs s.housed;
+    housed = all-filter (λ t. is_among ids t.dir) (λ t. not (is_named dir name t)) xs s.housed;
     rooted = all-filter (λ t. is_some (row_at t.rows [])) (λ t. not (is_named dir name t)) xs s.rooted;
     few = λ d. let a = count-filter (λ t. not (is_named dir name t)) xs d in let b = s.few d in omega arith;
   }
 
-  put-kept : (t : Snapshot) → is_among t.dir ids ≡ true → snapshot_named xs t.dir t.name ≡ None → count_of xs t.dir < 65536 → is_some (row_at t.rows []) ≡ true → IsSnapshots ids (put_snapshot t xs)
+  put-kept : (t : Snapshot) → is_among ids t.dir ≡ true → snapshot_named xs t.dir t.name ≡ None → count_of xs t.dir < 65536 → is_some (row_at t.rows []) ≡ true → IsSnapshots ids (put_snapshot t xs)
   put-kept t h n b own = record {
     ids = s.ids;
     order = rising-put snapshot_cmp snapshot-total t xs s.order (sym (named-sought xs t.dir t.name) ∙ n);
-    housed = all-put (λ u. is_among u.dir ids) t xs h s.housed;
+    housed = all-put (λ u. is_among ids u.dir) t xs h s.housed;
     rooted = all-put (λ u. is_some (row_at u.rows [])) t xs own s.rooted;
     few = λ d. go d (t.dir == d) refl (count-put t xs d);
   }
@@ -239,7 +239,7 @@ module _ (ids : List ℕ) (xs : List Snapshot) (s : IsSnapshots ids xs) where
       go d true e f = let g : count_of xs d < 65536 = subst (λ (k : ℕ). count_of xs k < 65536) (same t.dir d e) b in omega arith
       go d false e f = let g = s.few d in omega arith
 
-  pub kept-take : {A E : Type 0} (r : Result A E) (t : Snapshot) (new : List Snapshot) → is_among t.dir ids ≡ true → snapshot_named xs t.dir t.name ≡ None → count_of xs t.dir < 65536 → is_some (row_at t.rows []) ≡ true
+  pub kept-take : {A E : Type 0} (r : Result A E) (t : Snapshot) (new : List Snapshot) → is_among ids t.dir ≡ true → snapshot_named xs t.dir t.name ≡ None → count_of xs t.dir < 65536 → is_some (row_at t.rows []) ≡ true
       → OnOk r (new ≡ put_snapshot t xs) → OnErr r (new ≡ xs) → IsSnapshots ids new
   kept-take r t new h n b own ok err = either (λ (ys : List Snapshot). IsSnapshots ids ys) r new (put_snapshot t xs) xs ok err (put-kept t h n b own) s
 

@@ -60,11 +60,11 @@ module _ (xs : List Snapshot) (dir : ℕ) (name : List ℕ) (i : ℕ) (r : IsRis
 eq-turned : (a b : ℕ) → (a == b) ≡ is_eq (nat_cmp a b)
 eq-turned a b = grind (arith, nat_tests)
 
-pub among-sought : (xs : List ℕ) (id : ℕ) → is_among id xs ≡ is_some (seek nat_cmp nat_cmp_total id xs)
+pub among-sought : (xs : List ℕ) (id : ℕ) → is_among xs id ≡ is_some (seek nat_cmp nat_cmp_total id xs)
 among-sought [] id = refl
-among-sought (x ∷ xs) id = ap (λ (b : Bool). b || is_among id xs) (eq-turned x id) ∙ go (is_eq (nat_cmp x id)) (among-sought xs id)
+among-sought (x ∷ xs) id = ap (λ (b : Bool). b || is_among xs id) (eq-turned x id) ∙ go (is_eq (nat_cmp x id)) (among-sought xs id)
   where
-    go : (t : Bool) → is_among id xs ≡ is_some (seek nat_cmp nat_cmp_total id xs) → (t || is_among id xs) ≡ is_some (cond t (Some x) (seek nat_cmp nat_cmp_total id xs))
+    go : (t : Bool) → is_among xs id ≡ is_some (seek nat_cmp nat_cmp_total id xs) → (t || is_among xs id) ≡ is_some (cond t (Some x) (seek nat_cmp nat_cmp_total id xs))
     go true h = refl
     go false h = h
 
@@ -79,10 +79,10 @@ module _ (xs : List ℕ) (id i : ℕ) (r : IsRisingBy nat_cmp xs) (p : IsPartiti
   pub id-parted : Parted nat_cmp nat_cmp_total id xs i
   id-parted = (λ k d low high. sym (lt-cmp (get_or xs k d) id) ∙ p.0 k d low high, λ k d low high. sym (lt-cmp (get_or xs k d) id) ∙ p.1 k d low high)
 
-  pub id-missing : length xs ≤ i → (is_among id xs ≡ false) × (without_id id xs ≡ xs)
+  pub id-missing : length xs ≤ i → (is_among xs id ≡ false) × (without_id id xs ≡ xs)
   id-missing b = let w = seek-past nat_cmp nat_cmp_total id xs i b id-parted in (among-sought xs id ∙ ap is_some w.0, rest-rid xs id ∙ w.1)
 
-  pub id-here : (t : Bool) → i < length xs → (get_or xs i 0 == id) ≡ t → (is_among id xs ≡ t) × (without_id id xs ≡ cond t (remove xs i) xs)
+  pub id-here : (t : Bool) → i < length xs → (get_or xs i 0 == id) ≡ t → (is_among xs id ≡ t) × (without_id id xs ≡ cond t (remove xs i) xs)
   id-here t b e =
       let w = seek-at nat_cmp nat_cmp_total id xs i 0 r b id-parted in
       let g : is_eq (nat_cmp (get_or xs i 0) id) ≡ t = eq-cmp (get_or xs i 0) id ∙ e in (

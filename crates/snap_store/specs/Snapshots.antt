@@ -23,17 +23,22 @@ pub record SnapTable : Type 0 where
   pub allowed : List ℕ
   pub taken : List Snapshot
 
+-- no directory may have snapshots
+abbrev pub no_snaps : SnapTable
+no_snaps = record { allowed = []; taken = [] }
+
 -- memory reserved for the rows of a snapshot: of which directory, by its path, and for how many rows and bytes of paths
 pub record RowRoom : Type 0 where
   pub path : Option (List (List ℕ))
   pub nodes : ℕ
   pub bytes : ℕ
 
--- memory reserved apart from the table: for how many more ids, for how many more snapshots, and for the rows of one
+-- memory reserved apart from the table: for how many more ids, for how many more snapshots, and for the rows and the name of one
 pub record SnapRoom : Type 0 where
   pub ids : ℕ
   pub snapshots : ℕ
   pub rows : RowRoom
+  pub name : Option (List ℕ)
 
 pub record SnapState : Type 0 where
   pub table : SnapTable
@@ -47,12 +52,12 @@ snapshot_cmp s t = ordering_then (nat_cmp s.dir t.dir) (slice_cmp nat_cmp s.name
 abbrev pub key_of : ℕ → List ℕ → Snapshot
 key_of dir name = record { dir = dir; name = name; rows = [] }
 
-abbrev pub is_among : ℕ → List ℕ → Bool
-is_among id ids = list_any (λ i. i == id) ids
+abbrev pub is_among : List ℕ → ℕ → Bool
+is_among ids id = list_any (λ i. i == id) ids
 
 -- the ids with one more, which may be there already
 abbrev pub with_id : ℕ → List ℕ → List ℕ
-with_id id ids = if is_among id ids then ids else put_by nat_cmp id ids
+with_id id ids = if is_among ids id then ids else put_by nat_cmp id ids
 
 abbrev pub without_id : ℕ → List ℕ → List ℕ
 without_id id ids = filter (λ i. not (i == id)) ids
@@ -92,9 +97,10 @@ pub record IsRoomFor (room : RowRoom) (rows : List Entry) (dir : ℕ) : Type 0 w
   pub nodes : nodes_for rows dir ≤ room.nodes
   pub bytes : bytes_for rows dir ≤ room.bytes
 
--- all memory for one more snapshot of the directory is reserved
-pub record IsReady (room : SnapRoom) (rows : List Entry) (dir : ℕ) : Type 0 where
+-- all memory for one more snapshot of the directory, under the name, is reserved
+pub record IsReady (room : SnapRoom) (rows : List Entry) (dir : ℕ) (name : List ℕ) : Type 0 where
   pub place : 0 < room.snapshots
+  pub name_fits : room.name ≡ Some name
   pub rows_fit : IsRoomFor room.rows rows dir
 
 -- the names of a directory's snapshots, by bytes
@@ -106,7 +112,7 @@ count_of taken dir = length (filter (is_of dir) taken)
 
 -- the number of snapshots of a directory, if it may have some
 abbrev pub count_in : SnapTable → ℕ → Option ℕ
-count_in t dir = if is_among dir t.allowed then Some (count_of t.taken dir) else None
+count_in t dir = if is_among t.allowed dir then Some (count_of t.taken dir) else None
 
 -- the children of a directory, if the rows have it as one
 abbrev pub list_in : List Entry → List (List ℕ) → Option (List Child)
@@ -157,7 +163,7 @@ pub record IsSnapshots (allowed : List ℕ) (taken : List Snapshot) : Type 0 whe
   -- the snapshots are in the order of directory and name, none twice
   pub order : IsRisingBy snapshot_cmp taken
   -- each is of a directory that may have some
-  pub housed : list_all (λ t. is_among t.dir allowed) taken ≡ true
+  pub housed : list_all (λ t. is_among allowed t.dir) taken ≡ true
   -- each has the row of the directory itself
   pub rooted : list_all (λ t. is_some (row_at t.rows [])) taken ≡ true
   -- a directory has at most 65,536

@@ -1,5 +1,5 @@
 //! The snapshots, ordered by directory and name.
-ghost use Rattle.std.specs.Prelude.{◌≡◌, ℕ, List, ◌<◌, ◌≤◌, ◌&&◌, None, Some, [], length, take, not, nat_lt, nat_le, slice_get, true, false, is_some, vec_len, vec_capacity, IsOk, IsSome, IsTrue, IfOk, IfSome, OnOk, OnErr};
+ghost use Rattle.std.specs.Prelude.{◌≡◌, ℕ, List, ◌<◌, ◌≤◌, ◌&&◌, ◌↔◌, None, Some, [], length, take, not, nat_lt, nat_le, slice_get, true, false, is_some, vec_len, vec_capacity, IsOk, IsSome, IsTrue, IfOk, IfSome, OnOk, OnErr};
 ghost use Rattle.std.specs.List.{remove};
 ghost use Rattle.std.specs.List.Sorted.{IsPartitionPoint};
 ghost use Rattle.std.specs.Option.{option_and_then, option_map, option_map_or};
@@ -7,7 +7,7 @@ ghost use Rattle.std.specs.Ordering.{is_lt, nat_cmp};
 ghost use Rattle.inode_tree.specs.Below.{at_or_above, at_or_below};
 ghost use Rattle.inode_tree.specs.Rows.{entry_of, row_at};
 ghost use Rattle.snap_store.specs.Ordered.{IsRisingBy};
-ghost use Rattle.snap_store.specs.Snapshots.{IsReady, IsSnapshots, allowed_above, allowed_below, count_in, count_of, holds_snapshot, is_among, is_named, key_of, list_in, names_of, put_snapshot, rows_in, snapshot_cmp, snapshot_named, table_after_allow, table_after_disallow, table_after_disallow_below, table_after_remove, table_after_take, with_id, without_below, without_id, without_snapshot, zone_depth};
+ghost use Rattle.snap_store.specs.Snapshots.{IsReady, IsSnapshots, allowed_above, allowed_below, count_in, count_of, holds_snapshot, is_among, is_named, key_of, list_in, names_of, no_snaps, put_snapshot, rows_in, snapshot_cmp, snapshot_named, table_after_allow, table_after_disallow, table_after_disallow_below, table_after_remove, table_after_take, with_id, without_below, without_id, without_snapshot, zone_depth};
 
 use crate::paths::compare_names;
 use crate::reserved::Reserved;
@@ -143,7 +143,7 @@ fn place_id(ids: &Vec<u64>, id: u64) -> usize
 fn find_id(ids: &Vec<u64>, id: u64) -> Option<usize>
     requires { IsRisingBy nat_cmp ids.now.items }
     ensures within { IfSome result (λ at. at < length ids.now.items) }
-    ensures found { is_some result ≡ is_among id ids.now.items }
+    ensures found { is_some result ≡ is_among ids.now.items id }
     ensures rest { option_map_or (λ at. remove ids.now.items at) result ids.now.items ≡ without_id id ids.now.items }
 {
     let at = place_id(ids, id);
@@ -230,6 +230,35 @@ fn rows_of<'a>(taken: &'a Vec<Taken>, dir: u64, name: &Text) -> Option<&'a Froze
     }
 }
 
+fn copy_of(alloc: Global, name: &Text) -> Result<Text, NoMemory>
+    ensures { IfOk result (λ copy. copy ≡ name.now) }
+{
+    Ok(Text::of(String::from_str(alloc, name.as_str())?))
+}
+
+fn is_same(name: &Text, other: &Text) -> bool
+    ensures { IsTrue result ↔ (name.now ≡ other.now) }
+{
+    name.as_str().as_bytes() == other.as_str().as_bytes()
+}
+
+/// Returns the name as an owned text, and does not allocate if the kept one is the same.
+fn name_for(alloc: Global, kept: Option<Text>, name: &Text) -> Result<Text, NoMemory>
+    ensures name { IfOk result (λ text. text ≡ name.now) }
+    ensures kept { kept ≡ Some name.now → IsOk result }
+{
+    match kept {
+        Some(kept) => {
+            if is_same(&kept, name) {
+                Ok(kept)
+            } else {
+                copy_of(alloc, name)
+            }
+        }
+        None => copy_of(alloc, name),
+    }
+}
+
 /// The directories that may have snapshots, and the snapshots. In contracts their value is the ids
 /// of the directories in rising order, and the snapshots ordered by directory and name, by bytes.
 /// Each snapshot has the rows at and below its directory as they were when it was taken.
@@ -239,6 +268,7 @@ pub struct Snaps {
     allowed: Vec<u64>,
     taken: Vec<Taken>,
     reserved: Reserved,
+    name: Option<Text>,
 }
 
 impl Model for Snaps {
@@ -248,7 +278,7 @@ impl Model for Snaps {
 
     ghost Value = { SnapState };
 
-    ghost view = { λ snaps. record { table = record { allowed = snaps.allowed.items; taken = snaps.taken.items }; room = record { ids = vec_capacity snaps.allowed - vec_len snaps.allowed; snapshots = vec_capacity snaps.taken - vec_len snaps.taken; rows = snaps.reserved } } };
+    ghost view = { λ snaps. record { table = record { allowed = snaps.allowed.items; taken = snaps.taken.items }; room = record { ids = vec_capacity snaps.allowed - vec_len snaps.allowed; snapshots = vec_capacity snaps.taken - vec_len snaps.taken; rows = snaps.reserved; name = snaps.name } } };
 
     ghost invariant = { λ snaps. IsSnapshots snaps.allowed.items snaps.taken.items };
 }
@@ -257,14 +287,14 @@ impl Snaps {
     /// Creates an empty store: there are no snapshots, and no directory may have any. It does not
     /// allocate.
     pub fn new(alloc: Global) -> Snaps
-        ensures allowed { result.table.allowed ≡ [] }
-        ensures taken { result.table.taken ≡ [] }
+        ensures { result.table ≡ no_snaps }
     {
         Snaps {
             alloc,
             allowed: Vec::new(alloc),
             taken: Vec::new(alloc),
             reserved: Reserved::none(alloc),
+            name: None,
         }
     }
 
@@ -279,8 +309,8 @@ impl Snaps {
     }
 
     /// Reserves memory for one more directory that may have snapshots. Nothing else changes. After
-    /// `Ok`, `allow` of the directory succeeds too.
-    pub fn reserve_allow(&mut self, _dir: u64) -> Result<(), NoMemory>
+    /// `Ok`, the next `allow` succeeds too.
+    pub fn reserve_allow(&mut self) -> Result<(), NoMemory>
         ensures ok { OnOk result (0 < self.new.room.ids) }
         ensures same { self.new.table ≡ self.old.table }
     {
@@ -309,31 +339,35 @@ impl Snaps {
     /// exist and be allowed to have snapshots, the name must be free there, and it must have fewer
     /// than 65,536 snapshots. The other snapshots are unchanged. Returns `NoMemory` if allocation
     /// fails; the snapshots, and which directories may have some, are then unchanged. It does not
-    /// allocate if `reserve_take` was `Ok` for the directory, and neither the snapshots nor the
-    /// rows at and below it have changed since.
-    pub fn take(&mut self, tree: &Tree, dir: u64, name: Text) -> Result<(), NoMemory>
+    /// allocate if `reserve_take` was `Ok` for the directory and the name, and neither the snapshots
+    /// nor the rows at and below it have changed since.
+    pub fn take(&mut self, tree: &Tree, dir: u64, name: &Text) -> Result<(), NoMemory>
         requires stands { IsSome (entry_of tree.now.rows dir) }
-        requires allowed { IsTrue (is_among dir self.old.table.allowed) }
-        requires free { snapshot_named self.old.table.taken dir name ≡ None }
+        requires allowed { IsTrue (is_among self.old.table.allowed dir) }
+        requires free { snapshot_named self.old.table.taken dir name.now ≡ None }
         requires room { count_of self.old.table.taken dir < 65536 }
-        ensures ok { OnOk result (self.new.table ≡ table_after_take tree.now.rows dir name self.old.table) }
+        ensures ok { OnOk result (self.new.table ≡ table_after_take tree.now.rows dir name.now self.old.table) }
         ensures err { OnErr result (self.new.table ≡ self.old.table) }
-        ensures others { (d : ℕ) (n : List ℕ) → is_named dir name (key_of d n) ≡ false → snapshot_named self.new.table.taken d n ≡ snapshot_named self.old.table.taken d n }
-        ensures spare { IsReady self.old.room tree.now.rows dir → IsOk result }
+        ensures others { (d : ℕ) (n : List ℕ) → is_named dir name.now (key_of d n) ≡ false → snapshot_named self.new.table.taken d n ≡ snapshot_named self.old.table.taken d n }
+        ensures spare { IsReady self.old.room tree.now.rows dir name.now → IsOk result }
     {
+        let kept = mem::replace(&mut self.name, None);
         let reserved = mem::replace(&mut self.reserved, Reserved::none(self.alloc));
+        let name = name_for(self.alloc, kept, name)?;
         let rows = reserved.into_rows(self.alloc, tree, dir)?;
         put(&mut self.taken, Taken { dir, name, rows })
     }
 
-    /// Reserves the memory for a snapshot of a directory. Nothing else changes. After `Ok`, `take`
-    /// succeeds for the directory until the snapshots or the rows at and below it change.
-    pub fn reserve_take(&mut self, tree: &Tree, dir: u64, _name: &Text) -> Result<(), NoMemory>
-        ensures ok { OnOk result (IsReady self.new.room tree.now.rows dir) }
+    /// Reserves the memory for a snapshot of a directory under a name. Nothing else changes. After
+    /// `Ok`, `take` succeeds for the directory and the name until the snapshots or the rows at and
+    /// below it change.
+    pub fn reserve_take(&mut self, tree: &Tree, dir: u64, name: &Text) -> Result<(), NoMemory>
+        ensures ok { OnOk result (IsReady self.new.room tree.now.rows dir name.now) }
         ensures same { self.new.table ≡ self.old.table }
     {
         self.taken.reserve(1)?;
         self.reserved = Reserved::of(self.alloc, tree, dir)?;
+        self.name = Some(copy_of(self.alloc, name)?);
         Ok(())
     }
 
@@ -381,13 +415,40 @@ impl Snaps {
         }
     }
 
+    /// Does nothing: its contract says what is always true of the snapshots.
+    pub fn invariants(&self)
+        ensures { IsSnapshots self.now.table.allowed self.now.table.taken }
+    {
+        let _ = self.allowed.len();
+    }
+
+    /// Returns whether a directory may have snapshots.
+    pub fn allows(&self, dir: u64) -> bool
+        ensures { result ≡ is_among self.now.table.allowed dir }
+    {
+        find_id(&self.allowed, dir).is_some()
+    }
+
+    /// Returns whether a directory has a snapshot with this name.
+    pub fn has(&self, dir: u64, name: &Text) -> bool
+        ensures { result ≡ is_some (snapshot_named self.now.table.taken dir name.now) }
+    {
+        find(&self.taken, dir, name).is_some()
+    }
+
+    /// Returns how many snapshots a directory has, at most 65,536.
+    pub fn len_of(&self, dir: u64) -> u32
+        ensures { result ≡ count_of self.now.table.taken dir }
+    {
+        (end_of(&self.taken, dir) - first_of(&self.taken, dir)) as u32
+    }
+
     /// Returns how many snapshots a directory has, at most 65,536, or `None` if it may have none.
     pub fn count(&self, dir: u64) -> Option<u32>
-        ensures count { result ≡ count_in self.now.table dir }
-        ensures rules { IsSnapshots self.now.table.allowed self.now.table.taken }
+        ensures { result ≡ count_in self.now.table dir }
     {
         match find_id(&self.allowed, dir) {
-            Some(_) => Some((end_of(&self.taken, dir) - first_of(&self.taken, dir)) as u32),
+            Some(_) => Some(self.len_of(dir)),
             None => None,
         }
     }
