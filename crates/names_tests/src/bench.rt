@@ -58,6 +58,29 @@ fn remove(tree: &mut Tree, path: &NPath) {
     }
 }
 
+/// Moves what is at a path to another path if the rules allow it. Returns whether they did.
+fn rename(tree: &mut Tree, path: &NPath, to: &NPath) -> Result<bool, NoMemory> {
+    let _ = tree.rows();
+    let id = match tree.find(path) {
+        Some(row) => row.id,
+        None => return Ok(false),
+    };
+    if tree.find(to).is_some() || tree.at_or_above(id, to) || !tree.move_fits(path, to) {
+        return Ok(false);
+    }
+    match tree.find_parent(to) {
+        Some(above) => {
+            if !above.kind.is_dir() {
+                return Ok(false);
+            }
+        }
+        None => return Ok(false),
+    }
+    tree.reserve_rename(path, to)?;
+    tree.rename(path, to)?;
+    Ok(true)
+}
+
 /// Marks the directory with this id. Returns whether there is one.
 fn mark(tree: &mut Tree, id: u64, key: KeyName) -> bool {
     match tree.row(id) {
@@ -96,7 +119,7 @@ fn take(
         }
         None => return Ok(false),
     }
-    snaps.take(tree, dir, name)?;
+    snaps.take(tree, dir, &name)?;
     Ok(true)
 }
 
@@ -176,6 +199,13 @@ impl Bench {
         self.say_number(rt, rows);
     }
 
+    fn rename(&mut self, rt: &impl Abort, text: &str, to: &str) {
+        let from = path(rt, self.alloc, text);
+        let to = path(rt, self.alloc, to);
+        let moved = rename(&mut self.tree, &from, &to).expect(rt, "memory");
+        self.say_whether(rt, moved);
+    }
+
     fn mark(&mut self, rt: &impl Abort, id: u64) {
         let key = KeyName::read(b"k").expect(rt, "a name");
         let marked = mark(&mut self.tree, id, key);
@@ -188,7 +218,7 @@ impl Bench {
     }
 
     fn allow(&mut self, rt: &impl Abort, dir: u64) {
-        self.snaps.reserve_allow(dir).expect(rt, "memory");
+        self.snaps.reserve_allow().expect(rt, "memory");
         self.snaps.allow(dir).expect(rt, "memory");
         self.say_whether(rt, true);
     }
@@ -292,6 +322,7 @@ impl Bench {
             ["mkdir", path, id] => self.make(rt, path, number(rt, id), true),
             ["file", path, id] => self.make(rt, path, number(rt, id), false),
             ["remove", path] => self.remove(rt, path),
+            ["rename", path, to] => self.rename(rt, path, to),
             ["mark", id] => self.mark(rt, number(rt, id)),
             ["find", path] => self.find(rt, path),
             ["places", path] => self.places(rt, path),

@@ -4,6 +4,8 @@
 #[cfg(test)]
 mod bench;
 #[cfg(test)]
+mod renames;
+#[cfg(test)]
 mod snapshots;
 #[cfg(test)]
 mod trees;
