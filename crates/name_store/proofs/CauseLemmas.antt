@@ -1,5 +1,5 @@
 -- What is known if no cause of a refusal applies, and if the table allows an operation.
-use Rattle.std.proofs.Common.{◌≡◌, ℕ, ◌<◌, Bool, true, false, cond, not, ◌&&◌, nat_lt, nat_le, List, [], ◌∷◌, ◌++◌, length, Option, Some, None, is_none, is_some, refl, ap, ◌∙◌, arith}
+use Rattle.std.proofs.Common.{◌≡◌, ℕ, ◌<◌, Bool, true, false, cond, not, ◌&&◌, ◌||◌, nat_lt, nat_le, List, [], ◌∷◌, ◌++◌, length, Option, Some, None, is_none, is_some, refl, ap, ◌∙◌, arith}
 use Rattle.std.specs.Prelude.{◌==◌}
 use Rattle.std.proofs.lemmas.Bool.Decides.{nat_tests}
 use Rattle.name_calls.specs.declared.calls.NameRefusal.{NameRefusal}
@@ -8,7 +8,8 @@ use Rattle.name_calls.specs.Paths.{parent}
 use Rattle.inode_tree.specs.Rows.{Entry, entry_of, has_children, is_dir_at, row_at, zone_of}
 use Rattle.edit_ops.specs.declared.ops.EditOp.{EditOp}
 use Rattle.edit_ops.specs.declared.ops.EditOp.TheVariants as op
-use Rattle.name_store.specs.Causes.{first_cause, has_most_rows, is_root, removal_causes, row_causes, to_be_made, zone_causes}
+use Rattle.snap_store.specs.Snapshots.{SnapTable, allowed_above, allowed_below, count_of, holds_snapshot, is_among, snapshot_named}
+use Rattle.name_store.specs.Causes.{allow_causes, allowed_causes, directory_causes, disallow_causes, first_cause, has_most_rows, has_most_snapshots, id_at, is_root, kept_causes, removal_causes, row_causes, snap_causes, to_be_made, zone_causes}
 use Rattle.name_store.specs.Store.{is_opening}
 use Rattle.name_store.specs.Table.{NameTable, allows, allows_change, fits_key, is_of_opening, may_use, may_use_all, op_causes, uses}
 
@@ -16,6 +17,9 @@ use Rattle.name_store.specs.Table.{NameTable, allows, allows_change, fits_key, i
 pub clear : (b : Bool) (why : NameRefusal) (rest : Option NameRefusal) → cond b (Some why) rest ≡ None → (b ≡ false) × (rest ≡ None)
 clear true why rest h = absurd cc
 clear false why rest h = (refl, h)
+
+no-cause : (b : Bool) (why : NameRefusal) → first_cause ((b, why) ∷ []) ≡ None → b ≡ false
+no-cause b why h = (clear b why None h).0
 
 -- no cause of two lists applies exactly if none of the first does and none of the second
 
@@ -85,6 +89,11 @@ removable rows p h =
     let b = clear (is_none (row_at rows p)) refusal.NoSuchPath _ a.1 in
     record { deep = positive (length p) a.0; stands = there (row_at rows p) b.0 }
 
+-- a directory at a path
+
+pub directory : (rows : List Entry) (p : List (List ℕ)) → first_cause (directory_causes rows p) ≡ None → is_dir_at (row_at rows p) ≡ true
+directory rows p h = let a = clear (is_none (row_at rows p)) refusal.NoSuchPath _ h in let b = clear (not (is_dir_at (row_at rows p))) refusal.NotADirectory _ a.1 in yes _ b.0
+
 -- a directory that may become a zone
 pub record IsMarkable (rows : List Entry) (p : List (List ℕ)) : Type 0 where
   pub dir : is_dir_at (row_at rows p) ≡ true
@@ -93,17 +102,61 @@ pub record IsMarkable (rows : List Entry) (p : List (List ℕ)) : Type 0 where
 
 pub markable : (rows : List Entry) (p : List (List ℕ)) → first_cause (zone_causes rows p) ≡ None → IsMarkable rows p
 markable rows p h =
-    let a = clear (is_none (row_at rows p)) refusal.NoSuchPath _ h in
-    let b = clear (not (is_dir_at (row_at rows p))) refusal.NotADirectory _ a.1 in
-    let c = clear (has_children rows p) refusal.NotEmpty _ b.1 in
-    let d = clear (is_some (zone_of rows p)) refusal.AlreadyInZone _ c.1 in
-    record { dir = yes _ b.0; empty = c.0; outside = not-some (zone_of rows p) d.0 }
+    let parts = none-of-both (directory_causes rows p) ((has_children rows p, refusal.NotEmpty) ∷ (is_some (zone_of rows p), refusal.AlreadyInZone) ∷ []) h in
+    let c = clear (has_children rows p) refusal.NotEmpty _ parts.1 in
+    record { dir = directory rows p parts.0; empty = c.0; outside = not-some (zone_of rows p) (no-cause (is_some (zone_of rows p)) refusal.AlreadyInZone c.1) }
+
+-- a directory that may be allowed snapshots
+pub allowable : (rows : List Entry) (snaps : SnapTable) (p : List (List ℕ)) → first_cause (allow_causes rows snaps p) ≡ None → is_dir_at (row_at rows p) ≡ true
+allowable rows snaps p h =
+    directory rows p (none-of-both (directory_causes rows p) ((allowed_above rows snaps.allowed p || allowed_below rows snaps.allowed p, refusal.NestedSnapshottable) ∷ []) h).0
+
+-- a directory that may have one more snapshot
+pub record IsSnappable (rows : List Entry) (snaps : SnapTable) (p : List (List ℕ)) (name : List ℕ) : Type 0 where
+  pub dir : is_dir_at (row_at rows p) ≡ true
+  pub allowed : is_among snaps.allowed (id_at rows p) ≡ true
+  pub free : snapshot_named snaps.taken (id_at rows p) name ≡ None
+  pub room : count_of snaps.taken (id_at rows p) < 65536
+
+fewer : (n : ℕ) → nat_le 65536 n ≡ false → n < 65536
+fewer n h = grind (arith, nat_tests, h)
+
+pub snappable : (rows : List Entry) (snaps : SnapTable) (p : List (List ℕ)) (name : List ℕ) → first_cause (snap_causes rows snaps p name) ≡ None → IsSnappable rows snaps p name
+snappable rows snaps p name h =
+    let last = (is_some (snapshot_named snaps.taken (id_at rows p) name), refusal.SnapshotExists) ∷ (has_most_snapshots rows snaps p, refusal.TooManySnapshots) ∷ [] in
+    let parts = none-of-both (directory_causes rows p) (allowed_causes rows snaps p ++ last) h in
+    let more = none-of-both (allowed_causes rows snaps p) last parts.1 in
+    let c = clear (is_some (snapshot_named snaps.taken (id_at rows p) name)) refusal.SnapshotExists _ more.1 in
+    record {
+      dir = directory rows p parts.0;
+      allowed = yes _ (no-cause (not (is_among snaps.allowed (id_at rows p))) refusal.NotSnapshottable more.0);
+      free = not-some (snapshot_named snaps.taken (id_at rows p) name) c.0;
+      room = fewer (count_of snaps.taken (id_at rows p)) (no-cause (has_most_snapshots rows snaps p) refusal.TooManySnapshots c.1);
+    }
+
+-- a directory without snapshots
+pub holds-none : (rows : List Entry) (snaps : SnapTable) (p : List (List ℕ)) → first_cause (kept_causes rows snaps p) ≡ None → holds_snapshot rows snaps.taken p ≡ false
+holds-none rows snaps p h = no-cause (holds_snapshot rows snaps.taken p) refusal.HasSnapshots h
+
+pub record IsDisallowable (rows : List Entry) (snaps : SnapTable) (p : List (List ℕ)) : Type 0 where
+  pub dir : is_dir_at (row_at rows p) ≡ true
+  pub none : holds_snapshot rows snaps.taken p ≡ false
+
+pub disallowable : (rows : List Entry) (snaps : SnapTable) (p : List (List ℕ)) → first_cause (disallow_causes rows snaps p) ≡ None → IsDisallowable rows snaps p
+disallowable rows snaps p h =
+    let parts = none-of-both (directory_causes rows p) (allowed_causes rows snaps p ++ kept_causes rows snaps p) h in
+    let more = none-of-both (allowed_causes rows snaps p) (kept_causes rows snaps p) parts.1 in
+    record { dir = directory rows p parts.0; none = holds-none rows snaps p more.1 }
 
 -- an operation that the table allows
 
 pub both : (a b : Bool) → (a && b) ≡ true → (a ≡ true) × (b ≡ true)
 both true b h = (refl, h)
 both false b h = absurd cc
+
+pub and-yes : (b : Bool) → b ≡ (b && true)
+and-yes true = refl
+and-yes false = refl
 
 pub join : (a b : Bool) → a ≡ true → b ≡ true → (a && b) ≡ true
 join a b h k = ap (λ (x : Bool). x && b) h ∙ k
@@ -134,6 +187,10 @@ allowed t (op.Mkdir id p) safe may = parts t (op.Mkdir id p) may
 allowed t (op.File id p edek) safe may = parts t (op.File id p edek) may
 allowed t (op.Remove p) safe may = parts t (op.Remove p) may
 allowed t (op.Zone p key) safe may = parts t (op.Zone p key) may
+allowed t (op.Allow p) safe may = parts t (op.Allow p) may
+allowed t (op.Disallow p) safe may = parts t (op.Disallow p) may
+allowed t (op.Snap p name) safe may = parts t (op.Snap p name) may
+allowed t (op.Unsnap p name) safe may = parts t (op.Unsnap p name) may
 
 pub allows-it : (t : NameTable) (o : EditOp) → is_opening o ≡ false → IsAllowed t o → allows t o ≡ true
 allows-it t (op.Opened opening) safe a = absurd cc
@@ -141,6 +198,10 @@ allows-it t (op.Mkdir id p) safe a = whole t (op.Mkdir id p) a
 allows-it t (op.File id p edek) safe a = whole t (op.File id p edek) a
 allows-it t (op.Remove p) safe a = whole t (op.Remove p) a
 allows-it t (op.Zone p key) safe a = whole t (op.Zone p key) a
+allows-it t (op.Allow p) safe a = whole t (op.Allow p) a
+allows-it t (op.Disallow p) safe a = whole t (op.Disallow p) a
+allows-it t (op.Snap p name) safe a = whole t (op.Snap p name) a
+allows-it t (op.Unsnap p name) safe a = whole t (op.Unsnap p name) a
 
 -- the id of an operation that uses one
 

@@ -7,10 +7,11 @@ use Rattle.std.proofs.lemmas.List.Elements.{All-cons, All-filter, All-head, All-
 use Rattle.inode_tree.specs.declared.rows.Kind.{Kind}
 use Rattle.inode_tree.specs.declared.rows.Kind.TheVariants.{Dir}
 use Rattle.name_calls.specs.Paths.{is_before}
-use Rattle.inode_tree.specs.Rows.{Entry, put, row_at, set_kind, with_kind}
+use Rattle.inode_tree.specs.Rows.{Entry, put, set_kind, with_kind}
 use Rattle.edit_ops.specs.declared.ops.EditOp.{EditOp}
 use Rattle.edit_ops.specs.declared.ops.EditOp.TheVariants as op
-use Rattle.name_store.specs.Table.{NameTable, Replayed, after, allows, applies, id_of, is_among, is_fresh, is_of_opening, nothing_logged}
+use Rattle.name_store.specs.Table.{NameTable, Replayed, after, allows, applies, is_among, is_fresh, is_of_opening, nothing_logged}
+use Rattle.name_store.specs.Causes.{id_at}
 use Rattle.name_store.specs.Replay.{AllBelow, IdsOfOpening, name_replay}
 use Rattle.name_store.proofs.CauseLemmas.{MayUse, allowed, both, id-may-be-used}
 
@@ -28,7 +29,7 @@ all-put P e (x ∷ xs) p h =
     (All-cons P x (put e xs) (All-head P x xs h) (all-put P e xs p (All-tail P x xs h)))
 
 -- another kind leaves the id
-kind-id : (n : ℕ) (kind : Kind) (e : Entry) → (with_kind n kind e).row.id ≡ e.row.id
+pub kind-id : (n : ℕ) (kind : Kind) (e : Entry) → (with_kind n kind e).row.id ≡ e.row.id
 kind-id n kind e = go (e.row.id == n) refl
   where
     go : (b : Bool) → (e.row.id == n) ≡ b → (cond b (record e { row = record { id = n; kind = kind } }) e).row.id ≡ e.row.id
@@ -76,9 +77,13 @@ ids-after r (op.File id p edek) may h =
     record { rows = all-put (BelowId (end_of_ids r.table.opening)) _ r.table.rows below h.rows; used = (below, h.used) }
 ids-after r (op.Remove p) may h = record { rows = All-filter _ (BelowId (end_of_ids r.table.opening)) r.table.rows h.rows; used = h.used }
 ids-after r (op.Zone p key) may h = record {
-  rows = kinds-below (end_of_ids r.table.opening) (id_of (row_at r.table.rows p)) (Dir (Some key)) r.table.rows h.rows;
+  rows = kinds-below (end_of_ids r.table.opening) (id_at r.table.rows p) (Dir (Some key)) r.table.rows h.rows;
   used = h.used;
 }
+ids-after r (op.Allow p) may h = record { rows = h.rows; used = h.used }
+ids-after r (op.Disallow p) may h = record { rows = h.rows; used = h.used }
+ids-after r (op.Snap p name) may h = record { rows = h.rows; used = h.used }
+ids-after r (op.Unsnap p name) may h = record { rows = h.rows; used = h.used }
 
 ids-of-all : (r made : Replayed) (ops : List EditOp) → IdsOfOpening r → name_replay r ops ≡ Some made → IdsOfOpening made
 ids-of-all r made [] h is = let same : r ≡ made = cc is in subst IdsOfOpening same h
@@ -115,3 +120,7 @@ fresh_in t used (op.Mkdir id p) may h = of-this t used id (id-may-be-used t id (
 fresh_in t used (op.File id p edek) may h = of-this t used id (id-may-be-used t id (allowed t (op.File id p edek) refl may).ids) h
 fresh_in t used (op.Remove p) may h = refl
 fresh_in t used (op.Zone p key) may h = refl
+fresh_in t used (op.Allow p) may h = refl
+fresh_in t used (op.Disallow p) may h = refl
+fresh_in t used (op.Snap p name) may h = refl
+fresh_in t used (op.Unsnap p name) may h = refl

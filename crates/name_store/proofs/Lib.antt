@@ -1,5 +1,6 @@
 pub mod CauseLemmas
 pub mod Commits
+pub mod FitsLemmas
 pub mod IdLemmas
 pub mod Layers
 mod ReaderLemmas

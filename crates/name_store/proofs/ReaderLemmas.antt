@@ -5,7 +5,7 @@ use Rattle.hk_base.specs.Disk.{DiskState, Tells}
 use Rattle.edit_ops.specs.Records.{HasSpelling, spelling}
 use Rattle.edit_ops.specs.declared.ops.EditOp.{EditOp}
 use Rattle.edit_ops.proofs.RecordLemmas.{one_spelling}
-use Rattle.edit_log.specs.declared.op_list.PlacedOp.{PlacedOp}
+use Rattle.edit_log.specs.declared.replay.PlacedOp.{PlacedOp}
 use Rattle.edit_log.specs.declared.reader.OpReader.{OpReader}
 use Rattle.edit_log.specs.Reader.{OpsAhead, IsFirstOp, HasNoNextOp}
 use Rattle.name_store.specs.Table.{NameTable, Replayed, applies, nothing_logged}

@@ -1,18 +1,22 @@
 -- The row at a path, and the row of the zone that a path lies in.
-use Rattle.std.proofs.Common.{◌≡◌, ℕ, Bool, true, false, cond, ◌&&◌, List, [], ◌∷◌, length, Option, Some, None, nat_lt, refl, sym, ap, ◌∙◌, subst}
+use Rattle.std.proofs.Common.{◌≡◌, ℕ, Bool, true, false, cond, ◌&&◌, ◌||◌, ◌==◌, List, [], ◌∷◌, length, Option, Some, None, nat_lt, refl, sym, ap, ◌∙◌, subst}
 use Rattle.std.specs.Prelude.{bytes_eq, is_some}
 use Rattle.std.specs.Bool.{⊤}
-use Rattle.std.specs.Option.{option_and_then, option_map}
-use Rattle.std.specs.List.{All}
+use Rattle.std.specs.Option.{option_and_then, option_map, option_map_or}
+use Rattle.std.specs.List.{All, filter, list_any}
+use Rattle.std.proofs.lemmas.Bool.Decides.{Decides-eqb}
 use Rattle.std.proofs.lemmas.List.Elements.{All-head, All-tail}
 use Rattle.hk_base.specs.declared.names.KeyName.{KeyName}
 use Rattle.inode_tree.specs.declared.rows.Row.{Row}
 use Rattle.inode_tree.specs.declared.rows.Kind.TheVariants.{Dir}
 use Rattle.name_calls.specs.Paths.{is_prefix, same_path}
+use Rattle.inode_tree.specs.Below.{at_or_below}
 use Rattle.inode_tree.specs.Rows.{Entry, IsRows, entry_of, is_dir, is_dir_at, is_zone_over, longer, mark_of, row_at, set_kind, zone_id, zone_of}
+use Rattle.inode_tree.proofs.Seeks.{same-is, same-itself}
+use Rattle.snap_store.specs.Snapshots.{Snapshot, count_of, holds_snapshot, is_of}
 use Rattle.zone_table.specs.Laws.{MarkedIsAZone}
 use Rattle.zone_table.specs.Zones.{put_zone, zone_row, zones_of}
-use Rattle.name_store.specs.Causes.{first_cause, zone_causes}
+use Rattle.name_store.specs.Causes.{first_cause, id_at, id_of, zone_causes}
 use Rattle.name_store.specs.Table.{key_of_zone}
 use Rattle.name_store.proofs.CauseLemmas.{both, markable}
 
@@ -61,19 +65,27 @@ key-of-row rows p id good h = ap (λ (o : Option Entry). option_and_then (λ (r 
 -- the row at a path
 
 -- a row at a path is the row of its id
-pub entry-at : (rows : List Entry) (p : List (List ℕ)) (row : Row) → IsRows rows → row_at rows p ≡ Some row → (dir : Entry) × (dir.row ≡ row) × (entry_of rows row.id ≡ Some dir)
+pub entry-at : (rows : List Entry) (p : List (List ℕ)) (row : Row) → IsRows rows → row_at rows p ≡ Some row → (dir : Entry) × (dir.row ≡ row) × (entry_of rows row.id ≡ Some dir) × (dir.path ≡ p)
 entry-at rows p row good h = go rows good.once h
   where
-    step : (x : Entry) (es : List Entry) (t : Bool) → entry_of rows x.row.id ≡ Some x
-        → (row_at es p ≡ Some row → (dir : Entry) × (dir.row ≡ row) × (entry_of rows row.id ≡ Some dir))
-        → cond t (Some x.row) (row_at es p) ≡ Some row → (dir : Entry) × (dir.row ≡ row) × (entry_of rows row.id ≡ Some dir)
-    step x es true once rest is = let same : x.row ≡ row = cc is in (x, same, ap (λ (r : Row). entry_of rows r.id) (sym same) ∙ once)
-    step x es false once rest is = rest is
+    step : (x : Entry) (es : List Entry) (t : Bool) → same_path x.path p ≡ t → entry_of rows x.row.id ≡ Some x
+        → (row_at es p ≡ Some row → (dir : Entry) × (dir.row ≡ row) × (entry_of rows row.id ≡ Some dir) × (dir.path ≡ p))
+        → cond t (Some x.row) (row_at es p) ≡ Some row → (dir : Entry) × (dir.row ≡ row) × (entry_of rows row.id ≡ Some dir) × (dir.path ≡ p)
+    step x es true here once rest is = let same : x.row ≡ row = cc is in (x, same, ap (λ (r : Row). entry_of rows r.id) (sym same) ∙ once, same-is x.path p here)
+    step x es false here once rest is = rest is
 
-    go : (es : List Entry) → All (λ e. entry_of rows e.row.id ≡ Some e) es → row_at es p ≡ Some row → (dir : Entry) × (dir.row ≡ row) × (entry_of rows row.id ≡ Some dir)
+    go : (es : List Entry) → All (λ e. entry_of rows e.row.id ≡ Some e) es → row_at es p ≡ Some row → (dir : Entry) × (dir.row ≡ row) × (entry_of rows row.id ≡ Some dir) × (dir.path ≡ p)
     go [] once is = absurd cc
     go (x ∷ es) once is =
-        step x es (same_path x.path p) (All-head (λ e. entry_of rows e.row.id ≡ Some e) x es once) (go es (All-tail (λ e. entry_of rows e.row.id ≡ Some e) x es once)) is
+        step x es (same_path x.path p) refl (All-head (λ e. entry_of rows e.row.id ≡ Some e) x es once) (go es (All-tail (λ e. entry_of rows e.row.id ≡ Some e) x es once)) is
+
+-- the directory at a path
+pub directory-entry : (rows : List Entry) (p : List (List ℕ)) → IsRows rows → is_dir_at (row_at rows p) ≡ true → (dir : Entry) × (entry_of rows (id_at rows p) ≡ Some dir) × (dir.path ≡ p) × (is_dir dir.row.kind ≡ true)
+directory-entry rows p good h = go (row_at rows p) refl h
+  where
+    go : (o : Option Row) → row_at rows p ≡ o → is_dir_at o ≡ true → (dir : Entry) × (entry_of rows (id_of o) ≡ Some dir) × (dir.path ≡ p) × (is_dir dir.row.kind ≡ true)
+    go None is dir = absurd cc
+    go (Some row) is dir = let at = entry-at rows p row good is in (at.0, at.2, at.3, ap (λ (r : Row). is_dir r.kind) at.1 ∙ dir)
 
 same-prefix : (p q : List (List ℕ)) → same_path p q ≡ true → is_prefix p q ≡ true
 same-prefix [] q h = refl
@@ -81,6 +93,25 @@ same-prefix (x ∷ p) [] h = absurd cc
 same-prefix (x ∷ p) (y ∷ q) h =
     let parts = both (bytes_eq x y) (same_path p q) h in
     ap (λ (b : Bool). b && is_prefix p q) parts.0 ∙ same-prefix p q parts.1
+
+-- a directory of which no snapshot is kept has none
+pub no-snapshots : (rows : List Entry) (taken : List Snapshot) (p : List (List ℕ)) → IsRows rows → is_dir_at (row_at rows p) ≡ true → holds_snapshot rows taken p ≡ false → count_of taken (id_at rows p) ≡ 0
+no-snapshots rows taken p good dir none = go taken none
+  where
+    within : at_or_below rows (id_at rows p) p ≡ true
+    within =
+        let at = directory-entry rows p good dir in
+        ap (λ (o : Option Entry). option_map_or (λ e. is_prefix p e.path) o false) at.1 ∙ ap (is_prefix p) at.2 ∙ same-prefix p p (same-itself p)
+
+    go : (ss : List Snapshot) → list_any (λ s. at_or_below rows s.dir p) ss ≡ false → count_of ss (id_at rows p) ≡ 0
+    go [] h = refl
+    go (s ∷ ss) h = step (s.dir == id_at rows p) refl (at_or_below rows s.dir p) refl h (go ss)
+      where
+        step : (b : Bool) → (s.dir == id_at rows p) ≡ b → (c : Bool) → at_or_below rows s.dir p ≡ c → (c || list_any (λ s. at_or_below rows s.dir p) ss) ≡ false
+            → (list_any (λ s. at_or_below rows s.dir p) ss ≡ false → count_of ss (id_at rows p) ≡ 0) → length (cond b (s ∷ filter (is_of (id_at rows p)) ss) (filter (is_of (id_at rows p)) ss)) ≡ 0
+        step b is true out h rest = absurd cc
+        step true is false out h rest = let held : at_or_below rows s.dir p ≡ true = ap (λ (id : ℕ). at_or_below rows id p) ((Decides-eqb s.dir (id_at rows p)).0 is) ∙ within in absurd (cc (held, out))
+        step false is false out h rest = rest h
 
 not-over : (x : Entry) (es : List Entry) (p : List (List ℕ)) → zone_of (x ∷ es) p ≡ None → (is_zone_over p x ≡ false) × (zone_of es p ≡ None)
 not-over x es p h = go (is_zone_over p x) h

@@ -39,6 +39,10 @@ turn-of t (op.Mkdir id p) may = (allowed t (op.Mkdir id p) refl may).opened
 turn-of t (op.File id p edek) may = (allowed t (op.File id p edek) refl may).opened
 turn-of t (op.Remove p) may = (allowed t (op.Remove p) refl may).opened
 turn-of t (op.Zone p key) may = (allowed t (op.Zone p key) refl may).opened
+turn-of t (op.Allow p) may = (allowed t (op.Allow p) refl may).opened
+turn-of t (op.Disallow p) may = (allowed t (op.Disallow p) refl may).opened
+turn-of t (op.Snap p name) may = (allowed t (op.Snap p name) refl may).opened
+turn-of t (op.Unsnap p name) may = (allowed t (op.Unsnap p name) refl may).opened
 
 last-of : (t : NameTable) (o : EditOp) → (after_table t o).opening ≡ then_last t.opening o
 last-of t (op.Opened opening) = refl
@@ -46,6 +50,10 @@ last-of t (op.Mkdir id p) = refl
 last-of t (op.File id p edek) = refl
 last-of t (op.Remove p) = refl
 last-of t (op.Zone p key) = refl
+last-of t (op.Allow p) = refl
+last-of t (op.Disallow p) = refl
+last-of t (op.Snap p name) = refl
+last-of t (op.Unsnap p name) = refl
 
 -- the last opening of operations is that of the table that they make
 pub openings-of : (r made : Replayed) (ops : List EditOp) → name_replay r ops ≡ Some made → openings r.table.opening ops ≡ Some made.table.opening

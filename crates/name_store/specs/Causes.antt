@@ -1,15 +1,25 @@
--- Why the rules of directories, files and zones refuse a change.
-use Rattle.std.specs.Prelude.{Bool, not, ◌==◌, nat_le, List, [], ◌∷◌, length, Option, Some, None, is_none, is_some, if◌then◌else◌}
+-- Why the rules of directories, files, zones and snapshots refuse a change.
+use Rattle.std.specs.Prelude.{ℕ, Bool, not, ◌||◌, ◌==◌, nat_le, List, [], ◌∷◌, ◌++◌, length, Option, Some, None, is_none, is_some, if◌then◌else◌}
 use Rattle.name_calls.specs.declared.calls.NameRefusal.{NameRefusal}
 use Rattle.name_calls.specs.declared.calls.NameRefusal.TheVariants as refusal
 use Rattle.name_calls.specs.declared.paths.NPath.{NPath}
 use Rattle.name_calls.specs.Paths.{parent}
+use Rattle.inode_tree.specs.declared.rows.Row.{Row}
 use Rattle.inode_tree.specs.Rows.{Entry, has_children, is_dir_at, row_at, zone_of}
+use Rattle.snap_store.specs.Snapshots.{SnapTable, allowed_above, allowed_below, count_of, holds_snapshot, is_among, snapshot_named}
 
 -- the causes of a refusal, in the order of the rules; the first that is true counts
 abbrev pub first_cause : List (Bool × NameRefusal) → Option NameRefusal
 first_cause [] = None
 first_cause (cause ∷ causes) = if cause.0 then Some cause.1 else first_cause causes
+
+abbrev pub id_of : Option Row → ℕ
+id_of None = 0
+id_of (Some row) = row.id
+
+-- the id of the row at the path
+abbrev pub id_at : List Entry → NPath → ℕ
+id_at rows p = id_of (row_at rows p)
 
 -- the parent of a path that is made must exist and be a directory, and the path must be free; the root is its own parent
 abbrev pub to_be_made : List Entry → NPath → List (Bool × NameRefusal)
@@ -30,8 +40,39 @@ is_root p = length p == 0
 abbrev pub removal_causes : List Entry → NPath → List (Bool × NameRefusal)
 removal_causes rows p = (is_root p, refusal.RootOrInside) ∷ (is_none (row_at rows p), refusal.NoSuchPath) ∷ []
 
--- a directory that becomes a zone must exist and be empty, and neither be a zone nor lie in one
+-- a path must be that of a directory
+abbrev pub directory_causes : List Entry → NPath → List (Bool × NameRefusal)
+directory_causes rows p = (is_none (row_at rows p), refusal.NoSuchPath) ∷ (not (is_dir_at (row_at rows p)), refusal.NotADirectory) ∷ []
+
+-- a directory that becomes a zone must be empty, and neither be a zone nor lie in one
 abbrev pub zone_causes : List Entry → NPath → List (Bool × NameRefusal)
-zone_causes rows p =
-    (is_none (row_at rows p), refusal.NoSuchPath) ∷ (not (is_dir_at (row_at rows p)), refusal.NotADirectory) ∷ (has_children rows p, refusal.NotEmpty)
-    ∷ (is_some (zone_of rows p), refusal.AlreadyInZone) ∷ []
+zone_causes rows p = directory_causes rows p ++ (has_children rows p, refusal.NotEmpty) ∷ (is_some (zone_of rows p), refusal.AlreadyInZone) ∷ []
+
+-- what is at the path or below it is kept as long as a directory there has a snapshot
+abbrev pub kept_causes : List Entry → SnapTable → NPath → List (Bool × NameRefusal)
+kept_causes rows snaps p = (holds_snapshot rows snaps.taken p, refusal.HasSnapshots) ∷ []
+
+-- the directory at the path must be one that may have snapshots
+abbrev pub allowed_causes : List Entry → SnapTable → NPath → List (Bool × NameRefusal)
+allowed_causes rows snaps p = (not (is_among snaps.allowed (id_at rows p)), refusal.NotSnapshottable) ∷ []
+
+-- no directory that may have snapshots lies in another; to allow one again is no refusal
+abbrev pub allow_causes : List Entry → SnapTable → NPath → List (Bool × NameRefusal)
+allow_causes rows snaps p = directory_causes rows p ++ (allowed_above rows snaps.allowed p || allowed_below rows snaps.allowed p, refusal.NestedSnapshottable) ∷ []
+
+abbrev pub disallow_causes : List Entry → SnapTable → NPath → List (Bool × NameRefusal)
+disallow_causes rows snaps p = directory_causes rows p ++ allowed_causes rows snaps p ++ kept_causes rows snaps p
+
+-- the directory has as many snapshots as it may have
+abbrev pub has_most_snapshots : List Entry → SnapTable → NPath → Bool
+has_most_snapshots rows snaps p = nat_le 65536 (count_of snaps.taken (id_at rows p))
+
+-- the directory must have no snapshot of the name, and fewer than it may have
+abbrev pub snap_causes : List Entry → SnapTable → NPath → List ℕ → List (Bool × NameRefusal)
+snap_causes rows snaps p name =
+    directory_causes rows p ++ allowed_causes rows snaps p
+    ++ (is_some (snapshot_named snaps.taken (id_at rows p) name), refusal.SnapshotExists) ∷ (has_most_snapshots rows snaps p, refusal.TooManySnapshots) ∷ []
+
+-- the directory must have a snapshot of the name
+abbrev pub unsnap_causes : List Entry → SnapTable → NPath → List ℕ → List (Bool × NameRefusal)
+unsnap_causes rows snaps p name = directory_causes rows p ++ allowed_causes rows snaps p ++ (is_none (snapshot_named snaps.taken (id_at rows p) name), refusal.NoSuchSnapshot) ∷ []

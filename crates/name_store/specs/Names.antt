@@ -1,16 +1,19 @@
 -- The table of the namesystem as it is kept in memory.
-use Rattle.std.specs.Prelude.{ℕ, ◌≤◌, ⊤}
-use Rattle.inode_tree.specs.Rows.{need, row_at}
+use Rattle.std.specs.Prelude.{ℕ, ◌≤◌, ◌<◌, ⊤}
+use Rattle.inode_tree.specs.Rows.{need}
 use Rattle.zone_table.specs.Zones.{need_add}
+use Rattle.snap_store.specs.Snapshots.{IsReady, SnapRoom}
 use Rattle.edit_ops.specs.declared.ops.EditOp.{EditOp}
-use Rattle.edit_ops.specs.declared.ops.EditOp.TheVariants.{Opened, Mkdir, File, Remove, Zone}
-use Rattle.name_store.specs.Table.{NameTable, id_of}
+use Rattle.edit_ops.specs.declared.ops.EditOp.TheVariants.{Opened, Mkdir, File, Remove, Zone, Allow, Disallow, Snap, Unsnap}
+use Rattle.name_store.specs.Causes.{id_at}
+use Rattle.name_store.specs.Table.{NameTable}
 
--- the table, and the room that its tree and its zones keep
+-- the table, and the room that its tree, its zones and its snapshots keep
 pub record NamesState : Type 0 where
   pub table : NameTable
   pub tree_spare : ℕ
   pub zone_spare : ℕ
+  pub snap_room : SnapRoom
 
 -- the operation takes no more memory than there is room for
 abbrev pub HasRoom : EditOp → NamesState → Type 0
@@ -18,4 +21,8 @@ HasRoom (Opened opening) s = ⊤
 HasRoom (Mkdir id p) s = need p ≤ s.tree_spare
 HasRoom (File id p edek) s = need p ≤ s.tree_spare
 HasRoom (Remove p) s = ⊤
-HasRoom (Zone p key) s = need_add (id_of (row_at s.table.rows p)) key ≤ s.zone_spare
+HasRoom (Zone p key) s = need_add (id_at s.table.rows p) key ≤ s.zone_spare
+HasRoom (Allow p) s = 0 < s.snap_room.ids
+HasRoom (Disallow p) s = ⊤
+HasRoom (Snap p name) s = IsReady s.snap_room s.table.rows (id_at s.table.rows p) name
+HasRoom (Unsnap p name) s = ⊤

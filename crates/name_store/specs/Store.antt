@@ -4,13 +4,12 @@ use Rattle.std.specs.List.{All, AllByRecursion}
 use Rattle.hk_base.specs.Disk.{DiskState, Tells, RunOn, LeavesOnly}
 use Rattle.hk_base.specs.Faults.{Rose}
 use Rattle.frame_log.specs.Format.{log_of, Found, NoLog, end_of, IsAtRest, IsRecovered}
-use Rattle.inode_tree.specs.Rows.{IsRows}
 use Rattle.edit_ops.specs.Records.{HasSpelling, spelling}
 use Rattle.edit_ops.specs.declared.ops.EditOp.{EditOp}
 use Rattle.edit_ops.specs.declared.ops.EditOp.TheVariants as op
 use Rattle.edit_log.specs.Log.{EditLogState}
 use Rattle.edit_log.specs.Log as edits
-use Rattle.name_store.specs.Table.{NameTable, Replayed, after_table, allows, is_fresh, next_opening, nothing_logged, settled_log, settled_ops, settled_table, settled_used}
+use Rattle.name_store.specs.Table.{IsTable, NameTable, Replayed, after_table, allows, is_fresh, next_opening, nothing_logged, settled_log, settled_ops, settled_table, settled_used}
 use Rattle.name_store.specs.Replay.{AllBelow, Applies, IsNoNext, name_replay}
 
 -- its edit log with the pending operation, and the table
@@ -148,7 +147,7 @@ pub record IsPending (t : NameTable) (waiting : EditOp) : Type 0 where
 
 pub record IsStore (store : StoreState) : Type 0 where
   pub opened : 0 < store.table.opening
-  pub rules : IsRows store.table.rows
+  pub table : IsTable store.table
   pub waits : IfSome store.log.pending (IsPending store.table)
   -- the log is that of file 1
   pub file : store.log.log.file ≡ 1

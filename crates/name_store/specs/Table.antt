@@ -1,21 +1,26 @@
 -- The table of the namesystem, and what an operation of the edit log does to it.
-use Rattle.std.specs.Prelude.{ℕ, ◌+◌, ◌*◌, ◌^◌, Bool, true, false, not, ◌&&◌, ◌==◌, nat_lt, nat_le, List, [], ◌∷◌, ◌++◌, Option, Some, None, is_none, bytes_eq}
-use Rattle.std.specs.List.{list_any}
-use Rattle.std.specs.Option.{option_and_then}
+use Rattle.std.specs.Prelude.{◌≡◌, ℕ, ◌+◌, ◌*◌, ◌^◌, Bool, true, false, not, ◌&&◌, ◌==◌, nat_lt, nat_le, List, [], ◌∷◌, ◌++◌, Option, Some, None, is_none, bytes_eq}
+use Rattle.std.specs.List.{All, list_any}
+use Rattle.std.specs.Option.{option_and_then, option_map, option_map_or}
 use Rattle.hk_base.specs.declared.names.Edek.{Edek}
 use Rattle.hk_base.specs.declared.names.KeyName.{KeyName}
 use Rattle.inode_tree.specs.declared.rows.Row.{Row}
 use Rattle.inode_tree.specs.declared.rows.Kind.TheVariants.{Dir, File as FileKind}
 use Rattle.name_calls.specs.declared.calls.NameRefusal.{NameRefusal}
-use Rattle.inode_tree.specs.Rows.{Entry, entry_of, mark_of, put, removed, root_only, row_at, set_kind, zone_of}
+use Rattle.name_calls.specs.Paths.{is_relative}
+use Rattle.inode_tree.specs.Rows.{Entry, IsRows, entry_of, is_dir_at, mark_of, put, removed, root_only, set_kind, zone_of}
+use Rattle.snap_store.specs.Snapshots.{IsSnapshots, SnapTable, Snapshot, no_snaps, table_after_allow, table_after_disallow, table_after_disallow_below, table_after_remove, table_after_take}
+pub use Rattle.snap_store.specs.Snapshots.{is_among}
 use Rattle.edit_ops.specs.declared.ops.EditOp.{EditOp}
-use Rattle.edit_ops.specs.declared.ops.EditOp.TheVariants.{Opened, Mkdir, File, Remove, Zone}
-use Rattle.name_store.specs.Causes.{first_cause, removal_causes, row_causes, to_be_made, zone_causes}
+use Rattle.edit_ops.specs.declared.ops.EditOp.TheVariants.{Opened, Mkdir, File, Remove, Zone, Allow, Disallow, Snap, Unsnap}
+pub use Rattle.name_store.specs.Causes.{id_of}
+use Rattle.name_store.specs.Causes.{allow_causes, disallow_causes, first_cause, id_at, kept_causes, removal_causes, row_causes, snap_causes, to_be_made, unsnap_causes, zone_causes}
 
--- the number of the opening, and the rows in path order
+-- the number of the opening, the rows in path order, and the snapshots
 pub record NameTable : Type 0 where
   pub opening : ℕ
   pub rows : List Entry
+  pub snaps : SnapTable
 
 -- the result of the operations of a log: the table that they make, and the ids that they used
 pub record Replayed : Type 0 where
@@ -24,7 +29,7 @@ pub record Replayed : Type 0 where
 
 -- before the first opening: the root alone
 abbrev pub nothing_logged : Replayed
-nothing_logged = record { table = record { opening = 0; rows = root_only }; used = [] }
+nothing_logged = record { table = record { opening = 0; rows = root_only; snaps = no_snaps }; used = [] }
 
 -- an id is of an opening: its number above, and a counter below
 abbrev pub is_of_opening : ℕ → ℕ → Bool
@@ -55,8 +60,12 @@ abbrev pub op_causes : NameTable → EditOp → List (Bool × NameRefusal)
 op_causes t (Opened opening) = []
 op_causes t (Mkdir id p) = to_be_made t.rows p ++ row_causes t.rows
 op_causes t (File id p edek) = to_be_made t.rows p ++ row_causes t.rows
-op_causes t (Remove p) = removal_causes t.rows p
+op_causes t (Remove p) = removal_causes t.rows p ++ kept_causes t.rows t.snaps p
 op_causes t (Zone p key) = zone_causes t.rows p
+op_causes t (Allow p) = allow_causes t.rows t.snaps p
+op_causes t (Disallow p) = disallow_causes t.rows t.snaps p
+op_causes t (Snap p name) = snap_causes t.rows t.snaps p name
+op_causes t (Unsnap p name) = unsnap_causes t.rows t.snaps p name
 
 -- the ids that an operation uses
 abbrev pub uses : EditOp → List ℕ
@@ -65,6 +74,10 @@ uses (Mkdir id p) = id ∷ []
 uses (File id p edek) = id ∷ []
 uses (Remove p) = []
 uses (Zone p key) = []
+uses (Allow p) = []
+uses (Disallow p) = []
+uses (Snap p name) = []
+uses (Unsnap p name) = []
 
 abbrev pub may_use_all : NameTable → List ℕ → Bool
 may_use_all t [] = true
@@ -87,24 +100,21 @@ new_directory id p = record { path = p; row = record { id = id; kind = Dir None 
 abbrev pub new_file : ℕ → List (List ℕ) → Option Edek → Entry
 new_file id p edek = record { path = p; row = record { id = id; kind = FileKind edek } }
 
-abbrev pub id_of : Option Row → ℕ
-id_of None = 0
-id_of (Some row) = row.id
-
 -- the directory at the path is marked with a key
 abbrev pub marked : List Entry → List (List ℕ) → KeyName → List Entry
-marked rows p key = set_kind rows (id_of (row_at rows p)) (Dir (Some key))
+marked rows p key = set_kind rows (id_at rows p) (Dir (Some key))
 
 -- the table after the operation took effect
 abbrev pub after_table : NameTable → EditOp → NameTable
 after_table t (Opened opening) = record t { opening = opening }
 after_table t (Mkdir id p) = record t { rows = put (new_directory id p) t.rows }
 after_table t (File id p edek) = record t { rows = put (new_file id p edek) t.rows }
-after_table t (Remove p) = record t { rows = removed p t.rows }
+after_table t (Remove p) = record t { rows = removed p t.rows; snaps = table_after_disallow_below t.rows p t.snaps }
 after_table t (Zone p key) = record t { rows = marked t.rows p key }
-
-abbrev pub is_among : List ℕ → ℕ → Bool
-is_among used id = list_any (λ i. i == id) used
+after_table t (Allow p) = record t { snaps = table_after_allow (id_at t.rows p) t.snaps }
+after_table t (Disallow p) = record t { snaps = table_after_disallow (id_at t.rows p) t.snaps }
+after_table t (Snap p name) = record t { snaps = table_after_take t.rows (id_at t.rows p) name t.snaps }
+after_table t (Unsnap p name) = record t { snaps = table_after_remove (id_at t.rows p) name t.snaps }
 
 -- no earlier operation used its id
 abbrev pub is_fresh : List ℕ → EditOp → Bool
@@ -145,6 +155,32 @@ abbrev pub rows_of_entries : List Entry → List Row
 rows_of_entries [] = []
 rows_of_entries (e ∷ es) = e.row ∷ rows_of_entries es
 
--- the rows that the table keeps: those of its live entries
+-- the rows of all snapshots
+abbrev pub snapped_rows : List Snapshot → List Row
+snapped_rows [] = []
+snapped_rows (s ∷ taken) = rows_of_entries s.rows ++ snapped_rows taken
+
+-- the rows that the table keeps: those of its live entries, and those of its snapshots
 abbrev pub kept_rows : NameTable → List Row
-kept_rows t = rows_of_entries t.rows
+kept_rows t = rows_of_entries t.rows ++ snapped_rows t.snaps.taken
+
+-- the row that has the id
+abbrev pub row_of : List Entry → ℕ → Option Row
+row_of rows id = option_map (λ e. e.row) (entry_of rows id)
+
+-- the path of the row that has the id
+abbrev pub path_of : List Entry → ℕ → List (List ℕ)
+path_of rows id = option_map_or (λ e. e.path) (entry_of rows id) []
+
+-- the snapshots fit the rows
+pub record FitsRows (rows : List Entry) (snaps : SnapTable) : Type 0 where
+  -- each directory that may have snapshots exists
+  pub stand : All (λ (id : ℕ). is_dir_at (row_of rows id) ≡ true) snaps.allowed
+  -- the path of each row of a snapshot, seen from the root, keeps the rule of paths
+  pub whole : All (λ (s : Snapshot). All (λ (e : Entry). is_relative (path_of rows s.dir ++ e.path) ≡ true) s.rows) snaps.taken
+
+-- what is always true of a table
+pub record IsTable (t : NameTable) : Type 0 where
+  pub rules : IsRows t.rows
+  pub snaps : IsSnapshots t.snaps.allowed t.snaps.taken
+  pub fits : FitsRows t.rows t.snaps

@@ -1,13 +1,16 @@
-//! What the operations of the log do to a tree and the table of its zones.
-ghost use Rattle.std.specs.Prelude.{◌≡◌, ◌≤◌, ◌<◌, ◌++◌, None, length, IsOk, OnOk, OnErr};
-ghost use Rattle.inode_tree.specs.Rows.{entry_of, need, put, removed, row_at};
+//! What the operations of the log do to a tree, the table of its zones and its snapshots.
+ghost use Rattle.std.specs.Prelude.{◌≡◌, ◌≤◌, ◌++◌, None, IsOk, OnOk, OnErr};
+ghost use Rattle.inode_tree.specs.Rows.{entry_of, need, put, removed};
 ghost use Rattle.zone_table.specs.Zones.{need_add, zones_of};
-ghost use Rattle.name_store.specs.Causes.{first_cause, row_causes, to_be_made, zone_causes};
-ghost use Rattle.name_store.specs.Table.{id_of, marked, new_directory, new_file};
+ghost use Rattle.snap_store.specs.Snapshots.{IsReady, table_after_disallow, table_after_disallow_below, table_after_take};
+ghost use Rattle.name_store.specs.Causes.{disallow_causes, first_cause, id_at, kept_causes, removal_causes, row_causes, snap_causes, to_be_made, zone_causes};
+ghost use Rattle.name_store.specs.Table.{marked, new_directory, new_file};
 
-use hk_base::{Edek, KeyName, NoMemory};
+use crate::rules::id_at;
+use hk_base::{Edek, KeyName, NoMemory, Text};
 use inode_tree::Tree;
 use name_calls::NPath;
+use snap_store::Snaps;
 use zone_table::{Zones, zones_are_the_marks};
 
 /// Makes a directory.
@@ -43,14 +46,17 @@ pub(crate) fn make_file(
     tree.add_file(path, id, edek)
 }
 
-/// Removes the row at the path and all rows below it, with their zones.
-pub(crate) fn remove(tree: &mut Tree, zones: &mut Zones, path: &NPath)
-    requires deep { 0 < length path.now }
+/// Removes the row at the path and all rows below it, with their zones. Directories among them may
+/// no longer have snapshots.
+pub(crate) fn remove(tree: &mut Tree, zones: &mut Zones, snaps: &mut Snaps, path: &NPath)
+    requires allowed { first_cause (removal_causes tree.old.rows path.now ++ kept_causes tree.old.rows snaps.old.table path.now) ≡ None }
     requires zones { zones.old.rows ≡ zones_of tree.old.rows }
     ensures rows { tree.new.rows ≡ removed path.now tree.old.rows }
     ensures zones { zones.new.rows ≡ zones_of tree.new.rows }
+    ensures snaps { snaps.new.table ≡ table_after_disallow_below tree.old.rows path.now snaps.old.table }
 {
     zones.remove_below(tree, path);
+    snaps.disallow_below(tree, path);
     tree.remove(path);
 }
 
@@ -66,7 +72,7 @@ pub(crate) fn mark(
     ensures ok { OnOk result (tree.new.rows ≡ marked tree.old.rows path.now key) }
     ensures err { OnErr result (tree.new.rows ≡ tree.old.rows) }
     ensures zones { zones.new.rows ≡ zones_of tree.new.rows }
-    ensures room { need_add (id_of (row_at tree.old.rows path.now)) key ≤ zones.old.spare → IsOk result }
+    ensures room { need_add (id_at tree.old.rows path.now) key ≤ zones.old.spare → IsOk result }
 {
     // Each id is that of one row, and a directory that is marked becomes a zone.
     let _ = tree.rows();
@@ -79,4 +85,31 @@ pub(crate) fn mark(
             Ok(())
         }
     }
+}
+
+/// Disallows snapshots of a directory.
+pub(crate) fn disallow(tree: &Tree, snaps: &mut Snaps, path: &NPath)
+    requires { first_cause (disallow_causes tree.now.rows snaps.old.table path.now) ≡ None }
+    ensures { snaps.new.table ≡ table_after_disallow (id_at tree.now.rows path.now) snaps.old.table }
+{
+    // Each id is that of one row.
+    let _ = tree.rows();
+    snaps.disallow(id_at(tree, path));
+}
+
+/// Takes a snapshot of a directory. Does not allocate if the memory for it was reserved.
+pub(crate) fn snap(
+    tree: &Tree,
+    snaps: &mut Snaps,
+    path: &NPath,
+    name: &Text,
+) -> Result<(), NoMemory>
+    requires { first_cause (snap_causes tree.now.rows snaps.old.table path.now name.now) ≡ None }
+    ensures ok { OnOk result (snaps.new.table ≡ table_after_take tree.now.rows (id_at tree.now.rows path.now) name.now snaps.old.table) }
+    ensures err { OnErr result (snaps.new.table ≡ snaps.old.table) }
+    ensures room { IsReady snaps.old.room tree.now.rows (id_at tree.now.rows path.now) name.now → IsOk result }
+{
+    // Each id is that of one row.
+    let _ = tree.rows();
+    snaps.take(tree, id_at(tree, path), name)
 }

@@ -12,5 +12,8 @@ mod store;
 mod used;
 
 pub use laws::what_a_crash_leaves_is_no_damage;
-pub use rules::{fits_zone, has_most_rows, key_of_zone, to_be_made, to_be_removed, to_be_zone};
+pub use rules::{
+    fits_zone, has_most_rows, key_of_zone, to_be_allowed, to_be_directory, to_be_disallowed,
+    to_be_made, to_be_removed, to_be_snapped, to_be_unsnapped, to_be_zone,
+};
 pub use store::NameStore;

@@ -1,44 +1,46 @@
 //! The table of the namesystem as it is kept in memory.
-use crate::effects::{make, make_file, mark, remove};
-use crate::rules::allows;
+use crate::effects::{disallow, make, make_file, mark, remove, snap};
+use crate::rules::{allows, id_at};
 use edit_ops::EditOp;
 use hk_base::NoMemory;
 use inode_tree::Tree;
 use name_calls::ZoneList;
+use snap_store::Snaps;
 use std::alloc::Global;
 use std::marker::Model;
 use zone_table::{Zones, zones_are_the_marks};
 
-/// The number of the opening, the directories and files, and the encryption zones.
+/// The number of the opening, the directories and files, the encryption zones, and the snapshots.
 #[derive(Drop)]
 pub(crate) struct Names {
     opening: u32,
     tree: Tree,
     zones: Zones,
+    snaps: Snaps,
 }
 
 impl Model for Names {
     ghost use Rattle.std.specs.Prelude.{◌≡◌};
     ghost use Rattle.zone_table.specs.Zones.{zones_of};
     ghost use Rattle.name_store.specs.Names.{NamesState};
+    ghost use Rattle.name_store.specs.Table.{FitsRows};
 
     ghost Value = { NamesState };
 
-    ghost view = { λ a. record { table = record { opening = a.opening; rows = a.tree.rows }; tree_spare = a.tree.spare; zone_spare = a.zones.spare } };
+    ghost view = { λ a. record { table = record { opening = a.opening; rows = a.tree.rows; snaps = a.snaps.table }; tree_spare = a.tree.spare; zone_spare = a.zones.spare; snap_room = a.snaps.room } };
 
-    ghost invariant = { λ a. a.zones.rows ≡ zones_of a.tree.rows };
+    ghost invariant = { λ a. (a.zones.rows ≡ zones_of a.tree.rows) × FitsRows a.tree.rows a.snaps.table };
 }
 
 impl Names {
     ghost use Rattle.std.specs.Prelude.{◌≡◌, IfOk, IsOk, IsTrue, OnOk, OnErr};
-    ghost use Rattle.inode_tree.specs.Rows.{IsRows, root_only};
     ghost use Rattle.zone_table.specs.Zones.{zone_paths};
-    ghost use Rattle.name_store.specs.Table.{after_table, allows};
+    ghost use Rattle.name_store.specs.Table.{IsTable, after_table, allows, nothing_logged};
     ghost use Rattle.name_store.specs.Names.{HasRoom};
 
     /// Creates the table of the root alone, before the first opening.
     pub(crate) fn new(alloc: Global) -> Result<Names, NoMemory>
-        ensures { IfOk result (λ names. names.table ≡ record { opening = 0; rows = root_only }) }
+        ensures { IfOk result (λ names. names.table ≡ nothing_logged.table) }
     {
         // The root alone has no zones.
         zones_are_the_marks();
@@ -46,6 +48,7 @@ impl Names {
             opening: 0,
             tree: Tree::new(alloc)?,
             zones: Zones::new(alloc),
+            snaps: Snaps::new(alloc),
         })
     }
 
@@ -53,7 +56,24 @@ impl Names {
     pub(crate) fn allows(&self, op: &EditOp) -> bool
         ensures { result ≡ allows self.now.table op.now }
     {
-        allows(self.opening, &self.tree, op)
+        allows(self.opening, &self.tree, &self.snaps, op)
+    }
+
+    /// Makes the next calls for the operation's path faster.
+    pub(crate) fn focus(&mut self, op: &EditOp)
+        ensures { self.new ≡ self.old }
+    {
+        match op {
+            EditOp::Opened { .. } => (),
+            EditOp::Mkdir { path, .. } => self.tree.focus(path),
+            EditOp::File { path, .. } => self.tree.focus(path),
+            EditOp::Remove { path } => self.tree.focus(path),
+            EditOp::Zone { path, .. } => self.tree.focus(path),
+            EditOp::Allow { path } => self.tree.focus(path),
+            EditOp::Disallow { path } => self.tree.focus(path),
+            EditOp::Snap { path, .. } => self.tree.focus(path),
+            EditOp::Unsnap { path, .. } => self.tree.focus(path),
+        }
     }
 
     /// Reserves the memory that the operation needs. The table is unchanged, even if allocation fails.
@@ -68,6 +88,13 @@ impl Names {
             EditOp::File { id, path, edek } => self.tree.reserve_add_file(path, *id, *edek),
             EditOp::Remove { .. } => Ok(()),
             EditOp::Zone { key, .. } => self.zones.reserve_add(0, *key),
+            EditOp::Allow { .. } => self.snaps.reserve_allow(),
+            EditOp::Disallow { .. } => Ok(()),
+            EditOp::Snap { path, name } => {
+                let dir = id_at(&self.tree, path);
+                self.snaps.reserve_take(&self.tree, dir, name)
+            }
+            EditOp::Unsnap { .. } => Ok(()),
         }
     }
 
@@ -79,6 +106,9 @@ impl Names {
         ensures err { OnErr result (self.new.table ≡ self.old.table) }
         ensures room { HasRoom op.now self.old → IsOk result }
     {
+        // What the tree and the snapshots keep by themselves.
+        let _ = self.tree.rows();
+        self.snaps.invariants();
         match op {
             EditOp::Opened { opening } => {
                 self.opening = *opening;
@@ -87,20 +117,38 @@ impl Names {
             EditOp::Mkdir { id, path } => make(&mut self.tree, path, *id),
             EditOp::File { id, path, edek } => make_file(&mut self.tree, path, *id, *edek),
             EditOp::Remove { path } => {
-                remove(&mut self.tree, &mut self.zones, path);
+                remove(&mut self.tree, &mut self.zones, &mut self.snaps, path);
                 Ok(())
             }
             EditOp::Zone { path, key } => mark(&mut self.tree, &mut self.zones, path, *key),
+            EditOp::Allow { path } => self.snaps.allow(id_at(&self.tree, path)),
+            EditOp::Disallow { path } => {
+                disallow(&self.tree, &mut self.snaps, path);
+                Ok(())
+            }
+            EditOp::Snap { path, name } => snap(&self.tree, &mut self.snaps, path, name),
+            EditOp::Unsnap { path, name } => {
+                self.snaps.remove(id_at(&self.tree, path), name);
+                Ok(())
+            }
         }
     }
 
     /// Returns the directories and files.
     pub(crate) fn tree(&self) -> &Tree
         ensures rows { result.now.rows ≡ self.now.table.rows }
-        ensures rules { IsRows self.now.table.rows }
+        ensures rules { IsTable self.now.table }
     {
         let _ = self.tree.rows();
+        self.snaps.invariants();
         &self.tree
+    }
+
+    /// Returns the directories that may have snapshots, and the snapshots.
+    pub(crate) fn snaps(&self) -> &Snaps
+        ensures { result.now.table ≡ self.now.table.snaps }
+    {
+        &self.snaps
     }
 
     /// Returns the number of the last opening, or 0 before the first.

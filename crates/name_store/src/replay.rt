@@ -20,6 +20,7 @@ use std::alloc::Global;
 fn take(names: &mut Names, used: &mut UsedIds, op: &EditOp) -> Result<bool, NoMemory>
     ensures { IfOk result (IsTaken names.old.table (contains nat_eq used.old.ids) op.now names.new.table (contains nat_eq used.new.ids)) }
 {
+    names.focus(op);
     let allowed = names.allows(op);
     let fresh = used.is_fresh(op);
     if !(allowed && fresh) {

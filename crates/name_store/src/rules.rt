@@ -1,13 +1,16 @@
-//! What a tree says of a change: why it is refused, and whether an operation of the log is allowed.
-ghost use Rattle.std.specs.Prelude.{◌≡◌, ◌++◌, ◌∷◌, [], ℕ};
+//! What a tree and its snapshots say of a change: why it is refused, and whether an operation of the
+//! log is allowed.
+ghost use Rattle.std.specs.Prelude.{◌≡◌, ◌++◌, ℕ};
 ghost use Rattle.inode_tree.specs.Rows.{mark_of};
-ghost use Rattle.name_store.specs.Causes.{first_cause, has_most_rows, removal_causes, row_causes, to_be_made, zone_causes};
+ghost use Rattle.snap_store.specs.Snapshots.{SnapTable};
+ghost use Rattle.name_store.specs.Causes.{allow_causes, allowed_causes, directory_causes, disallow_causes, first_cause, has_most_rows, has_most_snapshots, id_at, kept_causes, removal_causes, row_causes, snap_causes, to_be_made, unsnap_causes, zone_causes};
 ghost use Rattle.name_store.specs.Table.{allows, allows_change, fits_key, fits_zone, is_of_opening, key_of_zone, may_use, may_use_all, op_causes, uses};
 
 use edit_ops::EditOp;
-use hk_base::{Edek, KeyName};
+use hk_base::{Edek, KeyName, Text};
 use inode_tree::{Kind, MOST_ROWS, Tree};
 use name_calls::{NPath, NameRefusal};
+use snap_store::{MOST_SNAPSHOTS, Snaps};
 
 /// The number of ids of an opening.
 const IDS: u64 = 1 << 32;
@@ -49,15 +52,25 @@ pub fn to_be_removed(tree: &Tree, path: &NPath) -> Option<NameRefusal>
     None
 }
 
-/// Returns why a directory can not become a zone: it must exist, be empty, and lie in no zone.
-pub fn to_be_zone(tree: &Tree, path: &NPath) -> Option<NameRefusal>
-    ensures { result ≡ first_cause (zone_causes tree.now.rows path.now) }
+/// Returns why a path is not that of a directory.
+pub fn to_be_directory(tree: &Tree, path: &NPath) -> Option<NameRefusal>
+    ensures { result ≡ first_cause (directory_causes tree.now.rows path.now) }
 {
     let Some(row) = tree.find(path) else {
         return Some(NameRefusal::NoSuchPath);
     };
     if !row.kind.is_dir() {
         return Some(NameRefusal::NotADirectory);
+    }
+    None
+}
+
+/// Returns why a directory can not become a zone: it must exist, be empty, and lie in no zone.
+pub fn to_be_zone(tree: &Tree, path: &NPath) -> Option<NameRefusal>
+    ensures { result ≡ first_cause (zone_causes tree.now.rows path.now) }
+{
+    if let Some(why) = to_be_directory(tree, path) {
+        return Some(why);
     }
     if tree.has_children(path) {
         return Some(NameRefusal::NotEmpty);
@@ -68,57 +81,141 @@ pub fn to_be_zone(tree: &Tree, path: &NPath) -> Option<NameRefusal>
     None
 }
 
-/// Returns whether the table of an opening and a tree allows the operation. Does not check whether its
-/// id was used before.
-pub(crate) fn allows(opening: u32, tree: &Tree, op: &EditOp) -> bool
-    ensures { result ≡ allows (record { opening = opening; rows = tree.now.rows }) op.now }
+/// Returns the id of the row at a path, or 0 if there is none.
+pub(crate) fn id_at(tree: &Tree, path: &NPath) -> u64
+    ensures { result ≡ id_at tree.now.rows path.now }
 {
-    match op {
-        EditOp::Opened { opening: next } => *next as u64 == opening as u64 + 1,
-        EditOp::Mkdir { .. } => allows_change(opening, tree, op),
-        EditOp::File { .. } => allows_change(opening, tree, op),
-        EditOp::Remove { .. } => allows_change(opening, tree, op),
-        EditOp::Zone { .. } => allows_change(opening, tree, op),
+    match tree.find(path) {
+        None => 0,
+        Some(row) => row.id,
     }
 }
 
-fn allows_change(opening: u32, tree: &Tree, op: &EditOp) -> bool
-    ensures { result ≡ allows_change (record { opening = opening; rows = tree.now.rows }) op.now }
+/// Returns why snapshots of a directory can not be allowed: it must exist, and no directory above or
+/// below may have snapshots. Allowing them again is no refusal.
+pub fn to_be_allowed(tree: &Tree, snaps: &Snaps, path: &NPath) -> Option<NameRefusal>
+    ensures { result ≡ first_cause (allow_causes tree.now.rows snaps.now.table path.now) }
+{
+    if let Some(why) = to_be_directory(tree, path) {
+        return Some(why);
+    }
+    let above = snaps.allowed_above(tree, path);
+    let below = snaps.allowed_below(tree, path);
+    if above || below {
+        return Some(NameRefusal::NestedSnapshottable);
+    }
+    None
+}
+
+/// Returns why a path is not that of a directory that may have snapshots.
+fn to_be_snapshottable(tree: &Tree, snaps: &Snaps, path: &NPath) -> Option<NameRefusal>
+    ensures { result ≡ first_cause (directory_causes tree.now.rows path.now ++ allowed_causes tree.now.rows snaps.now.table path.now) }
+{
+    if let Some(why) = to_be_directory(tree, path) {
+        return Some(why);
+    }
+    if !snaps.allows(id_at(tree, path)) {
+        return Some(NameRefusal::NotSnapshottable);
+    }
+    None
+}
+
+/// Returns why snapshots of a directory can not be disallowed: they must be allowed, and it must have
+/// none.
+pub fn to_be_disallowed(tree: &Tree, snaps: &Snaps, path: &NPath) -> Option<NameRefusal>
+    ensures { result ≡ first_cause (disallow_causes tree.now.rows snaps.now.table path.now) }
+{
+    if let Some(why) = to_be_snapshottable(tree, snaps, path) {
+        return Some(why);
+    }
+    if snaps.holds(tree, path) {
+        return Some(NameRefusal::HasSnapshots);
+    }
+    None
+}
+
+/// Returns whether the directory at a path has as many snapshots as it may have.
+fn has_most_snapshots(tree: &Tree, snaps: &Snaps, path: &NPath) -> bool
+    ensures { result ≡ has_most_snapshots tree.now.rows snaps.now.table path.now }
+{
+    snaps.len_of(id_at(tree, path)) >= MOST_SNAPSHOTS
+}
+
+/// Returns why a snapshot of a directory can not be taken: snapshots must be allowed, the name must be
+/// free, and there must be fewer than 65,536.
+pub fn to_be_snapped(tree: &Tree, snaps: &Snaps, path: &NPath, name: &Text) -> Option<NameRefusal>
+    ensures { result ≡ first_cause (snap_causes tree.now.rows snaps.now.table path.now name.now) }
+{
+    if let Some(why) = to_be_snapshottable(tree, snaps, path) {
+        return Some(why);
+    }
+    if snaps.has(id_at(tree, path), name) {
+        return Some(NameRefusal::SnapshotExists);
+    }
+    if has_most_snapshots(tree, snaps, path) {
+        return Some(NameRefusal::TooManySnapshots);
+    }
+    None
+}
+
+/// Returns why a snapshot of a directory can not be removed: snapshots must be allowed, and there must
+/// be one of that name.
+pub fn to_be_unsnapped(tree: &Tree, snaps: &Snaps, path: &NPath, name: &Text) -> Option<NameRefusal>
+    ensures { result ≡ first_cause (unsnap_causes tree.now.rows snaps.now.table path.now name.now) }
+{
+    if let Some(why) = to_be_snapshottable(tree, snaps, path) {
+        return Some(why);
+    }
+    if !snaps.has(id_at(tree, path), name) {
+        return Some(NameRefusal::NoSuchSnapshot);
+    }
+    None
+}
+
+/// Returns whether the table of an opening, a tree and its snapshots allows the operation. Does not
+/// check whether its id was used before.
+pub(crate) fn allows(opening: u32, tree: &Tree, snaps: &Snaps, op: &EditOp) -> bool
+    ensures { result ≡ allows (record { opening = opening; rows = tree.now.rows; snaps = snaps.now.table }) op.now }
+{
+    match op {
+        EditOp::Opened { opening: next } => *next as u64 == opening as u64 + 1,
+        _ => allows_change(opening, tree, snaps, op),
+    }
+}
+
+fn allows_change(opening: u32, tree: &Tree, snaps: &Snaps, op: &EditOp) -> bool
+    ensures { result ≡ allows_change (record { opening = opening; rows = tree.now.rows; snaps = snaps.now.table }) op.now }
 {
     let ids = may_use_all(opening, tree, op);
-    let free = refusal(tree, op).is_none();
+    let free = refusal(tree, snaps, op).is_none();
     let fits = fits_key(tree, op);
     0 < opening && ids && free && fits
 }
 
 fn may_use_all(opening: u32, tree: &Tree, op: &EditOp) -> bool
-    ensures { result ≡ may_use_all (record { opening = opening; rows = tree.now.rows }) (uses op.now) }
+    ensures { (snaps : SnapTable) → result ≡ may_use_all (record { opening = opening; rows = tree.now.rows; snaps = snaps }) (uses op.now) }
 {
     match op {
-        EditOp::Opened { .. } => true,
-        EditOp::Mkdir { id, .. } => may_use_one(opening, tree, *id),
-        EditOp::File { id, .. } => may_use_one(opening, tree, *id),
-        EditOp::Remove { .. } => true,
-        EditOp::Zone { .. } => true,
+        EditOp::Mkdir { id, .. } => may_use(opening, tree, *id),
+        EditOp::File { id, .. } => may_use(opening, tree, *id),
+        _ => true,
     }
 }
 
-fn may_use_one(opening: u32, tree: &Tree, id: u64) -> bool
-    ensures { result ≡ may_use_all (record { opening = opening; rows = tree.now.rows }) (id ∷ []) }
-{
-    may_use(opening, tree, id)
-}
-
 /// Returns why the table refuses the operation.
-fn refusal(tree: &Tree, op: &EditOp) -> Option<NameRefusal>
-    ensures { (opening : ℕ) → result ≡ first_cause (op_causes (record { opening = opening; rows = tree.now.rows }) op.now) }
+fn refusal(tree: &Tree, snaps: &Snaps, op: &EditOp) -> Option<NameRefusal>
+    ensures { (opening : ℕ) → result ≡ first_cause (op_causes (record { opening = opening; rows = tree.now.rows; snaps = snaps.now.table }) op.now) }
 {
     match op {
         EditOp::Opened { .. } => None,
         EditOp::Mkdir { path, .. } => to_be_added(tree, path),
         EditOp::File { path, .. } => to_be_added(tree, path),
-        EditOp::Remove { path } => to_be_removed(tree, path),
+        EditOp::Remove { path } => to_be_removed_whole(tree, snaps, path),
         EditOp::Zone { path, .. } => to_be_zone(tree, path),
+        EditOp::Allow { path } => to_be_allowed(tree, snaps, path),
+        EditOp::Disallow { path } => to_be_disallowed(tree, snaps, path),
+        EditOp::Snap { path, name } => to_be_snapped(tree, snaps, path, name),
+        EditOp::Unsnap { path, name } => to_be_unsnapped(tree, snaps, path, name),
     }
 }
 
@@ -135,16 +232,26 @@ fn to_be_added(tree: &Tree, path: &NPath) -> Option<NameRefusal>
     None
 }
 
+/// Returns why a path can not be removed with all below it, by the rows and the snapshots.
+fn to_be_removed_whole(tree: &Tree, snaps: &Snaps, path: &NPath) -> Option<NameRefusal>
+    ensures { result ≡ first_cause (removal_causes tree.now.rows path.now ++ kept_causes tree.now.rows snaps.now.table path.now) }
+{
+    if let Some(why) = to_be_removed(tree, path) {
+        return Some(why);
+    }
+    if snaps.holds(tree, path) {
+        return Some(NameRefusal::HasSnapshots);
+    }
+    None
+}
+
 /// Returns whether the encrypted key of a file fits the zone of its path.
 fn fits_key(tree: &Tree, op: &EditOp) -> bool
-    ensures { (opening : ℕ) → result ≡ fits_key (record { opening = opening; rows = tree.now.rows }) op.now }
+    ensures { (opening : ℕ) (snaps : SnapTable) → result ≡ fits_key (record { opening = opening; rows = tree.now.rows; snaps = snaps }) op.now }
 {
     match op {
-        EditOp::Opened { .. } => true,
-        EditOp::Mkdir { .. } => true,
         EditOp::File { path, edek, .. } => fits_zone(&key_of_zone(tree, path), edek),
-        EditOp::Remove { .. } => true,
-        EditOp::Zone { .. } => true,
+        _ => true,
     }
 }
 
@@ -157,7 +264,7 @@ fn is_of_opening(opening: u32, id: u64) -> bool
 }
 
 fn may_use(opening: u32, tree: &Tree, id: u64) -> bool
-    ensures { result ≡ may_use (record { opening = opening; rows = tree.now.rows }) id }
+    ensures { (snaps : SnapTable) → result ≡ may_use (record { opening = opening; rows = tree.now.rows; snaps = snaps }) id }
 {
     let given = is_of_opening(opening, id);
     let free = tree.row(id).is_none();

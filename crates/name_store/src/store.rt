@@ -8,11 +8,12 @@ use frame_log::{StartFault, StoreRefusal};
 use hk_base::{Disk, NoMemory};
 use inode_tree::Tree;
 use name_calls::ZoneList;
+use snap_store::Snaps;
 use std::alloc::Global;
 use std::marker::Model;
 
-/// The directories, files and encryption zones of the namesystem, and the edit log on file 1 of a disk
-/// from which they can be made again.
+/// The directories, files, encryption zones and snapshots of the namesystem, and the edit log on file 1
+/// of a disk from which they can be made again.
 ///
 /// After a store fault in a commit one operation is pending: the disk may or may not hold its record,
 /// and the table is as before. The next call that changes the namesystem settles it first.
@@ -149,6 +150,13 @@ impl NameStore {
         // Its log is that of file 1.
         let _ = self.log.is_pending();
         self.names.tree()
+    }
+
+    /// Returns the directories that may have snapshots, and the snapshots, without the pending operation.
+    pub fn snaps(&self) -> &Snaps
+        ensures { result.now.table ≡ self.now.table.snaps }
+    {
+        self.names.snaps()
     }
 
     /// Returns the number of this opening.

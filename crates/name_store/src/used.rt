@@ -31,11 +31,9 @@ impl UsedIds {
         ensures { result ≡ not (list_any (contains nat_eq self.now.ids) (uses op.now)) }
     {
         match op {
-            EditOp::Opened { .. } => true,
             EditOp::Mkdir { id, .. } => !self.ids.contains(id),
             EditOp::File { id, .. } => !self.ids.contains(id),
-            EditOp::Remove { .. } => true,
-            EditOp::Zone { .. } => true,
+            _ => true,
         }
     }
 
@@ -44,11 +42,9 @@ impl UsedIds {
         ensures { OnOk result ((id : ℕ) → contains nat_eq self.new.ids id ≡ (is_among (uses op.now) id || contains nat_eq self.old.ids id)) }
     {
         match op {
-            EditOp::Opened { .. } => Ok(()),
             EditOp::Mkdir { id, .. } => self.add_one(*id),
             EditOp::File { id, .. } => self.add_one(*id),
-            EditOp::Remove { .. } => Ok(()),
-            EditOp::Zone { .. } => Ok(()),
+            _ => Ok(()),
         }
     }
 

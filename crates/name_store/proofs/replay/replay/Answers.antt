@@ -2,7 +2,7 @@ use Rattle.std.proofs.Common.{rules, Option, IsTrue, refl, sym, subst}
 use Rattle.std.specs.HashSet.{contains}
 use Rattle.std.specs.Bool.{nat_eq}
 use Rattle.hk_base.proofs.Runs.{begin, both_read, compose}
-use Rattle.edit_log.specs.declared.op_list.PlacedOp.{PlacedOp}
+use Rattle.edit_log.specs.declared.replay.PlacedOp.{PlacedOp}
 use Rattle.edit_log.specs.Reader.{IsNextOp}
 use Rattle.name_store.proofs.ReaderLemmas.{made_here, no_operation, none_so_far, not_applied, one_more}
 use Rattle.name_store.proofs.replay.replay.Goals as goal
@@ -38,7 +38,7 @@ returns-in-None-clause-made g c =
     made_here (g.D.Disk.state c.args.disk.now) (g.D.Disk.state c.each.disk) c.args.reader.now c.each.reader c.each.names.table (contains nat_eq c.each.used.ids) read
     (λ told rest ahead.
     let told1 = subst (λ b. IsTrue b) (sym c.each.invariant.going.run.tells) told in
-    subst (λ (o : Option PlacedOp). IsNextOp (g.D.Disk.state c.next.new.disk) c.next.new.self read.ops rest o) c.in-None.is (c.in_ok-next.ensures.next told1 read.ops rest ahead))
+    (subst (λ (o : Option PlacedOp). IsNextOp (g.D.Disk.state c.next.new.disk) c.next.new.self read.ops rest o) c.in-None.is (c.in_ok-next.ensures.next told1 read.ops rest ahead)).0)
 
 pub returns-in_err-take_placed-in-Some-clause-damaged : goal.returns-in_err-take_placed-in-Some-clause-damaged
 returns-in_err-take_placed-in-Some-clause-damaged g c at is told todo a =
@@ -64,3 +64,7 @@ each-preserved g c =
           subst (λ (o : Option PlacedOp). IsNextOp new c.next.new.self read.ops rest o) c.in-Some.is (c.in_ok-next.ensures.next told1 read.ops rest ahead))
           c.take_placed.new.names.table (contains nat_eq c.take_placed.new.used.ids) c.in_ok-take_placed-in-Some.ensures.taken;
     }
+
+pub returns-in_err-take_placed-in-Some-clause-moments : goal.returns-in_err-take_placed-in-Some-clause-moments
+returns-in_err-take_placed-in-Some-clause-moments g c =
+    (compose c.each.invariant.going (record { run = c.next.ensures.run; moments = c.next.ensures.moments }) c.each.invariant.same.leaves).moments
