@@ -1,19 +1,19 @@
 -- Operations that the causes of a refusal let through are allowed.
 use Rattle.std.proofs.Common.{◌≡◌, ℕ, ◌+◌, ◌*◌, ◌^◌, ◌<◌, ◌≤◌, ◌&&◌, ◌||◌, Bool, true, false, cond, not, List, [], ◌∷◌, ◌++◌, Option, Some, None, is_none, nat_lt, nat_le, refl, ap, sym, subst, ◌∙◌, arith}
 use Rattle.std.specs.Prelude.{◌==◌}
-use Rattle.std.specs.List.{AllByRecursion}
+use Rattle.std.specs.List.{AllByRecursion, list_any}
 use Rattle.std.proofs.lemmas.Bool.Decides.{nat_tests}
 use Rattle.hk_base.specs.declared.names.Edek.{Edek}
 use Rattle.hk_base.specs.declared.names.KeyName.{KeyName}
-use Rattle.name_calls.specs.Paths.{starts_reserved}
+use Rattle.name_calls.specs.Paths.{is_component, starts_reserved}
 use Rattle.inode_tree.specs.Rows.{Entry, entry_of, has_children}
 use Rattle.edit_ops.specs.Records.{fits}
 use Rattle.edit_ops.specs.declared.ops.EditOp.{EditOp}
 use Rattle.edit_ops.specs.declared.ops.EditOp.TheVariants as op
 use Rattle.name_store.specs.Replay.{AllBelow}
 use Rattle.name_store.specs.Store.{is_opening}
-use Rattle.name_store.specs.Causes.{first_cause, has_most_rows, removal_causes, row_causes, to_be_made, zone_causes}
-use Rattle.name_store.specs.Table.{NameTable, allows, is_among, is_fresh, is_of_opening, may_use, may_use_all, uses}
+use Rattle.name_store.specs.Causes.{first_cause, has_most_rows, kept_causes, removal_causes, row_causes, to_be_made, zone_causes}
+use Rattle.name_store.specs.Table.{NameTable, allows, fits_key, is_among, is_fresh, is_of_opening, may_use, may_use_all, op_causes, uses}
 use Rattle.name_store.proofs.CauseLemmas.{allows-it, clear, join, none-of-both, none-of-join}
 use Rattle.name_core.specs.declared.asks.OpenAsk.{OpenAsk}
 use Rattle.name_calls.specs.declared.calls.Ask.{Ask}
@@ -23,8 +23,8 @@ use Rattle.name_calls.specs.declared.calls.NameCall.TheVariants as call
 use Rattle.name_calls.specs.declared.calls.NameRefusal.TheVariants as refusal
 use Rattle.name_core.specs.State.{AreFree, AreRecent, IdsFit, NameState, is_full, is_spent, next_id}
 use Rattle.name_core.specs.Asks.{closed, finish_causes, finish_op, is_other_key, is_other_zone, open_ask, without}
-use Rattle.name_core.specs.Calls.{causes, deed, delete_causes, mkdir_causes, path_causes}
-use Rattle.name_core.specs.Steps.{IsBehind, MayWrite}
+use Rattle.name_core.specs.Calls.{causes, deed, delete_causes, ids_used, mkdir_causes, name_causes, path_causes}
+use Rattle.name_core.specs.Steps.{IsBehind, MayBegin, MayWrite}
 use Rattle.name_core.proofs.AskLemmas.{each-map, each-without, fit-without, open-holds, open-id, without-apart}
 use Rattle.name_core.proofs.RowLemmas.{id-free, room-left}
 
@@ -82,14 +82,14 @@ allowed-mkdir s p opened ids h =
       fits = refl;
     })
 
-pub allowed-remove : (s : NameState) (p : List (List ℕ)) (recursive : Bool) → 0 < s.table.opening → first_cause (delete_causes s.table.rows p recursive) ≡ None → allows s.table (op.Remove p) ≡ true
-allowed-remove s p recursive opened h =
-    allows-it s.table (op.Remove p) refl (record {
-      opened = lt-yes 0 s.table.opening opened;
-      ids = refl;
-      free = (none-of-both (removal_causes s.table.rows p) ((not recursive && has_children s.table.rows p, refusal.NotEmpty) ∷ []) h).0;
-      fits = refl;
-    })
+-- an operation that uses no id and keeps no key
+plainly-allowed : (t : NameTable) (o : EditOp) → 0 < t.opening → is_opening o ≡ false → may_use_all t (uses o) ≡ true → fits_key t o ≡ true → first_cause (op_causes t o) ≡ None → allows t o ≡ true
+plainly-allowed t o opened safe ids key h = allows-it t o safe (record { opened = lt-yes 0 t.opening opened; ids = ids; free = h; fits = key })
+
+remove-free : (t : NameTable) (p : List (List ℕ)) (recursive : Bool) → first_cause (delete_causes t.rows t.snaps p recursive) ≡ None → first_cause (op_causes t (op.Remove p)) ≡ None
+remove-free t p recursive h =
+    let parts = none-of-both (removal_causes t.rows p) ((not recursive && has_children t.rows p, refusal.NotEmpty) ∷ kept_causes t.rows t.snaps p) h in
+    none-of-join (removal_causes t.rows p) (kept_causes t.rows t.snaps p) parts.0 (clear (not recursive && has_children t.rows p) refusal.NotEmpty _ parts.1).1
 
 -- a finish that nothing stops
 
@@ -141,7 +141,16 @@ pub allowed-call : (s : NameState) (c : NameCall) (o : EditOp) → 0 < s.table.o
 allowed-call s (call.Mkdir p) o opened ids free is =
     let same : op.Mkdir (next_id s) p ≡ o = cc in subst (λ (x : EditOp). allows s.table x ≡ true) same (allowed-mkdir s p opened ids free)
 allowed-call s (call.Delete p recursive) o opened ids free is =
-    let same : op.Remove p ≡ o = cc in subst (λ (x : EditOp). allows s.table x ≡ true) same (allowed-remove s p recursive opened free)
+    let same : op.Remove p ≡ o = cc in
+    subst (λ (x : EditOp). allows s.table x ≡ true) same (plainly-allowed s.table (op.Remove p) opened refl refl refl (remove-free s.table p recursive free))
+allowed-call s (call.Allow p) o opened ids free is =
+    let same : op.Allow p ≡ o = cc in subst (λ (x : EditOp). allows s.table x ≡ true) same (plainly-allowed s.table (op.Allow p) opened refl refl refl free)
+allowed-call s (call.Disallow p) o opened ids free is =
+    let same : op.Disallow p ≡ o = cc in subst (λ (x : EditOp). allows s.table x ≡ true) same (plainly-allowed s.table (op.Disallow p) opened refl refl refl free)
+allowed-call s (call.Snap p name) o opened ids free is =
+    let same : op.Snap p name ≡ o = cc in subst (λ (x : EditOp). allows s.table x ≡ true) same (plainly-allowed s.table (op.Snap p name) opened refl refl refl free)
+allowed-call s (call.Unsnap p name) o opened ids free is =
+    let same : op.Unsnap p name ≡ o = cc in subst (λ (x : EditOp). allows s.table x ≡ true) same (plainly-allowed s.table (op.Unsnap p name) opened refl refl refl free)
 allowed-call s (call.Info p) o opened ids free is = absurd cc
 allowed-call s (call.List p) o opened ids free is = absurd cc
 allowed-call s call.Zones o opened ids free is = absurd cc
@@ -151,6 +160,10 @@ allowed-call s call.Zones o opened ids free is = absurd cc
 pub no-opening : (s : NameState) (c : NameCall) (o : EditOp) → (deed s c).logs ≡ Some o → is_opening o ≡ false
 no-opening s (call.Mkdir p) o is = let same : op.Mkdir (next_id s) p ≡ o = cc in ap is_opening (sym same)
 no-opening s (call.Delete p recursive) o is = let same : op.Remove p ≡ o = cc in ap is_opening (sym same)
+no-opening s (call.Allow p) o is = let same : op.Allow p ≡ o = cc in ap is_opening (sym same)
+no-opening s (call.Disallow p) o is = let same : op.Disallow p ≡ o = cc in ap is_opening (sym same)
+no-opening s (call.Snap p name) o is = let same : op.Snap p name ≡ o = cc in ap is_opening (sym same)
+no-opening s (call.Unsnap p name) o is = let same : op.Unsnap p name ≡ o = cc in ap is_opening (sym same)
 no-opening s (call.Info p) o is = absurd cc
 no-opening s (call.List p) o is = absurd cc
 no-opening s call.Zones o is = absurd cc
@@ -203,17 +216,18 @@ behind-make s p ids recent left = record {
   free = apart-from s.asks (next_id s) ids.of_asks;
 }
 
-pub behind-remove : (s : NameState) (p : List (List ℕ)) (n : ℕ) → n ≡ s.next → s.next ≤ 2 ^ 32 → IdsFit s.table.rows s.asks (next_id s) → AreRecent s.table.opening s.asks
-    → IsBehind s (op.Remove p) (record s { next = n })
-behind-remove s p n is few ids recent = record {
-  no_opening = refl;
+-- an operation that uses no id
+pub behind-plain : (s : NameState) (o : EditOp) (n : ℕ) → n ≡ s.next → is_opening o ≡ false → uses o ≡ [] → s.next ≤ 2 ^ 32 → IdsFit s.table.rows s.asks (next_id s) → AreRecent s.table.opening s.asks
+    → IsBehind s o (record s { next = n })
+behind-plain s o n is safe none few ids recent = record {
+  no_opening = safe;
   same_table = refl;
   rises = omega (arith, is);
   few = omega (arith, few, is);
   ids = fit-rise s.table.rows s.asks (next_id s) (next_id (record s { next = n })) (omega (arith, is)) ids;
   recent = recent;
-  below = tt;
-  free = none-taken s.asks;
+  below = subst (λ (used : List ℕ). AllBelow (next_id (record s { next = n })) used) (sym none) tt;
+  free = subst (λ (used : List ℕ). AreFree used s.asks) (sym none) (none-taken s.asks);
 }
 
 pub behind-finish : (s : NameState) (id : ℕ) (a : OpenAsk) (edek : Option Edek) → s.next ≤ 2 ^ 32 → IdsFit s.table.rows s.asks (next_id s) → AreRecent s.table.opening s.asks
@@ -241,7 +255,7 @@ behind-finish s id a edek few ids recent stands = record {
 
 -- operations that may be written
 
-pub may-make : (s : NameState) (p : List (List ℕ)) → 0 < s.table.opening → IdsFit s.table.rows s.asks (next_id s) → AreRecent s.table.opening s.asks → starts_reserved p ≡ false
+may-make : (s : NameState) (p : List (List ℕ)) → 0 < s.table.opening → IdsFit s.table.rows s.asks (next_id s) → AreRecent s.table.opening s.asks → starts_reserved p ≡ false
     → first_cause (mkdir_causes s p) ≡ None → MayWrite s (op.Mkdir (next_id s) p) (record s { next = s.next + 1 })
 may-make s p opened ids recent path free = record {
   behind = behind-make s p ids recent (room-left s p free);
@@ -251,15 +265,59 @@ may-make s p opened ids recent path free = record {
   fewer = λ used h. h;
 }
 
-pub may-remove : (s : NameState) (p : List (List ℕ)) (recursive : Bool) → 0 < s.table.opening → s.next ≤ 2 ^ 32 → IdsFit s.table.rows s.asks (next_id s) → AreRecent s.table.opening s.asks
-    → starts_reserved p ≡ false → first_cause (delete_causes s.table.rows p recursive) ≡ None → MayWrite s (op.Remove p) (record s { next = s.next + 0 })
-may-remove s p recursive opened few ids recent path free = record {
-  behind = behind-remove s p (s.next + 0) (omega arith) few ids recent;
-  allowed = allowed-remove s p recursive opened free;
-  spelled = ap not path;
-  fresh = λ used below apart. refl;
+-- the namesystem keeps its rules of ids
+record KeepsIds (s : NameState) : Type 0 where
+  opened : 0 < s.table.opening
+  few : s.next ≤ 2 ^ 32
+  ids : IdsFit s.table.rows s.asks (next_id s)
+  recent : AreRecent s.table.opening s.asks
+
+may-plain : (s : NameState) (o : EditOp) → KeepsIds s → is_opening o ≡ false → uses o ≡ [] → fits_key s.table o ≡ true → fits o ≡ true → first_cause (op_causes s.table o) ≡ None
+    → MayWrite s o (record s { next = s.next + 0 })
+may-plain s o k safe none key spelled free = record {
+  behind = behind-plain s o (s.next + 0) (omega arith) safe none k.few k.ids k.recent;
+  allowed = plainly-allowed s.table o k.opened safe (ap (may_use_all s.table) none) key free;
+  spelled = spelled;
+  fresh = λ used below apart. ap (λ (ids : List ℕ). not (list_any (is_among used) ids)) none;
   fewer = λ used h. h;
 }
+
+named : (p : List (List ℕ)) (name : List ℕ) → first_cause (path_causes p ++ name_causes name) ≡ None → (not (starts_reserved p) && is_component name) ≡ true
+named p name h =
+    let path = clear (starts_reserved p) refusal.BadPath _ h in
+    join (not (starts_reserved p)) (is_component name) (ap not path.0) (yes (is_component name) (clear (not (is_component name)) refusal.BadPath _ path.1).0)
+
+-- the operation of a change that is not refused may be written
+pub may-write : (s : NameState) (c : NameCall) (o : EditOp) → 0 < s.table.opening → s.next ≤ 2 ^ 32 → IdsFit s.table.rows s.asks (next_id s) → AreRecent s.table.opening s.asks
+    → MayBegin c → first_cause (causes s c) ≡ None → (deed s c).logs ≡ Some o → MayWrite s o (record s { next = s.next + ids_used c })
+may-write s c o opened few ids recent begins free is = go c begins free is
+  where
+    k : KeepsIds s
+    k = record { opened = opened; few = few; ids = ids; recent = recent }
+
+    go : (c : NameCall) → MayBegin c → first_cause (causes s c) ≡ None → (deed s c).logs ≡ Some o → MayWrite s o (record s { next = s.next + ids_used c })
+    go (call.Mkdir p) begins free is =
+        let same : op.Mkdir (next_id s) p ≡ o = cc in
+        subst (λ (x : EditOp). MayWrite s x (record s { next = s.next + 1 })) same (may-make s p opened ids recent (not-reserved p begins.1) free)
+    go (call.Delete p recursive) begins free is =
+        let same : op.Remove p ≡ o = cc in
+        subst (λ (x : EditOp). MayWrite s x (record s { next = s.next + 0 })) same
+        (may-plain s (op.Remove p) k refl refl refl (ap not (not-reserved p begins.1)) (remove-free s.table p recursive free))
+    go (call.Allow p) begins free is =
+        let same : op.Allow p ≡ o = cc in
+        subst (λ (x : EditOp). MayWrite s x (record s { next = s.next + 0 })) same (may-plain s (op.Allow p) k refl refl refl (ap not (clear (starts_reserved p) refusal.BadPath _ begins.1).0) free)
+    go (call.Disallow p) begins free is =
+        let same : op.Disallow p ≡ o = cc in
+        subst (λ (x : EditOp). MayWrite s x (record s { next = s.next + 0 })) same (may-plain s (op.Disallow p) k refl refl refl (ap not (clear (starts_reserved p) refusal.BadPath _ begins.1).0) free)
+    go (call.Snap p name) begins free is =
+        let same : op.Snap p name ≡ o = cc in
+        subst (λ (x : EditOp). MayWrite s x (record s { next = s.next + 0 })) same (may-plain s (op.Snap p name) k refl refl refl (named p name begins.1) free)
+    go (call.Unsnap p name) begins free is =
+        let same : op.Unsnap p name ≡ o = cc in
+        subst (λ (x : EditOp). MayWrite s x (record s { next = s.next + 0 })) same (may-plain s (op.Unsnap p name) k refl refl refl (named p name begins.1) free)
+    go (call.Info r) begins free is = absurd cc
+    go (call.List r) begins free is = absurd cc
+    go call.Zones begins free is = absurd cc
 
 pub may-finish : (s : NameState) (id : ℕ) (a : OpenAsk) (edek : Option Edek) → 0 < s.table.opening → s.next ≤ 2 ^ 32 → IdsFit s.table.rows s.asks (next_id s) → AreRecent s.table.opening s.asks
     → open_ask s.asks id ≡ Some a → first_cause (finish_causes s.table.rows a edek a.ask) ≡ None → MayWrite s (finish_op a.id edek a.ask) (closed s id)

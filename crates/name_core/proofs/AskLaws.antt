@@ -6,10 +6,12 @@ use Rattle.std.specs.List.{AllByRecursion}
 use Rattle.std.proofs.lemmas.Bool.Decides.{nat_tests}
 use Rattle.hk_base.specs.declared.names.Edek.{Edek}
 use Rattle.name_calls.specs.Paths.{parent}
+use Rattle.name_calls.specs.ReadPaths.{as_it_is}
 use Rattle.inode_tree.specs.Rows.{Entry, put, row_at, same_id, zone_id}
 use Rattle.edit_ops.specs.declared.ops.EditOp.{EditOp}
 use Rattle.edit_ops.specs.declared.ops.EditOp.TheVariants as op
-use Rattle.name_store.specs.Table.{after_table, new_file, settled_ops}
+use Rattle.name_store.specs.Store.{is_opening}
+use Rattle.name_store.specs.Table.{after_table, new_file, settled_ops, uses}
 use Rattle.name_core.specs.declared.asks.OpenAsk.{OpenAsk}
 use Rattle.name_calls.specs.declared.calls.Ask.{Ask}
 use Rattle.name_calls.specs.declared.calls.Ask.TheVariants as ask
@@ -23,12 +25,13 @@ use Rattle.name_calls.specs.declared.calls.NameRefusal.{NameRefusal}
 use Rattle.name_calls.specs.declared.calls.NameRefusal.TheVariants as refusal
 use Rattle.name_core.specs.State.{IsRising, NameService, NameState, next_id, settled}
 use Rattle.name_core.specs.Asks.{Finishes, ask_gone, closed, finish_causes, finish_op, finished, open_ask, opened, path_asked, unless_stopped, without}
-use Rattle.name_core.specs.Calls.{NameActs, Plain, NoRoom, causes, deed, done_with, early_causes, first_cause, info_reply, numbered, path_of_zone, shown_at, unless_refused}
+use Rattle.name_core.specs.Calls.{NameActs, Plain, NoRoom, causes, deed, done_with, early_causes, first_cause, numbered, unless_refused}
+use Rattle.name_core.specs.Reads.{info_reply, path_of_zone, shown_at}
 use Rattle.name_core.specs.Service.{Changes, Concludes, FinishServes, FinishServesAt, FinishServesOpen, Serves, ServesBy, ServesUnless, is_change}
 use Rattle.name_core.specs.Steps.{Keeps}
 use Rattle.name_core.specs.Laws.{AnyFault, IsStep, Called, Asked, Finished, Reaches, FileIsTold, FinishedForGood, FinishedOnce, IdsStayBelow, OthersStayByFile, ZoneIsAsAsked}
 use Rattle.name_store.proofs.CauseLemmas.{makeable}
-use Rattle.name_core.proofs.AllowedLemmas.{behind-finish, behind-make, behind-remove, may-make-file}
+use Rattle.name_core.proofs.AllowedLemmas.{behind-finish, behind-make, behind-plain, may-make-file}
 use Rattle.name_core.proofs.AskLemmas.{ask-room, open-holds, open-id, without-apart}
 use Rattle.name_core.proofs.KeepLemmas.{keeps-asked, keeps-closed, keeps-done, keeps-pending, keeps-settled, next-done, settled-next}
 use Rattle.name_core.proofs.LawLemmas.{other, row-new, row-other, told-by, zone-above, zone-same}
@@ -85,9 +88,9 @@ file_is_told s a p edek s' told s'' asks finishes info = go (told-by s' p told s
     zone_is : path_of_zone (put (new_file a.id p edek) s.table.rows) p ≡ path_of_zone s.table.rows (parent p)
     zone_is = ap (option_map (λ e. e.path)) (zone-same (new_file a.id p edek) s.table.rows p refl ∙ zone-above s.table.rows p made.absent)
 
-    go : (told ≡ Refused refusal.NoMemory) ⊎ (told ≡ info_reply s'.table.rows p) → (told ≡ Refused refusal.NoMemory) ⊎ (told ≡ shown_at (path_of_zone s.table.rows (parent p)) (Some (new_file a.id p edek).row))
+    go : (told ≡ Refused refusal.NoMemory) ⊎ (told ≡ info_reply s'.table (as_it_is p)) → (told ≡ Refused refusal.NoMemory) ⊎ (told ≡ shown_at (path_of_zone s.table.rows (parent p)) (Some (new_file a.id p edek).row))
     go (inl wanting) = inl wanting
-    go (inr is) = inr (is ∙ ap (λ (rows : List Entry). info_reply rows p) made.rows ∙ (λ i. shown_at (zone_is i) (row-new (new_file a.id p edek) s.table.rows made.absent i)))
+    go (inr is) = inr (is ∙ ap (λ (rows : List Entry). shown_at (path_of_zone rows p) (row_at rows p)) made.rows ∙ (λ i. shown_at (zone_is i) (row-new (new_file a.id p edek) s.table.rows made.absent i)))
 
 pub zone_is_as_asked : ZoneIsAsAsked
 zone_is_as_asked s a p edek s' asks finishes =
@@ -95,7 +98,7 @@ zone_is_as_asked s a p edek s' asks finishes =
 
 pub others_stay_by_file : OthersStayByFile
 others_stay_by_file s a p edek s' q asks finishes apart =
-    ap (λ (rows : List Entry). info_reply rows q) (made-by s a p edek s' asks finishes).rows
+    ap (λ (rows : List Entry). shown_at (path_of_zone rows q) (row_at rows q)) (made-by s a p edek s' asks finishes).rows
     ∙ (λ i. shown_at (option_map (λ e. e.path) (zone-same (new_file a.id p edek) s.table.rows q refl i)) (row-other (new_file a.id p edek) s.table.rows q (other p q apart) i))
 
 -- asks and ids after a step
@@ -125,16 +128,28 @@ served-at s t s' is h = subst (Served s) (sym is) h
 served-none : (s : NameState) → Keeps (Alone s) → Served s (Alone s)
 served-none s k = record { onward = onward-same s s refl; keeps = k }
 
+-- an operation that uses no id
+
+plain-done : (s : NameState) (o : EditOp) → is_opening o ≡ false → uses o ≡ [] → Keeps (Alone s) → Served s (Alone (done_with (Some o) s))
+plain-done s o safe none k =
+    let behind = behind-plain s o s.next refl safe none k.few k.ids k.recent in
+    let next = next-done s s o behind in
+    record { onward = record { asks = refl; rises = omega (arith, next) }; keeps = keeps-done s s o behind }
+
+plain-pending : (s : NameState) (o : EditOp) → is_opening o ≡ false → uses o ≡ [] → Keeps (Alone s) → Served s (record { names = s; pending = Some o })
+plain-pending s o safe none k = record { onward = onward-same s s refl; keeps = keeps-pending s s o (behind-plain s o s.next refl safe none k.few k.ids k.recent) }
+
 -- a change that was done
 deed-done : (s : NameState) (c : NameCall) → first_cause (causes s c) ≡ None → Keeps (Alone s) → Served s (Alone (done_with (deed s c).logs (deed s c).state))
 deed-done s (call.Mkdir p) free k = record {
   onward = record { asks = refl; rises = omega arith };
   keeps = keeps-done s (numbered s) (op.Mkdir (next_id s) p) (behind-make s p k.ids k.recent (room-left s p free));
 }
-deed-done s (call.Delete p recursive) free k = record {
-  onward = record { asks = refl; rises = omega arith };
-  keeps = keeps-done s s (op.Remove p) (behind-remove s p s.next refl k.few k.ids k.recent);
-}
+deed-done s (call.Delete p recursive) free k = plain-done s (op.Remove p) refl refl k
+deed-done s (call.Allow p) free k = plain-done s (op.Allow p) refl refl k
+deed-done s (call.Disallow p) free k = plain-done s (op.Disallow p) refl refl k
+deed-done s (call.Snap p name) free k = plain-done s (op.Snap p name) refl refl k
+deed-done s (call.Unsnap p name) free k = plain-done s (op.Unsnap p name) refl refl k
 deed-done s (call.Info p) free k = served-none s k
 deed-done s (call.List p) free k = served-none s k
 deed-done s call.Zones free k = served-none s k
@@ -145,10 +160,11 @@ deed-pending s (call.Mkdir p) free k = record {
   onward = record { asks = refl; rises = omega arith };
   keeps = keeps-pending s (numbered s) (op.Mkdir (next_id s) p) (behind-make s p k.ids k.recent (room-left s p free));
 }
-deed-pending s (call.Delete p recursive) free k = record {
-  onward = onward-same s s refl;
-  keeps = keeps-pending s s (op.Remove p) (behind-remove s p s.next refl k.few k.ids k.recent);
-}
+deed-pending s (call.Delete p recursive) free k = plain-pending s (op.Remove p) refl refl k
+deed-pending s (call.Allow p) free k = plain-pending s (op.Allow p) refl refl k
+deed-pending s (call.Disallow p) free k = plain-pending s (op.Disallow p) refl refl k
+deed-pending s (call.Snap p name) free k = plain-pending s (op.Snap p name) refl refl k
+deed-pending s (call.Unsnap p name) free k = plain-pending s (op.Unsnap p name) refl refl k
 deed-pending s (call.Info p) free k = served-none s k
 deed-pending s (call.List p) free k = served-none s k
 deed-pending s call.Zones free k = served-none s k

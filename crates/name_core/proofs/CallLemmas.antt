@@ -21,11 +21,12 @@ use Rattle.name_calls.specs.declared.calls.NameReply.{NameReply}
 use Rattle.name_calls.specs.declared.calls.NameReply.TheVariants as reply
 use Rattle.name_calls.specs.declared.calls.NameRefusal.{NameRefusal}
 use Rattle.name_calls.specs.declared.calls.NameRefusal.TheVariants as refusal
-use Rattle.name_core.specs.State.{NameService, NameState, RunningNames, names_of, service_of, settled}
-use Rattle.name_core.specs.Calls.{Deed, NameActs, NoRoom, Plain, causes, deed, done_with, early_causes, first_cause, takes_memory, unless_refused}
+use Rattle.name_core.specs.State.{NameService, NameState, RunningNames, names_of, next_id, service_of, settled}
+use Rattle.name_core.specs.Calls.{Deed, NameActs, NoRoom, Plain, causes, deed, done_with, early_causes, first_cause, ids_used, only_answer, only_logs, takes_memory, unless_refused}
+use Rattle.name_core.specs.Reads.{answer_unless}
 use Rattle.name_core.specs.Asks.{Finishes, ask_gone, closed, finish_causes, finish_op, finished, open_ask, unless_stopped, without}
 use Rattle.name_core.specs.Service.{Acts, Changes, Concludes, FinishActs, FinishServesAt, Logs, OwnOf, OwnOfFinish, ServesUnless, ServesBy, acknowledged, is_change}
-use Rattle.name_core.specs.Steps.{ActsOn, ActsSettled, FinishesSettled, Growing, IsUnsettled, Leaving, Logging, OwnChange, OwnFinish, Settling, Writes, finish_told, told_of}
+use Rattle.name_core.specs.Steps.{ActsOn, ActsSettled, Answers, FinishesSettled, Growing, IsUnsettled, Leaving, Logging, OwnChange, OwnFinish, Settling, Writes, finish_told, told_of}
 use Rattle.name_core.proofs.AskLemmas.{open-id}
 use Rattle.name_core.proofs.LoggingLemmas.{behind-settling, closing, logging-growing, logging-leaving, rose_since, unchanged}
 
@@ -166,8 +167,44 @@ settled-written old new r t c o left result takes free is w = go result w
           (λ x same. (free, logs x same, inr (ap (λ (y : NameService). y.pending) w.service ∙ ap Some (sym same)))) w.disk;
     }
 
-pub same-counter : (s : NameState) (p : List (List ℕ)) (recursive : Bool) → deed s (call.Delete p recursive) ≡ done_deed (op.Remove p) (record s { next = s.next + 0 })
-same-counter s p recursive = let plus : s.next ≡ s.next + 0 = omega arith in λ i. done_deed (op.Remove p) (record s { next = plus i })
+same-counter : (s : NameState) (o : EditOp) → only_logs s o ≡ done_deed o (record s { next = s.next + 0 })
+same-counter s o = let plus : s.next ≡ s.next + 0 = omega arith in λ i. done_deed o (record s { next = plus i })
+
+-- what a change does, by its operation and the number of ids that it uses
+pub deed-is : (s : NameState) (c : NameCall) (o : EditOp) → (deed s c).logs ≡ Some o → deed s c ≡ done_deed o (record s { next = s.next + ids_used c })
+deed-is s (call.Mkdir p) o is = let same : op.Mkdir (next_id s) p ≡ o = cc in ap (λ (x : EditOp). done_deed x (record s { next = s.next + 1 })) same
+deed-is s (call.Delete p recursive) o is = let same : op.Remove p ≡ o = cc in ap (only_logs s) same ∙ same-counter s o
+deed-is s (call.Allow p) o is = let same : op.Allow p ≡ o = cc in ap (only_logs s) same ∙ same-counter s o
+deed-is s (call.Disallow p) o is = let same : op.Disallow p ≡ o = cc in ap (only_logs s) same ∙ same-counter s o
+deed-is s (call.Snap p name) o is = let same : op.Snap p name ≡ o = cc in ap (only_logs s) same ∙ same-counter s o
+deed-is s (call.Unsnap p name) o is = let same : op.Unsnap p name ≡ o = cc in ap (only_logs s) same ∙ same-counter s o
+deed-is s (call.Info r) o is = absurd cc
+deed-is s (call.List r) o is = absurd cc
+deed-is s call.Zones o is = absurd cc
+
+-- each change takes memory
+pub takes-memory : (s : NameState) (c : NameCall) → is_change c ≡ true → takes_memory s c ≡ true
+takes-memory s (call.Mkdir p) h = refl
+takes-memory s (call.Delete p recursive) h = refl
+takes-memory s (call.Allow p) h = refl
+takes-memory s (call.Disallow p) h = refl
+takes-memory s (call.Snap p name) h = refl
+takes-memory s (call.Unsnap p name) h = refl
+takes-memory s (call.Info r) h = absurd cc
+takes-memory s (call.List r) h = refl
+takes-memory s call.Zones h = refl
+
+-- reads
+
+answered : (s : NameState) (o : Option NameRefusal) (answer : NameReply) → unless_refused o s (only_answer s answer) ≡ record { told = answer_unless o answer; state = s }
+answered s (Some why) answer = refl
+answered s None answer = refl
+
+-- a call that only answers
+pub read-acts : (s : NameState) (c : NameCall) (answer told : NameReply) → deed s c ≡ only_answer s answer → Answers (takes_memory s c) (causes s c) answer told → NameActs s c told s
+read-acts s c answer told is (inl said) =
+    (Plain, tt, ap (λ (t : NameReply). record { told = t; state = s }) said ∙ sym (answered s (first_cause (causes s c)) answer) ∙ ap (unless_refused (first_cause (causes s c)) s) (sym is))
+read-acts s c answer told is (inr wanting) = (NoRoom, (wanting.1, wanting.2), ap (λ (t : NameReply). record { told = t; state = s }) wanting.0)
 
 -- finishes
 

@@ -1,5 +1,5 @@
 -- The laws of deleted paths and of lists.
-use Rattle.std.proofs.Common.{◌≡◌, ℕ, ◌+◌, ◌<◌, Bool, true, false, cond, not, ◌&&◌, ◌||◌, is_none, is_some, length, map, List, [], ◌∷◌, ◌++◌, Option, Some, None, refl, sym, ap, ◌∙◌, arith}
+use Rattle.std.proofs.Common.{◌≡◌, ◌⊎◌, inl, inr, ℕ, ◌+◌, ◌<◌, Bool, true, false, cond, not, ◌&&◌, ◌||◌, is_none, is_some, length, map, List, [], ◌∷◌, ◌++◌, Option, Some, None, refl, sym, ap, ◌∙◌, arith}
 use Rattle.std.specs.Prelude.{◌==◌}
 use Rattle.std.specs.List.{filter, list_any}
 use Rattle.std.specs.Option.{option_map}
@@ -10,6 +10,8 @@ use Rattle.name_calls.specs.declared.listing.Child.{Child}
 use Rattle.inode_tree.specs.declared.rows.Row.{Row}
 use Rattle.inode_tree.specs.Listing.{child_of, children}
 use Rattle.name_calls.specs.Paths.{is_child, is_prefix, last_name, same_path}
+use Rattle.name_calls.specs.ReadPaths.{as_it_is}
+use Rattle.name_calls.specs.declared.read_paths.ReadPath.{ReadPath}
 use Rattle.inode_tree.specs.Rows.{Entry, is_marked, is_zone_over, longer, removed, row_at, zone_of}
 use Rattle.inode_tree.proofs.Seeks.{same-is}
 use Rattle.edit_ops.specs.declared.ops.EditOp.TheVariants as op
@@ -18,14 +20,16 @@ use Rattle.name_calls.specs.declared.calls.NameReply.TheVariants as reply
 use Rattle.name_calls.specs.declared.calls.NameRefusal.{NameRefusal}
 use Rattle.name_calls.specs.declared.calls.NameRefusal.TheVariants as refusal
 use Rattle.name_core.specs.State.{NameState}
-use Rattle.name_core.specs.Calls.{NameActs, NoRoom, Plain, delete_causes, first_cause, info_reply, list_causes, path_of_zone, shown_at, unless_refused}
+use Rattle.name_core.specs.Calls.{NameActs, NoRoom, Plain, delete_causes, first_cause, only_answer, only_logs, unless_refused}
+use Rattle.name_core.specs.Reads.{answer_unless, list_causes, list_reply, path_of_zone, path_read, rows_read, shown_at}
 use Rattle.name_core.specs.Laws.{DeletedIsGone, ListTellsChildren, OthersStayByDelete}
+use Rattle.name_core.proofs.LawLemmas.{answer-by}
 
 deleted-by : (s : NameState) (p : List (List ℕ)) (recursive : Bool) (s' : NameState) → NameActs s (call.Delete p recursive) reply.Done s' → s'.table.rows ≡ removed p s.table.rows
 deleted-by s p recursive s' (NoRoom, may, is) = let f : reply.Done ≡ reply.Refused refusal.NoMemory = ap (λ o. o.told) is in absurd cc
-deleted-by s p recursive s' (Plain, may, is) = go (first_cause (delete_causes s.table.rows p recursive)) is
+deleted-by s p recursive s' (Plain, may, is) = go (first_cause (delete_causes s.table.rows s.table.snaps p recursive)) is
   where
-    go : (o : Option NameRefusal) → (record { told = reply.Done; state = s' }) ≡ unless_refused o s (record { answer = reply.Done; logs = Some (op.Remove p); state = s })
+    go : (o : Option NameRefusal) → (record { told = reply.Done; state = s' }) ≡ unless_refused o s (only_logs s (op.Remove p))
         → s'.table.rows ≡ removed p s.table.rows
     go (Some why) is = let f : reply.Done ≡ reply.Refused why = ap (λ o. o.told) is in absurd cc
     go None is = ap (λ o. o.state.table.rows) is
@@ -44,7 +48,7 @@ gone-row p q (e ∷ rows) below = go (is_prefix p e.path) refl (gone-row p q row
     go true below rest = rest
     go false out rest = ap (λ (b : Bool). cond b (Some e.row) (row_at (removed p rows) q)) (apart (same_path e.path q) refl out) ∙ rest
 
-other-row : (p q : List (List ℕ)) (rows : List Entry) → is_prefix p q ≡ false → row_at (removed p rows) q ≡ row_at rows q
+pub other-row : (p q : List (List ℕ)) (rows : List Entry) → is_prefix p q ≡ false → row_at (removed p rows) q ≡ row_at rows q
 other-row p q [] out = refl
 other-row p q (e ∷ rows) out = go (is_prefix p e.path) refl (other-row p q rows out)
   where
@@ -75,7 +79,7 @@ prefix-chain (a ∷ p) (b ∷ x) (c ∷ q) h g =
     join : (s t : Bool) → s ≡ true → t ≡ true → (s && t) ≡ true
     join s t h g = ap (λ b. b && t) h ∙ g
 
-other-zone : (p q : List (List ℕ)) (rows : List Entry) → is_prefix p q ≡ false → zone_of (removed p rows) q ≡ zone_of rows q
+pub other-zone : (p q : List (List ℕ)) (rows : List Entry) → is_prefix p q ≡ false → zone_of (removed p rows) q ≡ zone_of rows q
 other-zone p q [] out = refl
 other-zone p q (e ∷ rows) out = go (is_prefix p e.path) refl (other-zone p q rows out)
   where
@@ -99,21 +103,21 @@ deleted_is_gone s p recursive s' q told s'' did below info = go info
     absent : row_at s'.table.rows q ≡ None
     absent = ap (λ (rows : List Entry). row_at rows q) (deleted-by s p recursive s' did) ∙ gone-row p q s.table.rows below
 
-    go : NameActs s' (call.Info q) told s'' → told ≡ reply.Refused refusal.NoSuchPath
+    go : NameActs s' (call.Info (as_it_is q)) told s'' → told ≡ reply.Refused refusal.NoSuchPath
     go (NoRoom, may, is) =
         let f : Some refusal.NoSuchPath ≡ None = ap (λ (o : Option Row). cond (is_none o) (Some refusal.NoSuchPath) None) (sym absent) ∙ may.1 in absurd cc
     go (Plain, may, is) =
         ap (λ o. o.told) is
-        ∙ ap (λ (o : Option Row). (unless_refused (cond (is_none o) (Some refusal.NoSuchPath) None) s' (record { answer = shown_at (path_of_zone s'.table.rows q) o; logs = None; state = s' })).told) absent
+        ∙ ap (λ (o : Option Row). (unless_refused (cond (is_none o) (Some refusal.NoSuchPath) None) s' (only_answer s' (shown_at (path_of_zone s'.table.rows q) o))).told) absent
 
 pub others_stay_by_delete : OthersStayByDelete
 others_stay_by_delete s p recursive s' q did out =
-    ap (λ (rows : List Entry). info_reply rows q) (deleted-by s p recursive s' did)
+    ap (λ (rows : List Entry). shown_at (path_of_zone rows q) (row_at rows q)) (deleted-by s p recursive s' did)
     ∙ (λ i. shown_at (option_map (λ (e : Entry). e.path) (other-zone p q s.table.rows out i)) (other-row p q s.table.rows out i))
 
 -- lists
 
-swap-bytes : (a b : List ℕ) → bytes_eq a b ≡ bytes_eq b a
+pub swap-bytes : (a b : List ℕ) → bytes_eq a b ≡ bytes_eq b a
 swap-bytes a b = go (bytes_eq a b) (bytes_eq b a) refl refl
   where
     go : (s t : Bool) → bytes_eq a b ≡ s → bytes_eq b a ≡ t → s ≡ t
@@ -196,14 +200,16 @@ named (e ∷ rows) p name =
     go true rest = ap (λ (b : Bool). bytes_eq (last_name e.path) name || b) rest ∙ either (bytes_eq (last_name e.path) name) (row_at rows (p ++ name ∷ []))
     go false rest = rest
 
-listed-by : (s : NameState) (p : List (List ℕ)) (list : List Child) (s' : NameState) → NameActs s (call.List p) (reply.List list) s' → list ≡ children s.table.rows p
-listed-by s p list s' (NoRoom, may, is) = let f : reply.List list ≡ reply.Refused refusal.NoMemory = ap (λ o. o.told) is in absurd cc
-listed-by s p list s' (Plain, may, is) = go (first_cause (list_causes s.table.rows p)) is
+listed-by : (s : NameState) (r : ReadPath) (list : List Child) (s' : NameState) → NameActs s (call.List r) (reply.List list) s' → list ≡ children (rows_read s.table r) (path_read r)
+listed-by s r list s' acts = go (answer-by s (call.List r) (reply.List list) s' acts)
   where
-    go : (o : Option NameRefusal) → (record { told = reply.List list; state = s' }) ≡ unless_refused o s (record { answer = reply.List (children s.table.rows p); logs = None; state = s })
-        → list ≡ children s.table.rows p
-    go (Some why) is = let f : reply.List list ≡ reply.Refused why = ap (λ o. o.told) is in absurd cc
-    go None is = let f : reply.List list ≡ reply.List (children s.table.rows p) = ap (λ o. o.told) is in cc
+    unless : (o : Option NameRefusal) → reply.List list ≡ answer_unless o (list_reply s.table r) → list ≡ children (rows_read s.table r) (path_read r)
+    unless (Some why) is = let f : reply.List list ≡ reply.Refused why = is in absurd cc
+    unless None is = let f : reply.List list ≡ reply.List (children (rows_read s.table r) (path_read r)) = is in cc
+
+    go : (reply.List list ≡ reply.Refused refusal.NoMemory) ⊎ (reply.List list ≡ answer_unless (first_cause (list_causes s.table r)) (list_reply s.table r)) → list ≡ children (rows_read s.table r) (path_read r)
+    go (inl wanting) = absurd cc
+    go (inr is) = unless (first_cause (list_causes s.table r)) is
 
 pub list_tells_children : ListTellsChildren
-list_tells_children s p list s' name did = ap (list_any (λ (c : Child). bytes_eq c.name name)) (listed-by s p list s' did) ∙ named s.table.rows p name
+list_tells_children s r list s' name did = ap (list_any (λ (c : Child). bytes_eq c.name name)) (listed-by s r list s' did) ∙ named (rows_read s.table r) (path_read r) name

@@ -5,12 +5,13 @@ use Rattle.std.specs.List.{All, filter}
 use Rattle.std.proofs.lemmas.List.Elements.{All-filter}
 use Rattle.inode_tree.specs.declared.rows.Kind.TheVariants.{Dir}
 use Rattle.name_calls.specs.Paths.{is_prefix}
-use Rattle.inode_tree.specs.Rows.{Entry, entry_of, put, removed, row_at}
+use Rattle.inode_tree.specs.Rows.{Entry, entry_of, put, removed}
 use Rattle.edit_ops.specs.declared.ops.EditOp.{EditOp}
 use Rattle.edit_ops.specs.declared.ops.EditOp.TheVariants as op
+use Rattle.name_store.specs.Causes.{id_at}
 use Rattle.name_store.specs.Replay.{AllBelow}
 use Rattle.name_store.specs.Store.{IsPending, IsStore, is_opening}
-use Rattle.name_store.specs.Table.{NameTable, after_table, id_of, is_among, new_directory, new_file, settled_table, uses}
+use Rattle.name_store.specs.Table.{NameTable, after_table, is_among, new_directory, new_file, settled_table, uses}
 use Rattle.name_core.specs.declared.asks.OpenAsk.{OpenAsk}
 use Rattle.name_core.specs.State.{AreFree, AreRecent, IdsFit, IsNames, IsWaiting, NameService, NameState, RunningNames, next_id, service_of, settled, took}
 use Rattle.name_core.specs.Asks.{closed}
@@ -64,11 +65,15 @@ fit-op t (op.Remove p) asks n safe below apart fit = record {
   rising = fit.rising;
 }
 fit-op t (op.Zone p key) asks n safe below apart fit = record {
-  of_rows = kind-below n (id_of (row_at t.rows p)) (Dir (Some key)) t.rows fit.of_rows;
+  of_rows = kind-below n (id_at t.rows p) (Dir (Some key)) t.rows fit.of_rows;
   of_asks = fit.of_asks;
-  free = each-map (λ (a : OpenAsk). entry_of t.rows a.id ≡ None) (λ (a : OpenAsk). entry_of (after_table t (op.Zone p key)).rows a.id ≡ None) (λ a h. kind-free (id_of (row_at t.rows p)) (Dir (Some key)) t.rows a.id h) asks fit.free;
+  free = each-map (λ (a : OpenAsk). entry_of t.rows a.id ≡ None) (λ (a : OpenAsk). entry_of (after_table t (op.Zone p key)).rows a.id ≡ None) (λ a h. kind-free (id_at t.rows p) (Dir (Some key)) t.rows a.id h) asks fit.free;
   rising = fit.rising;
 }
+fit-op t (op.Allow p) asks n safe below apart fit = fit
+fit-op t (op.Disallow p) asks n safe below apart fit = fit
+fit-op t (op.Snap p name) asks n safe below apart fit = fit
+fit-op t (op.Unsnap p name) asks n safe below apart fit = fit
 
 pub same-opening : (t : NameTable) (o : EditOp) → is_opening o ≡ false → (after_table t o).opening ≡ t.opening
 same-opening t (op.Opened opening) safe = absurd cc
@@ -76,6 +81,10 @@ same-opening t (op.Mkdir id p) safe = refl
 same-opening t (op.File id p edek) safe = refl
 same-opening t (op.Remove p) safe = refl
 same-opening t (op.Zone p key) safe = refl
+same-opening t (op.Allow p) safe = refl
+same-opening t (op.Disallow p) safe = refl
+same-opening t (op.Snap p name) safe = refl
+same-opening t (op.Unsnap p name) safe = refl
 
 -- an operation took effect
 
@@ -214,7 +223,7 @@ pub is-names : (r : RunningNames) → IsStore r.store → Keeps (service_of r) �
 is-names r store k = record {
   opened = store.opened;
   few = k.few;
-  rows = store.rules;
+  table = store.table;
   ids = k.ids;
   recent = k.recent;
   waits = waiting r.store.log.pending (service_of r).names store.waits k.waits;

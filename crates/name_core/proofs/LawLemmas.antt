@@ -4,8 +4,10 @@ use Rattle.std.specs.Option.{option_map}
 use Rattle.std.specs.Str.{bytes_eq}
 use Rattle.inode_tree.specs.declared.rows.Row.{Row}
 use Rattle.name_calls.specs.Paths.{is_before, is_prefix, parent, same_path}
+use Rattle.name_calls.specs.ReadPaths.{as_it_is}
 use Rattle.inode_tree.specs.Rows.{Entry, is_marked, is_zone_over, longer, put, row_at, zone_of}
 use Rattle.inode_tree.proofs.Seeks.{same-is, same-itself}
+use Rattle.name_calls.specs.declared.calls.NameCall.{NameCall}
 use Rattle.name_calls.specs.declared.calls.NameCall.TheVariants as call
 use Rattle.name_calls.specs.declared.calls.NameReply.{NameReply}
 use Rattle.name_calls.specs.declared.calls.NameReply.TheVariants.{Done, Refused}
@@ -16,7 +18,8 @@ use Rattle.name_store.specs.Causes.{first_cause, to_be_made}
 use Rattle.name_store.specs.Table.{new_directory}
 use Rattle.name_store.proofs.CauseLemmas.{makeable, none-of-both}
 use Rattle.name_core.specs.State.{NameState, is_full, next_id}
-use Rattle.name_core.specs.Calls.{NameActs, Plain, NoRoom, done_with, info_reply, mkdir_causes, numbered, path_of_zone, shown_at, unless_refused}
+use Rattle.name_core.specs.Calls.{NameActs, Plain, NoRoom, causes, deed, done_with, mkdir_causes, numbered, unless_refused}
+use Rattle.name_core.specs.Reads.{answer_unless, info_causes, info_reply, path_of_zone, shown_at}
 use Rattle.name_core.specs.Asks.{ask_causes, asked, note_of, opened, unless_not_asked}
 use Rattle.name_core.specs.Laws.{AskIdsRise, IdsRise, MadeIsTold, OthersStay}
 use Rattle.name_calls.specs.declared.calls.AskNote.{AskNote}
@@ -79,7 +82,7 @@ none-below true = refl
 none-below false = refl
 
 -- a prefix of a path, other than the path, is a prefix of its parent
-prefix-parent : (q p : List (List ℕ)) → same_path q p ≡ false → is_prefix q p ≡ is_prefix q (parent p)
+pub prefix-parent : (q p : List (List ℕ)) → same_path q p ≡ false → is_prefix q p ≡ is_prefix q (parent p)
 prefix-parent [] p h = refl
 prefix-parent (x ∷ q) [] h = refl
 prefix-parent (x ∷ []) (y ∷ []) h = h
@@ -99,14 +102,25 @@ zone-above (x ∷ es) p h =
     λ i. cond (over i) (Some (longer x (rest i))) (rest i)
 
 -- the reply is that of the definition, unless memory ran out
-pub told-by : (s : NameState) (p : List (List ℕ)) (told : NameReply) (s' : NameState) → NameActs s (call.Info p) told s' → (told ≡ Refused NoMemory) ⊎ (told ≡ info_reply s.table.rows p)
-told-by s p told s' (NoRoom, may, is) = inl (ap (λ o. o.told) is)
-told-by s p told s' (Plain, may, is) = inr (go (row_at s.table.rows p) is)
+pub answer-by : (s : NameState) (c : NameCall) (told : NameReply) (s' : NameState) → NameActs s c told s' → (told ≡ Refused NoMemory) ⊎ (told ≡ answer_unless (first_cause (causes s c)) (deed s c).answer)
+answer-by s c told s' (NoRoom, may, is) = inl (ap (λ o. o.told) is)
+answer-by s c told s' (Plain, may, is) = inr (ap (λ o. o.told) is ∙ go (first_cause (causes s c)))
   where
-    go : (o : Option Row) → (record { told = told; state = s' }) ≡ unless_refused (cond (is_none o) (Some NoSuchPath) None) s (record { answer = shown_at (path_of_zone s.table.rows p) o; logs = None; state = s })
-        → told ≡ shown_at (path_of_zone s.table.rows p) o
-    go None is = ap (λ o. o.told) is
-    go (Some row) is = ap (λ o. o.told) is
+    go : (o : Option NameRefusal) → (unless_refused o s (deed s c)).told ≡ answer_unless o (deed s c).answer
+    go (Some why) = refl
+    go None = refl
+
+-- an entry that does not exist is shown as a refusal
+pub shown-unless : (path : Option (List (List ℕ))) (o : Option Row) → answer_unless (cond (is_none o) (Some NoSuchPath) None) (shown_at path o) ≡ shown_at path o
+shown-unless path None = refl
+shown-unless path (Some row) = refl
+
+pub told-by : (s : NameState) (p : List (List ℕ)) (told : NameReply) (s' : NameState) → NameActs s (call.Info (as_it_is p)) told s' → (told ≡ Refused NoMemory) ⊎ (told ≡ info_reply s.table (as_it_is p))
+told-by s p told s' acts = go (answer-by s (call.Info (as_it_is p)) told s' acts)
+  where
+    go : (told ≡ Refused NoMemory) ⊎ (told ≡ answer_unless (first_cause (info_causes s.table (as_it_is p))) (info_reply s.table (as_it_is p))) → (told ≡ Refused NoMemory) ⊎ (told ≡ info_reply s.table (as_it_is p))
+    go (inl wanting) = inl wanting
+    go (inr is) = inr (is ∙ shown-unless (path_of_zone s.table.rows p) (row_at s.table.rows p))
 
 pub made_is_told : MadeIsTold
 made_is_told s p s' told s'' did asked = go (told-by s' p told s'' asked)
@@ -117,9 +131,9 @@ made_is_told s p s' told s'' did asked = go (told-by s' p told s'' asked)
     zone_is : path_of_zone (put (new_directory (next_id s) p) s.table.rows) p ≡ path_of_zone s.table.rows (parent p)
     zone_is = ap (option_map (λ e. e.path)) (zone-same (new_directory (next_id s) p) s.table.rows p refl ∙ zone-above s.table.rows p absent)
 
-    go : (told ≡ Refused NoMemory) ⊎ (told ≡ info_reply s'.table.rows p) → (told ≡ Refused NoMemory) ⊎ (told ≡ shown_at (path_of_zone s.table.rows (parent p)) (Some (new_directory (next_id s) p).row))
+    go : (told ≡ Refused NoMemory) ⊎ (told ≡ info_reply s'.table (as_it_is p)) → (told ≡ Refused NoMemory) ⊎ (told ≡ shown_at (path_of_zone s.table.rows (parent p)) (Some (new_directory (next_id s) p).row))
     go (inl wanting) = inl wanting
-    go (inr is) = inr (is ∙ ap (λ (t : NameState). info_reply t.table.rows p) (done-by s p s' did).1 ∙ (λ i. shown_at (zone_is i) (row-new (new_directory (next_id s) p) s.table.rows absent i)))
+    go (inr is) = inr (is ∙ ap (λ (t : NameState). info_reply t.table (as_it_is p)) (done-by s p s' did).1 ∙ (λ i. shown_at (zone_is i) (row-new (new_directory (next_id s) p) s.table.rows absent i)))
 
 pub other : (p q : List (List ℕ)) → (q ≡ p → ⊥) → same_path p q ≡ false
 other p q h = go (same_path p q) refl
@@ -130,7 +144,7 @@ other p q h = go (same_path p q) refl
 
 pub others_stay : OthersStay
 others_stay s p s' q did apart =
-    ap (λ (t : NameState). info_reply t.table.rows q) (done-by s p s' did).1
+    ap (λ (t : NameState). info_reply t.table (as_it_is q)) (done-by s p s' did).1
     ∙ (λ i. shown_at (option_map (λ e. e.path) (zone-same (new_directory (next_id s) p) s.table.rows q refl i)) (row-other (new_directory (next_id s) p) s.table.rows q (other p q apart) i))
 
 pub ids_rise : IdsRise

@@ -9,6 +9,10 @@ pub mod Layers
 pub mod LoggingLemmas
 pub mod PathCopies
 pub mod RowLemmas
+pub mod SnapshotLaws
+pub mod SnapshotRows
+pub mod SnapshotTimes
+pub mod SnapshotZones
 pub mod StartLemmas
 pub mod WriteLemmas
 pub mod ZoneLaws

@@ -39,7 +39,7 @@ all-put P e (x ∷ xs) p h =
 pub below-put : (e : Entry) (es : List Entry) (n m : ℕ) → e.row.id ≡ n → n < m → All (BelowId n) es → All (BelowId m) (put e es)
 below-put e es n m is more h = all-put (BelowId m) e es (omega (arith, is, more)) (λ k d b. omega (arith, more, h k d b))
 
-abbrev HoldsOf : (Entry → Type 0) → Option Entry → Type 0
+abbrev pub HoldsOf : (Entry → Type 0) → Option Entry → Type 0
 HoldsOf P None = ⊤
 HoldsOf P (Some e) = P e
 
@@ -56,7 +56,7 @@ longer-holds P e None h g = h
 longer-holds P e (Some f) h g = either-holds P (nat_lt (length e.path) (length f.path)) f e g h
 
 -- a property of all rows is true of the row of a zone
-zone-holds : (P : Entry → Type 0) (p : List (List ℕ)) (es : List Entry) → All P es → HoldsOf P (zone_of es p)
+pub zone-holds : (P : Entry → Type 0) (p : List (List ℕ)) (es : List Entry) → All P es → HoldsOf P (zone_of es p)
 zone-holds P p [] h = tt
 zone-holds P p (e ∷ es) h =
     let rest = zone-holds P p es (All-tail P e es h) in

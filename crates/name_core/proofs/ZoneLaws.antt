@@ -11,6 +11,7 @@ use Rattle.inode_tree.specs.declared.rows.Row.{Row}
 use Rattle.inode_tree.specs.declared.rows.Kind.{Kind}
 use Rattle.inode_tree.specs.declared.rows.Kind.TheVariants.{Dir}
 use Rattle.name_calls.specs.Paths.{is_prefix, same_path}
+use Rattle.name_calls.specs.ReadPaths.{as_it_is}
 use Rattle.inode_tree.specs.Rows.{Entry, IsRows, entry_of, is_dir_at, is_marked, is_zone_over, longer, row_at, set_kind, with_kind, zone_of}
 use Rattle.inode_tree.proofs.Seeks.{same-is}
 use Rattle.inode_tree.proofs.ZoneLemmas.{prefix-itself}
@@ -18,10 +19,12 @@ use Rattle.name_calls.specs.declared.calls.Ask.{Ask}
 use Rattle.name_calls.specs.declared.calls.NameReply.TheVariants.{Refused}
 use Rattle.name_calls.specs.declared.calls.NameRefusal.TheVariants.{NoMemory}
 use Rattle.name_core.specs.State.{NameState}
-use Rattle.name_store.specs.Table.{after_table, id_of}
+use Rattle.name_store.specs.Causes.{id_at, id_of}
+use Rattle.name_store.specs.Table.{after_table}
 use Rattle.name_store.proofs.CauseLemmas.{IsMarkable, markable}
 use Rattle.name_core.specs.Asks.{finish_causes, finish_op, finished}
-use Rattle.name_core.specs.Calls.{first_cause, info_reply, shown_at}
+use Rattle.name_core.specs.Calls.{first_cause}
+use Rattle.name_core.specs.Reads.{info_reply, path_of_zone, shown_at}
 use Rattle.name_core.specs.Laws.{ZoneIsTold}
 use Rattle.name_core.proofs.AllowedLemmas.{may-make-zone}
 use Rattle.name_core.proofs.AskLaws.{finished-by}
@@ -29,7 +32,7 @@ use Rattle.name_core.proofs.LawLemmas.{told-by}
 
 -- a row keeps its path
 
-kind-path : (id : ℕ) (kind : Kind) (e : Entry) → (with_kind id kind e).path ≡ e.path
+pub kind-path : (id : ℕ) (kind : Kind) (e : Entry) → (with_kind id kind e).path ≡ e.path
 kind-path id kind e = go (e.row.id == id)
   where
     go : (t : Bool) → (cond t (record e { row = record { id = id; kind = kind } }) e).path ≡ e.path
@@ -62,7 +65,7 @@ row-marked (x ∷ es) p row kind h =
 
 -- the row with the id is the only one that becomes a zone
 
-abbrev LiesAt : List (List ℕ) → Option Entry → Type 0
+abbrev pub LiesAt : List (List ℕ) → Option Entry → Type 0
 LiesAt p None = ⊤
 LiesAt p (Some e) = e.path ≡ p
 
@@ -74,7 +77,7 @@ longer-at p e (Some f) h g = go (nat_lt (length e.path) (length f.path))
     go true = g
     go false = h
 
-abbrev OnlyAt : List (List ℕ) → ℕ → List Entry → Type 0
+abbrev pub OnlyAt : List (List ℕ) → ℕ → List Entry → Type 0
 OnlyAt p id es = All (λ (e : Entry). e.row.id ≡ id → e.path ≡ p) es
 
 not-over : (x : Entry) (es : List Entry) (p : List (List ℕ)) → zone_of (x ∷ es) p ≡ None → (is_zone_over p x ≡ false) × (zone_of es p ≡ None)
@@ -84,7 +87,7 @@ not-over x es p h = go (is_zone_over p x) h
     go true h = absurd cc
     go false h = (refl, h)
 
-zones-at : (es : List Entry) (p : List (List ℕ)) (id : ℕ) (kind : Kind) → OnlyAt p id es → zone_of es p ≡ None → LiesAt p (zone_of (set_kind es id kind) p)
+pub zones-at : (es : List Entry) (p : List (List ℕ)) (id : ℕ) (kind : Kind) → OnlyAt p id es → zone_of es p ≡ None → LiesAt p (zone_of (set_kind es id kind) p)
 zones-at [] p id kind only none = tt
 zones-at (x ∷ es) p id kind only none =
     go (x.row.id == id) refl (zones-at es p id kind (All-tail (λ (e : Entry). e.row.id ≡ id → e.path ≡ p) x es only) (not-over x es p none).1)
@@ -150,7 +153,7 @@ stands-there rows (x ∷ es) p row once stands = go (same_path x.path p) refl st
         }
     go false here is rest = rest is
 
-only-there : (rows : List Entry) (p : List (List ℕ)) (row : Row) → IsRows rows → row_at rows p ≡ Some row → OnlyAt p row.id rows
+pub only-there : (rows : List Entry) (p : List (List ℕ)) (row : Row) → IsRows rows → row_at rows p ≡ Some row → OnlyAt p row.id rows
 only-there rows p row good stands i d b is =
     let there = stands-there rows rows p row good.once stands in
     path-of (sym (good.once i d b) ∙ ap (entry_of rows) is ∙ there.of_id) there.path_is
@@ -161,11 +164,11 @@ only-there rows p row good stands i d b is =
 -- nothing stopped it
 
 marked-reply : (rows : List Entry) (p : List (List ℕ)) (key : KeyName) (o : Option Row) → IsRows rows → row_at rows p ≡ o → IsMarkable rows p
-    → info_reply (set_kind rows (id_of o) (Dir (Some key))) p ≡ shown_at (Some p) (Some (with_mark (id_of o) (Dir (Some key))))
+    → shown_at (path_of_zone (set_kind rows (id_of o) (Dir (Some key))) p) (row_at (set_kind rows (id_of o) (Dir (Some key))) p) ≡ shown_at (Some p) (Some (with_mark (id_of o) (Dir (Some key))))
 marked-reply rows p key None good stands may = let f : false ≡ true = sym (ap is_dir_at stands) ∙ may.dir in absurd cc
 marked-reply rows p key (Some row) good stands may = λ i. shown_at (zone_is i) (row-marked rows p row (Dir (Some key)) stands i)
   where
-    zone_is : option_map (λ (e : Entry). e.path) (zone_of (set_kind rows row.id (Dir (Some key))) p) ≡ Some p
+    zone_is : path_of_zone (set_kind rows row.id (Dir (Some key))) p ≡ Some p
     zone_is =
         lies-path p (zone_of (set_kind rows row.id (Dir (Some key))) p)
         (zones-at rows p row.id (Dir (Some key)) (only-there rows p row good stands) may.outside)
@@ -175,7 +178,7 @@ pub zone_is_told : ZoneIsTold
 zone_is_told s a p key edek s' told s'' good asks finishes info = reply (told-by s' p told s'' info)
   where
     id_there : ℕ
-    id_there = id_of (row_at s.table.rows p)
+    id_there = id_at s.table.rows p
 
     done : (first_cause (finish_causes s.table.rows a edek a.ask) ≡ None) × (s' ≡ finished s a edek)
     done = finished-by s a edek s' finishes
@@ -186,6 +189,6 @@ zone_is_told s a p key edek s' told s'' good asks finishes info = reply (told-by
     rows : s'.table.rows ≡ set_kind s.table.rows id_there (Dir (Some key))
     rows = ap (λ (t : NameState). t.table.rows) done.1 ∙ ap (λ (k : Ask). (after_table s.table (finish_op a.id edek k)).rows) asks
 
-    reply : (told ≡ Refused NoMemory) ⊎ (told ≡ info_reply s'.table.rows p) → (told ≡ Refused NoMemory) ⊎ (told ≡ shown_at (Some p) (Some (with_mark id_there (Dir (Some key)))))
+    reply : (told ≡ Refused NoMemory) ⊎ (told ≡ info_reply s'.table (as_it_is p)) → (told ≡ Refused NoMemory) ⊎ (told ≡ shown_at (Some p) (Some (with_mark id_there (Dir (Some key)))))
     reply (inl wanting) = inl wanting
-    reply (inr is) = inr (is ∙ ap (λ (es : List Entry). info_reply es p) rows ∙ marked-reply s.table.rows p key (row_at s.table.rows p) good refl may)
+    reply (inr is) = inr (is ∙ ap (λ (es : List Entry). shown_at (path_of_zone es p) (row_at es p)) rows ∙ marked-reply s.table.rows p key (row_at s.table.rows p) good refl may)

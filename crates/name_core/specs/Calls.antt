@@ -1,24 +1,24 @@
 -- The calls of the namesystem: why each is refused, what it answers, and the state it leaves.
-use Rattle.std.specs.Prelude.{◌≡◌, ℕ, ◌+◌, ◌&&◌, Bool, true, not, List, [], ◌∷◌, ◌++◌, Option, Some, None, is_some, is_none, option_map, bytes_eq, codes}
+use Rattle.std.specs.Prelude.{◌≡◌, ℕ, ◌+◌, ◌&&◌, Bool, true, not, List, [], ◌∷◌, ◌++◌, Option, Some, None, is_some, bytes_eq, codes}
 use Rattle.hk_base.specs.declared.texts.Text.{Text}
 use Rattle.edit_ops.specs.declared.ops.EditOp.{EditOp}
 use Rattle.edit_ops.specs.declared.ops.EditOp.TheVariants as op
 use Rattle.name_calls.specs.declared.paths.NPath.{NPath}
-use Rattle.inode_tree.specs.declared.rows.Row.{Row}
-use Rattle.inode_tree.specs.declared.rows.Kind.{Kind}
-use Rattle.inode_tree.specs.declared.rows.Kind.TheVariants.{Dir, File}
-use Rattle.inode_tree.specs.Listing.{children}
-use Rattle.name_calls.specs.Paths.{starts_reserved}
-use Rattle.inode_tree.specs.Rows.{Entry, has_children, row_at, is_dir_at, zone_of}
+use Rattle.name_calls.specs.declared.read_paths.ReadPath.{ReadPath}
+use Rattle.name_calls.specs.declared.read_paths.SnapPart.{SnapPart}
+use Rattle.name_calls.specs.Paths.{is_component, starts_reserved}
+use Rattle.inode_tree.specs.Rows.{Entry, has_children}
+use Rattle.snap_store.specs.Snapshots.{SnapTable}
 use Rattle.zone_table.specs.Zones.{zone_paths}
 pub use Rattle.name_store.specs.Causes.{first_cause, to_be_made}
-use Rattle.name_store.specs.Causes.{removal_causes}
+use Rattle.name_store.specs.Causes.{allow_causes, disallow_causes, kept_causes, removal_causes, snap_causes, unsnap_causes}
 use Rattle.name_calls.specs.declared.calls.NameCall.{NameCall}
 use Rattle.name_calls.specs.declared.calls.NameCall.TheVariants as call
 use Rattle.name_calls.specs.declared.calls.NameReply.{NameReply}
 use Rattle.name_calls.specs.declared.calls.NameReply.TheVariants as reply
 use Rattle.name_calls.specs.declared.calls.NameRefusal.{NameRefusal}
 use Rattle.name_calls.specs.declared.calls.NameRefusal.TheVariants as refusal
+use Rattle.name_core.specs.Reads.{info_causes, info_reply, list_causes, list_reply, zone_read}
 use Rattle.name_core.specs.State.{NameState, next_id, is_full, took}
 
 -- why a call is refused
@@ -26,24 +26,23 @@ use Rattle.name_core.specs.State.{NameState, next_id, is_full, took}
 abbrev pub mkdir_causes : NameState → NPath → List (Bool × NameRefusal)
 mkdir_causes s p = to_be_made s.table.rows p ++ (is_full s, refusal.TooManyInodes) ∷ []
 
-abbrev pub info_causes : List Entry → NPath → List (Bool × NameRefusal)
-info_causes rows p = (is_none (row_at rows p), refusal.NoSuchPath) ∷ []
-
-abbrev pub list_causes : List Entry → NPath → List (Bool × NameRefusal)
-list_causes rows p = (is_none (row_at rows p), refusal.NoSuchPath) ∷ (not (is_dir_at (row_at rows p)), refusal.NotADirectory) ∷ []
-
--- a directory that is not empty is deleted only recursively
-abbrev pub delete_causes : List Entry → NPath → Bool → List (Bool × NameRefusal)
-delete_causes rows p recursive = removal_causes rows p ++ (not recursive && has_children rows p, refusal.NotEmpty) ∷ []
+-- A directory that is not empty is deleted only recursively. A directory is not deleted while there is a snapshot of it or of one below.
+abbrev pub delete_causes : List Entry → SnapTable → NPath → Bool → List (Bool × NameRefusal)
+delete_causes rows snaps p recursive = removal_causes rows p ++ (not recursive && has_children rows p, refusal.NotEmpty) ∷ kept_causes rows snaps p
 
 abbrev pub causes : NameState → NameCall → List (Bool × NameRefusal)
 causes s (call.Mkdir p) = mkdir_causes s p
-causes s (call.Delete p recursive) = delete_causes s.table.rows p recursive
-causes s (call.Info p) = info_causes s.table.rows p
-causes s (call.List p) = list_causes s.table.rows p
+causes s (call.Delete p recursive) = delete_causes s.table.rows s.table.snaps p recursive
+causes s (call.Info r) = info_causes s.table r
+causes s (call.List r) = list_causes s.table r
+causes s (call.Allow p) = allow_causes s.table.rows s.table.snaps p
+causes s (call.Disallow p) = disallow_causes s.table.rows s.table.snaps p
+causes s (call.Snap p name) = snap_causes s.table.rows s.table.snaps p name
+causes s (call.Unsnap p name) = unsnap_causes s.table.rows s.table.snaps p name
 causes s call.Zones = []
 
--- why a call is refused before anything is settled: its path begins with `.reserved`, or only the superuser may make the call
+-- Why a call is refused before anything is settled: its path begins with `.reserved`, its name of a snapshot can't be a name, or only
+-- the superuser may make the call.
 
 abbrev pub superuser : List ℕ
 superuser = codes "hdfs"
@@ -51,15 +50,32 @@ superuser = codes "hdfs"
 abbrev pub is_superuser : Text → Bool
 is_superuser user = bytes_eq user superuser
 
+abbrev pub superuser_causes : Text → List (Bool × NameRefusal)
+superuser_causes user = (not (is_superuser user), refusal.NotSuperuser) ∷ []
+
 abbrev pub path_causes : NPath → List (Bool × NameRefusal)
 path_causes p = (starts_reserved p, refusal.BadPath) ∷ []
+
+abbrev pub name_causes : List ℕ → List (Bool × NameRefusal)
+name_causes name = (not (is_component name), refusal.BadPath) ∷ []
+
+abbrev pub part_name_causes : Option SnapPart → List (Bool × NameRefusal)
+part_name_causes None = []
+part_name_causes (Some part) = name_causes part.name
+
+abbrev pub read_path_causes : ReadPath → List (Bool × NameRefusal)
+read_path_causes r = path_causes r.path ++ part_name_causes r.snapshot
 
 abbrev pub early_causes : Text → NameCall → List (Bool × NameRefusal)
 early_causes user (call.Mkdir p) = path_causes p
 early_causes user (call.Delete p recursive) = path_causes p
-early_causes user (call.Info p) = path_causes p
-early_causes user (call.List p) = path_causes p
-early_causes user call.Zones = (not (is_superuser user), refusal.NotSuperuser) ∷ []
+early_causes user (call.Info r) = read_path_causes r
+early_causes user (call.List r) = read_path_causes r
+early_causes user (call.Allow p) = path_causes p ++ superuser_causes user
+early_causes user (call.Disallow p) = path_causes p ++ superuser_causes user
+early_causes user (call.Snap p name) = path_causes p ++ name_causes name
+early_causes user (call.Unsnap p name) = path_causes p ++ name_causes name
+early_causes user call.Zones = superuser_causes user
 
 -- What a call that is not refused does: its answer, its change of the table, and the state in which the change takes effect.
 pub record Deed : Type 0 where
@@ -74,28 +90,25 @@ numbered s = record s { next = s.next + 1 }
 abbrev pub only_answer : NameState → NameReply → Deed
 only_answer s answer = record { answer = answer; logs = None; state = s }
 
--- the path of the zone that a path lies in
-abbrev pub path_of_zone : List Entry → NPath → Option NPath
-path_of_zone rows p = option_map (λ e. e.path) (zone_of rows p)
-
--- the reply for a row: its id, the path of the zone that it lies in, and its own key
-abbrev pub shown : ℕ → Option NPath → Kind → NameReply
-shown id path (Dir key) = reply.Dir id path key
-shown id path (File edek) = reply.File id path edek
-
-abbrev pub shown_at : Option NPath → Option Row → NameReply
-shown_at path None = reply.Refused refusal.NoSuchPath
-shown_at path (Some row) = shown row.id path row.kind
-
-abbrev pub info_reply : List Entry → NPath → NameReply
-info_reply rows p = shown_at (path_of_zone rows p) (row_at rows p)
+-- a change that uses no id
+abbrev pub only_logs : NameState → EditOp → Deed
+only_logs s op = record { answer = reply.Done; logs = Some op; state = s }
 
 abbrev pub deed : NameState → NameCall → Deed
 deed s (call.Mkdir p) = record { answer = reply.Done; logs = Some (op.Mkdir (next_id s) p); state = numbered s }
-deed s (call.Delete p recursive) = record { answer = reply.Done; logs = Some (op.Remove p); state = s }
-deed s (call.Info p) = only_answer s (info_reply s.table.rows p)
-deed s (call.List p) = only_answer s (reply.List (children s.table.rows p))
+deed s (call.Delete p recursive) = only_logs s (op.Remove p)
+deed s (call.Info r) = only_answer s (info_reply s.table r)
+deed s (call.List r) = only_answer s (list_reply s.table r)
+deed s (call.Allow p) = only_logs s (op.Allow p)
+deed s (call.Disallow p) = only_logs s (op.Disallow p)
+deed s (call.Snap p name) = only_logs s (op.Snap p name)
+deed s (call.Unsnap p name) = only_logs s (op.Unsnap p name)
 deed s call.Zones = only_answer s (reply.Zones (zone_paths s.table.rows))
+
+-- how many ids a change uses
+abbrev pub ids_used : NameCall → ℕ
+ids_used (call.Mkdir p) = 1
+ids_used _ = 0
 
 abbrev pub done_with : Option EditOp → NameState → NameState
 done_with None s = s
@@ -121,11 +134,8 @@ pub data Ending : Type 0 where
 
 -- the calls that allocate: a change its record, each list itself, and an info the path of a zone
 abbrev pub takes_memory : NameState → NameCall → Bool
-takes_memory s (call.Mkdir p) = true
-takes_memory s (call.Delete p recursive) = true
-takes_memory s (call.Info p) = is_some (path_of_zone s.table.rows p)
-takes_memory s (call.List p) = true
-takes_memory s call.Zones = true
+takes_memory s (call.Info r) = is_some (zone_read s.table r)
+takes_memory s _ = true
 
 -- memory may run out only if the call allocates and no other refusal applies
 abbrev pub MayEnd : NameState → NameCall → Ending → Type 0

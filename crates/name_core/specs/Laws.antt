@@ -1,5 +1,5 @@
 -- Properties of what was made or deleted, of ids, and of asks that were finished.
-use Rattle.std.specs.Prelude.{◌≡◌, ℕ, ◌<◌, ◌⊎◌, Bool, true, false, List, [], ◌∷◌, ◌++◌, Option, None, Some, Result, Ok, Err, bytes_eq, is_some}
+use Rattle.std.specs.Prelude.{◌≡◌, ℕ, ◌<◌, ◌⊎◌, ◌&&◌, ◌==◌, Bool, true, false, List, [], ◌∷◌, ◌++◌, Option, None, Some, IfSome, Result, Ok, Err, bytes_eq, is_some}
 use Rattle.std.specs.List.{list_any}
 use Rattle.hk_base.specs.declared.names.Edek.{Edek}
 use Rattle.hk_base.specs.declared.names.KeyName.{KeyName}
@@ -7,9 +7,14 @@ use Rattle.hk_base.specs.declared.texts.Text.{Text}
 use Rattle.name_calls.specs.declared.listing.Child.{Child}
 use Rattle.name_calls.specs.declared.paths.NPath.{NPath}
 use Rattle.name_calls.specs.Paths.{is_prefix, parent}
-use Rattle.inode_tree.specs.Rows.{IsRows, row_at, zone_id}
+use Rattle.name_calls.specs.ReadPaths.{as_it_is, as_it_was}
+use Rattle.name_calls.specs.declared.read_paths.ReadPath.{ReadPath}
+use Rattle.inode_tree.specs.Rows.{Entry, IsRows, row_at, zone_id}
+use Rattle.snap_store.specs.Snapshots.{Snapshot, snapshot_named}
 use Rattle.edit_ops.specs.declared.ops.EditOp.{EditOp}
-use Rattle.name_store.specs.Table.{id_of}
+use Rattle.edit_ops.specs.declared.ops.EditOp.TheVariants as op
+use Rattle.name_store.specs.Causes.{first_cause, id_at, unsnap_causes}
+use Rattle.name_store.specs.Table.{IsTable, NameTable, after_table, allows}
 use Rattle.name_calls.specs.declared.calls.Ask.{Ask}
 use Rattle.name_calls.specs.declared.calls.Ask.TheVariants as ask
 use Rattle.name_calls.specs.declared.calls.AskNote.{AskNote}
@@ -21,9 +26,10 @@ use Rattle.name_calls.specs.declared.calls.NameReply.TheVariants as reply
 use Rattle.name_calls.specs.declared.calls.NameRefusal.{NameRefusal}
 use Rattle.name_calls.specs.declared.calls.NameRefusal.TheVariants as refusal
 use Rattle.name_core.specs.declared.asks.OpenAsk.{OpenAsk}
-use Rattle.name_core.specs.State.{IsNames, NameService, NameState, next_id}
+use Rattle.name_core.specs.State.{IsNames, NameService, NameState, next_id, settled}
 use Rattle.name_core.specs.Asks.{Asks, Finishes, ask_gone, open_ask}
-use Rattle.name_core.specs.Calls.{NameActs, info_reply, path_of_zone}
+use Rattle.name_core.specs.Calls.{NameActs, deed}
+use Rattle.name_core.specs.Reads.{info_answer, info_reply, list_answer, path_of_zone, path_read, rows_read}
 use Rattle.name_core.specs.Service.{FinishServes, Serves}
 use Rattle.name_core.specs.Steps.{Keeps}
 
@@ -33,20 +39,20 @@ use Rattle.name_core.specs.Steps.{Keeps}
 abbrev pub MadeIsTold : Type 0
 MadeIsTold =
     (s : NameState) (p : NPath) (s' : NameState) (told : NameReply) (s'' : NameState)
-    → NameActs s (call.Mkdir p) reply.Done s' → NameActs s' (call.Info p) told s''
+    → NameActs s (call.Mkdir p) reply.Done s' → NameActs s' (call.Info (as_it_is p)) told s''
     → (told ≡ reply.Refused refusal.NoMemory) ⊎ (told ≡ reply.Dir (next_id s) (path_of_zone s.table.rows (parent p)) None)
 
 -- info of another path is unchanged
 abbrev pub OthersStay : Type 0
 OthersStay =
     (s : NameState) (p : NPath) (s' : NameState) (q : NPath)
-    → NameActs s (call.Mkdir p) reply.Done s' → (q ≡ p → ⊥) → info_reply s'.table.rows q ≡ info_reply s.table.rows q
+    → NameActs s (call.Mkdir p) reply.Done s' → (q ≡ p → ⊥) → info_reply s'.table (as_it_is q) ≡ info_reply s.table (as_it_is q)
 
 -- info of a file that was made returns the id of its ask, the zone of its parent, and the given encrypted key, unless memory runs out
 abbrev pub FileIsTold : Type 0
 FileIsTold =
     (s : NameState) (a : OpenAsk) (p : NPath) (edek : Option Edek) (s' : NameState) (told : NameReply) (s'' : NameState)
-    → a.ask ≡ ask.Create p → Finishes s a edek (Ok tt) s' → NameActs s' (call.Info p) told s''
+    → a.ask ≡ ask.Create p → Finishes s a edek (Ok tt) s' → NameActs s' (call.Info (as_it_is p)) told s''
     → (told ≡ reply.Refused refusal.NoMemory) ⊎ (told ≡ reply.File a.id (path_of_zone s.table.rows (parent p)) edek)
 
 -- that zone is the one under which the file was asked for, or there was none and is none
@@ -59,14 +65,14 @@ ZoneIsAsAsked =
 abbrev pub OthersStayByFile : Type 0
 OthersStayByFile =
     (s : NameState) (a : OpenAsk) (p : NPath) (edek : Option Edek) (s' : NameState) (q : NPath)
-    → a.ask ≡ ask.Create p → Finishes s a edek (Ok tt) s' → (q ≡ p → ⊥) → info_reply s'.table.rows q ≡ info_reply s.table.rows q
+    → a.ask ≡ ask.Create p → Finishes s a edek (Ok tt) s' → (q ≡ p → ⊥) → info_reply s'.table (as_it_is q) ≡ info_reply s.table (as_it_is q)
 
 -- info of a directory that was made a zone returns the id that it had, itself as its zone, and the key of the ask, unless memory runs out
 abbrev pub ZoneIsTold : Type 0
 ZoneIsTold =
     (s : NameState) (a : OpenAsk) (p : NPath) (key : KeyName) (edek : Option Edek) (s' : NameState) (told : NameReply) (s'' : NameState)
-    → IsRows s.table.rows → a.ask ≡ ask.Zone p key → Finishes s a edek (Ok tt) s' → NameActs s' (call.Info p) told s''
-    → (told ≡ reply.Refused refusal.NoMemory) ⊎ (told ≡ reply.Dir (id_of (row_at s.table.rows p)) (Some p) (Some key))
+    → IsRows s.table.rows → a.ask ≡ ask.Zone p key → Finishes s a edek (Ok tt) s' → NameActs s' (call.Info (as_it_is p)) told s''
+    → (told ≡ reply.Refused refusal.NoMemory) ⊎ (told ≡ reply.Dir (id_at s.table.rows p) (Some p) (Some key))
 
 -- what was deleted is gone
 
@@ -74,19 +80,19 @@ ZoneIsTold =
 abbrev pub DeletedIsGone : Type 0
 DeletedIsGone =
     (s : NameState) (p : NPath) (recursive : Bool) (s' : NameState) (q : NPath) (told : NameReply) (s'' : NameState)
-    → NameActs s (call.Delete p recursive) reply.Done s' → is_prefix p q ≡ true → NameActs s' (call.Info q) told s'' → told ≡ reply.Refused refusal.NoSuchPath
+    → NameActs s (call.Delete p recursive) reply.Done s' → is_prefix p q ≡ true → NameActs s' (call.Info (as_it_is q)) told s'' → told ≡ reply.Refused refusal.NoSuchPath
 
 -- info of another path is unchanged
 abbrev pub OthersStayByDelete : Type 0
 OthersStayByDelete =
     (s : NameState) (p : NPath) (recursive : Bool) (s' : NameState) (q : NPath)
-    → NameActs s (call.Delete p recursive) reply.Done s' → is_prefix p q ≡ false → info_reply s'.table.rows q ≡ info_reply s.table.rows q
+    → NameActs s (call.Delete p recursive) reply.Done s' → is_prefix p q ≡ false → info_reply s'.table (as_it_is q) ≡ info_reply s.table (as_it_is q)
 
--- a list has a name exactly if the directory has an entry of that name
+-- A list has a name exactly if the directory has an entry of that name. In a snapshot, if the directory had one then.
 abbrev pub ListTellsChildren : Type 0
 ListTellsChildren =
-    (s : NameState) (p : NPath) (list : List Child) (s' : NameState) (name : List ℕ)
-    → NameActs s (call.List p) (reply.List list) s' → list_any (λ (c : Child). bytes_eq c.name name) list ≡ is_some (row_at s.table.rows (p ++ name ∷ []))
+    (s : NameState) (r : ReadPath) (list : List Child) (s' : NameState) (name : List ℕ)
+    → NameActs s (call.List r) (reply.List list) s' → list_any (λ (c : Child). bytes_eq c.name name) list ≡ is_some (row_at (rows_read s.table r) (path_read r ++ name ∷ []))
 
 -- ids rise
 
@@ -143,3 +149,72 @@ FinishedForGood =
     (given' : KeyAnswer) (told' : Result (Unit {0}) NameRefusal) (logged' : List EditOp) (t' : NameService)
     → IdsBelowNext s → open_ask s.names.asks id ≡ Some a → FinishServes s id given AnyFault told logged s' → (told ≡ Err refusal.NoMemory → ⊥)
     → Reaches s' between t → FinishServes t id given' AnyFault told' logged' t' → (told' ≡ Err (ask_gone t.names)) × (t' ≡ t)
+
+-- snapshots
+
+-- the operation removes the snapshot of the directory with the id that has the name
+abbrev pub removes_snapshot : ℕ → List ℕ → List Entry → EditOp → Bool
+removes_snapshot dir name rows (op.Unsnap p n) = dir == id_at rows p && bytes_eq name n
+removes_snapshot dir name rows _ = false
+
+-- what a snapshot has never changes while it exists
+abbrev pub SnapshotsStay : Type 0
+SnapshotsStay =
+    (t : NameTable) (o : EditOp) (dir : ℕ) (name : List ℕ) (was : Snapshot)
+    → allows t o ≡ true → removes_snapshot dir name t.rows o ≡ false → snapshot_named t.snaps.taken dir name ≡ Some was
+    → snapshot_named (after_table t o).snaps.taken dir name ≡ Some was
+
+-- nor do the answers to info and list in it, whose zones are found in the table as well
+abbrev pub SnapshotsTellTheSame : Type 0
+SnapshotsTellTheSame =
+    (t : NameTable) (o : EditOp) (p : NPath) (name : Text) (below : NPath)
+    → IsTable t → allows t o ≡ true → removes_snapshot (id_at t.rows p) name t.rows o ≡ false → first_cause (unsnap_causes t.rows t.snaps p name) ≡ None
+    → (info_answer (after_table t o) (as_it_was p name below) ≡ info_answer t (as_it_was p name below)) × (list_answer (after_table t o) (as_it_was p name below) ≡ list_answer t (as_it_was p name below))
+
+-- the pending operation does not remove the snapshot
+abbrev pub IsNotPending : NameService → ℕ → List ℕ → Type 0
+IsNotPending s dir name = IfSome s.pending (λ o. removes_snapshot dir name s.names.table.rows o ≡ false)
+
+-- nor does settling the pending operation change a snapshot that it does not remove
+abbrev pub SettlingKeepsSnapshots : Type 0
+SettlingKeepsSnapshots =
+    (s : NameService) (kept : Bool) (dir : ℕ) (name : List ℕ) (was : Snapshot)
+    → IsNames s → IsNotPending s dir name → snapshot_named s.names.table.snaps.taken dir name ≡ Some was
+    → snapshot_named (settled kept s).table.snaps.taken dir name ≡ Some was
+
+-- the operation of a call does not remove the snapshot, whether the pending one is kept or dropped before it
+abbrev pub IsNotCalled : NameService → NameCall → ℕ → List ℕ → Type 0
+IsNotCalled s c dir name = (kept : Bool) → IfSome (deed (settled kept s) c).logs (λ o. removes_snapshot dir name (settled kept s).table.rows o ≡ false)
+
+abbrev pub DoesNotRemove : (s s' : NameService) → ℕ → List ℕ → IsStep s s' → Type 0
+DoesNotRemove s s' dir name (Called user c told logged serves) = IsNotCalled s c dir name
+DoesNotRemove s s' dir name (Asked user a told asks same) = Unit {0}
+DoesNotRemove s s' dir name (Finished id given told logged serves) = Unit {0}
+
+-- a call, an ask or a finish changes no snapshot that neither it nor the pending operation removes
+abbrev pub StepsKeepSnapshots : Type 0
+StepsKeepSnapshots =
+    (s s' : NameService) (step : IsStep s s') (dir : ℕ) (name : List ℕ) (was : Snapshot)
+    → IsNames s → IsNotPending s dir name → DoesNotRemove s s' dir name step → snapshot_named s.names.table.snaps.taken dir name ≡ Some was
+    → snapshot_named s'.names.table.snaps.taken dir name ≡ Some was
+
+-- Info of an entry of a snapshot that was taken returns what info of the entry itself returned, and a list of one of its directories what
+-- a list of the directory itself returned, unless memory runs out.
+
+abbrev pub SnapshotIsTold : Type 0
+SnapshotIsTold =
+    (s : NameState) (p : NPath) (name : Text) (s' : NameState) (below : NPath) (told : NameReply) (s'' : NameState)
+    → IsRows s.table.rows → NameActs s (call.Snap p name) reply.Done s' → NameActs s' (call.Info (as_it_was p name below)) told s''
+    → (told ≡ reply.Refused refusal.NoMemory) ⊎ (told ≡ info_reply s.table (as_it_is (p ++ below)))
+
+abbrev pub SnapshotIsListed : Type 0
+SnapshotIsListed =
+    (s : NameState) (p : NPath) (name : Text) (s' : NameState) (below : NPath) (told : NameReply) (s'' : NameState)
+    → IsRows s.table.rows → NameActs s (call.Snap p name) reply.Done s' → NameActs s' (call.List (as_it_was p name below)) told s''
+    → (told ≡ reply.Refused refusal.NoMemory) ⊎ (told ≡ list_answer s.table (as_it_is (p ++ below)))
+
+-- after a snapshot was removed, info in it is refused with NoSuchSnapshot
+abbrev pub UnsnapIsGone : Type 0
+UnsnapIsGone =
+    (s : NameState) (p : NPath) (name : Text) (s' : NameState) (below : NPath) (told : NameReply) (s'' : NameState)
+    → NameActs s (call.Unsnap p name) reply.Done s' → NameActs s' (call.Info (as_it_was p name below)) told s'' → told ≡ reply.Refused refusal.NoSuchSnapshot

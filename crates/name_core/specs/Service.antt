@@ -22,11 +22,10 @@ use Rattle.name_core.specs.Asks.{Finishes, ask_gone, closed, finish_causes, fini
 
 -- The calls that change the table. Each settles the pending operation first; the others answer from the table without it.
 abbrev pub is_change : NameCall → Bool
-is_change (call.Mkdir p) = true
-is_change (call.Delete p recursive) = true
-is_change (call.Info p) = false
-is_change (call.List p) = false
+is_change (call.Info r) = false
+is_change (call.List r) = false
 is_change call.Zones = false
+is_change _ = true
 
 abbrev pub listed : Option EditOp → List EditOp
 listed None = []

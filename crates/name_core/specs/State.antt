@@ -2,10 +2,10 @@
 use Rattle.std.specs.Prelude.{◌≡◌, ℕ, ◌+◌, ◌*◌, ◌^◌, ◌<◌, ◌≤◌, ⊤, Bool, false, ◌||◌, nat_le, List, [], ◌∷◌, Option, None, IfSome}
 use Rattle.std.specs.List.{All, AllByRecursion}
 use Rattle.hk_base.specs.Disk.{DiskState}
-use Rattle.inode_tree.specs.Rows.{Entry, IsRows, entry_of}
+use Rattle.inode_tree.specs.Rows.{Entry, entry_of}
 use Rattle.edit_ops.specs.declared.ops.EditOp.{EditOp}
 use Rattle.name_store.specs.Causes.{has_most_rows}
-use Rattle.name_store.specs.Table.{NameTable, after_table, is_among, next_opening, settled_table, uses}
+use Rattle.name_store.specs.Table.{IsTable, NameTable, after_table, is_among, next_opening, settled_table, uses}
 use Rattle.name_store.specs.Replay.{AllBelow}
 use Rattle.name_store.specs.Store.{IsPending, StoreState}
 use Rattle.name_store.specs.Store as store
@@ -86,11 +86,11 @@ pub record IsWaiting (s : NameState) (op : EditOp) : Type 0 where
   pub below : AllBelow (next_id s) (uses op)
   pub free : AreFree (uses op) s.asks
 
--- What is true of each namesystem: rows and the pending operation keep their rules, and ids in use are below the next one.
+-- What is true of each namesystem: the table and the pending operation keep their rules, and ids in use are below the next one.
 pub record IsNames (s : NameService) : Type 0 where
   pub opened : 0 < s.names.table.opening
   pub few : s.names.next ≤ 2 ^ 32
-  pub rows : IsRows s.names.table.rows
+  pub table : IsTable s.names.table
   pub ids : IdsFit s.names.table.rows s.names.asks (next_id s.names)
   pub recent : AreRecent s.names.table.opening s.names.asks
   pub waits : IfSome s.pending (IsWaiting s.names)

@@ -4,10 +4,9 @@ use Rattle.std.specs.List.{AllByRecursion}
 use Rattle.hk_base.specs.Disk.{DiskState, Tells, RunOn, LeavesOnly}
 use Rattle.hk_base.specs.Faults.{Rose}
 use Rattle.hk_base.specs.declared.names.Edek.{Edek}
+use Rattle.hk_base.specs.declared.texts.Text.{Text}
 use Rattle.frame_log.specs.declared.fault.StoreRefusal.{StoreRefusal}
 use Rattle.frame_log.specs.declared.fault.StoreRefusal.TheVariants as store
-use Rattle.name_calls.specs.declared.paths.NPath.{NPath}
-use Rattle.inode_tree.specs.Rows.{Entry}
 use Rattle.edit_ops.specs.Records.{HasSpelling, fits}
 use Rattle.edit_ops.specs.declared.ops.EditOp.{EditOp}
 use Rattle.name_store.specs.Replay.{AllBelow, Applies}
@@ -21,13 +20,14 @@ use Rattle.name_calls.specs.declared.calls.NameRefusal.{NameRefusal}
 use Rattle.name_calls.specs.declared.calls.NameRefusal.TheVariants.{NoMemory, StoreFault}
 use Rattle.name_core.specs.State.{AreFree, AreRecent, IdsFit, NameService, NameState, RunningNames, StandsFor, names_of, next_id, service_of, settled}
 use Rattle.name_core.specs.Asks.{finish_causes, finish_op}
-use Rattle.name_core.specs.Calls.{causes, deed, done_with, first_cause, info_causes, info_reply, path_of_zone}
+use Rattle.name_core.specs.Calls.{causes, deed, done_with, early_causes, first_cause}
+use Rattle.name_core.specs.Reads.{answer_unless}
 use Rattle.name_core.specs.Service.{Changes, Concludes, OwnOf, ServesBy, acknowledged}
 
--- the reply of info at the path, or memory ran out for the path of its zone
-abbrev pub TellsOf : List Entry → NPath → NameReply → Type 0
-TellsOf rows p told =
-    (told ≡ info_reply rows p) ⊎ ((told ≡ Refused NoMemory) × (is_some (path_of_zone rows p) ≡ true) × (first_cause (info_causes rows p) ≡ None))
+-- A read answers this, or is refused for the first of its causes. If it allocates and has no cause, memory may run out.
+abbrev pub Answers : Bool → List (Bool × NameRefusal) → NameReply → NameReply → Type 0
+Answers takes causes answer told =
+    (told ≡ answer_unless (first_cause causes) answer) ⊎ ((told ≡ Refused NoMemory) × (takes ≡ true) × (first_cause causes ≡ None))
 
 -- each ask is kept under its id
 abbrev pub AreKeyed : List (ℕ × OpenAsk) → Type 0
@@ -135,6 +135,10 @@ told_of (Err why) = Refused (refusal_of why)
 abbrev pub finish_told : Result (Unit {0}) StoreRefusal → Result (Unit {0}) NameRefusal
 finish_told (Ok done) = Ok done
 finish_told (Err why) = Err (refusal_of why)
+
+-- some user may make the call
+abbrev pub MayBegin : NameCall → Type 0
+MayBegin c = (user : Text) × (first_cause (early_causes user c) ≡ None)
 
 -- a change that is not refused before anything is settled
 pub record ActsOn (old new : DiskState) (r : RunningNames) (c : NameCall) (told : NameReply) (r' : RunningNames) : Type 0 where

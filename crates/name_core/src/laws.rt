@@ -1,6 +1,6 @@
-//! Laws about directories, files and zones that were made, about deleted paths, about ids, and
-//! about finished asks. The functions do nothing: their contracts state the laws.
-ghost use Rattle.name_core.specs.Laws.{AskIdsRise, DeletedIsGone, FileIsTold, FinishedForGood, FinishedOnce, IdsRise, IdsStayBelow, ListTellsChildren, MadeIsTold, NamesKeepIds, OthersStay, OthersStayByDelete, OthersStayByFile, ZoneIsAsAsked, ZoneIsTold};
+//! Laws about directories, files and zones that were made, about deleted paths, about snapshots,
+//! about ids, and about finished asks. The functions do nothing: their contracts state the laws.
+ghost use Rattle.name_core.specs.Laws.{AskIdsRise, DeletedIsGone, FileIsTold, FinishedForGood, FinishedOnce, IdsRise, IdsStayBelow, ListTellsChildren, MadeIsTold, NamesKeepIds, OthersStay, OthersStayByDelete, OthersStayByFile, SettlingKeepsSnapshots, SnapshotIsListed, SnapshotIsTold, SnapshotsStay, SnapshotsTellTheSame, StepsKeepSnapshots, UnsnapIsGone, ZoneIsAsAsked, ZoneIsTold};
 
 /// After a directory was made, `Info` on its path returns the next id, the zone that its parent
 /// lies in, and no key, unless it returns `NoMemory`. The answer for each other path stays the
@@ -32,9 +32,33 @@ pub fn deleted_paths_are_gone()
     ensures others { OthersStayByDelete }
 {}
 
-/// A list contains a name if and only if the directory has an entry with that name.
+/// A list contains a name if and only if the directory has an entry with that name. The same is
+/// true in a snapshot.
 pub fn lists_tell_what_lies_in_a_directory()
     ensures { ListTellsChildren }
+{}
+
+/// What a snapshot has never changes while it exists: no other operation that the table allows
+/// changes it, nor what `Info` and `List` in it return. Neither does settling the pending
+/// operation, nor any call, ask or finish, whatever it answers and whenever its disk fails.
+pub fn snapshots_stay()
+    ensures operations { SnapshotsStay }
+    ensures answers { SnapshotsTellTheSame }
+    ensures settling { SettlingKeepsSnapshots }
+    ensures steps { StepsKeepSnapshots }
+{}
+
+/// After a snapshot was taken, `Info` of an entry of it returns the id, the zone, and the key or
+/// encrypted key that `Info` of the entry itself returned, and `List` the same entries, unless they
+/// return `NoMemory`.
+pub fn taken_snapshots_are_told()
+    ensures info { SnapshotIsTold }
+    ensures list { SnapshotIsListed }
+{}
+
+/// After a snapshot was removed, `Info` in it returns `NoSuchSnapshot`.
+pub fn removed_snapshots_are_gone()
+    ensures { UnsnapIsGone }
 {}
 
 /// Making a directory and accepting an ask raise the next id. In every namesystem the next id is

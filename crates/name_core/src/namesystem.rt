@@ -11,21 +11,25 @@ ghost use Rattle.name_store.specs.Store.{IsDamagedAt, IsLeftByStart, IsNameLog};
 ghost use Rattle.name_core.specs.State.{IsNames, StandsFor, is_full, is_spent, names_of, next_id, service_of};
 ghost use Rattle.name_calls.specs.Answers.{answer_of};
 ghost use Rattle.name_core.specs.Asks.{Asks, ask_causes, ask_gone, closed, finish_causes, finish_op, open_ask, opened, without};
-ghost use Rattle.name_core.specs.Calls.{NameActs, delete_causes, first_cause, mkdir_causes};
-ghost use Rattle.name_core.specs.Service.{Acts, FinishActs, Starts};
+ghost use Rattle.name_core.specs.Calls.{NameActs, causes, deed, first_cause, mkdir_causes};
+ghost use Rattle.name_core.specs.Service.{Acts, FinishActs, Starts, is_change};
 ghost use Rattle.name_core.specs.declared.asks.OpenAsk.{OpenAsk};
-ghost use Rattle.name_core.specs.Steps.{ActsOn, ActsSettled, FinishesSettled, IsUnsettled, MayWrite, Settling, Writes, finish_told, refusal_of, told_of};
+ghost use Rattle.name_core.specs.Steps.{ActsOn, ActsSettled, FinishesSettled, IsUnsettled, MayBegin, MayWrite, Settling, Writes, finish_told, refusal_of, told_of};
 
 use crate::asks::{OpenAsk, OpenAsks};
+use crate::reads::{info, list};
 use crate::rules::{
-    early_refusal, finish_op, info, is_superuser, path_asked, path_refusal, to_be_deleted,
-    to_be_finished, to_be_listed, wanted,
+    early_refusal, finish_op, ids_used, is_change, is_superuser, path_asked, path_refusal,
+    to_be_deleted, to_be_finished, wanted,
 };
 use edit_ops::EditOp;
 use frame_log::{StartFault, StoreRefusal};
 use hk_base::{Disk, Edek, KeyName, NoMemory, Text};
 use name_calls::{Answered, Ask, AskNote, KeyAnswer, NPath, NameCall, NameRefusal, NameReply};
-use name_store::{NameStore, has_most_rows, to_be_made, to_be_zone};
+use name_store::{
+    NameStore, has_most_rows, to_be_allowed, to_be_disallowed, to_be_made, to_be_snapped,
+    to_be_unsnapped, to_be_zone,
+};
 use std::alloc::Global;
 use std::marker::Model;
 
@@ -119,13 +123,18 @@ impl Name {
         }
     }
 
+    /// Does nothing: its contract says what is always true of the namesystem, and that its log is
+    /// on file 1.
+    pub fn invariants(&self)
+        ensures names { IsNames (service_of self.now) }
+        ensures file { self.now.store.log.log.file ≡ 1 }
+    {
+        let _ = self.store.tree();
+    }
+
     /// Returns how many directories and files there are, including the root.
     pub fn count(&self) -> u32
-        ensures count { result ≡ length self.now.store.table.rows }
-        // The invariant of the namesystem.
-        ensures rules { IsNames (service_of self.now) }
-        // The log is on file 1.
-        ensures file { self.now.store.log.log.file ≡ 1 }
+        ensures { result ≡ length self.now.store.table.rows }
     {
         self.store.tree().rows()
     }
@@ -148,31 +157,22 @@ impl Name {
         if let Some(why) = early_refusal(user, &call) {
             return NameReply::Refused(why);
         }
+        if is_change(&call) {
+            return self.change(disk, call);
+        }
+        self.read(&call)
+    }
+
+    /// Answers a call that changes nothing.
+    fn read(&self, call: &NameCall) -> NameReply
+        requires { is_change call.now ≡ false }
+        ensures { NameActs (names_of self.now) call.now result (names_of self.now) }
+    {
         match call {
-            NameCall::Mkdir { path } => self.mkdir(disk, path),
-            NameCall::Delete { path, recursive } => self.delete(disk, path, recursive),
-            NameCall::Info { path } => self.info(&path),
-            NameCall::List { path } => self.list(&path),
+            NameCall::Info { path } => info(self.alloc, &self.store, path),
+            NameCall::List { path } => list(&self.store, path),
             NameCall::Zones => self.zones(),
-        }
-    }
-
-    fn info(&self, path: &NPath) -> NameReply
-        ensures { NameActs (names_of self.now) (NameCall.Info path.now) result (names_of self.now) }
-    {
-        info(self.store.tree(), path)
-    }
-
-    fn list(&self, path: &NPath) -> NameReply
-        ensures { NameActs (names_of self.now) (NameCall.List path.now) result (names_of self.now) }
-    {
-        let tree = self.store.tree();
-        if let Some(why) = to_be_listed(tree, path) {
-            return NameReply::Refused(why);
-        }
-        match tree.list(path) {
-            Err(NoMemory) => NameReply::Refused(NameRefusal::NoMemory),
-            Ok(children) => NameReply::List(children),
+            _ => unreachable!(),
         }
     }
 
@@ -195,32 +195,72 @@ impl Name {
         self.store.settle(disk)
     }
 
-    fn mkdir<D: Disk>(&mut self, disk: &mut D, path: NPath) -> NameReply
-        requires path { starts_reserved path ≡ false }
+    /// Answers a change, after the pending operation was settled.
+    fn change<D: Disk>(&mut self, disk: &mut D, call: NameCall) -> NameReply
+        requires change { is_change call ≡ true }
+        requires begins { MayBegin call }
         requires stands { Tells (D.state disk.old) → ((ops : List EditOp) × StandsFor (D.state disk.old) self.old ops) }
-        ensures { ActsOn (D.state disk.old) (D.state disk.new) self.old (NameCall.Mkdir path) result self.new }
+        ensures { ActsOn (D.state disk.old) (D.state disk.new) self.old call result self.new }
     {
         match self.settle(disk) {
             Err(_) => NameReply::Refused(NameRefusal::StoreFault),
-            Ok(()) => self.mkdir_settled(disk, path),
+            Ok(()) => self.change_settled(disk, call),
         }
     }
 
-    /// Makes a directory while nothing is pending.
-    fn mkdir_settled<D: Disk>(&mut self, disk: &mut D, path: NPath) -> NameReply
-        requires path { starts_reserved path ≡ false }
+    /// Answers a change while nothing is pending.
+    fn change_settled<D: Disk>(&mut self, disk: &mut D, call: NameCall) -> NameReply
+        requires change { is_change call ≡ true }
+        requires begins { MayBegin call }
         requires settled { self.old.store.log.pending ≡ None }
         requires stands { Tells (D.state disk.old) → ((ops : List EditOp) × StandsFor (D.state disk.old) self.old ops) }
-        ensures { ActsSettled (D.state disk.old) (D.state disk.new) self.old (NameCall.Mkdir path) result self.new }
+        ensures { ActsSettled (D.state disk.old) (D.state disk.new) self.old call result self.new }
     {
-        // The invariant of the namesystem.
-        let _ = self.count();
-        if let Some(why) = self.mkdir_refusal(&path) {
+        self.invariants();
+        if let Some(why) = self.change_refusal(&call) {
             return NameReply::Refused(why);
         }
-        let id = self.next_id();
-        let op = EditOp::Mkdir { id, path };
-        told(self.write(disk, &op, 1))
+        let ids = ids_used(&call);
+        let op = self.op_of(call);
+        told(self.write(disk, &op, ids))
+    }
+
+    /// Returns why a change is refused while nothing is pending.
+    fn change_refusal(&self, call: &NameCall) -> Option<NameRefusal>
+        requires { is_change call.now ≡ true }
+        ensures { result ≡ first_cause (causes (names_of self.now) call.now) }
+    {
+        let tree = self.store.tree();
+        let snaps = self.store.snaps();
+        match call {
+            NameCall::Mkdir { path } => self.mkdir_refusal(path),
+            NameCall::Delete { path, recursive } => to_be_deleted(tree, snaps, path, *recursive),
+            NameCall::Allow { path } => to_be_allowed(tree, snaps, path),
+            NameCall::Disallow { path } => to_be_disallowed(tree, snaps, path),
+            NameCall::Snap { path, name } => to_be_snapped(tree, snaps, path, name),
+            NameCall::Unsnap { path, name } => to_be_unsnapped(tree, snaps, path, name),
+            _ => unreachable!(),
+        }
+    }
+
+    /// Returns the operation of a change that is not refused.
+    fn op_of(&self, call: NameCall) -> EditOp
+        requires change { is_change call ≡ true }
+        requires free { first_cause (causes (names_of self.now) call) ≡ None }
+        ensures { (deed (names_of self.now) call).logs ≡ Some result }
+    {
+        match call {
+            NameCall::Mkdir { path } => EditOp::Mkdir {
+                id: self.next_id(),
+                path,
+            },
+            NameCall::Delete { path, .. } => EditOp::Remove { path },
+            NameCall::Allow { path } => EditOp::Allow { path },
+            NameCall::Disallow { path } => EditOp::Disallow { path },
+            NameCall::Snap { path, name } => EditOp::Snap { path, name },
+            NameCall::Unsnap { path, name } => EditOp::Unsnap { path, name },
+            _ => unreachable!(),
+        }
     }
 
     fn mkdir_refusal(&self, path: &NPath) -> Option<NameRefusal>
@@ -252,39 +292,6 @@ impl Name {
         ensures { result ≡ next_id (names_of self.now) }
     {
         self.store.opening() as u64 * IDS + self.next
-    }
-
-    fn delete<D: Disk>(&mut self, disk: &mut D, path: NPath, recursive: bool) -> NameReply
-        requires path { starts_reserved path ≡ false }
-        requires stands { Tells (D.state disk.old) → ((ops : List EditOp) × StandsFor (D.state disk.old) self.old ops) }
-        ensures { ActsOn (D.state disk.old) (D.state disk.new) self.old (NameCall.Delete path recursive) result self.new }
-    {
-        match self.settle(disk) {
-            Err(_) => NameReply::Refused(NameRefusal::StoreFault),
-            Ok(()) => self.delete_settled(disk, path, recursive),
-        }
-    }
-
-    /// Deletes the entry at a path while nothing is pending.
-    fn delete_settled<D: Disk>(&mut self, disk: &mut D, path: NPath, recursive: bool) -> NameReply
-        requires path { starts_reserved path ≡ false }
-        requires settled { self.old.store.log.pending ≡ None }
-        requires stands { Tells (D.state disk.old) → ((ops : List EditOp) × StandsFor (D.state disk.old) self.old ops) }
-        ensures { ActsSettled (D.state disk.old) (D.state disk.new) self.old (NameCall.Delete path recursive) result self.new }
-    {
-        // The invariant of the namesystem.
-        let _ = self.count();
-        if let Some(why) = self.delete_refusal(&path, recursive) {
-            return NameReply::Refused(why);
-        }
-        let op = EditOp::Remove { path };
-        told(self.write(disk, &op, 0))
-    }
-
-    fn delete_refusal(&self, path: &NPath, recursive: bool) -> Option<NameRefusal>
-        ensures { result ≡ first_cause (delete_causes self.now.store.table.rows path.now recursive) }
-    {
-        to_be_deleted(self.store.tree(), path, recursive)
     }
 
     /// Writes the operation of a call after all checks, while nothing is pending. Uses up `ids` ids
@@ -473,8 +480,7 @@ impl Name {
         requires stands { Tells (D.state disk.old) → ((ops : List EditOp) × StandsFor (D.state disk.old) self.old ops) }
         ensures { (ask : OpenAsk) → open_ask self.old.asks id ≡ Some ask → FinishesSettled (D.state disk.old) (D.state disk.new) self.old ask edek result self.new }
     {
-        // The invariant of the namesystem.
-        let _ = self.count();
+        self.invariants();
         if let Some(why) = self.finish_refusal(id, &edek) {
             self.close(id);
             return Err(why);

@@ -1,17 +1,19 @@
-//! Answers and refusals for a path, from the rows of a tree.
-ghost use Rattle.std.specs.Prelude.{◌≡◌, ℕ, IfOk, IsTrue, MatchResult, Option, Some, is_some};
+//! Why calls are refused, from the rows of a tree and its snapshots.
+ghost use Rattle.std.specs.Prelude.{◌≡◌, ◌++◌, ℕ, IfOk, Option};
 ghost use Rattle.name_calls.specs.Paths.{starts_reserved};
 ghost use Rattle.name_store.specs.Causes.{first_cause};
 ghost use Rattle.name_core.specs.Asks.{finish_causes, finish_op, is_other_key, is_other_zone, path_asked, wanted};
-ghost use Rattle.name_core.specs.Calls.{delete_causes, early_causes, is_superuser, list_causes, path_causes, path_of_zone, shown};
-ghost use Rattle.name_core.specs.Steps.{TellsOf};
+ghost use Rattle.name_core.specs.Calls.{delete_causes, early_causes, ids_used, is_superuser, name_causes, path_causes, read_path_causes, superuser_causes};
+ghost use Rattle.name_core.specs.Service.{is_change};
 
 use crate::asks::OpenAsk;
+use crate::copies::copy_of;
 use edit_ops::EditOp;
 use hk_base::{Edek, KeyName, NoMemory, Text};
-use inode_tree::{Kind, Row, Tree};
-use name_calls::{Ask, NPath, NameCall, NameRefusal, NameReply, Want};
+use inode_tree::Tree;
+use name_calls::{Ask, NPath, NameCall, NameRefusal, ReadPath, Want, is_component};
 use name_store::{fits_zone, has_most_rows, key_of_zone, to_be_made, to_be_removed, to_be_zone};
+use snap_store::Snaps;
 use std::alloc::Global;
 
 /// Returns whether the first name of a path is `.reserved`.
@@ -34,22 +36,19 @@ pub fn path_refusal(path: &NPath) -> Option<NameRefusal>
     None
 }
 
-/// Returns why a call is refused before the pending operation is settled.
-pub fn early_refusal(user: &Text, call: &NameCall) -> Option<NameRefusal>
-    ensures { result ≡ first_cause (early_causes user.now call.now) }
+/// Returns why a call with a name of a snapshot is refused: the name can't be a name of a path.
+fn name_refusal(name: &Text) -> Option<NameRefusal>
+    ensures { result ≡ first_cause (name_causes name.now) }
 {
-    match call {
-        NameCall::Mkdir { path } => path_refusal(path),
-        NameCall::Delete { path, .. } => path_refusal(path),
-        NameCall::Info { path } => path_refusal(path),
-        NameCall::List { path } => path_refusal(path),
-        NameCall::Zones => zones_refusal(user),
+    if !is_component(name.as_str().as_bytes()) {
+        return Some(NameRefusal::BadPath);
     }
+    None
 }
 
-/// Returns why the zones can not be listed: only the superuser may ask for them.
-fn zones_refusal(user: &Text) -> Option<NameRefusal>
-    ensures { result ≡ first_cause (early_causes user.now NameCall.Zones) }
+/// Returns why each call that only the superuser may make is refused.
+fn superuser_refusal(user: &Text) -> Option<NameRefusal>
+    ensures { result ≡ first_cause (superuser_causes user.now) }
 {
     if !is_superuser(user) {
         return Some(NameRefusal::NotSuperuser);
@@ -57,10 +56,85 @@ fn zones_refusal(user: &Text) -> Option<NameRefusal>
     None
 }
 
-/// Returns why a path can not be deleted: it must exist and not be the root, and a directory must
-/// be empty unless its contents are deleted too.
-pub fn to_be_deleted(tree: &Tree, path: &NPath, recursive: bool) -> Option<NameRefusal>
-    ensures { result ≡ first_cause (delete_causes tree.now.rows path.now recursive) }
+/// Returns why a call is refused before the pending operation is settled.
+pub fn early_refusal(user: &Text, call: &NameCall) -> Option<NameRefusal>
+    ensures { result ≡ first_cause (early_causes user.now call.now) }
+{
+    match call {
+        NameCall::Mkdir { path } => path_refusal(path),
+        NameCall::Delete { path, .. } => path_refusal(path),
+        NameCall::Info { path } => read_path_refusal(path),
+        NameCall::List { path } => read_path_refusal(path),
+        NameCall::Allow { path } => allowance_refusal(user, path),
+        NameCall::Disallow { path } => allowance_refusal(user, path),
+        NameCall::Snap { path, name } => snapshot_path_refusal(path, name),
+        NameCall::Unsnap { path, name } => snapshot_path_refusal(path, name),
+        NameCall::Zones => superuser_refusal(user),
+    }
+}
+
+fn read_path_refusal(path: &ReadPath) -> Option<NameRefusal>
+    ensures { result ≡ first_cause (read_path_causes path.now) }
+{
+    if let Some(why) = path_refusal(&path.path) {
+        return Some(why);
+    }
+    match &path.snapshot {
+        None => None,
+        Some(part) => name_refusal(&part.name),
+    }
+}
+
+fn allowance_refusal(user: &Text, path: &NPath) -> Option<NameRefusal>
+    ensures { result ≡ first_cause (path_causes path.now ++ superuser_causes user.now) }
+{
+    if let Some(why) = path_refusal(path) {
+        return Some(why);
+    }
+    superuser_refusal(user)
+}
+
+fn snapshot_path_refusal(path: &NPath, name: &Text) -> Option<NameRefusal>
+    ensures { result ≡ first_cause (path_causes path.now ++ name_causes name.now) }
+{
+    if let Some(why) = path_refusal(path) {
+        return Some(why);
+    }
+    name_refusal(name)
+}
+
+/// Returns whether a call changes something, if it is not refused.
+pub fn is_change(call: &NameCall) -> bool
+    ensures { result ≡ is_change call.now }
+{
+    match call {
+        NameCall::Info { .. } => false,
+        NameCall::List { .. } => false,
+        NameCall::Zones => false,
+        _ => true,
+    }
+}
+
+/// Returns how many ids a change uses.
+pub fn ids_used(call: &NameCall) -> u64
+    ensures { result ≡ ids_used call.now }
+{
+    match call {
+        NameCall::Mkdir { .. } => 1,
+        _ => 0,
+    }
+}
+
+/// Returns why a path can not be deleted: it must exist and not be the root, a directory must be
+/// empty unless its contents are deleted too, and there must be no snapshot of a directory at or
+/// below the path.
+pub fn to_be_deleted(
+    tree: &Tree,
+    snaps: &Snaps,
+    path: &NPath,
+    recursive: bool,
+) -> Option<NameRefusal>
+    ensures { result ≡ first_cause (delete_causes tree.now.rows snaps.now.table path.now recursive) }
 {
     if let Some(why) = to_be_removed(tree, path) {
         return Some(why);
@@ -68,57 +142,10 @@ pub fn to_be_deleted(tree: &Tree, path: &NPath, recursive: bool) -> Option<NameR
     if !recursive && tree.has_children(path) {
         return Some(NameRefusal::NotEmpty);
     }
-    None
-}
-
-/// Returns why a path can not be listed: it must be an existing directory.
-pub fn to_be_listed(tree: &Tree, path: &NPath) -> Option<NameRefusal>
-    ensures { result ≡ first_cause (list_causes tree.now.rows path.now) }
-{
-    let Some(row) = tree.find(path) else {
-        return Some(NameRefusal::NoSuchPath);
-    };
-    if !row.kind.is_dir() {
-        return Some(NameRefusal::NotADirectory);
+    if snaps.holds(tree, path) {
+        return Some(NameRefusal::HasSnapshots);
     }
     None
-}
-
-/// Returns the reply that describes the entry at a path. It allocates only if the path lies in a
-/// zone.
-pub fn info(tree: &Tree, path: &NPath) -> NameReply
-    ensures { TellsOf tree.now.rows path.now result }
-{
-    let Some(row) = tree.find(path) else {
-        return NameReply::Refused(NameRefusal::NoSuchPath);
-    };
-    match zone_path(tree, path) {
-        Err(NoMemory) => NameReply::Refused(NameRefusal::NoMemory),
-        Ok(zone) => shown(row, zone),
-    }
-}
-
-/// Returns the path of the zone that a path lies in.
-fn zone_path(tree: &Tree, path: &NPath) -> Result<Option<NPath>, NoMemory>
-    ensures { MatchResult result (λ zone. zone ≡ path_of_zone tree.now.rows path.now) (λ why. IsTrue (is_some (path_of_zone tree.now.rows path.now))) }
-{
-    // No two rows have the same id.
-    let _ = tree.rows();
-    match tree.zone_of(path) {
-        None => Ok(None),
-        Some(id) => Ok(Some(tree.path_of(id)?)),
-    }
-}
-
-/// Returns the reply that describes a row, with the path of its zone.
-fn shown(row: Row, zone: Option<NPath>) -> NameReply
-    ensures { result ≡ shown row.id zone row.kind }
-{
-    let id = row.id;
-    match row.kind {
-        Kind::Dir { key } => NameReply::Dir { id, zone, key },
-        Kind::File { edek } => NameReply::File { id, zone, edek },
-    }
 }
 
 /// Returns whether the user is the superuser, who alone makes zones and asks for them.
@@ -233,20 +260,4 @@ pub fn finish_op(alloc: Global, ask: &OpenAsk, edek: Option<Edek>) -> Result<Edi
             key: *key,
         }),
     }
-}
-
-fn copy_of(alloc: Global, path: &NPath) -> Result<NPath, NoMemory>
-    ensures { IfOk result (λ copy. copy ≡ path.now) }
-{
-    let mut copy = NPath::root(alloc);
-    for k in 0..path.len() {
-        copy.push(copy_of_name(alloc, path.name(k))?)?;
-    }
-    Ok(copy)
-}
-
-fn copy_of_name(alloc: Global, name: &Text) -> Result<Text, NoMemory>
-    ensures { IfOk result (λ copy. copy ≡ name.now) }
-{
-    Ok(Text::of(String::from_str(alloc, name.as_str())?))
 }

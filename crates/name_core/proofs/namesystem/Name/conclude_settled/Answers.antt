@@ -19,7 +19,7 @@ returns-in-Err g c = λ a is.
 pub write_finish-requires-clause-may : goal.write_finish-requires-clause-may
 write_finish-requires-clause-may g c =
     let a = is-open c.args.self.now.asks c.args.id c.requires.asked in
-    let rules = c.count.ensures.rules in
+    let rules = c.invariants.ensures.names in
     subst (λ (o : EditOp). MayWrite (names_of c.args.self.now) o (closed (names_of c.args.self.now) c.args.id)) (sym (c.in-Ok.ensures a.0 a.1))
     (may-finish (names_of c.args.self.now) c.args.id a.0 c.args.edek rules.opened rules.few rules.ids rules.recent a.1 (sym (c.finish_refusal.ensures a.0 a.1) ∙ c.in_default.is))
 

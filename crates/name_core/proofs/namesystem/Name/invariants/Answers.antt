@@ -1,9 +1,9 @@
 use Rattle.std.proofs.Common.{subst}
 use Rattle.name_core.specs.State.{IsNames, RunningNames, service_of}
 use Rattle.name_core.proofs.KeepLemmas.{is-names}
-use Rattle.name_core.proofs.namesystem.Name.count.Goals as goal
+use Rattle.name_core.proofs.namesystem.Name.invariants.Goals as goal
 
-pub returns-clause-rules : goal.returns-clause-rules
-returns-clause-rules c =
+pub returns-clause-names : goal.returns-clause-names
+returns-clause-names c =
     subst (λ (x : RunningNames). IsNames (service_of x)) c.self.view_is
     (is-names (record { store = c.self.inside.store; next = c.self.inside.next; asks = c.self.inside.asks }) c.tree.ensures.rules c.self.invariant)
