@@ -5,8 +5,8 @@ use Rattle.std.specs.declared.result.Result.{Result}
 use Rattle.hk_base.specs.Disk.{DiskState, Image, IsImage, Tells}
 use Rattle.hk_base.specs.Faults.{Rose}
 use Rattle.edit_ops.specs.declared.ops.EditOp.{EditOp}
-use Rattle.name_calls.specs.declared.paths.NPath.{NPath}
 use Rattle.name_calls.specs.Paths.{read_path}
+use Rattle.name_calls.specs.ReadPaths.{read_any_path}
 use Rattle.key_rows.specs.declared.rows.KeyCommand.{KeyCommand}
 use Rattle.prop_text.specs.declared.lines.PropLine.{PropLine}
 use Rattle.kms_acls.specs.StandsFor.{StandsFor as ListsFor}
@@ -33,6 +33,7 @@ use Rattle.world_run.specs.Own.{OwnKeysOfEvent, OwnOfEvent, OwnOfPath, OwnOfRepl
 use Rattle.world_run.specs.Keeps.{Fails, KnowsWorld, RestsNow, SoundFrom, Steps, SurvivesThrough}
 use Rattle.world_run.specs.Ledger.{Hidden, Ledger, hidden_after}
 use Rattle.world_run.specs.Linked.{FilesLinked, LinkedWorld, ServicesFit, SoundFiles}
+use Rattle.world_run.specs.SnapPaths.{read_snap_path, snap_at, unsnap_at}
 use Rattle.world_run.specs.Step.{FinishReply, Step, delete_with, finish_line}
 use Rattle.world_run.specs.World.{RunningWorld, WorldState, numbered, world_of}
 use Rattle.world_run.proofs.BothLemmas.{IsLeftOfBoth, LeavesLogs, keys-now, leaves-weaker, names-now, one-holds, one-leaves, one-runs}
@@ -132,9 +133,9 @@ event-owns : (lines : List PropLine) (w : WorldState) (words : ℕ → ℕ) (now
     → Step lines w words now e fault tells told drawn logged w' → LinkedWorld w h → OwnLinks w (hidden_after w words e told drawn w' h).ledger (OwnOfEvent w e told w')
 event-owns lines w words now e fault tells told drawn logged w' h fit step l = go e step
   where
-    by-path : (c : NPath → NameCall) (path : Option NPath) → OwnLinks w h.ledger (OwnOfPath w.names c path told w'.names)
+    by-path : {X : Type 0} (c : X → NameCall) (read : Option X) → OwnLinks w h.ledger (OwnOfPath w.names c read told w'.names)
     by-path c None = λ kept op own. absurd own
-    by-path c (Some path) = own-of-call w h (c path) told w'.names fit l
+    by-path c (Some read) = own-of-call w h (c read) told w'.names fit l
 
     go : (x : Event) → Step lines w words now x fault tells told drawn logged w' → OwnLinks w (hidden_after w words x told drawn w' h).ledger (OwnOfEvent w x told w')
     go (event.Kms user c) s = own-of-nothing w h
@@ -142,8 +143,12 @@ event-owns lines w words now e fault tells told drawn logged w' h fit step l = g
     go event.RestartName s = own-of-opening w h fit l
     go (event.Mkdir user path) s = by-path call.Mkdir (read_path path)
     go (event.Delete user path recursive) s = by-path (delete_with recursive) (read_path path)
-    go (event.Info user path) s = by-path call.Info (read_path path)
-    go (event.List user path) s = by-path call.List (read_path path)
+    go (event.Info user path) s = by-path call.Info (read_any_path path)
+    go (event.List user path) s = by-path call.List (read_any_path path)
+    go (event.Allow user path) s = by-path call.Allow (read_path path)
+    go (event.Disallow user path) s = by-path call.Disallow (read_path path)
+    go (event.Snap user path name) s = by-path snap_at (read_snap_path path name)
+    go (event.Unsnap user path name) s = by-path unsnap_at (read_snap_path path name)
     go (event.Zones user) s = own-of-call w h call.Zones told w'.names fit l
     go (event.AskCreate user path) s = own-of-nothing w h
     go (event.AskZone user path key) s = own-of-nothing w h

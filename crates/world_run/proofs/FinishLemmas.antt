@@ -1,13 +1,13 @@
 -- The ledger of draws, and the files, after a finish.
-use Rattle.std.proofs.Common.{◌≡◌, ◌⊎◌, inl, inr, ℕ, ◌≤◌, ◌^◌, ◌*◌, ◌<◌, Bool, true, false, cond, not, ◌&&◌, List, [], ◌∷◌, ◌++◌, length, Option, Some, None, is_none, is_some, refl, sym, ap, subst, ◌∙◌, arith}
-use Rattle.std.specs.Prelude.{◌==◌, nat_le}
+use Rattle.std.proofs.Common.{◌≡◌, ◌⊎◌, inl, inr, ℕ, ◌≤◌, ◌^◌, ◌*◌, ◌<◌, Bool, true, false, cond, not, List, [], ◌∷◌, ◌++◌, Option, Some, None, refl, sym, ap, subst, ◌∙◌, arith}
+use Rattle.std.specs.Prelude.{◌==◌}
 use Rattle.std.specs.List.{AllByRecursion}
 use Rattle.std.proofs.lemmas.Bool.Decides.{nat_tests}
 use Rattle.std.proofs.lemmas.List.{append-nil}
 use Rattle.hk_base.specs.declared.names.Edek.{Edek}
 use Rattle.hk_base.specs.declared.names.VersionName.{VersionName}
 use Rattle.key_rows.specs.declared.rows.KeyRow.{KeyRow}
-use Rattle.inode_tree.specs.Rows.{Entry, has_children, is_dir_at, row_at, zone_of}
+use Rattle.inode_tree.specs.Rows.{Entry}
 use Rattle.name_store.specs.Table.{NameTable, fits_zone, key_of_zone}
 use Rattle.name_core.specs.declared.asks.OpenAsk.{OpenAsk}
 use Rattle.name_calls.specs.declared.calls.Ask.{Ask}
@@ -17,6 +17,9 @@ use Rattle.name_calls.specs.declared.calls.NameRefusal.{NameRefusal}
 use Rattle.name_calls.specs.declared.calls.NameRefusal.TheVariants as refusal
 use Rattle.name_core.specs.Asks.{finish_causes, finish_op, is_other_key, is_other_zone, open_ask, without}
 use Rattle.name_core.specs.Calls.{first_cause, path_causes, to_be_made}
+use Rattle.name_store.specs.Causes.{row_causes}
+use Rattle.name_store.proofs.CauseLemmas.{clear, none-of-both}
+use Rattle.name_core.proofs.AllowedLemmas.{may-make-zone}
 use Rattle.name_core.specs.State.{IsNames, IsRising, NameService, next_id, settled}
 use Rattle.world_run.specs.declared.kept.KeptReply.{KeptReply}
 use Rattle.world_run.specs.declared.kept.KeptReply.TheVariants.{ToAsk}
@@ -174,41 +177,18 @@ finish-drawn enter ledger keys a ask_id o edek (ask.Zone p key) same k enters = 
 
 -- a finish without a cause of a refusal
 
-free-at : (before : List (Bool × NameRefusal)) (cause : Bool × NameRefusal) (behind : List (Bool × NameRefusal)) → first_cause (before ++ cause ∷ behind) ≡ None → cause.0 ≡ false
-free-at [] cause behind h = go cause.0 h
-  where
-    go : (b : Bool) → cond b (Some cause.1) (first_cause behind) ≡ None → b ≡ false
-    go true h = absurd cc
-    go false h = refl
-free-at (c ∷ before) cause behind h = go c.0 h (free-at before cause behind)
-  where
-    go : (b : Bool) → cond b (Some c.1) (first_cause (before ++ cause ∷ behind)) ≡ None → (first_cause (before ++ cause ∷ behind) ≡ None → cause.0 ≡ false) → cause.0 ≡ false
-    go true h ih = absurd cc
-    go false h ih = ih h
-
 not-false : (b : Bool) → not b ≡ false → b ≡ true
 not-false true h = refl
 not-false false h = absurd cc
 
-may-be : (a b : Bool) (o : Option Entry) → not a ≡ false → b ≡ false → is_some o ≡ false → (a && not b && is_none o) ≡ true
-may-be true false None h k l = refl
-may-be true false (Some e) h k l = absurd cc
-may-be true true o h k l = absurd cc
-may-be false b o h k l = absurd cc
-
 pub finish-fits : (rows : List Entry) (a : OpenAsk) (edek : Option Edek) (x : Ask) → first_cause (finish_causes rows a edek x) ≡ None → OpFits rows (finish_op a.id edek x)
 finish-fits rows a edek (ask.Create p) free =
-    not-false (fits_zone (key_of_zone rows p) edek)
-    (free-at (path_causes p ++ to_be_made rows p ++ (is_other_zone rows a, refusal.ZoneChanged) ∷ []) (is_other_key rows p edek, refusal.ZoneChanged)
-    ((nat_le 1000000 (length rows), refusal.TooManyInodes) ∷ []) free)
-finish-fits rows a edek (ask.Zone p key) free =
-    let none : List (Bool × NameRefusal) = path_causes p ++ (is_none (row_at rows p), refusal.NoSuchPath) ∷ [] in
-    let dir : Bool × NameRefusal = (not (is_dir_at (row_at rows p)), refusal.NotADirectory) in
-    let children : Bool × NameRefusal = (has_children rows p, refusal.NotEmpty) in
-    let in_zone : Bool × NameRefusal = (is_some (zone_of rows p), refusal.AlreadyInZone) in
-    let other : List (Bool × NameRefusal) = (is_other_zone rows a, refusal.ZoneChanged) ∷ [] in
-    may-be (is_dir_at (row_at rows p)) (has_children rows p) (zone_of rows p) (free-at none dir (children ∷ in_zone ∷ other) free) (free-at (none ++ dir ∷ []) children (in_zone ∷ other) free)
-    (free-at (none ++ dir ∷ children ∷ []) in_zone other free)
+    let key : List (Bool × NameRefusal) = (is_other_key rows p edek, refusal.ZoneChanged) ∷ row_causes rows in
+    let checks : List (Bool × NameRefusal) = (is_other_zone rows a, refusal.ZoneChanged) ∷ key in
+    let made = none-of-both (path_causes p) (to_be_made rows p ++ checks) free in
+    let fits = clear (is_other_zone rows a) refusal.ZoneChanged (first_cause key) (none-of-both (to_be_made rows p) checks made.1).1 in
+    not-false (fits_zone (key_of_zone rows p) edek) (clear (is_other_key rows p edek) refusal.ZoneChanged (first_cause (row_causes rows)) fits.1).0
+finish-fits rows a edek (ask.Zone p key) free = may-make-zone rows a edek p key free
 
 -- the world after a finish
 

@@ -15,6 +15,7 @@ use Rattle.key_rows.specs.Table.{Table}
 use Rattle.prop_text.specs.declared.lines.PropLine.{PropLine}
 use Rattle.name_calls.specs.declared.paths.NPath.{NPath}
 use Rattle.name_calls.specs.Paths.{read_path}
+use Rattle.name_calls.specs.ReadPaths.{read_any_path}
 use Rattle.edit_ops.specs.declared.ops.EditOp.{EditOp}
 use Rattle.edit_ops.specs.declared.ops.EditOp.TheVariants as op
 use Rattle.kms_acls.specs.declared.answers.Denied.{Denied}
@@ -43,7 +44,7 @@ use Rattle.name_calls.specs.Answers.{answer_of}
 use Rattle.name_core.specs.Asks.{AskOutcome, Asks, FinishOutcome, Finishes, ask_causes, ask_gone, asked, closed, finish_causes, finish_op, finished, open_ask, opened, unless_not_asked, unless_stopped}
 use Rattle.name_core.specs.Calls.{NameActs, NoRoom, Plain, causes, deed, done_with, early_causes, first_cause, superuser, unless_refused}
 use Rattle.name_core.specs.Service.{FinishServes, FinishServesAt, FinishServesOpen, Serves, ServesBy, ServesUnless, closed_service, is_change}
-use Rattle.name_core.specs.State.{IsNames, NameService, NameState, next_id, settled}
+use Rattle.name_core.specs.State.{IsNames, NameService, NameState, next_id, settled, took}
 use Rattle.hk_events.specs.declared.event.Event.{Event}
 use Rattle.hk_events.specs.declared.event.Event.TheVariants as event
 use Rattle.hk_events.specs.declared.event.Line.{Line}
@@ -52,6 +53,7 @@ use Rattle.world_run.specs.declared.kept.KeptReply.{KeptReply}
 use Rattle.world_run.specs.declared.kept.KeptReply.TheVariants.{ToAsk}
 use Rattle.world_run.specs.Acknowledged.{Acknowledged}
 use Rattle.world_run.specs.World.{WorldState, numbered, with_names, with_reply}
+use Rattle.world_run.specs.SnapPaths.{read_snap_path, snap_at, unsnap_at}
 use Rattle.world_run.specs.Step.{AskAt, DrawActs, FinishReply, PathActs, Step, WantActs, after_ask, delete_with, finish_line, kept_reply, zone_with}
 use Rattle.world_run.specs.Keeps.{KnowsWorld}
 use Rattle.world_run.specs.Ledger.{Draw, Hidden, Ledger, Past, behind_words, draw_noted, draw_of, draw_told, entered, enters, entry_of, entry_under, hidden_after, id_of_reply, makes_file}
@@ -62,7 +64,7 @@ use Rattle.world_run.proofs.FinishLemmas.{Answered, entered-files, entered_in, f
 use Rattle.world_run.proofs.Laters.{later-settled, may-wait, names-with, same-later, user-later}
 use Rattle.world_run.proofs.Members.{in-append, numbered-beside, numbered-in}
 use Rattle.world_run.proofs.RowLemmas.{InPlace}
-use Rattle.world_run.proofs.RowsAfter.{files-after}
+use Rattle.world_run.proofs.RowsAfter.{OpFits, OpHasDraw, files-after}
 use Rattle.world_run.proofs.WorldLemmas.{NewReply, apart-reply, apart-words, files-later, ledger-more, linked-ask, linked-keys, linked-names, linked-reopened, linked-reply, linked-restart, linked-words, next-after, next-settled, rows-settled}
 
 -- calls of the namesystem
@@ -87,27 +89,31 @@ abbrev DoneAndPending : WorldState → Hidden → NameState → NameCall → Typ
 DoneAndPending w h s c =
     KeepsNames w h (record { names = done_with (deed s c).logs (deed s c).state; pending = None }) × KeepsNames w h (record { names = (deed s c).state; pending = (deed s c).logs })
 
-deed-keeps : (w : WorldState) (h : Hidden) (s : NameState) (c : NameCall) → InPlace s.table.rows → KeepsNames w h (record { names = s; pending = None }) → DoneAndPending w h s c
-deed-keeps w h s (call.Mkdir p) good l =
-    let made : FilesLinked h.ledger w.keys.keys.table.rows (after_table s.table (op.Mkdir (next_id s) p)) =
-    files-after h.ledger w.keys.keys.table.rows s.table (op.Mkdir (next_id s) p) good tt tt (l.files true) in
-    let fits : LedgerFits h.ledger w.kept.replies h.replied s.asks (next_id (deed s (call.Mkdir p)).state) =
-    ledger-more h.ledger w.kept.replies h.replied s.asks (next_id s) (next_id (deed s (call.Mkdir p)).state) (omega arith) l.ledger in (
-      record { files = λ kept. made; replies = l.replies; draws = l.draws; ledger = fits },
+-- a change that uses no id
+logs-keeps : (w : WorldState) (h : Hidden) (s : NameState) (o : EditOp) → is_opening o ≡ false → OpFits s.table.rows o → OpHasDraw h.ledger w.keys.keys.table.rows o → InPlace s.table.rows
+    → KeepsNames w h (record { names = s; pending = None }) → KeepsNames w h (record { names = took s o; pending = None }) × KeepsNames w h (record { names = s; pending = Some o })
+logs-keeps w h s o changes fits has good l =
+    let made : FilesLinked h.ledger w.keys.keys.table.rows (after_table s.table o) = files-after h.ledger w.keys.keys.table.rows s.table o good fits has (l.files true) in (
       record {
-        files = with-pending h.ledger w.keys.keys.table.rows s.table (op.Mkdir (next_id s) p) (l.files true) made;
+        files = λ kept. made;
         replies = l.replies;
         draws = l.draws;
-        ledger = fits;
+        ledger = subst (λ (n : ℕ). LedgerFits h.ledger w.kept.replies h.replied s.asks n) (sym (next-after s o changes)) l.ledger;
       },
+      record { files = with-pending h.ledger w.keys.keys.table.rows s.table o (l.files true) made; replies = l.replies; draws = l.draws; ledger = l.ledger },
     )
-deed-keeps w h s (call.Delete p recursive) good l =
-    let gone : FilesLinked h.ledger w.keys.keys.table.rows (after_table s.table (op.Remove p)) = files-after h.ledger w.keys.keys.table.rows s.table (op.Remove p) good tt tt (l.files true) in (
-      record { files = λ kept. gone; replies = l.replies; draws = l.draws; ledger = l.ledger },
-      record { files = with-pending h.ledger w.keys.keys.table.rows s.table (op.Remove p) (l.files true) gone; replies = l.replies; draws = l.draws; ledger = l.ledger },
-    )
-deed-keeps w h s (call.Info p) good l = (l, l)
-deed-keeps w h s (call.List p) good l = (l, l)
+
+deed-keeps : (w : WorldState) (h : Hidden) (s : NameState) (c : NameCall) → InPlace s.table.rows → KeepsNames w h (record { names = s; pending = None }) → DoneAndPending w h s c
+deed-keeps w h s (call.Mkdir p) good l =
+    logs-keeps w h (record s { next = s.next + 1 }) (op.Mkdir (next_id s) p) refl tt tt good
+    (record { files = l.files; replies = l.replies; draws = l.draws; ledger = ledger-more h.ledger w.kept.replies h.replied s.asks (next_id s) (next_id (record s { next = s.next + 1 })) (omega arith) l.ledger })
+deed-keeps w h s (call.Delete p recursive) good l = logs-keeps w h s (op.Remove p) refl tt tt good l
+deed-keeps w h s (call.Info r) good l = (l, l)
+deed-keeps w h s (call.List r) good l = (l, l)
+deed-keeps w h s (call.Allow p) good l = logs-keeps w h s (op.Allow p) refl tt tt good l
+deed-keeps w h s (call.Disallow p) good l = logs-keeps w h s (op.Disallow p) refl tt tt good l
+deed-keeps w h s (call.Snap p name) good l = logs-keeps w h s (op.Snap p name) refl tt tt good l
+deed-keeps w h s (call.Unsnap p name) good l = logs-keeps w h s (op.Unsnap p name) refl tt tt good l
 deed-keeps w h s call.Zones good l = (l, l)
 
 acts-keeps : (w : WorldState) (h : Hidden) (s : NameState) (c : NameCall) (told : NameReply) (changed : NameState) → InPlace s.table.rows → KeepsNames w h (record { names = s; pending = None })
@@ -137,11 +143,11 @@ call-keeps w h user c fault told ops names fit l serves = go (first_cause (early
     go (Some why) r = subst (KeepsNames w h) (sym r.same) l
     go None s = serves-keeps w h c fault told ops names (is_change c) fit l s
 
-path-keeps : (w : WorldState) (h : Hidden) (user : Text) (c : NPath → NameCall) (o : Option NPath) (fault : Type 0) (told : Line) (drawn : ℕ) (logged : Acknowledged) (w' : WorldState) → IsNames w.names → LinkedWorld w h
+path-keeps : {X : Type 0} (w : WorldState) (h : Hidden) (user : Text) (c : X → NameCall) (o : Option X) (fault : Type 0) (told : Line) (drawn : ℕ) (logged : Acknowledged) (w' : WorldState) → IsNames w.names → LinkedWorld w h
     → PathActs w user c o fault told drawn logged w' → LinkedWorld w' h
 path-keeps w h user c None fault told drawn logged w' fit l u = subst (λ (v : WorldState). LinkedWorld v h) (sym u.same) l
-path-keeps w h user c (Some p) fault told drawn logged w' fit l (inl a) = subst (λ (v : WorldState). LinkedWorld v h) (sym a.left) (call-keeps w h user (c p) fault a.reply a.ops a.names fit l a.serves)
-path-keeps w h user c (Some p) fault told drawn logged w' fit l (inr u) = subst (λ (v : WorldState). LinkedWorld v h) (sym u.same) l
+path-keeps w h user c (Some read) fault told drawn logged w' fit l (inl a) = subst (λ (v : WorldState). LinkedWorld v h) (sym a.left) (call-keeps w h user (c read) fault a.reply a.ops a.names fit l a.serves)
+path-keeps w h user c (Some read) fault told drawn logged w' fit l (inr u) = subst (λ (v : WorldState). LinkedWorld v h) (sym u.same) l
 
 -- asks
 
@@ -390,9 +396,17 @@ keeps-linked lines w words now (event.Mkdir user p) fault tells told drawn logge
 keeps-linked lines w words now (event.Delete user p recursive) fault tells told drawn logged w' h knows fit s l =
     linked-words w' h drawn (path-keeps w h user (delete_with recursive) (read_path p) fault told drawn logged w' fit.names l s)
 keeps-linked lines w words now (event.Info user p) fault tells told drawn logged w' h knows fit s l =
-    linked-words w' h drawn (path-keeps w h user call.Info (read_path p) fault told drawn logged w' fit.names l s)
+    linked-words w' h drawn (path-keeps w h user call.Info (read_any_path p) fault told drawn logged w' fit.names l s)
 keeps-linked lines w words now (event.List user p) fault tells told drawn logged w' h knows fit s l =
-    linked-words w' h drawn (path-keeps w h user call.List (read_path p) fault told drawn logged w' fit.names l s)
+    linked-words w' h drawn (path-keeps w h user call.List (read_any_path p) fault told drawn logged w' fit.names l s)
+keeps-linked lines w words now (event.Allow user p) fault tells told drawn logged w' h knows fit s l =
+    linked-words w' h drawn (path-keeps w h user call.Allow (read_path p) fault told drawn logged w' fit.names l s)
+keeps-linked lines w words now (event.Disallow user p) fault tells told drawn logged w' h knows fit s l =
+    linked-words w' h drawn (path-keeps w h user call.Disallow (read_path p) fault told drawn logged w' fit.names l s)
+keeps-linked lines w words now (event.Snap user p name) fault tells told drawn logged w' h knows fit s l =
+    linked-words w' h drawn (path-keeps w h user snap_at (read_snap_path p name) fault told drawn logged w' fit.names l s)
+keeps-linked lines w words now (event.Unsnap user p name) fault tells told drawn logged w' h knows fit s l =
+    linked-words w' h drawn (path-keeps w h user unsnap_at (read_snap_path p name) fault told drawn logged w' fit.names l s)
 keeps-linked lines w words now (event.Zones user) fault tells told drawn logged w' h knows fit s l =
     linked-words w' h drawn (subst (λ (v : WorldState). LinkedWorld v h) (sym s.left) (call-keeps w h user call.Zones fault s.reply s.ops s.names fit.names l s.serves))
 keeps-linked lines w words now (event.AskCreate user p) fault tells told drawn logged w' h knows fit s l = linked-words w' h drawn (ask-at-keeps w h user ask.Create (read_path p) told w' l s.1)
@@ -430,6 +444,10 @@ words-stay lines w words now e fault tells told drawn logged w' h fit s l f = go
     go (event.Delete user p recursive) s = apart-words h drawn f
     go (event.Info user p) s = apart-words h drawn f
     go (event.List user p) s = apart-words h drawn f
+    go (event.Allow user p) s = apart-words h drawn f
+    go (event.Disallow user p) s = apart-words h drawn f
+    go (event.Snap user p name) s = apart-words h drawn f
+    go (event.Unsnap user p name) s = apart-words h drawn f
     go (event.Zones user) s = apart-words h drawn f
     go (event.AskCreate user p) s = apart-words h drawn f
     go (event.AskZone user p key) s = apart-words h drawn f

@@ -5,6 +5,7 @@ pub mod CrashLemmas
 pub mod DrawLemmas
 pub mod FinishLemmas
 pub mod KeepLemmas
+pub mod KeptRows
 pub mod KeyLemmas
 pub mod Laters
 pub mod LawLemmas
@@ -12,6 +13,7 @@ pub mod Members
 pub mod RestartLemmas
 pub mod RowLemmas
 pub mod RowsAfter
+pub mod SnapPathLemmas
 pub mod SoundLemmas
 pub mod StartLemmas
 pub mod StepLemmas

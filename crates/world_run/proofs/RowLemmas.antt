@@ -136,7 +136,7 @@ length-parent x (y ∷ p) = ap suc (length-parent y p)
 same-number : (a b : ℕ) → a ≡ b → (a == b) ≡ true
 same-number a b h = grind (arith, nat_tests)
 
-dir-some : (o : Option Row) → is_dir_at o ≡ true → (row : Row) × (o ≡ Some row)
+pub dir-some : (o : Option Row) → is_dir_at o ≡ true → (row : Row) × (o ≡ Some row)
 dir-some None h = absurd cc
 dir-some (Some row) h = (row, refl)
 

@@ -8,24 +8,25 @@ use Rattle.std.proofs.lemmas.Slice.Eq.{bytes_eq-Decides}
 use Rattle.hk_base.specs.declared.names.Edek.{Edek}
 use Rattle.hk_base.specs.declared.names.KeyName.{KeyName}
 use Rattle.key_rows.specs.declared.rows.KeyRow.{KeyRow}
-use Rattle.key_rows.proofs.Births.{both}
 use Rattle.inode_tree.specs.declared.rows.Kind.{Kind}
 use Rattle.inode_tree.specs.declared.rows.Kind.TheVariants.{Dir, File as FileKind}
 use Rattle.inode_tree.specs.declared.rows.Row.{Row}
 use Rattle.name_calls.specs.Paths.{is_before, is_prefix, parent, same_path}
-use Rattle.inode_tree.specs.Rows.{AllAfter, Entry, IsRising, entry_of, has_children, is_dir, is_dir_at, is_marked, put, removed, row_at, set_kind, with_kind, zone_of}
+use Rattle.inode_tree.specs.Rows.{AllAfter, Entry, IsRising, entry_of, is_dir, is_dir_at, is_marked, put, removed, row_at, set_kind, with_kind}
 use Rattle.inode_tree.proofs.Puts.{rising-put}
 use Rattle.inode_tree.proofs.Seeks.{same-is}
 use Rattle.edit_ops.specs.declared.ops.EditOp.{EditOp}
-use Rattle.edit_ops.specs.declared.ops.EditOp.TheVariants.{Opened, Mkdir, File, Remove, Zone}
-use Rattle.name_store.specs.Causes.{first_cause, row_causes, to_be_made}
-use Rattle.name_store.specs.Table.{NameTable, after_table, allows, fits_zone, id_of, kept_rows, key_of_zone, new_directory, new_file, rows_of_entries}
-use Rattle.name_store.proofs.CauseLemmas.{MayUse, allowed, id-may-be-used, makeable, none-of-both}
+use Rattle.edit_ops.specs.declared.ops.EditOp.TheVariants.{Opened, Mkdir, File, Remove, Zone, Allow, Disallow, Snap, Unsnap}
+use Rattle.name_store.specs.Causes.{first_cause, id_at, id_of, row_causes, to_be_made, zone_causes}
+use Rattle.name_store.specs.Table.{NameTable, after_table, allows, fits_zone, kept_rows, key_of_zone, marked, new_directory, new_file}
+use Rattle.name_store.proofs.CauseLemmas.{MayUse, allowed, id-may-be-used, makeable, markable, none-of-both}
+use Rattle.snap_store.specs.Snapshots.{Snapshot, frozen, is_named, put_snapshot, without_snapshot}
 use Rattle.world_run.specs.Ledger.{Ledger}
 use Rattle.world_run.specs.Promise.{FitsZone, In, edek_of}
 use Rattle.world_run.specs.Linked.{FilesLinked, HasDraw}
 use Rattle.world_run.proofs.Members.{in-map, some-is}
-use Rattle.world_run.proofs.RowLemmas.{InPlace, Markable, in-mark, in-put, in-removed, key-mark, key-put, key-removed, which}
+use Rattle.world_run.proofs.KeptRows.{kept-entries, kept-snapped, rows-filter, rows-from, rows-frozen, rows-put, snapped-filter, snapped-put}
+use Rattle.world_run.proofs.RowLemmas.{InPlace, Markable, dir-some, in-mark, in-put, in-removed, key-mark, key-put, key-removed, which}
 
 none-is : {X : Type 0} (o : Option X) → is_none o ≡ true → o ≡ None
 none-is None h = refl
@@ -226,7 +227,11 @@ rows-after t (File id p edek) good may =
     let a = allowed t (File id p edek) refl may in
     made-in-place t (new_file id p edek) (id-may-be-used t id a.ids) a.free good
 rows-after t (Remove p) good may = removed-in-place p t.rows good
-rows-after t (Zone p key) good may = marked-in-place (id_of (row_at t.rows p)) key t.rows good
+rows-after t (Zone p key) good may = marked-in-place (id_at t.rows p) key t.rows good
+rows-after t (Allow p) good may = good
+rows-after t (Disallow p) good may = good
+rows-after t (Snap p name) good may = good
+rows-after t (Unsnap p name) good may = good
 
 -- the files linked there
 
@@ -238,48 +243,39 @@ OpHasDraw ledger keys _ = ⊤
 -- its encrypted key is of its zone, and a directory may become a zone
 abbrev pub OpFits : List Entry → EditOp → Type 0
 OpFits rows (File id p edek) = fits_zone (key_of_zone rows p) edek ≡ true
-OpFits rows (Zone p key) = (is_dir_at (row_at rows p) && not (has_children rows p) && is_none (zone_of rows p)) ≡ true
+OpFits rows (Zone p key) = first_cause (zone_causes rows p) ≡ None
 OpFits rows _ = ⊤
 
 -- the rows that are kept after it
 
-of-entry : (row : Row) (es : List Entry) → In row (rows_of_entries es) → (x : Entry) × In x es × (row ≡ x.row)
-of-entry row [] i = absurd i
-of-entry row (e ∷ es) (inl is) = (e, inl refl, is)
-of-entry row (e ∷ es) (inr i) = let q = of-entry row es i in (q.0, inr q.1, q.2)
-
-in-rows : (row : Row) (x : Entry) (es : List Entry) → In x es → row ≡ x.row → In row (rows_of_entries es)
-in-rows row x [] i same = absurd i
-in-rows row x (e ∷ es) (inl is) same = inl (same ∙ ap (λ (y : Entry). y.row) is)
-in-rows row x (e ∷ es) (inr i) same = inr (in-rows row x es i same)
-
 -- the rows that an operation makes: its file's, or a directory's
 abbrev IsMadeBy : EditOp → Row → Type 0
-IsMadeBy (Opened opening) row = ⊥
 IsMadeBy (Mkdir id p) row = is_dir row.kind ≡ true
 IsMadeBy (File id p edek) row = row ≡ (new_file id p edek).row
-IsMadeBy (Remove p) row = ⊥
 IsMadeBy (Zone p key) row = is_dir row.kind ≡ true
-
-kept-put : (row : Row) (e : Entry) (es : List Entry) → In row (rows_of_entries (put e es)) → In row (rows_of_entries es) ⊎ (row ≡ e.row)
-kept-put row e es i =
-    let x = of-entry row (put e es) i in
-    elim (in-put x.0 e es x.1) [ inl is ↦ inr (x.2 ∙ ap (λ (y : Entry). y.row) is) | inr old ↦ inl (in-rows row x.0 es old x.2) ]
+IsMadeBy _ row = ⊥
 
 -- each was kept before, or the operation makes it
 pub kept-after : (t : NameTable) (op : EditOp) (row : Row) → In row (kept_rows (after_table t op)) → In row (kept_rows t) ⊎ IsMadeBy op row
 kept-after t (Opened opening) row i = inl i
-kept-after t (Mkdir id p) row i = elim (kept-put row (new_directory id p) t.rows i) [ inl old ↦ inl old | inr is ↦ inr (ap (λ (r : Row). is_dir r.kind) is) ]
-kept-after t (File id p edek) row i = kept-put row (new_file id p edek) t.rows i
-kept-after t (Remove p) row i =
-    let x = of-entry row (removed p t.rows) i in
-    inl (in-rows row x.0 t.rows (in-removed p x.0 t.rows x.1).0 x.2)
+kept-after t (Mkdir id p) row i =
+    kept-entries row t.rows (put (new_directory id p) t.rows) t.snaps.taken (is_dir row.kind ≡ true)
+    (λ live. elim (rows-put row (new_directory id p) t.rows live) [ inl old ↦ inl old | inr is ↦ inr (ap (λ (r : Row). is_dir r.kind) is) ]) i
+kept-after t (File id p edek) row i = kept-entries row t.rows (put (new_file id p edek) t.rows) t.snaps.taken (row ≡ (new_file id p edek).row) (rows-put row (new_file id p edek) t.rows) i
+kept-after t (Remove p) row i = kept-entries row t.rows (removed p t.rows) t.snaps.taken ⊥ (λ live. inl (rows-filter row (λ e. not (is_prefix p e.path)) t.rows live)) i
 kept-after t (Zone p key) row i =
-    let x = of-entry row (set_kind t.rows (id_of (row_at t.rows p)) (Dir (Some key))) i in
-    elim (in-mark (id_of (row_at t.rows p)) key t.rows x.0 x.1) [
-      | inl is ↦ inr (ap (λ (r : Row). is_dir r.kind) x.2 ∙ ap is_dir is)
-      | inr old ↦ inl (in-rows row x.0 t.rows old x.2)
-    ]
+    kept-entries row t.rows (marked t.rows p key) t.snaps.taken (is_dir row.kind ≡ true)
+    (rows-from row t.rows (marked t.rows p key) (is_dir row.kind ≡ true)
+    (λ x live is. elim (in-mark (id_at t.rows p) key t.rows x live) [ inl made ↦ inl (ap (λ (r : Row). is_dir r.kind) is ∙ ap is_dir made) | inr old ↦ inr old ])) i
+kept-after t (Allow p) row i = inl i
+kept-after t (Disallow p) row i = inl i
+kept-after t (Snap p name) row i =
+    let new : Snapshot = record { dir = id_at t.rows p; name = name; rows = frozen t.rows (id_at t.rows p) } in
+    inl (kept-snapped row t.rows t.snaps.taken (put_snapshot new t.snaps.taken)
+    (λ snapped. elim (snapped-put row new t.snaps.taken snapped) [ inl its ↦ inl (rows-frozen row t.rows (id_at t.rows p) its) | inr old ↦ inr old ]) i)
+kept-after t (Unsnap p name) row i =
+    inl (kept-snapped row t.rows t.snaps.taken (without_snapshot t.snaps.taken (id_at t.rows p) name)
+    (λ snapped. inr (snapped-filter row (λ s. not (is_named (id_at t.rows p) name s)) t.snaps.taken snapped)) i)
 
 file-drawn : (ledger : Ledger) (keys : List KeyRow) (id : ℕ) (p : List (List ℕ)) (made : Option Edek) → OpHasDraw ledger keys (File id p made) → (e : Edek) → made ≡ Some e → HasDraw ledger keys id e
 file-drawn ledger keys id p None has e is = absurd cc
@@ -297,6 +293,10 @@ made-drawn ledger keys (File id p edek) row e has made h =
     subst (λ (r : Row). HasDraw ledger keys r.id e) (sym made) (file-drawn ledger keys id p edek has e (ap (λ (r : Row). edek_of r.kind) (sym made) ∙ h))
 made-drawn ledger keys (Remove p) row e has made h = absurd made
 made-drawn ledger keys (Zone p key) row e has made h = absurd (no-key row.kind e made h)
+made-drawn ledger keys (Allow p) row e has made h = absurd made
+made-drawn ledger keys (Disallow p) row e has made h = absurd made
+made-drawn ledger keys (Snap p name) row e has made h = absurd made
+made-drawn ledger keys (Unsnap p name) row e has made h = absurd made
 
 -- the zones of live entries
 
@@ -322,16 +322,12 @@ of-zone None (Some e) h = absurd cc
 of-zone (Some key) None h = absurd cc
 of-zone (Some key) (Some e) h = (bytes_eq-Decides e.version.key key).0 h
 
-markable : (rows : List Entry) (p : List (List ℕ)) → (is_dir_at (row_at rows p) && not (has_children rows p) && is_none (zone_of rows p)) ≡ true → Markable rows p (id_of (row_at rows p))
-markable rows p may =
-    let outside = both (is_dir_at (row_at rows p) && not (has_children rows p)) (is_none (zone_of rows p)) may in
-    let empty = both (is_dir_at (row_at rows p)) (not (has_children rows p)) outside.0 in
-    go (row_at rows p) refl empty.0 (has_children rows p) refl empty.1 (none-is (zone_of rows p) outside.1)
-  where
-    go : (o : Option Row) → row_at rows p ≡ o → is_dir_at o ≡ true → (c : Bool) → has_children rows p ≡ c → not c ≡ true → zone_of rows p ≡ None → Markable rows p (id_of (row_at rows p))
-    go None is dir c children h free = absurd cc
-    go (Some row) is dir true children h free = absurd cc
-    go (Some row) is dir false children h free = record { row = row; stands = is; is_dir = dir; empty = children; free = free; of_id = ap id_of (sym is) }
+-- a directory that may become a zone
+to-be-marked : (rows : List Entry) (p : List (List ℕ)) → first_cause (zone_causes rows p) ≡ None → Markable rows p (id_at rows p)
+to-be-marked rows p free =
+    let m = markable rows p free in
+    let row = dir-some (row_at rows p) m.dir in
+    record { row = row.0; stands = row.1; is_dir = ap is_dir_at (sym row.1) ∙ m.dir; empty = m.empty; free = m.outside; of_id = ap id_of (sym row.1) }
 
 fits-dir : (zone : Option KeyName) (k : Kind) → is_dir k ≡ true → FitsZone zone k
 fits-dir _ (Dir key) h = tt
@@ -352,7 +348,11 @@ zones-after t (Opened opening) good fits zones = zones
 zones-after t (Mkdir id p) good fits zones = zones-put t.rows (new_directory id p) refl tt zones
 zones-after t (File id p edek) good fits zones = zones-put t.rows (new_file id p edek) refl (of-zone (key_of_zone t.rows p) edek fits) zones
 zones-after t (Remove p) good fits zones = zones-removed t.rows p zones
-zones-after t (Zone p key) good fits zones = zones-mark t.rows p key (id_of (row_at t.rows p)) good (markable t.rows p fits) zones
+zones-after t (Zone p key) good fits zones = zones-mark t.rows p key (id_at t.rows p) good (to-be-marked t.rows p fits) zones
+zones-after t (Allow p) good fits zones = zones
+zones-after t (Disallow p) good fits zones = zones
+zones-after t (Snap p name) good fits zones = zones
+zones-after t (Unsnap p name) good fits zones = zones
 
 pub files-after : (ledger : Ledger) (keys : List KeyRow) (t : NameTable) (op : EditOp) → InPlace t.rows → OpFits t.rows op → OpHasDraw ledger keys op → FilesLinked ledger keys t
     → FilesLinked ledger keys (after_table t op)

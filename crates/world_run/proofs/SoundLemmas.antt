@@ -43,7 +43,7 @@ use Rattle.world_run.proofs.FinishLemmas.{linked-unentered, with_entry}
 use Rattle.world_run.proofs.KeepLemmas.{closed-keeps, finish-files, finish-ledger}
 use Rattle.world_run.proofs.Laters.{KeysLater, later-settled, later-with, old-recorded, then-later}
 use Rattle.world_run.proofs.Members.{numbered-beside, some-is}
-use Rattle.world_run.proofs.RowsAfter.{files-after, files-opened}
+use Rattle.world_run.proofs.RowsAfter.{OpFits, OpHasDraw, files-after, files-opened}
 use Rattle.world_run.proofs.WorldLemmas.{draws-later, files-later, opening-settled, rows-settled}
 
 -- linked with a ledger, whatever is kept: the files with and without the pending operation, and the ledger itself
@@ -137,6 +137,10 @@ event-files lines w words now e fault tells told drawn logged w' h fit s l = go 
     go (event.Delete user p recursive) s = before
     go (event.Info user p) s = before
     go (event.List user p) s = before
+    go (event.Allow user p) s = before
+    go (event.Disallow user p) s = before
+    go (event.Snap user p name) s = before
+    go (event.Unsnap user p name) s = before
     go (event.Zones user) s = before
     go (event.AskCreate user p) s = before
     go (event.AskZone user p key) s = before
@@ -159,19 +163,29 @@ own-of-opening w h fit l kept (op.Mkdir id p) own may = absurd cc
 own-of-opening w h fit l kept (op.File id p edek) own may = absurd cc
 own-of-opening w h fit l kept (op.Remove p) own may = absurd cc
 own-of-opening w h fit l kept (op.Zone p key) own may = absurd cc
+own-of-opening w h fit l kept (op.Allow p) own may = absurd cc
+own-of-opening w h fit l kept (op.Disallow p) own may = absurd cc
+own-of-opening w h fit l kept (op.Snap p name) own may = absurd cc
+own-of-opening w h fit l kept (op.Unsnap p name) own may = absurd cc
 
 pub own-of-call : (w : WorldState) (h : Hidden) (c : NameCall) (told : Line) (names : NameService) → ServicesFit w → LinkedWorld w h → OwnLinks w h.ledger (OwnOfNamesCall w.names c told names)
 own-of-call w h c told names fit l kept written own may = go c own.own.is
   where
+    linked : (o : EditOp) → OpFits (settled_names kept w.names).table.rows o → OpHasDraw h.ledger w.keys.keys.table.rows o → Some o ≡ Some written
+        → FilesLinked h.ledger w.keys.keys.table.rows (after_table (settled_names kept w.names).table written)
+    linked o fits has is =
+        subst (λ (x : EditOp). FilesLinked h.ledger w.keys.keys.table.rows (after_table (settled_names kept w.names).table x)) (some-is o written is)
+        (files-after h.ledger w.keys.keys.table.rows (settled_names kept w.names).table o (rows-settled kept w.names fit.names) fits has (l.files kept))
+
     go : (c : NameCall) → (deed (settled_names kept w.names) c).logs ≡ Some written → FilesLinked h.ledger w.keys.keys.table.rows (after_table (settled_names kept w.names).table written)
-    go (call.Mkdir p) is =
-        subst (λ (x : EditOp). FilesLinked h.ledger w.keys.keys.table.rows (after_table (settled_names kept w.names).table x)) (some-is (op.Mkdir (next_id (settled_names kept w.names)) p) written is)
-        (files-after h.ledger w.keys.keys.table.rows (settled_names kept w.names).table (op.Mkdir (next_id (settled_names kept w.names)) p) (rows-settled kept w.names fit.names) tt tt (l.files kept))
-    go (call.Delete p recursive) is =
-        subst (λ (x : EditOp). FilesLinked h.ledger w.keys.keys.table.rows (after_table (settled_names kept w.names).table x)) (some-is (op.Remove p) written is)
-        (files-after h.ledger w.keys.keys.table.rows (settled_names kept w.names).table (op.Remove p) (rows-settled kept w.names fit.names) tt tt (l.files kept))
-    go (call.Info p) is = absurd cc
-    go (call.List p) is = absurd cc
+    go (call.Mkdir p) is = linked (op.Mkdir (next_id (settled_names kept w.names)) p) tt tt is
+    go (call.Delete p recursive) is = linked (op.Remove p) tt tt is
+    go (call.Info r) is = absurd cc
+    go (call.List r) is = absurd cc
+    go (call.Allow p) is = linked (op.Allow p) tt tt is
+    go (call.Disallow p) is = linked (op.Disallow p) tt tt is
+    go (call.Snap p name) is = linked (op.Snap p name) tt tt is
+    go (call.Unsnap p name) is = linked (op.Unsnap p name) tt tt is
     go call.Zones is = absurd cc
 
 -- the answer of a finish that leaves an operation pending
@@ -239,6 +253,10 @@ opening-rises t (op.Mkdir id p) may = omega arith
 opening-rises t (op.File id p edek) may = omega arith
 opening-rises t (op.Remove p) may = omega arith
 opening-rises t (op.Zone p key) may = omega arith
+opening-rises t (op.Allow p) may = omega arith
+opening-rises t (op.Disallow p) may = omega arith
+opening-rises t (op.Snap p name) may = omega arith
+opening-rises t (op.Unsnap p name) may = omega arith
 
 opening-more : (r : Replayed) (more : Option EditOp) (found : Bool) → AppliesToNames r more → r.table.opening ≤ (settled_names_table found more r.table).opening
 opening-more r None found fits = omega arith

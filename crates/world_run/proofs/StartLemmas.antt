@@ -128,6 +128,10 @@ next-linked past keys t (op.Mkdir id p) is may l = absurd (cc is)
 next-linked past keys t (op.File id p edek) is may l = absurd (cc is)
 next-linked past keys t (op.Remove p) is may l = absurd (cc is)
 next-linked past keys t (op.Zone p key) is may l = absurd (cc is)
+next-linked past keys t (op.Allow p) is may l = absurd (cc is)
+next-linked past keys t (op.Disallow p) is may l = absurd (cc is)
+next-linked past keys t (op.Snap p name) is may l = absurd (cc is)
+next-linked past keys t (op.Unsnap p name) is may l = absurd (cc is)
 
 -- the operation that was pending, kept after all
 kept-after-all : (made : Replayed) (kept : Bool) (more : Option EditOp) (o : EditOp) → kept ≡ false → more ≡ Some o → after_table (settled_log kept more made).table o ≡ (settled_log true more made).table

@@ -189,23 +189,23 @@ called old new w keys names names' notes replies user c told view acts =
       lists = refl;
     })
 
--- at a path that was read
-pub path-called : (old new : DiskState) (w w' : RunningWorld) (user : Text) (c : NPath → NameCall) (read : Option NPath) (path : NPath) (told : Line) → read ≡ Some path → CallHappens old new w user (c path) told w'
-    → PathHappens old new w user c read told w'
-path-called old new w w' user c read path told is happens =
-    subst (λ (o : Option NPath). PathHappens old new w user c o told w') (sym is)
+-- about what was read
+pub path-called : {X : Type 0} (old new : DiskState) (w w' : RunningWorld) (user : Text) (c : X → NameCall) (o : Option X) (read : X) (told : Line) → o ≡ Some read → CallHappens old new w user (c read) told w'
+    → PathHappens old new w user c o told w'
+path-called {X = X} old new w w' user c o read told is happens =
+    subst (λ (x : Option X). PathHappens old new w user c x told w') (sym is)
     (λ words. let h = happens words in record { drawn = h.drawn; logged = h.logged; acts = inl h.acts; rest = h.rest; disk = h.disk; lists = h.lists })
 
--- and at one that could not be read
-pub path-unread : (d : DiskState) (w w' : RunningWorld) (user : Text) (c : NPath → NameCall) (read : Option NPath) (fault : PathFault) (told : NameReply) → w' ≡ w → told ≡ unread_reply fault
-    → (fault ≡ BadPath → read ≡ None) → (read ≡ None → fault ≡ BadPath) → PathHappens d d w user c read (line.Name told) w'
-path-unread d w w' user c read fault told same is bad only = λ words. does-nothing d w w' words _ _ _ same (go read fault bad only is)
+-- and about what could not be read
+pub path-unread : {X : Type 0} (d : DiskState) (w w' : RunningWorld) (user : Text) (c : X → NameCall) (o : Option X) (fault : PathFault) (told : NameReply) → w' ≡ w → told ≡ unread_reply fault
+    → (fault ≡ BadPath → o ≡ None) → (o ≡ None → fault ≡ BadPath) → PathHappens d d w user c o (line.Name told) w'
+path-unread {X = X} d w w' user c o fault told same is bad only = λ words. does-nothing d w w' words _ _ _ same (go o fault bad only is)
   where
-    go : (o : Option NPath) (f : PathFault) → (f ≡ BadPath → o ≡ None) → (o ≡ None → f ≡ BadPath) → told ≡ unread_reply f
-        → PathActs (world_of w) user c o (Rose d.faults d.faults) (line.Name told) 0 nothing_acknowledged (world_of w')
+    go : (x : Option X) (f : PathFault) → (f ≡ BadPath → x ≡ None) → (x ≡ None → f ≡ BadPath) → told ≡ unread_reply f
+        → PathActs (world_of w) user c x (Rose d.faults d.faults) (line.Name told) 0 nothing_acknowledged (world_of w')
     go None f b o t = record { told_is = ap (λ (r : NameReply). line.Name r) (t ∙ ap unread_reply (o refl)); quiet = (refl, refl); same = ap world_of same }
-    go (Some path) BadPath b o t = absurd (cc (b refl))
-    go (Some path) NoMemory b o t = inr (record { told_is = ap (λ (r : NameReply). line.Name r) t; quiet = (refl, refl); same = ap world_of same })
+    go (Some read) BadPath b o t = absurd (cc (b refl))
+    go (Some read) NoMemory b o t = inr (record { told_is = ap (λ (r : NameReply). line.Name r) t; quiet = (refl, refl); same = ap world_of same })
 
 -- a finish by a kept reply, and by none
 

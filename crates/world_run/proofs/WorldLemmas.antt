@@ -6,7 +6,7 @@ use Rattle.key_rows.specs.Table.{Table}
 use Rattle.kms_core.specs.Draws.{words_of_draw}
 use Rattle.kms_core.specs.State.{IsService, ServiceState, opened, settled}
 use Rattle.edit_ops.specs.declared.ops.EditOp.{EditOp}
-use Rattle.edit_ops.specs.declared.ops.EditOp.TheVariants.{Opened, Mkdir, File, Remove, Zone}
+use Rattle.edit_ops.specs.declared.ops.EditOp.TheVariants.{Opened, Mkdir, File, Remove, Zone, Allow, Disallow, Snap, Unsnap}
 use Rattle.name_store.specs.Store.{is_opening}
 use Rattle.name_store.specs.Table.{NameTable, after_table, settled_table}
 use Rattle.name_core.specs.declared.asks.OpenAsk.{OpenAsk}
@@ -84,9 +84,9 @@ pub rows-settled : (kept : Bool) (s : NameService) → IsNames s → InPlace (se
 rows-settled kept s fit = go kept s.pending fit.waits
   where
     go : (b : Bool) (o : Option EditOp) → IfSome o (IsWaiting s.names) → InPlace (settled_table b o s.names.table).rows
-    go b None waits = in-place s.names.table.rows fit.rows
-    go true (Some op) waits = rows-after s.names.table op (in-place s.names.table.rows fit.rows) waits.pending.allowed
-    go false (Some op) waits = in-place s.names.table.rows fit.rows
+    go b None waits = in-place s.names.table.rows fit.table.rules
+    go true (Some op) waits = rows-after s.names.table op (in-place s.names.table.rows fit.table.rules) waits.pending.allowed
+    go false (Some op) waits = in-place s.names.table.rows fit.table.rules
 
 -- the opening is the same after an operation that is not an opening
 same-opening : (t : NameTable) (op : EditOp) → is_opening op ≡ false → (after_table t op).opening ≡ t.opening
@@ -95,6 +95,10 @@ same-opening t (Mkdir id p) h = refl
 same-opening t (File id p edek) h = refl
 same-opening t (Remove p) h = refl
 same-opening t (Zone p key) h = refl
+same-opening t (Allow p) h = refl
+same-opening t (Disallow p) h = refl
+same-opening t (Snap p name) h = refl
+same-opening t (Unsnap p name) h = refl
 
 -- the next id after an operation that is not an opening
 pub next-after : (s : NameState) (op : EditOp) → is_opening op ≡ false → next_id (record s { table = after_table s.table op }) ≡ next_id s

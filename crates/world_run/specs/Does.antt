@@ -3,7 +3,6 @@ use Rattle.std.specs.Prelude.{◌≡◌, ◌⊎◌, ℕ, ◌+◌, Bool, List, Op
 use Rattle.hk_base.specs.Disk.{DiskState, Tells}
 use Rattle.hk_base.specs.Faults.{Rose}
 use Rattle.hk_base.specs.declared.texts.Text.{Text}
-use Rattle.name_calls.specs.declared.paths.NPath.{NPath}
 use Rattle.edit_ops.specs.declared.ops.EditOp.{EditOp}
 use Rattle.kms_calls.specs.declared.calls.KmsReply.{KmsReply}
 use Rattle.key_rows.specs.declared.rows.KeyCommand.{KeyCommand}
@@ -62,10 +61,10 @@ CallHappens old new r user c told r' =
     (words : ℕ → ℕ) → Does old new r r' words words NoCommand (OwnOfNamesCall (world_of r).names c told (world_of r').names)
     (λ drawn logged. NamesAct (world_of r) user c (Rose old.faults new.faults) told drawn logged (world_of r'))
 
-abbrev pub PathHappens : DiskState → DiskState → RunningWorld → Text → (NPath → NameCall) → Option NPath → Line → RunningWorld → Type 0
-PathHappens old new r user c path told r' =
-    (words : ℕ → ℕ) → Does old new r r' words words NoCommand (OwnOfPath (world_of r).names c path told (world_of r').names)
-    (λ drawn logged. PathActs (world_of r) user c path (Rose old.faults new.faults) told drawn logged (world_of r'))
+abbrev pub PathHappens : {X : Type 0} → DiskState → DiskState → RunningWorld → Text → (X → NameCall) → Option X → Line → RunningWorld → Type 0
+PathHappens old new r user c read told r' =
+    (words : ℕ → ℕ) → Does old new r r' words words NoCommand (OwnOfPath (world_of r).names c read told (world_of r').names)
+    (λ drawn logged. PathActs (world_of r) user c read (Rose old.faults new.faults) told drawn logged (world_of r'))
 
 abbrev pub FinishHappens : DiskState → DiskState → RunningWorld → Option KeptReply → Line → RunningWorld → Type 0
 FinishHappens old new r reply told r' =

@@ -28,8 +28,8 @@ SoundFilesAreApart = (past : Past) (c : Image) → SoundFiles past c → WordsAp
 abbrev pub SoundFilesAreWhole : Type 0
 SoundFilesAreWhole = (past : Past) (c : Image) (at : ℕ) → SoundFiles past c → (IsDamagedAt (c 0) at → ⊥) × (IsDamagedName (c 1) at → ⊥)
 
--- each file in a zone opens to the data key drawn for it, with the keys and the rows that a start finds there: each log's last record
--- included or not
+-- each file in a zone, live or in a snapshot, opens to the data key drawn for it, with the keys and the rows that a start finds there: each
+-- log's last record included or not
 abbrev pub SoundFilesOpen : Type 0
 SoundFilesOpen =
     (past : Past) (c : Image) (s : SoundFiles past c) (found found_names : Bool)

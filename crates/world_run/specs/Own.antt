@@ -1,8 +1,8 @@
 -- What may be in a log after the acknowledged records, and what a crash leaves then: at rest, and while an event happens.
 use Rattle.std.specs.Prelude.{◌≡◌, ℕ, Bool, Option, None, Some, Result}
 use Rattle.hk_base.specs.Disk.{Image}
-use Rattle.name_calls.specs.declared.paths.NPath.{NPath}
 use Rattle.name_calls.specs.Paths.{read_path}
+use Rattle.name_calls.specs.ReadPaths.{read_any_path}
 use Rattle.edit_ops.specs.declared.ops.EditOp.{EditOp}
 use Rattle.key_rows.specs.declared.rows.KeyCommand.{KeyCommand}
 use Rattle.kms_calls.specs.declared.calls.KmsCall.{KmsCall}
@@ -25,6 +25,7 @@ use Rattle.hk_events.specs.declared.event.Line.TheVariants as line
 use Rattle.world_run.specs.declared.kept.KeptReply.{KeptReply}
 use Rattle.world_run.specs.declared.kept.KeptReply.TheVariants.{ToAsk}
 use Rattle.world_run.specs.Acknowledged.{Acknowledged, Survives}
+use Rattle.world_run.specs.SnapPaths.{read_snap_path, snap_at, unsnap_at}
 use Rattle.world_run.specs.Step.{delete_with, finish_line}
 use Rattle.world_run.specs.World.{WorldState, numbered}
 
@@ -57,10 +58,10 @@ pub record OwnOfNamesCall (s : NameService) (c : NameCall) (told : Line) (s' : N
   pub told_is : told ≡ line.Name reply
   pub own : OwnOf s c reply s' kept op
 
--- the same for a call at a path as it was given
-abbrev pub OwnOfPath : NameService → (NPath → NameCall) → Option NPath → Line → NameService → Bool → EditOp → Type 0
+-- the same for a call about what is read from the bytes of an event
+abbrev pub OwnOfPath : {X : Type 0} → NameService → (X → NameCall) → Option X → Line → NameService → Bool → EditOp → Type 0
 OwnOfPath s c None told s' kept op = ⊥
-OwnOfPath s c (Some path) told s' kept op = OwnOfNamesCall s (c path) told s' kept op
+OwnOfPath s c (Some read) told s' kept op = OwnOfNamesCall s (c read) told s' kept op
 
 -- the operation that a finish of an ask, by the meaning of its reply, may write there with this answer
 pub record OwnOfFinishedAsk (s : NameService) (id : ℕ) (answer : KeyAnswer) (told : Line) (s' : NameService) (kept : Bool) (op : EditOp) : Type 0 where
@@ -79,8 +80,12 @@ OwnOfEvent w event.RestartKms told w' kept op = NothingMore kept op
 OwnOfEvent w event.RestartName told w' kept op = AnOpening kept op
 OwnOfEvent w (event.Mkdir user path) told w' kept op = OwnOfPath w.names call.Mkdir (read_path path) told w'.names kept op
 OwnOfEvent w (event.Delete user path recursive) told w' kept op = OwnOfPath w.names (delete_with recursive) (read_path path) told w'.names kept op
-OwnOfEvent w (event.Info user path) told w' kept op = OwnOfPath w.names call.Info (read_path path) told w'.names kept op
-OwnOfEvent w (event.List user path) told w' kept op = OwnOfPath w.names call.List (read_path path) told w'.names kept op
+OwnOfEvent w (event.Info user path) told w' kept op = OwnOfPath w.names call.Info (read_any_path path) told w'.names kept op
+OwnOfEvent w (event.List user path) told w' kept op = OwnOfPath w.names call.List (read_any_path path) told w'.names kept op
+OwnOfEvent w (event.Allow user path) told w' kept op = OwnOfPath w.names call.Allow (read_path path) told w'.names kept op
+OwnOfEvent w (event.Disallow user path) told w' kept op = OwnOfPath w.names call.Disallow (read_path path) told w'.names kept op
+OwnOfEvent w (event.Snap user path name) told w' kept op = OwnOfPath w.names snap_at (read_snap_path path name) told w'.names kept op
+OwnOfEvent w (event.Unsnap user path name) told w' kept op = OwnOfPath w.names unsnap_at (read_snap_path path name) told w'.names kept op
 OwnOfEvent w (event.Zones user) told w' kept op = OwnOfNamesCall w.names call.Zones told w'.names kept op
 OwnOfEvent w (event.AskCreate user path) told w' kept op = NothingMore kept op
 OwnOfEvent w (event.AskZone user path key) told w' kept op = NothingMore kept op

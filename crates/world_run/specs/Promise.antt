@@ -1,4 +1,4 @@
--- The promise on files in encryption zones.
+-- The promise on files in encryption zones, live and in snapshots.
 use Rattle.std.specs.Prelude.{◌≡◌, ◌⊎◌, ◌+◌, ◌≤◌, ℕ, ⊤, Bool, List, [], ◌∷◌, length, Option, None, Some}
 use Rattle.hk_base.specs.declared.names.Edek.{Edek}
 use Rattle.hk_base.specs.declared.names.KeyName.{KeyName}
@@ -53,7 +53,7 @@ pub record FilesOpen (ledger : Ledger) (keys : List KeyRow) (names : NameTable) 
   pub open_up : (file : Row) (edek : Edek) → In file (kept_rows names) → edek_of file.kind ≡ Some edek → OpensToItsDraw ledger keys file.id edek
   -- the ledger has one draw for an id
   pub one_draw : (id : ℕ) (d f : Draw) → In (id, d) ledger → In (id, f) ledger → d ≡ f
-  -- a file has an encrypted key exactly if it is in a zone, and then of that zone's key
+  -- a live file has an encrypted key exactly if it is in a zone, and then of that zone's key
   pub of_zone : (file : Entry) → In file names.rows → FitsZone (key_of_zone names.rows file.path) file.row.kind
 
 -- The draws of two files have no word in common.

@@ -4,6 +4,7 @@ use Rattle.name_calls.specs.declared.paths.NPath.{NPath}
 use Rattle.name_calls.specs.declared.paths.PathFault.{PathFault}
 use Rattle.name_calls.specs.declared.paths.PathFault.TheVariants.{BadPath, NoMemory}
 use Rattle.name_calls.specs.Paths.{read_path}
+use Rattle.name_calls.specs.ReadPaths.{read_any_path}
 use Rattle.edit_ops.specs.declared.ops.EditOp.{EditOp}
 use Rattle.kms_calls.specs.declared.calls.KmsCall.{KmsCall}
 use Rattle.hk_base.specs.declared.names.KeyName.{KeyName}
@@ -43,6 +44,7 @@ use Rattle.hk_events.specs.declared.event.Line.TheVariants as line
 use Rattle.world_run.specs.declared.kept.KeptReply.{KeptReply}
 use Rattle.world_run.specs.declared.kept.KeptReply.TheVariants.{ToAsk}
 use Rattle.world_run.specs.Acknowledged.{Acknowledged, nothing_acknowledged, of_keys, of_names}
+use Rattle.world_run.specs.SnapPaths.{read_snap_path, snap_at, unsnap_at}
 use Rattle.world_run.specs.World.{WorldState, next_note, next_reply, numbered, with_names, with_note, with_reply}
 
 -- no word is drawn, and nothing is acknowledged
@@ -104,7 +106,7 @@ pub record NamesAct (w : WorldState) (user : Text) (c : NameCall) (fault : Type 
   pub none_drawn : drawn ≡ 0
   pub left : w' ≡ record w { names = names }
 
--- a path is refused if it is outside the rule, or if there is no memory to read it; nothing changes then
+-- a path or a name is refused if it is outside the rule, or if there is no memory to read it; nothing changes then
 pub record Unread (w : WorldState) (why : NameReply) (told : Line) (drawn : ℕ) (logged : Acknowledged) (w' : WorldState) : Type 0 where
   pub told_is : told ≡ line.Name why
   pub quiet : IsQuiet drawn logged
@@ -114,10 +116,10 @@ abbrev pub unread_reply : PathFault → NameReply
 unread_reply BadPath = reply.Refused refusal.BadPath
 unread_reply NoMemory = reply.Refused refusal.NoMemory
 
--- a call of the namesystem at a path as it was given
-abbrev pub PathActs : WorldState → Text → (NPath → NameCall) → Option NPath → Type 0 → Line → ℕ → Acknowledged → WorldState → Type 0
+-- A call of the namesystem about what is read from the bytes of an event: a path, or a path and a name.
+abbrev pub PathActs : {X : Type 0} → WorldState → Text → (X → NameCall) → Option X → Type 0 → Line → ℕ → Acknowledged → WorldState → Type 0
 PathActs w user c None fault told drawn logged w' = Unread w (reply.Refused refusal.BadPath) told drawn logged w'
-PathActs w user c (Some path) fault told drawn logged w' = NamesAct w user (c path) fault told drawn logged w' ⊎ Unread w (reply.Refused refusal.NoMemory) told drawn logged w'
+PathActs w user c (Some read) fault told drawn logged w' = NamesAct w user (c read) fault told drawn logged w' ⊎ Unread w (reply.Refused refusal.NoMemory) told drawn logged w'
 
 abbrev pub delete_with : Bool → NPath → NameCall
 delete_with recursive path = call.Delete path recursive
@@ -232,8 +234,12 @@ Step lines w words now event.RestartKms fault tells told drawn logged w' = Resta
 Step lines w words now event.RestartName fault tells told drawn logged w' = RestartsNames w tells told drawn logged w'
 Step lines w words now (event.Mkdir user path) fault tells told drawn logged w' = PathActs w user call.Mkdir (read_path path) fault told drawn logged w'
 Step lines w words now (event.Delete user path recursive) fault tells told drawn logged w' = PathActs w user (delete_with recursive) (read_path path) fault told drawn logged w'
-Step lines w words now (event.Info user path) fault tells told drawn logged w' = PathActs w user call.Info (read_path path) fault told drawn logged w'
-Step lines w words now (event.List user path) fault tells told drawn logged w' = PathActs w user call.List (read_path path) fault told drawn logged w'
+Step lines w words now (event.Info user path) fault tells told drawn logged w' = PathActs w user call.Info (read_any_path path) fault told drawn logged w'
+Step lines w words now (event.List user path) fault tells told drawn logged w' = PathActs w user call.List (read_any_path path) fault told drawn logged w'
+Step lines w words now (event.Allow user path) fault tells told drawn logged w' = PathActs w user call.Allow (read_path path) fault told drawn logged w'
+Step lines w words now (event.Disallow user path) fault tells told drawn logged w' = PathActs w user call.Disallow (read_path path) fault told drawn logged w'
+Step lines w words now (event.Snap user path name) fault tells told drawn logged w' = PathActs w user snap_at (read_snap_path path name) fault told drawn logged w'
+Step lines w words now (event.Unsnap user path name) fault tells told drawn logged w' = PathActs w user unsnap_at (read_snap_path path name) fault told drawn logged w'
 Step lines w words now (event.Zones user) fault tells told drawn logged w' = NamesAct w user call.Zones fault told drawn logged w'
 Step lines w words now (event.AskCreate user path) fault tells told drawn logged w' = IsQuiet drawn logged × AskAt w user ask.Create (read_path path) told w'
 Step lines w words now (event.AskZone user path key) fault tells told drawn logged w' = IsQuiet drawn logged × AskAt w user (zone_with key) (read_path path) told w'

@@ -5,6 +5,7 @@
 mod fault;
 mod kept;
 mod laws;
+mod snap_path;
 mod world;
 
 pub use fault::WorldFault;

@@ -5,6 +5,7 @@ ghost use Rattle.hk_base.specs.Faults.{Rose};
 ghost use Rattle.frame_log.specs.Stands.{LeavesFrom};
 ghost use Rattle.frame_log.specs.declared.fault.StartFault.TheVariants as start;
 ghost use Rattle.name_calls.specs.Paths.{read_path};
+ghost use Rattle.name_calls.specs.ReadPaths.{read_any_path};
 ghost use Rattle.edit_ops.specs.declared.ops.EditOp.{EditOp};
 ghost use Rattle.key_rows.specs.declared.rows.KeyCommand.{KeyCommand};
 ghost use Rattle.key_rows.specs.Table.{Table};
@@ -24,11 +25,13 @@ ghost use Rattle.world_run.specs.Does.{CallHappens, DrawHappens, FinishHappens, 
 ghost use Rattle.world_run.specs.Keeps.{Begins, Fails, LeftByStarts, Steps};
 ghost use Rattle.world_run.specs.Linked.{ServicesFit};
 ghost use Rattle.world_run.specs.Starts.{KeysOpened, StartHappens};
+ghost use Rattle.world_run.specs.SnapPaths.{read_snap_path, snap_at, unsnap_at};
 ghost use Rattle.world_run.specs.Step.{AskActs, AskAt, Refuses, delete_with, finish_line, unread_refusal, unread_reply, zone_with};
 ghost use Rattle.world_run.specs.World.{numbered, world_of};
 
 use crate::fault::WorldFault;
 use crate::kept::{KeptReply, again, note_numbered, reply_numbered};
+use crate::snap_path::SnapPath;
 use frame_log::StartFault;
 use hk_base::{ByteList, Disk, KeyName, NoMemory, Text, Words};
 use hk_events::{Event, Line};
@@ -36,7 +39,8 @@ use kms_acls::Acls;
 use kms_calls::{KmsCall, KmsRefusal, KmsReply};
 use kms_core::Kms;
 use name_calls::{
-    Answered, Ask, AskNote, KeyAnswer, NPath, NameCall, NameRefusal, NameReply, PathFault, Want,
+    Answered, Ask, AskNote, KeyAnswer, NPath, NameCall, NameRefusal, NameReply, PathFault,
+    ReadPath, Want,
 };
 use name_core::Name;
 use prop_text::Props;
@@ -205,7 +209,7 @@ impl World {
             Ok(names) => names,
             Err(fault) => return Err(WorldFault { file: NAMES, fault }),
         };
-        let _ = names.count();
+        names.invariants();
         Ok(World {
             alloc,
             keys,
@@ -217,9 +221,9 @@ impl World {
     }
 
     /// Lets an event happen, and answers it. `now` is the moment of the event. If the world was linked
-    /// with the draws and entries so far, it is linked again, and each file in a zone opens to the data
-    /// encryption key drawn for it, even with the keys and the files that a crash at any moment of the
-    /// event leaves in both logs.
+    /// with the draws and entries so far, it is linked again, and each file in a zone, live or in a
+    /// snapshot, opens to the data encryption key drawn for it, even with the keys and the files that a
+    /// crash at any moment of the event leaves in both logs.
     ///
     /// The access control lists of the start judge each call of the key management service first: a
     /// user's call as that user's, and a call that an ask wants as one of the user `hdfs`. A call that
@@ -253,7 +257,7 @@ impl World {
         ensures names_file { self.now.names.store.log.log.file ≡ 1 }
     {
         let _ = self.keys.count();
-        let _ = self.names.count();
+        self.names.invariants();
     }
 
     fn happen<D: Disk, W: Words>(
@@ -280,6 +284,10 @@ impl World {
             } => Ok(self.delete(disk, &user, &path, recursive)),
             Event::Info { user, path } => Ok(self.info(disk, &user, &path)),
             Event::List { user, path } => Ok(self.list(disk, &user, &path)),
+            Event::Allow { user, path } => Ok(self.allow(disk, &user, &path)),
+            Event::Disallow { user, path } => Ok(self.disallow(disk, &user, &path)),
+            Event::Snap { user, path, name } => Ok(self.snap(disk, &user, &path, name)),
+            Event::Unsnap { user, path, name } => Ok(self.unsnap(disk, &user, &path, name)),
             Event::Zones { user } => Ok(self.call(disk, &user, NameCall::Zones)),
             Event::AskCreate { user, path } => Ok(self.ask_create(user, path)),
             Event::AskZone { user, path, key } => Ok(self.ask_zone(user, path, key)),
@@ -374,9 +382,9 @@ impl World {
 
     fn info<D: Disk>(&mut self, disk: &mut D, user: &Text, path: &ByteList) -> Line
         requires stands { Tells (D.state disk.old) → ((done : Acknowledged) × HoldsLogs (D.state disk.old) self.old done) }
-        ensures { PathHappens (D.state disk.old) (D.state disk.new) self.old user.now call.Info (read_path path.now) result self.new }
+        ensures { PathHappens (D.state disk.old) (D.state disk.new) self.old user.now call.Info (read_any_path path.now) result self.new }
     {
-        match NPath::read(self.alloc, path.as_slice()) {
+        match ReadPath::read(self.alloc, path.as_slice()) {
             Err(fault) => Line::Name(unread(fault)),
             Ok(path) => self.call(disk, user, NameCall::Info { path }),
         }
@@ -384,11 +392,69 @@ impl World {
 
     fn list<D: Disk>(&mut self, disk: &mut D, user: &Text, path: &ByteList) -> Line
         requires stands { Tells (D.state disk.old) → ((done : Acknowledged) × HoldsLogs (D.state disk.old) self.old done) }
-        ensures { PathHappens (D.state disk.old) (D.state disk.new) self.old user.now call.List (read_path path.now) result self.new }
+        ensures { PathHappens (D.state disk.old) (D.state disk.new) self.old user.now call.List (read_any_path path.now) result self.new }
+    {
+        match ReadPath::read(self.alloc, path.as_slice()) {
+            Err(fault) => Line::Name(unread(fault)),
+            Ok(path) => self.call(disk, user, NameCall::List { path }),
+        }
+    }
+
+    fn allow<D: Disk>(&mut self, disk: &mut D, user: &Text, path: &ByteList) -> Line
+        requires stands { Tells (D.state disk.old) → ((done : Acknowledged) × HoldsLogs (D.state disk.old) self.old done) }
+        ensures { PathHappens (D.state disk.old) (D.state disk.new) self.old user.now call.Allow (read_path path.now) result self.new }
     {
         match NPath::read(self.alloc, path.as_slice()) {
             Err(fault) => Line::Name(unread(fault)),
-            Ok(path) => self.call(disk, user, NameCall::List { path }),
+            Ok(path) => self.call(disk, user, NameCall::Allow { path }),
+        }
+    }
+
+    fn disallow<D: Disk>(&mut self, disk: &mut D, user: &Text, path: &ByteList) -> Line
+        requires stands { Tells (D.state disk.old) → ((done : Acknowledged) × HoldsLogs (D.state disk.old) self.old done) }
+        ensures { PathHappens (D.state disk.old) (D.state disk.new) self.old user.now call.Disallow (read_path path.now) result self.new }
+    {
+        match NPath::read(self.alloc, path.as_slice()) {
+            Err(fault) => Line::Name(unread(fault)),
+            Ok(path) => self.call(disk, user, NameCall::Disallow { path }),
+        }
+    }
+
+    fn snap<D: Disk>(&mut self, disk: &mut D, user: &Text, path: &ByteList, name: ByteList) -> Line
+        requires stands { Tells (D.state disk.old) → ((done : Acknowledged) × HoldsLogs (D.state disk.old) self.old done) }
+        ensures { PathHappens (D.state disk.old) (D.state disk.new) self.old user.now snap_at (read_snap_path path.now name) result self.new }
+    {
+        match SnapPath::read(self.alloc, path, name) {
+            Err(fault) => Line::Name(unread(fault)),
+            Ok(at) => {
+                let call = NameCall::Snap {
+                    path: at.path,
+                    name: at.name,
+                };
+                self.call(disk, user, call)
+            }
+        }
+    }
+
+    fn unsnap<D: Disk>(
+        &mut self,
+        disk: &mut D,
+        user: &Text,
+        path: &ByteList,
+        name: ByteList,
+    ) -> Line
+        requires stands { Tells (D.state disk.old) → ((done : Acknowledged) × HoldsLogs (D.state disk.old) self.old done) }
+        ensures { PathHappens (D.state disk.old) (D.state disk.new) self.old user.now unsnap_at (read_snap_path path.now name) result self.new }
+    {
+        match SnapPath::read(self.alloc, path, name) {
+            Err(fault) => Line::Name(unread(fault)),
+            Ok(at) => {
+                let call = NameCall::Unsnap {
+                    path: at.path,
+                    name: at.name,
+                };
+                self.call(disk, user, call)
+            }
         }
     }
 

@@ -37,6 +37,26 @@ returns-in-List g c lines lists =
     so-happens lines (g.D.Disk.state c.args.disk.now) (g.D.Disk.state c.list.new.disk) c.args.self.now c.list.new.self (g.W.Words.to_come c.args.words.now) (g.W.Words.to_come c.args.words.now) c.args.now c.args.event (event.List c.in-List.user c.in-List.path) c.list.result c.in-List.is
     (c.list.ensures (g.W.Words.to_come c.args.words.now))
 
+pub returns-in-Allow : goal.returns-in-Allow
+returns-in-Allow g c lines lists =
+    so-happens lines (g.D.Disk.state c.args.disk.now) (g.D.Disk.state c.allow.new.disk) c.args.self.now c.allow.new.self (g.W.Words.to_come c.args.words.now) (g.W.Words.to_come c.args.words.now) c.args.now c.args.event (event.Allow c.in-Allow.user c.in-Allow.path) c.allow.result c.in-Allow.is
+    (c.allow.ensures (g.W.Words.to_come c.args.words.now))
+
+pub returns-in-Disallow : goal.returns-in-Disallow
+returns-in-Disallow g c lines lists =
+    so-happens lines (g.D.Disk.state c.args.disk.now) (g.D.Disk.state c.disallow.new.disk) c.args.self.now c.disallow.new.self (g.W.Words.to_come c.args.words.now) (g.W.Words.to_come c.args.words.now) c.args.now c.args.event (event.Disallow c.in-Disallow.user c.in-Disallow.path) c.disallow.result c.in-Disallow.is
+    (c.disallow.ensures (g.W.Words.to_come c.args.words.now))
+
+pub returns-in-Snap : goal.returns-in-Snap
+returns-in-Snap g c lines lists =
+    so-happens lines (g.D.Disk.state c.args.disk.now) (g.D.Disk.state c.snap.new.disk) c.args.self.now c.snap.new.self (g.W.Words.to_come c.args.words.now) (g.W.Words.to_come c.args.words.now) c.args.now c.args.event (event.Snap c.in-Snap.user c.in-Snap.path c.in-Snap.name) c.snap.result c.in-Snap.is
+    (c.snap.ensures (g.W.Words.to_come c.args.words.now))
+
+pub returns-in-Unsnap : goal.returns-in-Unsnap
+returns-in-Unsnap g c lines lists =
+    so-happens lines (g.D.Disk.state c.args.disk.now) (g.D.Disk.state c.unsnap.new.disk) c.args.self.now c.unsnap.new.self (g.W.Words.to_come c.args.words.now) (g.W.Words.to_come c.args.words.now) c.args.now c.args.event (event.Unsnap c.in-Unsnap.user c.in-Unsnap.path c.in-Unsnap.name) c.unsnap.result c.in-Unsnap.is
+    (c.unsnap.ensures (g.W.Words.to_come c.args.words.now))
+
 pub returns-in-Zones : goal.returns-in-Zones
 returns-in-Zones g c lines lists =
     so-happens lines (g.D.Disk.state c.args.disk.now) (g.D.Disk.state c.call.new.disk) c.args.self.now c.call.new.self (g.W.Words.to_come c.args.words.now) (g.W.Words.to_come c.args.words.now) c.args.now c.args.event (event.Zones c.in-Zones.user) c.call.result c.in-Zones.is

@@ -28,6 +28,6 @@ returns g c =
     (parts c.in-Ok-open_keys.keys c.in-Ok-start.names c.new.result.items c.new-2.result.items)
     (record { counts = g.met.D.Disk.counts_now c.args.disk.now; only = g.met.D.Disk.only_now c.args.disk.now; is_one = λ told file lt. g.met.D.Disk.is_one c.args.disk.now file told lt })
     (record { counts = g.met.D.Disk.counts_now c.open_keys.new.disk; only = g.met.D.Disk.only_now c.open_keys.new.disk; is_one = λ told file lt. g.met.D.Disk.is_one c.open_keys.new.disk file told lt })
-    c.count.ensures.file c.count-2.ensures.file (record { keys = c.count.ensures.rules; names = c.count-2.ensures.rules }) (λ i. record { notes = c.new.ensures.items i; replies = c.new-2.ensures.items i })
+    c.count.ensures.file c.invariants.ensures.file (record { keys = c.count.ensures.rules; names = c.invariants.ensures.names }) (λ i. record { notes = c.new.ensures.items i; replies = c.new-2.ensures.items i })
     c.in-Ok-open_keys.ensures.lists c.in-Ok-open_keys.ensures.started c.in-Ok-start.ensures.started c.open_keys.ensures.any_moment c.in-Ok-open_keys.ensures.since_sync c.open_keys.ensures.run
     c.start.ensures.any_moment c.in-Ok-start.ensures.since_sync c.start.ensures.run
