@@ -1,112 +1,113 @@
--- What stays true of open asks and of a zone from step to step.
-use Rattle.std.proofs.Common.{◌≡◌, ℕ, ◌+◌, ◌*◌, ◌^◌, ◌<◌, ◌≤◌, inl, inr, Bool, true, false, List, [], ◌∷◌, Option, Some, None, Result, is_some, refl, sym, ap, subst, arith}
-use Rattle.std.specs.List.{All, AllByRecursion}
+-- What stays true of open asks and of the table from step to step.
+use Rattle.std.proofs.Common.{◌≡◌, ℕ, ◌+◌, ◌*◌, ◌^◌, ◌≤◌, inl, inr, Bool, true, false, List, [], ◌∷◌, Option, Some, None, Result, refl, sym, ap, subst, arith}
+use Rattle.std.specs.Bool.{⊤}
+use Rattle.std.specs.List.{AllByRecursion}
 use Rattle.hk_base.specs.declared.names.Edek.{Edek}
-use Rattle.hk_base.specs.declared.names.KeyName.{KeyName}
-use Rattle.inode_tree.specs.Rows.{Entry, is_dir_at, row_at, zone_of}
 use Rattle.edit_ops.specs.declared.ops.EditOp.{EditOp}
 use Rattle.edit_ops.specs.declared.ops.EditOp.TheVariants as op
 use Rattle.name_store.specs.Store.{is_opening}
-use Rattle.name_store.proofs.CauseLemmas.{markable}
+use Rattle.name_store.specs.Table.{NameTable, after_table}
 use Rattle.name_core.specs.declared.asks.OpenAsk.{OpenAsk}
 use Rattle.name_calls.specs.declared.calls.Ask.{Ask}
-use Rattle.name_calls.specs.declared.calls.Ask.TheVariants as ask
 use Rattle.name_calls.specs.declared.calls.KeyAnswer.{KeyAnswer}
 use Rattle.name_calls.specs.declared.calls.KeyAnswer.TheVariants as answer
 use Rattle.name_calls.specs.declared.calls.NameCall.{NameCall}
 use Rattle.name_calls.specs.declared.calls.NameCall.TheVariants as call
 use Rattle.name_calls.specs.declared.calls.NameRefusal.{NameRefusal}
 use Rattle.name_calls.specs.declared.calls.NameReply.{NameReply}
-use Rattle.name_core.specs.State.{NameService, NameState, next_id, settled}
+use Rattle.name_core.specs.State.{NameService, NameState, next_id, settled, started}
 use Rattle.name_core.specs.Asks.{Finishes, closed, finish_causes, finish_op, open_ask, opened, unless_stopped}
 use Rattle.name_core.specs.Calls.{NameActs, NoRoom, Plain, causes, deed, done_with, early_causes, first_cause, numbered, unless_refused}
 use Rattle.name_core.specs.Service.{FinishServes, FinishServesAt, FinishServesOpen, Serves, ServesBy, ServesUnless, is_change}
 use Rattle.name_core.specs.Steps.{Keeps}
 use Rattle.name_core.specs.Laws.{AnyFault, IsStep, Called, Asked, Finished, Reaches}
-use Rattle.name_core.proofs.AllowedLemmas.{may-make-zone}
+use Rattle.name_core.proofs.AllowedLemmas.{no-opening-finish}
 use Rattle.name_core.proofs.AskLaws.{ids_stay_below}
 use Rattle.name_core.proofs.AskLemmas.{each-append, each-without, open-holds}
-use Rattle.name_core.proofs.KeepLemmas.{same-opening, settled-next, with_ask}
+use Rattle.name_core.proofs.KeepLemmas.{keeps-settled, same-opening, settled-next, with_ask}
 use Rattle.name_core.proofs.Layers.{Asking, Same, Opened, asking}
-use Rattle.run_laws.proofs.ZoneMarks.{HasKey, LeavesZone, keys-stay}
-
--- A zone with its key, if there is one, and a property of open asks: each ask whose id is n or above has it, and none with the id of the
--- zone, which is below n.
-pub record Begun (under : Option ℕ) (key : Option KeyName) (P : OpenAsk → Type 0) (n : ℕ) : Type 0 where
-  pub marked : (i : ℕ) → under ≡ Some i → is_some key ≡ true
-  pub zone_below : (i : ℕ) → under ≡ Some i → i < n
-  pub apart : (q : OpenAsk) → P q → under ≡ Some q.id → ⊥
-  pub later_asks : (q : OpenAsk) → n ≤ q.id → P q
-
--- what stays true from step to step, whether the pending operation will be kept or dropped
-pub record Stays (under : Option ℕ) (key : Option KeyName) (P : OpenAsk → Type 0) (n : ℕ) (s : NameService) : Type 0 where
-  pub later : n ≤ next_id s.names
-  pub asks : AllByRecursion P s.names.asks
-  pub rows : (kept : Bool) → All (HasKey under key) (settled kept s).table.rows
 
 abbrev pub Alone : NameState → NameService
 Alone s = record { names = s; pending = None }
 
--- a directory that a finish marks is outside all zones
-may-mark : (rows : List Entry) (a : OpenAsk) (edek : Option Edek) (p : List (List ℕ)) (key : KeyName) → first_cause (finish_causes rows a edek (ask.Zone p key)) ≡ None
-    → (is_dir_at (row_at rows p) ≡ true) × (is_some (zone_of rows p) ≡ false)
-may-mark rows a edek p key h = let m = markable rows p (may-make-zone rows a edek p key h) in (m.dir, ap is_some m.outside)
+-- A property of tables, and one of open asks that each ask has whose id is n or above. Changes keep the first: those of calls that `Spares`
+-- allows, and those of finishes of asks that have the second.
+pub record Invariant (Holds : NameTable → Type 0) (P : OpenAsk → Type 0) (Spares : NameState → NameCall → Type 0) (n : ℕ) : Type 0 where
+  pub called : (s : NameState) (c : NameCall) (o : EditOp) → Keeps (Alone s) → n ≤ next_id s → Spares s c → first_cause (causes s c) ≡ None → (deed s c).logs ≡ Some o → Holds s.table → Holds (after_table s.table o)
+  pub finished : (t : NameTable) (q : OpenAsk) (edek : Option Edek) → P q → first_cause (finish_causes t.rows q edek q.ask) ≡ None → Holds t → Holds (after_table t (finish_op q.id edek q.ask))
+  pub later_asks : (q : OpenAsk) → n ≤ q.id → P q
 
-module _ (under : Option ℕ) (key : Option KeyName) (P : OpenAsk → Type 0) (n : ℕ) (begun : Begun under key P n) where
+-- what stays true from step to step, whether the pending operation will be kept or dropped
+pub record Stays (Holds : NameTable → Type 0) (P : OpenAsk → Type 0) (n : ℕ) (s : NameService) : Type 0 where
+  pub later : n ≤ next_id s.names
+  pub asks : AllByRecursion P s.names.asks
+  pub table : (kept : Bool) → Holds (settled kept s).table
+
+-- a step whose call, if it is one, may be made on the state that is settled
+abbrev pub SparesStep : (NameState → NameCall → Type 0) → (s s' : NameService) → IsStep s s' → Type 0
+SparesStep Spares s s' (Called user c told logged did) = (kept : Bool) → Spares (settled kept s) c
+SparesStep Spares s s' (Asked user a told asks same) = ⊤
+SparesStep Spares s s' (Finished id given told logged did) = ⊤
+
+module _ (Holds : NameTable → Type 0) (P : OpenAsk → Type 0) (Spares : NameState → NameCall → Type 0) (n : ℕ) (inv : Invariant Holds P Spares n) where
   abbrev Still : NameService → Type 0
-  Still s = Stays under key P n s
+  Still s = Stays Holds P n s
 
   at : (s t : NameService) → s ≡ t → Still t → Still s
   at s t is h = subst Still (sym is) h
 
   -- the pending operation was settled
   settles : (kept : Bool) (s : NameService) → Keeps s → Still s → Still (Alone (settled kept s))
-  settles kept s k h = record { later = let e = settled-next kept s k in let l = h.later in omega (arith, e, l); asks = h.asks; rows = λ again. h.rows kept }
+  settles kept s k h = record { later = let e = settled-next kept s k in let l = h.later in omega (arith, e, l); asks = h.asks; table = λ again. h.table kept }
 
   -- an operation takes effect, or is pending
-  takes : (s : NameState) (o : EditOp) → LeavesZone under s.table.rows o → is_opening o ≡ false → Still (Alone s) → Still (Alone (done_with (Some o) s)) × Still (record { names = s; pending = Some o })
-  takes s o leaves safe h = (
+  takes : (s : NameState) (o : EditOp) → Holds (after_table s.table o) → is_opening o ≡ false → Still (Alone s) → Still (Alone (done_with (Some o) s)) × Still (record { names = s; pending = Some o })
+  takes s o made safe h = (
     record {
       later = let e = ap (λ (m : ℕ). m * 2 ^ 32 + s.next) (same-opening s.table o safe) in let l = h.later in omega (arith, e, l);
       asks = h.asks;
-      rows = λ kept. keys-stay under key begun.marked s.table o leaves (h.rows kept);
+      table = λ kept. made;
     },
-    record { later = h.later; asks = h.asks; rows = pending },
+    record { later = h.later; asks = h.asks; table = pending },
   )
     where
-      pending : (kept : Bool) → All (HasKey under key) (settled kept (record { names = s; pending = Some o })).table.rows
-      pending true = keys-stay under key begun.marked s.table o leaves (h.rows true)
-      pending false = h.rows false
+      pending : (kept : Bool) → Holds (settled kept (record { names = s; pending = Some o })).table
+      pending true = made
+      pending false = h.table false
 
   -- calls
 
-  next-is-new : (m : ℕ) → n ≤ m → under ≡ Some m → ⊥
-  next-is-new m h is = let low = begun.zone_below m is in absurd (omega (arith, h, low))
+  does : (s : NameState) (c : NameCall) → Keeps (Alone s) → Spares s c → first_cause (causes s c) ≡ None → Still (Alone s)
+      → Still (Alone (done_with (deed s c).logs (deed s c).state)) × Still (record { names = (deed s c).state; pending = (deed s c).logs })
+  does s (call.Mkdir p) k spares free h =
+      takes (numbered s) (op.Mkdir (next_id s) p) (inv.called s (call.Mkdir p) (op.Mkdir (next_id s) p) k h.later spares free refl (h.table true)) refl
+      (record { later = let l = h.later in omega (arith, l); asks = h.asks; table = h.table })
+  does s (call.Delete p recursive) k spares free h = takes s (op.Remove p) (inv.called s (call.Delete p recursive) (op.Remove p) k h.later spares free refl (h.table true)) refl h
+  does s (call.Info r) k spares free h = (h, h)
+  does s (call.List r) k spares free h = (h, h)
+  does s (call.Allow p) k spares free h = takes s (op.Allow p) (inv.called s (call.Allow p) (op.Allow p) k h.later spares free refl (h.table true)) refl h
+  does s (call.Disallow p) k spares free h = takes s (op.Disallow p) (inv.called s (call.Disallow p) (op.Disallow p) k h.later spares free refl (h.table true)) refl h
+  does s (call.Snap p name) k spares free h = takes s (op.Snap p name) (inv.called s (call.Snap p name) (op.Snap p name) k h.later spares free refl (h.table true)) refl h
+  does s (call.Unsnap p name) k spares free h = takes s (op.Unsnap p name) (inv.called s (call.Unsnap p name) (op.Unsnap p name) k h.later spares free refl (h.table true)) refl h
+  does s call.Zones k spares free h = (h, h)
 
-  does : (s : NameState) (c : NameCall) → Still (Alone s) → Still (Alone (done_with (deed s c).logs (deed s c).state)) × Still (record { names = (deed s c).state; pending = (deed s c).logs })
-  does s (call.Mkdir p) h =
-      takes (numbered s) (op.Mkdir (next_id s) p) (next-is-new (next_id s) h.later) refl (record { later = let l = h.later in omega (arith, l); asks = h.asks; rows = h.rows })
-  does s (call.Delete p recursive) h = takes s (op.Remove p) tt refl h
-  does s (call.Info p) h = (h, h)
-  does s (call.List p) h = (h, h)
-  does s call.Zones h = (h, h)
-
-  acts : (s : NameState) (c : NameCall) (told : NameReply) (s' : NameState) → NameActs s c told s' → Still (Alone s) → Still (Alone s')
-  acts s c told s' (NoRoom, may, is) h = at (Alone s') (Alone s) (ap Alone (ap (λ o. o.state) is)) h
-  acts s c told s' (Plain, may, is) h = go (first_cause (causes s c)) is
+  acts : (s : NameState) (c : NameCall) (told : NameReply) (s' : NameState) → Keeps (Alone s) → Spares s c → NameActs s c told s' → Still (Alone s) → Still (Alone s')
+  acts s c told s' k spares (NoRoom, may, is) h = at (Alone s') (Alone s) (ap Alone (ap (λ o. o.state) is)) h
+  acts s c told s' k spares (Plain, may, is) h = go (first_cause (causes s c)) refl is
     where
-      go : (o : Option NameRefusal) → (record { told = told; state = s' }) ≡ unless_refused o s (deed s c) → Still (Alone s')
-      go (Some why) is = at (Alone s') (Alone s) (ap Alone (ap (λ o. o.state) is)) h
-      go None is = at (Alone s') (Alone (done_with (deed s c).logs (deed s c).state)) (ap Alone (ap (λ o. o.state) is)) (does s c h).0
+      go : (o : Option NameRefusal) → first_cause (causes s c) ≡ o → (record { told = told; state = s' }) ≡ unless_refused o s (deed s c) → Still (Alone s')
+      go (Some why) stops is = at (Alone s') (Alone s) (ap Alone (ap (λ o. o.state) is)) h
+      go None free is = at (Alone s') (Alone (done_with (deed s c).logs (deed s c).state)) (ap Alone (ap (λ o. o.state) is)) (does s c k spares free h).0
 
-  serves : (s : NameService) (user : List ℕ) (c : NameCall) (told : NameReply) (logged : List EditOp) (s' : NameService) → Serves s user c AnyFault told logged s' → Keeps s → Still s → Still s'
-  serves s user c told logged s' did k h = early (first_cause (early_causes user c)) did
+  serves : (s : NameService) (user : List ℕ) (c : NameCall) (told : NameReply) (logged : List EditOp) (s' : NameService) → ((kept : Bool) → Spares (settled kept s) c) → Serves s user c AnyFault told logged s' → Keeps s → Still s → Still s'
+  serves s user c told logged s' spares did k h = early (first_cause (early_causes user c)) did
     where
       by : (change : Bool) → ServesBy change s c AnyFault told logged s' → Still s'
       by false reads = at s' s reads.same h
       by true (inl waits) = at s' s waits.same h
-      by true (inr (kept, inl w)) = at s' (Alone w.changed) w.left (acts (settled kept s) c told w.changed w.acts (settles kept s k h))
-      by true (inr (kept, inr u)) = at s' (record { names = (deed (settled kept s) c).state; pending = (deed (settled kept s) c).logs }) u.left (does (settled kept s) c (settles kept s k h)).1
+      by true (inr (kept, inl w)) = at s' (Alone w.changed) w.left (acts (settled kept s) c told w.changed (keeps-settled kept s k) (spares kept) w.acts (settles kept s k h))
+      by true (inr (kept, inr u)) =
+          at s' (record { names = (deed (settled kept s) c).state; pending = (deed (settled kept s) c).logs }) u.left (does (settled kept s) c (keeps-settled kept s k) (spares kept) u.free (settles kept s k h)).1
 
       early : (o : Option NameRefusal) → ServesUnless o s c AnyFault told logged s' → Still s'
       early (Some why) refused = at s' s refused.same h
@@ -115,19 +116,11 @@ module _ (under : Option ℕ) (key : Option KeyName) (P : OpenAsk → Type 0) (n
   -- finishes
 
   closes : (s : NameService) (id : ℕ) → Still s → Still (record { names = closed s.names id; pending = s.pending })
-  closes s id h = record { later = h.later; asks = each-without P s.names.asks id h.asks; rows = h.rows }
+  closes s id h = record { later = h.later; asks = each-without P s.names.asks id h.asks; table = h.table }
 
   finishes : (s : NameState) (q : OpenAsk) (edek : Option Edek) → P q → first_cause (finish_causes s.table.rows q edek q.ask) ≡ None → Still (Alone s)
       → Still (Alone (done_with (Some (finish_op q.id edek q.ask)) (closed s q.id))) × Still (record { names = closed s q.id; pending = Some (finish_op q.id edek q.ask) })
-  finishes s q edek only free h = takes (closed s q.id) (finish_op q.id edek q.ask) (leaves q.ask free) (safe q.ask) (closes (Alone s) q.id h)
-    where
-      leaves : (k : Ask) → first_cause (finish_causes s.table.rows q edek k) ≡ None → LeavesZone under s.table.rows (finish_op q.id edek k)
-      leaves (ask.Create p) free = begun.apart q only
-      leaves (ask.Zone p key) free = may-mark s.table.rows q edek p key free
-
-      safe : (k : Ask) → is_opening (finish_op q.id edek k) ≡ false
-      safe (ask.Create p) = refl
-      safe (ask.Zone p key) = refl
+  finishes s q edek only free h = takes (closed s q.id) (finish_op q.id edek q.ask) (inv.finished s.table q edek only free (h.table true)) (no-opening-finish q.id edek q.ask) (closes (Alone s) q.id h)
 
   writes : (s : NameState) (q : OpenAsk) (edek : Option Edek) (told : Result (Unit {0}) NameRefusal) (s' : NameState) → P q → Finishes s q edek told s' → Still (Alone s) → Still (Alone s')
   writes s q edek told s' only (NoRoom, may, is) h = at (Alone s') (Alone s) (ap Alone (ap (λ o. o.state) is)) h
@@ -158,25 +151,55 @@ module _ (under : Option ℕ) (key : Option KeyName) (P : OpenAsk → Type 0) (n
   asks s s' user k same (Opened free is) h =
       at s' (record { names = with_ask s.names (opened s.names k); pending = s.pending }) (λ i. record { names = is i; pending = same i }) (record {
         later = let l = h.later in omega (arith, l);
-        asks = each-append P s.names.asks (opened s.names k) h.asks (begun.later_asks (opened s.names k) h.later);
-        rows = h.rows;
+        asks = each-append P s.names.asks (opened s.names k) h.asks (inv.later_asks (opened s.names k) h.later);
+        table = h.table;
       })
 
-  step : (s s' : NameService) → IsStep s s' → Keeps s → Still s → Still s'
-  step s s' (Called user c told logged did) k h = serves s user c told logged s' did k h
-  step s s' (Asked user q told did same) k h = asks s s' user q same (asking s.names user q told s'.names did) h
-  step s s' (Finished id given told logged did) k h = ends s id given told logged s' did k h
+  pub step : (s s' : NameService) (did : IsStep s s') → SparesStep Spares s s' did → Keeps s → Still s → Still s'
+  step s s' (Called user c told logged did) spares k h = serves s user c told logged s' spares did k h
+  step s s' (Asked user q told did same) spares k h = asks s s' user q same (asking s.names user q told s'.names did) h
+  step s s' (Finished id given told logged did) spares k h = ends s id given told logged s' did k h
 
-  pub steps : (s : NameService) (between : List NameService) (t : NameService) → Reaches s between t → Keeps s → Still s → Still t
-  steps s [] t is k h = at t s is h
-  steps s (m ∷ ms) t reaches k h = steps m ms t reaches.1 (ids_stay_below s m reaches.0 k) (step s m reaches.0 k h)
+  -- if all steps may be made
+  pub steps : ((s s' : NameService) (did : IsStep s s') → SparesStep Spares s s' did) → (s : NameService) (between : List NameService) (t : NameService) → Reaches s between t → Keeps s → Still s → Still t
+  steps spares s [] t is k h = at t s is h
+  steps spares s (m ∷ ms) t reaches k h = steps spares m ms t reaches.1 (ids_stay_below s m reaches.0 k) (step s m reaches.0 (spares s m reaches.0) k h)
+
+-- any ask, and any call
+
+abbrev pub AnyAsk : OpenAsk → Type 0
+AnyAsk q = ⊤
+
+abbrev pub AnyCall : NameState → NameCall → Type 0
+AnyCall s c = ⊤
+
+pub any-asks : (asks : List OpenAsk) → AllByRecursion AnyAsk asks
+any-asks [] = tt
+any-asks (a ∷ asks) = (tt, any-asks asks)
+
+pub any-step : (s s' : NameService) (did : IsStep s s') → SparesStep AnyCall s s' did
+any-step s s' (Called user c told logged did) = λ kept. tt
+any-step s s' (Asked user a told asks same) = tt
+any-step s s' (Finished id given told logged did) = tt
 
 -- a property of open asks, and of each ask with an id that is not used yet, stays true of open asks; used ids stay used
 pub asks-keep : (P : OpenAsk → Type 0) (n : ℕ) → ((q : OpenAsk) → n ≤ q.id → P q) → (s s' : NameService) → IsStep s s' → Keeps s → n ≤ next_id s.names → AllByRecursion P s.names.asks
     → (n ≤ next_id s'.names) × AllByRecursion P s'.names.asks
 asks-keep P n later s s' did k used asks = (still.later, still.asks)
   where
-    still : Stays None None P n s'
+    still : Stays (λ t. ⊤) P n s'
     still =
-        step None None P n (record { marked = λ i is. absurd cc; zone_below = λ i is. absurd cc; apart = λ q has is. absurd cc; later_asks = later }) s s' did k
-        (record { later = used; asks = asks; rows = λ kept i d b is. absurd cc })
+        step (λ t. ⊤) P AnyCall n (record { called = λ s c o k new spares free logs h. tt; finished = λ t q edek only free h. tt; later_asks = later }) s s' did (any-step s s' did) k
+        (record { later = used; asks = asks; table = λ kept. tt })
+
+-- ids are in order in a namesystem that is opened again
+pub keeps-reopened : (kept : Bool) (s : NameService) → Keeps s → Keeps (started (settled kept s).table)
+keeps-reopened kept s k = record {
+  few = omega arith;
+  ids = record { of_rows = λ i d b. let h = now.ids.of_rows i d b in let few = now.few in omega (arith, h, few); of_asks = tt; free = tt; rising = tt };
+  recent = tt;
+  waits = tt;
+}
+  where
+    now : Keeps (Alone (settled kept s))
+    now = keeps-settled kept s k

@@ -1,9 +1,12 @@
 -- What an event does to the namesystem, and that kept notes and replies stay.
 use Rattle.std.proofs.Common.{◌≡◌, inl, inr, ℕ, zero, suc, ◌+◌, Bool, List, [], ◌∷◌, ◌++◌, length, Option, Some, None, Result, Ok, Err, refl, sym, ap, subst, arith}
+use Rattle.std.specs.Bool.{⊤}
+use Rattle.std.specs.Option.{option_map}
 use Rattle.std.specs.Prelude.{slice_get}
 use Rattle.hk_base.specs.declared.texts.Text.{Text}
 use Rattle.name_calls.specs.declared.paths.NPath.{NPath}
 use Rattle.name_calls.specs.Paths.{read_path}
+use Rattle.name_calls.specs.ReadPaths.{read_any_path}
 use Rattle.prop_text.specs.declared.lines.PropLine.{PropLine}
 use Rattle.kms_core.specs.State.{opened}
 use Rattle.name_calls.specs.declared.calls.Ask.{Ask}
@@ -22,8 +25,9 @@ use Rattle.world_run.specs.declared.kept.KeptReply.{KeptReply}
 use Rattle.world_run.specs.declared.kept.KeptReply.TheVariants.{ToAsk}
 use Rattle.world_run.specs.Acknowledged.{Acknowledged}
 use Rattle.world_run.specs.Step.{AskAt, DrawActs, FinishReply, NamesAct, PathActs, Step, after_ask, delete_with, kept_reply, zone_with}
+use Rattle.world_run.specs.SnapPaths.{read_snap_path, snap_at, unsnap_at}
 use Rattle.world_run.specs.World.{Kept, WorldState, numbered, with_names, with_reply}
-use Rattle.run_laws.specs.Runs.{DiskTells, Happens, Leads}
+use Rattle.run_laws.specs.Runs.{DiskTells, Happens, Leads, call_of}
 
 -- values kept under numbers
 
@@ -51,77 +55,89 @@ pub record StaysKept (k k' : Kept) : Type 0 where
 kept-same : (k : Kept) → StaysKept k k
 kept-same k = record { notes = λ n note h. h; replies = λ n reply h. h }
 
--- the namesystem is unchanged, or took a step, or was opened again from its log
-pub data Turns (s s' : NameService) : Type 0 where
-  Rests : s' ≡ s → Turns s s'
-  Stepped : IsStep s s' → Turns s s'
-  Reopened : (kept : Bool) → s' ≡ started (settled kept s).table → Turns s s'
+-- if the step is a call, it is the event's
+abbrev pub IsOf : {s s' : NameService} → Event → IsStep s s' → Type 0
+IsOf e (Called user c told logged serves) = call_of e ≡ Some c
+IsOf e (Asked user a told asks same) = ⊤
+IsOf e (Finished id given told logged serves) = ⊤
 
-pub record Moves (w w' : WorldState) : Type 0 where
-  pub names : Turns w.names w'.names
+-- in an event the namesystem is unchanged, or takes a step, or is opened again from its log
+pub data Turns (e : Event) (s s' : NameService) : Type 0 where
+  Rests : s' ≡ s → Turns e s s'
+  Stepped : (did : IsStep s s') → IsOf e did → Turns e s s'
+  Reopened : (kept : Bool) → s' ≡ started (settled kept s).table → Turns e s s'
+
+pub record Moves (e : Event) (w w' : WorldState) : Type 0 where
+  pub names : Turns e w.names w'.names
   pub kept : StaysKept w.kept w'.kept
 
 -- events
 
-at : (w v v' : WorldState) → v' ≡ v → Moves w v → Moves w v'
-at w v v' is m = subst (Moves w) (sym is) m
+module _ (e : Event) where
+  at : (w v v' : WorldState) → v' ≡ v → Moves e w v → Moves e w v'
+  at w v v' is m = subst (Moves e w) (sym is) m
 
-rests : (w w' : WorldState) → w' ≡ w → Moves w w'
-rests w w' is = at w w w' is (record { names = Rests refl; kept = kept-same w.kept })
+  rests : (w w' : WorldState) → w' ≡ w → Moves e w w'
+  rests w w' is = at w w w' is (record { names = Rests refl; kept = kept-same w.kept })
 
-turns : (w : WorldState) (names : NameService) → Turns w.names names → Moves w (record w { names = names })
-turns w names t = record { names = t; kept = kept-same w.kept }
+  turns : (w : WorldState) (names : NameService) → Turns e w.names names → Moves e w (record w { names = names })
+  turns w names t = record { names = t; kept = kept-same w.kept }
 
-call-moves : (w : WorldState) (user : Text) (c : NameCall) (told : Line) (drawn : ℕ) (logged : Acknowledged) (w' : WorldState) → NamesAct w user c AnyFault told drawn logged w' → Moves w w'
-call-moves w user c told drawn logged w' a = at w (record w { names = a.names }) w' a.left (turns w a.names (Stepped (Called user c a.reply a.ops a.serves)))
+  call-moves : (w : WorldState) (user : Text) (c : NameCall) (told : Line) (drawn : ℕ) (logged : Acknowledged) (w' : WorldState) → call_of e ≡ Some c → NamesAct w user c AnyFault told drawn logged w' → Moves e w w'
+  call-moves w user c told drawn logged w' its a = at w (record w { names = a.names }) w' a.left (turns w a.names (Stepped (Called user c a.reply a.ops a.serves) its))
 
-path-moves : (w : WorldState) (user : Text) (c : NPath → NameCall) (o : Option NPath) (told : Line) (drawn : ℕ) (logged : Acknowledged) (w' : WorldState) → PathActs w user c o AnyFault told drawn logged w' → Moves w w'
-path-moves w user c None told drawn logged w' u = rests w w' u.same
-path-moves w user c (Some p) told drawn logged w' (inl a) = call-moves w user (c p) told drawn logged w' a
-path-moves w user c (Some p) told drawn logged w' (inr u) = rests w w' u.same
+  path-moves : {X : Type 0} (w : WorldState) (user : Text) (c : X → NameCall) (o : Option X) (told : Line) (drawn : ℕ) (logged : Acknowledged) (w' : WorldState) → call_of e ≡ option_map c o
+      → PathActs w user c o AnyFault told drawn logged w' → Moves e w w'
+  path-moves w user c None told drawn logged w' its u = rests w w' u.same
+  path-moves w user c (Some read) told drawn logged w' its (inl a) = call-moves w user (c read) told drawn logged w' its a
+  path-moves w user c (Some read) told drawn logged w' its (inr u) = rests w w' u.same
 
-ask-moves : (w : WorldState) (user : Text) (k : NPath → Ask) (o : Option NPath) (told : Line) (w' : WorldState) → AskAt w user k o told w' → Moves w w'
-ask-moves w user k None told w' r = rests w w' r.same
-ask-moves w user k (Some p) told w' (inr r) = rests w w' r.same
-ask-moves w user k (Some p) told w' (inl a) = at w (after_ask a.result (with_names a.names w)) w' a.left (go a.result a.asks)
-  where
-    go : (result : Result AskNote NameRefusal) → Asks w.names.names user (k p) result a.names → Moves w (after_ask result (with_names a.names w))
-    go (Ok note) asks = record {
-      names = Stepped (Asked user (k p) (Ok note) asks refl);
-      kept = record { notes = λ n x h. numbered-stays w.kept.notes note n x h; replies = λ n x h. h };
-    }
-    go (Err why) asks = turns w (record w.names { names = a.names }) (Stepped (Asked user (k p) (Err why) asks refl))
+  ask-moves : (w : WorldState) (user : Text) (k : NPath → Ask) (o : Option NPath) (told : Line) (w' : WorldState) → AskAt w user k o told w' → Moves e w w'
+  ask-moves w user k None told w' r = rests w w' r.same
+  ask-moves w user k (Some p) told w' (inr r) = rests w w' r.same
+  ask-moves w user k (Some p) told w' (inl a) = at w (after_ask a.result (with_names a.names w)) w' a.left (go a.result a.asks)
+    where
+      go : (result : Result AskNote NameRefusal) → Asks w.names.names user (k p) result a.names → Moves e w (after_ask result (with_names a.names w))
+      go (Ok note) asks = record {
+        names = Stepped (Asked user (k p) (Ok note) asks refl) tt;
+        kept = record { notes = λ n x h. numbered-stays w.kept.notes note n x h; replies = λ n x h. h };
+      }
+      go (Err why) asks = turns w (record w.names { names = a.names }) (Stepped (Asked user (k p) (Err why) asks refl) tt)
 
-draw-moves : (lines : List PropLine) (w : WorldState) (words : ℕ → ℕ) (now : ℕ) (o : Option AskNote) (told : Line) (drawn : ℕ) (logged : Acknowledged) (w' : WorldState)
-    → DrawActs lines w words now o AnyFault told drawn logged w' → Moves w w'
-draw-moves lines w words now None told drawn logged w' u = rests w w' u.same
-draw-moves lines w words now (Some note) told drawn logged w' (inr full) = rests w w' full.same
-draw-moves lines w words now (Some note) told drawn logged w' (inl d) = at w (with_reply (kept_reply note d.reply) (record w { keys = d.keys })) w' d.left (record {
-  names = Rests refl;
-  kept = record { notes = λ n x h. h; replies = λ n x h. numbered-stays w.kept.replies (kept_reply note d.reply) n x h };
-})
+  draw-moves : (lines : List PropLine) (w : WorldState) (words : ℕ → ℕ) (now : ℕ) (o : Option AskNote) (told : Line) (drawn : ℕ) (logged : Acknowledged) (w' : WorldState)
+      → DrawActs lines w words now o AnyFault told drawn logged w' → Moves e w w'
+  draw-moves lines w words now None told drawn logged w' u = rests w w' u.same
+  draw-moves lines w words now (Some note) told drawn logged w' (inr full) = rests w w' full.same
+  draw-moves lines w words now (Some note) told drawn logged w' (inl d) = at w (with_reply (kept_reply note d.reply) (record w { keys = d.keys })) w' d.left (record {
+    names = Rests refl;
+    kept = record { notes = λ n x h. h; replies = λ n x h. numbered-stays w.kept.replies (kept_reply note d.reply) n x h };
+  })
 
-finish-moves : (w : WorldState) (o : Option KeptReply) (told : Line) (drawn : ℕ) (logged : Acknowledged) (w' : WorldState) → FinishReply w o AnyFault told drawn logged w' → Moves w w'
-finish-moves w None told drawn logged w' u = rests w w' u.same
-finish-moves w (Some (ToAsk id answer)) told drawn logged w' f = at w (record w { names = f.names }) w' f.left (turns w f.names (Stepped (Finished id answer f.result f.ops f.finishes)))
+  finish-moves : (w : WorldState) (o : Option KeptReply) (told : Line) (drawn : ℕ) (logged : Acknowledged) (w' : WorldState) → FinishReply w o AnyFault told drawn logged w' → Moves e w w'
+  finish-moves w None told drawn logged w' u = rests w w' u.same
+  finish-moves w (Some (ToAsk id answer)) told drawn logged w' f = at w (record w { names = f.names }) w' f.left (turns w f.names (Stepped (Finished id answer f.result f.ops f.finishes) tt))
 
 step-moves : (lines : List PropLine) (w : WorldState) (words : ℕ → ℕ) (now : ℕ) (e : Event) (told : Line) (drawn : ℕ) (logged : Acknowledged) (w' : WorldState)
-    → Step lines w words now e AnyFault DiskTells told drawn logged w' → Moves w w'
-step-moves lines w words now (event.Kms user c) told drawn logged w' s = at w (record w { keys = s.keys }) w' s.left (record { names = Rests refl; kept = kept-same w.kept })
-step-moves lines w words now event.RestartKms told drawn logged w' s = at w (record w { keys = opened s.table }) w' s.left (record { names = Rests refl; kept = kept-same w.kept })
+    → Step lines w words now e AnyFault DiskTells told drawn logged w' → Moves e w w'
+step-moves lines w words now (event.Kms user c) told drawn logged w' s = at (event.Kms user c) w (record w { keys = s.keys }) w' s.left (record { names = Rests refl; kept = kept-same w.kept })
+step-moves lines w words now event.RestartKms told drawn logged w' s = at event.RestartKms w (record w { keys = opened s.table }) w' s.left (record { names = Rests refl; kept = kept-same w.kept })
 step-moves lines w words now event.RestartName told drawn logged w' s =
-    at w (record w { names = started s.table }) w' s.left (turns w (started s.table) (Reopened (s.found tt).kept (ap started (s.found tt).table_is)))
-step-moves lines w words now (event.Mkdir user p) told drawn logged w' s = path-moves w user call.Mkdir (read_path p) told drawn logged w' s
-step-moves lines w words now (event.Delete user p recursive) told drawn logged w' s = path-moves w user (delete_with recursive) (read_path p) told drawn logged w' s
-step-moves lines w words now (event.Info user p) told drawn logged w' s = path-moves w user call.Info (read_path p) told drawn logged w' s
-step-moves lines w words now (event.List user p) told drawn logged w' s = path-moves w user call.List (read_path p) told drawn logged w' s
-step-moves lines w words now (event.Zones user) told drawn logged w' s = call-moves w user call.Zones told drawn logged w' s
-step-moves lines w words now (event.AskCreate user p) told drawn logged w' s = ask-moves w user ask.Create (read_path p) told w' s.1
-step-moves lines w words now (event.AskZone user p key) told drawn logged w' s = ask-moves w user (zone_with key) (read_path p) told w' s.1
-step-moves lines w words now (event.Draw number) told drawn logged w' s = draw-moves lines w words now (numbered w.kept.notes number) told drawn logged w' s
-step-moves lines w words now (event.Finish number) told drawn logged w' s = finish-moves w (numbered w.kept.replies number) told drawn logged w' s
+    at event.RestartName w (record w { names = started s.table }) w' s.left (turns event.RestartName w (started s.table) (Reopened (s.found tt).kept (ap started (s.found tt).table_is)))
+step-moves lines w words now (event.Mkdir user p) told drawn logged w' s = path-moves (event.Mkdir user p) w user call.Mkdir (read_path p) told drawn logged w' refl s
+step-moves lines w words now (event.Delete user p recursive) told drawn logged w' s = path-moves (event.Delete user p recursive) w user (delete_with recursive) (read_path p) told drawn logged w' refl s
+step-moves lines w words now (event.Info user p) told drawn logged w' s = path-moves (event.Info user p) w user call.Info (read_any_path p) told drawn logged w' refl s
+step-moves lines w words now (event.List user p) told drawn logged w' s = path-moves (event.List user p) w user call.List (read_any_path p) told drawn logged w' refl s
+step-moves lines w words now (event.Allow user p) told drawn logged w' s = path-moves (event.Allow user p) w user call.Allow (read_path p) told drawn logged w' refl s
+step-moves lines w words now (event.Disallow user p) told drawn logged w' s = path-moves (event.Disallow user p) w user call.Disallow (read_path p) told drawn logged w' refl s
+step-moves lines w words now (event.Snap user p name) told drawn logged w' s = path-moves (event.Snap user p name) w user snap_at (read_snap_path p name) told drawn logged w' refl s
+step-moves lines w words now (event.Unsnap user p name) told drawn logged w' s = path-moves (event.Unsnap user p name) w user unsnap_at (read_snap_path p name) told drawn logged w' refl s
+step-moves lines w words now (event.Zones user) told drawn logged w' s = call-moves (event.Zones user) w user call.Zones told drawn logged w' refl s
+step-moves lines w words now (event.AskCreate user p) told drawn logged w' s = ask-moves (event.AskCreate user p) w user ask.Create (read_path p) told w' s.1
+step-moves lines w words now (event.AskZone user p key) told drawn logged w' s = ask-moves (event.AskZone user p key) w user (zone_with key) (read_path p) told w' s.1
+step-moves lines w words now (event.Draw number) told drawn logged w' s = draw-moves (event.Draw number) lines w words now (numbered w.kept.notes number) told drawn logged w' s
+step-moves lines w words now (event.Finish number) told drawn logged w' s = finish-moves (event.Finish number) w (numbered w.kept.replies number) told drawn logged w' s
 
-pub moves : (w : WorldState) (e : Event) (told : Line) (w' : WorldState) → Happens w e told w' → Moves w w'
+pub moves : (w : WorldState) (e : Event) (told : Line) (w' : WorldState) → Happens w e told w' → Moves e w w'
 moves w e told w' h = step-moves h.lines w h.words h.now e told h.drawn h.logged w' h.step
 
 -- whole runs

@@ -32,7 +32,8 @@ use Rattle.name_core.proofs.KeepLemmas.{keeps-of}
 use Rattle.name_core.proofs.RowLemmas.{BelowId, zone-row, zone-stands}
 use Rattle.run_laws.specs.Names.{Answers, RefusedForItsZone}
 use Rattle.run_laws.proofs.ZoneMarks.{HasKey, LeavesZone, keys-stay, zone-holds}
-use Rattle.run_laws.proofs.AskSteps.{Begun, Stays, steps}
+use Rattle.run_laws.proofs.AskSteps.{AnyCall, Stays, any-step, steps}
+use Rattle.run_laws.proofs.ZoneSteps.{Begun, KeepsKey, zone-stays}
 
 -- an open ask doesn't have the id of the zone, and is the ask itself if it has its id
 abbrev IsOnly : Option ℕ → OpenAsk → OpenAsk → Type 0
@@ -77,10 +78,10 @@ module _ (s : NameService) (k : Ask) (names : IsNames s) where
 
   -- no other row has the id of the zone
   has-key : All (HasKey under key) rows
-  has-key i d b is = ap (option_and_then (λ (e : Entry). mark_of e.row.kind)) (sym (names.rows.once i d b) ∙ zone-row rows (path_asked k) _ names.rows is)
+  has-key i d b is = ap (option_and_then (λ (e : Entry). mark_of e.row.kind)) (sym (names.table.rules.once i d b) ∙ zone-row rows (path_asked k) _ names.table.rules is)
 
   taken : (i : ℕ) → is_some (entry_of rows i) ≡ false → under ≡ Some i → ⊥
-  taken i free is = let some = zone-stands rows (path_asked k) i names.rows is in absurd cc
+  taken i free is = let some = zone-stands rows (path_asked k) i names.table.rules is in absurd cc
 
   unused : (o : EditOp) (i : ℕ) → is_opening o ≡ false → uses o ≡ i ∷ [] → IsWaiting s.names o → under ≡ Some i → ⊥
   unused o i safe its w = taken i (ap is_some (id-may-be-used s.names.table i (subst (λ (ids : List ℕ). may_use_all s.names.table ids ≡ true) its (allowed s.names.table o safe w.pending.allowed).ids)).free)
@@ -92,15 +93,19 @@ module _ (s : NameService) (k : Ask) (names : IsNames s) where
   leaves (op.File id p edek) w = unused (op.File id p edek) id refl refl w
   leaves (op.Remove p) w = tt
   leaves (op.Zone p k) w = let m = markable rows p (allowed s.names.table (op.Zone p k) refl w.pending.allowed).free in (m.dir, ap is_some m.outside)
+  leaves (op.Allow p) w = tt
+  leaves (op.Disallow p) w = tt
+  leaves (op.Snap p name) w = tt
+  leaves (op.Unsnap p name) w = tt
 
-  stays : Stays under key (IsOnly under its) (next_id (asked s.names k)) (record { names = asked s.names k; pending = s.pending })
+  stays : Stays (KeepsKey under key) (IsOnly under its) (next_id (asked s.names k)) (record { names = asked s.names k; pending = s.pending })
   stays = record {
     later = omega arith;
     asks = each-append (IsOnly under its) s.names.asks its
         (each-map (λ (q : OpenAsk). (q.id < next_id s.names) × (entry_of rows q.id ≡ None)) (IsOnly under its) (λ q h. (taken q.id (ap is_some h.1), λ same. let low = h.0 in absurd (omega (arith, low, same)))) s.names.asks
         (each-both (λ (q : OpenAsk). q.id < next_id s.names) (λ (q : OpenAsk). entry_of rows q.id ≡ None) s.names.asks names.ids.of_asks names.ids.free))
         (λ is. let low = below (next_id s.names) is in absurd (omega (arith, low)), λ same. refl);
-    rows = λ kept. settles kept s.pending names.waits;
+    table = λ kept. settles kept s.pending names.waits;
   }
     where
       settles : (kept : Bool) (pending : Option EditOp) → IfSome pending (IsWaiting s.names) → All (HasKey under key) (settled_table kept pending s.names.table).rows
@@ -218,7 +223,7 @@ for-its-zone s (ask.Zone p key) rows edek have answers stops =
 pub refused_for_its_zone : RefusedForItsZone
 refused_for_its_zone s user k note s' between t edek logged t' names asks same reaches answers finish =
     subst (λ (rows : List Entry). is_other_zone rows a ≡ true) (sym stop.left)
-    (for-its-zone s.names k (settled stop.kept t).table.rows edek (now.rows stop.kept) (subst (λ (x : AskNote). Answers x.want edek) did.0 answers) stop.stops)
+    (for-its-zone s.names k (settled stop.kept t).table.rows edek (now.table stop.kept) (subst (λ (x : AskNote). Answers x.want edek) did.0 answers) stop.stops)
   where
     a : OpenAsk
     a = opened s.names k
@@ -227,11 +232,12 @@ refused_for_its_zone s user k note s' between t edek logged t' names asks same r
     did = accepted s.names user k note s'.names asks
 
     Still : NameService → Type 0
-    Still = Stays (under s k names) (key s k names) (IsOnly (under s k names) a) (next_id (asked s.names k))
+    Still = Stays (KeepsKey (under s k names) (key s k names)) (IsOnly (under s k names) a) (next_id (asked s.names k))
 
     now : Still t
     now =
-        steps (under s k names) (key s k names) (IsOnly (under s k names) a) (next_id (asked s.names k)) (begun s k names) s' between t reaches
+        steps (KeepsKey (under s k names) (key s k names)) (IsOnly (under s k names) a) AnyCall (next_id (asked s.names k))
+        (zone-stays (under s k names) (key s k names) (IsOnly (under s k names) a) (next_id (asked s.names k)) (begun s k names)) any-step s' between t reaches
         (ids_stay_below s s' (Asked user k (Ok note) asks same) (keeps-of s names))
         (subst Still (sym (λ i. record { names = did.1 i; pending = same i })) (stays s k names))
 

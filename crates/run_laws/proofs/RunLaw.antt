@@ -1,6 +1,6 @@
 -- A finish in a run that is refused for its zone.
-use Rattle.std.proofs.Common.{◌≡◌, ◌⊎◌, inl, inr, ℕ, suc, ◌^◌, ◌<◌, ◌≤◌, List, [], ◌∷◌, Option, Some, None, Result, Ok, Err, refl, sym, ap, subst, ◌∙◌, arith}
-use Rattle.std.specs.List.{All, AllByRecursion}
+use Rattle.std.proofs.Common.{◌≡◌, ◌⊎◌, inl, inr, ℕ, suc, ◌<◌, List, [], ◌∷◌, Option, Some, None, Result, Ok, Err, refl, sym, ap, subst, ◌∙◌, arith}
+use Rattle.std.specs.List.{AllByRecursion}
 use Rattle.std.specs.Option.{option_map}
 use Rattle.hk_base.specs.declared.names.Edek.{Edek}
 use Rattle.hk_base.specs.declared.texts.Text.{Text}
@@ -20,7 +20,7 @@ use Rattle.name_calls.specs.Answers.{answer_of}
 use Rattle.name_core.specs.Asks.{Asks, open_ask}
 use Rattle.name_core.specs.Laws.{AnyFault, Asked, IsStep, Reaches}
 use Rattle.name_core.specs.Service.{FinishServes, FinishServesAt}
-use Rattle.name_core.specs.State.{IsNames, NameService, NameState, next_id, settled, started}
+use Rattle.name_core.specs.State.{IsNames, NameService, NameState, next_id}
 use Rattle.name_core.specs.Steps.{Keeps}
 use Rattle.name_core.proofs.AskLaws.{ids_stay_below}
 use Rattle.name_core.proofs.AskLemmas.{open-holds, open-id}
@@ -35,7 +35,7 @@ use Rattle.world_run.specs.declared.kept.KeptReply.TheVariants.{ToAsk}
 use Rattle.world_run.specs.Step.{AskAt, DrawActs, FinishReply, after_ask, ask_line, finish_line, kept_reply, zone_with}
 use Rattle.world_run.specs.World.{WorldState, next_note, next_reply, numbered, with_names}
 use Rattle.run_laws.specs.Runs.{Happens, Leads, RunsRefuseForTheZone, ask_of}
-use Rattle.run_laws.proofs.AskSteps.{asks-keep}
+use Rattle.run_laws.proofs.AskSteps.{AnyAsk, any-asks, asks-keep, keeps-reopened}
 use Rattle.run_laws.proofs.DrawnKeys.{Fits, drawn-fits}
 use Rattle.run_laws.proofs.EventSteps.{Reopened, Rests, Stepped, Turns, leads-keep, moves, numbered-last}
 use Rattle.run_laws.proofs.RefusalLaw.{refused_for_its_zone}
@@ -55,41 +55,25 @@ one-more : (s : NameService) (between : List NameService) (t u : NameService) �
 one-more s [] t u is did = (u ∷ [], (subst (λ (x : NameService). IsStep x u) is did, refl))
 one-more s (m ∷ ms) t u reaches did = let rest = one-more m ms t u reaches.1 did in (m ∷ rest.0, (reaches.0, rest.1))
 
-each-true : (asks : List OpenAsk) → AllByRecursion (λ (q : OpenAsk). Unit {0}) asks
-each-true [] = tt
-each-true (a ∷ asks) = (tt, each-true asks)
-
--- ids are in order in a namesystem that is opened again
-reopened-keeps : (s : NameState) → s.next ≤ 2 ^ 32 → All (λ e. e.row.id < next_id s) s.table.rows → Keeps (started s.table)
-reopened-keeps s few low = record {
-  few = omega arith;
-  ids = record { of_rows = λ i d b. let h = low i d b in omega (arith, h, few); of_asks = tt; free = tt; rising = tt };
-  recent = tt;
-  waits = tt;
-}
-
-since-turn : (id : ℕ) (s t u : NameService) → Turns t u → Since id s t → Since id s u
-since-turn id s t u (Rests is) h = subst (Since id s) (sym is) h
-since-turn id s t u (Stepped did) h = record {
+since-turn : (id : ℕ) (e : Event) (s t u : NameService) → Turns e t u → Since id s t → Since id s u
+since-turn id e s t u (Rests is) h = subst (Since id s) (sym is) h
+since-turn id e s t u (Stepped did its) h = record {
   keeps = ids_stay_below t u did h.keeps;
-  used = (asks-keep (λ q. Unit {0}) (suc id) (λ q later. tt) t u did h.keeps h.used (each-true t.names.asks)).0;
+  used = (asks-keep AnyAsk (suc id) (λ q later. tt) t u did h.keeps h.used (any-asks t.names.asks)).0;
   how = elim h.how [
     | inl steps ↦ inl (one-more s steps.0 t u steps.1 did)
     | inr gone ↦ inr (asks-keep (IsNot id) (suc id) (λ q later same. absurd (omega (arith, later, same))) t u did h.keeps h.used gone).1
   ];
 }
-since-turn id s t u (Reopened kept is) h =
+since-turn id e s t u (Reopened kept is) h =
     subst (Since id s) (sym is) (record {
-      keeps = reopened-keeps (settled kept t) now.few now.ids.of_rows;
-      used = let few = now.few in let same = settled-next kept t h.keeps in let used = h.used in omega (arith, few, same, used);
+      keeps = keeps-reopened kept t h.keeps;
+      used = let few = (keeps-settled kept t h.keeps).few in let same = settled-next kept t h.keeps in let used = h.used in omega (arith, few, same, used);
       how = inr tt;
     })
-  where
-    now : Keeps (record { names = settled kept t; pending = None })
-    now = keeps-settled kept t h.keeps
 
 since-event : (id : ℕ) (s : NameService) (w : WorldState) (e : Event) (told : Line) (w' : WorldState) → Happens w e told w' → Since id s w.names → Since id s w'.names
-since-event id s w e told w' happens h = since-turn id s w.names w'.names (moves w e told w' happens).names h
+since-event id s w e told w' happens h = since-turn id e s w.names w'.names (moves w e told w' happens).names h
 
 since-run : (id : ℕ) (s : NameService) (w : WorldState) (between : List WorldState) (v : WorldState) → Leads w between v → Since id s w.names → Since id s v.names
 since-run id s w [] v is h = subst (λ (x : WorldState). Since id s x.names) (sym is) h
@@ -133,6 +117,10 @@ asks-so w (event.Mkdir user p) a number note w' is h = absurd cc
 asks-so w (event.Delete user p recursive) a number note w' is h = absurd cc
 asks-so w (event.Info user p) a number note w' is h = absurd cc
 asks-so w (event.List user p) a number note w' is h = absurd cc
+asks-so w (event.Allow user p) a number note w' is h = absurd cc
+asks-so w (event.Disallow user p) a number note w' is h = absurd cc
+asks-so w (event.Snap user p name) a number note w' is h = absurd cc
+asks-so w (event.Unsnap user p name) a number note w' is h = absurd cc
 asks-so w (event.Zones user) a number note w' is h = absurd cc
 asks-so w (event.Draw n) a number note w' is h = absurd cc
 asks-so w (event.Finish n) a number note w' is h = absurd cc

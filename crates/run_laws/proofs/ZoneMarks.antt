@@ -44,6 +44,10 @@ LeavesZone under rows (op.Mkdir id p) = under ≡ Some id → ⊥
 LeavesZone under rows (op.File id p edek) = under ≡ Some id → ⊥
 LeavesZone under rows (op.Remove p) = ⊤
 LeavesZone under rows (op.Zone p key) = (is_dir_at (row_at rows p) ≡ true) × (is_some (zone_of rows p) ≡ false)
+LeavesZone under rows (op.Allow p) = ⊤
+LeavesZone under rows (op.Disallow p) = ⊤
+LeavesZone under rows (op.Snap p name) = ⊤
+LeavesZone under rows (op.Unsnap p name) = ⊤
 
 module _ (under : Option ℕ) (key : Option KeyName) (marked : (i : ℕ) → under ≡ Some i → is_some key ≡ true) where
   outside : (x : Entry) (rows : List Entry) (p : List (List ℕ)) → is_some (zone_of (x ∷ rows) p) ≡ false → (is_zone_over p x ≡ false) × (is_some (zone_of rows p) ≡ false)
@@ -77,6 +81,10 @@ module _ (under : Option ℕ) (key : Option KeyName) (marked : (i : ℕ) → und
   keys-stay t (op.Mkdir id p) leaves h = all-put (HasKey under key) (new_directory id p) t.rows (λ is. absurd (leaves is)) h
   keys-stay t (op.File id p edek) leaves h = all-put (HasKey under key) (new_file id p edek) t.rows (λ is. absurd (leaves is)) h
   keys-stay t (op.Remove p) leaves h = All-filter (λ (e : Entry). not (is_prefix p e.path)) (HasKey under key) t.rows h
+  keys-stay t (op.Allow p) leaves h = h
+  keys-stay t (op.Disallow p) leaves h = h
+  keys-stay t (op.Snap p name) leaves h = h
+  keys-stay t (op.Unsnap p name) leaves h = h
   keys-stay t (op.Zone p k) leaves h = All-map (HasKey under key) (with_kind id (Dir (Some k))) t.rows (λ i d b. with-kind (get_or t.rows i d) (h i d b))
     where
       id : ℕ

@@ -1,22 +1,27 @@
 -- Properties of a run of events of both services.
-use Rattle.std.specs.Prelude.{◌≡◌, ℕ, true, List, [], ◌∷◌, Option, None, Some}
+use Rattle.std.specs.Prelude.{◌≡◌, ℕ, Bool, true, List, [], ◌∷◌, Option, None, Some, IfSome}
 use Rattle.std.specs.Option.{option_map}
 use Rattle.name_calls.specs.Paths.{read_path}
+use Rattle.name_calls.specs.ReadPaths.{read_any_path}
+use Rattle.snap_store.specs.Snapshots.{Snapshot, snapshot_named}
 use Rattle.kms_calls.specs.declared.calls.KmsReply.{KmsReply}
 use Rattle.prop_text.specs.declared.lines.PropLine.{PropLine}
 use Rattle.name_calls.specs.declared.calls.Ask.{Ask}
 use Rattle.name_calls.specs.declared.calls.Ask.TheVariants as ask
 use Rattle.name_calls.specs.declared.calls.AskNote.{AskNote}
+use Rattle.name_calls.specs.declared.calls.NameCall.{NameCall}
+use Rattle.name_calls.specs.declared.calls.NameCall.TheVariants as call
 use Rattle.name_calls.specs.declared.calls.NameRefusal.TheVariants as refusal
-use Rattle.name_core.specs.State.{IsNames}
+use Rattle.name_core.specs.State.{IsNames, NameService, settled}
 use Rattle.name_core.specs.Asks.{is_other_zone, opened}
-use Rattle.name_core.specs.Laws.{AnyFault}
+use Rattle.name_core.specs.Laws.{AnyFault, IsNotCalled}
 use Rattle.hk_events.specs.declared.event.Event.{Event}
 use Rattle.hk_events.specs.declared.event.Event.TheVariants as event
 use Rattle.hk_events.specs.declared.event.Line.{Line}
 use Rattle.hk_events.specs.declared.event.Line.TheVariants as line
 use Rattle.world_run.specs.Acknowledged.{Acknowledged}
-use Rattle.world_run.specs.Step.{Step, zone_with}
+use Rattle.world_run.specs.SnapPaths.{read_snap_path, snap_at, unsnap_at}
+use Rattle.world_run.specs.Step.{Step, delete_with, zone_with}
 use Rattle.world_run.specs.World.{WorldState}
 
 -- a restart finds what the log is known to hold
@@ -49,6 +54,38 @@ abbrev pub ask_of : Event → Option Ask
 ask_of (event.AskCreate user path) = option_map ask.Create (read_path path)
 ask_of (event.AskZone user path key) = option_map (zone_with key) (read_path path)
 ask_of _ = None
+
+-- The call of the namesystem that an event makes, if it makes one and what it gives can be read.
+abbrev pub call_of : Event → Option NameCall
+call_of (event.Mkdir user path) = option_map call.Mkdir (read_path path)
+call_of (event.Delete user path recursive) = option_map (delete_with recursive) (read_path path)
+call_of (event.Info user path) = option_map call.Info (read_any_path path)
+call_of (event.List user path) = option_map call.List (read_any_path path)
+call_of (event.Allow user path) = option_map call.Allow (read_path path)
+call_of (event.Disallow user path) = option_map call.Disallow (read_path path)
+call_of (event.Snap user path name) = option_map snap_at (read_snap_path path name)
+call_of (event.Unsnap user path name) = option_map unsnap_at (read_snap_path path name)
+call_of (event.Zones user) = Some call.Zones
+call_of _ = None
+
+-- the call of an event does not remove the snapshot of the directory with the id that has the name
+abbrev pub KeepsSnapshot : ℕ → List ℕ → WorldState → Event → Type 0
+KeepsSnapshot dir name w e = IfSome (call_of e) (λ c. IsNotCalled w.names c dir name)
+
+-- from w, such events that leave these worlds one after another lead to v
+abbrev pub LeadsKeeping : ℕ → List ℕ → WorldState → List WorldState → WorldState → Type 0
+LeadsKeeping dir name w [] v = v ≡ w
+LeadsKeeping dir name w (m ∷ ms) v = ((h : SomeHappens w m) × KeepsSnapshot dir name w h.event) × LeadsKeeping dir name m ms v
+
+-- the namesystem has the snapshot, whether its pending operation is kept or dropped
+abbrev pub HasSnapshot : ℕ → List ℕ → Snapshot → NameService → Type 0
+HasSnapshot dir name was s = (kept : Bool) → snapshot_named (settled kept s).table.snaps.taken dir name ≡ Some was
+
+-- A snapshot stays as it is through all events that do not remove it, restarts included.
+abbrev pub RunsKeepSnapshots : Type 0
+RunsKeepSnapshots =
+    (w : WorldState) (dir : ℕ) (name : List ℕ) (was : Snapshot) (between : List WorldState) (v : WorldState)
+    → IsNames w.names → HasSnapshot dir name was w.names → LeadsKeeping dir name w between v → HasSnapshot dir name was v.names
 
 -- An ask is accepted; after any events its draw is made, by the number of its note, and the reply is kept; after any events its finish
 -- takes that reply. If it is refused with ZoneChanged, the zone that the path lies in is another one than when the ask was made.
