@@ -1,5 +1,5 @@
 -- A line is the text of at most one event.
-use Rattle.std.proofs.Common.{◌≡◌, ℕ, ◌<◌, ◌^◌, List, [], ◌∷◌, ◌++◌, length, subst, Bool, true, false, ◌&&◌, nat_lt, nat_le, Option, None, Some, Ok, refl, ap, ap₂, sym, ◌∙◌, arith, append_assoc, codes}
+use Rattle.std.proofs.Common.{◌≡◌, ℕ, ◌<◌, ◌^◌, List, [], ◌∷◌, ◌++◌, length, drop, bytes_eq, subst, if◌then◌else◌, Bool, true, false, ◌&&◌, nat_lt, nat_le, Option, None, Some, Ok, refl, ap, ap₂, sym, ◌∙◌, arith, append_assoc, codes}
 use Rattle.std.specs.List.{list_all, onto_first, slice_split}
 use Rattle.std.specs.Fmt.{decimal}
 use Rattle.percent_encoding.specs.Percent.{percent_decode}
@@ -10,7 +10,7 @@ use Rattle.kms_calls.specs.declared.calls.KmsCall.{KmsCall}
 use Rattle.kms_calls.specs.declared.calls.KmsCall.TheVariants as call
 use Rattle.hk_events.specs.declared.event.Event.{Event}
 use Rattle.hk_events.specs.declared.event.Event.TheVariants as event
-use Rattle.replay_text.specs.Events.{AreTriples, IsMaterial, IsPath, IsQuiet, IsTriple, IsUser, Spells, SpellsAskCreate, SpellsAskZone, SpellsBatch, SpellsCall, SpellsCreate, SpellsEdek, SpellsEvent, SpellsGenerate, SpellsKept, SpellsKms, SpellsMaterial, SpellsMetadatas, SpellsNamed, SpellsPath, SpellsRestart, SpellsRoll, SpellsSent, SpellsVersion, SpellsZones, delete_verb, fields_of, is_comma}
+use Rattle.replay_text.specs.Events.{AreTriples, IsEscaped, IsMaterial, IsQuiet, IsTriple, IsUser, Spells, SpellsAskCreate, SpellsAskZone, SpellsBatch, SpellsCall, SpellsCreate, SpellsEdek, SpellsEvent, SpellsGenerate, SpellsKept, SpellsKms, SpellsMaterial, SpellsMetadatas, SpellsNamed, SpellsPath, SpellsRoll, SpellsSent, SpellsSnapshot, SpellsVersion, SpellsZones, delete_verb, fields_of, is_comma}
 use Rattle.replay_text.proofs.CallLemmas.{apart, two_verbs}
 
 both : (s t : Bool) → (s && t) ≡ true → (s ≡ true) × (t ≡ true)
@@ -351,7 +351,7 @@ call_once fields (call.Batch m a) (call.Batch n b) x y = batch_once fields m n a
 user_once : (f g user other : List ℕ) → f ≡ g → IsUser f user → IsUser g other → user ≡ other
 user_once f g user other field x y = sym x.decoded ∙ ap percent_decode field ∙ y.decoded
 
-path_once : (f g path other : List ℕ) → f ≡ g → IsPath f path → IsPath g other → path ≡ other
+path_once : (f g path other : List ℕ) → f ≡ g → IsEscaped f path → IsEscaped g other → path ≡ other
 path_once f g path other field x y = sym x.decoded ∙ ap percent_decode field ∙ y.decoded
 
 kms_once : (fields : List (List ℕ)) (user other : List ℕ) (c d : KmsCall) → SpellsKms fields user c → SpellsKms fields other d → event.Kms user c ≡ event.Kms other d
@@ -370,6 +370,20 @@ same_path verb fields user other path also x y =
     let user_field : x.user_field ≡ y.user_field = cc in
     let path_field : x.path_field ≡ y.path_field = cc in
     (user_once x.user_field y.user_field user other user_field x.user_is y.user_is, path_once x.path_field y.path_field path also path_field x.path_is y.path_is)
+
+-- the same for lines with the name of a snapshot
+same_snapshot : (verb : List ℕ) (fields : List (List ℕ)) (user other path also name second : List ℕ) → SpellsSnapshot verb fields user path name → SpellsSnapshot verb fields other also second → (user ≡ other) × ((path ≡ also) × (name ≡ second))
+same_snapshot verb fields user other path also name second x y =
+    let same = sym x.fields_are ∙ y.fields_are in
+    let user_field : x.user_field ≡ y.user_field = cc in
+    let path_field : x.path_field ≡ y.path_field = cc in
+    let name_field : x.name_field ≡ y.name_field = cc in (
+      user_once x.user_field y.user_field user other user_field x.user_is y.user_is,
+      (
+        path_once x.path_field y.path_field path also path_field x.path_is y.path_is,
+        path_once x.name_field y.name_field name second name_field x.name_is y.name_is,
+      ),
+    )
 
 ask_create_once : (fields : List (List ℕ)) (user other path also : List ℕ) → SpellsAskCreate fields user path → SpellsAskCreate fields other also → event.AskCreate user path ≡ event.AskCreate other also
 ask_create_once fields user other path also x y =
@@ -396,206 +410,168 @@ kept_once verb fields m n x y =
     let text : decimal m ≡ decimal n = cc in
     decimal_once m n (omega (arith, x.small)) (omega (arith, y.small)) text
 
--- two different verbs at the same field
-other_path_verb : {A : Type 0} (verb second : List ℕ) (fields : List (List ℕ)) (user other path also : List ℕ) → (verb ≡ second → ⊥) → SpellsPath verb fields user path → SpellsPath second fields other also → A
-other_path_verb verb second fields user other path also differ x y =
-    let same = sym x.fields_are ∙ y.fields_are in
-    let is : verb ≡ second = cc in
-    absurd (differ is)
-
-other_ask : {A : Type 0} (fields : List (List ℕ)) (user other path also key : List ℕ) → SpellsAskCreate fields user path → SpellsAskZone fields other also key → A
-other_ask fields user other path also key x y =
-    let same = sym x.fields_are ∙ y.fields_are in
-    let is : codes "create" ≡ codes "zone" = cc in
-    absurd (apart (codes "create") (codes "zone") refl is)
-
--- `restart` with two different services
-other_restart : {A : Type 0} (service other : List ℕ) (fields : List (List ℕ)) → (service ≡ other → ⊥) → SpellsRestart service fields → SpellsRestart other fields → A
-other_restart service other fields differ x y =
-    let same : codes "restart" ∷ service ∷ [] ≡ codes "restart" ∷ other ∷ [] = sym x ∙ y in
-    let is : service ≡ other = cc in
-    absurd (differ is)
-
--- the line of a path has one more field than the line that asks for the zones
-path_is_more : {A : Type 0} (verb : List ℕ) (fields : List (List ℕ)) (user other path : List ℕ) → SpellsPath verb fields user path → SpellsZones fields other → A
-path_is_more verb fields user other path x y = absurd (omega (arith, ap length (sym x.fields_are ∙ y.fields_are)))
-
 zones_once : (fields : List (List ℕ)) (user other : List ℕ) → SpellsZones fields user → SpellsZones fields other → user ≡ other
 zones_once fields user other x y =
     let same = sym x.fields_are ∙ y.fields_are in
     let user_field : x.user_field ≡ y.user_field = cc in
     user_once x.user_field y.user_field user other user_field x.user_is y.user_is
 
+-- The kind of a line, told by its first field and the number of its fields, with the word that tells the lines of a kind apart.
+data Kind : Type 0 where
+  Call : Kind
+  Restart : (service : List ℕ) → Kind
+  OnPath : (verb : List ℕ) → Kind
+  OnSnapshot : (verb : List ℕ) → Kind
+  OnZones : Kind
+  NewFile : Kind
+  NewZone : Kind
+  OfNumber : (verb : List ℕ) → Kind
+
+abbrev restart_kind : List (List ℕ) → Kind
+restart_kind [] = Call
+restart_kind (service ∷ more) = Restart service
+
+-- from the fields after `nn U`
+abbrev name_kind : List (List ℕ) → Kind
+name_kind [] = Call
+name_kind (verb ∷ []) = OnZones
+name_kind (verb ∷ path ∷ []) = OnPath verb
+name_kind (verb ∷ path ∷ name ∷ more) = OnSnapshot verb
+
+-- from the fields after `ask U`
+abbrev ask_kind : List (List ℕ) → Kind
+ask_kind [] = Call
+ask_kind (verb ∷ []) = Call
+ask_kind (verb ∷ path ∷ []) = NewFile
+ask_kind (verb ∷ path ∷ key ∷ more) = NewZone
+
+abbrev kind_of : List (List ℕ) → Kind
+kind_of [] = Call
+kind_of (first ∷ rest) =
+    if bytes_eq first (codes "kms")
+    then Call
+    else if bytes_eq first (codes "restart")
+    then restart_kind rest
+    else if bytes_eq first (codes "nn")
+    then name_kind (drop 1 rest)
+    else if bytes_eq first (codes "ask")
+    then ask_kind (drop 1 rest)
+    else OfNumber first
+
+abbrev kind : Event → Kind
+kind (event.Kms user c) = Call
+kind event.RestartKms = Restart (codes "kms")
+kind event.RestartName = Restart (codes "nn")
+kind (event.Mkdir user path) = OnPath (codes "mkdir")
+kind (event.Delete user path false) = OnPath (codes "delete")
+kind (event.Delete user path true) = OnPath (codes "rdelete")
+kind (event.Info user path) = OnPath (codes "info")
+kind (event.List user path) = OnPath (codes "list")
+kind (event.Allow user path) = OnPath (codes "allow")
+kind (event.Disallow user path) = OnPath (codes "disallow")
+kind (event.Snap user path name) = OnSnapshot (codes "snap")
+kind (event.Unsnap user path name) = OnSnapshot (codes "unsnap")
+kind (event.Zones user) = OnZones
+kind (event.AskCreate user path) = NewFile
+kind (event.AskZone user path key) = NewZone
+kind (event.Draw n) = OfNumber (codes "draw")
+kind (event.Finish n) = OfNumber (codes "finish")
+
+kind_is : (fields : List (List ℕ)) (e : Event) → SpellsEvent fields e → kind_of fields ≡ kind e
+kind_is fields (event.Kms user c) x = ap kind_of x.fields_are
+kind_is fields event.RestartKms x = ap kind_of x
+kind_is fields event.RestartName x = ap kind_of x
+kind_is fields (event.Mkdir user path) x = ap kind_of x.fields_are
+kind_is fields (event.Delete user path false) x = ap kind_of x.fields_are
+kind_is fields (event.Delete user path true) x = ap kind_of x.fields_are
+kind_is fields (event.Info user path) x = ap kind_of x.fields_are
+kind_is fields (event.List user path) x = ap kind_of x.fields_are
+kind_is fields (event.Allow user path) x = ap kind_of x.fields_are
+kind_is fields (event.Disallow user path) x = ap kind_of x.fields_are
+kind_is fields (event.Snap user path name) x = ap kind_of x.fields_are
+kind_is fields (event.Unsnap user path name) x = ap kind_of x.fields_are
+kind_is fields (event.Zones user) x = ap kind_of x.fields_are
+kind_is fields (event.AskCreate user path) x = ap kind_of x.fields_are
+kind_is fields (event.AskZone user path key) x = ap kind_of x.fields_are
+kind_is fields (event.Draw n) x = ap kind_of x.fields_are
+kind_is fields (event.Finish n) x = ap kind_of x.fields_are
+
+-- the event of a word
+abbrev restart_event : List ℕ → Event
+restart_event service = if bytes_eq service (codes "kms") then event.RestartKms else event.RestartName
+
+abbrev path_event : List ℕ → List ℕ → List ℕ → Event
+path_event verb user path =
+    if bytes_eq verb (codes "mkdir")
+    then event.Mkdir user path
+    else if bytes_eq verb (codes "delete")
+    then event.Delete user path false
+    else if bytes_eq verb (codes "rdelete")
+    then event.Delete user path true
+    else if bytes_eq verb (codes "info")
+    then event.Info user path
+    else if bytes_eq verb (codes "list")
+    then event.List user path
+    else if bytes_eq verb (codes "allow")
+    then event.Allow user path
+    else event.Disallow user path
+
+abbrev snapshot_event : List ℕ → List ℕ → List ℕ → List ℕ → Event
+snapshot_event verb user path name = if bytes_eq verb (codes "snap") then event.Snap user path name else event.Unsnap user path name
+
+abbrev number_event : List ℕ → ℕ → Event
+number_event verb n = if bytes_eq verb (codes "draw") then event.Draw n else event.Finish n
+
+-- the event of the fields of a line of this kind
+abbrev Says : Kind → List (List ℕ) → Event → Type 0
+Says Call fields e = (user : List ℕ) × ((c : KmsCall) × (SpellsKms fields user c × (e ≡ event.Kms user c)))
+Says (Restart service) fields e = e ≡ restart_event service
+Says (OnPath verb) fields e = (user : List ℕ) × ((path : List ℕ) × (SpellsPath verb fields user path × (e ≡ path_event verb user path)))
+Says (OnSnapshot verb) fields e = (user : List ℕ) × ((path : List ℕ) × ((name : List ℕ) × (SpellsSnapshot verb fields user path name × (e ≡ snapshot_event verb user path name))))
+Says OnZones fields e = (user : List ℕ) × (SpellsZones fields user × (e ≡ event.Zones user))
+Says NewFile fields e = (user : List ℕ) × ((path : List ℕ) × (SpellsAskCreate fields user path × (e ≡ event.AskCreate user path)))
+Says NewZone fields e = (user : List ℕ) × ((path : List ℕ) × ((key : List ℕ) × (SpellsAskZone fields user path key × (e ≡ event.AskZone user path key))))
+Says (OfNumber verb) fields e = (n : ℕ) × (SpellsKept verb fields n × (e ≡ number_event verb n))
+
+says : (fields : List (List ℕ)) (e : Event) → SpellsEvent fields e → Says (kind e) fields e
+says fields (event.Kms user c) x = (user, (c, (x, refl)))
+says fields event.RestartKms x = refl
+says fields event.RestartName x = refl
+says fields (event.Mkdir user path) x = (user, (path, (x, refl)))
+says fields (event.Delete user path false) x = (user, (path, (x, refl)))
+says fields (event.Delete user path true) x = (user, (path, (x, refl)))
+says fields (event.Info user path) x = (user, (path, (x, refl)))
+says fields (event.List user path) x = (user, (path, (x, refl)))
+says fields (event.Allow user path) x = (user, (path, (x, refl)))
+says fields (event.Disallow user path) x = (user, (path, (x, refl)))
+says fields (event.Snap user path name) x = (user, (path, (name, (x, refl))))
+says fields (event.Unsnap user path name) x = (user, (path, (name, (x, refl))))
+says fields (event.Zones user) x = (user, (x, refl))
+says fields (event.AskCreate user path) x = (user, (path, (x, refl)))
+says fields (event.AskZone user path key) x = (user, (path, (key, (x, refl))))
+says fields (event.Draw n) x = (n, (x, refl))
+says fields (event.Finish n) x = (n, (x, refl))
+
+says_once : (k : Kind) (fields : List (List ℕ)) (a b : Event) → Says k fields a → Says k fields b → a ≡ b
+says_once Call fields a b (user, (c, (x, is))) (other, (d, (y, also))) = is ∙ kms_once fields user other c d x y ∙ sym also
+says_once (Restart service) fields a b is also = is ∙ sym also
+says_once (OnPath verb) fields a b (user, (path, (x, is))) (other, (second, (y, also))) =
+    let same = same_path verb fields user other path second x y in
+    is ∙ (λ i. path_event verb (same.0 i) (same.1 i)) ∙ sym also
+says_once (OnSnapshot verb) fields a b (user, (path, (name, (x, is)))) (other, (second, (title, (y, also)))) =
+    let same = same_snapshot verb fields user other path second name title x y in
+    is ∙ (λ i. snapshot_event verb (same.0 i) (same.1.0 i) (same.1.1 i)) ∙ sym also
+says_once OnZones fields a b (user, (x, is)) (other, (y, also)) = is ∙ ap event.Zones (zones_once fields user other x y) ∙ sym also
+says_once NewFile fields a b (user, (path, (x, is))) (other, (second, (y, also))) = is ∙ ask_create_once fields user other path second x y ∙ sym also
+says_once NewZone fields a b (user, (path, (key, (x, is)))) (other, (second, (word, (y, also)))) = is ∙ ask_zone_once fields user other path second key word x y ∙ sym also
+says_once (OfNumber verb) fields a b (m, (x, is)) (n, (y, also)) = is ∙ ap (number_event verb) (kept_once verb fields m n x y) ∙ sym also
+
+-- the event of the kind that the fields tell
+says_so : (fields : List (List ℕ)) (e : Event) → SpellsEvent fields e → Says (kind_of fields) fields e
+says_so fields e x = subst (λ (k : Kind). Says k fields e) (sym (kind_is fields e x)) (says fields e x)
+
 event_once : (fields : List (List ℕ)) (a b : Event) → SpellsEvent fields a → SpellsEvent fields b → a ≡ b
-event_once fields (event.Kms user c) (event.Kms other d) x y = kms_once fields user other c d x y
-event_once fields (event.Kms user c) event.RestartKms x y = two_verbs fields _ _ (codes "kms") (codes "restart") (apart _ _ refl) x.fields_are y
-event_once fields (event.Kms user c) event.RestartName x y = two_verbs fields _ _ (codes "kms") (codes "restart") (apart _ _ refl) x.fields_are y
-event_once fields (event.Kms user c) (event.Mkdir other also) x y = two_verbs fields _ _ (codes "kms") (codes "nn") (apart _ _ refl) x.fields_are y.fields_are
-event_once fields (event.Kms user c) (event.Delete other also false) x y = two_verbs fields _ _ (codes "kms") (codes "nn") (apart _ _ refl) x.fields_are y.fields_are
-event_once fields (event.Kms user c) (event.Delete other also true) x y = two_verbs fields _ _ (codes "kms") (codes "nn") (apart _ _ refl) x.fields_are y.fields_are
-event_once fields (event.Kms user c) (event.Info other also) x y = two_verbs fields _ _ (codes "kms") (codes "nn") (apart _ _ refl) x.fields_are y.fields_are
-event_once fields (event.Kms user c) (event.List other also) x y = two_verbs fields _ _ (codes "kms") (codes "nn") (apart _ _ refl) x.fields_are y.fields_are
-event_once fields (event.Kms user c) (event.Zones other) x y = two_verbs fields _ _ (codes "kms") (codes "nn") (apart _ _ refl) x.fields_are y.fields_are
-event_once fields (event.Kms user c) (event.AskCreate other also) x y = two_verbs fields _ _ (codes "kms") (codes "ask") (apart _ _ refl) x.fields_are y.fields_are
-event_once fields (event.Kms user c) (event.AskZone other also second) x y = two_verbs fields _ _ (codes "kms") (codes "ask") (apart _ _ refl) x.fields_are y.fields_are
-event_once fields (event.Kms user c) (event.Draw n) x y = two_verbs fields _ _ (codes "kms") (codes "draw") (apart _ _ refl) x.fields_are y.fields_are
-event_once fields (event.Kms user c) (event.Finish n) x y = two_verbs fields _ _ (codes "kms") (codes "finish") (apart _ _ refl) x.fields_are y.fields_are
-event_once fields event.RestartKms (event.Kms other d) x y = two_verbs fields _ _ (codes "restart") (codes "kms") (apart _ _ refl) x y.fields_are
-event_once fields event.RestartKms event.RestartKms x y = refl
-event_once fields event.RestartKms event.RestartName x y = other_restart (codes "kms") (codes "nn") fields (apart _ _ refl) x y
-event_once fields event.RestartKms (event.Mkdir other also) x y = two_verbs fields _ _ (codes "restart") (codes "nn") (apart _ _ refl) x y.fields_are
-event_once fields event.RestartKms (event.Delete other also false) x y = two_verbs fields _ _ (codes "restart") (codes "nn") (apart _ _ refl) x y.fields_are
-event_once fields event.RestartKms (event.Delete other also true) x y = two_verbs fields _ _ (codes "restart") (codes "nn") (apart _ _ refl) x y.fields_are
-event_once fields event.RestartKms (event.Info other also) x y = two_verbs fields _ _ (codes "restart") (codes "nn") (apart _ _ refl) x y.fields_are
-event_once fields event.RestartKms (event.List other also) x y = two_verbs fields _ _ (codes "restart") (codes "nn") (apart _ _ refl) x y.fields_are
-event_once fields event.RestartKms (event.Zones other) x y = two_verbs fields _ _ (codes "restart") (codes "nn") (apart _ _ refl) x y.fields_are
-event_once fields event.RestartKms (event.AskCreate other also) x y = two_verbs fields _ _ (codes "restart") (codes "ask") (apart _ _ refl) x y.fields_are
-event_once fields event.RestartKms (event.AskZone other also second) x y = two_verbs fields _ _ (codes "restart") (codes "ask") (apart _ _ refl) x y.fields_are
-event_once fields event.RestartKms (event.Draw n) x y = two_verbs fields _ _ (codes "restart") (codes "draw") (apart _ _ refl) x y.fields_are
-event_once fields event.RestartKms (event.Finish n) x y = two_verbs fields _ _ (codes "restart") (codes "finish") (apart _ _ refl) x y.fields_are
-event_once fields event.RestartName (event.Kms other d) x y = two_verbs fields _ _ (codes "restart") (codes "kms") (apart _ _ refl) x y.fields_are
-event_once fields event.RestartName event.RestartKms x y = other_restart (codes "nn") (codes "kms") fields (apart _ _ refl) x y
-event_once fields event.RestartName event.RestartName x y = refl
-event_once fields event.RestartName (event.Mkdir other also) x y = two_verbs fields _ _ (codes "restart") (codes "nn") (apart _ _ refl) x y.fields_are
-event_once fields event.RestartName (event.Delete other also false) x y = two_verbs fields _ _ (codes "restart") (codes "nn") (apart _ _ refl) x y.fields_are
-event_once fields event.RestartName (event.Delete other also true) x y = two_verbs fields _ _ (codes "restart") (codes "nn") (apart _ _ refl) x y.fields_are
-event_once fields event.RestartName (event.Info other also) x y = two_verbs fields _ _ (codes "restart") (codes "nn") (apart _ _ refl) x y.fields_are
-event_once fields event.RestartName (event.List other also) x y = two_verbs fields _ _ (codes "restart") (codes "nn") (apart _ _ refl) x y.fields_are
-event_once fields event.RestartName (event.Zones other) x y = two_verbs fields _ _ (codes "restart") (codes "nn") (apart _ _ refl) x y.fields_are
-event_once fields event.RestartName (event.AskCreate other also) x y = two_verbs fields _ _ (codes "restart") (codes "ask") (apart _ _ refl) x y.fields_are
-event_once fields event.RestartName (event.AskZone other also second) x y = two_verbs fields _ _ (codes "restart") (codes "ask") (apart _ _ refl) x y.fields_are
-event_once fields event.RestartName (event.Draw n) x y = two_verbs fields _ _ (codes "restart") (codes "draw") (apart _ _ refl) x y.fields_are
-event_once fields event.RestartName (event.Finish n) x y = two_verbs fields _ _ (codes "restart") (codes "finish") (apart _ _ refl) x y.fields_are
-event_once fields (event.Mkdir user path) (event.Kms other d) x y = two_verbs fields _ _ (codes "nn") (codes "kms") (apart _ _ refl) x.fields_are y.fields_are
-event_once fields (event.Mkdir user path) event.RestartKms x y = two_verbs fields _ _ (codes "nn") (codes "restart") (apart _ _ refl) x.fields_are y
-event_once fields (event.Mkdir user path) event.RestartName x y = two_verbs fields _ _ (codes "nn") (codes "restart") (apart _ _ refl) x.fields_are y
-event_once fields (event.Mkdir user path) (event.Mkdir other also) x y = let same = same_path (codes "mkdir") fields user other path also x y in λ i. event.Mkdir (same.0 i) (same.1 i)
-event_once fields (event.Mkdir user path) (event.Delete other also false) x y = other_path_verb (codes "mkdir") (codes "delete") fields user other path also (apart _ _ refl) x y
-event_once fields (event.Mkdir user path) (event.Delete other also true) x y = other_path_verb (codes "mkdir") (codes "rdelete") fields user other path also (apart _ _ refl) x y
-event_once fields (event.Mkdir user path) (event.Info other also) x y = other_path_verb (codes "mkdir") (codes "info") fields user other path also (apart _ _ refl) x y
-event_once fields (event.Mkdir user path) (event.List other also) x y = other_path_verb (codes "mkdir") (codes "list") fields user other path also (apart _ _ refl) x y
-event_once fields (event.Mkdir user path) (event.Zones other) x y = path_is_more (codes "mkdir") fields user other path x y
-event_once fields (event.Mkdir user path) (event.AskCreate other also) x y = two_verbs fields _ _ (codes "nn") (codes "ask") (apart _ _ refl) x.fields_are y.fields_are
-event_once fields (event.Mkdir user path) (event.AskZone other also second) x y = two_verbs fields _ _ (codes "nn") (codes "ask") (apart _ _ refl) x.fields_are y.fields_are
-event_once fields (event.Mkdir user path) (event.Draw n) x y = two_verbs fields _ _ (codes "nn") (codes "draw") (apart _ _ refl) x.fields_are y.fields_are
-event_once fields (event.Mkdir user path) (event.Finish n) x y = two_verbs fields _ _ (codes "nn") (codes "finish") (apart _ _ refl) x.fields_are y.fields_are
-event_once fields (event.Delete user path false) (event.Kms other d) x y = two_verbs fields _ _ (codes "nn") (codes "kms") (apart _ _ refl) x.fields_are y.fields_are
-event_once fields (event.Delete user path false) event.RestartKms x y = two_verbs fields _ _ (codes "nn") (codes "restart") (apart _ _ refl) x.fields_are y
-event_once fields (event.Delete user path false) event.RestartName x y = two_verbs fields _ _ (codes "nn") (codes "restart") (apart _ _ refl) x.fields_are y
-event_once fields (event.Delete user path false) (event.Mkdir other also) x y = other_path_verb (codes "delete") (codes "mkdir") fields user other path also (apart _ _ refl) x y
-event_once fields (event.Delete user path false) (event.Delete other also false) x y = let same = same_path (codes "delete") fields user other path also x y in λ i. event.Delete (same.0 i) (same.1 i) false
-event_once fields (event.Delete user path false) (event.Delete other also true) x y = other_path_verb (codes "delete") (codes "rdelete") fields user other path also (apart _ _ refl) x y
-event_once fields (event.Delete user path false) (event.Info other also) x y = other_path_verb (codes "delete") (codes "info") fields user other path also (apart _ _ refl) x y
-event_once fields (event.Delete user path false) (event.List other also) x y = other_path_verb (codes "delete") (codes "list") fields user other path also (apart _ _ refl) x y
-event_once fields (event.Delete user path false) (event.Zones other) x y = path_is_more (codes "delete") fields user other path x y
-event_once fields (event.Delete user path false) (event.AskCreate other also) x y = two_verbs fields _ _ (codes "nn") (codes "ask") (apart _ _ refl) x.fields_are y.fields_are
-event_once fields (event.Delete user path false) (event.AskZone other also second) x y = two_verbs fields _ _ (codes "nn") (codes "ask") (apart _ _ refl) x.fields_are y.fields_are
-event_once fields (event.Delete user path false) (event.Draw n) x y = two_verbs fields _ _ (codes "nn") (codes "draw") (apart _ _ refl) x.fields_are y.fields_are
-event_once fields (event.Delete user path false) (event.Finish n) x y = two_verbs fields _ _ (codes "nn") (codes "finish") (apart _ _ refl) x.fields_are y.fields_are
-event_once fields (event.Delete user path true) (event.Kms other d) x y = two_verbs fields _ _ (codes "nn") (codes "kms") (apart _ _ refl) x.fields_are y.fields_are
-event_once fields (event.Delete user path true) event.RestartKms x y = two_verbs fields _ _ (codes "nn") (codes "restart") (apart _ _ refl) x.fields_are y
-event_once fields (event.Delete user path true) event.RestartName x y = two_verbs fields _ _ (codes "nn") (codes "restart") (apart _ _ refl) x.fields_are y
-event_once fields (event.Delete user path true) (event.Mkdir other also) x y = other_path_verb (codes "rdelete") (codes "mkdir") fields user other path also (apart _ _ refl) x y
-event_once fields (event.Delete user path true) (event.Delete other also false) x y = other_path_verb (codes "rdelete") (codes "delete") fields user other path also (apart _ _ refl) x y
-event_once fields (event.Delete user path true) (event.Delete other also true) x y = let same = same_path (codes "rdelete") fields user other path also x y in λ i. event.Delete (same.0 i) (same.1 i) true
-event_once fields (event.Delete user path true) (event.Info other also) x y = other_path_verb (codes "rdelete") (codes "info") fields user other path also (apart _ _ refl) x y
-event_once fields (event.Delete user path true) (event.List other also) x y = other_path_verb (codes "rdelete") (codes "list") fields user other path also (apart _ _ refl) x y
-event_once fields (event.Delete user path true) (event.Zones other) x y = path_is_more (codes "rdelete") fields user other path x y
-event_once fields (event.Delete user path true) (event.AskCreate other also) x y = two_verbs fields _ _ (codes "nn") (codes "ask") (apart _ _ refl) x.fields_are y.fields_are
-event_once fields (event.Delete user path true) (event.AskZone other also second) x y = two_verbs fields _ _ (codes "nn") (codes "ask") (apart _ _ refl) x.fields_are y.fields_are
-event_once fields (event.Delete user path true) (event.Draw n) x y = two_verbs fields _ _ (codes "nn") (codes "draw") (apart _ _ refl) x.fields_are y.fields_are
-event_once fields (event.Delete user path true) (event.Finish n) x y = two_verbs fields _ _ (codes "nn") (codes "finish") (apart _ _ refl) x.fields_are y.fields_are
-event_once fields (event.Info user path) (event.Kms other d) x y = two_verbs fields _ _ (codes "nn") (codes "kms") (apart _ _ refl) x.fields_are y.fields_are
-event_once fields (event.Info user path) event.RestartKms x y = two_verbs fields _ _ (codes "nn") (codes "restart") (apart _ _ refl) x.fields_are y
-event_once fields (event.Info user path) event.RestartName x y = two_verbs fields _ _ (codes "nn") (codes "restart") (apart _ _ refl) x.fields_are y
-event_once fields (event.Info user path) (event.Mkdir other also) x y = other_path_verb (codes "info") (codes "mkdir") fields user other path also (apart _ _ refl) x y
-event_once fields (event.Info user path) (event.Delete other also false) x y = other_path_verb (codes "info") (codes "delete") fields user other path also (apart _ _ refl) x y
-event_once fields (event.Info user path) (event.Delete other also true) x y = other_path_verb (codes "info") (codes "rdelete") fields user other path also (apart _ _ refl) x y
-event_once fields (event.Info user path) (event.Info other also) x y = let same = same_path (codes "info") fields user other path also x y in λ i. event.Info (same.0 i) (same.1 i)
-event_once fields (event.Info user path) (event.List other also) x y = other_path_verb (codes "info") (codes "list") fields user other path also (apart _ _ refl) x y
-event_once fields (event.Info user path) (event.Zones other) x y = path_is_more (codes "info") fields user other path x y
-event_once fields (event.Info user path) (event.AskCreate other also) x y = two_verbs fields _ _ (codes "nn") (codes "ask") (apart _ _ refl) x.fields_are y.fields_are
-event_once fields (event.Info user path) (event.AskZone other also second) x y = two_verbs fields _ _ (codes "nn") (codes "ask") (apart _ _ refl) x.fields_are y.fields_are
-event_once fields (event.Info user path) (event.Draw n) x y = two_verbs fields _ _ (codes "nn") (codes "draw") (apart _ _ refl) x.fields_are y.fields_are
-event_once fields (event.Info user path) (event.Finish n) x y = two_verbs fields _ _ (codes "nn") (codes "finish") (apart _ _ refl) x.fields_are y.fields_are
-event_once fields (event.List user path) (event.Kms other d) x y = two_verbs fields _ _ (codes "nn") (codes "kms") (apart _ _ refl) x.fields_are y.fields_are
-event_once fields (event.List user path) event.RestartKms x y = two_verbs fields _ _ (codes "nn") (codes "restart") (apart _ _ refl) x.fields_are y
-event_once fields (event.List user path) event.RestartName x y = two_verbs fields _ _ (codes "nn") (codes "restart") (apart _ _ refl) x.fields_are y
-event_once fields (event.List user path) (event.Mkdir other also) x y = other_path_verb (codes "list") (codes "mkdir") fields user other path also (apart _ _ refl) x y
-event_once fields (event.List user path) (event.Delete other also false) x y = other_path_verb (codes "list") (codes "delete") fields user other path also (apart _ _ refl) x y
-event_once fields (event.List user path) (event.Delete other also true) x y = other_path_verb (codes "list") (codes "rdelete") fields user other path also (apart _ _ refl) x y
-event_once fields (event.List user path) (event.Info other also) x y = other_path_verb (codes "list") (codes "info") fields user other path also (apart _ _ refl) x y
-event_once fields (event.List user path) (event.List other also) x y = let same = same_path (codes "list") fields user other path also x y in λ i. event.List (same.0 i) (same.1 i)
-event_once fields (event.List user path) (event.Zones other) x y = path_is_more (codes "list") fields user other path x y
-event_once fields (event.List user path) (event.AskCreate other also) x y = two_verbs fields _ _ (codes "nn") (codes "ask") (apart _ _ refl) x.fields_are y.fields_are
-event_once fields (event.List user path) (event.AskZone other also second) x y = two_verbs fields _ _ (codes "nn") (codes "ask") (apart _ _ refl) x.fields_are y.fields_are
-event_once fields (event.List user path) (event.Draw n) x y = two_verbs fields _ _ (codes "nn") (codes "draw") (apart _ _ refl) x.fields_are y.fields_are
-event_once fields (event.List user path) (event.Finish n) x y = two_verbs fields _ _ (codes "nn") (codes "finish") (apart _ _ refl) x.fields_are y.fields_are
-event_once fields (event.Zones user) (event.Kms other d) x y = two_verbs fields _ _ (codes "nn") (codes "kms") (apart _ _ refl) x.fields_are y.fields_are
-event_once fields (event.Zones user) event.RestartKms x y = two_verbs fields _ _ (codes "nn") (codes "restart") (apart _ _ refl) x.fields_are y
-event_once fields (event.Zones user) event.RestartName x y = two_verbs fields _ _ (codes "nn") (codes "restart") (apart _ _ refl) x.fields_are y
-event_once fields (event.Zones user) (event.Mkdir other also) x y = path_is_more (codes "mkdir") fields other user also y x
-event_once fields (event.Zones user) (event.Delete other also false) x y = path_is_more (codes "delete") fields other user also y x
-event_once fields (event.Zones user) (event.Delete other also true) x y = path_is_more (codes "rdelete") fields other user also y x
-event_once fields (event.Zones user) (event.Info other also) x y = path_is_more (codes "info") fields other user also y x
-event_once fields (event.Zones user) (event.List other also) x y = path_is_more (codes "list") fields other user also y x
-event_once fields (event.Zones user) (event.Zones other) x y = ap event.Zones (zones_once fields user other x y)
-event_once fields (event.Zones user) (event.AskCreate other also) x y = two_verbs fields _ _ (codes "nn") (codes "ask") (apart _ _ refl) x.fields_are y.fields_are
-event_once fields (event.Zones user) (event.AskZone other also second) x y = two_verbs fields _ _ (codes "nn") (codes "ask") (apart _ _ refl) x.fields_are y.fields_are
-event_once fields (event.Zones user) (event.Draw n) x y = two_verbs fields _ _ (codes "nn") (codes "draw") (apart _ _ refl) x.fields_are y.fields_are
-event_once fields (event.Zones user) (event.Finish n) x y = two_verbs fields _ _ (codes "nn") (codes "finish") (apart _ _ refl) x.fields_are y.fields_are
-event_once fields (event.AskCreate user path) (event.Kms other d) x y = two_verbs fields _ _ (codes "ask") (codes "kms") (apart _ _ refl) x.fields_are y.fields_are
-event_once fields (event.AskCreate user path) event.RestartKms x y = two_verbs fields _ _ (codes "ask") (codes "restart") (apart _ _ refl) x.fields_are y
-event_once fields (event.AskCreate user path) event.RestartName x y = two_verbs fields _ _ (codes "ask") (codes "restart") (apart _ _ refl) x.fields_are y
-event_once fields (event.AskCreate user path) (event.Mkdir other also) x y = two_verbs fields _ _ (codes "ask") (codes "nn") (apart _ _ refl) x.fields_are y.fields_are
-event_once fields (event.AskCreate user path) (event.Delete other also false) x y = two_verbs fields _ _ (codes "ask") (codes "nn") (apart _ _ refl) x.fields_are y.fields_are
-event_once fields (event.AskCreate user path) (event.Delete other also true) x y = two_verbs fields _ _ (codes "ask") (codes "nn") (apart _ _ refl) x.fields_are y.fields_are
-event_once fields (event.AskCreate user path) (event.Info other also) x y = two_verbs fields _ _ (codes "ask") (codes "nn") (apart _ _ refl) x.fields_are y.fields_are
-event_once fields (event.AskCreate user path) (event.List other also) x y = two_verbs fields _ _ (codes "ask") (codes "nn") (apart _ _ refl) x.fields_are y.fields_are
-event_once fields (event.AskCreate user path) (event.Zones other) x y = two_verbs fields _ _ (codes "ask") (codes "nn") (apart _ _ refl) x.fields_are y.fields_are
-event_once fields (event.AskCreate user path) (event.AskCreate other also) x y = ask_create_once fields user other path also x y
-event_once fields (event.AskCreate user path) (event.AskZone other also second) x y = other_ask fields user other path also second x y
-event_once fields (event.AskCreate user path) (event.Draw n) x y = two_verbs fields _ _ (codes "ask") (codes "draw") (apart _ _ refl) x.fields_are y.fields_are
-event_once fields (event.AskCreate user path) (event.Finish n) x y = two_verbs fields _ _ (codes "ask") (codes "finish") (apart _ _ refl) x.fields_are y.fields_are
-event_once fields (event.AskZone user path key) (event.Kms other d) x y = two_verbs fields _ _ (codes "ask") (codes "kms") (apart _ _ refl) x.fields_are y.fields_are
-event_once fields (event.AskZone user path key) event.RestartKms x y = two_verbs fields _ _ (codes "ask") (codes "restart") (apart _ _ refl) x.fields_are y
-event_once fields (event.AskZone user path key) event.RestartName x y = two_verbs fields _ _ (codes "ask") (codes "restart") (apart _ _ refl) x.fields_are y
-event_once fields (event.AskZone user path key) (event.Mkdir other also) x y = two_verbs fields _ _ (codes "ask") (codes "nn") (apart _ _ refl) x.fields_are y.fields_are
-event_once fields (event.AskZone user path key) (event.Delete other also false) x y = two_verbs fields _ _ (codes "ask") (codes "nn") (apart _ _ refl) x.fields_are y.fields_are
-event_once fields (event.AskZone user path key) (event.Delete other also true) x y = two_verbs fields _ _ (codes "ask") (codes "nn") (apart _ _ refl) x.fields_are y.fields_are
-event_once fields (event.AskZone user path key) (event.Info other also) x y = two_verbs fields _ _ (codes "ask") (codes "nn") (apart _ _ refl) x.fields_are y.fields_are
-event_once fields (event.AskZone user path key) (event.List other also) x y = two_verbs fields _ _ (codes "ask") (codes "nn") (apart _ _ refl) x.fields_are y.fields_are
-event_once fields (event.AskZone user path key) (event.Zones other) x y = two_verbs fields _ _ (codes "ask") (codes "nn") (apart _ _ refl) x.fields_are y.fields_are
-event_once fields (event.AskZone user path key) (event.AskCreate other also) x y = other_ask fields other user also path key y x
-event_once fields (event.AskZone user path key) (event.AskZone other also second) x y = ask_zone_once fields user other path also key second x y
-event_once fields (event.AskZone user path key) (event.Draw n) x y = two_verbs fields _ _ (codes "ask") (codes "draw") (apart _ _ refl) x.fields_are y.fields_are
-event_once fields (event.AskZone user path key) (event.Finish n) x y = two_verbs fields _ _ (codes "ask") (codes "finish") (apart _ _ refl) x.fields_are y.fields_are
-event_once fields (event.Draw m) (event.Kms other d) x y = two_verbs fields _ _ (codes "draw") (codes "kms") (apart _ _ refl) x.fields_are y.fields_are
-event_once fields (event.Draw m) event.RestartKms x y = two_verbs fields _ _ (codes "draw") (codes "restart") (apart _ _ refl) x.fields_are y
-event_once fields (event.Draw m) event.RestartName x y = two_verbs fields _ _ (codes "draw") (codes "restart") (apart _ _ refl) x.fields_are y
-event_once fields (event.Draw m) (event.Mkdir other also) x y = two_verbs fields _ _ (codes "draw") (codes "nn") (apart _ _ refl) x.fields_are y.fields_are
-event_once fields (event.Draw m) (event.Delete other also false) x y = two_verbs fields _ _ (codes "draw") (codes "nn") (apart _ _ refl) x.fields_are y.fields_are
-event_once fields (event.Draw m) (event.Delete other also true) x y = two_verbs fields _ _ (codes "draw") (codes "nn") (apart _ _ refl) x.fields_are y.fields_are
-event_once fields (event.Draw m) (event.Info other also) x y = two_verbs fields _ _ (codes "draw") (codes "nn") (apart _ _ refl) x.fields_are y.fields_are
-event_once fields (event.Draw m) (event.List other also) x y = two_verbs fields _ _ (codes "draw") (codes "nn") (apart _ _ refl) x.fields_are y.fields_are
-event_once fields (event.Draw m) (event.Zones other) x y = two_verbs fields _ _ (codes "draw") (codes "nn") (apart _ _ refl) x.fields_are y.fields_are
-event_once fields (event.Draw m) (event.AskCreate other also) x y = two_verbs fields _ _ (codes "draw") (codes "ask") (apart _ _ refl) x.fields_are y.fields_are
-event_once fields (event.Draw m) (event.AskZone other also second) x y = two_verbs fields _ _ (codes "draw") (codes "ask") (apart _ _ refl) x.fields_are y.fields_are
-event_once fields (event.Draw m) (event.Draw n) x y = ap event.Draw (kept_once (codes "draw") fields m n x y)
-event_once fields (event.Draw m) (event.Finish n) x y = two_verbs fields _ _ (codes "draw") (codes "finish") (apart _ _ refl) x.fields_are y.fields_are
-event_once fields (event.Finish m) (event.Kms other d) x y = two_verbs fields _ _ (codes "finish") (codes "kms") (apart _ _ refl) x.fields_are y.fields_are
-event_once fields (event.Finish m) event.RestartKms x y = two_verbs fields _ _ (codes "finish") (codes "restart") (apart _ _ refl) x.fields_are y
-event_once fields (event.Finish m) event.RestartName x y = two_verbs fields _ _ (codes "finish") (codes "restart") (apart _ _ refl) x.fields_are y
-event_once fields (event.Finish m) (event.Mkdir other also) x y = two_verbs fields _ _ (codes "finish") (codes "nn") (apart _ _ refl) x.fields_are y.fields_are
-event_once fields (event.Finish m) (event.Delete other also false) x y = two_verbs fields _ _ (codes "finish") (codes "nn") (apart _ _ refl) x.fields_are y.fields_are
-event_once fields (event.Finish m) (event.Delete other also true) x y = two_verbs fields _ _ (codes "finish") (codes "nn") (apart _ _ refl) x.fields_are y.fields_are
-event_once fields (event.Finish m) (event.Info other also) x y = two_verbs fields _ _ (codes "finish") (codes "nn") (apart _ _ refl) x.fields_are y.fields_are
-event_once fields (event.Finish m) (event.List other also) x y = two_verbs fields _ _ (codes "finish") (codes "nn") (apart _ _ refl) x.fields_are y.fields_are
-event_once fields (event.Finish m) (event.Zones other) x y = two_verbs fields _ _ (codes "finish") (codes "nn") (apart _ _ refl) x.fields_are y.fields_are
-event_once fields (event.Finish m) (event.AskCreate other also) x y = two_verbs fields _ _ (codes "finish") (codes "ask") (apart _ _ refl) x.fields_are y.fields_are
-event_once fields (event.Finish m) (event.AskZone other also second) x y = two_verbs fields _ _ (codes "finish") (codes "ask") (apart _ _ refl) x.fields_are y.fields_are
-event_once fields (event.Finish m) (event.Draw n) x y = two_verbs fields _ _ (codes "finish") (codes "draw") (apart _ _ refl) x.fields_are y.fields_are
-event_once fields (event.Finish m) (event.Finish n) x y = ap event.Finish (kept_once (codes "finish") fields m n x y)
+event_once fields a b x y = says_once (kind_of fields) fields a b (says_so fields a x) (says_so fields b y)
 
 pub spelled_once : (line : List ℕ) (a b : Event) → Spells line a → Spells line b → a ≡ b
 spelled_once line a b x y = event_once (fields_of line) a b x.fields y.fields
@@ -616,6 +592,10 @@ begins fields (event.Mkdir user path) x = record { first = 110; front = codes "n
 begins fields (event.Delete user path recursive) x = record { first = 110; front = codes "n"; more = x.user_field ∷ delete_verb recursive ∷ x.path_field ∷ []; begin = x.fields_are; no_comment = λ e. omega (arith, e) }
 begins fields (event.Info user path) x = record { first = 110; front = codes "n"; more = x.user_field ∷ codes "info" ∷ x.path_field ∷ []; begin = x.fields_are; no_comment = λ e. omega (arith, e) }
 begins fields (event.List user path) x = record { first = 110; front = codes "n"; more = x.user_field ∷ codes "list" ∷ x.path_field ∷ []; begin = x.fields_are; no_comment = λ e. omega (arith, e) }
+begins fields (event.Allow user path) x = record { first = 110; front = codes "n"; more = x.user_field ∷ codes "allow" ∷ x.path_field ∷ []; begin = x.fields_are; no_comment = λ e. omega (arith, e) }
+begins fields (event.Disallow user path) x = record { first = 110; front = codes "n"; more = x.user_field ∷ codes "disallow" ∷ x.path_field ∷ []; begin = x.fields_are; no_comment = λ e. omega (arith, e) }
+begins fields (event.Snap user path name) x = record { first = 110; front = codes "n"; more = x.user_field ∷ codes "snap" ∷ x.path_field ∷ x.name_field ∷ []; begin = x.fields_are; no_comment = λ e. omega (arith, e) }
+begins fields (event.Unsnap user path name) x = record { first = 110; front = codes "n"; more = x.user_field ∷ codes "unsnap" ∷ x.path_field ∷ x.name_field ∷ []; begin = x.fields_are; no_comment = λ e. omega (arith, e) }
 begins fields (event.Zones user) x = record { first = 110; front = codes "n"; more = x.user_field ∷ codes "zones" ∷ []; begin = x.fields_are; no_comment = λ e. omega (arith, e) }
 begins fields (event.AskCreate user path) x = record { first = 97; front = codes "sk"; more = x.user_field ∷ codes "create" ∷ x.path_field ∷ []; begin = x.fields_are; no_comment = λ e. omega (arith, e) }
 begins fields (event.AskZone user path key) x = record { first = 97; front = codes "sk"; more = x.user_field ∷ codes "zone" ∷ x.path_field ∷ key ∷ []; begin = x.fields_are; no_comment = λ e. omega (arith, e) }

@@ -172,10 +172,10 @@ takes_edeks (call.Decrypt name sent) = true
 takes_edeks (call.Reencrypt name sent) = true
 takes_edeks (call.Batch name sent) = true
 
--- the field is the text of a path, which is any bytes
-pub record IsPath (field path : List ℕ) : Type 0 where
+-- the field is the text of a path or of the name of a snapshot: of any bytes
+pub record IsEscaped (field bytes : List ℕ) : Type 0 where
   pub escaped : IsTrue (is_escaped_from 0 field)
-  pub decoded : percent_decode field ≡ path
+  pub decoded : percent_decode field ≡ bytes
 
 -- `kms U` and a call
 pub record SpellsKms (fields : List (List ℕ)) (user : List ℕ) (call : KmsCall) : Type 0 where
@@ -191,7 +191,17 @@ pub record SpellsPath (verb : List ℕ) (fields : List (List ℕ)) (user path : 
   pub path_field : List ℕ
   pub fields_are : fields ≡ codes "nn" ∷ user_field ∷ verb ∷ path_field ∷ []
   pub user_is : IsUser user_field user
-  pub path_is : IsPath path_field path
+  pub path_is : IsEscaped path_field path
+
+-- `nn U`, this verb, a path and the name of a snapshot
+pub record SpellsSnapshot (verb : List ℕ) (fields : List (List ℕ)) (user path name : List ℕ) : Type 0 where
+  pub user_field : List ℕ
+  pub path_field : List ℕ
+  pub name_field : List ℕ
+  pub fields_are : fields ≡ codes "nn" ∷ user_field ∷ verb ∷ path_field ∷ name_field ∷ []
+  pub user_is : IsUser user_field user
+  pub path_is : IsEscaped path_field path
+  pub name_is : IsEscaped name_field name
 
 -- `nn U zones`
 pub record SpellsZones (fields : List (List ℕ)) (user : List ℕ) : Type 0 where
@@ -210,7 +220,7 @@ pub record SpellsAskCreate (fields : List (List ℕ)) (user path : List ℕ) : T
   pub path_field : List ℕ
   pub fields_are : fields ≡ codes "ask" ∷ user_field ∷ codes "create" ∷ path_field ∷ []
   pub user_is : IsUser user_field user
-  pub path_is : IsPath path_field path
+  pub path_is : IsEscaped path_field path
 
 -- `ask U zone P K`
 pub record SpellsAskZone (fields : List (List ℕ)) (user path key : List ℕ) : Type 0 where
@@ -218,7 +228,7 @@ pub record SpellsAskZone (fields : List (List ℕ)) (user path key : List ℕ) :
   pub path_field : List ℕ
   pub fields_are : fields ≡ codes "ask" ∷ user_field ∷ codes "zone" ∷ path_field ∷ key ∷ []
   pub user_is : IsUser user_field user
-  pub path_is : IsPath path_field path
+  pub path_is : IsEscaped path_field path
   pub key_is : IsKeyName key
 
 -- this verb and the number of a note or reply, below 2^32
@@ -239,6 +249,10 @@ SpellsEvent fields (event.Mkdir user path) = SpellsPath (codes "mkdir") fields u
 SpellsEvent fields (event.Delete user path recursive) = SpellsPath (delete_verb recursive) fields user path
 SpellsEvent fields (event.Info user path) = SpellsPath (codes "info") fields user path
 SpellsEvent fields (event.List user path) = SpellsPath (codes "list") fields user path
+SpellsEvent fields (event.Allow user path) = SpellsPath (codes "allow") fields user path
+SpellsEvent fields (event.Disallow user path) = SpellsPath (codes "disallow") fields user path
+SpellsEvent fields (event.Snap user path name) = SpellsSnapshot (codes "snap") fields user path name
+SpellsEvent fields (event.Unsnap user path name) = SpellsSnapshot (codes "unsnap") fields user path name
 SpellsEvent fields (event.Zones user) = SpellsZones fields user
 SpellsEvent fields (event.AskCreate user path) = SpellsAskCreate fields user path
 SpellsEvent fields (event.AskZone user path key) = SpellsAskZone fields user path key
@@ -250,14 +264,25 @@ pub record Spells (line : List ℕ) (event : Event) : Type 0 where
   pub short : length line ≤ longest_line
   pub fields : SpellsEvent (fields_of line) event
 
--- the verbs that take a path, and the event of each
+-- the verbs that take a path alone, and the event of each
 abbrev pub IsPathVerb : List ℕ → Type 0
-IsPathVerb verb = (verb ≡ codes "mkdir") ⊎ (verb ≡ codes "delete") ⊎ (verb ≡ codes "rdelete") ⊎ (verb ≡ codes "info") ⊎ (verb ≡ codes "list")
+IsPathVerb verb =
+    (verb ≡ codes "mkdir") ⊎ (verb ≡ codes "delete") ⊎ (verb ≡ codes "rdelete") ⊎ (verb ≡ codes "info") ⊎ (verb ≡ codes "list")
+    ⊎ (verb ≡ codes "allow") ⊎ (verb ≡ codes "disallow")
 
 abbrev pub IsPathEvent : List ℕ → List ℕ → List ℕ → Event → Type 0
 IsPathEvent verb user path e =
     ((verb ≡ codes "mkdir") × (e ≡ event.Mkdir user path)) ⊎ ((verb ≡ codes "delete") × (e ≡ event.Delete user path false))
     ⊎ ((verb ≡ codes "rdelete") × (e ≡ event.Delete user path true)) ⊎ ((verb ≡ codes "info") × (e ≡ event.Info user path)) ⊎ ((verb ≡ codes "list") × (e ≡ event.List user path))
+    ⊎ ((verb ≡ codes "allow") × (e ≡ event.Allow user path)) ⊎ ((verb ≡ codes "disallow") × (e ≡ event.Disallow user path))
+
+-- the verbs that take a path and the name of a snapshot, and the event of each
+abbrev pub IsSnapshotVerb : List ℕ → Type 0
+IsSnapshotVerb verb = (verb ≡ codes "snap") ⊎ (verb ≡ codes "unsnap")
+
+abbrev pub IsSnapshotEvent : List ℕ → List ℕ → List ℕ → List ℕ → Event → Type 0
+IsSnapshotEvent verb user path name e =
+    ((verb ≡ codes "snap") × (e ≡ event.Snap user path name)) ⊎ ((verb ≡ codes "unsnap") × (e ≡ event.Unsnap user path name))
 
 -- the line is empty or a comment: its first byte is '#'
 abbrev pub IsQuiet : List ℕ → Type 0

@@ -63,21 +63,37 @@ answer_text (reply.Resealed edek) = codes "resealed " ++ edek_part edek
 answer_text (reply.Key dek) = codes "key " ++ encode_lower dek
 answer_text (reply.Refused why) = codes "refused " ++ refusal_text why
 
+-- the number and the name of a refusal
+abbrev pub refusal_name : NameRefusal → List ℕ
+refusal_name why.BadPath = codes "N1 BadPath"
+refusal_name why.NoSuchPath = codes "N2 NoSuchPath"
+refusal_name why.Exists = codes "N3 Exists"
+refusal_name why.NotADirectory = codes "N4 NotADirectory"
+refusal_name why.NotEmpty = codes "N5 NotEmpty"
+refusal_name why.NotSuperuser = codes "N6 NotSuperuser"
+refusal_name why.AlreadyInZone = codes "N7 AlreadyInZone"
+refusal_name why.HasSnapshots = codes "N11 HasSnapshots"
+refusal_name why.NotSnapshottable = codes "N12 NotSnapshottable"
+refusal_name why.SnapshotExists = codes "N13 SnapshotExists"
+refusal_name why.NoSuchSnapshot = codes "N14 NoSuchSnapshot"
+refusal_name why.TooManySnapshots = codes "N15 TooManySnapshots"
+refusal_name (why.AskGone opening next) = codes "N16 AskGone"
+refusal_name why.ZoneChanged = codes "N17 ZoneChanged"
+refusal_name why.TooManyInodes = codes "N20 TooManyInodes"
+refusal_name (why.KeyRefused refused) = codes "N21 KeyRefused"
+refusal_name why.NoMemory = codes "N22 NoMemory"
+refusal_name why.StoreFault = codes "N23 StoreFault"
+refusal_name why.NestedSnapshottable = codes "N24 NestedSnapshottable"
+refusal_name why.RootOrInside = codes "N25 RootOrInside"
+
+-- the values that are written after the name
+abbrev pub refusal_values : NameRefusal → List ℕ
+refusal_values (why.AskGone opening next) = codes " " ++ decimal opening ++ codes " " ++ decimal next
+refusal_values (why.KeyRefused refused) = codes " " ++ refusal_text refused
+refusal_values _ = []
+
 abbrev pub name_refusal_text : NameRefusal → List ℕ
-name_refusal_text why.BadPath = codes "N1 BadPath"
-name_refusal_text why.NoSuchPath = codes "N2 NoSuchPath"
-name_refusal_text why.Exists = codes "N3 Exists"
-name_refusal_text why.NotADirectory = codes "N4 NotADirectory"
-name_refusal_text why.NotEmpty = codes "N5 NotEmpty"
-name_refusal_text why.NotSuperuser = codes "N6 NotSuperuser"
-name_refusal_text why.AlreadyInZone = codes "N7 AlreadyInZone"
-name_refusal_text (why.AskGone opening next) = codes "N16 AskGone " ++ decimal opening ++ codes " " ++ decimal next
-name_refusal_text why.ZoneChanged = codes "N17 ZoneChanged"
-name_refusal_text why.TooManyInodes = codes "N20 TooManyInodes"
-name_refusal_text (why.KeyRefused refused) = codes "N21 KeyRefused " ++ refusal_text refused
-name_refusal_text why.NoMemory = codes "N22 NoMemory"
-name_refusal_text why.StoreFault = codes "N23 StoreFault"
-name_refusal_text why.RootOrInside = codes "N25 RootOrInside"
+name_refusal_text why = refusal_name why ++ refusal_values why
 
 -- a path, with the bytes escaped that need it
 abbrev pub escaped_path : NPath → List ℕ

@@ -1,7 +1,7 @@
 //! Event lines.
 ghost use Rattle.std.specs.Prelude.{◌≡◌, ◌≢◌, ◌≤◌, ◌⊎◌, ◌∷◌, [], ℕ, List, length, codes, IfOk, MatchOption, MatchResult};
 ghost use Rattle.kms_calls.specs.declared.calls.KmsCall.{KmsCall};
-ghost use Rattle.replay_text.specs.Events.{IsBad, IsPathEvent, IsPathVerb, IsQuiet, Spells, SpellsEvent, SpellsKms, SpellsPath, SpellsRestart, SpellsZones, fields_of};
+ghost use Rattle.replay_text.specs.Events.{IsBad, IsPathEvent, IsPathVerb, IsQuiet, IsSnapshotEvent, IsSnapshotVerb, Spells, SpellsEvent, SpellsKms, SpellsPath, SpellsRestart, SpellsSnapshot, SpellsZones, fields_of};
 ghost use Rattle.hk_events.specs.declared.event.Event.{Event};
 ghost use Rattle.hk_events.specs.declared.event.Event.TheVariants as event;
 
@@ -129,18 +129,31 @@ fn read_zones(alloc: Global, user: &[u8], verb: &[u8]) -> Result<Option<Event>, 
     Ok(Some(Event::Zones { user }))
 }
 
-/// Reads `nn U`, a verb and a path, from after the verb.
+/// Reads `nn U`, a verb, a path and perhaps the name of a snapshot, from after the verb.
 fn read_path_event(
     alloc: Global,
     user: &[u8],
     verb: &[u8],
     fields: &[u8],
 ) -> Result<Option<Event>, NoMemory>
-    ensures { IfOk result (λ found. MatchOption found ((word who path : List ℕ) → IsPathVerb word → ¬ SpellsPath word (codes "nn" ∷ user.now ∷ verb.now ∷ fields_of fields.now) who path) (SpellsEvent (codes "nn" ∷ user.now ∷ verb.now ∷ fields_of fields.now))) }
+    ensures { IfOk result (λ found. MatchOption found ((event : Event) → ¬ SpellsEvent (codes "nn" ∷ user.now ∷ verb.now ∷ fields_of fields.now) event) (SpellsEvent (codes "nn" ∷ user.now ∷ verb.now ∷ fields_of fields.now))) }
 {
-    let Some(path) = only_field(fields) else {
-        return Ok(None);
-    };
+    let (path, rest) = cut(fields);
+    match rest {
+        None => read_path_call(alloc, user, verb, path),
+        Some(rest) => read_snapshot_call(alloc, user, verb, path, rest),
+    }
+}
+
+/// Reads `nn U`, a verb and a path, whose fields are given.
+fn read_path_call(
+    alloc: Global,
+    user: &[u8],
+    verb: &[u8],
+    path: &[u8],
+) -> Result<Option<Event>, NoMemory>
+    ensures { IfOk result (λ found. MatchOption found ((word who p : List ℕ) → IsPathVerb word → ¬ SpellsPath word (codes "nn" ∷ user.now ∷ verb.now ∷ path.now ∷ []) who p) (SpellsEvent (codes "nn" ∷ user.now ∷ verb.now ∷ path.now ∷ []))) }
+{
     let Some(user) = read_user(alloc, user)? else {
         return Ok(None);
     };
@@ -150,7 +163,46 @@ fn read_path_event(
     Ok(path_event(verb, user, path))
 }
 
-/// Returns the event of a verb that takes a path, or `None` if there is no such verb.
+/// Reads `nn U`, a verb, a path and the name of a snapshot, from after the path.
+fn read_snapshot_call(
+    alloc: Global,
+    user: &[u8],
+    verb: &[u8],
+    path: &[u8],
+    fields: &[u8],
+) -> Result<Option<Event>, NoMemory>
+    ensures { IfOk result (λ found. MatchOption found ((word who p name : List ℕ) → IsSnapshotVerb word → ¬ SpellsSnapshot word (codes "nn" ∷ user.now ∷ verb.now ∷ path.now ∷ fields_of fields.now) who p name) (SpellsEvent (codes "nn" ∷ user.now ∷ verb.now ∷ path.now ∷ fields_of fields.now))) }
+{
+    let Some(name) = only_field(fields) else {
+        return Ok(None);
+    };
+    let Some(user) = read_user(alloc, user)? else {
+        return Ok(None);
+    };
+    let Some(path) = read_escaped(alloc, path)? else {
+        return Ok(None);
+    };
+    let Some(name) = read_escaped(alloc, name)? else {
+        return Ok(None);
+    };
+    Ok(snapshot_event(verb, user, path, name))
+}
+
+/// Returns the event of a verb that takes a path and the name of a snapshot, or `None` if there is no
+/// such verb.
+fn snapshot_event(verb: &[u8], user: Text, path: ByteList, name: ByteList) -> Option<Event>
+    ensures { MatchOption result (¬ IsSnapshotVerb verb.now) (IsSnapshotEvent verb.now user path name) }
+{
+    if verb == b"snap".as_slice() {
+        return Some(Event::Snap { user, path, name });
+    }
+    if verb == b"unsnap".as_slice() {
+        return Some(Event::Unsnap { user, path, name });
+    }
+    None
+}
+
+/// Returns the event of a verb that takes a path alone, or `None` if there is no such verb.
 fn path_event(verb: &[u8], user: Text, path: ByteList) -> Option<Event>
     ensures { MatchOption result (¬ IsPathVerb verb.now) (IsPathEvent verb.now user path) }
 {
@@ -176,6 +228,12 @@ fn path_event(verb: &[u8], user: Text, path: ByteList) -> Option<Event>
     }
     if verb == b"list".as_slice() {
         return Some(Event::List { user, path });
+    }
+    if verb == b"allow".as_slice() {
+        return Some(Event::Allow { user, path });
+    }
+    if verb == b"disallow".as_slice() {
+        return Some(Event::Disallow { user, path });
     }
     None
 }

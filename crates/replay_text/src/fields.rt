@@ -4,7 +4,7 @@ ghost use Rattle.std.specs.Fmt.{decimal};
 ghost use Rattle.hk_base.specs.Names.{IsKeyName};
 ghost use Rattle.percent_encoding.specs.Percent.{percent_decode};
 ghost use Rattle.hex.specs.Hex.{is_hex_digit};
-ghost use Rattle.replay_text.specs.Events.{IsMaterial, IsPath, IsUser, SpellsMaterial, fields_of, is_escaped_from, is_plain, is_space};
+ghost use Rattle.replay_text.specs.Events.{IsEscaped, IsMaterial, IsUser, SpellsMaterial, fields_of, is_escaped_from, is_plain, is_space};
 
 use hk_base::{ByteList, KeyName, NoMemory, Text, read_number};
 use std::alloc::Global;
@@ -100,7 +100,7 @@ pub fn read_user(alloc: Global, field: &[u8]) -> Result<Option<Text>, NoMemory>
 
 /// Returns the bytes that a field with escapes spells, or `None` if it spells none.
 pub fn read_escaped(alloc: Global, field: &[u8]) -> Result<Option<ByteList>, NoMemory>
-    ensures { IfOk result (λ found. MatchOption found ((path : List ℕ) → ¬ IsPath field.now path) (IsPath field.now)) }
+    ensures { IfOk result (λ found. MatchOption found ((bytes : List ℕ) → ¬ IsEscaped field.now bytes) (IsEscaped field.now)) }
 {
     if !is_escaped(field) {
         return Ok(None);

@@ -7,7 +7,7 @@ ghost use Rattle.percent_encoding.specs.Percent.{percent_encode};
 ghost use Rattle.hk_base.specs.Names.{version_text};
 ghost use Rattle.replay_text.specs.declared.transcript.TheConstants.{ESCAPED};
 ghost use Rattle.kms_calls.specs.Refusals.{refusal_text};
-ghost use Rattle.replay_text.specs.Transcript.{answer_text, child_part, edek_field, edek_part, edek_text, escaped_path, kept_text, key_text, line_text, material_text, meta_part, meta_text, name_part, name_refusal_text, name_text, row_front, shown_part, told_text, want_text, zone_part, zone_text};
+ghost use Rattle.replay_text.specs.Transcript.{answer_text, child_part, edek_field, edek_part, edek_text, escaped_path, kept_text, key_text, line_text, material_text, meta_part, meta_text, name_part, name_refusal_text, name_text, refusal_name, row_front, shown_part, told_text, want_text, zone_part, zone_text};
 
 use hk_base::{ByteList, Dek, Edek, KeyName, NoMemory, VersionName};
 use hk_events::Line;
@@ -293,37 +293,57 @@ fn write_edek_field(alloc: Global, edek: &Option<Edek>, out: &mut ByteList) -> R
 fn write_name_refusal(why: &NameRefusal, out: &mut ByteList) -> Result<(), NoMemory>
     ensures { OnOk result (out.new ≡ out.old ++ name_refusal_text why.now) }
 {
+    out.append(refusal_name(why))?;
     match why {
-        NameRefusal::BadPath => out.append(b"N1 BadPath"),
-        NameRefusal::NoSuchPath => out.append(b"N2 NoSuchPath"),
-        NameRefusal::Exists => out.append(b"N3 Exists"),
-        NameRefusal::NotADirectory => out.append(b"N4 NotADirectory"),
-        NameRefusal::NotEmpty => out.append(b"N5 NotEmpty"),
-        NameRefusal::NotSuperuser => out.append(b"N6 NotSuperuser"),
-        NameRefusal::AlreadyInZone => out.append(b"N7 AlreadyInZone"),
-        NameRefusal::AskGone { opening, next } => write_ask_gone(*opening, *next, out),
-        NameRefusal::ZoneChanged => out.append(b"N17 ZoneChanged"),
-        NameRefusal::TooManyInodes => out.append(b"N20 TooManyInodes"),
-        NameRefusal::KeyRefused(refused) => write_key_refused(refused, out),
-        NameRefusal::NoMemory => out.append(b"N22 NoMemory"),
-        NameRefusal::StoreFault => out.append(b"N23 StoreFault"),
-        NameRefusal::RootOrInside => out.append(b"N25 RootOrInside"),
+        NameRefusal::AskGone { opening, next } => write_counters(*opening, *next, out),
+        NameRefusal::KeyRefused(refused) => write_key_refusal(refused, out),
+        _ => Ok(()),
     }
 }
 
-fn write_ask_gone(opening: u32, next: u64, out: &mut ByteList) -> Result<(), NoMemory>
-    ensures { OnOk result (out.new ≡ out.old ++ codes "N16 AskGone " ++ decimal opening ++ codes " " ++ decimal next) }
+/// Returns the number and the name of a refusal.
+fn refusal_name(why: &NameRefusal) -> &'static [u8]
+    ensures { result.now ≡ refusal_name why.now }
 {
-    out.append(b"N16 AskGone ")?;
+    match why {
+        NameRefusal::BadPath => b"N1 BadPath",
+        NameRefusal::NoSuchPath => b"N2 NoSuchPath",
+        NameRefusal::Exists => b"N3 Exists",
+        NameRefusal::NotADirectory => b"N4 NotADirectory",
+        NameRefusal::NotEmpty => b"N5 NotEmpty",
+        NameRefusal::NotSuperuser => b"N6 NotSuperuser",
+        NameRefusal::AlreadyInZone => b"N7 AlreadyInZone",
+        NameRefusal::HasSnapshots => b"N11 HasSnapshots",
+        NameRefusal::NotSnapshottable => b"N12 NotSnapshottable",
+        NameRefusal::SnapshotExists => b"N13 SnapshotExists",
+        NameRefusal::NoSuchSnapshot => b"N14 NoSuchSnapshot",
+        NameRefusal::TooManySnapshots => b"N15 TooManySnapshots",
+        NameRefusal::AskGone { .. } => b"N16 AskGone",
+        NameRefusal::ZoneChanged => b"N17 ZoneChanged",
+        NameRefusal::TooManyInodes => b"N20 TooManyInodes",
+        NameRefusal::KeyRefused(_) => b"N21 KeyRefused",
+        NameRefusal::NoMemory => b"N22 NoMemory",
+        NameRefusal::StoreFault => b"N23 StoreFault",
+        NameRefusal::NestedSnapshottable => b"N24 NestedSnapshottable",
+        NameRefusal::RootOrInside => b"N25 RootOrInside",
+    }
+}
+
+/// Appends the number of the opening and the counter of its next id.
+fn write_counters(opening: u32, next: u64, out: &mut ByteList) -> Result<(), NoMemory>
+    ensures { OnOk result (out.new ≡ out.old ++ codes " " ++ decimal opening ++ codes " " ++ decimal next) }
+{
+    out.push(b' ')?;
     write_number(opening as u64, out)?;
     out.push(b' ')?;
     write_number(next, out)
 }
 
-fn write_key_refused(refused: &KmsRefusal, out: &mut ByteList) -> Result<(), NoMemory>
-    ensures { OnOk result (out.new ≡ out.old ++ codes "N21 KeyRefused " ++ refusal_text refused.now) }
+/// Appends the refusal of the key management service.
+fn write_key_refusal(refused: &KmsRefusal, out: &mut ByteList) -> Result<(), NoMemory>
+    ensures { OnOk result (out.new ≡ out.old ++ codes " " ++ refusal_text refused.now) }
 {
-    out.append(b"N21 KeyRefused ")?;
+    out.push(b' ')?;
     refused.write(out)
 }
 
