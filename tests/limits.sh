@@ -48,6 +48,24 @@ for ((i = 1; i < 20000; i++)); do
     printf 'nn a mkdir /%s\n' "$i"
 done | { cat; echo 'nn a info /19999'; } | expect 'many directories' 0 '20000 dir 4294987295 - -'
 
+# A directory has 65,536 snapshots at most. One that is removed makes room for another.
+room=$(mktemp -d -p "$quick") || exit 1
+answers=$({
+    printf 'nn a mkdir /d\nnn hdfs allow /d\n'
+    seq -f 'nn a snap /d %05.0f' 0 65535
+    printf 'nn a snap /d more\nnn a unsnap /d 00000\nnn a snap /d more\nnn a snap /d 00000\nnn a info /d/.snapshot/65535\n'
+} | (cd "$room" && exec "$hkms" replay) | tail -n 5)
+wanted='65539 refused N15 TooManySnapshots
+65540 done
+65541 done
+65542 refused N15 TooManySnapshots
+65543 dir 4294967297 - -'
+if [ "$answers" != "$wanted" ]; then
+    printf 'tests/limits.sh: many snapshots: answers:\n%s\nwanted:\n%s\n' "$answers" "$wanted"
+    failures=$((failures + 1))
+fi
+rm -rf "$room"
+
 # Bytes that come one at a time are read as bytes that come together.
 while IFS= read -r -n 1 -d '' byte; do
     printf '%s' "$byte"

@@ -8,7 +8,17 @@ import sys
 # The kinds of records by their first byte: the name, and the fields as `field` reads them.
 KINDS = {
     b"HKMSKEY1": {1: ("opened", "4"), 2: ("create", "8n2t8r"), 3: ("roll", "82r"), 4: ("delete", "8")},
-    b"HKMSNAM1": {1: ("opened", "4"), 2: ("mkdir", "8t"), 3: ("file", "8te"), 4: ("remove", "t"), 6: ("zone", "tn")},
+    b"HKMSNAM1": {
+        1: ("opened", "4"),
+        2: ("mkdir", "8t"),
+        3: ("file", "8te"),
+        4: ("remove", "t"),
+        6: ("zone", "tn"),
+        7: ("allow", "t"),
+        8: ("disallow", "t"),
+        9: ("snap", "tt"),
+        10: ("unsnap", "tt"),
+    },
 }
 
 

@@ -84,6 +84,39 @@ expect 'the worked example' 0 '1 version k@0 H
 output=$kept status=0
 expect 'the encrypted key of a file behind a restart' 0 "$drawn"
 
+# A file that was deleted is read in a snapshot, in a run after it too. Its encrypted key opens to what it opened to before.
+run <<'EOT'
+kms a create k 128 2b7e151628aed2a6abf7158809cf4f3c
+nn a mkdir /z
+ask hdfs zone /z k
+draw 1
+finish 1
+ask a create /z/f
+draw 2
+finish 2
+nn hdfs allow /z
+nn a snap /z s
+nn a info /z/f
+EOT
+edek=$(sed -n 's,^11 file 4294967299 /z ,,p' <<<"$output")
+run_here <<<"kms a decrypt ${edek//:/ }"
+key=$output
+mask
+expect 'the data encryption key of a file' 0 '1 key H'
+run_here <<<'nn a delete /z/f'
+run_here <<EOT
+kms a decrypt ${edek//:/ }
+nn a info /z/f
+nn a info /z/.snapshot/s/f
+kms a roll k 000102030405060708090a0b0c0d0e0f
+EOT
+expect 'a file that is left in a snapshot' 0 "$key
+2 refused N2 NoSuchPath
+3 file 4294967299 /z $edek
+4 version k@1 000102030405060708090a0b0c0d0e0f"
+run_here <<<"kms a decrypt ${edek//:/ }"
+expect 'the data encryption key of a file in a snapshot' 0 "$key"
+
 run <<'EOT'
 nn a delete /
 nn a rdelete /
@@ -285,6 +318,11 @@ file() {
 remove() { printf '04%s' "$(path "$1")"; }
 # zone PATH KEY, of one letter
 zone() { printf '06%s01%s' "$(path "$1")" "$(printf %s "$2" | od -An -tx1 | tr -d ' \n')"; }
+allow() { printf '07%s' "$(path "$1")"; }
+disallow() { printf '08%s' "$(path "$1")"; }
+# snap PATH NAME, unsnap PATH NAME: a name is written as a path is
+snap() { printf '09%s%s' "$(path "$1")" "$(path "$2")"; }
+unsnap() { printf '0a%s%s' "$(path "$1")" "$(path "$2")"; }
 path() { printf '%04x%s' "${#1}" "$(printf %s "$1" | od -An -v -tx1 | tr -d ' \n')"; }
 
 # Writes the log of these payloads, and sets place to the offset of the last one's gate.
@@ -341,6 +379,20 @@ refuses 'a zone of a file' "$opened" "$(file 1 /f)" "$(zone /f k)"
 refuses 'a zone of a directory with something in it' "$opened" "$z" "$(dir 3 /z/d)" "$marked"
 refuses 'a zone twice' "$opened" "$z" "$marked" "$marked"
 refuses 'a zone in a zone' "$opened" "$z" "$marked" "$(dir 3 /z/y)" "$(zone /z/y j)"
+e=$(dir 2 /d/e) allowed=$(allow /d) snapped=$(snap /d s)
+refuses 'snapshots allowed where nothing stands' "$opened" "$d" "$(allow /e)"
+refuses 'snapshots allowed of a file' "$opened" "$(file 1 /f)" "$(allow /f)"
+refuses 'snapshots allowed below a snapshottable directory' "$opened" "$d" "$e" "$allowed" "$(allow /d/e)"
+refuses 'snapshots allowed above a snapshottable directory' "$opened" "$d" "$e" "$(allow /d/e)" "$allowed"
+refuses 'snapshots disallowed that were not allowed' "$opened" "$d" "$(disallow /d)"
+refuses 'snapshots disallowed of a directory with one' "$opened" "$d" "$allowed" "$snapped" "$(disallow /d)"
+refuses 'a snapshot where none is allowed' "$opened" "$d" "$e" "$allowed" "$(snap /d/e s)"
+refuses 'a snapshot twice' "$opened" "$d" "$allowed" "$snapped" "$snapped"
+refuses 'a snapshot of no name' "$opened" "$d" "$allowed" "$(snap /d '')"
+refuses 'a snapshot with a slash in its name' "$opened" "$d" "$allowed" "$(snap /d a/b)"
+refuses 'the removal of no snapshot' "$opened" "$d" "$allowed" "$snapped" "$(unsnap /d t)"
+refuses 'the removal of a directory with a snapshot' "$opened" "$d" "$allowed" "$snapped" "$(remove /d)"
+refuses 'the removal of a directory above one with a snapshot' "$opened" "$d" "$e" "$(allow /d/e)" "$(snap /d/e s)" "$(remove /d)"
 refuses 'a record of no kind' "$opened" "$d" 00
 refuses 'a record with a byte behind it' "$opened" "$d" "$(remove /d)00"
 
@@ -356,7 +408,25 @@ expect 'a log made by hand' 0 '1 list g z/
 3 file 4294967300 - -
 4 zones /z:k'
 
-# ---- a log of all five kinds of records, cut at each length, and with each byte changed
+# Snapshots that were allowed twice are allowed; the removal of a directory disallows those below it.
+make_log "$opened" "$d" "$e" "$allowed" "$allowed" "$snapped" "$(snap /d t)" "$(remove /d/e)" "$(unsnap /d t)" "$(dir 3 /p)" "$(dir 4 /p/c)" \
+    "$(allow /p/c)" "$(remove /p/c)" "$(dir 5 /p/c)"
+run_here <<'EOT'
+nn a list /d
+nn a list /d/.snapshot/s
+nn a info /d/.snapshot/s/e
+nn a list /d/.snapshot/t
+nn a list /p/c/.snapshot/s
+nn hdfs allow /p
+EOT
+expect 'a log of snapshots made by hand' 0 '1 list
+2 list e/
+3 dir 4294967298 - -
+4 refused N14 NoSuchSnapshot
+5 refused N12 NotSnapshottable
+6 done'
+
+# ---- a log of all kinds of records, cut at each length, and with each byte changed
 
 run <<'EOT'
 kms a create k 128 2b7e151628aed2a6abf7158809cf4f3c
@@ -369,11 +439,15 @@ draw 2
 finish 2
 nn a mkdir /d
 nn a delete /d
+nn hdfs allow /z
+nn a snap /z s
+nn a unsnap /z s
+nn hdfs disallow /z
 EOT
 output=$(stat -c %s "$room/names.log")
-expect 'the log of all kinds of records' 0 135
+expect 'the log of all kinds of records' 0 181
 cp "$room/names.log" "$folder/all"
-gates=(8 18 36 48 106 124 134)
+gates=(8 18 36 48 106 124 134 144 157 170 180)
 
 room=$quick
 # Runs the program on a log that is made of standard input.
@@ -382,7 +456,7 @@ run_on() {
     run_here <<<'nn a list /'
 }
 
-for ((length = 0; length <= 134; length++)); do
+for ((length = 0; length <= 180; length++)); do
     head -c "$length" "$folder/all" >"$folder/cut"
     run_on <"$folder/cut"
     if [ "$length" -le 9 ]; then
@@ -401,7 +475,7 @@ for gate in "${gates[@]}"; do
 done
 
 whole=$(digits "$folder/all")
-for ((at = 0; at < 135; at++)); do
+for ((at = 0; at < 181; at++)); do
     for change in 1 255; do
         changed=$(printf %02x $((16#${whole:2 * at:2} ^ change)))
         bytes "${whole:0:2 * at}$changed${whole:2 * at + 2}" >"$folder/changed"

@@ -128,6 +128,32 @@ expect 'a zone and a file in it' 0 '1 version k@0 H
 13 done
 14 file 4294967300 - -'
 
+run_masked examples/snapshots.events
+expect 'a file that was deleted, in a snapshot' 0 '1 version k@0 H
+2 done
+3 ask 1 4294967298 metadata k
+4 reply 1 meta k 128 1 1
+5 done
+6 ask 2 4294967299 generate k
+7 reply 2 ready k@0:H:H
+8 done
+9 done
+10 done
+11 done
+12 version k@1 H
+13 ask 3 4294967300 generate k
+14 reply 3 ready k@1:H:H
+15 done
+16 file 4294967300 /vault k@1:H:H
+17 list plan
+18 file 4294967299 /vault k@0:H:H
+19 key H
+20 refused N11 HasSnapshots
+21 done
+22 refused N14 NoSuchSnapshot
+23 done
+24 done'
+
 run_masked examples/create.events
 expect 'created keys' 0 '1 version payroll@0 H
 2 version archive@0 H

@@ -35,6 +35,12 @@ paths=(
     'nn a delete /d:e' 'nn a list' 'nn a list /d /e' 'nn a lists /d'
     'nn a zones x' 'nn a zones ' 'nn a zone' 'nn a Zones' 'nn a  zones' 'nn a' 'nn'
 )
+snapshots=(
+    'nn a allow' 'nn a allow /d ' 'nn a allow /d s' 'nn a allow  /d' 'nn a Allow /d' 'nn a disallow' 'nn a disallow /d s' 'nn a allow /d:e'
+    'nn a snap' 'nn a snap /d' 'nn a snap /d s ' 'nn a snap /d s t' 'nn a snap /d  s' 'nn a Snap /d s' 'nn a snapshot /d s'
+    'nn a snap /d a:b' 'nn a snap /d a,b' 'nn a snap /d %4' 'nn a snap /d %zz' 'nn a snap /d ä' 'nn a snap /a:b s'
+    'nn a unsnap' 'nn a unsnap /d' 'nn a unsnap /d s t' 'nn a unsnap /d s%4' 'nn a info /d s' 'nn a:b snap /d s' 'nn %ff snap /d s'
+)
 asks=(
     'ask a create' 'ask a  create /f' 'ask a create  /f' 'ask a create /f k' 'ask a create /f%2'
     'ask hdfs zone /z' 'ask hdfs zone /z  k' 'ask hdfs zone /z k ' 'ask hdfs zone /z k%6b' 'ask hdfs zone /%zz k'
@@ -50,7 +56,7 @@ restarts=(
 )
 
 # The line before it is answered, and the line after it is not.
-for line in "${calls_on_keys[@]}" "${users[@]}" "${paths[@]}" "${asks[@]}" "${numbers[@]}" "${restarts[@]}"; do
+for line in "${calls_on_keys[@]}" "${users[@]}" "${paths[@]}" "${snapshots[@]}" "${asks[@]}" "${numbers[@]}" "${restarts[@]}"; do
     room=$(mktemp -d -p "$quick") || exit 1
     output=$(cd "$room" && printf 'nn a info /\n%s\nnn a info /\n' "$line" | "$program" replay)
     status=$?
