@@ -284,6 +284,23 @@ class Bench:
         refused = "`mkdir` of a random path that exists, which finds it and its directory, µs"
         print_row(refused, microseconds("mkdir", "mkdir of the root"), "the most that is wanted for one find", 1.5)
 
+    def print_snapshots(self, files):
+        """Measures snapshots of a directory of so many rows, each taken and removed."""
+        rows = in_any_order(rows_in("/zone", [], files))
+        self.clear()
+        with open(self.names, "wb") as file:
+            file.write(rows.log())
+        session = Session(self.program, self.folder)
+        session.run([ROOT_LINE, "nn hdfs allow /zone\n"], ["dir 0 - -", "done"])
+        taken, removed = [], []
+        for _ in range(5):
+            taken.append(session.run(["nn a snap /zone s\n"], ["done"]))
+            removed.append(session.run(["nn a unsnap /zone s\n"], ["done"]))
+        session.end()
+        most = "the most that is wanted"
+        print_row(f"a snapshot of {files:,} files, ms", min(taken) * 1e3, most, 100, 0)
+        print_row("its removal, ms", min(removed) * 1e3, most, 100, 0)
+
 
 def main():
     program, folder = sys.argv[1:3]
@@ -304,6 +321,7 @@ def main():
         (f"{files // 2:,} files and as many removals in random order", removed_rows(files)),
     ):
         bench.opening(what, made, 2, 3)
+    bench.print_snapshots(min(files, 100_000))
     bench.clear()
 
 
