@@ -27,6 +27,12 @@ pub enum Event {
         path: ByteList,
         recursive: bool,
     },
+    /// Moves the entry at a path of the namesystem, with all below it, to another path.
+    Rename {
+        user: Text,
+        path: ByteList,
+        to: ByteList,
+    },
     /// Asks for the entry at a path of the namesystem, or at a path in a snapshot.
     Info {
         user: Text,

@@ -1,13 +1,13 @@
 -- Paths as text, and their parts between slashes.
 use Rattle.std.proofs.Common.{◌≡◌, ℕ, ◌+◌, ◌<◌, ◌≤◌, zero, suc, Bool, true, false, cond, not, ◌&&◌, List, [], ◌∷◌, ◌++◌, length, get_or, take, drop, Option, Some, None, is_some, refl, sym, ap, ◌∙◌, arith, length-append, append_assoc, count_by, codes, take_all}
-use Rattle.std.proofs.lemmas.List.{append-nil, take_more}
+use Rattle.std.proofs.lemmas.List.{append-nil, drop_all, take_more}
 use Rattle.std.proofs.Math.Seq.{take-append_seam}
 use Rattle.std.specs.Prelude.{◌==◌, nat_lt, nat_le}
 use Rattle.std.specs.Str.{bytes_eq, is_utf8}
 use Rattle.std.specs.List.{list_all, slice_split, before_first, onto_first, position, position_or_len}
 use Rattle.std.proofs.lemmas.Bool.Decides.{nat_tests}
 use Rattle.std.proofs.lemmas.List.Splits.{length-slice_split}
-use Rattle.name_calls.specs.Paths.{is_component, is_short, is_relative, is_absolute, absolute, starts_reserved, names_text, path_text, read_path}
+use Rattle.name_calls.specs.Paths.{is_component, is_prefix, is_short, is_relative, is_absolute, absolute, starts_reserved, names_text, path_text, read_path}
 
 abbrev pub is_slash : ℕ → Bool
 is_slash b = b == 47
@@ -216,3 +216,24 @@ relative-front p c h =
     let fewer : length (path_text p) ≤ 8000 = omega (arith, text-front p c) in
     both (list_all is_component p) (is_short p) (all-front is_component p c w.0)
     (both (nat_le (length (path_text p)) 8000) (nat_le (length p) 100) (yes-le _ _ fewer) (yes-le _ _ less))
+
+-- a path that has more names than another is not above it
+pub longer-is-no-prefix : (p q : List (List ℕ)) → length q < length p → is_prefix p q ≡ false
+longer-is-no-prefix [] q lt = absurd (omega arith)
+longer-is-no-prefix (x ∷ p) [] lt = refl
+longer-is-no-prefix (x ∷ p) (y ∷ q) lt = ap (λ (b : Bool). bytes_eq x y && b) (longer-is-no-prefix p q (omega arith)) ∙ none (bytes_eq x y)
+  where
+    none : (b : Bool) → (b && false) ≡ false
+    none true = refl
+    none false = refl
+
+-- the names of two paths from the k-th on: the k-th of each, and the names after it
+pub prefix-from : (p q : List (List ℕ)) (k : ℕ) → k < length p → k < length q → is_prefix (drop k p) (drop k q) ≡ (bytes_eq (get_or p k []) (get_or q k []) && is_prefix (drop (suc k) p) (drop (suc k) q))
+prefix-from [] q k in-p in-q = absurd (omega arith)
+prefix-from (x ∷ p) [] k in-p in-q = absurd (omega arith)
+prefix-from (x ∷ p) (y ∷ q) zero in-p in-q = refl
+prefix-from (x ∷ p) (y ∷ q) (suc k) in-p in-q = prefix-from p q k (omega arith) (omega arith)
+
+-- no names are left after all of them
+pub ends-at : (p q : List (List ℕ)) (k : ℕ) → length p ≤ k → is_prefix (drop k p) q ≡ true
+ends-at p q k le = ap (λ (r : List (List ℕ)). is_prefix r q) (drop_all k p le)

@@ -17,6 +17,9 @@ pub enum NameCall {
     /// Deletes the entry at a path. A directory that is not empty is deleted only if `recursive` is
     /// set (`rm` and `rm -r` of the HDFS shell, without the trash).
     Delete { path: NPath, recursive: bool },
+    /// Moves the entry at a path, with all below it, to another path (`mv` of the HDFS shell, where
+    /// the other path is not that of a directory). Ids, zones and encrypted keys move with it.
+    Rename { path: NPath, to: NPath },
     /// Asks for the entry at a path, or at a path in a snapshot.
     Info { path: ReadPath },
     /// Asks for the entries of a directory, or of a directory in a snapshot.
@@ -40,11 +43,11 @@ pub enum NameCall {
 pub enum NameRefusal {
     /// The bytes given as a path break the rule of paths, or a name of a snapshot can't be a name.
     /// A call on a path that was read is refused like this only if the first name of the path is
-    /// `.reserved`.
+    /// `.reserved`, or if a path at or below one that moves would become longer than the rule allows.
     BadPath,
-    /// There is no entry at the path, or no parent for the path that is to be made.
+    /// There is no entry at the path, or no parent for the path that is to be made or moved to.
     NoSuchPath,
-    /// There is an entry at the path that is to be made.
+    /// There is an entry at the path that is to be made or moved to.
     Exists,
     /// A file is found in place of a directory.
     NotADirectory,
@@ -54,8 +57,10 @@ pub enum NameRefusal {
     NotSuperuser,
     /// A directory that is to become a zone is one already, or lies in one.
     AlreadyInZone,
-    /// There is a snapshot of the directory, or of one below it. It is neither deleted, nor are
-    /// snapshots of it disallowed.
+    /// A rename would take the entry into or out of an encryption zone.
+    CrossZone,
+    /// There is a snapshot of the directory, or of one below it. It is neither deleted nor renamed,
+    /// nor are snapshots of it disallowed.
     HasSnapshots,
     /// Snapshots of the directory are not allowed.
     NotSnapshottable,
@@ -81,10 +86,10 @@ pub enum NameRefusal {
     /// pending: the disk may or may not hold the record, and the next call that changes something
     /// settles it first.
     StoreFault,
-    /// Snapshots are allowed of a directory above or below, and such directories don't lie in one
-    /// another.
+    /// Snapshots are allowed of a directory above or below, or a rename would bring such directories
+    /// there. They don't lie in one another.
     NestedSnapshottable,
-    /// The root cannot be deleted.
+    /// The root is neither deleted nor renamed, and nothing is renamed to its own path or below it.
     RootOrInside,
 }
 

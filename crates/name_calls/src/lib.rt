@@ -9,6 +9,6 @@ mod zone_list;
 
 pub use calls::{Answered, Ask, AskNote, KeyAnswer, NameCall, NameRefusal, NameReply, Want};
 pub use listing::{Child, ChildList};
-pub use paths::{MOST_BYTES, MOST_NAMES, NPath, PathFault, is_component};
+pub use paths::{MOST_BYTES, MOST_NAMES, NPath, PathFault, is_component, is_path};
 pub use read_paths::{ReadPath, SnapPart};
 pub use zone_list::{ZoneList, ZonePath};

@@ -2,7 +2,7 @@
 ghost use Rattle.std.specs.Prelude.{◌≡◌, ◌<◌, ◌≤◌, ◌++◌, ◌∷◌, ◌↔◌, ◌==◌, ◌&&◌, ◌||◌, [], nat_lt, not, None, Some, Err, length, drop, take, slice_index_or, is_some, true, map, count_by, position, codes, IsTrue, IfOk, OnOk, OnErr};
 ghost use Rattle.std.specs.List.{before_first, list_all, slice_split};
 ghost use Rattle.std.specs.Str.{bytes_eq, is_utf8};
-ghost use Rattle.name_calls.specs.Paths.{is_absolute, is_component, is_plain_byte, is_relative, path_text, read_path, starts_reserved};
+ghost use Rattle.name_calls.specs.Paths.{is_absolute, is_component, is_plain_byte, is_prefix, is_relative, path_text, read_path, starts_reserved};
 
 use hk_base::{ByteList, NoMemory, Text};
 use std::alloc::{AllocError, Global};
@@ -159,8 +159,8 @@ pub(crate) fn after_first_byte(bytes: &[u8]) -> &[u8]
     &bytes[1..]
 }
 
-/// Whether the bytes are the text form of a path.
-pub(crate) fn is_path(bytes: &[u8]) -> bool
+/// Returns whether the bytes are the text form of an absolute path. It takes no memory.
+pub fn is_path(bytes: &[u8]) -> bool
     ensures { result ≡ is_some (read_path bytes.now) }
 {
     if bytes.len() == 0 || bytes[0] != b'/' {
@@ -211,6 +211,12 @@ impl From<NoMemory> for PathFault {
     fn from(_: NoMemory) -> Self {
         PathFault::NoMemory
     }
+}
+
+fn is_same_name(name: &Text, other: &Text) -> bool
+    ensures { result ≡ bytes_eq name.now other.now }
+{
+    name.as_str().as_bytes() == other.as_str().as_bytes()
 }
 
 impl NPath {
@@ -270,6 +276,21 @@ impl NPath {
         ensures { result.now ≡ slice_index_or self.now k [] }
     {
         &self.names[k]
+    }
+
+    /// Whether the path is the other one, or lies above it.
+    pub fn is_at_or_above(&self, other: &NPath) -> bool
+        ensures { result ≡ is_prefix self.now other.now }
+    {
+        if self.len() > other.len() {
+            return false;
+        }
+        for k in 0..self.len() {
+            if !is_same_name(self.name(k), other.name(k)) {
+                return false;
+            }
+        }
+        true
     }
 
     /// Adds a name at the end. If allocation fails, the path is unchanged.
