@@ -160,6 +160,14 @@ impl KeyTable {
         row_of(&self.rows, &self.names, name)
     }
 
+    /// Returns the key with this birth. Does not allocate.
+    pub fn with_birth(&self, birth: u64) -> Option<&KeyRow>
+        ensures found { option_copied result ≡ find_birth self.now.keys.rows birth }
+        ensures row { IfSome result (λ row. IsRow row.now) }
+    {
+        row_at(&self.rows, birth)
+    }
+
     /// Returns the name of the key with this birth. Does not allocate.
     pub fn name_of(&self, birth: u64) -> Option<KeyName>
         ensures { result ≡ option_map (λ row. row.name) (find_birth self.now.keys.rows birth) }
