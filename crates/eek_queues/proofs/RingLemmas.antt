@@ -1,10 +1,11 @@
 -- The rings and the queues in them.
-use Rattle.std.proofs.Common.{◌≡◌, ℕ, ◌<◌, ◌≤◌, zero, suc, Bool, true, false, not, cond, List, [], ◌∷◌, Option, Some, length, get_or, set, refl, sym, ap, subst, ◌∙◌, arith}
+use Rattle.std.proofs.Common.{◌≡◌, ℕ, ◌-◌, ◌<◌, ◌≤◌, inl, inr, drop, zero, suc, Bool, true, false, not, cond, List, [], ◌∷◌, Option, Some, length, get_or, set, refl, sym, ap, subst, ◌∙◌, arith}
 use Rattle.std.specs.Prelude.{◌==◌, nat_lt, slice_get, IsNone}
 use Rattle.std.specs.List.{AllByRecursion, insert, remove}
 use Rattle.std.specs.List.Sorted.{IsNonDecreasingBy, IsPartitionPoint}
 use Rattle.std.proofs.lemmas.Bool.Decides.{nat_tests}
-use Rattle.std.proofs.lemmas.List.{get_or-map, length-map, length-set, map-set}
+use Rattle.std.proofs.lemmas.Bool.{cases_lt}
+use Rattle.std.proofs.lemmas.List.{drop_all, get_or-map, length-map, length-set, map-set}
 use Rattle.circular_buffer.specs.Buffer.{Buffer, buffer}
 use Rattle.hk_base.specs.declared.names.Edek.{Edek}
 use Rattle.eek_queues.specs.declared.order.Place.{Place}
@@ -146,6 +147,13 @@ module _ (old : AllQueues) (size watermark : ℕ) (rings : List Ring) (view : se
 
   pub absent-seen : (birth : ℕ) → has_queue (queues_of rings) birth ≡ false → ready_in old.queues birth ≡ []
   absent-seen birth h = ap (λ (o : AllQueues). ready_in o.queues birth) (sym view) ∙ absent-ready (queues_of rings) birth h
+
+-- what is left when the last ones are kept, which are all but the first `count`
+pub drop-but : {X : Type 0} (count : ℕ) (xs : List X) → drop (length xs - (length xs - count)) xs ≡ drop count xs
+drop-but count xs = elim (cases_lt count (length xs)) [
+  | inl within ↦ ap (λ n. drop n xs) (omega (arith, within))
+  | inr past ↦ ap (λ n. drop n xs) (omega (arith, past)) ∙ drop_all (length xs) xs (omega arith) ∙ sym (drop_all count xs past)
+]
 
 pub none-front : (xs : List Edek) (r : Option Edek) → r ≡ slice_get xs 0 → (IsNone r → xs ≡ []) × (xs ≡ [] → IsNone r)
 none-front [] r e = (λ h. refl, λ h. subst (λ (o : Option Edek). IsNone o) (sym e) refl)

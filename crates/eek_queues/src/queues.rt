@@ -1,5 +1,5 @@
 //! The queues of ready keys.
-ghost use Rattle.std.specs.Prelude.{◌≡◌, ◌↔◌, ◌∷◌, ◌++◌, ◌≤◌, [], true, false, length, drop, slice_get, All, IsNone, IfNone, IfSome, IsErr, IfErr, OnOk, OnErr};
+ghost use Rattle.std.specs.Prelude.{◌≡◌, ◌-◌, ◌↔◌, ◌∷◌, ◌++◌, ◌≤◌, [], true, false, length, drop, slice_get, All, IsNone, IfNone, IfSome, IsErr, IfErr, OnOk, OnErr};
 ghost use Rattle.std.specs.Option.{option_map};
 ghost use Rattle.eek_queues.specs.Queues.{IsLowest, dropped, has_queue, limit, lowest, put_queue, ready_in, set_ready};
 
@@ -52,6 +52,20 @@ impl Queues {
         }
     }
 
+    /// Returns the number of ready keys that a queue can hold.
+    pub fn size(&self) -> u16
+        ensures { result ≡ self.now.size }
+    {
+        self.size
+    }
+
+    /// Returns the watermark.
+    pub fn watermark(&self) -> u16
+        ensures { result ≡ self.now.watermark }
+    {
+        self.watermark
+    }
+
     /// Returns whether the key with this birth has a queue.
     pub fn has(&self, birth: u64) -> bool
         ensures { result ≡ has_queue self.now.queues birth }
@@ -69,6 +83,24 @@ impl Queues {
         match find(&self.rings, birth) {
             Some(at) => self.rings[at].ready.len() as u16,
             None => 0,
+        }
+    }
+
+    /// Returns how many more ready keys the queue of a birth can hold.
+    pub fn room(&self, birth: u64) -> u16
+        ensures { result ≡ self.now.size - length (ready_in self.now.queues birth) }
+    {
+        self.size - self.length(birth)
+    }
+
+    /// Returns the ready key of a birth at this position, counted from the oldest. Returns `None` if
+    /// it has fewer ready keys.
+    pub fn get(&self, birth: u64, position: usize) -> Option<Edek>
+        ensures { result ≡ slice_get (ready_in self.now.queues birth) position }
+    {
+        match find(&self.rings, birth) {
+            Some(at) => self.rings[at].ready.get(position).copied(),
+            None => None,
         }
     }
 
@@ -107,6 +139,27 @@ impl Queues {
                 Some(ready)
             }
             None => None,
+        }
+    }
+
+    /// Removes the `count` oldest ready keys of a birth, or all of them if it has fewer.
+    pub fn remove(&mut self, birth: u64, count: usize)
+        ensures { self.new ≡ record self.old { queues = set_ready self.old.queues birth (drop count (ready_in self.old.queues birth)) } }
+    {
+        if let Some(at) = find(&self.rings, birth) {
+            let ring = &mut self.rings[at];
+            let held = ring.ready.len();
+            let left = held.saturating_sub(count);
+            let from = Place {
+                count: held as u16,
+                birth,
+            };
+            let to = Place {
+                count: left as u16,
+                birth,
+            };
+            ring.ready.truncate_front(left);
+            self.order.follow(from, to);
         }
     }
 
