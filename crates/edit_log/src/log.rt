@@ -35,8 +35,8 @@ impl EditLog {
     ghost use Rattle.std.specs.Prelude.{◌≡◌, ◌≢◌, ◌<◌, ◌+◌, ◌⊎◌, ◌++◌, [], ◌∷◌, ℕ, List, Option, Some, None, Ok, IsTrue, IsErr, IfOk, OnOk, OnErr, IsErrOf, is_some, slice_get, map};
     ghost use Rattle.hk_base.specs.Disk.{Tells, RunOn, LeavesOnly};
     ghost use Rattle.hk_base.specs.Faults.{Rose};
-    ghost use Rattle.frame_log.specs.Format.{log_of, NoLog, IsAsFound, IsRecovered};
-    ghost use Rattle.frame_log.specs.Stands.{LeavesFrom};
+    ghost use Rattle.frame_log.specs.Format.{IsAsFound};
+    ghost use Rattle.frame_log.specs.Opens.{Recovers};
     ghost use Rattle.frame_log.specs.declared.fault.StoreRefusal.TheVariants as store;
     ghost use Rattle.frame_log.specs.declared.fault.StartFault.TheVariants as start;
     ghost use Rattle.edit_ops.specs.Records.{fits};
@@ -57,23 +57,17 @@ impl EditLog {
     ) -> Result<(EditLog, OpReader), StartFault>
         ensures opened { IfOk result (λ r. Tells (D.state disk.old) → IsOpened ((D.state disk.old).reads 1) (D.state disk.new) r.0 r.1) }
         ensures settled { IfOk result (λ r. (r.0.pending ≡ None) × (r.0.log.file ≡ 1)) }
-        ensures damaged { (at : ℕ) → IsErrOf result (start.Damaged at) → Tells (D.state disk.old) → log_of 1 ((D.state disk.old).reads 1) ≡ NoLog at }
         ensures spent { IsErrOf result start.Spent → ⊥ }
+
+        // Whatever the result, after the first sync of the call a crash leaves the log found, or that log
+        // with its end gate read as 1. A file that is not a log stays byte for byte. If that sync failed,
+        // nothing was written.
+        ensures opens { Recovers 1 (D.state disk.old) (D.state disk.new) (λ fault. IsErrOf result fault) }
 
         // A crash at any moment leaves what it might have left before, or the log found, or that with
         // its end gate read as 1.
         ensures any_moment { Tells (D.state disk.old) → LeavesOnly 1 (D.state disk.old) (D.state disk.new)
             (λ c. (D.state disk.old).leaves 1 c ⊎ IsAsFound 1 ((D.state disk.old).reads 1) c) }
-
-        // Whatever the result, after the first sync of the call it leaves the log found, or that log with its
-        // end gate read as 1. A file that is not a log stays byte for byte. If that sync failed, nothing was
-        // written.
-        ensures since_sync { Tells (D.state disk.old) →
-            (IsErrOf result start.StoreFault × LeavesOnly 1 (D.state disk.old) (D.state disk.new) ((D.state disk.old).leaves 1))
-            ⊎ LeavesFrom 1 (D.state disk.old) (D.state disk.new) (IsRecovered 1 ((D.state disk.old).reads 1)) }
-
-        ensures run { RunOn 1 (D.state disk.old) (D.state disk.new) }
-        ensures cause { IsErrOf result start.StoreFault → Rose (D.state disk.old).faults (D.state disk.new).faults }
     {
         let (log, records) = Log::recover_records(alloc, disk, NAMES)?;
         let reader = OpReader {

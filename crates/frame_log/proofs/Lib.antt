@@ -4,6 +4,7 @@ mod Found
 mod Goings
 mod Head
 pub mod Layers
+pub mod Openings
 pub mod Reading
 mod Scans
 mod Steps

@@ -53,7 +53,8 @@ impl Log {
     ghost use Rattle.frame_log.specs.declared.fault.LogFault.TheVariants.{Damaged, StoreFault, NoMemory};
     ghost use Rattle.frame_log.specs.Format.{log_of, Found, NoLog, placed, IsPayload, IsBeforeOrAfter, IsAsFound, IsRecovered};
     ghost use Rattle.frame_log.specs.Scan.{view};
-    ghost use Rattle.frame_log.specs.Stands.{Stands, LeavesFrom};
+    ghost use Rattle.frame_log.specs.Opens.{FailsAs, Recovers};
+    ghost use Rattle.frame_log.specs.Stands.{Stands};
     ghost use Rattle.frame_log.specs.Ahead.{Ahead};
 
     /// Reads the log of a file that a crash may have left, and sets its end gate to 0 if it isn't 0.
@@ -75,22 +76,16 @@ impl Log {
             × (view r.1 ≡ placed 8 payloads)
             × Stands (D.state disk.new) r.0 payloads None)) }
         ensures settled { IfOk result (λ r. (r.0.file ≡ file) × (r.0.unsettled ≡ None)) }
-        ensures damaged { (at : ℕ) → IsErrOf result (Damaged at) → Tells (D.state disk.old) → log_of file ((D.state disk.old).reads file) ≡ NoLog at }
+
+        // Whatever the result, after the first sync of the call a crash leaves the log found, or that log
+        // with its end gate read as 1. A file that is not a log stays byte for byte. If that sync failed,
+        // nothing was written.
+        ensures opens { Recovers file (D.state disk.old) (D.state disk.new) (FailsAs result) }
 
         // A crash at any moment leaves what it might have left before, or the log found, or that log
         // with its end gate read as 1.
         ensures any_moment { Tells (D.state disk.old) → LeavesOnly file (D.state disk.old) (D.state disk.new)
             (λ c. (D.state disk.old).leaves file c ⊎ IsAsFound file ((D.state disk.old).reads file) c) }
-
-        // Whatever the result, after the first sync of the call a crash leaves the log found, or that log
-        // with its end gate read as 1. A file that is not a log stays byte for byte. If that sync failed,
-        // nothing was written.
-        ensures since_sync { Tells (D.state disk.old) →
-            (IsErrOf result StoreFault × LeavesOnly file (D.state disk.old) (D.state disk.new) ((D.state disk.old).leaves file))
-            ⊎ LeavesFrom file (D.state disk.old) (D.state disk.new) (IsRecovered file ((D.state disk.old).reads file)) }
-
-        ensures run { RunOn file (D.state disk.old) (D.state disk.new) }
-        ensures cause { IsErrOf result StoreFault → Rose (D.state disk.old).faults (D.state disk.new).faults }
     {
         let (log, mut records) = Log::recover_records(alloc, disk, file)?;
         let frames = read_frames(alloc, disk, &mut records)?;
@@ -112,17 +107,11 @@ impl Log {
             × Stands (D.state disk.new) r.0 payloads None)) }
         ensures reader { IfOk result (λ r. (r.1.file ≡ file) × (r.1.at ≡ 8)) }
         ensures settled { IfOk result (λ r. (r.0.file ≡ file) × (r.0.unsettled ≡ None)) }
-        ensures damaged { (at : ℕ) → IsErrOf result (Damaged at) → Tells (D.state disk.old) → log_of file ((D.state disk.old).reads file) ≡ NoLog at }
 
-        // As for `recover`: a crash at any moment, a crash after the first sync.
+        // As for `recover`: a crash after the first sync, a crash at any moment.
+        ensures opens { Recovers file (D.state disk.old) (D.state disk.new) (FailsAs result) }
         ensures any_moment { Tells (D.state disk.old) → LeavesOnly file (D.state disk.old) (D.state disk.new)
             (λ c. (D.state disk.old).leaves file c ⊎ IsAsFound file ((D.state disk.old).reads file) c) }
-        ensures since_sync { Tells (D.state disk.old) →
-            (IsErrOf result StoreFault × LeavesOnly file (D.state disk.old) (D.state disk.new) ((D.state disk.old).leaves file))
-            ⊎ LeavesFrom file (D.state disk.old) (D.state disk.new) (IsRecovered file ((D.state disk.old).reads file)) }
-
-        ensures run { RunOn file (D.state disk.old) (D.state disk.new) }
-        ensures cause { IsErrOf result StoreFault → Rose (D.state disk.old).faults (D.state disk.new).faults }
     {
         disk.sync(file)?; // What is read from here on is what a crash leaves.
         let (log, size) = Log::open_synced(alloc, disk, file)?;

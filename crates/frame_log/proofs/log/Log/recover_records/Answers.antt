@@ -1,11 +1,17 @@
-use Rattle.std.proofs.Common.{◌≡◌, ◌<◌, ◌⊎◌, List, ℕ, length, IsTrue, inl, inr, sym, ◌∙◌, ap, subst}
+use Rattle.std.proofs.Common.{rules, ◌≡◌, ◌<◌, ◌⊎◌, List, ℕ, length, Result, Err, IsTrue, inl, inr, refl, sym, ◌∙◌, ap, subst}
+use Rattle.std.specs.Prelude.{IsErrOf}
 use Rattle.hk_base.specs.Disk.{DiskState, Image, Tells, IsImage, CallOn, Reads, RunOn, LeavesOnly, Only}
-use Rattle.hk_base.proofs.Runs.{begin, then, compose}
-use Rattle.frame_log.specs.Format.{log_of, IsAsFound, IsRecovered}
-use Rattle.frame_log.specs.Stands.{LeavesFrom}
+use Rattle.hk_base.specs.Faults.{Rose}
+use Rattle.hk_base.proofs.Runs.{Going, begin, then, compose}
+use Rattle.frame_log.specs.Format.{log_of, NoLog, IsRecovered}
+use Rattle.frame_log.specs.Opens.{FailsAs, FailsFor, Recovers}
+use Rattle.frame_log.specs.declared.fault.LogFault.{LogFault}
+use Rattle.frame_log.specs.declared.fault.LogFault.TheVariants as log
+use Rattle.frame_log.specs.declared.fault.StartFault.{StartFault}
 use Rattle.frame_log.proofs.Aheads.{log_ahead}
 use Rattle.frame_log.proofs.Goings.{going, since}
-use Rattle.frame_log.proofs.Found.{untouched, left_or_found}
+use Rattle.frame_log.proofs.Found.{untouched}
+use Rattle.frame_log.proofs.Openings.{as_found, log_err, log_ok, run_then, why_for, why_log, why_since}
 use Rattle.frame_log.proofs.log.Log.recover_records.Goals as goal
 
 still : {file : ℕ} {old new : DiskState} → CallOn file old new → Tells old → Tells new
@@ -27,33 +33,51 @@ returns-clause-log g c told =
     )
 
 -- a sync, and then the opening of the bytes that it made durable
-module _ (file : ℕ) (old mid new : DiskState) (file_in : file < 2) (told : Tells old) (call : CallOn file old mid) (same : Reads file old mid) (run : RunOn file mid new) (moments : LeavesOnly file mid new (IsRecovered file (mid.reads file))) where
-  any_moment : old.leaves file (old.reads file) → LeavesOnly file old new (λ b. old.leaves file b ⊎ IsAsFound file (old.reads file) b)
-  any_moment one =
-      let R = old.reads file in
-      let P : List ℕ → Type 0 = λ b. old.leaves file b ⊎ IsAsFound file R b in
-      let synced = then (begin file old P) call file_in (λ b h. inl (same.leaves b h)) in
-      (compose synced (going run moments) (λ b h. left_or_found file R (old.leaves file) one b (subst (λ (l : List ℕ). IsRecovered file l b) (same.reads told) h))).moments
+module _ (file : ℕ) (old mid : DiskState) (file_in : file < 2) (call : CallOn file old mid) (same : Reads file old mid) where
+  synced : (P : List ℕ → Type 0) → ((b : List ℕ) → old.leaves file b → P b) → Going file old mid P
+  synced P f = then (begin file old P) call file_in (λ b h. f b (same.leaves b h))
 
-  since_sync : ((c : Image) → mid.left_since mid.moment c → IsImage mid c) → Only (old.reads file) (mid.leaves file) → LeavesFrom file old new (IsRecovered file (old.reads file))
-  since_sync only_now durable =
-      let R = old.reads file in
-      let P : List ℕ → Type 0 = λ b. IsRecovered file R b in
-      let on = compose (begin file mid P) (going run moments) (λ b h. subst (λ (l : List ℕ). IsRecovered file l b) (same.reads told) h) in
-      since file old mid new P file_in call.later only_now (λ b h. untouched file R b (durable b h)) on
+  not_synced : {T : Type 0} (result : Result T LogFault) → result ≡ Err log.StoreFault → Rose old.faults mid.faults → Recovers file old mid (FailsAs result)
+  not_synced result is rose = record {
+    why = why_log old mid result (λ at other. absurd (cc (is, other))) (λ other. rose);
+    any_moment = λ told. (synced (λ b. old.leaves file b ⊎ IsRecovered file (old.reads file) b) (λ b h. inl h)).moments;
+    since_sync = λ told. inl ((log.StoreFault, is, refl), (synced (old.leaves file) (λ b h. h)).moments);
+    run = (synced (old.leaves file) (λ b h. h)).run;
+  }
+
+  module _ (new : DiskState) where
+    on_old : Tells old → RunOn file mid new → LeavesOnly file mid new (IsRecovered file (mid.reads file)) → Going file mid new (IsRecovered file (old.reads file))
+    on_old told run moments = compose (begin file mid _) (going run moments) (λ b h. subst (λ (l : List ℕ). IsRecovered file l b) (same.reads told) h)
+
+    opened : {fails : StartFault → Type 0} → RunOn file mid new → (Tells mid → LeavesOnly file mid new (IsRecovered file (mid.reads file)))
+        → ((c : Image) → mid.left_since mid.moment c → IsImage mid c) → (Tells old → Only (old.reads file) (mid.leaves file))
+        → FailsFor file (λ bytes at. log_of file bytes ≡ NoLog at) (λ bytes. ⊥) mid new fails → Recovers file old new fails
+    opened run moments only_now durable why = record {
+      why = why_since old mid new (synced (old.leaves file) (λ b h. h)).run same.reads why;
+      any_moment = λ told. (compose (synced _ (λ b h. inl h)) (on_old told run (moments (still call told))) (λ b h. inr h)).moments;
+      since_sync = λ told. inr (since file old mid new (IsRecovered file (old.reads file)) file_in call.later only_now (λ b h. untouched file (old.reads file) b (durable told b h)) (on_old told run (moments (still call told))));
+      run = run_then (synced (old.leaves file) (λ b h. h)).run run;
+    }
+
+pub returns-in_err-sync-clause-opens : goal.returns-in_err-sync-clause-opens
+returns-in_err-sync-clause-opens g c =
+    let fault : IsErrOf c.from_residual.result log.StoreFault = search rules in
+    not_synced c.args.file _ _ c.requires c.sync.ensures.call c.sync.ensures.same c.from_residual.result fault c.in_err-sync.ensures.cause
+
+pub returns-in_err-log-clause-opens : goal.returns-in_err-log-clause-opens
+returns-in_err-log-clause-opens g c =
+    let result = c.open_synced.result in
+    let now : IsErrOf c.from_residual-in_err-log.result c.in_err-log.field-0.0 = search rules in
+    opened c.args.file _ _ c.requires c.sync.ensures.call c.sync.ensures.same _ c.open_synced.ensures.run c.open_synced.ensures.moments (λ p left. g.met.D.Disk.only_now c.sync.new.self p left) c.in_ok-sync.ensures.durable
+    (why_for (log_err c.in_err-log.field-0.0 result c.from_residual-in_err-log.result c.in_err-log.was now) (why_log _ _ result c.open_synced.ensures.damaged c.open_synced.ensures.cause))
+
+pub returns-clause-opens : goal.returns-clause-opens
+returns-clause-opens g c =
+    opened c.args.file _ _ c.requires c.sync.ensures.call c.sync.ensures.same _ c.open_synced.ensures.run c.open_synced.ensures.moments (λ p left. g.met.D.Disk.only_now c.sync.new.self p left) c.in_ok-sync.ensures.durable
+    (why_for (λ fault is. absurd (log_ok _ fault is)) (why_log _ _ c.open_synced.result c.open_synced.ensures.damaged c.open_synced.ensures.cause))
 
 pub returns-in_err-log-clause-any_moment : goal.returns-in_err-log-clause-any_moment
-returns-in_err-log-clause-any_moment g c told =
-    any_moment c.args.file _ _ _ c.requires told c.sync.ensures.call c.sync.ensures.same c.open_synced.ensures.run (c.open_synced.ensures.moments (still c.sync.ensures.call told)) (g.met.D.Disk.is_one c.args.disk.now c.args.file told c.requires)
-
-pub returns-in_err-log-clause-since_sync : goal.returns-in_err-log-clause-since_sync
-returns-in_err-log-clause-since_sync g c told =
-    inr (since_sync c.args.file _ _ _ c.requires told c.sync.ensures.call c.sync.ensures.same c.open_synced.ensures.run (c.open_synced.ensures.moments (still c.sync.ensures.call told)) (λ p left. g.met.D.Disk.only_now c.sync.new.self p left) (c.in_ok-sync.ensures.durable told))
+returns-in_err-log-clause-any_moment g c told = as_found c.args.file _ _ (g.met.D.Disk.is_one c.args.disk.now c.args.file told c.requires) ((returns-in_err-log-clause-opens g c).any_moment told)
 
 pub returns-clause-any_moment : goal.returns-clause-any_moment
-returns-clause-any_moment g c told =
-    any_moment c.args.file _ _ _ c.requires told c.sync.ensures.call c.sync.ensures.same c.open_synced.ensures.run (c.open_synced.ensures.moments (still c.sync.ensures.call told)) (g.met.D.Disk.is_one c.args.disk.now c.args.file told c.requires)
-
-pub returns-clause-since_sync : goal.returns-clause-since_sync
-returns-clause-since_sync g c told =
-    inr (since_sync c.args.file _ _ _ c.requires told c.sync.ensures.call c.sync.ensures.same c.open_synced.ensures.run (c.open_synced.ensures.moments (still c.sync.ensures.call told)) (λ p left. g.met.D.Disk.only_now c.sync.new.self p left) (c.in_ok-sync.ensures.durable told))
+returns-clause-any_moment g c told = as_found c.args.file _ _ (g.met.D.Disk.is_one c.args.disk.now c.args.file told c.requires) ((returns-clause-opens g c).any_moment told)
