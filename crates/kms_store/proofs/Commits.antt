@@ -54,9 +54,8 @@ module _ (old new : DiskState) (store : StoreState) (commands : List KeyCommand)
 
 -- the pending command was kept and took effect
 pub settles_kept : (old new : DiskState) (store store' : StoreState) (command : KeyCommand) → store.pending ≡ Some command → store'.pending ≡ None → store'.table.keys ≡ after store.table.keys command
-    → (Tells old → (commands : List KeyCommand) → StandsFor old store commands → StandsFor new store' (commands ++ command ∷ [])) → Settles old new store store'
+    → (Tells old → (commands : List KeyCommand) → StandsFor old store commands → StandsFor new store' (commands ++ command ∷ [])) → Settles old new store store' true
 settles_kept old new store store' command waits none then_is added = record {
-  kept = true;
   none = none;
   table = then_is ∙ ap (λ (o : Option KeyCommand). settled_table true o store.table.keys) (sym waits);
   log = λ told commands s. subst (λ (o : Option KeyCommand). StandsFor new store' (commands ++ settled_commands true o)) (sym waits) (added told commands s);

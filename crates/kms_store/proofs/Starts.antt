@@ -1,20 +1,23 @@
 -- What a start finds and leaves.
-use Rattle.std.proofs.Common.{◌≡◌, ◌⊎◌, inl, inr, ⊎_elim, ℕ, ◌+◌, List, [], ◌∷◌, ◌++◌, length, map, None, Result, Ok, Err, refl, sym, ◌∙◌, ap, subst, arith, length-append}
+use Rattle.std.proofs.Common.{◌≡◌, ℕ, ◌+◌, List, [], ◌∷◌, ◌++◌, length, map, None, Result, Ok, Err, refl, sym, ◌∙◌, ap, subst, arith, length-append}
 use Rattle.std.specs.Prelude.{IfOk}
 use Rattle.std.specs.Int.{w32, to_be_bytes}
 use Rattle.std.proofs.lemmas.List.{map-append}
 use Rattle.hk_base.specs.Disk.{DiskState, LeavesOnly}
-use Rattle.hk_base.proofs.Runs.{Going, weaker}
-use Rattle.frame_log.specs.Format.{log_of, Found, frames, behind, placed, IsAsFound, Log_as_found}
-use Rattle.frame_log.specs.Stands.{Stands, LeavesFrom}
+use Rattle.hk_base.proofs.Runs.{weaker}
+use Rattle.frame_log.specs.Format.{log_of, Found, frames, behind, placed}
+use Rattle.frame_log.specs.Opens.{Recovers}
+use Rattle.frame_log.specs.Stands.{Stands}
 use Rattle.frame_log.specs.Scan.{frame_view}
+use Rattle.frame_log.specs.declared.fault.StartFault.{StartFault}
 use Rattle.frame_log.specs.declared.frames.Frame.{Frame}
 use Rattle.frame_log.specs.declared.log.Log.{Log}
+use Rattle.frame_log.proofs.Openings.{opens_as}
 use Rattle.key_rows.specs.Table.{Table, Kept}
 use Rattle.key_rows.specs.Records.{spelling}
 use Rattle.key_rows.specs.declared.rows.KeyCommand.TheVariants.{Opened}
 use Rattle.kms_store.specs.Replay.{IsReplayed, IsStuck, payload_of, payloads, place_of}
-use Rattle.kms_store.specs.Store.{StandsFor, IsWritten, IsKeyLog, IsNoKeyLog, IsLeftByStart, Recovered, Opening, IsOpening}
+use Rattle.kms_store.specs.Store.{StandsFor, IsWritten, IsKeyLog, IsNoKeyLog, IsLeftByStart, Not_a_log, Recovered, Opening, IsOpening, OpensKeys}
 
 pub if_ok : {T E : Type 0} {P Q : T → Type 0} (result : Result T E) → ((x : T) → P x → Q x) → IfOk result P → IfOk result Q
 if_ok (Ok x) f held = f x held
@@ -85,18 +88,6 @@ began disk log table list r stands = record {
 pub opening_moments : (old new : DiskState) (framed : List (ℕ × List ℕ)) (table : Table) (n : ℕ) (r : IsReplayed framed table) → n ≡ table.opening → LeavesOnly 0 old new (IsWritten r.commands (Opened (n + 1))) → LeavesOnly 0 old new (IsOpening framed)
 opening_moments old new framed table n r is moments = weaker (λ c left. record { table = table; replayed = r; left = subst (λ (k : ℕ). IsWritten r.commands (Opened (k + 1)) c) is left }) moments
 
-pub left_as_found : (bytes : List ℕ) (leaves : List ℕ → Type 0) (c : List ℕ) → leaves c ⊎ IsAsFound 0 bytes c → leaves c ⊎ IsLeftByStart bytes c
-left_as_found bytes leaves c (inl past) = inl past
-left_as_found bytes leaves c (inr held) = inr (Recovered (Log_as_found held))
-
-pub from_weaker : {file : ℕ} {old new : DiskState} {P Q : List ℕ → Type 0} → ((c : List ℕ) → P c → Q c) → LeavesFrom file old new P → LeavesFrom file old new Q
-from_weaker f s = record { moment = s.moment; begun = s.begun; reached = s.reached; only = λ c left. f _ (s.only c left) }
-
--- from some moment of a run on, and in a run of calls after it
-pub from_then : {file : ℕ} {old mid new : DiskState} {P Q : List ℕ → Type 0} → LeavesFrom file old mid P → Going file mid new Q → ((c : List ℕ) → Q c → P c) → LeavesFrom file old new P
-from_then {file} {old} {mid} {new} {P} {Q} s run f = record {
-  moment = s.moment;
-  begun = s.begun;
-  reached = omega (arith, s.reached, run.run.later);
-  only = λ c left. ⊎_elim (λ past. s.only c past) (λ now. f (c file) now.0) (run.moments.before s.moment c s.reached left);
-}
+-- a recovery of the key log, as a start
+pub opens_log : (old new : DiskState) {fails : StartFault → Type 0} → Recovers 0 old new fails → OpensKeys old new fails
+opens_log old new o = opens_as old new (λ bytes at none. Not_a_log none) (λ bytes none. absurd none) (λ bytes c held. Recovered held) o

@@ -3,7 +3,9 @@ use Rattle.std.specs.Prelude.{◌≡◌, ◌⊎◌, ℕ, ◌+◌, Bool, true, fa
 use Rattle.std.specs.List.{AllByRecursion}
 use Rattle.hk_base.specs.Disk.{DiskState, Tells}
 use Rattle.frame_log.specs.Format.{log_of, Found, NoLog, end_of, IsAtRest, IsBeforeOrAfter, IsRecovered}
+use Rattle.frame_log.specs.Opens.{Opens}
 use Rattle.frame_log.specs.Stands.{Stands}
+use Rattle.frame_log.specs.declared.fault.StartFault.{StartFault}
 use Rattle.frame_log.specs.declared.log.Log.{Log}
 use Rattle.key_rows.specs.Table.{Table, Kept, after, applies, no_keys}
 use Rattle.key_rows.specs.Records.{HasSpelling, spelling}
@@ -43,8 +45,7 @@ settled_commands true (Some command) = command ∷ []
 settled_commands false (Some command) = []
 
 -- The pending command was settled: kept or dropped.
-pub record Settles (old new : DiskState) (store store' : StoreState) : Type 0 where
-  pub kept : Bool
+pub record Settles (old new : DiskState) (store store' : StoreState) (kept : Bool) : Type 0 where
   pub none : store'.pending ≡ None
   pub table : store'.table.keys ≡ settled_table kept store.pending store.table.keys
   pub log : Tells old → (commands : List KeyCommand) → StandsFor old store commands → StandsFor new store' (commands ++ settled_commands kept store.pending)
@@ -83,6 +84,13 @@ pub data IsDamagedAt (bytes : List ℕ) (at : ℕ) : Type 0 where
   Not_a_log : log_of 0 bytes ≡ NoLog at → IsDamagedAt bytes at
   Not_a_key_log : IsNoKeyLog bytes at → IsDamagedAt bytes at
 
+-- the last opening is recorded
+pub record SpentKeys (bytes : List ℕ) : Type 0 where
+  pub commands : List KeyCommand
+  pub table : Table
+  pub log : IsKeyLog bytes commands table
+  pub last : table.opening ≡ 4294967295
+
 -- the record of the opening after this table
 abbrev pub next_opening : Table → KeyCommand
 next_opening table = Opened (table.opening + 1)
@@ -92,6 +100,10 @@ next_opening table = Opened (table.opening + 1)
 pub data IsLeftByStart (found bytes : List ℕ) : Type 0 where
   Recovered : IsRecovered 0 found bytes → IsLeftByStart found bytes
   Opening : (commands : List KeyCommand) (table : Table) → IsKeyLog found commands table → IsWritten commands (next_opening table) bytes → IsLeftByStart found bytes
+
+-- A start opens the key log, or fails.
+abbrev pub OpensKeys : DiskState → DiskState → (StartFault → Type 0) → Type 0
+OpensKeys = Opens 0 IsDamagedAt SpentKeys IsLeftByStart
 
 -- the log of the commands of these frames, with or without the record of the new opening
 pub record IsOpening (frames : List (ℕ × List ℕ)) (bytes : List ℕ) : Type 0 where

@@ -33,17 +33,18 @@ impl Model for Store {
 }
 
 impl Store {
-    ghost use Rattle.std.specs.Prelude.{◌≡◌, ◌≢◌, ◌≤◌, ◌<◌, ◌+◌, ◌*◌, ◌^◌, ◌⊎◌, ◌++◌, [], ◌∷◌, ℕ, List, Option, Some, None, Ok, IsTrue, IsSome, IsOk, IsErr, IfOk, OnOk, OnErr, IsErrOf, slice_get, map};
+    ghost use Rattle.std.specs.Prelude.{◌≡◌, ◌≢◌, ◌≤◌, ◌<◌, ◌+◌, ◌*◌, ◌^◌, ◌⊎◌, ◌++◌, [], ◌∷◌, ℕ, List, Option, Some, None, Ok, IsTrue, false, IsSome, IsOk, IsErr, IfOk, OnOk, OnErr, IsErrOf, slice_get, map};
+    ghost use Rattle.std.specs.Option.{option_copied};
     ghost use Rattle.hk_base.specs.Disk.{Tells, RunOn, LeavesOnly};
     ghost use Rattle.hk_base.specs.Faults.{Rose};
-    ghost use Rattle.frame_log.specs.Stands.{LeavesFrom, Stands};
+    ghost use Rattle.frame_log.specs.Stands.{Stands};
     ghost use Rattle.frame_log.specs.Scan.{frame_view};
     ghost use Rattle.frame_log.specs.declared.fault.StoreRefusal.TheVariants as store;
     ghost use Rattle.frame_log.specs.declared.fault.StartFault.TheVariants as start;
     ghost use Rattle.key_rows.specs.Table.{Table, applies, after, material_of};
     ghost use Rattle.key_rows.specs.declared.rows.KeyCommand.{KeyCommand};
     ghost use Rattle.kms_store.specs.Replay.{IsReplayed, IsStuck, payloads};
-    ghost use Rattle.kms_store.specs.Store.{Applies, StandsFor, IsWithOrWithout, IsWritten, IsKeyLog, IsDamagedAt, IsLeftByStart, IsOpening, Settles, next_opening};
+    ghost use Rattle.kms_store.specs.Store.{Applies, StandsFor, IsWithOrWithout, IsWritten, IsKeyLog, IsOpening, OpensKeys, Settles, next_opening};
 
     /// Opens the key log of a disk, builds the table from its commands, and commits the record of a
     /// new opening. A crash may stop it at any moment; a later start then works as usual.
@@ -56,23 +57,11 @@ impl Store {
             × IsKeyLog ((D.state disk.old).reads 0) commands table
             × StandsFor (D.state disk.new) store (commands ++ next_opening table ∷ []))) }
         ensures opened { IfOk result (λ store. (store.pending ≡ None) × (store.table.keys.greatest < store.table.keys.opening * 2 ^ 32)) }
-        ensures damaged { (at : ℕ) → IsErrOf result (start.Damaged at) → Tells (D.state disk.old) → IsDamagedAt ((D.state disk.old).reads 0) at }
-        ensures spent { IsErrOf result start.Spent → Tells (D.state disk.old) → ((commands : List KeyCommand) × (table : Table)
-            × IsKeyLog ((D.state disk.old).reads 0) commands table × (table.opening ≡ 4294967295)) }
 
         // A crash at any moment leaves what it might have left before, or the log found, as it is
-        // or with its end gate read as 1, or its commands with or without the new opening.
-        ensures any_moment { Tells (D.state disk.old) → LeavesOnly 0 (D.state disk.old) (D.state disk.new)
-            (λ c. (D.state disk.old).leaves 0 c ⊎ IsLeftByStart ((D.state disk.old).reads 0) c) }
-
-        // Whatever the result, after the first sync of the call a crash leaves only the latter. If
-        // that sync failed, nothing was written.
-        ensures since_sync { Tells (D.state disk.old) →
-            (IsErrOf result start.StoreFault × LeavesOnly 0 (D.state disk.old) (D.state disk.new) ((D.state disk.old).leaves 0))
-            ⊎ LeavesFrom 0 (D.state disk.old) (D.state disk.new) (IsLeftByStart ((D.state disk.old).reads 0)) }
-
-        ensures run { RunOn 0 (D.state disk.old) (D.state disk.new) }
-        ensures cause { IsErrOf result start.StoreFault → Rose (D.state disk.old).faults (D.state disk.new).faults }
+        // or with its end gate read as 1, or its commands with or without the new opening. After the
+        // first sync of the call a crash leaves only the latter. If that sync failed, nothing was written.
+        ensures opens { OpensKeys (D.state disk.old) (D.state disk.new) (λ fault. IsErrOf result fault) }
     {
         let (log, frames) = Log::recover(alloc, disk, KEYS)?;
         Store::open(alloc, disk, log, frames.list.as_slice())
@@ -166,15 +155,16 @@ impl Store {
     }
 
     /// Settles the pending command. It takes effect in full if the gate byte before its record
-    /// reads 1 after a sync, and is dropped otherwise. If no command is pending, nothing happens.
+    /// reads 1 after a sync, and is dropped otherwise. Returns whether it took effect. If no command
+    /// is pending, nothing happens.
     /// After `StoreFault`, the only error, the command is still pending. The commit has allocated
     /// the memory.
-    pub fn settle<D: Disk>(&mut self, disk: &mut D) -> Result<(), StoreRefusal>
+    pub fn settle<D: Disk>(&mut self, disk: &mut D) -> Result<bool, StoreRefusal>
         requires stands { Tells (D.state disk.old) → ((commands : List KeyCommand) × StandsFor (D.state disk.old) self.old commands) }
 
-        ensures nothing { self.old.pending ≡ None → (result ≡ Ok tt) × (self.new ≡ self.old) × (disk.new ≡ disk.old) }
+        ensures nothing { self.old.pending ≡ None → (result ≡ Ok false) × (self.new ≡ self.old) × (disk.new ≡ disk.old) }
         ensures settled { OnOk result (self.new.pending ≡ None) }
-        ensures settles { OnOk result (Settles (D.state disk.old) (D.state disk.new) self.old self.new) }
+        ensures settles { IfOk result (Settles (D.state disk.old) (D.state disk.new) self.old self.new) }
         ensures table { OnOk result ((self.new.table.keys ≡ self.old.table.keys)
             ⊎ ((command : KeyCommand) × (self.old.pending ≡ Some command) × (self.new.table.keys ≡ after self.old.table.keys command))) }
         ensures kept { OnOk result (Tells (D.state disk.old) → (commands : List KeyCommand) (command : KeyCommand) → StandsFor (D.state disk.old) self.old commands → self.old.pending ≡ Some command
@@ -197,7 +187,7 @@ impl Store {
         ensures cause { OnErr result (Rose (D.state disk.old).faults (D.state disk.new).faults) }
     {
         if self.pending.is_none() {
-            return Ok(());
+            return Ok(false);
         }
         let kept = match self.log.settle(disk) {
             Ok(kept) => kept,
@@ -208,7 +198,7 @@ impl Store {
                 self.table.apply(command)?;
             }
         }
-        Ok(())
+        Ok(kept)
     }
 
     /// Returns the material of an existing version. Does not allocate, and never fails.
@@ -231,6 +221,13 @@ impl Store {
         ensures { result.now ≡ self.now.table }
     {
         &self.table
+    }
+
+    /// Returns the pending command, if there is one.
+    pub fn pending(&self) -> Option<&KeyCommand>
+        ensures { option_copied result ≡ self.now.pending }
+    {
+        self.pending.as_ref()
     }
 
     /// Returns the number of this opening. The pending command, if there is one, applies to the
