@@ -15,10 +15,10 @@ use Rattle.key_rows.specs.Records.{name_field, text_field}
 use Rattle.key_rows.specs.Reading.{Gives, number_at}
 use Rattle.key_rows.proofs.FieldLemmas.{IsBytes, IsBytes-rest, bind_some, bind_is, wide16, wide32, wide64}
 use Rattle.edit_ops.specs.declared.ops.EditOp.{EditOp}
-use Rattle.edit_ops.specs.declared.ops.EditOp.TheVariants.{Opened, Mkdir, File, Remove, Zone, Allow, Disallow, Snap, Unsnap}
+use Rattle.edit_ops.specs.declared.ops.EditOp.TheVariants.{Opened, Mkdir, File, Remove, Rename, Zone, Allow, Disallow, Snap, Unsnap}
 use Rattle.edit_ops.specs.Laws.{longest_record}
 use Rattle.edit_ops.specs.Records.{path_field, edek_field, opt_field, spelling, fits, IsEdek, IsOpt, HasSpelling}
-use Rattle.edit_ops.specs.Reading.{Whole, last, then_of, as_of, name_at, path_at, component_at, iv_at, sealed_at, path_and_name_of, encrypted, edek_of, opt_edek_of, opened_of, mkdir_of, file_of, remove_of, zone_of, allow_of, disallow_of, snap_of, unsnap_of, op_of}
+use Rattle.edit_ops.specs.Reading.{Whole, last, then_of, as_of, name_at, path_at, component_at, iv_at, sealed_at, path_and_name_of, encrypted, edek_of, opt_edek_of, opened_of, mkdir_of, file_of, remove_of, rename_of, zone_of, allow_of, disallow_of, snap_of, unsnap_of, op_of}
 use Rattle.edit_ops.proofs.PathText.{path_takes, path_again, absolute_length, component_length}
 use Rattle.edit_ops.proofs.Parts.{IsFront, IsWhole, IsText, number_front, bytes_front, short_front, long_front, tested, front_whole, last_whole, then_whole, as_whole, opt_whole}
 
@@ -101,6 +101,15 @@ file_is = record {
 remove_is : IsOp (last path_at) path_field IsAbsolute 4 Remove
 remove_is = record { parts = last_whole path_front; has = λ path is. is; spells = λ path. refl }
 
+abbrev move_text : List (List ℕ) × List (List ℕ) → List ℕ
+move_text x = path_field x.0 ++ path_field x.1
+
+abbrev IsMove : List (List ℕ) × List (List ℕ) → Type 0
+IsMove x = IsAbsolute x.0 × IsAbsolute x.1
+
+rename_is : IsOp (then_of path_at (last path_at)) move_text IsMove 5 (λ x. Rename x.0 x.1)
+rename_is = record { parts = then_whole path_front (last_whole path_front); has = λ x is. is; spells = λ x. refl }
+
 zone_is : IsOp (then_of path_at (last name_at)) (λ x. path_field x.0 ++ name_field x.1) (λ x. IsAbsolute x.0 × IsKeyName x.1) 6 (λ x. Zone x.0 x.1)
 zone_is = record { parts = then_whole path_front (last_whole name_front); has = λ x is. is; spells = λ x. refl }
 
@@ -137,7 +146,7 @@ by_tag {op} {bytes} tag n this others held other e = go (eqb tag n) (eqb-true ta
 
 -- an operation read from bytes has a spelling, which is these bytes
 op_read : (bytes : List ℕ) (op : EditOp) → IsBytes bytes → op_of bytes ≡ Some op → HasSpelling op × (bytes ≡ spelling op)
-unfolding op_of opened_of mkdir_of file_of remove_of zone_of allow_of disallow_of snap_of unsnap_of
+unfolding op_of opened_of mkdir_of file_of remove_of rename_of zone_of allow_of disallow_of snap_of unsnap_of
 op_read [] op fits e = absurd cc
 op_read (tag ∷ bytes) op fits e =
     let rest = IsBytes-rest tag bytes fits in
@@ -145,19 +154,21 @@ op_read (tag ∷ bytes) op fits e =
     (by_tag tag 2 _ _ (op_takes mkdir_is bytes op rest)
     (by_tag tag 3 _ _ (op_takes file_is bytes op rest)
     (by_tag tag 4 _ _ (op_takes remove_is bytes op rest)
+    (by_tag tag 5 _ _ (op_takes rename_is bytes op rest)
     (by_tag tag 6 _ _ (op_takes zone_is bytes op rest)
     (by_tag tag 7 _ _ (op_takes allow_is bytes op rest)
     (by_tag tag 8 _ _ (op_takes disallow_is bytes op rest)
     (by_tag tag 9 _ _ (op_takes snap_is bytes op rest)
-    (by_tag tag 10 _ None (op_takes unsnap_is bytes op rest) (λ none. absurd cc))))))))) e
+    (by_tag tag 10 _ None (op_takes unsnap_is bytes op rest) (λ none. absurd cc)))))))))) e
 
 -- each spelling is read back as its operation
 spelling_read : (op : EditOp) → HasSpelling op → op_of (spelling op) ≡ Some op
-unfolding op_of opened_of mkdir_of file_of remove_of zone_of allow_of disallow_of snap_of unsnap_of
+unfolding op_of opened_of mkdir_of file_of remove_of rename_of zone_of allow_of disallow_of snap_of unsnap_of
 spelling_read (Opened opening) has = op_again opened_is opening has
 spelling_read (Mkdir id path) has = op_again mkdir_is (id, path) has
 spelling_read (File id path edek) has = op_again file_is (id, (path, edek)) (has.0, (has.1, has.2))
 spelling_read (Remove path) has = op_again remove_is path has
+spelling_read (Rename path to) has = op_again rename_is (path, to) has
 spelling_read (Zone path key) has = op_again zone_is (path, key) has
 spelling_read (Allow path) has = op_again allow_is path has
 spelling_read (Disallow path) has = op_again disallow_is path has
@@ -191,6 +202,7 @@ spelled_fits (Opened opening) has = refl
 spelled_fits (Mkdir id path) has = not_reserved path has.1
 spelled_fits (File id path edek) has = not_reserved path has.1
 spelled_fits (Remove path) has = not_reserved path has
+spelled_fits (Rename path to) has = both_true (not (starts_reserved path)) (not (starts_reserved to)) (not_reserved path has.0) (not_reserved to has.1)
 spelled_fits (Zone path key) has = not_reserved path has.0
 spelled_fits (Allow path) has = not_reserved path has
 spelled_fits (Disallow path) has = not_reserved path has
@@ -237,6 +249,10 @@ records_are_short (File id path edek) has =
     let e = length-append (to_be_bytes w64 id) (path_field path ++ opt_field edek_field edek) in
     let f = length-append (path_field path) (opt_field edek_field edek) in (omega arith, omega arith)
 records_are_short (Remove path) has = let l = path_length path has in (omega arith, omega arith)
+records_are_short (Rename path to) has =
+    let l = path_length path has.0 in
+    let m = path_length to has.1 in
+    let e = length-append (path_field path) (path_field to) in (omega arith, omega arith)
 records_are_short (Zone path key) has =
     let l = path_length path has.0 in
     let m = name_length key has.1 in

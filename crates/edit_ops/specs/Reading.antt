@@ -5,7 +5,7 @@ use Rattle.hk_base.specs.Names.{Encrypted}
 use Rattle.name_calls.specs.Paths.{is_component, read_path}
 use Rattle.key_rows.specs.Reading.{◌>>=◌, number_at, bytes_at, short_at, long_at, name_of, material_of}
 use Rattle.edit_ops.specs.declared.ops.EditOp.{EditOp}
-use Rattle.edit_ops.specs.declared.ops.EditOp.TheVariants.{Opened, Mkdir, File, Remove, Zone, Allow, Disallow, Snap, Unsnap}
+use Rattle.edit_ops.specs.declared.ops.EditOp.TheVariants.{Opened, Mkdir, File, Remove, Rename, Zone, Allow, Disallow, Snap, Unsnap}
 
 -- reads a value from the start of the bytes, if they begin with one: the value, and the bytes after it
 abbrev pub Front : Type 0 → Type 0
@@ -92,6 +92,9 @@ file_of bytes = as_of (λ x. File x.0 x.1.0 x.1.1) (then_of (number_at w64) (the
 unfoldable pub remove_of : Whole EditOp
 remove_of bytes = as_of Remove (last path_at) bytes
 
+unfoldable pub rename_of : Whole EditOp
+rename_of bytes = as_of (λ x. Rename x.0 x.1) (then_of path_at (last path_at)) bytes
+
 unfoldable pub zone_of : Whole EditOp
 zone_of bytes = as_of (λ x. Zone x.0 x.1) (then_of path_at (last name_at)) bytes
 
@@ -115,8 +118,9 @@ op_of (tag ∷ bytes) =
     else (if tag == 2 then mkdir_of bytes
     else (if tag == 3 then file_of bytes
     else (if tag == 4 then remove_of bytes
+    else (if tag == 5 then rename_of bytes
     else (if tag == 6 then zone_of bytes
     else (if tag == 7 then allow_of bytes
     else (if tag == 8 then disallow_of bytes
     else (if tag == 9 then snap_of bytes
-    else (if tag == 10 then unsnap_of bytes else None))))))))
+    else (if tag == 10 then unsnap_of bytes else None)))))))))

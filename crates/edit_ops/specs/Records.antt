@@ -5,7 +5,7 @@ use Rattle.hk_base.specs.Names.{Encrypted, IsKeyName, is_key_length}
 use Rattle.name_calls.specs.Paths.{is_absolute, is_component, path_text, starts_reserved}
 use Rattle.key_rows.specs.Records.{name_field, text_field}
 use Rattle.edit_ops.specs.declared.ops.EditOp.{EditOp}
-use Rattle.edit_ops.specs.declared.ops.EditOp.TheVariants.{Opened, Mkdir, File, Remove, Zone, Allow, Disallow, Snap, Unsnap}
+use Rattle.edit_ops.specs.declared.ops.EditOp.TheVariants.{Opened, Mkdir, File, Remove, Rename, Zone, Allow, Disallow, Snap, Unsnap}
 
 -- a path: two bytes of length and the text of the path
 abbrev pub path_field : List (List ℕ) → List ℕ
@@ -27,18 +27,20 @@ spelling (Opened opening) = 1 ∷ to_be_bytes w32 opening
 spelling (Mkdir id path) = 2 ∷ (to_be_bytes w64 id ++ path_field path)
 spelling (File id path edek) = 3 ∷ (to_be_bytes w64 id ++ (path_field path ++ opt_field edek_field edek))
 spelling (Remove path) = 4 ∷ path_field path
+spelling (Rename path to) = 5 ∷ (path_field path ++ path_field to)
 spelling (Zone path key) = 6 ∷ (path_field path ++ name_field key)
 spelling (Allow path) = 7 ∷ path_field path
 spelling (Disallow path) = 8 ∷ path_field path
 spelling (Snap path name) = 9 ∷ (path_field path ++ text_field name)
 spelling (Unsnap path name) = 10 ∷ (path_field path ++ text_field name)
 
--- a path of an operation doesn't begin with `.reserved`, and a snapshot's name can be a name of a path
+-- no path of an operation begins with `.reserved`, and a snapshot's name can be a name of a path
 abbrev pub fits : EditOp → Bool
 fits (Opened opening) = true
 fits (Mkdir id path) = not (starts_reserved path)
 fits (File id path edek) = not (starts_reserved path)
 fits (Remove path) = not (starts_reserved path)
+fits (Rename path to) = not (starts_reserved path) && not (starts_reserved to)
 fits (Zone path key) = not (starts_reserved path)
 fits (Allow path) = not (starts_reserved path)
 fits (Disallow path) = not (starts_reserved path)
@@ -62,6 +64,7 @@ HasSpelling (Opened opening) = opening < 2 ^ 32
 HasSpelling (Mkdir id path) = (id < 2 ^ 64) × IsTrue (is_absolute path)
 HasSpelling (File id path edek) = (id < 2 ^ 64) × IsTrue (is_absolute path) × IsOpt IsEdek edek
 HasSpelling (Remove path) = IsTrue (is_absolute path)
+HasSpelling (Rename path to) = IsTrue (is_absolute path) × IsTrue (is_absolute to)
 HasSpelling (Zone path key) = IsTrue (is_absolute path) × IsKeyName key
 HasSpelling (Allow path) = IsTrue (is_absolute path)
 HasSpelling (Disallow path) = IsTrue (is_absolute path)

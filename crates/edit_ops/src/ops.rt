@@ -29,6 +29,11 @@ pub enum EditOp {
     Remove {
         path: NPath,
     },
+    /// The entry at the path, with everything below it, moved to another path.
+    Rename {
+        path: NPath,
+        to: NPath,
+    },
     /// A directory was made an encryption zone of a key.
     Zone {
         path: NPath,
@@ -64,6 +69,15 @@ fn is_reserved(path: &NPath) -> bool
     path.name(0).as_str().as_bytes() == b".reserved".as_slice()
 }
 
+/// Returns whether a move from one path to another can be written.
+fn can_be_a_move(path: &NPath, to: &NPath) -> bool
+    ensures { result ≡ (not (starts_reserved path.now) && not (starts_reserved to.now)) }
+{
+    let from_reserved = is_reserved(path);
+    let to_reserved = is_reserved(to);
+    !from_reserved && !to_reserved
+}
+
 /// Returns whether a snapshot with this directory and name can be written.
 fn can_be_a_snapshot(path: &NPath, name: &Text) -> bool
     ensures { result ≡ (not (starts_reserved path.now) && is_component name.now) }
@@ -74,9 +88,9 @@ fn can_be_a_snapshot(path: &NPath, name: &Text) -> bool
 }
 
 impl EditOp {
-    /// Returns whether the operation can be written as a record of the edit log: its path, if it
-    /// has one, doesn't begin with the name `.reserved`, and the name of a snapshot can be a name
-    /// of a path. This holds for each operation that was read.
+    /// Returns whether the operation can be written as a record of the edit log: none of its paths
+    /// begins with the name `.reserved`, and the name of a snapshot can be a name of a path. This
+    /// holds for each operation that was read.
     pub fn has_spelling(&self) -> bool
         ensures { result ≡ fits self.now }
     {
@@ -85,6 +99,7 @@ impl EditOp {
             EditOp::Mkdir { path, .. } => !is_reserved(path),
             EditOp::File { path, .. } => !is_reserved(path),
             EditOp::Remove { path } => !is_reserved(path),
+            EditOp::Rename { path, to } => can_be_a_move(path, to),
             EditOp::Zone { path, .. } => !is_reserved(path),
             EditOp::Allow { path } => !is_reserved(path),
             EditOp::Disallow { path } => !is_reserved(path),

@@ -4,7 +4,7 @@ ghost use Rattle.hk_base.specs.declared.records.RecordFault.TheVariants as fault
 ghost use Rattle.name_calls.specs.Paths.{is_component, read_path};
 ghost use Rattle.key_rows.specs.Reading.{Gives};
 ghost use Rattle.edit_ops.specs.Records.{HasSpelling, spelling};
-ghost use Rattle.edit_ops.specs.Reading.{allow_of, component_of, disallow_of, edek_of, file_of, iv_of, last, mkdir_of, op_of, opened_of, opt_edek_of, path_and_name_of, path_at, remove_of, snap_of, unsnap_of, zone_of};
+ghost use Rattle.edit_ops.specs.Reading.{allow_of, component_of, disallow_of, edek_of, file_of, iv_of, last, mkdir_of, op_of, opened_of, opt_edek_of, path_and_name_of, path_at, remove_of, rename_of, snap_of, unsnap_of, zone_of};
 
 use crate::ops::EditOp;
 use hk_base::{Edek, Iv, NoMemory, RecordFault, Text, VersionName};
@@ -168,6 +168,15 @@ fn remove_of(alloc: Global, bytes: &[u8]) -> Result<EditOp, RecordFault>
     Ok(EditOp::Remove { path })
 }
 
+#[tactic(auto, unfolding(crate::specs::Reading::rename_of))]
+fn rename_of(alloc: Global, bytes: &[u8]) -> Result<EditOp, RecordFault>
+    ensures { Gives (λ x. x) result (rename_of bytes.now) }
+{
+    let (path, rest) = path_at(alloc, bytes)?;
+    let to = last_path(alloc, rest)?;
+    Ok(EditOp::Rename { path, to })
+}
+
 #[tactic(auto, unfolding(crate::specs::Reading::zone_of))]
 fn zone_of(alloc: Global, bytes: &[u8]) -> Result<EditOp, RecordFault>
     ensures { Gives (λ x. x) result (zone_of bytes.now) }
@@ -222,6 +231,7 @@ fn op_of(alloc: Global, bytes: &[u8]) -> Result<EditOp, RecordFault>
         [2, rest @ ..] => mkdir_of(alloc, rest),
         [3, rest @ ..] => file_of(alloc, rest),
         [4, rest @ ..] => remove_of(alloc, rest),
+        [5, rest @ ..] => rename_of(alloc, rest),
         [6, rest @ ..] => zone_of(alloc, rest),
         [7, rest @ ..] => allow_of(alloc, rest),
         [8, rest @ ..] => disallow_of(alloc, rest),

@@ -108,6 +108,17 @@ fn append_tagged_path(out: &mut ByteList, tag: u8, path: &NPath) -> Result<(), N
     append_path(out, path)
 }
 
+/// Appends the record of what moved from one path to another. If allocation fails, a prefix may have
+/// been appended.
+fn append_move(out: &mut ByteList, path: &NPath, to: &NPath) -> Result<(), NoMemory>
+    ensures ok { OnOk result (out.new ≡ out.old ++ 5 ∷ (path_field path.now ++ path_field to.now)) }
+    ensures rules { OnOk result ((is_relative path.now ≡ true) × (is_relative to.now ≡ true)) }
+    ensures err { OnErr result (take (length out.old) out.new ≡ out.old) }
+{
+    append_tagged_path(out, 5, path)?;
+    append_path(out, to)
+}
+
 /// Appends the name of a snapshot after its length. If allocation fails, a prefix may have been
 /// appended.
 fn append_component(out: &mut ByteList, name: &Text) -> Result<(), NoMemory>
@@ -178,6 +189,7 @@ impl EditOp {
             EditOp::Mkdir { id, path } => append_front(out, 2, *id, path),
             EditOp::File { id, path, edek } => append_file(out, *id, path, edek),
             EditOp::Remove { path } => append_tagged_path(out, 4, path),
+            EditOp::Rename { path, to } => append_move(out, path, to),
             EditOp::Zone { path, key } => append_zone(out, path, key),
             EditOp::Allow { path } => append_tagged_path(out, 7, path),
             EditOp::Disallow { path } => append_tagged_path(out, 8, path),
