@@ -1,8 +1,9 @@
 -- From a node to the one that has a name in it.
 use Rattle.std.proofs.Common.{◌≡◌, ℕ, ◌+◌, ◌-◌, ◌<◌, arith, List, [], ◌∷◌, ◌++◌, length, get_or, take, Option, Some, sym, ap, ◌∙◌}
 use Rattle.std.proofs.lemmas.List.{take_more}
+use Rattle.inode_tree.specs.declared.rows.Link.{Link}
 use Rattle.inode_tree.specs.declared.rows.Node.{Node}
-use Rattle.inode_tree.specs.Arena.{IsChildNode, IsLive, IsTree, node_at, number_of, path_of}
+use Rattle.inode_tree.specs.Arena.{IsChildNode, IsLive, IsTree, link_at, node_at, number_of, path_of}
 use Rattle.inode_tree.proofs.RowFacts.{number-at}
 use Rattle.inode_tree.proofs.Ups.{full-from}
 
@@ -24,7 +25,7 @@ module _ (ns : List Node) (order : List ℕ) (ids : ℕ → Option ℕ) (t : IsT
       ∙ sym (take_more p k [] b)
 
   -- a node that has the last name of a prefix of a path, if its directory is at the rest of that prefix
-  pub named-step : (m k : ℕ) (x : Node) (p : List (List ℕ)) → m < length ns → (m ≡ 0 → ⊥) → x ≡ get_or ns m x → 0 < k → k - 1 < length p → x.name ≡ get_or p (k - 1) [] → path_of ns x.parent ≡ take (k - 1) p → path_of ns m ≡ take k p
+  pub named-step : (m k : ℕ) (x : Link) (p : List (List ℕ)) → m < length ns → (m ≡ 0 → ⊥) → x ≡ link_at ns m → 0 < k → k - 1 < length p → x.name ≡ get_or p (k - 1) [] → path_of ns x.parent ≡ take (k - 1) p → path_of ns m ≡ take k p
   named-step m k x p b apart ex some below en e =
       let more : k - 1 + 1 ≡ k = omega arith in
       full-from ns t.linked m x b apart ex

@@ -3,7 +3,7 @@ use Rattle.std.proofs.Common.{◌≡◌, ℕ, ◌-◌, ◌<◌, suc, Bool, true,
 use Rattle.std.specs.Prelude.{◌==◌, ⊤}
 use Rattle.std.specs.Option.{option_map, option_map_or}
 use Rattle.inode_tree.specs.Below.{at_or_above}
-use Rattle.std.specs.List.{AllByRecursion}
+use Rattle.std.specs.List.{All, AllByRecursion}
 use Rattle.std.proofs.lemmas.Bool.Decides.{nat_tests}
 use Rattle.std.proofs.lemmas.List.{append-nil}
 use Rattle.std.proofs.lemmas.List.Elements.{All-from_recursion, recursion_from_All}
@@ -240,9 +240,18 @@ shorter-off s r l = go (is_prefix s r) refl
 parent-shorter : (r : List (List ℕ)) → 0 < length r → length (parent r) < length r
 parent-shorter r h = let e = ap length (parent-take r) in omega (arith, length-take (length r - 1) r)
 
-module _ (rows : List Entry) (p q : List (List ℕ)) (is : IsRows rows) (can : CanMove rows p q) where
+-- rows in path order, each with an id of its own and in a directory
+pub record IsPlaced (rows : List Entry) : Type 0 where
+  pub rising : IsRising rows
+  pub once : All (λ e. entry_of rows e.row.id ≡ Some e) rows
+  pub housed : All (λ e. is_dir_at (row_at rows (parent e.path)) ≡ true) rows
+
+pub placed : (rows : List Entry) → IsRows rows → IsPlaced rows
+placed rows is = record { rising = is.rising; once = is.once; housed = is.housed }
+
+module _ (rows : List Entry) (p q : List (List ℕ)) (is : IsPlaced rows) (can : CanMove rows p q) where
   pub free : AllByRecursion (IsOff q) rows
-  free = all-free rows is q can.absent
+  free = all-free rows is.housed q can.absent
 
   pub apart : Apart (map (moved p q) rows)
   apart = apart-moved p q rows is.rising free
@@ -250,29 +259,23 @@ module _ (rows : List Entry) (p q : List (List ℕ)) (is : IsRows rows) (can : C
   pub ids : HasIds rows
   ids = has-ids rows is.rising (recursion_from_All (λ e. entry_of rows e.row.id ≡ Some e) rows is.once)
 
-  -- what is at a path: at q or below it what was at the old path, at p or below it nothing, and else what was there
-  pub row-renamed : (r : List (List ℕ)) → row_at (renamed p q rows) r ≡ row_after p q rows r
-  row-renamed r = row-order (map (moved p q) rows) r apart ∙ row-moved p q rows r free
+  pub row-placed : (r : List (List ℕ)) → row_at (renamed p q rows) r ≡ row_after p q rows r
+  row-placed r = row-order (map (moved p q) rows) r apart ∙ row-moved p q rows r free
 
-  -- the row of an id is the same, at its new path
-  pub entry-renamed : (id : ℕ) → entry_of (renamed p q rows) id ≡ option_map (moved p q) (entry_of rows id)
-  entry-renamed id = entry-order (map (moved p q) rows) id (ids-moved p q rows ids) ∙ entry-moved p q rows id
+  pub entry-placed : (id : ℕ) → entry_of (renamed p q rows) id ≡ option_map (moved p q) (entry_of rows id)
+  entry-placed id = entry-order (map (moved p q) rows) id (ids-moved p q rows ids) ∙ entry-moved p q rows id
 
   -- the new path is not the root
   pub to-deep : 0 < length q
-  to-deep = some q can.absent
+  to-deep = some q can.housed can.absent
     where
-      root-some : (o : Option Row) → IsRoot o → o ≡ None → ⊥
-      root-some None h e = h
-      root-some (Some row) h e = cc
-
-      some : (r : List (List ℕ)) → row_at rows r ≡ None → 0 < length r
-      some [] e = absurd (root-some (row_at rows []) is.rooted e)
-      some (x ∷ r) e = omega arith
+      some : (r : List (List ℕ)) → is_dir_at (row_at rows (parent r)) ≡ true → row_at rows r ≡ None → 0 < length r
+      some [] h e = let f = ap is_dir_at e in absurd cc
+      some (x ∷ r) h e = omega arith
 
   -- a path elsewhere keeps its row
   row-elsewhere : (r : List (List ℕ)) → is_prefix q r ≡ false → is_prefix p r ≡ false → row_at (renamed p q rows) r ≡ row_at rows r
-  row-elsewhere r h k = row-renamed r ∙ ap (λ (t : Bool). cond t (row_at rows (p ++ drop (length q) r)) (cond (is_prefix p r) None (row_at rows r))) h ∙ ap (λ (t : Bool). cond t None (row_at rows r)) k
+  row-elsewhere r h k = row-placed r ∙ ap (λ (t : Bool). cond t (row_at rows (p ++ drop (length q) r)) (cond (is_prefix p r) None (row_at rows r))) h ∙ ap (λ (t : Bool). cond t None (row_at rows r)) k
 
   row-there : (x : List (List ℕ)) → row_at (renamed p q rows) (q ++ x) ≡ row_at rows (p ++ x)
   row-there x = row-order (map (moved p q) rows) (q ++ x) apart ∙ row-below p q rows x free
@@ -292,22 +295,47 @@ module _ (rows : List Entry) (p q : List (List ℕ)) (is : IsRows rows) (can : C
       go true h = below (drop (length p) e.path) (prefix-split p e.path h)
       go false h = ap is_dir_at (row-elsewhere (parent e.path) (off-parent q e.path off) (off-parent p e.path h)) ∙ dir
 
-  -- the rows are still those of a tree
-  pub rows-renamed : is_relative q ≡ true → IsRows (renamed p q rows)
-  rows-renamed rule = record {
+  -- a property of each row at its new path
+  each-renamed : (P : Entry → Type 0) → AllByRecursion (λ e. P (moved p q e)) rows → All P (renamed p q rows)
+  each-renamed P a = All-from_recursion P (renamed p q rows) (each-order P (map (moved p q) rows) (each-map P (moved p q) rows a))
+
+  -- the rows are still in place
+  pub placed-renamed : IsPlaced (renamed p q rows)
+  placed-renamed = record {
     rising = rising-order (map (moved p q) rows) apart;
-    ruled = each (λ (e : Entry). is_relative e.path ≡ true) (ruled-moved p q to-deep rule rows (fits-parts rows p q can.fits).0 (fits-parts rows p q can.fits).1 (recursion_from_All (λ (e : Entry). is_relative e.path ≡ true) rows is.ruled));
-    once = each (λ (e : Entry). entry_of (renamed p q rows) e.row.id ≡ Some e)
-        (each-from (λ (e : Entry). entry_of rows e.row.id ≡ Some e) (λ (e : Entry). entry_of (renamed p q rows) e.row.id ≡ Some (moved p q e)) (λ e h. entry-renamed e.row.id ∙ ap (option_map (moved p q)) h) rows (recursion_from_All (λ (e : Entry). entry_of rows e.row.id ≡ Some e) rows is.once));
-    rooted = subst IsRoot (sym (row-elsewhere [] (shorter-off q [] to-deep) (root-off p can.apart))) is.rooted;
-    housed = each (λ (e : Entry). is_dir_at (row_at (renamed p q rows) (parent e.path)) ≡ true)
+    once = each-renamed (λ (e : Entry). entry_of (renamed p q rows) e.row.id ≡ Some e)
+        (each-from (λ (e : Entry). entry_of rows e.row.id ≡ Some e) (λ (e : Entry). entry_of (renamed p q rows) e.row.id ≡ Some (moved p q e)) (λ e h. entry-placed e.row.id ∙ ap (option_map (moved p q)) h) rows (recursion_from_All (λ (e : Entry). entry_of rows e.row.id ≡ Some e) rows is.once));
+    housed = each-renamed (λ (e : Entry). is_dir_at (row_at (renamed p q rows) (parent e.path)) ≡ true)
         (each-from (λ (e : Entry). (is_dir_at (row_at rows (parent e.path)) ≡ true) × IsOff q e) (λ (e : Entry). is_dir_at (row_at (renamed p q rows) (parent (moved_path p q e.path))) ≡ true) (λ e h. dir-after e h.0 h.1) rows
         (both (λ (e : Entry). is_dir_at (row_at rows (parent e.path)) ≡ true) (IsOff q) rows (recursion_from_All (λ (e : Entry). is_dir_at (row_at rows (parent e.path)) ≡ true) rows is.housed) free));
   }
+
+module _ (rows : List Entry) (p q : List (List ℕ)) (is : IsRows rows) (can : CanMove rows p q) where
+  -- what is at a path: at q or below it what was at the old path, at p or below it nothing, and else what was there
+  pub row-renamed : (r : List (List ℕ)) → row_at (renamed p q rows) r ≡ row_after p q rows r
+  row-renamed = row-placed rows p q (placed rows is) can
+
+  -- the row of an id is the same, at its new path
+  pub entry-renamed : (id : ℕ) → entry_of (renamed p q rows) id ≡ option_map (moved p q) (entry_of rows id)
+  entry-renamed = entry-placed rows p q (placed rows is) can
+
+  -- the rows are still those of a tree
+  pub rows-renamed : is_relative q ≡ true → IsRows (renamed p q rows)
+  rows-renamed rule = record {
+    rising = after.rising;
+    ruled = each-renamed rows p q (placed rows is) can (λ (e : Entry). is_relative e.path ≡ true)
+        (ruled-moved p q deep rule rows (fits-parts rows p q can.fits).0 (fits-parts rows p q can.fits).1 (recursion_from_All (λ (e : Entry). is_relative e.path ≡ true) rows is.ruled));
+    once = after.once;
+    rooted = subst IsRoot (sym (row-elsewhere rows p q (placed rows is) can [] (shorter-off q [] deep) (root-off p can.apart))) is.rooted;
+    housed = after.housed;
+  }
     where
+      after : IsPlaced (renamed p q rows)
+      after = placed-renamed rows p q (placed rows is) can
+
+      deep : 0 < length q
+      deep = to-deep rows p q (placed rows is) can
+
       root-off : (r : List (List ℕ)) → is_prefix r q ≡ false → is_prefix r [] ≡ false
       root-off [] e = cc
       root-off (a ∷ r) e = refl
-
-      each : (P : Entry → Type 0) → AllByRecursion (λ e. P (moved p q e)) rows → (k : ℕ) (d : Entry) → k < length (renamed p q rows) → P (get_or (renamed p q rows) k d)
-      each P a = All-from_recursion P (renamed p q rows) (each-order P (map (moved p q) rows) (each-map P (moved p q) rows a))

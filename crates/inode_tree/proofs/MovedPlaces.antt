@@ -6,10 +6,10 @@ use Rattle.std.proofs.lemmas.Bool.{cases_lt}
 use Rattle.std.specs.Prelude.{is_some}
 use Rattle.std.specs.Str.{bytes_eq}
 use Rattle.inode_tree.specs.declared.rows.Row.{Row}
-use Rattle.std.specs.List.{AllByRecursion, between}
+use Rattle.std.specs.List.{All, AllByRecursion, between}
 use Rattle.name_calls.specs.Paths.{is_before, is_prefix, parent, same_path}
 use Rattle.name_calls.proofs.PathLemmas.{and-parts}
-use Rattle.inode_tree.specs.Rows.{AllAfter, Entry, IsRising, IsRows, is_dir_at, row_at}
+use Rattle.inode_tree.specs.Rows.{AllAfter, Entry, IsRising, is_dir_at, row_at}
 use Rattle.inode_tree.specs.Arena.{rank, rank_past}
 use Rattle.inode_tree.specs.Listed.{turned}
 use Rattle.inode_tree.specs.Moves.{in_order, moved, renamed}
@@ -185,7 +185,7 @@ module _ (rows : List Entry) (p q : List (List ℕ)) (rising : IsRising rows) (f
           by false e g = let i : is_prefix p q ≡ true = between-paths p q x g (other-before x q e l) h in cc
 
 -- no row is below a path where there is none
-module _ (rows : List Entry) (is : IsRows rows) (q : List (List ℕ)) (absent : row_at rows q ≡ None) where
+module _ (rows : List Entry) (housed : All (λ e. is_dir_at (row_at rows (parent e.path)) ≡ true) rows) (q : List (List ℕ)) (absent : row_at rows q ≡ None) where
   place-of : (r : List (List ℕ)) (es : List Entry) → is_some (row_at es r) ≡ true → (k : ℕ) × (k < length es) × ((get_or es k any_entry).path ≡ r)
   place-of r [] h = cc
   place-of r (e ∷ es) h = go (same_path e.path r) refl h (place-of r es)
@@ -195,7 +195,7 @@ module _ (rows : List Entry) (is : IsRows rows) (q : List (List ℕ)) (absent : 
       go false s k ih = let w = ih k in (suc w.0, omega (arith, w.1), w.2)
 
   pub housed-at : (r : List (List ℕ)) → is_some (row_at rows r) ≡ true → is_dir_at (row_at rows (parent r)) ≡ true
-  housed-at r h = let w = place-of r rows h in subst (λ (s : List (List ℕ)). is_dir_at (row_at rows (parent s)) ≡ true) w.2 (is.housed w.0 any_entry w.1)
+  housed-at r h = let w = place-of r rows h in subst (λ (s : List (List ℕ)). is_dir_at (row_at rows (parent s)) ≡ true) w.2 (housed w.0 any_entry w.1)
 
   length-parent : (r : List (List ℕ)) (n : ℕ) → length r ≤ suc n → length (parent r) ≤ n
   length-parent r n h = let e = ap length (parent-take r) in omega (arith, length-take (length r - 1) r)

@@ -47,7 +47,7 @@ module _ (ns : List Node) (order : List ℕ) (ids : ℕ → Option ℕ) (t : IsT
   rows = rows_of ns order
 
   free : AllByRecursion (IsOff q) (rows_of ns order)
-  free = all-free (rows_of ns order) (is-rows ns order ids t) q can.absent
+  free = all-free (rows_of ns order) (is-rows ns order ids t).housed q can.absent
 
   pub to-deep : 0 < length q
   to-deep = deep-number ns order ids q t (absent-number ns order q can.absent)

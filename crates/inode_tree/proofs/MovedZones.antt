@@ -14,7 +14,7 @@ use Rattle.inode_tree.proofs.Asked.{parent-take}
 use Rattle.inode_tree.proofs.Each.{each-from}
 use Rattle.inode_tree.proofs.Lasts.{last-split}
 use Rattle.inode_tree.proofs.MovedRows.{IsBelow, IsOff}
-use Rattle.inode_tree.proofs.MovedLaws.{Apart, apart, free, off-parent, row-order, shorter-off, to-deep}
+use Rattle.inode_tree.proofs.MovedLaws.{Apart, IsPlaced, apart, free, off-parent, placed, row-order, shorter-off, to-deep}
 use Rattle.inode_tree.proofs.MovedPaths.{bytes-self, path-moves, path-stays, prefix-append, prefix-split, prefix-trans}
 use Rattle.inode_tree.proofs.Puts.{absent-parts}
 use Rattle.inode_tree.proofs.Seeks.{same-is, same-itself}
@@ -272,7 +272,7 @@ zone-other p q r (e ∷ es) h k =
         ∙ sym (skip e (off p e.path u h (is_prefix e.path r) refl))
     go false u = let f = path-stays p q e.path u in λ i. with_zone r (record e { path = f i }) (zone_of es r)
 
-same-id-yes : (a b : Option ℕ) → same_id a b ≡ true → a ≡ b
+pub same-id-yes : (a b : Option ℕ) → same_id a b ≡ true → a ≡ b
 same-id-yes None None h = refl
 same-id-yes None (Some j) h = cc
 same-id-yes (Some i) None h = cc
@@ -299,16 +299,16 @@ option-itself : (p : List (List ℕ)) (o : Option Entry) → option_map (moved p
 option-itself p None = refl
 option-itself p (Some e) = ap (λ (f : Entry). Some f) (moved-itself p e)
 
-module _ (rows : List Entry) (p q : List (List ℕ)) (is : IsRows rows) (can : CanMove rows p q) where
+module _ (rows : List Entry) (p q : List (List ℕ)) (is : IsPlaced rows) (can : CanMove rows p q) where
   -- the zone of a path at q or below it: that among the moved rows, or else that of the parent of q
-  pub zone-renamed : (x : List (List ℕ)) → zone_of (renamed p q rows) (q ++ x) ≡ or_zone (option_map (moved p q) (zone_inside p rows x)) (zone_of rows (parent q))
-  zone-renamed x =
+  pub zone-placed : (x : List (List ℕ)) → zone_of (renamed p q rows) (q ++ x) ≡ or_zone (option_map (moved p q) (zone_inside p rows x)) (zone_of rows (parent q))
+  zone-placed x =
       zone-order (map (moved p q) rows) (q ++ x) (apart rows p q is can)
       ∙ zone-split p q (to-deep rows p q is can) (off-parent p q can.apart) x rows (each-from (IsOff q) (λ (e : Entry). is_prefix p e.path ≡ false → is_prefix q e.path ≡ false) (λ e h k. h) rows (free rows p q is can))
 
   -- and what it was before the move
-  pub zone-before : (x : List (List ℕ)) → zone_of rows (p ++ x) ≡ or_zone (zone_inside p rows x) (zone_of rows (parent p))
-  zone-before x =
+  pub zone-placed-before : (x : List (List ℕ)) → zone_of rows (p ++ x) ≡ or_zone (zone_inside p rows x) (zone_of rows (parent p))
+  zone-placed-before x =
       ap (λ (es : List Entry). zone_of es (p ++ x)) (sym (map-itself p rows))
       ∙ zone-split p p deep (shorter-off p (parent p) shorter) x rows (trivial rows)
       ∙ ap (λ (o : Option Entry). or_zone o (zone_of rows (parent p))) (option-itself p (zone_inside p rows x))
@@ -327,6 +327,20 @@ module _ (rows : List Entry) (p q : List (List ℕ)) (is : IsRows rows) (can : C
       trivial [] = tt
       trivial (e ∷ es) = (λ h. h, trivial es)
 
+  -- a path elsewhere stays in its zone
+  pub zone-placed-elsewhere : (r : List (List ℕ)) → is_prefix p r ≡ false → is_prefix q r ≡ false → zone_of (renamed p q rows) r ≡ zone_of rows r
+  zone-placed-elsewhere r h k = zone-order (map (moved p q) rows) r (apart rows p q is can) ∙ zone-other p q r rows h k
+
+module _ (rows : List Entry) (p q : List (List ℕ)) (is : IsRows rows) (can : CanMove rows p q) where
+  pub zone-renamed : (x : List (List ℕ)) → zone_of (renamed p q rows) (q ++ x) ≡ or_zone (option_map (moved p q) (zone_inside p rows x)) (zone_of rows (parent q))
+  zone-renamed = zone-placed rows p q (placed rows is) can
+
+  pub zone-before : (x : List (List ℕ)) → zone_of rows (p ++ x) ≡ or_zone (zone_inside p rows x) (zone_of rows (parent p))
+  zone-before = zone-placed-before rows p q (placed rows is) can
+
+  pub zone-elsewhere : (r : List (List ℕ)) → is_prefix p r ≡ false → is_prefix q r ≡ false → zone_of (renamed p q rows) r ≡ zone_of rows r
+  zone-elsewhere = zone-placed-elsewhere rows p q (placed rows is) can
+
   -- if both parents lie in one zone, or both in none, each moved path stays in its zone
   pub zone-kept : move_allowed rows p q ≡ true → (x : List (List ℕ)) → zone_id (renamed p q rows) (q ++ x) ≡ zone_id rows (p ++ x)
   zone-kept allowed x = ap id-of (zone-renamed x) ∙ go (zone_inside p rows x) ∙ sym (ap id-of (zone-before x))
@@ -337,7 +351,3 @@ module _ (rows : List Entry) (p q : List (List ℕ)) (is : IsRows rows) (can : C
       go : (i : Option Entry) → id-of (or_zone (option_map (moved p q) i) (zone_of rows (parent q))) ≡ id-of (or_zone i (zone_of rows (parent p)))
       go None = sym (same-id-yes (zone_id rows (parent p)) (zone_id rows (parent q)) allowed)
       go (Some e) = refl
-
-  -- a path elsewhere stays in its zone
-  pub zone-elsewhere : (r : List (List ℕ)) → is_prefix p r ≡ false → is_prefix q r ≡ false → zone_of (renamed p q rows) r ≡ zone_of rows r
-  zone-elsewhere r h k = zone-order (map (moved p q) rows) r (apart rows p q is can) ∙ zone-other p q r rows h k

@@ -4,6 +4,7 @@ use Rattle.std.specs.declared.cmp.Ordering.{Ordering}
 use Rattle.std.specs.declared.cmp.Ordering.TheVariants.{Equal}
 use Rattle.std.specs.Ordering.{nat_cmp, ordering_then}
 use Rattle.std.specs.Cmp.Lexicographic.{slice_cmp}
+use Rattle.inode_tree.specs.declared.rows.Link.{Link}
 use Rattle.inode_tree.specs.declared.rows.Node.{Node}
 use Rattle.inode_tree.specs.declared.near.Near.{Near}
 use Rattle.inode_tree.specs.declared.rows.Kind.{Kind}
@@ -14,6 +15,7 @@ use Rattle.std.specs.HashMap.{HashMap, get, spare}
 use Rattle.std.specs.Bool.{nat_eq}
 use Rattle.std.specs.String.{string_capacity}
 use Rattle.inode_tree.specs.Listed.{Listed}
+use Rattle.inode_tree.specs.NodeList.{NodeList}
 use Rattle.inode_tree.specs.Rows.{Entry, is_dir}
 pub use Rattle.inode_tree.specs.Rows.{AllAfter, IsRising}
 use Rattle.name_calls.specs.Paths.{is_before, is_prefix, is_relative, same_path}
@@ -23,6 +25,10 @@ blank = record { parent = 0; name = []; row = record { id = 0; kind = Dir None }
 
 abbrev pub node_at : List Node → ℕ → Node
 node_at ns n = slice_index_or ns n blank
+
+-- what a search reads of a node
+abbrev pub link_at : List Node → ℕ → Link
+link_at ns n = record { parent = (node_at ns n).parent; name = (node_at ns n).name }
 
 -- the names from a node up to the root, in at most the given number of steps
 unfoldable pub up : ℕ → List Node → ℕ → List (List ℕ)
@@ -151,7 +157,7 @@ pub record IsSkip (ns : List Node) (order : List ℕ) (at next : ℕ) : Type 0 w
   pub below : (k : ℕ) → at < k → k < next → is_prefix (path_of ns (slice_index_or order at 0)) (path_of ns (slice_index_or order k 0)) ≡ true
 
 -- the parts of a tree; there is memory to note each node that becomes free
-pub record IsKept {S : Type 0} (nodes : Vec Node) (order : Listed) (places : HashMap ℕ ℕ S) (slots : Vec ℕ) : Type 0 where
+pub record IsKept {S : Type 0} (nodes : NodeList) (order : Listed) (places : HashMap ℕ ℕ S) (slots : Vec ℕ) : Type 0 where
   pub tree : IsTree nodes.items order.items (get nat_eq places)
   pub free : IsFree nodes.items order.items slots.items
   pub capacity : length nodes.items ≤ vec_capacity slots

@@ -4,6 +4,7 @@ pub mod Listed
 pub mod Listing
 pub mod MoveLaws
 pub mod Moves
+pub mod NodeList
 pub mod NodeNames
 pub mod Rows
 pub mod Written

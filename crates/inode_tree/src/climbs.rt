@@ -7,14 +7,15 @@ ghost use Rattle.std.specs.Ordering.{nat_cmp};
 
 use crate::names::NodeName;
 use crate::near::Near;
+use crate::nodes::Nodes;
 use crate::order::Order;
-use crate::rows::Node;
+use crate::rows::Link;
 use hk_base::Text;
 use name_calls::NPath;
 use std::cmp::Ordering;
 
 /// Returns the number of names in the node's path.
-pub fn depth(nodes: &Vec<Node>, n: u32) -> usize
+pub fn depth(nodes: &Nodes, n: u32) -> usize
     requires linked { IsLinked nodes.now.items }
     requires live { n < length nodes.now.items }
     ensures { result ≡ length (path_of nodes.now.items n) }
@@ -22,7 +23,7 @@ pub fn depth(nodes: &Vec<Node>, n: u32) -> usize
     let mut m = n;
     let mut d = 0usize;
     'climb: while m != 0 {
-        m = nodes[m as usize].parent;
+        m = nodes.link(m).parent;
         d += 1;
     }
     d
@@ -38,7 +39,7 @@ struct Met {
 
 /// Compares the node's path with the first `upto` names of a path, as far as both go: the names
 /// from the root or a near node on, up to the first that differs.
-fn meet(nodes: &Vec<Node>, n: u32, path: &NPath, upto: usize, near: Near) -> Met
+fn meet(nodes: &Nodes, n: u32, path: &NPath, upto: usize, near: Near) -> Met
     requires linked { IsLinked nodes.now.items }
     requires live { n < length nodes.now.items }
     requires upto { upto ≤ length path.now }
@@ -64,8 +65,8 @@ fn meet(nodes: &Vec<Node>, n: u32, path: &NPath, upto: usize, near: Near) -> Met
             depth: near.depth.saturating_sub(1),
         };
     }
-    let node = &nodes[n as usize];
-    let above = meet(nodes, node.parent, path, upto, near);
+    let link = nodes.link(n);
+    let above = meet(nodes, link.parent, path, upto, near);
     let depth = above.depth + 1;
     match above.found {
         Ordering::Less => Met {
@@ -73,7 +74,7 @@ fn meet(nodes: &Vec<Node>, n: u32, path: &NPath, upto: usize, near: Near) -> Met
             depth,
         },
         Ordering::Equal => Met {
-            found: compare_at(node, above.depth, path, upto),
+            found: compare_at(link, above.depth, path, upto),
             depth,
         },
         Ordering::Greater => Met {
@@ -89,20 +90,20 @@ fn compare_names(name: &NodeName, other: &Text) -> Ordering
     name.as_bytes().cmp(other.as_str().as_bytes())
 }
 
-/// Compares the node's name with the `k`-th of the first `upto` names of a path. They are equal if
+/// Compares a node's name with the `k`-th of the first `upto` names of a path. They are equal if
 /// there is no `k`-th name.
-fn compare_at(node: &Node, k: usize, path: &NPath, upto: usize) -> Ordering
+fn compare_at(link: &Link, k: usize, path: &NPath, upto: usize) -> Ordering
     requires { upto ≤ length path.now }
-    ensures { result ≡ name_cmp node.now.name (take upto path.now) k }
+    ensures { result ≡ name_cmp link.now.name (take upto path.now) k }
 {
     if k < upto {
-        compare_names(&node.name, path.name(k))
+        compare_names(&link.name, path.name(k))
     } else {
         Ordering::Equal
     }
 }
 
-pub fn compare(nodes: &Vec<Node>, n: u32, path: &NPath, upto: usize, near: Near) -> Ordering
+pub fn compare(nodes: &Nodes, n: u32, path: &NPath, upto: usize, near: Near) -> Ordering
     requires linked { IsLinked nodes.now.items }
     requires live { n < length nodes.now.items }
     requires upto { upto ≤ length path.now }
@@ -127,7 +128,7 @@ struct Span {
 /// Narrows a span that holds the rank of a path, by a look at the row at `at` if that lies in the
 /// span. The row is found at once if it lies in the piece `c` of the order.
 fn narrow(
-    nodes: &Vec<Node>,
+    nodes: &Nodes,
     order: &Order,
     path: &NPath,
     upto: usize,
@@ -178,7 +179,7 @@ fn pieces_for(order: &Order, span: Span) -> usize {
 /// Returns how many rows come before the path formed by the first `upto` names of `path`. Tries the places
 /// after `last` first.
 pub fn place_from(
-    nodes: &Vec<Node>,
+    nodes: &Nodes,
     order: &Order,
     last: usize,
     path: &NPath,
@@ -229,7 +230,7 @@ pub fn place_from(
 }
 
 /// Returns whether the node's path comes before the path, is the path or lies below it.
-fn before_or_below(nodes: &Vec<Node>, n: u32, path: &NPath) -> bool
+fn before_or_below(nodes: &Nodes, n: u32, path: &NPath) -> bool
     requires linked { IsLinked nodes.now.items }
     requires live { n < length nodes.now.items }
     ensures { result ≡ (is_before (path_of nodes.now.items n) path.now || is_prefix path.now (path_of nodes.now.items n)) }
@@ -258,7 +259,7 @@ fn place_between(low: usize, high: usize, width: usize) -> usize
 
 /// Returns how many rows come before the path, are at the path or lie below it. The search takes long steps
 /// only if there are many more of them than `from`.
-pub fn past(nodes: &Vec<Node>, order: &Order, path: &NPath, from: usize) -> usize
+pub fn past(nodes: &Nodes, order: &Order, path: &NPath, from: usize) -> usize
     requires linked { IsLinked nodes.now.items }
     requires within { AllWithin (length nodes.now.items) order.now.items }
     requires rising { IsRising (rows_of nodes.now.items order.now.items) }
@@ -281,7 +282,7 @@ pub fn past(nodes: &Vec<Node>, order: &Order, path: &NPath, from: usize) -> usiz
 }
 
 /// Returns whether the node's path is the path or lies below it.
-pub fn below(nodes: &Vec<Node>, n: u32, path: &NPath) -> bool
+pub fn below(nodes: &Nodes, n: u32, path: &NPath) -> bool
     requires linked { IsLinked nodes.now.items }
     requires live { n < length nodes.now.items }
     ensures { result ≡ is_prefix path.now (path_of nodes.now.items n) }
@@ -295,7 +296,7 @@ pub fn below(nodes: &Vec<Node>, n: u32, path: &NPath) -> bool
 }
 
 /// Returns whether the node's path is the path or lies above it.
-pub fn above(nodes: &Vec<Node>, n: u32, path: &NPath) -> bool
+pub fn above(nodes: &Nodes, n: u32, path: &NPath) -> bool
     requires linked { IsLinked nodes.now.items }
     requires live { n < length nodes.now.items }
     ensures { result ≡ is_prefix (path_of nodes.now.items n) path.now }

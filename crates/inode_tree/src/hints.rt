@@ -6,8 +6,9 @@ ghost use Rattle.inode_tree.specs.Arena.{IsChildNode, IsHint, IsLive, IsNear, Is
 use crate::climbs::place_from;
 use crate::names::NodeName;
 use crate::near::{Near, near_at};
+use crate::nodes::Nodes;
 use crate::order::Order;
-use crate::rows::Node;
+use crate::rows::Link;
 use hk_base::Text;
 use name_calls::NPath;
 use std::alloc::Global;
@@ -57,7 +58,7 @@ impl Hints {
 
     /// Notes all nodes anew in more slots, if about half of the slots are used. If allocation fails,
     /// the slots stay as they are.
-    pub fn refresh(&mut self, alloc: Global, nodes: &Vec<Node>)
+    pub fn refresh(&mut self, alloc: Global, nodes: &Nodes)
         requires { length nodes.now.items ≤ 1000001 }
     {
         if self.noted <= self.slots.len() / 2 {
@@ -99,14 +100,14 @@ fn put(slots: &mut Vec<u32>, parent: u32, name: &[u8], n: u32) {
 }
 
 /// Puts the numbers of all nodes that have a name.
-fn put_all(slots: &mut Vec<u32>, nodes: &Vec<Node>)
+fn put_all(slots: &mut Vec<u32>, nodes: &Nodes)
     requires { length nodes.now.items ≤ 1000001 }
 {
     'nodes: for n in 1..nodes.len() {
-        let node = &nodes[n];
-        let name = node.name.as_bytes();
+        let link = nodes.link(n as u32);
+        let name = link.name.as_bytes();
         if name.len() > 0 {
-            put(slots, node.parent, name, n as u32);
+            put(slots, link.parent, name, n as u32);
         }
     }
 }
@@ -118,7 +119,7 @@ fn is_same(name: &NodeName, other: &Text) -> bool
 }
 
 /// Returns whether the node with a number has the name in the directory.
-fn is_child(nodes: &Vec<Node>, n: u32, parent: u32, name: &Text) -> bool
+fn is_child(nodes: &Nodes, n: u32, parent: u32, name: &Text) -> bool
     ensures { IsTrue result → IsChildNode nodes.now.items n parent name.now }
 {
     if n == 0 {
@@ -127,17 +128,18 @@ fn is_child(nodes: &Vec<Node>, n: u32, parent: u32, name: &Text) -> bool
     if n as usize >= nodes.len() {
         return false;
     }
-    if nodes[n as usize].parent != parent {
+    let link = nodes.link(n);
+    if link.parent != parent {
         return false;
     }
     if name.as_str().len() == 0 {
         return false;
     }
-    is_same(&nodes[n as usize].name, name)
+    is_same(&link.name, name)
 }
 
 /// Returns the number of the node that has a name in a directory, if it is noted.
-fn child(slots: &Vec<u32>, nodes: &Vec<Node>, parent: u32, name: &Text) -> Option<u32>
+fn child(slots: &Vec<u32>, nodes: &Nodes, parent: u32, name: &Text) -> Option<u32>
     ensures { IsHint nodes.now.items parent name.now result }
 {
     let len = slots.len();
@@ -158,7 +160,7 @@ fn child(slots: &Vec<u32>, nodes: &Vec<Node>, parent: u32, name: &Text) -> Optio
 }
 
 /// Returns a node if it has a name, and so is that of a row, else the root.
-fn live_or_root(nodes: &Vec<Node>, order: &Order, n: u32) -> u32
+fn live_or_root(nodes: &Nodes, order: &Order, n: u32) -> u32
     requires tree { (ids : ℕ → Option ℕ) × IsTree nodes.now.items order.now.items ids }
     ensures { IsLive order.now.items result }
 {
@@ -166,26 +168,26 @@ fn live_or_root(nodes: &Vec<Node>, order: &Order, n: u32) -> u32
     if n as usize >= nodes.len() {
         return 0;
     }
-    if nodes[n as usize].name.as_bytes().len() == 0 {
+    if nodes.link(n).name.as_bytes().len() == 0 {
         return 0;
     }
     n
 }
 
 /// Returns whether the node has the `k`-th name of the first `upto` names of a path.
-fn has_name(node: &Node, path: &NPath, k: usize, upto: usize) -> bool
+fn has_name(link: &Link, path: &NPath, k: usize, upto: usize) -> bool
     requires upto { upto ≤ length path.now }
-    ensures { IsTrue result → (k < upto) × (node.now.name ≡ slice_index_or path.now k []) }
+    ensures { IsTrue result → (k < upto) × (link.now.name ≡ slice_index_or path.now k []) }
 {
     if k < upto {
-        return is_same(&node.name, path.name(k));
+        return is_same(&link.name, path.name(k));
     }
     false
 }
 
 /// Returns the deepest node at a prefix of the path that is the expected node or lies above it. That of
 /// the root if the node has changed since.
-fn expected(nodes: &Vec<Node>, order: &Order, hints: &Hints, path: &NPath, upto: usize) -> Near
+fn expected(nodes: &Nodes, order: &Order, hints: &Hints, path: &NPath, upto: usize) -> Near
     requires tree { (ids : ℕ → Option ℕ) × IsTree nodes.now.items order.now.items ids }
     requires upto { upto ≤ length path.now }
     ensures near { IsNear nodes.now.items path.now result }
@@ -201,9 +203,9 @@ fn expected(nodes: &Vec<Node>, order: &Order, hints: &Hints, path: &NPath, upto:
             return near_at(nodes, order, path, 0, 0);
         }
         k -= 1;
-        let node = &nodes[m as usize];
-        m = node.parent;
-        if !has_name(node, path, k, upto) {
+        let link = nodes.link(m);
+        m = link.parent;
+        if !has_name(link, path, k, upto) {
             near = m;
             depth = k;
         }
@@ -216,7 +218,7 @@ fn expected(nodes: &Vec<Node>, order: &Order, hints: &Hints, path: &NPath, upto:
 
 /// Follows the first `upto` names of a path, as long as the nodes are noted. Returns the last of these
 /// nodes.
-pub fn follow(nodes: &Vec<Node>, order: &Order, hints: &Hints, path: &NPath, upto: usize) -> Near
+pub fn follow(nodes: &Nodes, order: &Order, hints: &Hints, path: &NPath, upto: usize) -> Near
     requires tree { (ids : ℕ → Option ℕ) × IsTree nodes.now.items order.now.items ids }
     requires upto { upto ≤ length path.now }
     ensures near { IsNear nodes.now.items path.now result }
@@ -237,7 +239,7 @@ pub fn follow(nodes: &Vec<Node>, order: &Order, hints: &Hints, path: &NPath, upt
 }
 
 /// Returns how many rows come before the path formed by the first `upto` names of `path`.
-pub fn place(nodes: &Vec<Node>, order: &Order, hints: &Hints, path: &NPath, upto: usize) -> usize
+pub fn place(nodes: &Nodes, order: &Order, hints: &Hints, path: &NPath, upto: usize) -> usize
     requires tree { (ids : ℕ → Option ℕ) × IsTree nodes.now.items order.now.items ids }
     requires upto { upto ≤ length path.now }
     ensures { result ≡ rank (rows_of nodes.now.items order.now.items) (take upto path.now) }
@@ -253,7 +255,7 @@ pub fn place(nodes: &Vec<Node>, order: &Order, hints: &Hints, path: &NPath, upto
 }
 
 /// Notes that a path is likely to be looked for next.
-pub fn expect(nodes: &Vec<Node>, order: &Order, hints: &mut Hints, path: &NPath)
+pub fn expect(nodes: &Nodes, order: &Order, hints: &mut Hints, path: &NPath)
     requires tree { (ids : ℕ → Option ℕ) × IsTree nodes.now.items order.now.items ids }
 {
     let upto = path.len();
@@ -264,7 +266,7 @@ pub fn expect(nodes: &Vec<Node>, order: &Order, hints: &mut Hints, path: &NPath)
 
 /// Returns the same as `place`, by comparing from a near node on.
 pub fn place_near(
-    nodes: &Vec<Node>,
+    nodes: &Nodes,
     order: &Order,
     hints: &Hints,
     path: &NPath,

@@ -6,6 +6,7 @@ mod hints;
 mod laws;
 mod names;
 mod near;
+mod nodes;
 mod order;
 mod rows;
 mod tree;

@@ -34,6 +34,13 @@ pub struct Row {
     pub kind: Kind,
 }
 
+/// The last name of a row's path, and the number of its directory's node.
+#[derive(Drop)]
+pub struct Link {
+    pub parent: u32,
+    pub name: NodeName,
+}
+
 /// A row, with the last name of its path and the number of its directory's node.
 #[derive(Drop)]
 pub struct Node {

@@ -20,6 +20,7 @@ use crate::climbs::{below, compare};
 use crate::hints::{Hints, expect, follow, place, place_near};
 use crate::names::{NodeName, copy_of, name_in};
 use crate::near::Near;
+use crate::nodes::Nodes;
 use crate::order::Order;
 use crate::rows::{Kind, Node, Row};
 use crate::zones::zone_at;
@@ -43,7 +44,7 @@ pub const MOST_ROWS: u32 = 1_000_000;
 #[derive(Drop)]
 pub struct Tree {
     alloc: Global,
-    nodes: Vec<Node>,
+    nodes: Nodes,
     order: Order,
     places: HashMap<u64, u32>,
     free: Vec<u32>,
@@ -70,11 +71,11 @@ impl Tree {
     pub fn new(alloc: Global) -> Result<Tree, NoMemory>
         ensures { IfOk result (λ tree. tree.rows ≡ root_only) }
     {
-        let mut nodes = Vec::new(alloc);
+        let mut nodes = Nodes::new(alloc);
         let mut order = Order::new(alloc);
         let mut places = HashMap::new(alloc);
         let mut free = Vec::new(alloc);
-        nodes.reserve(1)?;
+        nodes.reserve()?;
         order.reserve()?;
         places.reserve(1)?;
         free.reserve(1)?;
@@ -121,7 +122,7 @@ impl Tree {
         ensures { result ≡ option_map (λ e. e.row) (entry_of self.now.rows id) }
     {
         match self.places.get(&id) {
-            Some(n) => Some(self.nodes[*n as usize].row),
+            Some(n) => Some(*self.nodes.row(*n)),
             None => None,
         }
     }
@@ -274,13 +275,7 @@ impl Tree {
 }
 
 /// Returns the number of the row at the first `upto` names of a path.
-pub fn seek(
-    nodes: &Vec<Node>,
-    order: &Order,
-    hints: &Hints,
-    path: &NPath,
-    upto: usize,
-) -> Option<u32>
+pub fn seek(nodes: &Nodes, order: &Order, hints: &Hints, path: &NPath, upto: usize) -> Option<u32>
     requires tree { (ids : ℕ → Option ℕ) × IsTree nodes.now.items order.now.items ids }
     requires upto { upto ≤ length path.now }
     ensures { result ≡ number_of nodes.now.items order.now.items (take upto path.now) }
@@ -297,7 +292,7 @@ pub fn seek(
 
 /// Returns the same as `seek`: the near node if it is at the path, else by a search in the order.
 pub fn search(
-    nodes: &Vec<Node>,
+    nodes: &Nodes,
     order: &Order,
     hints: &Hints,
     path: &NPath,
@@ -327,25 +322,19 @@ pub fn search(
 }
 
 /// Returns the row at the first `upto` names of a path.
-fn row_upto(
-    nodes: &Vec<Node>,
-    order: &Order,
-    hints: &Hints,
-    path: &NPath,
-    upto: usize,
-) -> Option<Row>
+fn row_upto(nodes: &Nodes, order: &Order, hints: &Hints, path: &NPath, upto: usize) -> Option<Row>
     requires tree { (ids : ℕ → Option ℕ) × IsTree nodes.now.items order.now.items ids }
     requires upto { upto ≤ length path.now }
     ensures { result ≡ row_at (rows_of nodes.now.items order.now.items) (take upto path.now) }
 {
     match seek(nodes, order, hints, path, upto) {
-        Some(n) => Some(nodes[n as usize].row),
+        Some(n) => Some(*nodes.row(n)),
         None => None,
     }
 }
 
 /// Returns whether the row after that of the path, in path order, lies below the path.
-fn next_is_below(nodes: &Vec<Node>, order: &Order, hints: &Hints, path: &NPath) -> bool
+fn next_is_below(nodes: &Nodes, order: &Order, hints: &Hints, path: &NPath) -> bool
     requires tree { (ids : ℕ → Option ℕ) × IsTree nodes.now.items order.now.items ids }
     requires stands { IsSome (number_of nodes.now.items order.now.items path.now) }
     ensures { result ≡ has_children (rows_of nodes.now.items order.now.items) path.now }
@@ -385,7 +374,7 @@ fn blank_node() -> Node
 }
 
 /// Makes a free node if there is none.
-fn provide(nodes: &mut Vec<Node>, order: &Order, free: &mut Vec<u32>) -> Result<(), NoMemory>
+fn provide(nodes: &mut Nodes, order: &Order, free: &mut Vec<u32>) -> Result<(), NoMemory>
     requires tree { (ids : ℕ → Option ℕ) × IsTree nodes.old.items order.now.items ids }
     requires free { IsFree nodes.old.items order.now.items free.old.items }
     requires capacity { length nodes.old.items ≤ vec_capacity free.old }
@@ -401,7 +390,7 @@ fn provide(nodes: &mut Vec<Node>, order: &Order, free: &mut Vec<u32>) -> Result<
         return Ok(());
     }
     let n = nodes.len();
-    nodes.reserve(1)?;
+    nodes.reserve()?;
     free.reserve(n + 1)?;
     nodes.push_reserved(blank_node());
     free.push_reserved(n as u32);
@@ -411,7 +400,7 @@ fn provide(nodes: &mut Vec<Node>, order: &Order, free: &mut Vec<u32>) -> Result<
 /// Reserves memory for one more row whose name has `name` bytes. Returns `NoMemory` if allocation
 /// fails; the rows are then unchanged.
 fn make_room(
-    nodes: &mut Vec<Node>,
+    nodes: &mut Nodes,
     order: &mut Order,
     places: &mut HashMap<u64, u32>,
     free: &mut Vec<u32>,
@@ -443,8 +432,8 @@ fn give(places: &mut HashMap<u64, u32>, id: u64, n: u32)
 }
 
 /// Adds the root, in reserved memory.
-fn first(nodes: &mut Vec<Node>, order: &mut Order, places: &mut HashMap<u64, u32>)
-    requires nodes { (nodes.old.items ≡ []) × (vec_len nodes.old < vec_capacity nodes.old) }
+fn first(nodes: &mut Nodes, order: &mut Order, places: &mut HashMap<u64, u32>)
+    requires nodes { (nodes.old.items ≡ []) × (0 < nodes.old.spare) }
     requires order { (order.old.items ≡ []) × (0 < order.old.spare) }
     requires places { (0 < spare places.old) × ((q : ℕ) → get nat_eq places.old q ≡ None) }
     ensures tree { IsTree nodes.new.items order.new.items (get nat_eq places.new) }
@@ -459,7 +448,7 @@ fn first(nodes: &mut Vec<Node>, order: &mut Order, places: &mut HashMap<u64, u32
 
 /// Adds a row at the place `at`, in reserved memory. Its node is the last of the free ones.
 fn commit(
-    nodes: &mut Vec<Node>,
+    nodes: &mut Nodes,
     order: &mut Order,
     places: &mut HashMap<u64, u32>,
     free: &mut Vec<u32>,
@@ -480,7 +469,7 @@ fn commit(
         Some(n) => {
             order.insert(at, n);
             give(places, node.row.id, n);
-            nodes[n as usize] = node;
+            nodes.set(n, node);
         }
         None => unreachable!(),
     }
@@ -489,7 +478,7 @@ fn commit(
 /// Adds a row. Returns `NoMemory` if allocation fails; the rows are then unchanged.
 fn add(
     alloc: Global,
-    nodes: &mut Vec<Node>,
+    nodes: &mut Nodes,
     order: &mut Order,
     places: &mut HashMap<u64, u32>,
     free: &mut Vec<u32>,
@@ -519,7 +508,7 @@ fn add(
 /// Adds a row, in reserved memory.
 fn put_in(
     alloc: Global,
-    nodes: &mut Vec<Node>,
+    nodes: &mut Nodes,
     order: &mut Order,
     places: &mut HashMap<u64, u32>,
     free: &mut Vec<u32>,
@@ -553,7 +542,7 @@ fn put_in(
 }
 
 /// Sets the kind of the row with an id. A directory must stay a directory, and a file a file.
-fn set(nodes: &mut Vec<Node>, order: &Order, places: &HashMap<u64, u32>, id: u64, kind: Kind)
+fn set(nodes: &mut Nodes, order: &Order, places: &HashMap<u64, u32>, id: u64, kind: Kind)
     requires tree { IsTree nodes.old.items order.now.items (get nat_eq places.now) }
     requires same { option_map (λ e. is_dir e.row.kind) (entry_of (rows_of nodes.old.items order.now.items) id) ≡ Some (is_dir kind) }
     ensures tree { IsTree nodes.new.items order.now.items (get nat_eq places.now) }
@@ -562,21 +551,13 @@ fn set(nodes: &mut Vec<Node>, order: &Order, places: &HashMap<u64, u32>, id: u64
 {
     let _ = order;
     match places.get(&id) {
-        Some(n) => write(nodes, *n as usize, kind),
+        Some(n) => nodes.set_kind(*n, kind),
         None => unreachable!(),
     }
 }
 
-fn write(nodes: &mut Vec<Node>, n: usize, kind: Kind)
-    requires { n < length nodes.old.items }
-    ensures { nodes.new.items ≡ rekind nodes.old.items n kind }
-{
-    let node = &mut nodes[n];
-    node.row.kind = kind;
-}
-
 /// Builds the path of a node.
-fn build(alloc: Global, nodes: &Vec<Node>, n: u32) -> Result<NPath, NoMemory>
+fn build(alloc: Global, nodes: &Nodes, n: u32) -> Result<NPath, NoMemory>
     requires linked { IsLinked nodes.now.items }
     requires live { n < length nodes.now.items }
     requires rule { IsTrue (is_relative (path_of nodes.now.items n)) }
@@ -585,8 +566,8 @@ fn build(alloc: Global, nodes: &Vec<Node>, n: u32) -> Result<NPath, NoMemory>
     if n == 0 {
         return Ok(NPath::root(alloc));
     }
-    let node = &nodes[n as usize];
-    let mut path = build(alloc, nodes, node.parent)?;
-    path.push(copy_of(alloc, &node.name)?)?;
+    let link = nodes.link(n);
+    let mut path = build(alloc, nodes, link.parent)?;
+    path.push(copy_of(alloc, &link.name)?)?;
     Ok(path)
 }

@@ -4,23 +4,24 @@ ghost use Rattle.inode_tree.specs.Arena.{IsTree, IsLive, rows_of, path_of};
 ghost use Rattle.inode_tree.specs.Rows.{zone_id, is_marked};
 
 use crate::hints::{Hints, follow};
+use crate::nodes::Nodes;
 use crate::order::Order;
-use crate::rows::{Kind, Node};
+use crate::rows::{Kind, Row};
 use crate::tree::search;
 use name_calls::NPath;
 
-/// Returns whether the node is a directory that is marked with a key.
-fn marked(node: &Node) -> bool
-    ensures { result ≡ is_marked node.now.row }
+/// Returns whether the row is a directory that is marked with a key.
+fn marked(row: &Row) -> bool
+    ensures { result ≡ is_marked row.now }
 {
-    match &node.row.kind {
+    match &row.kind {
         Kind::Dir { key } => key.is_some(),
         Kind::File { .. } => false,
     }
 }
 
 /// Returns the id of the nearest marked directory at or above the node.
-fn zone_above(nodes: &Vec<Node>, order: &Order, n: u32) -> Option<u64>
+fn zone_above(nodes: &Nodes, order: &Order, n: u32) -> Option<u64>
     requires tree { (ids : ℕ → Option ℕ) × IsTree nodes.now.items order.now.items ids }
     requires live { IsLive order.now.items n }
     ensures { result ≡ zone_id (rows_of nodes.now.items order.now.items) (path_of nodes.now.items n) }
@@ -28,20 +29,22 @@ fn zone_above(nodes: &Vec<Node>, order: &Order, n: u32) -> Option<u64>
     let _ = order;
     let mut m = n;
     'climb: while m != 0 {
-        if marked(&nodes[m as usize]) {
-            return Some(nodes[m as usize].row.id);
+        let row = nodes.row(m);
+        if marked(row) {
+            return Some(row.id);
         }
-        m = nodes[m as usize].parent;
+        m = nodes.link(m).parent;
     }
-    if marked(&nodes[0]) {
-        return Some(nodes[0].row.id);
+    let row = nodes.row(0);
+    if marked(row) {
+        return Some(row.id);
     }
     None
 }
 
 /// Returns the number of the row at the longest prefix of the first `names` names of a path that has
 /// a row. That row lies in the same zone as those names.
-fn standing(nodes: &Vec<Node>, order: &Order, hints: &Hints, path: &NPath, names: usize) -> u32
+fn standing(nodes: &Nodes, order: &Order, hints: &Hints, path: &NPath, names: usize) -> u32
     requires tree { (ids : ℕ → Option ℕ) × IsTree nodes.now.items order.now.items ids }
     requires names { names ≤ length path.now }
     ensures live { IsLive order.now.items result }
@@ -61,7 +64,7 @@ fn standing(nodes: &Vec<Node>, order: &Order, hints: &Hints, path: &NPath, names
 /// Returns the id of the deepest marked directory at the first `names` names of a path or above
 /// them.
 pub fn zone_at(
-    nodes: &Vec<Node>,
+    nodes: &Nodes,
     order: &Order,
     hints: &Hints,
     path: &NPath,

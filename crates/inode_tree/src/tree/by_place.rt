@@ -9,7 +9,8 @@ use super::Tree;
 use crate::climbs::{above, below, depth};
 use crate::hints::place;
 use crate::names::copy_of;
-use crate::rows::{Node, Row};
+use crate::nodes::Nodes;
+use crate::rows::Row;
 use hk_base::NoMemory;
 use name_calls::NPath;
 use std::alloc::Global;
@@ -28,7 +29,7 @@ impl Tree {
         requires { at < length self.now.rows }
         ensures { option_map (λ e. e.row) (slice_get self.now.rows at) ≡ Some result }
     {
-        self.nodes[self.order.get(at as usize) as usize].row
+        *self.nodes.row(self.order.get(at as usize))
     }
 
     /// Returns whether the path of the row at a place is the path or lies below it.
@@ -72,7 +73,7 @@ impl Tree {
 }
 
 /// Builds a path from the last `count` names of a node's path.
-fn build_last(alloc: Global, nodes: &Vec<Node>, n: u32, count: usize) -> Result<NPath, NoMemory>
+fn build_last(alloc: Global, nodes: &Nodes, n: u32, count: usize) -> Result<NPath, NoMemory>
     requires linked { IsLinked nodes.now.items }
     requires live { n < length nodes.now.items }
     requires rule { IsTrue (is_relative (path_of nodes.now.items n)) }
@@ -82,8 +83,8 @@ fn build_last(alloc: Global, nodes: &Vec<Node>, n: u32, count: usize) -> Result<
     if count == 0 {
         return Ok(NPath::root(alloc));
     }
-    let node = &nodes[n as usize];
-    let mut path = build_last(alloc, nodes, node.parent, count - 1)?;
-    path.push(copy_of(alloc, &node.name)?)?;
+    let link = nodes.link(n);
+    let mut path = build_last(alloc, nodes, link.parent, count - 1)?;
+    path.push(copy_of(alloc, &link.name)?)?;
     Ok(path)
 }

@@ -8,8 +8,9 @@ use super::{Tree, build};
 use crate::climbs::{depth, past};
 use crate::hints::{Hints, place};
 use crate::names::copy_of;
+use crate::nodes::Nodes;
 use crate::order::Order;
-use crate::rows::Node;
+use crate::rows::{Link, Row};
 use hk_base::NoMemory;
 use name_calls::{Child, ChildList, NPath};
 use std::alloc::Global;
@@ -28,7 +29,7 @@ impl Tree {
 /// Returns the children of a directory. Skips the rows below each child.
 fn list(
     alloc: Global,
-    nodes: &Vec<Node>,
+    nodes: &Nodes,
     order: &Order,
     hints: &Hints,
     path: &NPath,
@@ -42,7 +43,7 @@ fn list(
     'each: while at < end {
         let n = order.get(at);
         if depth(nodes, n) == path.len() + 1 {
-            push(alloc, &mut list, &nodes[n as usize])?;
+            push(alloc, &mut list, nodes.link(n), nodes.row(n))?;
             at = skip(alloc, nodes, order, at)?;
         } else {
             at += 1;
@@ -52,17 +53,17 @@ fn list(
 }
 
 /// Appends a node to the list of children.
-fn push(alloc: Global, list: &mut ChildList, node: &Node) -> Result<(), NoMemory>
-    ensures { OnOk result (list.new ≡ list.old ++ record { name = node.now.name; directory = is_dir node.now.row.kind } ∷ []) }
+fn push(alloc: Global, list: &mut ChildList, link: &Link, row: &Row) -> Result<(), NoMemory>
+    ensures { OnOk result (list.new ≡ list.old ++ record { name = link.now.name; directory = is_dir row.now.kind } ∷ []) }
 {
-    let name = copy_of(alloc, &node.name)?;
-    let directory = node.row.kind.is_dir();
+    let name = copy_of(alloc, &link.name)?;
+    let directory = row.kind.is_dir();
     list.push(Child { name, directory })?;
     Ok(())
 }
 
 /// Returns the place after a row and after all rows below it.
-fn skip(alloc: Global, nodes: &Vec<Node>, order: &Order, at: usize) -> Result<usize, NoMemory>
+fn skip(alloc: Global, nodes: &Nodes, order: &Order, at: usize) -> Result<usize, NoMemory>
     requires tree { (ids : ℕ → Option ℕ) × IsTree nodes.now.items order.now.items ids }
     requires at { at < length order.now.items }
     ensures { IfOk result (λ next. IsSkip nodes.now.items order.now.items at next) }
@@ -73,7 +74,7 @@ fn skip(alloc: Global, nodes: &Vec<Node>, order: &Order, at: usize) -> Result<us
         return Ok(next);
     }
     // the next row in path order lies directly in this row, or no row does
-    if nodes[order.get(next) as usize].parent != n {
+    if nodes.link(order.get(next)).parent != n {
         return Ok(next);
     }
     let path = build(alloc, nodes, n)?;

@@ -7,8 +7,8 @@ ghost use Rattle.name_calls.specs.Paths.{is_relative, names_text};
 use super::Tree;
 use crate::climbs::{depth, past};
 use crate::hints::{Hints, place};
+use crate::nodes::Nodes;
 use crate::order::Order;
-use crate::rows::Node;
 use name_calls::{MOST_BYTES, MOST_NAMES, NPath};
 
 impl Tree {
@@ -64,7 +64,7 @@ struct Longest {
 }
 
 /// Returns the number of bytes, in the text form, of the last `count` names of a node's path.
-fn last_size(nodes: &Vec<Node>, n: u32, count: usize) -> u16
+fn last_size(nodes: &Nodes, n: u32, count: usize) -> u16
     requires linked { IsLinked nodes.now.items }
     requires live { n < length nodes.now.items }
     requires rule { IsTrue (is_relative (path_of nodes.now.items n)) }
@@ -75,13 +75,13 @@ fn last_size(nodes: &Vec<Node>, n: u32, count: usize) -> u16
     if count == 0 {
         return 0;
     }
-    let node = &nodes[n as usize];
-    let above = last_size(nodes, node.parent, count - 1);
-    above + node.name.as_bytes().len() as u16 + 1
+    let link = nodes.link(n);
+    let above = last_size(nodes, link.parent, count - 1);
+    above + link.name.as_bytes().len() as u16 + 1
 }
 
 /// Returns the most bytes and the most names of a path from a path down to a row below it.
-fn scan(nodes: &Vec<Node>, order: &Order, hints: &Hints, path: &NPath) -> Longest
+fn scan(nodes: &Nodes, order: &Order, hints: &Hints, path: &NPath) -> Longest
     requires tree { (ids : ℕ → Option ℕ) × IsTree nodes.now.items order.now.items ids }
     ensures bytes { result.bytes ≡ most_bytes (rows_of nodes.now.items order.now.items) path.now }
     ensures names { result.names ≡ most_names (rows_of nodes.now.items order.now.items) path.now }

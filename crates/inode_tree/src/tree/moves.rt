@@ -9,9 +9,9 @@ ghost use Rattle.name_calls.specs.Paths.{last_name};
 use super::{Tree, last_len, make_room, seek};
 use crate::climbs::past;
 use crate::hints::{Hints, place};
-use crate::names::{NodeName, name_in};
+use crate::names::name_in;
+use crate::nodes::Nodes;
 use crate::order::Order;
-use crate::rows::Node;
 use hk_base::NoMemory;
 use name_calls::NPath;
 use std::alloc::Global;
@@ -71,7 +71,7 @@ impl Tree {
 }
 
 /// Moves the numbers of the rows at and below a path to the place of another path.
-fn shift(nodes: &Vec<Node>, order: &mut Order, hints: &Hints, path: &NPath, to: &NPath)
+fn shift(nodes: &Nodes, order: &mut Order, hints: &Hints, path: &NPath, to: &NPath)
     requires tree { (ids : ℕ → Option ℕ) × IsTree nodes.now.items order.old.items ids }
     requires can { CanMove (rows_of nodes.now.items order.old.items) path.now to.now }
     requires room { 0 < order.old.spare }
@@ -87,20 +87,10 @@ fn shift(nodes: &Vec<Node>, order: &mut Order, hints: &Hints, path: &NPath, to: 
     }
 }
 
-/// Gives a node another directory and another name.
-fn write_place(nodes: &mut Vec<Node>, n: u32, parent: u32, name: NodeName)
-    requires { n < length nodes.old.items }
-    ensures { nodes.new.items ≡ with_place nodes.old.items n parent name }
-{
-    let node = &mut nodes[n as usize];
-    node.parent = parent;
-    node.name = name;
-}
-
 /// Moves the row at a path, and all rows below it, to another path, in reserved memory.
 fn relocate(
     alloc: Global,
-    nodes: &mut Vec<Node>,
+    nodes: &mut Nodes,
     order: &mut Order,
     places: &HashMap<u64, u32>,
     free: &Vec<u32>,
@@ -131,5 +121,5 @@ fn relocate(
     shift(nodes, order, hints, path, to);
     let name = name_in(alloc, ready, to.name(upto));
     hints.note(parent, to.name(upto), n);
-    write_place(nodes, n, parent, name);
+    nodes.set_link(n, parent, name);
 }

@@ -8,7 +8,7 @@ ghost use Rattle.name_calls.specs.Paths.{is_relative};
 use super::Tree;
 use crate::climbs::depth;
 use crate::names::NodeName;
-use crate::rows::Node;
+use crate::nodes::Nodes;
 use hk_base::NoMemory;
 
 impl Tree {
@@ -29,7 +29,7 @@ impl Tree {
 }
 
 /// Appends the last `count` names of a node's path.
-fn write_last(nodes: &Vec<Node>, n: u32, count: usize, out: &mut Vec<u8>) -> Result<(), NoMemory>
+fn write_last(nodes: &Nodes, n: u32, count: usize, out: &mut Vec<u8>) -> Result<(), NoMemory>
     requires linked { IsLinked nodes.now.items }
     requires live { n < length nodes.now.items }
     requires rule { IsTrue (is_relative (path_of nodes.now.items n)) }
@@ -42,9 +42,9 @@ fn write_last(nodes: &Vec<Node>, n: u32, count: usize, out: &mut Vec<u8>) -> Res
     if count == 0 {
         return Ok(());
     }
-    let node = &nodes[n as usize];
-    write_last(nodes, node.parent, count - 1, out)?;
-    append_name(out, &node.name)?;
+    let link = nodes.link(n);
+    write_last(nodes, link.parent, count - 1, out)?;
+    append_name(out, &link.name)?;
     Ok(())
 }
 

@@ -9,8 +9,8 @@ ghost use Rattle.inode_tree.specs.Rows.{removed};
 use super::{Tree, blank_node};
 use crate::climbs::past;
 use crate::hints::{Hints, place};
+use crate::nodes::Nodes;
 use crate::order::Order;
-use crate::rows::Node;
 use name_calls::NPath;
 use std::collections::HashMap;
 
@@ -41,7 +41,7 @@ fn forget(places: &mut HashMap<u64, u32>, id: u64)
 
 /// Removes the row at the place `at`, which must not be the root or have children.
 fn take_out(
-    nodes: &mut Vec<Node>,
+    nodes: &mut Nodes,
     order: &mut Order,
     places: &mut HashMap<u64, u32>,
     free: &mut Vec<u32>,
@@ -53,16 +53,16 @@ fn take_out(
     ensures rows { rows_of nodes.new.items order.new.items ≡ remove (rows_of nodes.old.items order.old.items) at }
 {
     let n = order.get(at);
-    let id = nodes[n as usize].row.id;
+    let id = nodes.row(n).id;
     order.remove(at);
     forget(places, id);
-    nodes[n as usize] = blank_node();
+    nodes.set(n, blank_node());
     free.push_reserved(n);
 }
 
 /// Removes the row at a path and all rows below it, the last in path order first.
 fn clear(
-    nodes: &mut Vec<Node>,
+    nodes: &mut Nodes,
     order: &mut Order,
     places: &mut HashMap<u64, u32>,
     free: &mut Vec<u32>,

@@ -1,8 +1,9 @@
 use Rattle.std.proofs.Common.{arith, ◌∙◌, ◌≡◌, ◌≤◌, ◌<◌, ap, sym, subst, take, ℕ, ◌-◌, List, length}
-use Rattle.inode_tree.specs.Arena.{IsLive, node_at, path_of}
+use Rattle.inode_tree.specs.Arena.{IsLive, link_at, path_of}
+use Rattle.inode_tree.specs.declared.rows.Link.{Link}
 use Rattle.inode_tree.specs.declared.rows.Node.{Node}
 use Rattle.inode_tree.proofs.HintLemmas.{named-step}
-use Rattle.inode_tree.proofs.Ups.{node-default, path-root, step-from}
+use Rattle.inode_tree.proofs.Ups.{path-root, step-from}
 use Rattle.inode_tree.proofs.ZoneLemmas.{below-live, live-parent}
 use Rattle.inode_tree.proofs.hints.expected.Goals as goal
 
@@ -16,37 +17,37 @@ near_at-requires-clause-path c = path-root c.args.nodes.now.items
 pub near_at-requires-then-k-ne0-clause-path : goal.near_at-requires-then-k-ne0-clause-path
 near_at-requires-then-k-ne0-clause-path c = path-root c.args.nodes.now.items
 
-pub index-node-requires : goal.index-node-requires
-index-node-requires c = let h = below-live c.args.nodes.now.items c.args.order.now.items c.requires.tree.0 c.climb.m c.requires.tree.1 c.climb.invariant.live in omega arith
+pub link-link-requires : goal.link-link-requires
+link-link-requires c = let h = below-live c.args.nodes.now.items c.args.order.now.items c.requires.tree.0 c.climb.m c.requires.tree.1 c.climb.invariant.live in omega arith
 
 pub climb-smaller : goal.climb-smaller
 climb-smaller c =
     let h = below-live c.args.nodes.now.items c.args.order.now.items c.requires.tree.0 c.climb.m c.requires.tree.1 c.climb.invariant.live in
-    let step = step-from c.args.nodes.now.items c.requires.tree.1.linked c.climb.m c.index-node.result.now h c.climb-test.true c.index-node.ensures in omega arith
+    let step = step-from c.args.nodes.now.items c.requires.tree.1.linked c.climb.m c.link-link.result.now h c.climb-test.true c.link-link.ensures in omega arith
 
 pub climb-smaller-then-not-has_name : goal.climb-smaller-then-not-has_name
 climb-smaller-then-not-has_name c =
     let h = below-live c.args.nodes.now.items c.args.order.now.items c.requires.tree.0 c.climb.m c.requires.tree.1 c.climb.invariant.live in
-    let step = step-from c.args.nodes.now.items c.requires.tree.1.linked c.climb.m c.index-node.result.now h c.climb-test.true c.index-node.ensures in omega arith
+    let step = step-from c.args.nodes.now.items c.requires.tree.1.linked c.climb.m c.link-link.result.now h c.climb-test.true c.link-link.ensures in omega arith
 
 pub climb-preserved : goal.climb-preserved
 climb-preserved c =
     let h = below-live c.args.nodes.now.items c.args.order.now.items c.requires.tree.0 c.climb.m c.requires.tree.1 c.climb.invariant.live in
-    let node : c.index-node.result.now ≡ node_at c.args.nodes.now.items c.climb.m = node-default c.args.nodes.now.items c.climb.m c.index-node.result.now h c.index-node.ensures in
+    let link : c.link-link.result.now ≡ link_at c.args.nodes.now.items c.climb.m = c.link-link.ensures in
     let some : 0 < c.climb.k = let z = c.if-k-eq0.false in omega arith in
     let named = c.has_name.ensures c.if-not-has_name.false in
     let within : c.climb.k - 1 < length c.args.path.now = let u = c.requires.upto in let n = named.0 in omega arith in
     record {
-      live = subst (λ (x : Node). IsLive c.args.order.now.items x.parent) (sym node) (live-parent c.args.nodes.now.items c.args.order.now.items c.requires.tree.0 c.climb.m c.requires.tree.1 c.climb.invariant.live);
+      live = subst (λ (x : Link). IsLive c.args.order.now.items x.parent) (sym link) (live-parent c.args.nodes.now.items c.args.order.now.items c.requires.tree.0 c.climb.m c.requires.tree.1 c.climb.invariant.live);
       found = c.climb.invariant.found;
-      path = λ e b. c.climb.invariant.path (named-step c.args.nodes.now.items c.args.order.now.items c.requires.tree.0 c.requires.tree.1 c.climb.m c.climb.k c.index-node.result.now c.args.path.now h c.climb-test.true c.index-node.ensures some within named.1 e) (let n = named.0 in omega arith);
+      path = λ e b. c.climb.invariant.path (named-step c.args.nodes.now.items c.args.order.now.items c.requires.tree.0 c.requires.tree.1 c.climb.m c.climb.k c.link-link.result.now c.args.path.now h c.climb-test.true c.link-link.ensures some within named.1 e) (let n = named.0 in omega arith);
     }
 
 pub climb-preserved-then-not-has_name : goal.climb-preserved-then-not-has_name
 climb-preserved-then-not-has_name c =
     let h = below-live c.args.nodes.now.items c.args.order.now.items c.requires.tree.0 c.climb.m c.requires.tree.1 c.climb.invariant.live in
-    let node : c.index-node.result.now ≡ node_at c.args.nodes.now.items c.climb.m = node-default c.args.nodes.now.items c.climb.m c.index-node.result.now h c.index-node.ensures in
-    let live = subst (λ (x : Node). IsLive c.args.order.now.items x.parent) (sym node) (live-parent c.args.nodes.now.items c.args.order.now.items c.requires.tree.0 c.climb.m c.requires.tree.1 c.climb.invariant.live) in
+    let link : c.link-link.result.now ≡ link_at c.args.nodes.now.items c.climb.m = c.link-link.ensures in
+    let live = subst (λ (x : Link). IsLive c.args.order.now.items x.parent) (sym link) (live-parent c.args.nodes.now.items c.args.order.now.items c.requires.tree.0 c.climb.m c.requires.tree.1 c.climb.invariant.live) in
     record { live = live; found = live; path = λ e b. (e, b) }
 
 pub near_at-requires-2-clause-path : goal.near_at-requires-2-clause-path

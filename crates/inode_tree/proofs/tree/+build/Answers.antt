@@ -10,14 +10,14 @@ returns-then-n-eq0 t c = c.root.ensures ∙ sym (path-root c.args.nodes.now.item
 
 pub build-requires : goal.build-requires
 build-requires t c =
-    let step = step-from c.args.nodes.now.items c.requires.linked c.args.n c.index-node.result.now c.requires.live c.if-n-eq0.false c.index-node.ensures in (
+    let step = step-from c.args.nodes.now.items c.requires.linked c.args.n c.link-link.result.now c.requires.live c.if-n-eq0.false c.link-link.ensures in (
       omega arith,
       (
         c.requires.linked,
         (
-          below-from c.args.nodes.now.items c.requires.linked c.args.n c.index-node.result.now c.requires.live c.index-node.ensures,
-          relative-front (path_of c.args.nodes.now.items c.index-node.result.now.parent) c.index-node.result.now.name
-              (ap is_relative (sym (full-from c.args.nodes.now.items c.requires.linked c.args.n c.index-node.result.now c.requires.live c.if-n-eq0.false c.index-node.ensures)) ∙ c.requires.rule),
+          below-from c.args.nodes.now.items c.requires.linked c.args.n c.link-link.result.now c.requires.live c.link-link.ensures,
+          relative-front (path_of c.args.nodes.now.items c.link-link.result.now.parent) c.link-link.result.now.name
+              (ap is_relative (sym (full-from c.args.nodes.now.items c.requires.linked c.args.n c.link-link.result.now c.requires.live c.if-n-eq0.false c.link-link.ensures)) ∙ c.requires.rule),
         ),
       ),
     )

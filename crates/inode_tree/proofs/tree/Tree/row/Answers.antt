@@ -3,10 +3,10 @@ use Rattle.std.specs.HashMap.{get}
 use Rattle.std.specs.Bool.{nat_eq}
 use Rattle.inode_tree.specs.Arena.{IsTree, node_at, entry_at, rows_of}
 use Rattle.inode_tree.specs.Rows.{entry_of}
-use Rattle.inode_tree.proofs.Ups.{node-default}
 use Rattle.inode_tree.proofs.Trees.{entry-number, id-below}
 use Rattle.std.specs.Option.{option_map}
 use Rattle.inode_tree.specs.declared.rows.Node.{Node}
+use Rattle.inode_tree.specs.declared.rows.Row.{Row}
 use Rattle.inode_tree.specs.Rows.{Entry}
 use Rattle.inode_tree.specs.Rows.{TreeState}
 use Rattle.inode_tree.proofs.tree.Tree.row.Goals as goal
@@ -18,13 +18,12 @@ held ns order ids id o t e = merge o ∙ sym (ap (option_map (λ (e : Entry). e.
     merge None = refl
     merge (Some n) = refl
 
-pub index-requires : goal.index-requires
-index-requires c = let h = id-below c.self.inside.nodes.items c.self.inside.order.items (get nat_eq c.self.inside.places) c.args.id c.in-Some.n.now c.self.invariant.0.tree (sym c.in-Some.ensures.value) in omega arith
+pub row-requires : goal.row-requires
+row-requires c = let h = id-below c.self.inside.nodes.items c.self.inside.order.items (get nat_eq c.self.inside.places) c.args.id c.in-Some.n.now c.self.invariant.0.tree (sym c.in-Some.ensures.value) in omega arith
 
 pub returns-in-Some : goal.returns-in-Some
 returns-in-Some c =
-    let below = id-below c.self.inside.nodes.items c.self.inside.order.items (get nat_eq c.self.inside.places) c.args.id c.in-Some.n.now c.self.invariant.0.tree (sym c.in-Some.ensures.value) in
-    ap (λ (x : Node). Some x.row) (node-default c.self.inside.nodes.items c.in-Some.n.now c.index.result.now below c.index.ensures)
+    ap (λ (r : Row). Some r) c.row.ensures
     ∙ held c.self.inside.nodes.items c.self.inside.order.items (get nat_eq c.self.inside.places) c.args.id (Some c.in-Some.n.now) c.self.invariant.0.tree c.in-Some.ensures.value
     ∙ ap (λ (k : List Entry). option_map (λ (e : Entry). e.row) (entry_of k c.args.id)) (ap (λ (s : TreeState). s.rows) c.self.view_is)
 

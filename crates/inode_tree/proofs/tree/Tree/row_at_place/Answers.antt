@@ -1,11 +1,8 @@
-use Rattle.std.proofs.Common.{◌∙◌, ◌<◌, ℕ, List, ap, sym, subst, length}
+use Rattle.std.proofs.Common.{◌∙◌, ◌<◌, List, ap, sym, length}
 use Rattle.std.specs.Prelude.{slice_get}
 use Rattle.std.specs.Option.{option_map}
 use Rattle.inode_tree.specs.Rows.{Entry}
-use Rattle.inode_tree.specs.declared.rows.Node.{Node}
 use Rattle.inode_tree.proofs.Places.{at-place, live-at}
-use Rattle.inode_tree.proofs.Ranks.{within-at}
-use Rattle.inode_tree.proofs.Ups.{node-default}
 use Rattle.inode_tree.specs.Rows.{TreeState}
 use Rattle.inode_tree.proofs.tree.Tree.row_at_place.Goals as goal
 
@@ -13,5 +10,5 @@ pub returns : goal.returns
 returns c =
     let at : c.args.at < length c.self.inside.order.items = live-at _ _ c.args.self.now.rows c.args.at (ap (λ (s : TreeState). s.rows) c.self.view_is) c.requires in
     ap (λ (rows : List Entry). option_map (λ (e : Entry). e.row) (slice_get rows c.args.at)) (sym (ap (λ (s : TreeState). s.rows) c.self.view_is))
-    ∙ at-place (λ (e : Entry). e.row) c.self.inside.nodes.items c.self.inside.order.items c.args.at c.get.result c.index.result.now.row at c.get.ensures
-    (ap (λ (x : Node). x.row) (node-default c.self.inside.nodes.items c.get.result c.index.result.now (subst (λ (k : ℕ). k < length c.self.inside.nodes.items) (sym c.get.ensures) (within-at _ _ _ c.self.invariant.0.tree.within at)) c.index.ensures))
+    ∙ at-place (λ (e : Entry). e.row) c.self.inside.nodes.items c.self.inside.order.items c.args.at c.get.result c.row.result.now at c.get.ensures
+    c.row.ensures

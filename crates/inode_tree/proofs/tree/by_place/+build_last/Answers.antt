@@ -1,14 +1,15 @@
-use Rattle.std.proofs.Common.{get_or, ◌≡◌, ◌∙◌, ◌<◌, ◌≤◌, ◌-◌, ◌++◌, ◌∷◌, [], ℕ, List, ap, sym, arith, length, drop}
+use Rattle.std.proofs.Common.{◌≡◌, ◌∙◌, ◌<◌, ◌≤◌, ◌-◌, ◌++◌, ◌∷◌, [], ℕ, List, ap, sym, arith, length, drop}
 use Rattle.inode_tree.specs.Arena.{path_of}
 use Rattle.name_calls.specs.Paths.{is_relative}
+use Rattle.inode_tree.specs.declared.rows.Link.{Link}
 use Rattle.inode_tree.specs.declared.rows.Node.{Node}
-use Rattle.inode_tree.specs.Arena.{IsLinked}
+use Rattle.inode_tree.specs.Arena.{IsLinked, link_at}
 use Rattle.name_calls.proofs.PathLemmas.{relative-front}
 use Rattle.inode_tree.proofs.Places.{last-names, relative-drop}
 use Rattle.inode_tree.proofs.Ups.{below-from, full-from, length-root, step-from}
 use Rattle.inode_tree.proofs.tree.by_place.+build_last.Goals as goal
 
-module _ (ns : List Node) (l : IsLinked ns) (n count : ℕ) (x : Node) (below : n < length ns) (e : x ≡ get_or ns n x) (some : count ≡ 0 → ⊥) (most : count ≤ length (path_of ns n)) where
+module _ (ns : List Node) (l : IsLinked ns) (n count : ℕ) (x : Link) (below : n < length ns) (e : x ≡ link_at ns n) (some : count ≡ 0 → ⊥) (most : count ≤ length (path_of ns n)) where
   deep : n ≡ 0 → ⊥
   deep z = some (let i = length-root ns n z in omega arith)
 
@@ -30,11 +31,11 @@ build_last-requires t c = (
   (
     c.requires.linked,
     (
-      below-from c.args.nodes.now.items c.requires.linked c.args.n c.index-node.result.now c.requires.live c.index-node.ensures,
+      below-from c.args.nodes.now.items c.requires.linked c.args.n c.link-link.result.now c.requires.live c.link-link.ensures,
       (
-        relative-front (path_of c.args.nodes.now.items c.index-node.result.now.parent) c.index-node.result.now.name
-            (ap is_relative (sym (full c.args.nodes.now.items c.requires.linked c.args.n c.args.count c.index-node.result.now c.requires.live c.index-node.ensures c.if-count-eq0.false c.requires.count)) ∙ c.requires.rule),
-        shorter c.args.nodes.now.items c.requires.linked c.args.n c.args.count c.index-node.result.now c.requires.live c.index-node.ensures c.if-count-eq0.false c.requires.count,
+        relative-front (path_of c.args.nodes.now.items c.link-link.result.now.parent) c.link-link.result.now.name
+            (ap is_relative (sym (full c.args.nodes.now.items c.requires.linked c.args.n c.args.count c.link-link.result.now c.requires.live c.link-link.ensures c.if-count-eq0.false c.requires.count)) ∙ c.requires.rule),
+        shorter c.args.nodes.now.items c.requires.linked c.args.n c.args.count c.link-link.result.now c.requires.live c.link-link.ensures c.if-count-eq0.false c.requires.count,
       ),
     ),
   ),
@@ -42,12 +43,12 @@ build_last-requires t c = (
 
 pub push-requires : goal.push-requires
 push-requires t c =
-    ap is_relative (ap (λ (p : List (List ℕ)). p ++ c.in_ok-copy_of.field-0 ∷ []) c.in_ok-path.ensures ∙ ap (λ (x : List ℕ). drop (length (path_of c.args.nodes.now.items c.index-node.result.now.parent) - (c.args.count - 1)) (path_of c.args.nodes.now.items c.index-node.result.now.parent) ++ x ∷ []) c.in_ok-copy_of.ensures
-    ∙ sym (split c.args.nodes.now.items c.requires.linked c.args.n c.args.count c.index-node.result.now c.requires.live c.index-node.ensures c.if-count-eq0.false c.requires.count))
+    ap is_relative (ap (λ (p : List (List ℕ)). p ++ c.in_ok-copy_of.field-0 ∷ []) c.in_ok-path.ensures ∙ ap (λ (x : List ℕ). drop (length (path_of c.args.nodes.now.items c.link-link.result.now.parent) - (c.args.count - 1)) (path_of c.args.nodes.now.items c.link-link.result.now.parent) ++ x ∷ []) c.in_ok-copy_of.ensures
+    ∙ sym (split c.args.nodes.now.items c.requires.linked c.args.n c.args.count c.link-link.result.now c.requires.live c.link-link.ensures c.if-count-eq0.false c.requires.count))
     ∙ relative-drop (length (path_of c.args.nodes.now.items c.args.n) - c.args.count) (path_of c.args.nodes.now.items c.args.n) c.requires.rule
 
 pub returns : goal.returns
 returns t c =
     c.in_ok-push.ensures.ok
-    ∙ ap (λ (p : List (List ℕ)). p ++ c.in_ok-copy_of.field-0 ∷ []) c.in_ok-path.ensures ∙ ap (λ (x : List ℕ). drop (length (path_of c.args.nodes.now.items c.index-node.result.now.parent) - (c.args.count - 1)) (path_of c.args.nodes.now.items c.index-node.result.now.parent) ++ x ∷ []) c.in_ok-copy_of.ensures
-    ∙ sym (split c.args.nodes.now.items c.requires.linked c.args.n c.args.count c.index-node.result.now c.requires.live c.index-node.ensures c.if-count-eq0.false c.requires.count)
+    ∙ ap (λ (p : List (List ℕ)). p ++ c.in_ok-copy_of.field-0 ∷ []) c.in_ok-path.ensures ∙ ap (λ (x : List ℕ). drop (length (path_of c.args.nodes.now.items c.link-link.result.now.parent) - (c.args.count - 1)) (path_of c.args.nodes.now.items c.link-link.result.now.parent) ++ x ∷ []) c.in_ok-copy_of.ensures
+    ∙ sym (split c.args.nodes.now.items c.requires.linked c.args.n c.args.count c.link-link.result.now c.requires.live c.link-link.ensures c.if-count-eq0.false c.requires.count)

@@ -1,14 +1,15 @@
-use Rattle.std.proofs.Common.{arith, ◌≡◌, ◌∙◌, ◌<◌, ◌+◌, ◌++◌, ◌∷◌, [], ℕ, List, length, get_or, sym, ap, subst, take_all, drop, append_assoc}
+use Rattle.std.proofs.Common.{arith, ◌≡◌, ◌∙◌, ◌<◌, ◌+◌, ◌++◌, ◌∷◌, [], ℕ, List, length, get_or, sym, ap, take_all, drop, append_assoc}
 use Rattle.std.proofs.lemmas.List.{append-nil}
+use Rattle.inode_tree.specs.declared.rows.Link.{Link}
 use Rattle.inode_tree.specs.declared.rows.Node.{Node}
+use Rattle.inode_tree.specs.declared.rows.Row.{Row}
 use Rattle.name_calls.specs.declared.listing.Child.{Child}
-use Rattle.inode_tree.specs.Arena.{IsSkip, node_at, path_of, rank, rank_past, rows_of}
+use Rattle.inode_tree.specs.Arena.{IsSkip, link_at, node_at, path_of, rank, rank_past, rows_of}
 use Rattle.inode_tree.specs.Listing.{children}
 use Rattle.inode_tree.specs.Rows.{is_dir}
 use Rattle.inode_tree.proofs.Listings.{children-past, children-rank, passed, taken}
 use Rattle.inode_tree.proofs.Pasts.{past-most, rank-past}
-use Rattle.inode_tree.proofs.Ranks.{length-rows, within-at}
-use Rattle.inode_tree.proofs.Ups.{node-default}
+use Rattle.inode_tree.proofs.Ranks.{length-rows}
 use Rattle.inode_tree.proofs.tree.children.list.Goals as goal
 
 -- a place before the last below the path
@@ -58,12 +59,12 @@ each-preserved-then-depth-len c =
     let skip : IsSkip c.args.nodes.now.items c.args.order.now.items c.each.at c.in_ok-at.at = c.in_ok-at.ensures in
     let long : length (path_of c.args.nodes.now.items (get_or c.args.order.now.items c.each.at 0)) ≡ length c.args.path.now + 1 =
     ap (λ (m : ℕ). length (path_of c.args.nodes.now.items m)) (sym c.get-n.ensures) ∙ sym c.depth.ensures ∙ c.if-depth-len.true ∙ ap (λ (k : ℕ). k + 1) c.len-in-each.ensures.len in
-    let live : c.get-n.result < length c.args.nodes.now.items = subst (λ (m : ℕ). m < length c.args.nodes.now.items) (sym c.get-n.ensures) (within-at _ _ _ c.requires.tree.1.within within) in
-    let node : c.index.result.now ≡ node_at c.args.nodes.now.items (get_or c.args.order.now.items c.each.at 0) = node-default c.args.nodes.now.items c.get-n.result c.index.result.now live c.index.ensures ∙ ap (node_at c.args.nodes.now.items) c.get-n.ensures in
+    let link : c.link.result.now ≡ link_at c.args.nodes.now.items (get_or c.args.order.now.items c.each.at 0) = c.link.ensures ∙ ap (link_at c.args.nodes.now.items) c.get-n.ensures in
+    let row : c.row.result.now ≡ (node_at c.args.nodes.now.items (get_or c.args.order.now.items c.each.at 0)).row = c.row.ensures ∙ ap (λ (m : ℕ). (node_at c.args.nodes.now.items m).row) c.get-n.ensures in
     record {
       low = let l = c.each.invariant.low in let a = skip.after in omega arith;
-      rest = with-child c.each.list c.push.new.list (children (drop c.in_ok-at.at (rows_of c.args.nodes.now.items c.args.order.now.items)) c.args.path.now) _ (record { name = c.index.result.now.name; directory = is_dir c.index.result.now.row.kind }) _ c.in_ok-push.ensures
-          (ap (λ (x : Node). record { name = x.name; directory = is_dir x.row.kind }) node)
+      rest = with-child c.each.list c.push.new.list (children (drop c.in_ok-at.at (rows_of c.args.nodes.now.items c.args.order.now.items)) c.args.path.now) _ (record { name = c.link.result.now.name; directory = is_dir c.row.result.now.kind }) _ c.in_ok-push.ensures
+          (ap (λ (x : Link). record { name = x.name; directory = is_dir c.row.result.now.kind }) link ∙ ap (λ (x : Row). record { name = (node_at c.args.nodes.now.items (get_or c.args.order.now.items c.each.at 0)).name; directory = is_dir x.kind }) row)
           (ap (λ (cs : List Child). c.each.list ++ cs) (sym (taken c.args.nodes.now.items c.args.order.now.items c.requires.tree.0 c.requires.tree.1 c.each.at within c.args.path.now c.each.invariant.low high c.in_ok-at.at skip long)) ∙ c.each.invariant.rest);
     }
 

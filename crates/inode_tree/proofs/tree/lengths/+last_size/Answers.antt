@@ -1,5 +1,6 @@
-use Rattle.std.proofs.Common.{get_or, ◌≡◌, ◌∙◌, ◌<◌, ◌≤◌, ◌+◌, ◌-◌, ◌++◌, ◌∷◌, [], ℕ, List, ap, sym, arith, drop, length, refl, true}
-use Rattle.inode_tree.specs.Arena.{IsLinked, path_of}
+use Rattle.std.proofs.Common.{◌≡◌, ◌∙◌, ◌<◌, ◌≤◌, ◌+◌, ◌-◌, ◌++◌, ◌∷◌, [], ℕ, List, ap, sym, arith, drop, length, refl, true}
+use Rattle.inode_tree.specs.Arena.{IsLinked, link_at, path_of}
+use Rattle.inode_tree.specs.declared.rows.Link.{Link}
 use Rattle.inode_tree.specs.declared.rows.Node.{Node}
 use Rattle.name_calls.specs.Paths.{is_relative, names_text}
 use Rattle.name_calls.proofs.PathLemmas.{relative-front}
@@ -7,7 +8,7 @@ use Rattle.inode_tree.proofs.MovedLengths.{short-text, size-more}
 use Rattle.inode_tree.proofs.Ups.{below-from, full-from, length-root, step-from}
 use Rattle.inode_tree.proofs.tree.lengths.+last_size.Goals as goal
 
-module _ (ns : List Node) (l : IsLinked ns) (n count : ℕ) (x : Node) (below : n < length ns) (e : x ≡ get_or ns n x) (some : count ≡ 0 → ⊥) (most : count ≤ length (path_of ns n)) where
+module _ (ns : List Node) (l : IsLinked ns) (n count : ℕ) (x : Link) (below : n < length ns) (e : x ≡ link_at ns n) (some : count ≡ 0 → ⊥) (most : count ≤ length (path_of ns n)) where
   deep : n ≡ 0 → ⊥
   deep z = some (let i = length-root ns n z in omega arith)
 
@@ -35,10 +36,10 @@ last_size-above-requires t c = (
   (
     c.requires.linked,
     (
-      below-from c.args.nodes.now.items c.requires.linked c.args.n c.index-node.result.now c.requires.live c.index-node.ensures,
+      below-from c.args.nodes.now.items c.requires.linked c.args.n c.link-link.result.now c.requires.live c.link-link.ensures,
       (
-        ruled c.args.nodes.now.items c.requires.linked c.args.n c.args.count c.index-node.result.now c.requires.live c.index-node.ensures c.if-count-eq0.false c.requires.count c.requires.rule,
-        shorter c.args.nodes.now.items c.requires.linked c.args.n c.args.count c.index-node.result.now c.requires.live c.index-node.ensures c.if-count-eq0.false c.requires.count,
+        ruled c.args.nodes.now.items c.requires.linked c.args.n c.args.count c.link-link.result.now c.requires.live c.link-link.ensures c.if-count-eq0.false c.requires.count c.requires.rule,
+        shorter c.args.nodes.now.items c.requires.linked c.args.n c.args.count c.link-link.result.now c.requires.live c.link-link.ensures c.if-count-eq0.false c.requires.count,
       ),
     ),
   ),
@@ -46,23 +47,23 @@ last_size-above-requires t c = (
 
 pub overflow_cast-result : goal.overflow_cast-result
 overflow_cast-result t c =
-    let b = bound c.args.nodes.now.items c.requires.linked c.args.n c.args.count c.index-node.result.now c.requires.live c.index-node.ensures c.if-count-eq0.false c.requires.count
+    let b = bound c.args.nodes.now.items c.requires.linked c.args.n c.args.count c.link-link.result.now c.requires.live c.link-link.ensures c.if-count-eq0.false c.requires.count
     c.last_size-above.result (length c.as_bytes.result.now) c.as_bytes.result.now c.requires.rule c.last_size-above.ensures.size c.as_bytes.ensures.bytes refl in omega arith
 
 pub overflow_add-result : goal.overflow_add-result
 overflow_add-result t c =
-    let b = bound c.args.nodes.now.items c.requires.linked c.args.n c.args.count c.index-node.result.now c.requires.live c.index-node.ensures c.if-count-eq0.false c.requires.count
+    let b = bound c.args.nodes.now.items c.requires.linked c.args.n c.args.count c.link-link.result.now c.requires.live c.link-link.ensures c.if-count-eq0.false c.requires.count
     c.last_size-above.result (length c.as_bytes.result.now) c.as_bytes.result.now c.requires.rule c.last_size-above.ensures.size c.as_bytes.ensures.bytes refl in omega arith
 
 pub overflow_add-result-2 : goal.overflow_add-result-2
 overflow_add-result-2 t c =
-    let b = bound c.args.nodes.now.items c.requires.linked c.args.n c.args.count c.index-node.result.now c.requires.live c.index-node.ensures c.if-count-eq0.false c.requires.count
+    let b = bound c.args.nodes.now.items c.requires.linked c.args.n c.args.count c.link-link.result.now c.requires.live c.link-link.ensures c.if-count-eq0.false c.requires.count
     c.last_size-above.result (length c.as_bytes.result.now) c.as_bytes.result.now c.requires.rule c.last_size-above.ensures.size c.as_bytes.ensures.bytes refl in omega arith
 
 pub returns-clause-size : goal.returns-clause-size
-returns-clause-size t c = size c.args.nodes.now.items c.requires.linked c.args.n c.args.count c.index-node.result.now c.requires.live c.index-node.ensures c.if-count-eq0.false c.requires.count
+returns-clause-size t c = size c.args.nodes.now.items c.requires.linked c.args.n c.args.count c.link-link.result.now c.requires.live c.link-link.ensures c.if-count-eq0.false c.requires.count
     c.last_size-above.result (length c.as_bytes.result.now) c.as_bytes.result.now c.last_size-above.ensures.size c.as_bytes.ensures.bytes refl
 
 pub returns-clause-most : goal.returns-clause-most
-returns-clause-most t c = bound c.args.nodes.now.items c.requires.linked c.args.n c.args.count c.index-node.result.now c.requires.live c.index-node.ensures c.if-count-eq0.false c.requires.count
+returns-clause-most t c = bound c.args.nodes.now.items c.requires.linked c.args.n c.args.count c.link-link.result.now c.requires.live c.link-link.ensures c.if-count-eq0.false c.requires.count
     c.last_size-above.result (length c.as_bytes.result.now) c.as_bytes.result.now c.requires.rule c.last_size-above.ensures.size c.as_bytes.ensures.bytes refl

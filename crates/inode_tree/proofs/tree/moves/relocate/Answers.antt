@@ -44,8 +44,8 @@ free-is ns ns' order order' free e f t = subst (λ (xs : List Node). IsFree xs o
 length-placed : (ns ns' : List Node) (n h : ℕ) (name : List ℕ) → ns' ≡ with_place ns n h name → length ns' ≡ length ns
 length-placed ns ns' n h name e = ap length e ∙ length-set ns n (record { parent = h; name = name; row = (node_at ns n).row })
 
-pub write_place-requires : goal.write_place-requires
-write_place-requires c =
+pub set_link-requires : goal.set_link-requires
+set_link-requires c =
     node-below c.args.nodes.now.items c.args.order.now.items _ c.requires.kept.tree c.args.path.now c.args.to.now c.requires.can c.len-upto.ensures.rule c.in-Some.n c.in-Some-seek.n
     (found c.args.nodes.now.items c.args.order.now.items c.args.path.now c.len.result c.in-Some.n c.seek.result c.len.ensures.len c.seek.ensures c.in-Some.is)
     (into c.args.nodes.now.items c.args.order.now.items c.args.to.now c.len-upto.result c.in-Some-seek.n c.seek-2.result c.len-upto.ensures.len c.seek-2.ensures c.in-Some-seek.is)
@@ -55,11 +55,11 @@ returns-clause-kept c =
     let w = moves c.args.nodes.now.items c.args.order.now.items _ c.requires.kept.tree c.args.path.now c.args.to.now c.requires.can c.len-upto.ensures.rule c.in-Some.n c.in-Some-seek.n
     (found c.args.nodes.now.items c.args.order.now.items c.args.path.now c.len.result c.in-Some.n c.seek.result c.len.ensures.len c.seek.ensures c.in-Some.is)
     (into c.args.nodes.now.items c.args.order.now.items c.args.to.now c.len-upto.result c.in-Some-seek.n c.seek-2.result c.len-upto.ensures.len c.seek-2.ensures c.in-Some-seek.is) in
-    let e = placed c.args.nodes.now.items c.write_place.new.nodes.items c.in-Some.n c.in-Some-seek.n c.len-upto.result c.args.to.now c.name_in-name.result c.name.result.now c.write_place.ensures c.name_in-name.ensures.name c.name.ensures c.len-upto.ensures.len in
+    let e = placed c.args.nodes.now.items c.set_link.new.self.items c.in-Some.n c.in-Some-seek.n c.len-upto.result c.args.to.now c.name_in-name.result c.name.result.now c.set_link.ensures c.name_in-name.ensures.name c.name.ensures c.len-upto.ensures.len in
     record {
-      tree = tree-is c.write_place.new.nodes.items _ c.shift.new.order.items _ (get nat_eq c.args.places.now) e c.shift.ensures w.tree;
-      free = free-is c.write_place.new.nodes.items _ c.shift.new.order.items _ c.args.free.now.items e c.shift.ensures (w.free c.args.free.now.items c.requires.kept.free);
-      capacity = let k = c.requires.kept.capacity in let l = length-placed c.args.nodes.now.items c.write_place.new.nodes.items c.in-Some.n c.in-Some-seek.n (get_or c.args.to.now (length c.args.to.now - 1) []) e in omega arith;
+      tree = tree-is c.set_link.new.self.items _ c.shift.new.order.items _ (get nat_eq c.args.places.now) e c.shift.ensures w.tree;
+      free = free-is c.set_link.new.self.items _ c.shift.new.order.items _ c.args.free.now.items e c.shift.ensures (w.free c.args.free.now.items c.requires.kept.free);
+      capacity = let k = c.requires.kept.capacity in let l = length-placed c.args.nodes.now.items c.set_link.new.self.items c.in-Some.n c.in-Some-seek.n (get_or c.args.to.now (length c.args.to.now - 1) []) e in omega arith;
     }
 
 pub returns-clause-rows : goal.returns-clause-rows
@@ -67,5 +67,5 @@ returns-clause-rows c =
     let w = moves c.args.nodes.now.items c.args.order.now.items _ c.requires.kept.tree c.args.path.now c.args.to.now c.requires.can c.len-upto.ensures.rule c.in-Some.n c.in-Some-seek.n
     (found c.args.nodes.now.items c.args.order.now.items c.args.path.now c.len.result c.in-Some.n c.seek.result c.len.ensures.len c.seek.ensures c.in-Some.is)
     (into c.args.nodes.now.items c.args.order.now.items c.args.to.now c.len-upto.result c.in-Some-seek.n c.seek-2.result c.len-upto.ensures.len c.seek-2.ensures c.in-Some-seek.is) in
-    let e = placed c.args.nodes.now.items c.write_place.new.nodes.items c.in-Some.n c.in-Some-seek.n c.len-upto.result c.args.to.now c.name_in-name.result c.name.result.now c.write_place.ensures c.name_in-name.ensures.name c.name.ensures c.len-upto.ensures.len in
+    let e = placed c.args.nodes.now.items c.set_link.new.self.items c.in-Some.n c.in-Some-seek.n c.len-upto.result c.args.to.now c.name_in-name.result c.name.result.now c.set_link.ensures c.name_in-name.ensures.name c.name.ensures c.len-upto.ensures.len in
     ap (λ (ns : List Node). rows_of ns c.shift.new.order.items) e ∙ ap (rows_of (with_place c.args.nodes.now.items c.in-Some.n c.in-Some-seek.n (get_or c.args.to.now (length c.args.to.now - 1) []))) c.shift.ensures ∙ w.rows
