@@ -134,6 +134,14 @@ allowed_above rows allowed p = list_any (λ id. at_or_above rows id p && not (at
 abbrev pub allowed_below : List Entry → List ℕ → List (List ℕ) → Bool
 allowed_below rows allowed p = list_any (λ id. at_or_below rows id p && not (at_or_above rows id p)) allowed
 
+-- a directory that may have snapshots is at the path or below it
+abbrev pub allowed_at_or_below : List Entry → List ℕ → List (List ℕ) → Bool
+allowed_at_or_below rows allowed p = list_any (λ id. at_or_below rows id p) allowed
+
+-- or at it or above it
+abbrev pub allowed_at_or_above : List Entry → List ℕ → List (List ℕ) → Bool
+allowed_at_or_above rows allowed p = list_any (λ id. at_or_above rows id p) allowed
+
 -- the ids without those of directories at the path or below it
 abbrev pub without_below : List Entry → List (List ℕ) → List ℕ → List ℕ
 without_below rows p ids = filter (λ id. not (at_or_below rows id p)) ids

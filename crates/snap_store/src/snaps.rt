@@ -7,7 +7,7 @@ ghost use Rattle.std.specs.Ordering.{is_lt, nat_cmp};
 ghost use Rattle.inode_tree.specs.Below.{at_or_above, at_or_below};
 ghost use Rattle.inode_tree.specs.Rows.{entry_of, row_at};
 ghost use Rattle.snap_store.specs.Ordered.{IsRisingBy};
-ghost use Rattle.snap_store.specs.Snapshots.{IsReady, IsSnapshots, allowed_above, allowed_below, count_in, count_of, holds_snapshot, is_among, is_named, key_of, list_in, names_of, no_snaps, put_snapshot, rows_in, snapshot_cmp, snapshot_named, table_after_allow, table_after_disallow, table_after_disallow_below, table_after_remove, table_after_take, with_id, without_below, without_id, without_snapshot, zone_depth};
+ghost use Rattle.snap_store.specs.Snapshots.{IsReady, IsSnapshots, allowed_above, allowed_at_or_above, allowed_at_or_below, allowed_below, count_in, count_of, holds_snapshot, is_among, is_named, key_of, list_in, names_of, no_snaps, put_snapshot, rows_in, snapshot_cmp, snapshot_named, table_after_allow, table_after_disallow, table_after_disallow_below, table_after_remove, table_after_take, with_id, without_below, without_id, without_snapshot, zone_depth};
 
 use crate::paths::compare_names;
 use crate::reserved::Reserved;
@@ -474,6 +474,20 @@ impl Snaps {
         self.taken
             .iter()
             .any(|snapshot| tree.at_or_below(snapshot.dir(), path))
+    }
+
+    /// Returns whether a directory at the path or below it may have snapshots.
+    pub fn allowed_at_or_below(&self, tree: &Tree, path: &NPath) -> bool
+        ensures { result ≡ allowed_at_or_below tree.now.rows self.now.table.allowed path.now }
+    {
+        self.allowed.iter().any(|dir| tree.at_or_below(*dir, path))
+    }
+
+    /// Returns whether a directory at the path or above it may have snapshots.
+    pub fn allowed_at_or_above(&self, tree: &Tree, path: &NPath) -> bool
+        ensures { result ≡ allowed_at_or_above tree.now.rows self.now.table.allowed path.now }
+    {
+        self.allowed.iter().any(|dir| tree.at_or_above(*dir, path))
     }
 
     /// Returns whether a directory strictly above the path may have snapshots.
