@@ -4,12 +4,13 @@ use Rattle.std.specs.Prelude.{◌==◌}
 use Rattle.std.proofs.lemmas.Bool.Decides.{nat_tests}
 use Rattle.name_calls.specs.declared.calls.NameRefusal.{NameRefusal}
 use Rattle.name_calls.specs.declared.calls.NameRefusal.TheVariants as refusal
-use Rattle.name_calls.specs.Paths.{parent}
-use Rattle.inode_tree.specs.Rows.{Entry, entry_of, has_children, is_dir_at, row_at, zone_of}
+use Rattle.name_calls.specs.Paths.{is_prefix, parent}
+use Rattle.inode_tree.specs.Moves.{CanMove, move_fits}
+use Rattle.inode_tree.specs.Rows.{Entry, entry_of, has_children, is_dir_at, move_allowed, row_at, zone_of}
 use Rattle.edit_ops.specs.declared.ops.EditOp.{EditOp}
 use Rattle.edit_ops.specs.declared.ops.EditOp.TheVariants as op
 use Rattle.snap_store.specs.Snapshots.{SnapTable, allowed_above, allowed_below, count_of, holds_snapshot, is_among, snapshot_named}
-use Rattle.name_store.specs.Causes.{allow_causes, allowed_causes, directory_causes, disallow_causes, first_cause, has_most_rows, has_most_snapshots, id_at, is_root, kept_causes, removal_causes, row_causes, snap_causes, to_be_made, zone_causes}
+use Rattle.name_store.specs.Causes.{allow_causes, allowed_causes, directory_causes, disallow_causes, first_cause, has_most_rows, has_most_snapshots, id_at, is_root, kept_causes, move_causes, nests_allowed, removal_causes, rename_causes, row_causes, snap_causes, to_be_made, zone_causes}
 use Rattle.name_store.specs.Store.{is_opening}
 use Rattle.name_store.specs.Table.{NameTable, allows, allows_change, fits_key, is_of_opening, may_use, may_use_all, op_causes, uses}
 
@@ -148,6 +149,30 @@ disallowable rows snaps p h =
     let more = none-of-both (allowed_causes rows snaps p) (kept_causes rows snaps p) parts.1 in
     record { dir = directory rows p parts.0; none = holds-none rows snaps p more.1 }
 
+-- what may move to another path
+pub record IsRenamable (rows : List Entry) (snaps : SnapTable) (p q : List (List ℕ)) : Type 0 where
+  pub can : CanMove rows p q
+  pub none : holds_snapshot rows snaps.taken p ≡ false
+  pub outside : nests_allowed rows snaps p q ≡ false
+  pub zone : move_allowed rows p q ≡ true
+
+pub renamable : (rows : List Entry) (snaps : SnapTable) (p q : List (List ℕ)) → first_cause (rename_causes rows snaps p q) ≡ None → IsRenamable rows snaps p q
+renamable rows snaps p q h =
+    let last = (nests_allowed rows snaps p q, refusal.NestedSnapshottable) ∷ (not (move_allowed rows p q), refusal.CrossZone) ∷ [] in
+    let parts = none-of-both (move_causes rows p q) (kept_causes rows snaps p ++ last) h in
+    let a = clear (is_prefix p q) refusal.RootOrInside _ parts.0 in
+    let b = clear (is_none (row_at rows p)) refusal.NoSuchPath _ a.1 in
+    let made = none-of-both (to_be_made rows q) ((not (move_fits rows p q), refusal.BadPath) ∷ []) b.1 in
+    let free = makeable rows q made.0 in
+    let more = none-of-both (kept_causes rows snaps p) last parts.1 in
+    let d = clear (nests_allowed rows snaps p q) refusal.NestedSnapshottable _ more.1 in
+    record {
+      can = record { stands = there (row_at rows p) b.0; housed = free.house; absent = free.absent; apart = a.0; fits = yes _ (no-cause (not (move_fits rows p q)) refusal.BadPath made.1) };
+      none = holds-none rows snaps p more.0;
+      outside = d.0;
+      zone = yes _ (no-cause (not (move_allowed rows p q)) refusal.CrossZone d.1);
+    }
+
 -- an operation that the table allows
 
 pub both : (a b : Bool) → (a && b) ≡ true → (a ≡ true) × (b ≡ true)
@@ -186,6 +211,7 @@ allowed t (op.Opened opening) safe may = absurd cc
 allowed t (op.Mkdir id p) safe may = parts t (op.Mkdir id p) may
 allowed t (op.File id p edek) safe may = parts t (op.File id p edek) may
 allowed t (op.Remove p) safe may = parts t (op.Remove p) may
+allowed t (op.Rename p q) safe may = parts t (op.Rename p q) may
 allowed t (op.Zone p key) safe may = parts t (op.Zone p key) may
 allowed t (op.Allow p) safe may = parts t (op.Allow p) may
 allowed t (op.Disallow p) safe may = parts t (op.Disallow p) may
@@ -197,6 +223,7 @@ allows-it t (op.Opened opening) safe a = absurd cc
 allows-it t (op.Mkdir id p) safe a = whole t (op.Mkdir id p) a
 allows-it t (op.File id p edek) safe a = whole t (op.File id p edek) a
 allows-it t (op.Remove p) safe a = whole t (op.Remove p) a
+allows-it t (op.Rename p q) safe a = whole t (op.Rename p q) a
 allows-it t (op.Zone p key) safe a = whole t (op.Zone p key) a
 allows-it t (op.Allow p) safe a = whole t (op.Allow p) a
 allows-it t (op.Disallow p) safe a = whole t (op.Disallow p) a

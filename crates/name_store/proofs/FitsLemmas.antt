@@ -14,14 +14,16 @@ use Rattle.name_calls.specs.Paths.{is_before, is_prefix, is_relative}
 use Rattle.inode_tree.specs.declared.rows.Kind.{Kind}
 use Rattle.inode_tree.specs.declared.rows.Kind.TheVariants.{Dir}
 use Rattle.inode_tree.specs.Below.{at_or_below, rows_below, seen_from}
+use Rattle.inode_tree.specs.Moves.{CanMove, moved, renamed}
 use Rattle.inode_tree.specs.Rows.{Entry, IsRows, entry_of, is_dir, is_dir_at, put, removed, row_at, set_kind, with_kind}
+use Rattle.inode_tree.proofs.MovedLaws.{entry-renamed}
 use Rattle.snap_store.specs.Ordered.{put_by}
 use Rattle.snap_store.specs.Snapshots.{SnapTable, Snapshot, frozen, holds_snapshot, is_among, is_named, snapshot_cmp, table_after_take, with_id, without_below}
 use Rattle.edit_ops.specs.declared.ops.EditOp.{EditOp}
 use Rattle.edit_ops.specs.declared.ops.EditOp.TheVariants as op
 use Rattle.name_store.specs.Causes.{id_at, kept_causes, removal_causes}
 use Rattle.name_store.specs.Table.{FitsRows, IsTable, NameTable, after_table, allows, new_directory, new_file, path_of, row_of}
-use Rattle.name_store.proofs.CauseLemmas.{allowable, allowed, both, holds-none, id-may-be-used, none-of-both, snappable}
+use Rattle.name_store.proofs.CauseLemmas.{allowable, allowed, both, holds-none, id-may-be-used, none-of-both, renamable, snappable}
 use Rattle.name_store.proofs.IdLemmas.{kind-id}
 use Rattle.name_store.proofs.RowLemmas.{directory-entry}
 
@@ -140,6 +142,40 @@ fits-removed t p good none =
     (λ k d lt. stays-removed p t.rows (get_or (without_below t.rows p t.snaps.allowed) k d) (left k d lt) (not-true (at_or_below t.rows (get_or (without_below t.rows p t.snaps.allowed) k d) p) (passed k d lt)))
     (λ k d lt. stays-removed p t.rows (get_or t.snaps.taken k d).dir (dirs-stand t good k d lt) (beside k d lt)) good.fits.whole
 
+-- rows that move
+
+-- a directory that moves is still one
+stands-renamed : (rows : List Entry) (p q : List (List ℕ)) (id : ℕ) → IsRows rows → CanMove rows p q → Stands rows id → Stands (renamed p q rows) id
+stands-renamed rows p q id good can h = ap dir_in (entry-renamed rows p q good can id) ∙ still (entry_of rows id) ∙ h
+  where
+    dir_in : Option Entry → Bool
+    dir_in o = is_dir_at (option_map (λ e. e.row) o)
+
+    still : (o : Option Entry) → dir_in (option_map (moved p q) o) ≡ dir_in o
+    still None = refl
+    still (Some e) = refl
+
+-- one that doesn't move stays at its path
+path-renamed : (rows : List Entry) (p q : List (List ℕ)) (id : ℕ) → IsRows rows → CanMove rows p q → at_or_below rows id p ≡ false → path_of (renamed p q rows) id ≡ path_of rows id
+path-renamed rows p q id good can beside = ap path_in (entry-renamed rows p q good can id) ∙ go (entry_of rows id) beside
+  where
+    path_in : Option Entry → List (List ℕ)
+    path_in o = option_map_or (λ e. e.path) o []
+
+    go : (o : Option Entry) → option_map_or (λ e. is_prefix p e.path) o false ≡ false → path_in (option_map (moved p q) o) ≡ path_in o
+    go None out = refl
+    go (Some e) out = ap (λ (b : Bool). cond b (q ++ drop (length p) e.path) e.path) out
+
+fits-renamed : (t : NameTable) (p q : List (List ℕ)) → IsTable t → CanMove t.rows p q → holds_snapshot t.rows t.snaps.taken p ≡ false → FitsRows (renamed p q t.rows) t.snaps
+fits-renamed t p q good can none =
+    let beside = not-any (λ (s : Snapshot). at_or_below t.rows s.dir p) t.snaps.taken none in
+    record {
+      stand = All-weaker (Stands t.rows) (Stands (renamed p q t.rows)) (λ id h. stands-renamed t.rows p q id good.rules can h) t.snaps.allowed good.fits.stand;
+      whole = λ k d lt.
+          subst (λ (r : List (List ℕ)). All (λ (e : Entry). is_relative (r ++ e.path) ≡ true) (get_or t.snaps.taken k d).rows)
+          (sym (path-renamed t.rows p q (get_or t.snaps.taken k d).dir good.rules can (beside k d lt))) (good.fits.whole k d lt);
+    }
+
 -- a row with another kind
 
 entry-kind : (n : ℕ) (kind : Kind) (rows : List Entry) (id : ℕ) → entry_of (set_kind rows n kind) id ≡ option_map (with_kind n kind) (entry_of rows id)
@@ -240,6 +276,7 @@ module _ (t : NameTable) (good : IsTable t) where
   fits-after (op.Mkdir id p) may = fits-all t (put (new_directory id p) t.rows) good (stays-put (new_directory id p) t.rows (id-may-be-used t id (allowed t (op.Mkdir id p) refl may).ids).free)
   fits-after (op.File id p edek) may = fits-all t (put (new_file id p edek) t.rows) good (stays-put (new_file id p edek) t.rows (id-may-be-used t id (allowed t (op.File id p edek) refl may).ids).free)
   fits-after (op.Remove p) may = fits-removed t p good (holds-none t.rows t.snaps p (none-of-both (removal_causes t.rows p) (kept_causes t.rows t.snaps p) (allowed t (op.Remove p) refl may).free).1)
+  fits-after (op.Rename p q) may = let free = renamable t.rows t.snaps p q (allowed t (op.Rename p q) refl may).free in fits-renamed t p q good free.can free.none
   fits-after (op.Zone p key) may = fits-all t (set_kind t.rows (id_at t.rows p) (Dir (Some key))) good (stays-kind (id_at t.rows p) key t.rows)
   fits-after (op.Allow p) may = record {
     stand = all-with (Stands t.rows) (id_at t.rows p) t.snaps.allowed

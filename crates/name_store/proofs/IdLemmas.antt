@@ -7,6 +7,7 @@ use Rattle.std.proofs.lemmas.List.Elements.{All-cons, All-filter, All-head, All-
 use Rattle.inode_tree.specs.declared.rows.Kind.{Kind}
 use Rattle.inode_tree.specs.declared.rows.Kind.TheVariants.{Dir}
 use Rattle.name_calls.specs.Paths.{is_before}
+use Rattle.inode_tree.specs.Moves.{moved, renamed}
 use Rattle.inode_tree.specs.Rows.{Entry, put, set_kind, with_kind}
 use Rattle.edit_ops.specs.declared.ops.EditOp.{EditOp}
 use Rattle.edit_ops.specs.declared.ops.EditOp.TheVariants as op
@@ -39,6 +40,11 @@ kind-id n kind e = go (e.row.id == n) refl
 kinds-below : (m n : ℕ) (kind : Kind) (es : List Entry) → All (BelowId m) es → All (BelowId m) (set_kind es n kind)
 kinds-below m n kind es h =
     All-map (BelowId m) (with_kind n kind) es (All-weaker (BelowId m) (λ e. BelowId m (with_kind n kind e)) (λ e below. subst (λ (i : ℕ). i < m) (sym (kind-id n kind e)) below) es h)
+
+-- a move leaves the ids
+moved-below : (m : ℕ) (p q : List (List ℕ)) (es : List Entry) → All (BelowId m) es → All (BelowId m) (renamed p q es)
+moved-below m p q [] h = All-nil (BelowId m)
+moved-below m p q (e ∷ es) h = all-put (BelowId m) (moved p q e) (renamed p q es) (All-head (BelowId m) e es h) (moved-below m p q es (All-tail (BelowId m) e es h))
 
 used-weaker : (n m : ℕ) → n ≤ m → (ids : List ℕ) → AllBelow n ids → AllBelow m ids
 used-weaker n m le [] h = tt
@@ -76,6 +82,7 @@ ids-after r (op.File id p edek) may h =
     let below = of-opening r.table id (id-may-be-used r.table id (allowed r.table (op.File id p edek) refl may).ids) in
     record { rows = all-put (BelowId (end_of_ids r.table.opening)) _ r.table.rows below h.rows; used = (below, h.used) }
 ids-after r (op.Remove p) may h = record { rows = All-filter _ (BelowId (end_of_ids r.table.opening)) r.table.rows h.rows; used = h.used }
+ids-after r (op.Rename p q) may h = record { rows = moved-below (end_of_ids r.table.opening) p q r.table.rows h.rows; used = h.used }
 ids-after r (op.Zone p key) may h = record {
   rows = kinds-below (end_of_ids r.table.opening) (id_at r.table.rows p) (Dir (Some key)) r.table.rows h.rows;
   used = h.used;
@@ -119,6 +126,7 @@ fresh_in t used (op.Opened opening) may h = refl
 fresh_in t used (op.Mkdir id p) may h = of-this t used id (id-may-be-used t id (allowed t (op.Mkdir id p) refl may).ids) h
 fresh_in t used (op.File id p edek) may h = of-this t used id (id-may-be-used t id (allowed t (op.File id p edek) refl may).ids) h
 fresh_in t used (op.Remove p) may h = refl
+fresh_in t used (op.Rename p q) may h = refl
 fresh_in t used (op.Zone p key) may h = refl
 fresh_in t used (op.Allow p) may h = refl
 fresh_in t used (op.Disallow p) may h = refl

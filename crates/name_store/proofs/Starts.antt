@@ -1,13 +1,13 @@
 -- What a start finds and leaves.
-use Rattle.std.proofs.Common.{◌≡◌, ◌⊎◌, inl, inr, ℕ, ◌+◌, ◌*◌, ◌^◌, ◌<◌, Bool, true, false, ◌&&◌, List, [], ◌∷◌, ◌++◌, Option, Some, None, refl, sym, ◌∙◌, ap, subst}
+use Rattle.std.proofs.Common.{◌≡◌, ℕ, ◌+◌, ◌*◌, ◌^◌, ◌<◌, Bool, true, false, ◌&&◌, List, [], ◌∷◌, ◌++◌, Option, Some, None, refl, sym, ◌∙◌, ap, subst}
 use Rattle.std.specs.Prelude.{IfSome, if◌then◌else◌}
 use Rattle.std.specs.List.{All}
 use Rattle.std.proofs.lemmas.Bool.Decides.{Decides-eqb}
 use Rattle.hk_base.specs.Disk.{DiskState, LeavesOnly, Reads, RunOn, Tells}
-use Rattle.hk_base.proofs.Runs.{Going, compose, weaker}
-use Rattle.frame_log.specs.Format.{Found, IsAsFound, IsRecovered, Log_as_found, log_of}
-use Rattle.frame_log.specs.Stands.{LeavesFrom}
-use Rattle.frame_log.proofs.Layers.{from_then}
+use Rattle.hk_base.proofs.Runs.{Going, weaker}
+use Rattle.frame_log.specs.Format.{Found, IsAsFound, Log_as_found, log_of}
+use Rattle.frame_log.specs.Opens.{FailsFor, Recovers}
+use Rattle.frame_log.proofs.Openings.{opens_as, opens_then}
 use Rattle.frame_log.specs.declared.fault.StartFault.{StartFault}
 use Rattle.frame_log.specs.declared.fault.StartFault.TheVariants as fault
 use Rattle.edit_ops.specs.Records.{HasSpelling}
@@ -22,7 +22,7 @@ use Rattle.edit_log.specs.Log.{EditLogState}
 use Rattle.edit_log.specs.Log as edits
 use Rattle.name_store.specs.Table.{NameTable, Replayed, after, after_table, allows, applies, is_fresh, next_opening, nothing_logged}
 use Rattle.name_store.specs.Replay.{AllBelow, Applies, IsMade, IsNoNext, IsRefusedAt, name_replay}
-use Rattle.name_store.specs.Store.{IsDamagedAt, IsLeftByStart, IsNameLog, IsWritten, Not_a_name_log, Opening, Recovered, Started, StoreState, made_with}
+use Rattle.name_store.specs.Store.{IsDamagedAt, IsNameLog, IsWritten, Not_a_log, Not_a_name_log, Opening, OpensNames, Recovered, SpentNames, Started, StoreState, made_with}
 use Rattle.name_store.proofs.Commits.{each_last}
 use Rattle.name_store.proofs.IdLemmas.{used_earlier}
 use Rattle.name_store.proofs.Replays.{replay_more}
@@ -38,6 +38,7 @@ turn-of t (op.Opened opening) may = may
 turn-of t (op.Mkdir id p) may = (allowed t (op.Mkdir id p) refl may).opened
 turn-of t (op.File id p edek) may = (allowed t (op.File id p edek) refl may).opened
 turn-of t (op.Remove p) may = (allowed t (op.Remove p) refl may).opened
+turn-of t (op.Rename p q) may = (allowed t (op.Rename p q) refl may).opened
 turn-of t (op.Zone p key) may = (allowed t (op.Zone p key) refl may).opened
 turn-of t (op.Allow p) may = (allowed t (op.Allow p) refl may).opened
 turn-of t (op.Disallow p) may = (allowed t (op.Disallow p) refl may).opened
@@ -49,6 +50,7 @@ last-of t (op.Opened opening) = refl
 last-of t (op.Mkdir id p) = refl
 last-of t (op.File id p edek) = refl
 last-of t (op.Remove p) = refl
+last-of t (op.Rename p q) = refl
 last-of t (op.Zone p key) = refl
 last-of t (op.Allow p) = refl
 last-of t (op.Disallow p) = refl
@@ -154,31 +156,19 @@ module _ (old new : DiskState) (was is : EditLogState) (o : EditOp) (any : Tells
   fault_moments fault.NoMemory kept waits memory spent damaged told ops s = memory refl (IsWritten ops o)
   fault_moments fault.Spent kept waits memory spent damaged told ops s = spent refl (IsWritten ops o)
 
-pub left_as_found : (bytes : List ℕ) (leaves : List ℕ → Type 0) (c : List ℕ) → leaves c ⊎ IsAsFound 1 bytes c → leaves c ⊎ IsLeftByStart bytes c
-left_as_found bytes leaves c (inl past) = inl past
-left_as_found bytes leaves c (inr held) = inr (Recovered (Log_as_found held))
+-- a recovery of the edit log, as a start
+pub opens_log : (old new : DiskState) {fails : StartFault → Type 0} → Recovers 1 old new fails → OpensNames old new fails
+opens_log old new o = opens_as old new (λ bytes at none. Not_a_log none) (λ bytes none. absurd none) (λ bytes c held. Recovered held) o
 
-pub from_weaker : {file : ℕ} {old new : DiskState} {P Q : List ℕ → Type 0} → ((c : List ℕ) → P c → Q c) → LeavesFrom file old new P → LeavesFrom file old new Q
-from_weaker f s = record { moment = s.moment; begun = s.begun; reached = s.reached; only = λ c left. f _ (s.only c left) }
+-- a log that was recovered, and calls that read its operations
+module _ (old mid read : DiskState) {fails : StartFault → Type 0} (opened : fails fault.StoreFault → ⊥) (o : Recovers 1 old mid fails) (leaves : Tells old → (c : List ℕ) → mid.leaves 1 c → IsAsFound 1 (old.reads 1) c) (on : Going 1 mid read (mid.leaves 1)) where
+  pub opens_read : {fails' : StartFault → Type 0} → FailsFor 1 IsDamagedAt SpentNames old read fails' → OpensNames old read fails'
+  opens_read why = opens_then old mid read opened (opens_log old mid o) on.run (λ told. weaker (λ c here. Recovered (Log_as_found (leaves told c here))) on.moments) why
 
--- recovering a log, and then reading its operations
-module _ (old mid new : DiskState) (leaves : (c : List ℕ) → mid.leaves 1 c → IsAsFound 1 (old.reads 1) c) (on : Going 1 mid new (mid.leaves 1)) where
-  pub read_moments : RunOn 1 old mid → LeavesOnly 1 old mid (λ c. old.leaves 1 c ⊎ IsAsFound 1 (old.reads 1) c) → Going 1 old new (λ c. old.leaves 1 c ⊎ IsAsFound 1 (old.reads 1) c)
-  read_moments run moments =
-      let first : Going 1 old mid (λ c. old.leaves 1 c ⊎ IsAsFound 1 (old.reads 1) c) = record { run = run; moments = moments } in
-      compose first on (λ c h. inr (leaves c h))
-
-  pub read_since : LeavesFrom 1 old mid (IsRecovered 1 (old.reads 1)) → LeavesFrom 1 old new (IsRecovered 1 (old.reads 1))
-  read_since since = from_then since on (λ c h. Log_as_found (leaves c h))
-
--- recovering a log, and then committing the record of the next opening
-module _ (old mid new : DiskState) (ops : List EditOp) (made : Replayed) (log : IsNameLog (old.reads 1) ops made) (opening : Going 1 mid new (IsWritten ops (next_opening made.table))) where
-  pub start_moments : RunOn 1 old mid → LeavesOnly 1 old mid (λ c. old.leaves 1 c ⊎ IsAsFound 1 (old.reads 1) c) → LeavesOnly 1 old new (λ c. old.leaves 1 c ⊎ IsLeftByStart (old.reads 1) c)
-  start_moments run moments =
-      let first : Going 1 old mid (λ c. old.leaves 1 c ⊎ IsLeftByStart (old.reads 1) c) = record { run = run; moments = weaker (left_as_found (old.reads 1) (old.leaves 1)) moments } in
-      (compose first opening (λ c left. inr (Opening ops made log left))).moments
-
-  pub start_since : LeavesFrom 1 old mid (IsRecovered 1 (old.reads 1)) → LeavesFrom 1 old new (IsLeftByStart (old.reads 1))
-  start_since since =
-      let from : LeavesFrom 1 old mid (IsLeftByStart (old.reads 1)) = from_weaker (λ b held. Recovered held) since in
-      from_then from opening (λ c left. Opening ops made log left)
+  -- and then the record of the next opening was committed
+  pub opens_next : (new : DiskState) (ops : List EditOp) (made : Replayed) {fails' : StartFault → Type 0} → (Tells old → IsNameLog (old.reads 1) ops made) → RunOn 1 read new
+      → (Tells old → LeavesOnly 1 read new (IsWritten ops (next_opening made.table))) → FailsFor 1 IsDamagedAt SpentNames old new fails' → OpensNames old new fails'
+  opens_next new ops made log run moments why = opens_then old read new (λ none. none) (opens_read never) run (λ told. weaker (λ c left. Opening ops made (log told) left) (moments told)) why
+    where
+      never : FailsFor 1 IsDamagedAt SpentNames old read (λ why. ⊥)
+      never = record { damaged = λ at none. absurd none; spent = λ none. absurd none; cause = λ none. absurd none }

@@ -1,12 +1,13 @@
 -- Why the rules of directories, files, zones and snapshots refuse a change.
-use Rattle.std.specs.Prelude.{ℕ, Bool, not, ◌||◌, ◌==◌, nat_le, List, [], ◌∷◌, ◌++◌, length, Option, Some, None, is_none, is_some, if◌then◌else◌}
+use Rattle.std.specs.Prelude.{ℕ, Bool, not, ◌&&◌, ◌||◌, ◌==◌, nat_le, List, [], ◌∷◌, ◌++◌, length, Option, Some, None, is_none, is_some, if◌then◌else◌}
 use Rattle.name_calls.specs.declared.calls.NameRefusal.{NameRefusal}
 use Rattle.name_calls.specs.declared.calls.NameRefusal.TheVariants as refusal
 use Rattle.name_calls.specs.declared.paths.NPath.{NPath}
-use Rattle.name_calls.specs.Paths.{parent}
+use Rattle.name_calls.specs.Paths.{is_prefix, parent}
+use Rattle.inode_tree.specs.Moves.{move_fits}
 use Rattle.inode_tree.specs.declared.rows.Row.{Row}
-use Rattle.inode_tree.specs.Rows.{Entry, has_children, is_dir_at, row_at, zone_of}
-use Rattle.snap_store.specs.Snapshots.{SnapTable, allowed_above, allowed_below, count_of, holds_snapshot, is_among, snapshot_named}
+use Rattle.inode_tree.specs.Rows.{Entry, has_children, is_dir_at, move_allowed, row_at, zone_of}
+use Rattle.snap_store.specs.Snapshots.{SnapTable, allowed_above, allowed_at_or_above, allowed_at_or_below, allowed_below, count_of, holds_snapshot, is_among, snapshot_named}
 
 -- the causes of a refusal, in the order of the rules; the first that is true counts
 abbrev pub first_cause : List (Bool × NameRefusal) → Option NameRefusal
@@ -59,6 +60,20 @@ allowed_causes rows snaps p = (not (is_among snaps.allowed (id_at rows p)), refu
 -- no directory that may have snapshots lies in another; to allow one again is no refusal
 abbrev pub allow_causes : List Entry → SnapTable → NPath → List (Bool × NameRefusal)
 allow_causes rows snaps p = directory_causes rows p ++ (allowed_above rows snaps.allowed p || allowed_below rows snaps.allowed p, refusal.NestedSnapshottable) ∷ []
+
+-- the move would put a directory that may have snapshots into another
+abbrev pub nests_allowed : List Entry → SnapTable → NPath → NPath → Bool
+nests_allowed rows snaps p q = allowed_at_or_below rows snaps.allowed p && allowed_at_or_above rows snaps.allowed q
+
+-- What is at a path and below it may move to another path, by the rows alone: it exists, the other path is neither the path itself nor
+-- below it, and can be made, and all that moves keeps the rule of lengths.
+abbrev pub move_causes : List Entry → NPath → NPath → List (Bool × NameRefusal)
+move_causes rows p q = (is_prefix p q, refusal.RootOrInside) ∷ (is_none (row_at rows p), refusal.NoSuchPath) ∷ to_be_made rows q ++ (not (move_fits rows p q), refusal.BadPath) ∷ []
+
+-- what has snapshots stays, and nothing moves into or out of a zone
+abbrev pub rename_causes : List Entry → SnapTable → NPath → NPath → List (Bool × NameRefusal)
+rename_causes rows snaps p q =
+    move_causes rows p q ++ kept_causes rows snaps p ++ (nests_allowed rows snaps p q, refusal.NestedSnapshottable) ∷ (not (move_allowed rows p q), refusal.CrossZone) ∷ []
 
 abbrev pub disallow_causes : List Entry → SnapTable → NPath → List (Bool × NameRefusal)
 disallow_causes rows snaps p = directory_causes rows p ++ allowed_causes rows snaps p ++ kept_causes rows snaps p

@@ -4,7 +4,7 @@ use Rattle.inode_tree.specs.Rows.{need}
 use Rattle.zone_table.specs.Zones.{need_add}
 use Rattle.snap_store.specs.Snapshots.{IsReady, SnapRoom}
 use Rattle.edit_ops.specs.declared.ops.EditOp.{EditOp}
-use Rattle.edit_ops.specs.declared.ops.EditOp.TheVariants.{Opened, Mkdir, File, Remove, Zone, Allow, Disallow, Snap, Unsnap}
+use Rattle.edit_ops.specs.declared.ops.EditOp.TheVariants.{Opened, Mkdir, File, Remove, Rename, Zone, Allow, Disallow, Snap, Unsnap}
 use Rattle.name_store.specs.Causes.{id_at}
 use Rattle.name_store.specs.Table.{NameTable}
 
@@ -21,6 +21,7 @@ HasRoom (Opened opening) s = ⊤
 HasRoom (Mkdir id p) s = need p ≤ s.tree_spare
 HasRoom (File id p edek) s = need p ≤ s.tree_spare
 HasRoom (Remove p) s = ⊤
+HasRoom (Rename p q) s = need q ≤ s.tree_spare
 HasRoom (Zone p key) s = need_add (id_at s.table.rows p) key ≤ s.zone_spare
 HasRoom (Allow p) s = 0 < s.snap_room.ids
 HasRoom (Disallow p) s = ⊤

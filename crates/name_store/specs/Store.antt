@@ -4,6 +4,8 @@ use Rattle.std.specs.List.{All, AllByRecursion}
 use Rattle.hk_base.specs.Disk.{DiskState, Tells, RunOn, LeavesOnly}
 use Rattle.hk_base.specs.Faults.{Rose}
 use Rattle.frame_log.specs.Format.{log_of, Found, NoLog, end_of, IsAtRest, IsRecovered}
+use Rattle.frame_log.specs.Opens.{Opens}
+use Rattle.frame_log.specs.declared.fault.StartFault.{StartFault}
 use Rattle.edit_ops.specs.Records.{HasSpelling, spelling}
 use Rattle.edit_ops.specs.declared.ops.EditOp.{EditOp}
 use Rattle.edit_ops.specs.declared.ops.EditOp.TheVariants as op
@@ -56,11 +58,22 @@ pub data IsDamagedAt (bytes : List ℕ) (at : ℕ) : Type 0 where
   Not_a_log : log_of 1 bytes ≡ NoLog at → IsDamagedAt bytes at
   Not_a_name_log : IsNoNameLog bytes at → IsDamagedAt bytes at
 
+-- the last opening is recorded
+pub record SpentNames (bytes : List ℕ) : Type 0 where
+  pub ops : List EditOp
+  pub made : Replayed
+  pub log : IsNameLog bytes ops made
+  pub last : made.table.opening ≡ 4294967295
+
 -- what a crash leaves of the file found, since a start synced it: what recovering leaves, or the log with the record of the
 -- new opening or without it
 pub data IsLeftByStart (found bytes : List ℕ) : Type 0 where
   Recovered : IsRecovered 1 found bytes → IsLeftByStart found bytes
   Opening : (ops : List EditOp) (made : Replayed) → IsNameLog found ops made → IsWritten ops (next_opening made.table) bytes → IsLeftByStart found bytes
+
+-- A start opens the edit log, or fails.
+abbrev pub OpensNames : DiskState → DiskState → (StartFault → Type 0) → Type 0
+OpensNames = Opens 1 IsDamagedAt SpentNames IsLeftByStart
 
 -- what a crash may leave of a log: these operations, with one more or without it, now and if the end gate byte is read as 1
 abbrev pub IsLogOf : List EditOp → Option EditOp → List ℕ → Type 0

@@ -8,13 +8,14 @@ use Rattle.inode_tree.specs.declared.rows.Row.{Row}
 use Rattle.inode_tree.specs.declared.rows.Kind.TheVariants.{Dir, File as FileKind}
 use Rattle.name_calls.specs.declared.calls.NameRefusal.{NameRefusal}
 use Rattle.name_calls.specs.Paths.{is_relative}
+use Rattle.inode_tree.specs.Moves.{renamed}
 use Rattle.inode_tree.specs.Rows.{Entry, IsRows, entry_of, is_dir_at, mark_of, put, removed, root_only, set_kind, zone_of}
 use Rattle.snap_store.specs.Snapshots.{IsSnapshots, SnapTable, Snapshot, no_snaps, table_after_allow, table_after_disallow, table_after_disallow_below, table_after_remove, table_after_take}
 pub use Rattle.snap_store.specs.Snapshots.{is_among}
 use Rattle.edit_ops.specs.declared.ops.EditOp.{EditOp}
-use Rattle.edit_ops.specs.declared.ops.EditOp.TheVariants.{Opened, Mkdir, File, Remove, Zone, Allow, Disallow, Snap, Unsnap}
+use Rattle.edit_ops.specs.declared.ops.EditOp.TheVariants.{Opened, Mkdir, File, Remove, Rename, Zone, Allow, Disallow, Snap, Unsnap}
 pub use Rattle.name_store.specs.Causes.{id_of}
-use Rattle.name_store.specs.Causes.{allow_causes, disallow_causes, first_cause, id_at, kept_causes, removal_causes, row_causes, snap_causes, to_be_made, unsnap_causes, zone_causes}
+use Rattle.name_store.specs.Causes.{allow_causes, disallow_causes, first_cause, id_at, kept_causes, removal_causes, rename_causes, row_causes, snap_causes, to_be_made, unsnap_causes, zone_causes}
 
 -- the number of the opening, the rows in path order, and the snapshots
 pub record NameTable : Type 0 where
@@ -61,6 +62,7 @@ op_causes t (Opened opening) = []
 op_causes t (Mkdir id p) = to_be_made t.rows p ++ row_causes t.rows
 op_causes t (File id p edek) = to_be_made t.rows p ++ row_causes t.rows
 op_causes t (Remove p) = removal_causes t.rows p ++ kept_causes t.rows t.snaps p
+op_causes t (Rename p q) = rename_causes t.rows t.snaps p q
 op_causes t (Zone p key) = zone_causes t.rows p
 op_causes t (Allow p) = allow_causes t.rows t.snaps p
 op_causes t (Disallow p) = disallow_causes t.rows t.snaps p
@@ -73,6 +75,7 @@ uses (Opened opening) = []
 uses (Mkdir id p) = id ∷ []
 uses (File id p edek) = id ∷ []
 uses (Remove p) = []
+uses (Rename p q) = []
 uses (Zone p key) = []
 uses (Allow p) = []
 uses (Disallow p) = []
@@ -110,6 +113,7 @@ after_table t (Opened opening) = record t { opening = opening }
 after_table t (Mkdir id p) = record t { rows = put (new_directory id p) t.rows }
 after_table t (File id p edek) = record t { rows = put (new_file id p edek) t.rows }
 after_table t (Remove p) = record t { rows = removed p t.rows; snaps = table_after_disallow_below t.rows p t.snaps }
+after_table t (Rename p q) = record t { rows = renamed p q t.rows }
 after_table t (Zone p key) = record t { rows = marked t.rows p key }
 after_table t (Allow p) = record t { snaps = table_after_allow (id_at t.rows p) t.snaps }
 after_table t (Disallow p) = record t { snaps = table_after_disallow (id_at t.rows p) t.snaps }

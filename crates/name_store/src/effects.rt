@@ -1,9 +1,10 @@
 //! What the operations of the log do to a tree, the table of its zones and its snapshots.
 ghost use Rattle.std.specs.Prelude.{◌≡◌, ◌≤◌, ◌++◌, None, IsOk, OnOk, OnErr};
+ghost use Rattle.inode_tree.specs.Moves.{renamed};
 ghost use Rattle.inode_tree.specs.Rows.{entry_of, need, put, removed};
 ghost use Rattle.zone_table.specs.Zones.{need_add, zones_of};
-ghost use Rattle.snap_store.specs.Snapshots.{IsReady, table_after_disallow, table_after_disallow_below, table_after_take};
-ghost use Rattle.name_store.specs.Causes.{disallow_causes, first_cause, id_at, kept_causes, removal_causes, row_causes, snap_causes, to_be_made, zone_causes};
+ghost use Rattle.snap_store.specs.Snapshots.{IsReady, SnapTable, table_after_disallow, table_after_disallow_below, table_after_take};
+ghost use Rattle.name_store.specs.Causes.{disallow_causes, first_cause, id_at, kept_causes, removal_causes, rename_causes, row_causes, snap_causes, to_be_made, zone_causes};
 ghost use Rattle.name_store.specs.Table.{marked, new_directory, new_file};
 
 use crate::rules::id_at;
@@ -58,6 +59,21 @@ pub(crate) fn remove(tree: &mut Tree, zones: &mut Zones, snaps: &mut Snaps, path
     zones.remove_below(tree, path);
     snaps.disallow_below(tree, path);
     tree.remove(path);
+}
+
+/// Moves what is at a path and below it to another path. Its zones and snapshots stay those of their
+/// directories.
+pub(crate) fn rename(tree: &mut Tree, path: &NPath, to: &NPath) -> Result<(), NoMemory>
+    requires allowed { (snaps : SnapTable) × (first_cause (rename_causes tree.old.rows snaps path.now to.now) ≡ None) }
+    ensures ok { OnOk result (tree.new.rows ≡ renamed path.now to.now tree.old.rows) }
+    ensures err { OnErr result (tree.new.rows ≡ tree.old.rows) }
+    ensures zones { zones_of tree.new.rows ≡ zones_of tree.old.rows }
+    ensures room { need to.now ≤ tree.old.spare → IsOk result }
+{
+    // The marks move with their rows.
+    let _ = tree.rows();
+    zones_are_the_marks();
+    tree.rename(path, to)
 }
 
 /// Marks a directory as a zone.

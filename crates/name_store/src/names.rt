@@ -1,10 +1,10 @@
 //! The table of the namesystem as it is kept in memory.
-use crate::effects::{disallow, make, make_file, mark, remove, snap};
-use crate::rules::{allows, id_at};
+use crate::effects::{disallow, make, make_file, mark, remove, rename, snap};
+use crate::rules::{allows, id_at, to_be_renamed};
 use edit_ops::EditOp;
 use hk_base::NoMemory;
 use inode_tree::Tree;
-use name_calls::ZoneList;
+use name_calls::{NPath, NameRefusal, ZoneList};
 use snap_store::Snaps;
 use std::alloc::Global;
 use std::marker::Model;
@@ -37,6 +37,7 @@ impl Names {
     ghost use Rattle.zone_table.specs.Zones.{zone_paths};
     ghost use Rattle.name_store.specs.Table.{IsTable, after_table, allows, nothing_logged};
     ghost use Rattle.name_store.specs.Names.{HasRoom};
+    ghost use Rattle.name_store.specs.Causes.{first_cause, rename_causes};
 
     /// Creates the table of the root alone, before the first opening.
     pub(crate) fn new(alloc: Global) -> Result<Names, NoMemory>
@@ -56,7 +57,7 @@ impl Names {
     pub(crate) fn allows(&self, op: &EditOp) -> bool
         ensures { result ≡ allows self.now.table op.now }
     {
-        allows(self.opening, &self.tree, &self.snaps, op)
+        allows(self.opening, &self.tree, &self.zones, &self.snaps, op)
     }
 
     /// Makes the next calls for the operation's path faster.
@@ -68,6 +69,7 @@ impl Names {
             EditOp::Mkdir { path, .. } => self.tree.focus(path),
             EditOp::File { path, .. } => self.tree.focus(path),
             EditOp::Remove { path } => self.tree.focus(path),
+            EditOp::Rename { path, .. } => self.tree.focus(path),
             EditOp::Zone { path, .. } => self.tree.focus(path),
             EditOp::Allow { path } => self.tree.focus(path),
             EditOp::Disallow { path } => self.tree.focus(path),
@@ -87,6 +89,7 @@ impl Names {
             EditOp::Mkdir { id, path } => self.tree.reserve_mkdir(path, *id),
             EditOp::File { id, path, edek } => self.tree.reserve_add_file(path, *id, *edek),
             EditOp::Remove { .. } => Ok(()),
+            EditOp::Rename { path, to } => self.tree.reserve_rename(path, to),
             EditOp::Zone { key, .. } => self.zones.reserve_add(0, *key),
             EditOp::Allow { .. } => self.snaps.reserve_allow(),
             EditOp::Disallow { .. } => Ok(()),
@@ -120,6 +123,7 @@ impl Names {
                 remove(&mut self.tree, &mut self.zones, &mut self.snaps, path);
                 Ok(())
             }
+            EditOp::Rename { path, to } => rename(&mut self.tree, path, to),
             EditOp::Zone { path, key } => mark(&mut self.tree, &mut self.zones, path, *key),
             EditOp::Allow { path } => self.snaps.allow(id_at(&self.tree, path)),
             EditOp::Disallow { path } => {
@@ -149,6 +153,13 @@ impl Names {
         ensures { result.now.table ≡ self.now.table.snaps }
     {
         &self.snaps
+    }
+
+    /// Returns why what is at a path can not move to another path.
+    pub(crate) fn rename_refusal(&self, path: &NPath, to: &NPath) -> Option<NameRefusal>
+        ensures { result ≡ first_cause (rename_causes self.now.table.rows self.now.table.snaps path.now to.now) }
+    {
+        to_be_renamed(&self.tree, &self.zones, &self.snaps, path, to)
     }
 
     /// Returns the number of the last opening, or 0 before the first.

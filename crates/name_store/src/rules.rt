@@ -1,9 +1,11 @@
 //! What a tree and its snapshots say of a change: why it is refused, and whether an operation of the
 //! log is allowed.
 ghost use Rattle.std.specs.Prelude.{◌≡◌, ◌++◌, ℕ};
-ghost use Rattle.inode_tree.specs.Rows.{mark_of};
+ghost use Rattle.inode_tree.specs.Moves.{move_fits};
+ghost use Rattle.inode_tree.specs.Rows.{is_dir_at, mark_of, move_allowed, row_at};
+ghost use Rattle.name_calls.specs.Paths.{is_prefix, parent};
 ghost use Rattle.snap_store.specs.Snapshots.{SnapTable};
-ghost use Rattle.name_store.specs.Causes.{allow_causes, allowed_causes, directory_causes, disallow_causes, first_cause, has_most_rows, has_most_snapshots, id_at, kept_causes, removal_causes, row_causes, snap_causes, to_be_made, unsnap_causes, zone_causes};
+ghost use Rattle.name_store.specs.Causes.{allow_causes, allowed_causes, directory_causes, disallow_causes, first_cause, has_most_rows, has_most_snapshots, id_at, kept_causes, move_causes, nests_allowed, removal_causes, rename_causes, row_causes, snap_causes, to_be_made, unsnap_causes, zone_causes};
 ghost use Rattle.name_store.specs.Table.{allows, allows_change, fits_key, fits_zone, is_of_opening, key_of_zone, may_use, may_use_all, op_causes, uses};
 
 use edit_ops::EditOp;
@@ -11,6 +13,7 @@ use hk_base::{Edek, KeyName, Text};
 use inode_tree::{Kind, MOST_ROWS, Tree};
 use name_calls::{NPath, NameRefusal};
 use snap_store::{MOST_SNAPSHOTS, Snaps};
+use zone_table::Zones;
 
 /// The number of ids of an opening.
 const IDS: u64 = 1 << 32;
@@ -172,22 +175,76 @@ pub fn to_be_unsnapped(tree: &Tree, snaps: &Snaps, path: &NPath, name: &Text) ->
     None
 }
 
+/// Returns whether a rename would put a directory that may have snapshots into another.
+fn nests_allowed(tree: &Tree, snaps: &Snaps, path: &NPath, to: &NPath) -> bool
+    ensures { result ≡ nests_allowed tree.now.rows snaps.now.table path.now to.now }
+{
+    let moves = snaps.allowed_at_or_below(tree, path);
+    let houses = snaps.allowed_at_or_above(tree, to);
+    moves && houses
+}
+
+/// Returns why what is at a path can not move to another path, by the rows alone: it must exist, the
+/// other path must be free, in a directory and not below it, and no path may become too long.
+fn to_be_moved(tree: &Tree, path: &NPath, to: &NPath) -> Option<NameRefusal>
+    ensures { result ≡ first_cause (move_causes tree.now.rows path.now to.now) }
+{
+    if path.is_at_or_above(to) {
+        return Some(NameRefusal::RootOrInside);
+    }
+    if tree.find(path).is_none() {
+        return Some(NameRefusal::NoSuchPath);
+    }
+    if let Some(why) = to_be_made(tree, to) {
+        return Some(why);
+    }
+    if !tree.move_fits(path, to) {
+        return Some(NameRefusal::BadPath);
+    }
+    None
+}
+
+/// Returns why what is at a path can not move to another path.
+pub(crate) fn to_be_renamed(
+    tree: &Tree,
+    zones: &Zones,
+    snaps: &Snaps,
+    path: &NPath,
+    to: &NPath,
+) -> Option<NameRefusal>
+    ensures { result ≡ first_cause (rename_causes tree.now.rows snaps.now.table path.now to.now) }
+{
+    if let Some(why) = to_be_moved(tree, path, to) {
+        return Some(why);
+    }
+    if snaps.holds(tree, path) {
+        return Some(NameRefusal::HasSnapshots);
+    }
+    if nests_allowed(tree, snaps, path, to) {
+        return Some(NameRefusal::NestedSnapshottable);
+    }
+    if !zones.may_move(tree, path, to) {
+        return Some(NameRefusal::CrossZone);
+    }
+    None
+}
+
 /// Returns whether the table of an opening, a tree and its snapshots allows the operation. Does not
 /// check whether its id was used before.
-pub(crate) fn allows(opening: u32, tree: &Tree, snaps: &Snaps, op: &EditOp) -> bool
+pub(crate) fn allows(opening: u32, tree: &Tree, zones: &Zones, snaps: &Snaps, op: &EditOp) -> bool
     ensures { result ≡ allows (record { opening = opening; rows = tree.now.rows; snaps = snaps.now.table }) op.now }
 {
     match op {
         EditOp::Opened { opening: next } => *next as u64 == opening as u64 + 1,
-        _ => allows_change(opening, tree, snaps, op),
+        _ => allows_change(opening, tree, zones, snaps, op),
     }
 }
 
-fn allows_change(opening: u32, tree: &Tree, snaps: &Snaps, op: &EditOp) -> bool
+fn allows_change(opening: u32, tree: &Tree, zones: &Zones, snaps: &Snaps, op: &EditOp) -> bool
     ensures { result ≡ allows_change (record { opening = opening; rows = tree.now.rows; snaps = snaps.now.table }) op.now }
 {
     let ids = may_use_all(opening, tree, op);
-    let free = refusal(tree, snaps, op).is_none();
+    let free = refusal(tree, zones, snaps, op).is_none();
     let fits = fits_key(tree, op);
     0 < opening && ids && free && fits
 }
@@ -203,7 +260,7 @@ fn may_use_all(opening: u32, tree: &Tree, op: &EditOp) -> bool
 }
 
 /// Returns why the table refuses the operation.
-fn refusal(tree: &Tree, snaps: &Snaps, op: &EditOp) -> Option<NameRefusal>
+fn refusal(tree: &Tree, zones: &Zones, snaps: &Snaps, op: &EditOp) -> Option<NameRefusal>
     ensures { (opening : ℕ) → result ≡ first_cause (op_causes (record { opening = opening; rows = tree.now.rows; snaps = snaps.now.table }) op.now) }
 {
     match op {
@@ -211,6 +268,7 @@ fn refusal(tree: &Tree, snaps: &Snaps, op: &EditOp) -> Option<NameRefusal>
         EditOp::Mkdir { path, .. } => to_be_added(tree, path),
         EditOp::File { path, .. } => to_be_added(tree, path),
         EditOp::Remove { path } => to_be_removed_whole(tree, snaps, path),
+        EditOp::Rename { path, to } => to_be_renamed(tree, zones, snaps, path, to),
         EditOp::Zone { path, .. } => to_be_zone(tree, path),
         EditOp::Allow { path } => to_be_allowed(tree, snaps, path),
         EditOp::Disallow { path } => to_be_disallowed(tree, snaps, path),

@@ -7,7 +7,7 @@ use edit_ops::EditOp;
 use frame_log::{StartFault, StoreRefusal};
 use hk_base::{Disk, NoMemory};
 use inode_tree::Tree;
-use name_calls::ZoneList;
+use name_calls::{NPath, NameRefusal, ZoneList};
 use snap_store::Snaps;
 use std::alloc::Global;
 use std::marker::Model;
@@ -36,17 +36,16 @@ impl Model for NameStore {
 }
 
 impl NameStore {
-    ghost use Rattle.std.specs.Prelude.{◌≡◌, ◌≢◌, ◌≤◌, ◌<◌, ◌+◌, ◌⊎◌, ◌++◌, [], ◌∷◌, ℕ, List, Option, Some, None, Ok, IsTrue, IsSome, IsOk, IsErr, IfOk, OnOk, OnErr, IsErrOf, MatchResult, true, false, map};
+    ghost use Rattle.std.specs.Prelude.{◌≡◌, ◌≢◌, ◌≤◌, ◌<◌, ◌+◌, ◌++◌, [], ◌∷◌, ℕ, List, Option, Some, None, Ok, IsTrue, IsSome, IsOk, IsErr, IfOk, OnOk, OnErr, IsErrOf, MatchResult, true, false, map};
     ghost use Rattle.hk_base.specs.Disk.{Tells, RunOn, LeavesOnly};
     ghost use Rattle.hk_base.specs.Faults.{Rose};
-    ghost use Rattle.frame_log.specs.Stands.{LeavesFrom};
     ghost use Rattle.frame_log.specs.declared.fault.StoreRefusal.TheVariants as store;
-    ghost use Rattle.frame_log.specs.declared.fault.StartFault.TheVariants as start;
     ghost use Rattle.edit_ops.specs.Records.{fits};
     ghost use Rattle.edit_ops.specs.declared.ops.EditOp.{EditOp};
     ghost use Rattle.zone_table.specs.Zones.{zone_paths};
-    ghost use Rattle.name_store.specs.Table.{Replayed, after_table, allows};
-    ghost use Rattle.name_store.specs.Store.{Commits, IsDamagedAt, IsLeftByStart, IsLeftOf, IsNameLog, IsStore, NothingMore, Settles, StandsFor, Started, Unsettled, is_opening, made_with};
+    ghost use Rattle.name_store.specs.Causes.{first_cause, rename_causes};
+    ghost use Rattle.name_store.specs.Table.{after_table, allows};
+    ghost use Rattle.name_store.specs.Store.{Commits, IsLeftOf, IsStore, NothingMore, OpensNames, Settles, StandsFor, Started, Unsettled, is_opening, made_with};
 
     /// Opens the edit log of a disk, makes the table of its operations, and commits the record of a new
     /// opening. A crash may stop this call at any moment; start again then.
@@ -55,23 +54,11 @@ impl NameStore {
     /// with the offset of its gate. Returns `Spent` only if opening 4,294,967,295 is recorded.
     pub fn start<D: Disk>(alloc: Global, disk: &mut D) -> Result<NameStore, StartFault>
         ensures started { IfOk result (Started (D.state disk.old) (D.state disk.new)) }
-        ensures damaged { (at : ℕ) → IsErrOf result (start.Damaged at) → Tells (D.state disk.old) → IsDamagedAt ((D.state disk.old).reads 1) at }
-        ensures spent { IsErrOf result start.Spent → Tells (D.state disk.old) → ((ops : List EditOp) × (made : Replayed)
-            × IsNameLog ((D.state disk.old).reads 1) ops made × (made.table.opening ≡ 4294967295)) }
 
         // A crash at any moment leaves what it might have left before, or the log found, now or with its end
-        // gate read as 1, or its operations with the new opening or without it.
-        ensures any_moment { Tells (D.state disk.old) → LeavesOnly 1 (D.state disk.old) (D.state disk.new)
-            (λ c. (D.state disk.old).leaves 1 c ⊎ IsLeftByStart ((D.state disk.old).reads 1) c) }
-
-        // Whatever the result, after the first sync of the call it leaves the latter alone. If that sync
-        // failed, nothing was written.
-        ensures since_sync { Tells (D.state disk.old) →
-            (IsErrOf result start.StoreFault × LeavesOnly 1 (D.state disk.old) (D.state disk.new) ((D.state disk.old).leaves 1))
-            ⊎ LeavesFrom 1 (D.state disk.old) (D.state disk.new) (IsLeftByStart ((D.state disk.old).reads 1)) }
-
-        ensures run { RunOn 1 (D.state disk.old) (D.state disk.new) }
-        ensures cause { IsErrOf result start.StoreFault → Rose (D.state disk.old).faults (D.state disk.new).faults }
+        // gate read as 1, or its operations with the new opening or without it. After the first sync of the
+        // call it leaves the latter alone. If that sync failed, nothing was written.
+        ensures opens { OpensNames (D.state disk.old) (D.state disk.new) (λ fault. IsErrOf result fault) }
     {
         let (log, reader) = EditLog::recover_records(alloc, disk)?;
         let mut log = log;
@@ -157,6 +144,13 @@ impl NameStore {
         ensures { result.now.table ≡ self.now.table.snaps }
     {
         self.names.snaps()
+    }
+
+    /// Returns why a rename is refused, without the pending operation.
+    pub fn rename_refusal(&self, path: &NPath, to: &NPath) -> Option<NameRefusal>
+        ensures { result ≡ first_cause (rename_causes self.now.table.rows self.now.table.snaps path.now to.now) }
+    {
+        self.names.rename_refusal(path, to)
     }
 
     /// Returns the number of this opening.

@@ -1,4 +1,5 @@
 use Rattle.std.proofs.Common.{◌∙◌, List, sym, ap, subst}
+use Rattle.inode_tree.specs.Moves.{renamed}
 use Rattle.inode_tree.specs.Rows.{Entry, put, removed}
 use Rattle.snap_store.specs.Snapshots.{table_after_allow, table_after_remove, table_after_take}
 use Rattle.edit_ops.specs.declared.ops.EditOp.TheVariants as op
@@ -35,6 +36,15 @@ invariant_of-self-in-Remove c =
     let fits = fits-of t c.args.self.now.table (op.Remove c.in-Remove.path) c.args.op.now (ap (λ (s : NamesState). s.table) c.self.view_is) c.in-Remove.is good c.requires in
     let after : FitsRows (removed c.in-Remove.path rows) c.remove.new.snaps.table = subst (FitsRows (removed c.in-Remove.path rows)) (sym c.remove.ensures.snaps) fits in
     (c.remove.ensures.zones, subst (λ (es : List Entry). FitsRows es c.remove.new.snaps.table) (sym c.remove.ensures.rows) after)
+
+pub invariant_of-self-in-Rename : goal.invariant_of-self-in-Rename
+invariant_of-self-in-Rename c =
+    let rows = c.self.inside.tree.rows in
+    let snaps = c.self.inside.snaps.table in
+    let t : NameTable = record { opening = c.self.inside.opening; rows = rows; snaps = snaps } in
+    let good : IsTable t = record { rules = c.rows.ensures.rules; snaps = c.invariants.ensures; fits = c.self.invariant.1 } in
+    let fits = fits-of t c.args.self.now.table (op.Rename c.in-Rename.path c.in-Rename.to) c.args.op.now (ap (λ (s : NamesState). s.table) c.self.view_is) c.in-Rename.is good c.requires in
+    (c.self.invariant.0 ∙ sym c.rename.ensures.zones, either (λ (es : List Entry). FitsRows es snaps) c.rename.result c.rename.new.tree.rows (renamed c.in-Rename.path c.in-Rename.to rows) rows c.rename.ensures.ok c.rename.ensures.err fits c.self.invariant.1)
 
 pub invariant_of-self-in-Zone : goal.invariant_of-self-in-Zone
 invariant_of-self-in-Zone c =
