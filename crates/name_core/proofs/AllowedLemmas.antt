@@ -143,6 +143,8 @@ allowed-call s (call.Mkdir p) o opened ids free is =
 allowed-call s (call.Delete p recursive) o opened ids free is =
     let same : op.Remove p ≡ o = cc in
     subst (λ (x : EditOp). allows s.table x ≡ true) same (plainly-allowed s.table (op.Remove p) opened refl refl refl (remove-free s.table p recursive free))
+allowed-call s (call.Rename p q) o opened ids free is =
+    let same : op.Rename p q ≡ o = cc in subst (λ (x : EditOp). allows s.table x ≡ true) same (plainly-allowed s.table (op.Rename p q) opened refl refl refl free)
 allowed-call s (call.Allow p) o opened ids free is =
     let same : op.Allow p ≡ o = cc in subst (λ (x : EditOp). allows s.table x ≡ true) same (plainly-allowed s.table (op.Allow p) opened refl refl refl free)
 allowed-call s (call.Disallow p) o opened ids free is =
@@ -160,6 +162,7 @@ allowed-call s call.Zones o opened ids free is = absurd cc
 pub no-opening : (s : NameState) (c : NameCall) (o : EditOp) → (deed s c).logs ≡ Some o → is_opening o ≡ false
 no-opening s (call.Mkdir p) o is = let same : op.Mkdir (next_id s) p ≡ o = cc in ap is_opening (sym same)
 no-opening s (call.Delete p recursive) o is = let same : op.Remove p ≡ o = cc in ap is_opening (sym same)
+no-opening s (call.Rename p q) o is = let same : op.Rename p q ≡ o = cc in ap is_opening (sym same)
 no-opening s (call.Allow p) o is = let same : op.Allow p ≡ o = cc in ap is_opening (sym same)
 no-opening s (call.Disallow p) o is = let same : op.Disallow p ≡ o = cc in ap is_opening (sym same)
 no-opening s (call.Snap p name) o is = let same : op.Snap p name ≡ o = cc in ap is_opening (sym same)
@@ -287,6 +290,11 @@ named p name h =
     let path = clear (starts_reserved p) refusal.BadPath _ h in
     join (not (starts_reserved p)) (is_component name) (ap not path.0) (yes (is_component name) (clear (not (is_component name)) refusal.BadPath _ path.1).0)
 
+neither : (p q : List (List ℕ)) → first_cause (path_causes p ++ path_causes q) ≡ None → (not (starts_reserved p) && not (starts_reserved q)) ≡ true
+neither p q h =
+    let path = clear (starts_reserved p) refusal.BadPath _ h in
+    join (not (starts_reserved p)) (not (starts_reserved q)) (ap not path.0) (ap not (clear (starts_reserved q) refusal.BadPath _ path.1).0)
+
 -- the operation of a change that is not refused may be written
 pub may-write : (s : NameState) (c : NameCall) (o : EditOp) → 0 < s.table.opening → s.next ≤ 2 ^ 32 → IdsFit s.table.rows s.asks (next_id s) → AreRecent s.table.opening s.asks
     → MayBegin c → first_cause (causes s c) ≡ None → (deed s c).logs ≡ Some o → MayWrite s o (record s { next = s.next + ids_used c })
@@ -303,6 +311,9 @@ may-write s c o opened few ids recent begins free is = go c begins free is
         let same : op.Remove p ≡ o = cc in
         subst (λ (x : EditOp). MayWrite s x (record s { next = s.next + 0 })) same
         (may-plain s (op.Remove p) k refl refl refl (ap not (not-reserved p begins.1)) (remove-free s.table p recursive free))
+    go (call.Rename p q) begins free is =
+        let same : op.Rename p q ≡ o = cc in
+        subst (λ (x : EditOp). MayWrite s x (record s { next = s.next + 0 })) same (may-plain s (op.Rename p q) k refl refl refl (neither p q begins.1) free)
     go (call.Allow p) begins free is =
         let same : op.Allow p ≡ o = cc in
         subst (λ (x : EditOp). MayWrite s x (record s { next = s.next + 0 })) same (may-plain s (op.Allow p) k refl refl refl (ap not (clear (starts_reserved p) refusal.BadPath _ begins.1).0) free)

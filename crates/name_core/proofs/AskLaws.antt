@@ -146,6 +146,7 @@ deed-done s (call.Mkdir p) free k = record {
   keeps = keeps-done s (numbered s) (op.Mkdir (next_id s) p) (behind-make s p k.ids k.recent (room-left s p free));
 }
 deed-done s (call.Delete p recursive) free k = plain-done s (op.Remove p) refl refl k
+deed-done s (call.Rename p q) free k = plain-done s (op.Rename p q) refl refl k
 deed-done s (call.Allow p) free k = plain-done s (op.Allow p) refl refl k
 deed-done s (call.Disallow p) free k = plain-done s (op.Disallow p) refl refl k
 deed-done s (call.Snap p name) free k = plain-done s (op.Snap p name) refl refl k
@@ -161,6 +162,7 @@ deed-pending s (call.Mkdir p) free k = record {
   keeps = keeps-pending s (numbered s) (op.Mkdir (next_id s) p) (behind-make s p k.ids k.recent (room-left s p free));
 }
 deed-pending s (call.Delete p recursive) free k = plain-pending s (op.Remove p) refl refl k
+deed-pending s (call.Rename p q) free k = plain-pending s (op.Rename p q) refl refl k
 deed-pending s (call.Allow p) free k = plain-pending s (op.Allow p) refl refl k
 deed-pending s (call.Disallow p) free k = plain-pending s (op.Disallow p) refl refl k
 deed-pending s (call.Snap p name) free k = plain-pending s (op.Snap p name) refl refl k

@@ -10,6 +10,7 @@ use Rattle.std.proofs.lemmas.Bool.Decides.{nat_tests}
 use Rattle.std.proofs.lemmas.List.Elements.{All-head, All-tail, All-cons, All-nil}
 use Rattle.inode_tree.specs.declared.rows.Kind.{Kind}
 use Rattle.name_calls.specs.Paths.{is_before, starts_reserved}
+use Rattle.inode_tree.specs.Moves.{moved, renamed}
 use Rattle.inode_tree.specs.Rows.{Entry, entry_of, mark_of, put, set_kind, with_kind, zone_id, zone_of}
 use Rattle.name_core.specs.declared.asks.OpenAsk.{OpenAsk}
 use Rattle.name_calls.specs.declared.calls.NameRefusal.TheVariants.{BadPath, NotSuperuser, TooManyInodes}
@@ -22,7 +23,7 @@ use Rattle.name_core.specs.State.{IdsFit, IsRising, NameState, is_spent}
 use Rattle.name_core.specs.Asks.{ask_causes, open_ask, without}
 use Rattle.name_core.specs.Calls.{is_superuser}
 use Rattle.name_core.specs.Steps.{AreKeyed}
-use Rattle.name_core.proofs.RowLemmas.{BelowId, id-free, room-left}
+use Rattle.name_core.proofs.RowLemmas.{BelowId, all-put, id-free, room-left}
 
 -- properties of each ask
 
@@ -176,6 +177,14 @@ kind-below m n kind [] h = All-nil (BelowId m)
 kind-below m n kind (x ∷ es) h =
     All-cons (BelowId m) (with_kind n kind x) (set_kind es n kind) (subst (λ (i : ℕ). i < m) (sym (kind-id n kind x)) (All-head (BelowId m) x es h))
     (kind-below m n kind es (All-tail (BelowId m) x es h))
+
+pub moved-free : (p q : List (List ℕ)) (es : List Entry) (id : ℕ) → entry_of es id ≡ None → entry_of (renamed p q es) id ≡ None
+moved-free p q [] id h = refl
+moved-free p q (x ∷ es) id h = let parts = free-parts x es id h in put-free (moved p q x) (renamed p q es) id parts.0 (moved-free p q es id parts.1)
+
+pub moved-below : (m : ℕ) (p q : List (List ℕ)) (es : List Entry) → All (BelowId m) es → All (BelowId m) (renamed p q es)
+moved-below m p q [] h = All-nil (BelowId m)
+moved-below m p q (x ∷ es) h = all-put (BelowId m) (moved p q x) (renamed p q es) (All-head (BelowId m) x es h) (moved-below m p q es (All-tail (BelowId m) x es h))
 
 pub no-key : (rows : List Entry) (p : List (List ℕ)) → zone_id rows p ≡ None → key_of_zone rows p ≡ None
 no-key rows p h = go (zone_of rows p) h

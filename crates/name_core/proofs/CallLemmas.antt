@@ -174,6 +174,7 @@ same-counter s o = let plus : s.next ≡ s.next + 0 = omega arith in λ i. done_
 pub deed-is : (s : NameState) (c : NameCall) (o : EditOp) → (deed s c).logs ≡ Some o → deed s c ≡ done_deed o (record s { next = s.next + ids_used c })
 deed-is s (call.Mkdir p) o is = let same : op.Mkdir (next_id s) p ≡ o = cc in ap (λ (x : EditOp). done_deed x (record s { next = s.next + 1 })) same
 deed-is s (call.Delete p recursive) o is = let same : op.Remove p ≡ o = cc in ap (only_logs s) same ∙ same-counter s o
+deed-is s (call.Rename p q) o is = let same : op.Rename p q ≡ o = cc in ap (only_logs s) same ∙ same-counter s o
 deed-is s (call.Allow p) o is = let same : op.Allow p ≡ o = cc in ap (only_logs s) same ∙ same-counter s o
 deed-is s (call.Disallow p) o is = let same : op.Disallow p ≡ o = cc in ap (only_logs s) same ∙ same-counter s o
 deed-is s (call.Snap p name) o is = let same : op.Snap p name ≡ o = cc in ap (only_logs s) same ∙ same-counter s o
@@ -186,6 +187,7 @@ deed-is s call.Zones o is = absurd cc
 pub takes-memory : (s : NameState) (c : NameCall) → is_change c ≡ true → takes_memory s c ≡ true
 takes-memory s (call.Mkdir p) h = refl
 takes-memory s (call.Delete p recursive) h = refl
+takes-memory s (call.Rename p q) h = refl
 takes-memory s (call.Allow p) h = refl
 takes-memory s (call.Disallow p) h = refl
 takes-memory s (call.Snap p name) h = refl

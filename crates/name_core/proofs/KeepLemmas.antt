@@ -5,6 +5,7 @@ use Rattle.std.specs.List.{All, filter}
 use Rattle.std.proofs.lemmas.List.Elements.{All-filter}
 use Rattle.inode_tree.specs.declared.rows.Kind.TheVariants.{Dir}
 use Rattle.name_calls.specs.Paths.{is_prefix}
+use Rattle.inode_tree.specs.Moves.{renamed}
 use Rattle.inode_tree.specs.Rows.{Entry, entry_of, put, removed}
 use Rattle.edit_ops.specs.declared.ops.EditOp.{EditOp}
 use Rattle.edit_ops.specs.declared.ops.EditOp.TheVariants as op
@@ -17,7 +18,7 @@ use Rattle.name_core.specs.State.{AreFree, AreRecent, IdsFit, IsNames, IsWaiting
 use Rattle.name_core.specs.Asks.{closed}
 use Rattle.name_core.specs.Calls.{done_with}
 use Rattle.name_core.specs.Steps.{IsApart, IsBehind, Keeps}
-use Rattle.name_core.proofs.AskLemmas.{each-append, each-map, each-without, fit-ask, fit-without, free-put, kind-below, kind-free}
+use Rattle.name_core.proofs.AskLemmas.{each-append, each-map, each-without, fit-ask, fit-without, free-put, kind-below, kind-free, moved-below, moved-free}
 use Rattle.name_core.proofs.AllowedLemmas.{fit-rise, not-among}
 use Rattle.name_core.proofs.RowLemmas.{BelowId, all-put}
 
@@ -64,6 +65,12 @@ fit-op t (op.Remove p) asks n safe below apart fit = record {
   free = each-map (λ (a : OpenAsk). entry_of t.rows a.id ≡ None) (λ (a : OpenAsk). entry_of (removed p t.rows) a.id ≡ None) (λ a h. filter-free (λ (e : Entry). not (is_prefix p e.path)) t.rows a.id h) asks fit.free;
   rising = fit.rising;
 }
+fit-op t (op.Rename p q) asks n safe below apart fit = record {
+  of_rows = moved-below n p q t.rows fit.of_rows;
+  of_asks = fit.of_asks;
+  free = each-map (λ (a : OpenAsk). entry_of t.rows a.id ≡ None) (λ (a : OpenAsk). entry_of (renamed p q t.rows) a.id ≡ None) (λ a h. moved-free p q t.rows a.id h) asks fit.free;
+  rising = fit.rising;
+}
 fit-op t (op.Zone p key) asks n safe below apart fit = record {
   of_rows = kind-below n (id_at t.rows p) (Dir (Some key)) t.rows fit.of_rows;
   of_asks = fit.of_asks;
@@ -80,6 +87,7 @@ same-opening t (op.Opened opening) safe = absurd cc
 same-opening t (op.Mkdir id p) safe = refl
 same-opening t (op.File id p edek) safe = refl
 same-opening t (op.Remove p) safe = refl
+same-opening t (op.Rename p q) safe = refl
 same-opening t (op.Zone p key) safe = refl
 same-opening t (op.Allow p) safe = refl
 same-opening t (op.Disallow p) safe = refl

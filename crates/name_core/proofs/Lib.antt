@@ -8,6 +8,7 @@ pub mod LawLemmas
 pub mod Layers
 pub mod LoggingLemmas
 pub mod PathCopies
+pub mod RenameLaws
 pub mod RowLemmas
 pub mod SnapshotLaws
 pub mod SnapshotRows

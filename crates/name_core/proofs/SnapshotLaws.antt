@@ -45,11 +45,11 @@ use Rattle.name_core.proofs.SnapshotRows.{children-below, row-below, zone-path-b
 
 -- changes that were done
 
-record DoneBy (s : NameState) (c : NameCall) (o : EditOp) (s' : NameState) : Type 0 where
-  free : first_cause (causes s c) ≡ None
-  left : s' ≡ took s o
+pub record DoneBy (s : NameState) (c : NameCall) (o : EditOp) (s' : NameState) : Type 0 where
+  pub free : first_cause (causes s c) ≡ None
+  pub left : s' ≡ took s o
 
-done-by : (s : NameState) (c : NameCall) (o : EditOp) (s' : NameState) → deed s c ≡ only_logs s o → NameActs s c reply.Done s' → DoneBy s c o s'
+pub done-by : (s : NameState) (c : NameCall) (o : EditOp) (s' : NameState) → deed s c ≡ only_logs s o → NameActs s c reply.Done s' → DoneBy s c o s'
 done-by s c o s' does (NoRoom, may, is) = let f : reply.Done ≡ reply.Refused refusal.NoMemory = ap (λ x. x.told) is in absurd cc
 done-by s c o s' does (Plain, may, is) = go (first_cause (causes s c)) refl is
   where
@@ -99,6 +99,7 @@ stays t (op.Opened opening) dir name was may keeps stood = stood
 stays t (op.Mkdir id p) dir name was may keeps stood = stood
 stays t (op.File id p edek) dir name was may keeps stood = stood
 stays t (op.Remove p) dir name was may keeps stood = stood
+stays t (op.Rename p q) dir name was may keeps stood = stood
 stays t (op.Zone p key) dir name was may keeps stood = stood
 stays t (op.Allow p) dir name was may keeps stood = stood
 stays t (op.Disallow p) dir name was may keeps stood = stood
@@ -130,6 +131,7 @@ data TableNext (n : NameState) (c : NameCall) (t : NameTable) : Type 0 where
 deed-table : (s : NameState) (c : NameCall) → (deed s c).state.table ≡ s.table
 deed-table s (call.Mkdir p) = refl
 deed-table s (call.Delete p recursive) = refl
+deed-table s (call.Rename p q) = refl
 deed-table s (call.Info r) = refl
 deed-table s (call.List r) = refl
 deed-table s (call.Allow p) = refl

@@ -1,7 +1,7 @@
 -- What info and lists tell of a snapshot stays the same while the snapshot is there.
-use Rattle.std.proofs.Common.{◌≡◌, ℕ, ◌+◌, ◌≤◌, zero, suc, Bool, true, false, cond, not, ◌&&◌, ◌||◌, List, [], ◌∷◌, ◌++◌, length, Option, Some, None, is_none, refl, sym, ap, ◌∙◌, subst, arith}
+use Rattle.std.proofs.Common.{◌≡◌, ℕ, ◌+◌, ◌≤◌, zero, suc, Bool, true, false, cond, not, ◌&&◌, ◌||◌, List, [], ◌∷◌, ◌++◌, drop, length, Option, Some, None, is_none, refl, sym, ap, ◌∙◌, subst, arith}
 use Rattle.std.specs.Prelude.{◌==◌}
-use Rattle.std.specs.List.{All, filter, find, list_any}
+use Rattle.std.specs.List.{All, AllByRecursion, filter, find, list_any}
 use Rattle.std.specs.Option.{option_map_or}
 use Rattle.std.specs.Ordering.{is_lt, nat_cmp}
 use Rattle.std.specs.Str.{bytes_eq}
@@ -16,7 +16,11 @@ use Rattle.inode_tree.specs.declared.rows.Kind.{Kind}
 use Rattle.inode_tree.specs.declared.rows.Kind.TheVariants.{Dir}
 use Rattle.inode_tree.specs.Below.{at_or_below}
 use Rattle.inode_tree.specs.Listing.{children}
+use Rattle.inode_tree.specs.Moves.{CanMove, renamed}
 use Rattle.inode_tree.specs.Rows.{Entry, IsRows, entry_of, has_children, is_dir, is_dir_at, is_marked, is_zone_over, longer, put, row_at, set_kind, with_kind, zone_of}
+use Rattle.inode_tree.proofs.MovedLaws.{free as all-off, placed, row-renamed}
+use Rattle.inode_tree.proofs.MovedRows.{IsOff}
+use Rattle.inode_tree.proofs.MovedZones.{zone-elsewhere}
 use Rattle.inode_tree.proofs.Seeks.{same-is, same-itself}
 use Rattle.inode_tree.proofs.ZoneLemmas.{prefix-itself}
 use Rattle.snap_store.specs.Ordered.{put_by}
@@ -28,7 +32,7 @@ use Rattle.name_calls.specs.declared.calls.NameRefusal.TheVariants as refusal
 use Rattle.name_calls.specs.declared.calls.NameReply.TheVariants as reply
 use Rattle.name_store.specs.Causes.{allowed_causes, directory_causes, disallow_causes, first_cause, id_at, id_of, kept_causes, removal_causes, row_causes, to_be_made, unsnap_causes}
 use Rattle.name_store.specs.Table.{IsTable, NameTable, after_table, allows, new_directory, new_file}
-use Rattle.name_store.proofs.CauseLemmas.{IsDisallowable, IsMarkable, allowed, both, clear, directory, disallowable, holds-none, join, makeable, markable, none-of-both, none-of-join}
+use Rattle.name_store.proofs.CauseLemmas.{IsDisallowable, IsMarkable, allowed, both, clear, directory, disallowable, holds-none, join, makeable, markable, none-of-both, none-of-join, renamable}
 use Rattle.name_store.proofs.IdLemmas.{kind-id}
 use Rattle.name_store.proofs.RowLemmas.{directory-entry}
 use Rattle.name_core.specs.Reads.{answer_unless, entry_causes, info_answer, info_reply, list_answer, list_reply, other_zone, shown_at, snapshot_rows, zone_in_or_above}
@@ -127,6 +131,31 @@ apart-from t p q name good r none = (below, sym (ap (λ (o : Option Entry). opti
     below =
         ap (λ (id : ℕ). at_or_below t.rows id q) (sym (named t.snaps.taken r.was r.named))
         ∙ none-holds (λ (s : Snapshot). at_or_below t.rows s.dir q) (is_named (id_at t.rows p) name) t.snaps.taken r.was none r.named
+
+-- rows that move
+
+-- below a path where there is no row there is no directory
+off-at : (q p : List (List ℕ)) (es : List Entry) → AllByRecursion (IsOff q) es → is_dir_at (row_at es p) ≡ true → is_prefix q p ≡ false
+off-at q p [] off dir = absurd cc
+off-at q p (x ∷ es) off dir = go (same_path x.path p) refl dir (off-at q p es off.1)
+  where
+    go : (b : Bool) → same_path x.path p ≡ b → is_dir_at (cond b (Some x.row) (row_at es p)) ≡ true → (is_dir_at (row_at es p) ≡ true → is_prefix q p ≡ false) → is_prefix q p ≡ false
+    go true is dir rest = ap (is_prefix q) (sym (same-is x.path p is)) ∙ off.0
+    go false is dir rest = rest dir
+
+-- a directory that doesn't move stays, and its zone too
+same-rename : (t : NameTable) (p a b : List (List ℕ)) → IsRows t.rows → CanMove t.rows a b → is_prefix a p ≡ false → is_dir_at (row_at t.rows p) ≡ true → is_among t.snaps.allowed (id_at t.rows p) ≡ true
+    → IsSame t (after_table t (op.Rename a b)) p
+same-rename t p a b good can out dir may = same-rows t (after_table t (op.Rename a b)) p dir row (zone-elsewhere t.rows a b good can p out off) may
+  where
+    off : is_prefix b p ≡ false
+    off = off-at b p t.rows (all-off t.rows a b (placed t.rows good) can) dir
+
+    row : row_at (renamed a b t.rows) p ≡ row_at t.rows p
+    row =
+        row-renamed t.rows a b good can p
+        ∙ ap (λ (c : Bool). cond c (row_at t.rows (a ++ drop (length b) p)) (cond (is_prefix a p) None (row_at t.rows p))) off
+        ∙ ap (λ (c : Bool). cond c None (row_at t.rows p)) out
 
 -- a directory that becomes a zone
 
@@ -305,6 +334,9 @@ same-after t (op.Remove q) p name good may r =
     let out = apart-from t p q name good.rules r none in
     same-rows t (after_table t (op.Remove q)) p r.dir (other-row q p t.rows out.1) (other-zone q p t.rows out.1)
     (among-kept (λ (id : ℕ). not (at_or_below t.rows id q)) t.snaps.allowed (id_at t.rows p) (ap not out.0) r.allowed)
+same-after t (op.Rename a b) p name good may r =
+    let free = renamable t.rows t.snaps a b (allowed t (op.Rename a b) refl may).free in
+    same-rename t p a b good.rules free.can (apart-from t p a name good.rules r free.none).1 r.dir r.allowed
 same-after t (op.Zone q key) p name good may r = same-zone t p q key name good.rules r (markable t.rows q (allowed t (op.Zone q key) refl may).free)
 same-after t (op.Allow q) p name good may r = same-rows t (after_table t (op.Allow q)) p r.dir refl refl (among-with t.snaps.allowed (id_at t.rows q) (id_at t.rows p) r.allowed)
 same-after t (op.Disallow q) p name good may r =

@@ -11,7 +11,7 @@ use Rattle.inode_tree.specs.Rows.{Entry, has_children}
 use Rattle.snap_store.specs.Snapshots.{SnapTable}
 use Rattle.zone_table.specs.Zones.{zone_paths}
 pub use Rattle.name_store.specs.Causes.{first_cause, to_be_made}
-use Rattle.name_store.specs.Causes.{allow_causes, disallow_causes, kept_causes, removal_causes, snap_causes, unsnap_causes}
+use Rattle.name_store.specs.Causes.{allow_causes, disallow_causes, kept_causes, removal_causes, rename_causes, snap_causes, unsnap_causes}
 use Rattle.name_calls.specs.declared.calls.NameCall.{NameCall}
 use Rattle.name_calls.specs.declared.calls.NameCall.TheVariants as call
 use Rattle.name_calls.specs.declared.calls.NameReply.{NameReply}
@@ -33,6 +33,7 @@ delete_causes rows snaps p recursive = removal_causes rows p ++ (not recursive &
 abbrev pub causes : NameState → NameCall → List (Bool × NameRefusal)
 causes s (call.Mkdir p) = mkdir_causes s p
 causes s (call.Delete p recursive) = delete_causes s.table.rows s.table.snaps p recursive
+causes s (call.Rename p q) = rename_causes s.table.rows s.table.snaps p q
 causes s (call.Info r) = info_causes s.table r
 causes s (call.List r) = list_causes s.table r
 causes s (call.Allow p) = allow_causes s.table.rows s.table.snaps p
@@ -41,7 +42,7 @@ causes s (call.Snap p name) = snap_causes s.table.rows s.table.snaps p name
 causes s (call.Unsnap p name) = unsnap_causes s.table.rows s.table.snaps p name
 causes s call.Zones = []
 
--- Why a call is refused before anything is settled: its path begins with `.reserved`, its name of a snapshot can't be a name, or only
+-- Why a call is refused before anything is settled: a path of it begins with `.reserved`, its name of a snapshot can't be a name, or only
 -- the superuser may make the call.
 
 abbrev pub superuser : List ℕ
@@ -69,6 +70,7 @@ read_path_causes r = path_causes r.path ++ part_name_causes r.snapshot
 abbrev pub early_causes : Text → NameCall → List (Bool × NameRefusal)
 early_causes user (call.Mkdir p) = path_causes p
 early_causes user (call.Delete p recursive) = path_causes p
+early_causes user (call.Rename p q) = path_causes p ++ path_causes q
 early_causes user (call.Info r) = read_path_causes r
 early_causes user (call.List r) = read_path_causes r
 early_causes user (call.Allow p) = path_causes p ++ superuser_causes user
@@ -97,6 +99,7 @@ only_logs s op = record { answer = reply.Done; logs = Some op; state = s }
 abbrev pub deed : NameState → NameCall → Deed
 deed s (call.Mkdir p) = record { answer = reply.Done; logs = Some (op.Mkdir (next_id s) p); state = numbered s }
 deed s (call.Delete p recursive) = only_logs s (op.Remove p)
+deed s (call.Rename p q) = only_logs s (op.Rename p q)
 deed s (call.Info r) = only_answer s (info_reply s.table r)
 deed s (call.List r) = only_answer s (list_reply s.table r)
 deed s (call.Allow p) = only_logs s (op.Allow p)

@@ -1,6 +1,7 @@
--- Properties of what was made or deleted, of ids, and of asks that were finished.
+-- Properties of what was made, deleted or renamed, of ids, and of asks that were finished.
 use Rattle.std.specs.Prelude.{◌≡◌, ℕ, ◌<◌, ◌⊎◌, ◌&&◌, ◌==◌, Bool, true, false, List, [], ◌∷◌, ◌++◌, Option, None, Some, IfSome, Result, Ok, Err, bytes_eq, is_some}
 use Rattle.std.specs.List.{list_any}
+use Rattle.std.specs.Option.{option_map}
 use Rattle.hk_base.specs.declared.names.Edek.{Edek}
 use Rattle.hk_base.specs.declared.names.KeyName.{KeyName}
 use Rattle.hk_base.specs.declared.texts.Text.{Text}
@@ -9,7 +10,9 @@ use Rattle.name_calls.specs.declared.paths.NPath.{NPath}
 use Rattle.name_calls.specs.Paths.{is_prefix, parent}
 use Rattle.name_calls.specs.ReadPaths.{as_it_is, as_it_was}
 use Rattle.name_calls.specs.declared.read_paths.ReadPath.{ReadPath}
-use Rattle.inode_tree.specs.Rows.{Entry, IsRows, row_at, zone_id}
+use Rattle.inode_tree.specs.MoveLaws.{row_after}
+use Rattle.inode_tree.specs.Moves.{moved}
+use Rattle.inode_tree.specs.Rows.{Entry, IsRows, entry_of, row_at, zone_id}
 use Rattle.snap_store.specs.Snapshots.{Snapshot, snapshot_named}
 use Rattle.edit_ops.specs.declared.ops.EditOp.{EditOp}
 use Rattle.edit_ops.specs.declared.ops.EditOp.TheVariants as op
@@ -87,6 +90,38 @@ abbrev pub OthersStayByDelete : Type 0
 OthersStayByDelete =
     (s : NameState) (p : NPath) (recursive : Bool) (s' : NameState) (q : NPath)
     → NameActs s (call.Delete p recursive) reply.Done s' → is_prefix p q ≡ false → info_reply s'.table (as_it_is q) ≡ info_reply s.table (as_it_is q)
+
+-- what was renamed has moved
+
+-- After a rename there is at each path what `row_after` says: at the new path and below it what was at the old path and below it, at
+-- those nothing, and elsewhere what was there.
+abbrev pub RenamedHasMoved : Type 0
+RenamedHasMoved =
+    (s : NameState) (p q : NPath) (s' : NameState) (r : NPath)
+    → IsRows s.table.rows → NameActs s (call.Rename p q) reply.Done s' → row_at s'.table.rows r ≡ row_after p q s.table.rows r
+
+-- each id keeps its row, with its mark or its encrypted key, at its path after the move
+abbrev pub RenamedKeepsRows : Type 0
+RenamedKeepsRows =
+    (s : NameState) (p q : NPath) (s' : NameState) (id : ℕ)
+    → IsRows s.table.rows → NameActs s (call.Rename p q) reply.Done s' → entry_of s'.table.rows id ≡ option_map (moved p q) (entry_of s.table.rows id)
+
+-- what has moved lies in the zone that it lay in, or in none if it lay in none
+abbrev pub RenamedKeepsZone : Type 0
+RenamedKeepsZone =
+    (s : NameState) (p q : NPath) (s' : NameState) (below : NPath)
+    → IsRows s.table.rows → NameActs s (call.Rename p q) reply.Done s' → zone_id s'.table.rows (q ++ below) ≡ zone_id s.table.rows (p ++ below)
+
+-- and so does what is elsewhere
+abbrev pub OthersKeepZone : Type 0
+OthersKeepZone =
+    (s : NameState) (p q : NPath) (s' : NameState) (r : NPath)
+    → IsRows s.table.rows → NameActs s (call.Rename p q) reply.Done s' → is_prefix p r ≡ false → is_prefix q r ≡ false
+    → zone_id s'.table.rows r ≡ zone_id s.table.rows r
+
+-- the snapshots, and the directories that may have them, are the same
+abbrev pub RenamedKeepsSnapshots : Type 0
+RenamedKeepsSnapshots = (s : NameState) (p q : NPath) (s' : NameState) → NameActs s (call.Rename p q) reply.Done s' → s'.table.snaps ≡ s.table.snaps
 
 -- A list has a name exactly if the directory has an entry of that name. In a snapshot, if the directory had one then.
 abbrev pub ListTellsChildren : Type 0

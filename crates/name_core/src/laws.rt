@@ -1,6 +1,6 @@
-//! Laws about directories, files and zones that were made, about deleted paths, about snapshots,
-//! about ids, and about finished asks. The functions do nothing: their contracts state the laws.
-ghost use Rattle.name_core.specs.Laws.{AskIdsRise, DeletedIsGone, FileIsTold, FinishedForGood, FinishedOnce, IdsRise, IdsStayBelow, ListTellsChildren, MadeIsTold, NamesKeepIds, OthersStay, OthersStayByDelete, OthersStayByFile, SettlingKeepsSnapshots, SnapshotIsListed, SnapshotIsTold, SnapshotsStay, SnapshotsTellTheSame, StepsKeepSnapshots, UnsnapIsGone, ZoneIsAsAsked, ZoneIsTold};
+//! Laws about directories, files and zones that were made, about deleted and renamed paths, about
+//! snapshots, about ids, and about finished asks. The functions do nothing: their contracts state the laws.
+ghost use Rattle.name_core.specs.Laws.{AskIdsRise, DeletedIsGone, FileIsTold, FinishedForGood, FinishedOnce, IdsRise, IdsStayBelow, ListTellsChildren, MadeIsTold, NamesKeepIds, OthersKeepZone, OthersStay, OthersStayByDelete, OthersStayByFile, RenamedHasMoved, RenamedKeepsRows, RenamedKeepsSnapshots, RenamedKeepsZone, SettlingKeepsSnapshots, SnapshotIsListed, SnapshotIsTold, SnapshotsStay, SnapshotsTellTheSame, StepsKeepSnapshots, UnsnapIsGone, ZoneIsAsAsked, ZoneIsTold};
 
 /// After a directory was made, `Info` on its path returns the next id, the zone that its parent
 /// lies in, and no key, unless it returns `NoMemory`. The answer for each other path stays the
@@ -30,6 +30,18 @@ pub fn made_zones_are_told()
 pub fn deleted_paths_are_gone()
     ensures gone { DeletedIsGone }
     ensures others { OthersStayByDelete }
+{}
+
+/// After a rename, what was at the old path and below it is at the new path and below it. There is
+/// nothing at the old path, and every other path keeps its row. Each id keeps its row, with the key
+/// of its zone or its encrypted key. Nothing moves into a zone or out of one. The snapshots, and
+/// which directories may have them, stay the same.
+pub fn renames_move_together()
+    ensures moves { RenamedHasMoved }
+    ensures ids { RenamedKeepsRows }
+    ensures zones { RenamedKeepsZone }
+    ensures others { OthersKeepZone }
+    ensures snapshots { RenamedKeepsSnapshots }
 {}
 
 /// A list contains a name if and only if the directory has an entry with that name. The same is

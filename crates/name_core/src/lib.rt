@@ -11,7 +11,7 @@ mod rules;
 pub use laws::{
     asks_are_finished_once, deleted_paths_are_gone, ids_rise, lists_tell_what_lies_in_a_directory,
     made_directories_are_told, made_files_are_told, made_zones_are_told,
-    removed_snapshots_are_gone, snapshots_stay, taken_snapshots_are_told,
+    removed_snapshots_are_gone, renames_move_together, snapshots_stay, taken_snapshots_are_told,
 };
 pub use name_calls::{Answered, Ask, AskNote, KeyAnswer, NameCall, NameRefusal, NameReply, Want};
 pub use namesystem::Name;

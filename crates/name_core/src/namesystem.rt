@@ -1,13 +1,9 @@
 //! The namesystem and its calls.
-ghost use Rattle.std.specs.Prelude.{◌≡◌, ◌⊎◌, ◌+◌, ℕ, List, IfOk, IsErrOf, MatchResult, None, Option, Some, false, is_some, length, true};
-ghost use Rattle.hk_base.specs.Disk.{LeavesOnly, RunOn, Tells};
-ghost use Rattle.hk_base.specs.Faults.{Rose};
-ghost use Rattle.frame_log.specs.Stands.{LeavesFrom};
-ghost use Rattle.frame_log.specs.declared.fault.StartFault.TheVariants as start;
+ghost use Rattle.std.specs.Prelude.{◌≡◌, ◌+◌, List, IfOk, IsErrOf, MatchResult, None, Option, Some, false, is_some, length, true};
+ghost use Rattle.hk_base.specs.Disk.{Tells};
 ghost use Rattle.name_calls.specs.Paths.{starts_reserved};
 ghost use Rattle.edit_ops.specs.declared.ops.EditOp.{EditOp};
-ghost use Rattle.name_store.specs.Table.{Replayed};
-ghost use Rattle.name_store.specs.Store.{IsDamagedAt, IsLeftByStart, IsNameLog};
+ghost use Rattle.name_store.specs.Store.{OpensNames};
 ghost use Rattle.name_core.specs.State.{IsNames, StandsFor, is_full, is_spent, names_of, next_id, service_of};
 ghost use Rattle.name_calls.specs.Answers.{answer_of};
 ghost use Rattle.name_core.specs.Asks.{Asks, ask_causes, ask_gone, closed, finish_causes, finish_op, open_ask, opened, without};
@@ -70,24 +66,12 @@ impl Name {
     /// recorded.
     pub fn start<D: Disk>(alloc: Global, disk: &mut D) -> Result<Name, StartFault>
         ensures started { IfOk result (Starts (D.state disk.old) (D.state disk.new)) }
-        ensures damaged { (at : ℕ) → IsErrOf result (start.Damaged at) → Tells (D.state disk.old) → IsDamagedAt ((D.state disk.old).reads 1) at }
-        ensures spent { IsErrOf result start.Spent → Tells (D.state disk.old) → ((ops : List EditOp) × (made : Replayed)
-            × IsNameLog ((D.state disk.old).reads 1) ops made × (made.table.opening ≡ 4294967295)) }
 
         // A crash at any moment leaves what it might have left before the call, or the log that was
         // found, as it is or with its end gate read as 1, or its operations with or without the new
-        // opening.
-        ensures any_moment { Tells (D.state disk.old) → LeavesOnly 1 (D.state disk.old) (D.state disk.new)
-            (λ c. (D.state disk.old).leaves 1 c ⊎ IsLeftByStart ((D.state disk.old).reads 1) c) }
-
-        // Whatever the answer, a crash after the first sync of the call leaves only the latter. If
-        // that sync failed, nothing was written.
-        ensures since_sync { Tells (D.state disk.old) →
-            (IsErrOf result start.StoreFault × LeavesOnly 1 (D.state disk.old) (D.state disk.new) ((D.state disk.old).leaves 1))
-            ⊎ LeavesFrom 1 (D.state disk.old) (D.state disk.new) (IsLeftByStart ((D.state disk.old).reads 1)) }
-
-        ensures run { RunOn 1 (D.state disk.old) (D.state disk.new) }
-        ensures cause { IsErrOf result start.StoreFault → Rose (D.state disk.old).faults (D.state disk.new).faults }
+        // opening. A crash after the first sync of the call leaves only the latter. If that sync
+        // failed, nothing was written.
+        ensures opens { OpensNames (D.state disk.old) (D.state disk.new) (λ fault. IsErrOf result fault) }
     {
         let store = NameStore::start(alloc, disk)?;
         Ok(Name {
@@ -103,16 +87,7 @@ impl Name {
     /// must not be used with this disk any longer.
     pub fn restart<D: Disk>(&mut self, alloc: Global, disk: &mut D) -> Result<(), StartFault>
         ensures started { MatchResult result (λ _. Starts (D.state disk.old) (D.state disk.new) self.new) (λ _. self.new ≡ self.old) }
-        ensures damaged { (at : ℕ) → IsErrOf result (start.Damaged at) → Tells (D.state disk.old) → IsDamagedAt ((D.state disk.old).reads 1) at }
-        ensures spent { IsErrOf result start.Spent → Tells (D.state disk.old) → ((ops : List EditOp) × (made : Replayed)
-            × IsNameLog ((D.state disk.old).reads 1) ops made × (made.table.opening ≡ 4294967295)) }
-        ensures any_moment { Tells (D.state disk.old) → LeavesOnly 1 (D.state disk.old) (D.state disk.new)
-            (λ c. (D.state disk.old).leaves 1 c ⊎ IsLeftByStart ((D.state disk.old).reads 1) c) }
-        ensures since_sync { Tells (D.state disk.old) →
-            (IsErrOf result start.StoreFault × LeavesOnly 1 (D.state disk.old) (D.state disk.new) ((D.state disk.old).leaves 1))
-            ⊎ LeavesFrom 1 (D.state disk.old) (D.state disk.new) (IsLeftByStart ((D.state disk.old).reads 1)) }
-        ensures run { RunOn 1 (D.state disk.old) (D.state disk.new) }
-        ensures cause { IsErrOf result start.StoreFault → Rose (D.state disk.old).faults (D.state disk.new).faults }
+        ensures opens { OpensNames (D.state disk.old) (D.state disk.new) (λ fault. IsErrOf result fault) }
     {
         match Name::start(alloc, disk) {
             Err(fault) => Err(fault),
@@ -235,6 +210,7 @@ impl Name {
         match call {
             NameCall::Mkdir { path } => self.mkdir_refusal(path),
             NameCall::Delete { path, recursive } => to_be_deleted(tree, snaps, path, *recursive),
+            NameCall::Rename { path, to } => self.store.rename_refusal(path, to),
             NameCall::Allow { path } => to_be_allowed(tree, snaps, path),
             NameCall::Disallow { path } => to_be_disallowed(tree, snaps, path),
             NameCall::Snap { path, name } => to_be_snapped(tree, snaps, path, name),
@@ -255,6 +231,7 @@ impl Name {
                 path,
             },
             NameCall::Delete { path, .. } => EditOp::Remove { path },
+            NameCall::Rename { path, to } => EditOp::Rename { path, to },
             NameCall::Allow { path } => EditOp::Allow { path },
             NameCall::Disallow { path } => EditOp::Disallow { path },
             NameCall::Snap { path, name } => EditOp::Snap { path, name },

@@ -63,6 +63,7 @@ pub fn early_refusal(user: &Text, call: &NameCall) -> Option<NameRefusal>
     match call {
         NameCall::Mkdir { path } => path_refusal(path),
         NameCall::Delete { path, .. } => path_refusal(path),
+        NameCall::Rename { path, to } => both_paths_refusal(path, to),
         NameCall::Info { path } => read_path_refusal(path),
         NameCall::List { path } => read_path_refusal(path),
         NameCall::Allow { path } => allowance_refusal(user, path),
@@ -83,6 +84,15 @@ fn read_path_refusal(path: &ReadPath) -> Option<NameRefusal>
         None => None,
         Some(part) => name_refusal(&part.name),
     }
+}
+
+fn both_paths_refusal(path: &NPath, to: &NPath) -> Option<NameRefusal>
+    ensures { result ≡ first_cause (path_causes path.now ++ path_causes to.now) }
+{
+    if let Some(why) = path_refusal(path) {
+        return Some(why);
+    }
+    path_refusal(to)
 }
 
 fn allowance_refusal(user: &Text, path: &NPath) -> Option<NameRefusal>

@@ -1,4 +1,5 @@
-use Rattle.std.proofs.Common.{List, refl, sym, subst}
+use Rattle.std.proofs.Common.{rules, List, IsErrOf, refl, sym, subst}
+use Rattle.frame_log.proofs.Openings.{opens_err, opens_ok}
 use Rattle.name_core.specs.declared.asks.OpenAsk.{OpenAsk}
 use Rattle.name_core.specs.Service.{Starts}
 use Rattle.name_core.proofs.KeepLemmas.{keeps-started}
@@ -13,3 +14,11 @@ returns-clause-started g c =
 pub invariant_of-result : goal.invariant_of-result
 invariant_of-result g c =
     keeps-started (record { store = c.in_ok-store.store; next = 1; asks = c.new.result }) refl c.new.ensures c.in_ok-store.ensures.started.settled c.in_ok-store.ensures.started.earlier
+
+pub returns-in_err-store-clause-opens : goal.returns-in_err-store-clause-opens
+returns-in_err-store-clause-opens g c =
+    let now : IsErrOf c.from_residual.result c.in_err-store.field-0.0 = search rules in
+    opens_err c.in_err-store.field-0.0 c.start.result c.from_residual.result c.in_err-store.was now c.start.ensures.opens
+
+pub returns-clause-opens : goal.returns-clause-opens
+returns-clause-opens g c = opens_ok _ _ c.in_ok-store.ensures.opens
