@@ -18,9 +18,9 @@ use Rattle.key_rows.proofs.Births.{both, other_number}
 use Rattle.key_rows.proofs.TableLemmas.{sound_create, sound_roll, sound_delete}
 use Rattle.kms_store.specs.Store.{settled_commands, settled_table}
 use Rattle.kms_core.specs.State.{IsPending, IsService, KmsState, ServiceState, next_birth, settled, took}
-use Rattle.kms_core.specs.Service.{Changes, Serves, ServesBy, is_change}
+use Rattle.kms_core.specs.Service.{Changes, Committing, Kind, OnlyWorks, Reading, Serves, ServesBy, Working, kind}
 use Rattle.kms_core.specs.Calls.{KmsActs, Plain, NoRoom, Ending, birth_of, causes, deed, deleted, done_with, first_cause, outcome, row_of, unless_refused, versions_of}
-use Rattle.kms_core.specs.Laws.{Gone, GoneStaysAtStart, IsUsedUp, UsedUpAtStart}
+use Rattle.kms_core.specs.Laws.{Gone, GoneStaysAtStart, IsUsedUp, OnlyQueues, UsedUpAtStart}
 
 -- what is not found is still not found
 
@@ -166,25 +166,56 @@ deed_keeps s words now (call.Decrypt name sent) = refl
 deed_keeps s words now (call.Reencrypt name sent) = refl
 deed_keeps s words now (call.Batch name sent) = refl
 
+-- a call on the queues changes nothing else
+pub only_queues : (s s' : ServiceState) → s' ≡ s → OnlyQueues s s'
+only_queues s s' same = subst (λ (t : ServiceState). OnlyQueues s t) (sym same) refl
+
+-- the keys are the same, but for the queues
+abbrev SameKeys : KmsState → KmsState → Type 0
+SameKeys s t = t ≡ record s { ready = t.ready }
+
+deed_works : (s : KmsState) (words : ℕ → ℕ) (now : ℕ) (c : KmsCall) → kind c ≡ Working → SameKeys s (done_with (deed s words now c).logs (deed s words now c).state)
+deed_works s words now (call.Create name bits material description) works = absurd cc
+deed_works s words now (call.Roll name material) works = absurd cc
+deed_works s words now (call.Delete name) works = absurd cc
+deed_works s words now (call.Invalidate name) works = refl
+deed_works s words now (call.Metadata name) works = absurd cc
+deed_works s words now (call.Metadatas names) works = absurd cc
+deed_works s words now call.Names works = absurd cc
+deed_works s words now (call.Current name) works = absurd cc
+deed_works s words now (call.Versions name) works = absurd cc
+deed_works s words now (call.Version version) works = absurd cc
+deed_works s words now (call.Generate name count) works = refl
+deed_works s words now (call.Decrypt name sent) works = absurd cc
+deed_works s words now (call.Reencrypt name sent) works = absurd cc
+deed_works s words now (call.Batch name sent) works = absurd cc
+
+pub works_only : (s : ServiceState) (words : ℕ → ℕ) (now : ℕ) (c : KmsCall) (told : KmsReply) (drawn : ℕ) (logged : List KeyCommand) (s' : ServiceState)
+    → kind c ≡ Working → OnlyWorks s words now c told drawn logged s' → OnlyQueues s s'
+works_only s words now c told drawn logged s' works w =
+    let same : SameKeys s.keys w.changed = after_call (SameKeys s.keys) s.keys words now c told drawn w.changed w.acts refl (deed_works s.keys words now c works) in
+    subst (λ (t : ServiceState). OnlyQueues s t) (sym w.left) (λ i. record s { keys = same i })
+
 pub gone_stays : (s : ServiceState) (words : ℕ → ℕ) (now : ℕ) (c : KmsCall) (before later : ℕ) (told : KmsReply) (drawn : ℕ) (logged : List KeyCommand) (s' : ServiceState)
     → IsService s → Serves s words now c (Rose before later) told drawn logged s' → (birth : ℕ) → Gone s.keys.table birth → Gone s'.keys.table birth
-gone_stays s words now c before later told drawn logged s' is serves birth gone = go (is_change c) serves
+gone_stays s words now c before later told drawn logged s' is serves birth gone = go (kind c) refl serves
   where
     base_gone : (kept : Bool) → Gone (settled kept s).table birth
     base_gone kept = gone_settled kept s.pending s.keys birth is.waits gone
 
-    go : (b : Bool) → ServesBy b s words now c (Rose before later) told drawn logged s' → Gone s'.keys.table birth
-    go false r = subst (λ (t : ServiceState). Gone t.keys.table birth) (sym r.same) gone
-    go true (inl u) = subst (λ (t : ServiceState). Gone t.keys.table birth) (sym u.same) gone
-    go true (inr (kept, inl w)) =
+    go : (k : Kind) → kind c ≡ k → ServesBy k s words now c (Rose before later) told drawn logged s' → Gone s'.keys.table birth
+    go Reading is r = subst (λ (t : ServiceState). Gone t.keys.table birth) (sym r.same) gone
+    go Working is r = subst (λ (t : ServiceState). Gone t.keys.table birth) (sym (works_only s words now c told drawn logged s' is r)) gone
+    go Committing is (inl u) = subst (λ (t : ServiceState). Gone t.keys.table birth) (sym u.same) gone
+    go Committing commits (inr (kept, inl w)) =
         subst (λ (t : ServiceState). Gone t.keys.table birth) (sym w.left)
         (after_call (λ (t : KmsState). Gone t.table birth) (settled kept s) words now c told drawn w.changed w.acts (base_gone kept)
         (deed_gone (settled kept s) words now c birth (below_settled kept s is) (base_gone kept)))
-    go true (inr (kept, inr u)) =
+    go Committing commits (inr (kept, inr u)) =
         subst (λ (t : ServiceState). Gone t.keys.table birth) (sym u.left) (subst (λ (t : Table). Gone t birth) (sym (deed_keeps (settled kept s) words now c)) (base_gone kept))
 
 pub gone_stays_at_start : GoneStaysAtStart
-gone_stays_at_start s kept is birth gone =
+gone_stays_at_start s kept sizes is birth gone =
     let there = gone_settled kept s.pending s.keys birth is.waits gone in
     record { used = there.used; absent = there.absent }
 
@@ -301,31 +332,33 @@ changes_give s logged_before words now c fault told drawn logged s' birth below 
 
 pub used_up_stays : (s : ServiceState) (words : ℕ → ℕ) (now : ℕ) (c : KmsCall) (before later : ℕ) (told : KmsReply) (drawn : ℕ) (logged : List KeyCommand) (s' : ServiceState)
     → IsService s → Serves s words now c (Rose before later) told drawn logged s' → (birth : ℕ) → IsUsedUp s birth → IsUsedUp s' birth
-used_up_stays s words now c before later told drawn logged s' is serves birth used = go (is_change c) serves
+used_up_stays s words now c before later told drawn logged s' is serves birth used = go (kind c) refl serves
   where
     below : (kept : Bool) → birth < next_birth (settled kept s)
     below kept = subst (λ (n : ℕ). birth < n) (sym (next_settled kept s is)) used.below
 
-    go : (b : Bool) → ServesBy b s words now c (Rose before later) told drawn logged s' → IsUsedUp s' birth
-    go false r = subst (λ (t : ServiceState). IsUsedUp t birth) (sym r.same) used
-    go true (inl u) = subst (λ (t : ServiceState). IsUsedUp t birth) (sym u.same) used
-    go true (inr (kept, changes)) =
+    go : (k : Kind) → kind c ≡ k → ServesBy k s words now c (Rose before later) told drawn logged s' → IsUsedUp s' birth
+    go Reading reads r = subst (λ (t : ServiceState). IsUsedUp t birth) (sym r.same) used
+    go Working works r = subst (λ (t : ServiceState). IsUsedUp t birth) (sym (works_only s words now c told drawn logged s' works r)) (record { below = used.below; absent = used.absent })
+    go Committing commits (inl u) = subst (λ (t : ServiceState). IsUsedUp t birth) (sym u.same) used
+    go Committing commits (inr (kept, changes)) =
         changes_use_up (settled kept s) (settled_commands kept s.pending) words now c (Rose before later) told drawn logged s' birth (below kept) changes
         (changes_give (settled kept s) (settled_commands kept s.pending) words now c (Rose before later) told drawn logged s' birth (below kept) changes (used.absent kept))
 
 pub lost_is_used_up : (s : ServiceState) (words : ℕ → ℕ) (now : ℕ) (c : KmsCall) (before later : ℕ) (told : KmsReply) (drawn : ℕ) (logged : List KeyCommand) (s' : ServiceState)
-    → IsService s → Serves s words now c (Rose before later) told drawn logged s' → (birth : ℕ) → birth < next_birth s.keys → is_none (find_birth s'.keys.table.rows birth) ≡ true → IsUsedUp s' birth ⊎ (s' ≡ s)
-lost_is_used_up s words now c before later told drawn logged s' is serves birth below none = go (is_change c) serves
+    → IsService s → Serves s words now c (Rose before later) told drawn logged s' → (birth : ℕ) → birth < next_birth s.keys → is_none (find_birth s'.keys.table.rows birth) ≡ true → IsUsedUp s' birth ⊎ OnlyQueues s s'
+lost_is_used_up s words now c before later told drawn logged s' is serves birth below none = go (kind c) refl serves
   where
-    go : (b : Bool) → ServesBy b s words now c (Rose before later) told drawn logged s' → IsUsedUp s' birth ⊎ (s' ≡ s)
-    go false r = inr r.same
-    go true (inl u) = inr u.same
-    go true (inr (kept, changes)) =
+    go : (k : Kind) → kind c ≡ k → ServesBy k s words now c (Rose before later) told drawn logged s' → IsUsedUp s' birth ⊎ OnlyQueues s s'
+    go Reading reads r = inr (only_queues s s' r.same)
+    go Working works r = inr (works_only s words now c told drawn logged s' works r)
+    go Committing commits (inl u) = inr (only_queues s s' u.same)
+    go Committing commits (inr (kept, changes)) =
         inl (changes_use_up (settled kept s) (settled_commands kept s.pending) words now c (Rose before later) told drawn logged s' birth
         (subst (λ (n : ℕ). birth < n) (sym (next_settled kept s is)) below) changes none)
 
 pub used_up_at_start : UsedUpAtStart
-used_up_at_start s kept is birth below none = record { below = omega (arith, next_settled kept s is, below, is.counter); absent = λ again. none }
+used_up_at_start s kept sizes is birth below none = record { below = omega (arith, next_settled kept s is, below, is.counter); absent = λ again. none }
 
 -- a key that exists has a birth
 
@@ -389,7 +422,7 @@ pub deleted_is_gone : (s : ServiceState) (words : ℕ → ℕ) (now : ℕ) (name
     → (kept : Bool) × Gone s'.keys.table (birth_of (row_of (settled kept s) name))
 deleted_is_gone s words now name before later drawn logged s' is serves = go serves
   where
-    go : ServesBy true s words now (call.Delete name) (Rose before later) reply.Done drawn logged s' → (kept : Bool) × Gone s'.keys.table (birth_of (row_of (settled kept s) name))
+    go : ServesBy Committing s words now (call.Delete name) (Rose before later) reply.Done drawn logged s' → (kept : Bool) × Gone s'.keys.table (birth_of (row_of (settled kept s) name))
     go (inl u) = let no : reply.Done ≡ reply.Refused refusal.StoreFault = u.told_is in absurd cc
     go (inr (kept, inl w)) =
         (kept, subst (λ (t : ServiceState). Gone t.keys.table (birth_of (row_of (settled kept s) name))) (sym w.left) (deleted_in (settled kept s) words now name drawn w.changed (rising_settled kept s is) w.acts))

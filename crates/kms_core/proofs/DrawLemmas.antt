@@ -42,23 +42,24 @@ next_place : (len number : ℕ) → place_of_draw len number + words_of_draw len
 next_place len number = grind arith
 
 -- one more data encryption key after those drawn
-pub one_more_key : (current : CurrentVersion) (words words' words'' : ℕ → ℕ) (count : ℕ) (keys keys' : List Edek) (key : Edek)
-    → DrewKeys current words words' count keys → key ≡ drawn_edek current.version current.material words' 0
-    → Drew words' words'' (words_of_draw (length current.material)) → keys' ≡ keys ++ key ∷ [] → DrewKeys current words words'' (count + 1) keys'
-one_more_key current words words' words'' count keys keys' key before is rest more =
+pub one_more_key : (current : CurrentVersion) (words words' words'' : ℕ → ℕ) (count : ℕ) (others keys keys' : List Edek) (key : Edek)
+    → DrewKeys current words words' count others keys → key ≡ drawn_edek current.version current.material words' 0
+    → Drew words' words'' (words_of_draw (length current.material)) → keys' ≡ keys ++ key ∷ [] → DrewKeys current words words'' (count + 1) others keys'
+one_more_key current words words' words'' count others keys keys' key before is rest more =
     let place : ℕ = place_of_draw (length current.material) count in
     record {
       drawn = more ∙ ap (λ ks. ks ++ key ∷ []) before.drawn
-          ∙ ap (λ k. drawn_edeks current.version current.material words count ++ k ∷ []) (is ∙ edek_ahead current.version current.material words words' place before.rest)
-          ∙ ap (λ n. drawn_edeks current.version current.material words n) (sym (add-one count));
+          ∙ append_assoc others (drawn_edeks current.version current.material words count) (key ∷ [])
+          ∙ ap (λ k. others ++ (drawn_edeks current.version current.material words count ++ k ∷ [])) (is ∙ edek_ahead current.version current.material words words' place before.rest)
+          ∙ ap (λ n. others ++ drawn_edeks current.version current.material words n) (sym (add-one count));
       rest = λ k. draws_on words words' words'' place (words_of_draw (length current.material)) before.rest rest k
           ∙ ap (λ n. words (n + k)) (next_place (length current.material) count);
     }
 
 -- memory ran out for the last key
-pub one_more_lost : (current : CurrentVersion) (words words' words'' : ℕ → ℕ) (count all : ℕ) (keys : List Edek)
-    → DrewKeys current words words' count keys → Drew words' words'' (words_of_draw (length current.material)) → count < all → DrewSome current words words'' all
-one_more_lost current words words' words'' count all keys before rest more =
+pub one_more_lost : (current : CurrentVersion) (words words' words'' : ℕ → ℕ) (count all : ℕ) (others keys : List Edek)
+    → DrewKeys current words words' count others keys → Drew words' words'' (words_of_draw (length current.material)) → count < all → DrewSome current words words'' all
+one_more_lost current words words' words'' count all others keys before rest more =
     let len : ℕ = length current.material in
     record {
       drawn = place_of_draw len count + words_of_draw len;

@@ -7,9 +7,9 @@ use Rattle.std.proofs.lemmas.Slice.Eq.{bytes_eq-Decides}
 use Rattle.key_rows.specs.declared.rows.KeyRow.{KeyRow}
 use Rattle.kms_calls.specs.declared.calls.RawEdek.{RawEdek}
 use Rattle.kms_calls.specs.declared.calls.KmsRefusal.TheVariants.{NoSuchKey, NoSuchVersion, WrongKey, BadMaterial}
-use Rattle.key_rows.specs.Table.{find_name, is_named, material_of}
+use Rattle.key_rows.specs.Table.{find_birth, find_name, is_named, material_of}
 use Rattle.kms_core.specs.State.{KmsState}
-use Rattle.kms_core.specs.Calls.{first_cause, sent_causes, lacks_version, is_of_other_key, is_malformed, row_of, bits_of, current_version}
+use Rattle.kms_core.specs.Calls.{first_cause, sent_causes, lacks_version, is_of_other_key, is_malformed, birth_of, row_of, bits_of, current_version}
 use Rattle.kms_core.specs.Steps.{IsCurrent, IsNewest}
 use Rattle.kms_core.specs.declared.drawing.CurrentVersion.{CurrentVersion}
 
@@ -42,18 +42,20 @@ pub named : (rows : List KeyRow) (name : List ℕ) (row : KeyRow) → find_name 
 named rows name row found = (bytes_eq-Decides row.name name).0 (found_passes (is_named name) rows row found)
 
 -- the newest version of a key that exists
-pub newest_is : (s : KmsState) (name : List ℕ) (row : KeyRow) (current : CurrentVersion) → row_of s name ≡ Some row → IsNewest row current → IsCurrent s name current
-newest_is s name row current found is = record {
+pub newest_is : (s : KmsState) (name : List ℕ) (row : KeyRow) (current : CurrentVersion) → row_of s name ≡ Some row → find_birth s.table.rows row.birth ≡ Some row → IsNewest row current → IsCurrent s name current
+newest_is s name row current found born is = record {
   stands = ap is_none found;
+  birth = is.birth ∙ ap birth_of (sym found);
+  found = ap (find_birth s.table.rows) is.birth ∙ born ∙ sym found;
   version = is.version ∙ ap current_version (sym found);
   material = ap (material_of s.table.rows) is.version
       ∙ version_at s.table.rows name row.name (length row.materials - 1) row current.material found (found_passes (is_named name) s.table.rows row found) is.material;
 }
 
-pub current_is_newest : (s : KmsState) (name : List ℕ) (row : KeyRow) (current : Option CurrentVersion) → row_of s name ≡ Some row → is_none current ≡ false → IfSome current (IsNewest row)
+pub current_is_newest : (s : KmsState) (name : List ℕ) (row : KeyRow) (current : Option CurrentVersion) → row_of s name ≡ Some row → find_birth s.table.rows row.birth ≡ Some row → is_none current ≡ false → IfSome current (IsNewest row)
     → MatchOption current (is_none (row_of s name) ≡ true) (IsCurrent s name)
-current_is_newest s name row None found some is = absurd cc
-current_is_newest s name row (Some current) found some is = newest_is s name row current found is
+current_is_newest s name row None found born some is = absurd cc
+current_is_newest s name row (Some current) found born some is = newest_is s name row current found born is
 
 pub sent_allowed : (row : Option KeyRow) (name : List ℕ) (sent : RawEdek) → is_none row ≡ false → lacks_version row sent ≡ false → is_of_other_key name sent ≡ false
     → is_malformed (bits_of row) sent ≡ false → first_cause (sent_causes row name sent) ≡ None

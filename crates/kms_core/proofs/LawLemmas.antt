@@ -1,5 +1,5 @@
 -- Data encryption keys that are generated and decrypted.
-use Rattle.std.proofs.Common.{◌≡◌, ℕ, zero, suc, ◌+◌, ◌-◌, ◌*◌, ◌/◌, ◌<◌, ◌≤◌, ◌⊎◌, inl, inr, List, [], ◌∷◌, ◌++◌, length, Bool, true, false, not, ◌||◌, ◌==◌, nat_lt, nat_le, Option, None, Some, is_none, IfSome, refl, ap, sym, ◌∙◌, subst, arith, get_or, length-append, mul-le-mul_right}
+use Rattle.std.proofs.Common.{◌≡◌, ℕ, zero, suc, ◌+◌, ◌-◌, ◌*◌, ◌/◌, ◌<◌, ◌≤◌, ◌⊎◌, inl, inr, List, [], ◌∷◌, ◌++◌, length, take, Bool, true, false, not, ◌||◌, ◌==◌, nat_lt, nat_le, Option, None, Some, is_none, IfSome, refl, ap, sym, ◌∙◌, subst, arith, get_or, length-append, mul-le-mul_right}
 use Rattle.std.specs.Int.{w32, to_le_bytes}
 use Rattle.std.specs.List.{slice_get}
 use Rattle.std.specs.Option.{option_map, unwrap_or}
@@ -17,14 +17,17 @@ use Rattle.kms_calls.specs.declared.calls.KmsReply.{KmsReply}
 use Rattle.kms_calls.specs.declared.calls.KmsReply.TheVariants as reply
 use Rattle.kms_calls.specs.declared.calls.KmsRefusal.{KmsRefusal}
 use Rattle.kms_calls.specs.declared.calls.KmsRefusal.TheVariants as refusal
-use Rattle.key_rows.specs.Table.{is_named, is_length, material_of}
+use Rattle.key_rows.specs.Table.{current_of, find_birth, find_name, is_named, is_length, material_of}
 use Rattle.key_rows.specs.Sound.{IsRow, IsTable}
-use Rattle.key_rows.proofs.TableLemmas.{found_row}
+use Rattle.key_rows.proofs.TableLemmas.{found_birth, found_row}
 use Rattle.kms_core.specs.State.{KmsState}
 use Rattle.kms_core.specs.Draws.{drawn, drawn_iv, drawn_dek, drawn_edek, drawn_edeks, place_of_draw, words_of_draw}
 use Rattle.kms_core.specs.Opening.{unseals}
-use Rattle.kms_core.specs.Calls.{CallActs, Plain, NoRoom, Ending, MayEnd, outcome, deed, first_cause, unless_refused, sent_causes, generate_causes, generated, is_malformed, row_of, edek_of, current_version, current_material}
-use Rattle.kms_core.specs.Laws.{DecryptOpens, DrawsApart, DrawsReadTheirOwn, GeneratedDecrypts, GeneratedOpens, SameWords, dek_of_draw, sent_of}
+use Rattle.kms_core.specs.Calls.{CallActs, Plain, NoRoom, Ending, MayEnd, outcome, deed, first_cause, unless_refused, sent_causes, generate_causes, generated, is_malformed, birth_of, ready_of, row_of, edek_of, current_version, current_material}
+use Rattle.kms_core.specs.Laws.{DecryptOpens, DrawsApart, DrawsReadTheirOwn, GeneratedDecrypts, GeneratedOpens, ReadyFirst, ReadyOpens, SameWords, dek_of_draw, sent_of}
+use Rattle.std.proofs.lemmas.Bool.{cases_lt}
+use Rattle.std.proofs.lemmas.List.{take_all, length-take-le}
+use Rattle.kms_core.proofs.QueueLemmas.{ready_are}
 use Rattle.kms_core.proofs.DrawLemmas.{length-drawn}
 use Rattle.kms_core.specs.Steps.{opened_in}
 use Rattle.kms_core.proofs.SentLemmas.{none_stands, opened_is, same_cause, sent_has}
@@ -57,8 +60,8 @@ decrypt_opens s words now name sent told s' words' none acts =
 -- the answer of a generate that returns keys
 record Gave (s : KmsState) (words : ℕ → ℕ) (name : List ℕ) (count : ℕ) (keys : List Edek) (s' : KmsState) : Type 0 where
   stands : is_none (row_of s name) ≡ false
-  drawn : keys ≡ drawn_edeks (current_version (row_of s name)) (current_material s name) words count
-  same : s' ≡ s
+  given : keys ≡ take count (ready_of s name) ++ drawn_edeks (current_version (row_of s name)) (current_material s name) words (count - length (ready_of s name))
+  same : s'.table ≡ s.table
 
 gave : (s : KmsState) (words : ℕ → ℕ) (now : ℕ) (name : List ℕ) (count : ℕ) (keys : List Edek) (s' : KmsState) (words' : ℕ → ℕ)
     → CallActs s words now (call.Generate name count) (reply.Ready keys) s' words' → Gave s words name count keys s'
@@ -68,8 +71,8 @@ gave s words now name count keys s' words' acts = by_end acts.acts.0 acts.acts.2
         → (record { told = reply.Ready keys; drawn = acts.drawn; state = s' }) ≡ unless_refused cause s (generated s words name count) → Gave s words name count keys s'
     by_cause (Some why) found is = let no : reply.Ready keys ≡ reply.Refused why = ap (λ o. o.told) is in absurd cc
     by_cause None found is =
-        let told : reply.Ready keys ≡ reply.Ready (drawn_edeks (current_version (row_of s name)) (current_material s name) words count) = ap (λ o. o.told) is in
-        record { stands = (none_stands (is_none (row_of s name)) refusal.NoSuchKey ((nat_lt 1000 count, refusal.TooManyAsked) ∷ []) found).0; drawn = cc; same = ap (λ o. o.state) is }
+        let told : reply.Ready keys ≡ (generated s words name count).answer = ap (λ o. o.told) is in
+        record { stands = (none_stands (is_none (row_of s name)) refusal.NoSuchKey ((nat_lt 1000 count, refusal.TooManyAsked) ∷ []) found).0; given = cc; same = ap (λ o. o.state.table) is }
 
     by_end : (e : Ending) → (record { told = reply.Ready keys; drawn = acts.drawn; state = s' }) ≡ outcome s words now (call.Generate name count) e → Gave s words name count keys s'
     by_end Plain is = by_cause (first_cause (generate_causes (row_of s name) count)) refl is
@@ -132,12 +135,75 @@ generated_opens_to s words name number key has is =
     ap (unseals s.table.rows) is ∙ ap (option_map (λ m. unseal m (drawn_iv words place) (seal material (drawn_iv words place) (drawn_dek words place (length material))))) has
     ∙ ap Some (unseal-seal material (drawn_iv words place) (drawn_dek words place (length material)))
 
+get_behind : {X : Type 0} (xs ys : List X) (n : ℕ) → slice_get (xs ++ ys) (length xs + n) ≡ slice_get ys n
+get_behind [] ys n = let same : 0 + n ≡ n = omega arith in ap (slice_get ys) same
+get_behind (x ∷ xs) ys n = let next : suc (length xs) + n ≡ suc (length xs + n) = omega arith in ap (slice_get (x ∷ xs ++ ys)) next ∙ get_behind xs ys n
+
+get_within : {X : Type 0} (xs ys : List X) (n count : ℕ) → n < count → n < length xs → slice_get (take count xs ++ ys) n ≡ slice_get xs n
+get_within [] ys n count asked within = absurd (omega arith)
+get_within (x ∷ xs) ys n zero asked within = absurd (omega arith)
+get_within (x ∷ xs) ys zero (suc count) asked within = refl
+get_within (x ∷ xs) ys (suc n) (suc count) asked within = get_within xs ys n count (omega arith) (omega arith)
+
+none_past : {X : Type 0} (xs : List X) (n : ℕ) → length xs ≤ n → slice_get xs n ≡ None
+none_past [] n past = refl
+none_past (x ∷ xs) zero past = absurd (omega arith)
+none_past (x ∷ xs) (suc n) past = none_past xs n (omega arith)
+
+-- a key after the ready keys is one of those drawn
+drawn_behind : (s : KmsState) (words : ℕ → ℕ) (name : List ℕ) (count : ℕ) (keys : List Edek) (s' : KmsState) (number : ℕ) (key : Edek) → Gave s words name count keys s'
+    → slice_get keys (length (ready_of s name) + number) ≡ Some key → key ≡ drawn_edek (current_version (row_of s name)) (current_material s name) words (place_of_draw (length (current_material s name)) number)
+drawn_behind s words name count keys s' number key all at = elim (cases_lt count (length ready)) [ inl few ↦ absurd (none few) | inr more ↦ drawn_at version material words (count - length ready) number key (behind more) ]
+  where
+    ready : List Edek
+    ready = ready_of s name
+
+    version : VersionName
+    version = current_version (row_of s name)
+
+    material : List ℕ
+    material = current_material s name
+
+    here : slice_get (take count ready ++ drawn_edeks version material words (count - length ready)) (length ready + number) ≡ Some key
+    here = ap (λ ks. slice_get ks (length ready + number)) (sym all.given) ∙ at
+
+    none : count < length ready → ⊥
+    none few =
+        let no_draw : count - length ready ≡ 0 = omega (arith, few) in
+        let short : length (take count ready ++ drawn_edeks version material words (count - length ready)) ≤ length ready + number =
+        omega (arith, length-append (take count ready) (drawn_edeks version material words (count - length ready)), length-drawn_edeks version material words (count - length ready), length-take-le count ready, no_draw) in
+        let no = sym (none_past (take count ready ++ drawn_edeks version material words (count - length ready)) (length ready + number) short) ∙ here in
+        cc
+
+    behind : length ready ≤ count → slice_get (drawn_edeks version material words (count - length ready)) number ≡ Some key
+    behind more =
+        sym (get_behind ready (drawn_edeks version material words (count - length ready)) number)
+        ∙ ap (λ front. slice_get (front ++ drawn_edeks version material words (count - length ready)) (length ready + number)) (sym (take_all count ready more)) ∙ here
+
+pub ready_first : ReadyFirst
+ready_first s words now name count keys s' words' acts number asked within =
+    ap (λ ks. slice_get ks number) (gave s words now name count keys s' words' acts).given ∙ get_within (ready_of s name) _ number count asked within
+
+pub ready_opens : ReadyOpens
+ready_opens s name is stands number key at =
+    let row = standing_key s.keys name is.table stands in
+    let born : find_birth s.keys.table.rows (birth_of (row_of s.keys name)) ≡ Some row.0 =
+    ap (λ o. find_birth s.keys.table.rows (birth_of o)) row.1.found ∙ subst (λ (o : Option KeyRow). IfSome o (λ r. find_birth s.keys.table.rows r.birth ≡ Some r)) row.1.found (found_birth s.keys.table name is.table) in
+    let version : key.version ≡ current_version (row_of s.keys name) =
+    each_get (λ (e : Edek). e.version ≡ current_of row.0) (ready_of s.keys name) number key (ready_are s.keys.table.rows s.keys.ready.queues (birth_of (row_of s.keys name)) row.0 is.ready born) at
+    ∙ ap current_version (sym row.1.found) in
+    record {
+      version = version;
+      opens = ap (λ v. option_map (λ material. unseal material key.iv key.sealed) (material_of s.keys.table.rows v)) version
+          ∙ ap (option_map (λ material. unseal material key.iv key.sealed)) row.1.has;
+    }
+
 pub generated_opens : GeneratedOpens
 generated_opens s words now name count keys s' words' is acts number key at =
     let all = gave s words now name count keys s' words' acts in
     let row = standing_key s name is all.stands in
-    let drawn_key = drawn_at (current_version (row_of s name)) (current_material s name) words count number key (ap (λ ks. slice_get ks number) (sym all.drawn) ∙ at) in
-    ap (λ t. unseals t.table.rows key) all.same ∙ generated_opens_to s words name number key row.1.has drawn_key
+    let drawn_key = drawn_behind s words name count keys s' number key all at in
+    ap (λ t. unseals t.rows key) all.same ∙ generated_opens_to s words name number key row.1.has drawn_key
 
 -- a drawn key is well formed
 
@@ -172,11 +238,10 @@ pub generated_decrypts : GeneratedDecrypts
 generated_decrypts s words now name count keys s' words' is acts number key at later then told s'' later' answered =
     let all = gave s words now name count keys s' words' acts in
     let row = standing_key s name is all.stands in
-    let drawn_key = drawn_at (current_version (row_of s name)) (current_material s name) words count number key (ap (λ ks. slice_get ks number) (sym all.drawn) ∙ at) in
-    let opens = generated_opens_to s words name number key row.1.has drawn_key in
-    let answered_in : CallActs s later then (call.Decrypt name (sent_of key)) told s'' later' = subst (λ (t : KmsState). CallActs t later then (call.Decrypt name (sent_of key)) told s'' later') all.same answered in
-    decrypt_told s later then name (sent_of key) told s'' later' (no_cause s words name number key row.0 row.1 drawn_key) answered_in
-    ∙ ap (λ o. reply.Key (unwrap_or o [])) opens
+    let drawn_key = drawn_behind s words name count keys s' number key all at in
+    let free : first_cause (sent_causes (row_of s' name) name (sent_of key)) ≡ None = ap (λ t. first_cause (sent_causes (find_name t.rows name) name (sent_of key))) all.same ∙ no_cause s words name number key row.0 row.1 drawn_key in
+    decrypt_told s' later then name (sent_of key) told s'' later' free answered
+    ∙ ap (λ o. reply.Key (unwrap_or o [])) (generated_opens s words now name count keys s' words' is acts number key at)
   where
     no_cause : (s : KmsState) (words : ℕ → ℕ) (name : List ℕ) (number : ℕ) (key : Edek) (row : KeyRow) → Standing_key s name row
         → key ≡ drawn_edek (current_version (row_of s name)) (current_material s name) words (place_of_draw (length (current_material s name)) number)

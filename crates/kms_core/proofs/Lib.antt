@@ -1,9 +1,13 @@
 pub mod AnswerLemmas
 pub mod BirthLemmas
+pub mod DepositLemmas
 pub mod DrawLemmas
+pub mod KeepLemmas
 pub mod KeyLemmas
 pub mod LawLemmas
 pub mod NameLemmas
+pub mod QueueLemmas
+pub mod ReadyLaws
 pub mod ResealLemmas
 pub mod SentLemmas
 pub mod ServiceLemmas

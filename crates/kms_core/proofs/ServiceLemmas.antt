@@ -16,11 +16,12 @@ use Rattle.std.proofs.lemmas.Bool.Decides.{Decides-eqb}
 use Rattle.key_rows.specs.Records.{HasSpelling}
 use Rattle.kms_store.specs.Replay.{key_replay}
 use Rattle.kms_store.proofs.Replays.{replay_more}
+use Rattle.eek_queues.specs.Queues.{AllQueues}
 use Rattle.kms_store.specs.Store.{Applies, IsKeyLog, IsLeftOf, next_opening, IsLogOf, IsWithOrWithout, IsWritten, NoCommand, Settles, StandsFor, StoreState, settled_commands, settled_table}
-use Rattle.kms_core.specs.State.{KmsState, Running, ServiceState, keys_of, service_of, settled}
+use Rattle.kms_core.specs.State.{KmsState, Running, ServiceState, keys_of, queues_after, service_of, settled, settled_queues}
 use Rattle.kms_core.specs.Calls.{CallActs, Deed, KmsActs, NoRoom, Plain, birth_of, bits_of, causes, deed, deleted, done_with, first_cause, is_misfit, rolled, row_of, shown, takes_memory, unless_refused, versions_of}
-use Rattle.kms_core.specs.Service.{Acts, Changes, IsGrowing, Logs, OwnOf, ServesBy, Starts, acknowledged, is_change, listed}
-use Rattle.kms_core.specs.Steps.{ActsSettled, Commits, EndsSo, IsUnsettled, OwnChange, OwnDeed, Settling, StandsSo}
+use Rattle.kms_core.specs.Service.{Acts, Changes, IsGrowing, Logs, OwnOf, ServesBy, Committing, Kind, Reading, Starts, Working, acknowledged, kind, listed}
+use Rattle.kms_core.specs.Steps.{ActsSettled, Commits, EndsSo, IsUnsettled, OwnChange, OwnDeed, Settling, StandsSo, WorksOn}
 use Rattle.kms_core.specs.declared.service.Standing.{Standing}
 use Rattle.kms_core.specs.Draws.{material_for, words_for}
 use Rattle.kms_core.proofs.StepLemmas.{may_be_rolled}
@@ -135,12 +136,12 @@ behind_settling old mid new r s t kept own own' logged f is a b = record {
 }
 
 -- a change whose pending command was settled first
-pub acts_settled : (old mid new : DiskState) (r s t : Running) (words : ℕ → ℕ) (now : ℕ) (c : KmsCall) (told : KmsReply) (words' : ℕ → ℕ) → is_change c ≡ true
+pub acts_settled : (old mid new : DiskState) (r s t : Running) (words : ℕ → ℕ) (now : ℕ) (c : KmsCall) (told : KmsReply) (words' : ℕ → ℕ) → kind c ≡ Committing
     → Settling old mid r s → ActsSettled mid new s words now c told t words' → Acts old new r words now c told t words'
 acts_settled old mid new r s t words now c told words' change a b = record {
   drawn = b.drawn;
   logged = settled_commands a.kept r.store.pending ++ b.logged;
-  serves = subst (λ (x : Bool). ServesBy x (service_of r) words now c (Rose old.faults new.faults) told b.drawn (settled_commands a.kept r.store.pending ++ b.logged) (service_of t)) (sym change)
+  serves = subst (λ (x : Kind). ServesBy x (service_of r) words now c (Rose old.faults new.faults) told b.drawn (settled_commands a.kept r.store.pending ++ b.logged) (service_of t)) (sym change)
       (inr (a.kept, behind b.changes));
   rest = b.rest;
   disk = behind_settling old mid new r s t a.kept (OwnOf (service_of r) words now c told (service_of t)) (OwnChange (keys_of s) words now c told (service_of t)) b.logged
@@ -178,28 +179,43 @@ acts_settled old mid new r s t words now c told words' change a b = record {
     })
 
 -- a change whose pending command could not be settled
-pub acts_unsettled : (old new : DiskState) (r t : Running) (words : ℕ → ℕ) (now : ℕ) (c : KmsCall) → is_change c ≡ true
+pub acts_unsettled : (old new : DiskState) (r t : Running) (words : ℕ → ℕ) (now : ℕ) (c : KmsCall) → kind c ≡ Committing
     → IsUnsettled old new r t → Acts old new r words now c (Refused StoreFault) t words
 acts_unsettled old new r t words now c change u = record {
   drawn = 0;
   logged = [];
-  serves = subst (λ (x : Bool). ServesBy x (service_of r) words now c (Rose old.faults new.faults) (Refused StoreFault) 0 [] (service_of t)) (sym change)
+  serves = subst (λ (x : Kind). ServesBy x (service_of r) words now c (Rose old.faults new.faults) (Refused StoreFault) 0 [] (service_of t)) (sym change)
       (inl (record { waits = u.waits; failed = u.failed; told_is = refl; none_drawn = refl; none_logged = refl; same = ap service_of u.same }));
   rest = λ k. ap words (omega arith);
   disk = logs_leaving old new r.store t.store NoCommand (OwnOf (service_of r) words now c (Refused StoreFault) (service_of t)) [] (λ kept command never. absurd never) u.disk;
 }
 
 -- a call that changes nothing
-pub acts_reading : (d : DiskState) (r : Running) (words : ℕ → ℕ) (now : ℕ) (c : KmsCall) (told : KmsReply) (words' : ℕ → ℕ) → is_change c ≡ false
+pub acts_reading : (d : DiskState) (r : Running) (words : ℕ → ℕ) (now : ℕ) (c : KmsCall) (told : KmsReply) (words' : ℕ → ℕ) → kind c ≡ Reading
     → CallActs (keys_of r) words now c told (keys_of r) words' → Acts d d r words now c told r words'
 acts_reading d r words now c told words' change a = record {
   drawn = a.drawn;
   logged = [];
-  serves = subst (λ (x : Bool). ServesBy x (service_of r) words now c (Rose d.faults d.faults) told a.drawn [] (service_of r)) (sym change)
+  serves = subst (λ (x : Kind). ServesBy x (service_of r) words now c (Rose d.faults d.faults) told a.drawn [] (service_of r)) (sym change)
       (record { acts = a.acts; none_logged = refl; same = refl });
   rest = a.rest;
   disk = unchanged d r.store (IsLeftOf r.store.table.keys r.store.pending (OwnOf (service_of r) words now c told (service_of r)));
 }
+
+-- a call on the queues
+pub acts_working : (d : DiskState) (r t : Running) (words : ℕ → ℕ) (now : ℕ) (c : KmsCall) (told : KmsReply) (words' : ℕ → ℕ) → kind c ≡ Working
+    → WorksOn r words now c told t words' → Acts d d r words now c told t words'
+acts_working d r t words now c told words' works w = record {
+  drawn = w.acts.drawn;
+  logged = [];
+  serves = subst (λ (x : Kind). ServesBy x (service_of r) words now c (Rose d.faults d.faults) told w.acts.drawn [] (service_of t)) (sym works)
+      (record { changed = keys_of t; acts = w.acts.acts; none_logged = refl; left = λ i. record { keys = keys_of t; pending = (w.store i).pending } });
+  rest = w.acts.rest;
+  disk = subst (λ (store : StoreState). Logs d d r.store store P []) (sym w.store) (unchanged d r.store P);
+}
+  where
+    P : List KeyCommand → List ℕ → Type 0
+    P = IsLeftOf r.store.table.keys r.store.pending (OwnOf (service_of r) words now c told (service_of t))
 
 -- a change that is refused while nothing is pending
 pub settled_refused : (d : DiskState) (r : Running) (words : ℕ → ℕ) (now : ℕ) (c : KmsCall) (why : KmsRefusal) (words' : ℕ → ℕ) → r.store.pending ≡ None
@@ -299,10 +315,10 @@ pub record IsDeedOf (r : Running) (d : Deed) (command : KeyCommand) : Type 0 whe
   pub same_table : d.state.table ≡ r.store.table.keys
   pub acknowledges : acknowledged d.answer (Some command) ≡ command ∷ []
 
-pub commit_done : (old new : DiskState) (r t : Running) (d : Deed) (command : KeyCommand) (told : KmsReply) → IsDeedOf r d command → t.next ≡ d.state.next → told ≡ d.answer
+pub commit_done : (old new : DiskState) (r t : Running) (d : Deed) (command : KeyCommand) (told : KmsReply) → IsDeedOf r d command → t.next ≡ d.state.next → t.ready ≡ queues_after d.state.ready command → told ≡ d.answer
     → t.store.table.keys ≡ after r.store.table.keys command → t.store.pending ≡ None → Committed old new r.store command
     → (Tells old → (commands : List KeyCommand) → StandsFor old r.store commands → StandsFor new t.store (commands ++ command ∷ [])) → Commits old new r d told t
-commit_done old new r t d command told of_deed next told_is then_is none k stands = record {
+commit_done old new r t d command told of_deed next queues told_is then_is none k stands = record {
   logged = command ∷ [];
   ends = inl (told_is, ap listed (sym of_deed.logs), done);
   disk = wrote old new r.store t.store (OwnDeed d told (service_of t)) command own k stands;
@@ -316,24 +332,24 @@ commit_done old new r t d command told of_deed next told_is then_is none k stand
 
     done : service_of t ≡ record { keys = done_with d.logs d.state; pending = None }
     done = subst (λ (o : Option KeyCommand). service_of t ≡ record { keys = done_with o d.state; pending = None }) (sym of_deed.logs)
-        (λ i. record { keys = record { table = there i; next = next i }; pending = none i })
+        (λ i. record { keys = record { table = there i; next = next i; ready = queues i }; pending = none i })
 
 -- memory ran out, and the disk did not change
-pub commit_wanting : (old new : DiskState) (r t : Running) (d : Deed) (told : KmsReply) → t.next ≡ r.next → told ≡ Refused NoMemory
+pub commit_wanting : (old new : DiskState) (r t : Running) (d : Deed) (told : KmsReply) → t.next ≡ r.next → t.ready ≡ r.ready → told ≡ Refused NoMemory
     → t.store.table.keys ≡ r.store.table.keys → t.store.pending ≡ None → new ≡ old
     → (Tells old → (commands : List KeyCommand) → StandsFor old r.store commands → StandsFor new t.store commands) → Commits old new r d told t
-commit_wanting old new r t d told next told_is same none untouched stands = record {
+commit_wanting old new r t d told next queues told_is same none untouched stands = record {
   logged = [];
-  ends = inr (inl (told_is, refl, λ i. record { keys = record { table = same i; next = next i }; pending = none i }));
+  ends = inr (inl (told_is, refl, λ i. record { keys = record { table = same i; next = next i; ready = queues i }; pending = none i }));
   disk = idle old new r.store t.store (IsGrowing r.store.table.keys (OwnDeed d told (service_of t))) untouched stands;
 }
 
-pub commit_failed : (old new : DiskState) (r t : Running) (d : Deed) (command : KeyCommand) (told : KmsReply) → IsDeedOf r d command → t.next ≡ d.state.next → told ≡ Refused StoreFault
+pub commit_failed : (old new : DiskState) (r t : Running) (d : Deed) (command : KeyCommand) (told : KmsReply) → IsDeedOf r d command → t.next ≡ d.state.next → t.ready ≡ d.state.ready → told ≡ Refused StoreFault
     → t.store.table.keys ≡ r.store.table.keys → t.store.pending ≡ Some command → Rose old.faults new.faults → Committed old new r.store command
     → (Tells old → (commands : List KeyCommand) → StandsFor old r.store commands → StandsFor new t.store commands) → Commits old new r d told t
-commit_failed old new r t d command told of_deed next told_is same waits failed k stands = record {
+commit_failed old new r t d command told of_deed next queues told_is same waits failed k stands = record {
   logged = [];
-  ends = inr (inr (failed, told_is, refl, λ i. record { keys = record { table = (same ∙ sym of_deed.same_table) i; next = next i }; pending = (waits ∙ sym of_deed.logs) i }));
+  ends = inr (inr (failed, told_is, refl, λ i. record { keys = record { table = (same ∙ sym of_deed.same_table) i; next = next i; ready = queues i }; pending = (waits ∙ sym of_deed.logs) i }));
   disk = not_written old new r.store t.store (OwnDeed d told (service_of t)) command (record { is = of_deed.logs; was_written = inr waits }) k stands;
 }
 
@@ -365,12 +381,12 @@ settling_moments old new store applies nothing moments told commands s = go stor
     go None is may spelled = subst (λ (d : DiskState). LeavesOnly 0 old d (IsLeftOf store.table.keys None NoCommand commands)) (sym (nothing is)) (begin 0 old (IsLeftOf store.table.keys None NoCommand commands)).moments
     go (Some command) is may spelled = weaker (λ c left. left_waiting store.table.keys command commands c may spelled left) (moments told commands command s is)
 
-pub settles : (old new : DiskState) (r t : Running) → t.next ≡ r.next → Applies r.store.table.keys r.store.pending → (r.store.pending ≡ None → new ≡ old)
+pub settles : (old new : DiskState) (r t : Running) (kept : Bool) → t.next ≡ r.next → t.ready ≡ settled_queues kept r.store.pending r.ready → Applies r.store.table.keys r.store.pending → (r.store.pending ≡ None → new ≡ old)
     → (Tells old → (commands : List KeyCommand) (command : KeyCommand) → StandsFor old r.store commands → r.store.pending ≡ Some command → LeavesOnly 0 old new (IsWithOrWithout commands command))
-    → RunOn 0 old new → Settles old new r.store t.store → Settling old new r t
-settles old new r t next applies nothing moments run s = record {
-  kept = s.kept;
-  service = λ i. record { keys = record { table = s.table i; next = next i }; pending = s.none i };
+    → RunOn 0 old new → Settles old new r.store t.store kept → Settling old new r t
+settles old new r t kept next queues applies nothing moments run s = record {
+  kept = kept;
+  service = λ i. record { keys = record { table = s.table i; next = next i; ready = queues i }; pending = s.none i };
   disk = record { stands = s.log; moments = settling_moments old new r.store applies nothing moments; run = run };
 }
 
@@ -426,12 +442,12 @@ opened_behind d store commands table s makes =
     let both : Some store.table.keys ≡ Some (after table (next_opening table)) = sym s.makes ∙ replay_more no_keys table commands (next_opening table) makes may in
     cc both
 
-pub started_keys : (old new : DiskState) (store : StoreState) → store.pending ≡ None → store.table.keys.greatest < store.table.keys.opening * 2 ^ 32
+pub started_keys : (old new : DiskState) (store : StoreState) (all : AllQueues) → all.queues ≡ [] → store.pending ≡ None → store.table.keys.greatest < store.table.keys.opening * 2 ^ 32
     → (Tells old → (commands : List KeyCommand) × (table : Table) × IsKeyLog (old.reads 0) commands table × StandsFor new store (commands ++ next_opening table ∷ []))
-    → Starts old new (record { store = store; next = 1 })
-started_keys old new store none births log = record {
+    → Starts old new (record { store = store; next = 1; ready = all })
+started_keys old new store all no_queues none births log = record {
   table = before;
-  opens = λ i. record { keys = record { table = is i; next = 1 }; pending = none i };
+  opens = λ i. record { keys = record { table = is i; next = 1; ready = record all { queues = no_queues i } }; pending = none i };
   log = λ told.
       let found = log told in
       let table_is : before ≡ found.1 = same_before found.1 (opened_behind new store found.0 found.1 found.3 found.2.makes) in (

@@ -1,5 +1,5 @@
 -- From the steps of a call to the call.
-use Rattle.std.proofs.Common.{◌≡◌, ℕ, ◌+◌, ◌/◌, ◌<◌, ◌≤◌, ◌⊎◌, inl, inr, List, [], length, Bool, true, false, ◌&&◌, ◌==◌, cond, nat_lt, nat_le, Option, None, Some, is_none, is_some, MatchOption, refl, ap, sym, ◌∙◌, subst, arith}
+use Rattle.std.proofs.Common.{◌≡◌, ℕ, ◌+◌, ◌-◌, ◌/◌, ◌<◌, ◌≤◌, ◌⊎◌, inl, inr, List, [], ◌++◌, length, take, Bool, true, false, ◌&&◌, ◌==◌, cond, nat_lt, nat_le, Option, None, Some, is_none, is_some, MatchOption, refl, ap, sym, ◌∙◌, subst, arith}
 use Rattle.std.proofs.lemmas.Bool.Decides.{Decides-eqb}
 use Rattle.key_rows.specs.declared.rows.KeyRow.{KeyRow}
 use Rattle.key_rows.specs.declared.rows.KeyCommand.TheVariants.{Roll}
@@ -7,17 +7,18 @@ use Rattle.key_rows.specs.Table.{applies, find_birth, material_of, may_roll}
 use Rattle.kms_core.specs.declared.service.Standing.{Standing}
 use Rattle.kms_calls.specs.declared.calls.KmsCall.{KmsCall}
 use Rattle.kms_calls.specs.declared.calls.KmsReply.{KmsReply}
-use Rattle.kms_calls.specs.declared.calls.KmsReply.TheVariants.{Refused, Ready}
+use Rattle.kms_calls.specs.declared.calls.KmsReply.TheVariants.{Done, Refused, Ready}
+use Rattle.eek_queues.specs.Queues.{AllQueues, ready_in}
 use Rattle.hk_base.specs.declared.names.Edek.{Edek}
 use Rattle.std.specs.Option.{unwrap_or}
 use Rattle.kms_core.specs.declared.drawing.CurrentVersion.{CurrentVersion}
 use Rattle.kms_calls.specs.declared.calls.KmsCall.TheVariants as call
 use Rattle.kms_calls.specs.declared.calls.KmsRefusal.TheVariants.{NoSuchKey, BadMaterial, TooManyVersions, TooManyAsked, NoMemory}
 use Rattle.kms_calls.specs.declared.calls.KmsRefusal.{KmsRefusal}
-use Rattle.kms_core.specs.State.{KmsState}
-use Rattle.kms_core.specs.Calls.{CallActs, Plain, NoRoom, takes_memory, causes, deed, first_cause, unless_refused, row_of, bits_of, versions_of, is_misfit, roll_causes, only_answer, generate_causes, current_material}
+use Rattle.kms_core.specs.State.{KmsState, emptied}
+use Rattle.kms_core.specs.Calls.{CallActs, Plain, NoRoom, takes_memory, causes, deed, first_cause, unless_refused, birth_of, handed_out, invalidated, ready_of, row_of, bits_of, versions_of, is_misfit, roll_causes, only_answer, generate_causes, current_material}
 use Rattle.kms_core.specs.Draws.{drawn_edeks, place_of_draw}
-use Rattle.kms_core.specs.Steps.{Answers, Drew, DrewKeys, DrewSome, Enacts, IsCurrent, StandsSo}
+use Rattle.kms_core.specs.Steps.{Answers, Drew, DrewSome, Enacts, HandsOut, IsCurrent, StandsSo}
 
 both_hold : (a b : Bool) → a ≡ true → b ≡ true → (a && b) ≡ true
 both_hold a b h g = ap (λ x. x && b) h ∙ g
@@ -100,22 +101,36 @@ may_generate : (row : Option KeyRow) (count : ℕ) → is_none row ≡ false →
 may_generate row count stands few =
     ap (λ b. cond b (Some NoSuchKey) (cond (nat_lt 1000 count) (Some TooManyAsked) None)) stands ∙ ap (λ b. cond b (Some TooManyAsked) None) few
 
-pub generates : (s : KmsState) (words : ℕ → ℕ) (now : ℕ) (name : List ℕ) (count : ℕ) (current : CurrentVersion) (keys : List Edek) (words' : ℕ → ℕ)
-    → IsCurrent s name current → nat_lt 1000 count ≡ false → DrewKeys current words words' count keys
-    → CallActs s words now (call.Generate name count) (Ready keys) s words'
-generates s words now name count current keys words' is few drew =
+pub generates : (s : KmsState) (words : ℕ → ℕ) (now : ℕ) (name : List ℕ) (count : ℕ) (current : CurrentVersion) (all' : AllQueues) (keys : List Edek) (words' : ℕ → ℕ)
+    → IsCurrent s name current → nat_lt 1000 count ≡ false → HandsOut s.ready all' current words words' count keys
+    → CallActs s words now (call.Generate name count) (Ready keys) (record s { ready = all' }) words'
+generates s words now name count current all' keys words' is few given =
     let same : current.material ≡ current_material s name = sym (current_is s name current is) in
-    enacted s words now (call.Generate name count) (Ready keys) s words' refl (may_generate (row_of s name) count is.stands few)
-    (inl (ap Ready (drew.drawn ∙ (λ i. drawn_edeks (is.version i) (same i) words count)), refl))
-    (λ k. drew.rest k ∙ ap (λ material. words (place_of_draw (length material) count + k)) same)
+    let ready : ready_in s.ready.queues current.birth ≡ ready_of s name = ap (ready_in s.ready.queues) is.birth in
+    let queues : all' ≡ handed_out s.ready (birth_of (row_of s name)) count = given.queues ∙ ap (λ b. handed_out s.ready b count) is.birth in
+    enacted s words now (call.Generate name count) (Ready keys) (record s { ready = all' }) words' refl (may_generate (row_of s name) count is.stands few)
+    (inl (ap Ready (given.drew.drawn ∙ (λ i. take count (ready i) ++ drawn_edeks (is.version i) (same i) words (count - length (ready i)))), λ i. record s { ready = queues i }))
+    (λ k. given.drew.rest k ∙ (λ i. words (place_of_draw (length (same i)) (count - length (ready i)) + k)))
 
 pub generates_none : (s : KmsState) (words : ℕ → ℕ) (now : ℕ) (name : List ℕ) (count : ℕ) (current : CurrentVersion) (words' : ℕ → ℕ)
-    → IsCurrent s name current → nat_lt 1000 count ≡ false → DrewSome current words words' count
+    → IsCurrent s name current → nat_lt 1000 count ≡ false → DrewSome current words words' (count - length (ready_in s.ready.queues current.birth))
     → CallActs s words now (call.Generate name count) (Refused NoMemory) s words'
 generates_none s words now name count current words' is few drew =
     let same : current.material ≡ current_material s name = sym (current_is s name current is) in
+    let ready : ready_in s.ready.queues current.birth ≡ ready_of s name = ap (ready_in s.ready.queues) is.birth in
+    let most : place_of_draw (length current.material) (count - length (ready_in s.ready.queues current.birth)) ≡ place_of_draw (length (current_material s name)) (count - length (ready_of s name)) =
+    λ i. place_of_draw (length (same i)) (count - length (ready i)) in
     wanting s words now (call.Generate name count) words' drew.drawn refl (may_generate (row_of s name) count is.stands few)
-    (subst (λ (material : List ℕ). drew.drawn ≤ place_of_draw (length material) count) same drew.few) drew.rest
+    (subst (λ (n : ℕ). drew.drawn ≤ n) most drew.few) drew.rest
+
+-- the ready keys of a key are dropped
+pub invalidates : (s : KmsState) (words : ℕ → ℕ) (now : ℕ) (name : List ℕ) (birth : ℕ) → is_none (row_of s name) ≡ false → birth ≡ birth_of (row_of s name)
+    → CallActs s words now (call.Invalidate name) Done (record s { ready = emptied s.ready birth }) words
+invalidates s words now name birth stands is = record {
+  drawn = 0;
+  acts = (Plain, tt, (λ i. record { told = Done; drawn = 0; state = record s { ready = emptied s.ready (is i) } }) ∙ ap (λ b. unless_refused (cond b (Some NoSuchKey) None) s (invalidated s name)) (sym stands));
+  rest = λ k. ap words (omega arith);
+}
 
 -- a call that only answers
 pub answers : (s : KmsState) (words : ℕ → ℕ) (now : ℕ) (c : KmsCall) (answer told : KmsReply)

@@ -21,9 +21,9 @@ use Rattle.kms_core.specs.Calls.{birth_of, edek_of, row_of}
 use Rattle.kms_core.specs.Opening.{unseals}
 use Rattle.hk_base.specs.declared.names.Dek.{Dek}
 use Rattle.kms_core.proofs.LawLemmas.{decrypt_opens}
-use Rattle.kms_core.specs.Laws.{DeletedIsGone, Gone, GoneStays, IsUsedUp, LostIsUsedUp, PermittedDecryptOpens, UsedUpStays}
+use Rattle.kms_core.specs.Laws.{DeletedIsGone, Gone, GoneStays, IsUsedUp, LostIsUsedUp, OnlyQueues, PermittedDecryptOpens, UsedUpStays}
 use Rattle.kms_core.proofs.ServiceLemmas.{logs_leaving, unchanged}
-use Rattle.kms_core.proofs.BirthLemmas.{deleted_is_gone, gone_stays, lost_is_used_up, used_up_stays}
+use Rattle.kms_core.proofs.BirthLemmas.{deleted_is_gone, gone_stays, lost_is_used_up, only_queues, used_up_stays}
 
 -- a call that is denied
 pub is_denied : (d : DiskState) (k : RunningKms) (lines : List PropLine) (user : List ℕ) (words : ℕ → ℕ) (now : ℕ) (c : KmsCall) (denied : Denied) (told : KmsReply)
@@ -107,9 +107,9 @@ used_up_for_user lines user s words now c before later told drawn logged s' is s
 pub lost_for_user : LostIsUsedUp
 lost_for_user lines user s words now c before later told drawn logged s' is serves birth below none = by_verdict (verdict lines user c) serves
   where
-    by_verdict : (v : Result Shown Denied) → ServesUnder v s words now c (Rose before later) told drawn logged s' → IsUsedUp s' birth ⊎ (s' ≡ s)
+    by_verdict : (v : Result Shown Denied) → ServesUnder v s words now c (Rose before later) told drawn logged s' → IsUsedUp s' birth ⊎ OnlyQueues s s'
     by_verdict (Ok shown) p = lost_is_used_up s words now c before later p.reply drawn logged s' is p.serves birth below none
-    by_verdict (Err denied) p = inr p.same
+    by_verdict (Err denied) p = inr (only_queues s s' p.same)
 
 pub deleted_for_user : DeletedIsGone
 deleted_for_user lines user s words now name before later drawn logged s' is serves = by_verdict (verdict lines user (call.Delete name)) serves

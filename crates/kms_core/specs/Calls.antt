@@ -1,5 +1,5 @@
 -- The calls of the key management service: why each is refused, what it answers, and the state it leaves.
-use Rattle.std.specs.Prelude.{◌≡◌, ◌≤◌, ℕ, ◌+◌, ◌/◌, Bool, true, false, not, ◌&&◌, ◌||◌, ◌==◌, nat_lt, nat_le, List, [], ◌∷◌, length, map, Option, Some, None, is_some, is_none, unwrap_or, bytes_eq, if◌then◌else◌}
+use Rattle.std.specs.Prelude.{◌≡◌, ◌≤◌, ℕ, ◌+◌, ◌-◌, ◌/◌, Bool, true, false, not, ◌&&◌, ◌||◌, ◌==◌, nat_lt, nat_le, List, [], ◌∷◌, ◌++◌, length, take, drop, map, Option, Some, None, is_some, is_none, unwrap_or, bytes_eq, if◌then◌else◌}
 use Rattle.std.specs.List.{list_any}
 use Rattle.hk_base.specs.declared.names.Dek.{Dek}
 use Rattle.hk_base.specs.declared.names.Edek.{Edek}
@@ -22,7 +22,8 @@ use Rattle.eek_seal.specs.Seal.{seal}
 use Rattle.kms_core.specs.Draws.{material_for, words_for, drawn_edeks, place_of_draw}
 use Rattle.kms_core.specs.Opening.{unseals}
 use Rattle.kms_core.specs.Order.{names_in_order}
-use Rattle.kms_core.specs.State.{KmsState, next_birth, is_spent, took}
+use Rattle.eek_queues.specs.Queues.{AllQueues, has_queue, put_queue, ready_in, set_ready}
+use Rattle.kms_core.specs.State.{KmsState, emptied, next_birth, is_spent, took}
 
 -- the causes of a refusal, in the order of the rules; the first that is true counts
 abbrev pub first_cause : List (Bool × KmsRefusal) → Option KmsRefusal
@@ -192,16 +193,36 @@ abbrev pub all_versions : Option KeyRow → List Shown
 all_versions None = []
 all_versions (Some row) = versions_from row.name 0 row.materials
 
--- `count` data encryption keys under the current version, drawn from the next words
+-- the ready keys of a key, the oldest first
+abbrev pub ready_of : KmsState → KeyName → List Edek
+ready_of s name = ready_in s.ready.queues (birth_of (row_of s name))
+
+-- the queues with one for this birth: an empty one if it had none
+abbrev pub with_queue : AllQueues → ℕ → AllQueues
+with_queue all birth = if has_queue all.queues birth then all else record all { queues = put_queue (record { birth = birth; ready = [] }) all.queues }
+
+-- the queues without the oldest `count` ready keys of this birth, which then has a queue
+abbrev pub handed_out : AllQueues → ℕ → ℕ → AllQueues
+handed_out all birth count =
+    let made = with_queue all birth in
+    record made { queues = set_ready made.queues birth (drop count (ready_in made.queues birth)) }
+
+-- `count` data encryption keys under the current version: the oldest ready keys, and the rest drawn from the next words
 abbrev pub generated : KmsState → (ℕ → ℕ) → KeyName → ℕ → Deed
 generated s words name count =
     let material = current_material s name in
+    let rest = count - length (ready_of s name) in
     record {
-      answer = reply.Ready (drawn_edeks (current_version (row_of s name)) material words count);
+      answer = reply.Ready (take count (ready_of s name) ++ drawn_edeks (current_version (row_of s name)) material words rest);
       logs = None;
-      state = s;
-      words = place_of_draw (length material) count;
+      state = record s { ready = handed_out s.ready (birth_of (row_of s name)) count };
+      words = place_of_draw (length material) rest;
     }
+
+-- the ready keys of a key are dropped
+abbrev pub invalidated : KmsState → KeyName → Deed
+invalidated s name =
+    record { answer = reply.Done; logs = None; state = record s { ready = emptied s.ready (birth_of (row_of s name)) }; words = 0 }
 
 -- the sent key as an encrypted data encryption key
 abbrev pub edek_of : RawEdek → Edek
@@ -229,7 +250,7 @@ deed s words now (call.Roll name material) =
     let row = row_of s name in
     rolled s name row (material_for words (bits_of row) material) (words_for (bits_of row) material)
 deed s words now (call.Delete name) = deleted s (birth_of (row_of s name))
-deed s words now (call.Invalidate name) = only_answer s reply.Done
+deed s words now (call.Invalidate name) = invalidated s name
 deed s words now (call.Metadata name) = only_answer s (reply.Metadata (meta_of name (row_of s name)))
 deed s words now (call.Metadatas names) = only_answer s (reply.Metadatas (metas_of s names))
 deed s words now call.Names = only_answer s (reply.Names (names_in_order s.table.rows))

@@ -1,5 +1,5 @@
 -- Properties of data encryption keys that are generated, decrypted and re-encrypted, and of births.
-use Rattle.std.specs.Prelude.{◌≡◌, ◌⊎◌, ℕ, ◌+◌, ◌<◌, ◌≤◌, Bool, List, length, true, None, Ok, Some, is_none, slice_get}
+use Rattle.std.specs.Prelude.{◌≡◌, ◌⊎◌, ℕ, ◌+◌, ◌<◌, ◌≤◌, Bool, List, [], ◌∷◌, ◌++◌, length, true, false, None, Ok, Some, is_none, slice_get}
 use Rattle.hk_base.specs.Faults.{Rose}
 use Rattle.hk_base.specs.declared.names.Dek.{Dek}
 use Rattle.hk_base.specs.declared.names.Edek.{Edek}
@@ -14,14 +14,20 @@ use Rattle.kms_calls.specs.declared.calls.KmsCall.TheVariants as call
 use Rattle.kms_calls.specs.declared.calls.KmsReply.{KmsReply}
 use Rattle.kms_calls.specs.declared.calls.KmsReply.TheVariants as reply
 use Rattle.kms_calls.specs.declared.calls.RawEdek.{RawEdek}
-use Rattle.key_rows.specs.Table.{Table, find_birth}
+use Rattle.key_rows.specs.Table.{Table, find_birth, material_of}
 use Rattle.key_rows.specs.Sound.{IsTable}
+use Rattle.eek_seal.specs.Seal.{seal, unseal}
+use Rattle.eek_seal.specs.Tickets.{SealedKey}
+use Rattle.eek_seal.specs.declared.tickets.Ticket.{Ticket}
+use Rattle.eek_queues.specs.Queues.{AllQueues, has_queue, ready_in}
+use Rattle.kms_core.specs.declared.deposit.Deposit.TheVariants.{Kept}
+use Rattle.kms_core.specs.Ready.{deposit_told, deposited, edek_of_sealed, ticket_of}
 use Rattle.kms_core.specs.Draws.{drawn_dek, drawn_edek, place_of_draw, words_of_draw}
 use Rattle.kms_core.specs.Opening.{unseals}
 use Rattle.key_rows.specs.declared.rows.KeyCommand.{KeyCommand}
 use Rattle.kms_core.specs.State.{IsService, KmsState, ServiceState, next_birth, opened, settled}
 use Rattle.kms_core.specs.Users.{ServesUser}
-use Rattle.kms_core.specs.Calls.{CallActs, birth_of, current_version, first_cause, sent_causes, row_of, edek_of, current_material}
+use Rattle.kms_core.specs.Calls.{CallActs, birth_of, current_version, first_cause, sent_causes, row_of, edek_of, current_material, ready_of}
 
 -- a decryption without a cause of a refusal opens the key, and gets no other answer
 abbrev pub DecryptOpens : Type 0
@@ -39,18 +45,49 @@ PermittedDecryptOpens =
     → ServesUser lines user s words now (call.Decrypt name sent) (Rose before later) told drawn logged s'
     → ((key : Dek) × (unseals s.keys.table.rows (edek_of sent) ≡ Some key) × (told ≡ reply.Key key)) × (s' ≡ s)
 
--- the data key of the draw of this number in a generate
+-- the data key of the draw of this number in a generate, from 0
 abbrev pub dek_of_draw : KmsState → (ℕ → ℕ) → KeyName → ℕ → Dek
 dek_of_draw s words name number =
     let len = length (current_material s name) in
     drawn_dek words (place_of_draw len number) len
 
--- each key that a generate returns opens, under the table after it, to the data key drawn for it
+-- a generate returns the oldest ready keys first
+abbrev pub ReadyFirst : Type 0
+ReadyFirst =
+    (s : KmsState) (words : ℕ → ℕ) (now : ℕ) (name : KeyName) (count : ℕ) (keys : List Edek) (s' : KmsState) (words' : ℕ → ℕ)
+    → CallActs s words now (call.Generate name count) (reply.Ready keys) s' words'
+    → (number : ℕ) → number < count → number < length (ready_of s name) → slice_get keys number ≡ slice_get (ready_of s name) number
+
+-- A ready key is of the current version, and opens under its material.
+pub record OpensReady (s : KmsState) (name : KeyName) (key : Edek) : Type 0 where
+  pub version : key.version ≡ current_version (row_of s name)
+  pub opens : unseals s.table.rows key ≡ Some (unseal (current_material s name) key.iv key.sealed)
+
+abbrev pub ReadyOpens : Type 0
+ReadyOpens =
+    (s : ServiceState) (name : KeyName) → IsService s → is_none (row_of s.keys name) ≡ false
+    → (number : ℕ) (key : Edek) → slice_get (ready_of s.keys name) number ≡ Some key → OpensReady s.keys name key
+
+-- the material of a ticket is that of its version
+abbrev pub TicketOpens : Type 0
+TicketOpens = (s : ServiceState) (ticket : Ticket) → IsService s → ticket_of s.keys ≡ Some ticket → material_of s.keys.table.rows ticket.version ≡ Some ticket.material
+
+-- A key that was deposited is the newest ready key of its queue. If the current material sealed it, it opens to the data key that was
+-- sealed.
+pub record OpensDeposited (s : KmsState) (x : SealedKey) : Type 0 where
+  pub newest : ready_in (deposited s x).ready.queues x.birth ≡ ready_in s.ready.queues x.birth ++ edek_of_sealed x ∷ []
+  pub opens : x.sealed ≡ seal (current_material s x.version.key) x.iv x.dek → unseals (deposited s x).table.rows (edek_of_sealed x) ≡ Some x.dek
+
+abbrev pub DepositOpens : Type 0
+DepositOpens =
+    (s : ServiceState) (x : SealedKey) → IsService s → has_queue s.keys.ready.queues x.birth ≡ true → deposit_told s.keys x ≡ Kept → OpensDeposited s.keys x
+
+-- each key that a generate returns after the ready keys opens, under the table after it, to the data key drawn for it
 abbrev pub GeneratedOpens : Type 0
 GeneratedOpens =
     (s : KmsState) (words : ℕ → ℕ) (now : ℕ) (name : KeyName) (count : ℕ) (keys : List Edek) (s' : KmsState) (words' : ℕ → ℕ)
     → IsTable s.table → CallActs s words now (call.Generate name count) (reply.Ready keys) s' words'
-    → (number : ℕ) (key : Edek) → slice_get keys number ≡ Some key → unseals s'.table.rows key ≡ Some (dek_of_draw s words name number)
+    → (number : ℕ) (key : Edek) → slice_get keys (length (ready_of s name) + number) ≡ Some key → unseals s'.table.rows key ≡ Some (dek_of_draw s words name number)
 
 -- the encrypted key, as it is sent back
 abbrev pub sent_of : Edek → RawEdek
@@ -61,7 +98,7 @@ abbrev pub GeneratedDecrypts : Type 0
 GeneratedDecrypts =
     (s : KmsState) (words : ℕ → ℕ) (now : ℕ) (name : KeyName) (count : ℕ) (keys : List Edek) (s' : KmsState) (words' : ℕ → ℕ)
     → IsTable s.table → CallActs s words now (call.Generate name count) (reply.Ready keys) s' words'
-    → (number : ℕ) (key : Edek) → slice_get keys number ≡ Some key
+    → (number : ℕ) (key : Edek) → slice_get keys (length (ready_of s name) + number) ≡ Some key
     → (later : ℕ → ℕ) (then : ℕ) (told : KmsReply) (s'' : KmsState) (later' : ℕ → ℕ)
     → CallActs s' later then (call.Decrypt name (sent_of key)) told s'' later' → told ≡ reply.Key (dek_of_draw s words name number)
 
@@ -103,7 +140,7 @@ GoneStays =
 -- nor does a start, whether it finds the pending command or not
 abbrev pub GoneStaysAtStart : Type 0
 GoneStaysAtStart =
-    (s : ServiceState) (kept : Bool) → IsService s → (birth : ℕ) → Gone s.keys.table birth → Gone (opened (settled kept s).table).keys.table birth
+    (s : ServiceState) (kept : Bool) (sizes : AllQueues) → IsService s → (birth : ℕ) → Gone s.keys.table birth → Gone (opened sizes (settled kept s).table).keys.table birth
 
 -- the birth of a deleted key is used and gone
 abbrev pub DeletedIsGone : Type 0
@@ -125,20 +162,24 @@ UsedUpStays =
     (s' : ServiceState)
     → IsService s → ServesUser lines user s words now c (Rose before later) told drawn logged s' → (birth : ℕ) → IsUsedUp s birth → IsUsedUp s' birth
 
--- A birth below the next one that no key has after a call is used up, unless the call left everything unchanged: then the
--- pending command, which may create a key with it, is still pending.
+-- the queues of ready keys may differ, and nothing else
+abbrev pub OnlyQueues : ServiceState → ServiceState → Type 0
+OnlyQueues s s' = s' ≡ record s { keys = record s.keys { ready = s'.keys.ready } }
+
+-- A birth below the next one that no key has after a call is used up, unless the call left everything but the queues unchanged:
+-- then the pending command, which may create a key with it, is still pending.
 abbrev pub LostIsUsedUp : Type 0
 LostIsUsedUp =
     (lines : List PropLine) (user : Text) (s : ServiceState) (words : ℕ → ℕ) (now : ℕ) (c : KmsCall) (before later : ℕ) (told : KmsReply) (drawn : ℕ) (logged : List KeyCommand)
     (s' : ServiceState)
     → IsService s → ServesUser lines user s words now c (Rose before later) told drawn logged s'
-    → (birth : ℕ) → birth < next_birth s.keys → is_none (find_birth s'.keys.table.rows birth) ≡ true → IsUsedUp s' birth ⊎ (s' ≡ s)
+    → (birth : ℕ) → birth < next_birth s.keys → is_none (find_birth s'.keys.table.rows birth) ≡ true → IsUsedUp s' birth ⊎ OnlyQueues s s'
 
 -- so is each birth below the next one that no key has in the table that a start finds
 abbrev pub UsedUpAtStart : Type 0
 UsedUpAtStart =
-    (s : ServiceState) (kept : Bool) → IsService s → (birth : ℕ) → birth < next_birth s.keys → is_none (find_birth (settled kept s).table.rows birth) ≡ true
-    → IsUsedUp (opened (settled kept s).table) birth
+    (s : ServiceState) (kept : Bool) (sizes : AllQueues) → IsService s → (birth : ℕ) → birth < next_birth s.keys → is_none (find_birth (settled kept s).table.rows birth) ≡ true
+    → IsUsedUp (opened sizes (settled kept s).table) birth
 
 -- `count` words from this place on are the same in both streams
 abbrev pub SameWords : (ℕ → ℕ) → (ℕ → ℕ) → ℕ → ℕ → Type 0

@@ -3,6 +3,7 @@ pub mod State
 pub mod Opening
 pub mod Order
 pub mod Calls
+pub mod Ready
 pub mod Service
 pub mod Users
 pub mod Laws

@@ -1,5 +1,5 @@
 -- The calls of the key management service over a store and its disk.
-use Rattle.std.specs.Prelude.{◌≡◌, ◌⊎◌, ℕ, ◌+◌, Bool, true, false, List, [], ◌∷◌, ◌++◌, Option, None, Some, is_some, IfSome}
+use Rattle.std.specs.Prelude.{◌≡◌, ◌⊎◌, ℕ, ◌+◌, Bool, true, List, [], ◌∷◌, ◌++◌, Option, None, Some, is_some, IfSome}
 use Rattle.hk_base.specs.Disk.{DiskState, Tells, RunOn, LeavesOnly}
 use Rattle.hk_base.specs.Faults.{Rose}
 use Rattle.key_rows.specs.declared.rows.KeyCommand.{KeyCommand}
@@ -14,22 +14,28 @@ use Rattle.kms_store.specs.Store.{Applies, IsKeyLog, IsLeftOf, IsLogOf, StandsFo
 use Rattle.kms_core.specs.State.{KmsState, Running, ServiceState, opened, service_of, settled}
 use Rattle.kms_core.specs.Calls.{KmsActs, causes, deed, first_cause}
 
--- The calls that change keys. Each settles the pending command first; the others answer from the table without it.
-abbrev pub is_change : KmsCall → Bool
-is_change (call.Create name bits material description) = true
-is_change (call.Roll name material) = true
-is_change (call.Delete name) = true
-is_change (call.Invalidate name) = false
-is_change (call.Metadata name) = false
-is_change (call.Metadatas names) = false
-is_change call.Names = false
-is_change (call.Current name) = false
-is_change (call.Versions name) = false
-is_change (call.Version version) = false
-is_change (call.Generate name count) = false
-is_change (call.Decrypt name sent) = false
-is_change (call.Reencrypt name sent) = false
-is_change (call.Batch name sent) = false
+-- What a call may do: only read; or work on the queues of ready keys, and write nothing; or change keys, and write to the log.
+-- A call that commits settles the pending command first. The others answer from the table without it.
+pub data Kind : Type 0 where
+  Reading : Kind
+  Working : Kind
+  Committing : Kind
+
+abbrev pub kind : KmsCall → Kind
+kind (call.Create name bits material description) = Committing
+kind (call.Roll name material) = Committing
+kind (call.Delete name) = Committing
+kind (call.Invalidate name) = Working
+kind (call.Metadata name) = Reading
+kind (call.Metadatas names) = Reading
+kind call.Names = Reading
+kind (call.Current name) = Reading
+kind (call.Versions name) = Reading
+kind (call.Version version) = Reading
+kind (call.Generate name count) = Working
+kind (call.Decrypt name sent) = Reading
+kind (call.Reencrypt name sent) = Reading
+kind (call.Batch name sent) = Reading
 
 abbrev pub listed : Option KeyCommand → List KeyCommand
 listed None = []
@@ -45,6 +51,13 @@ pub record OnlyReads (s : ServiceState) (words : ℕ → ℕ) (now : ℕ) (c : K
   pub acts : KmsActs s.keys words now c told drawn s.keys
   pub none_logged : logged ≡ []
   pub same : s' ≡ s
+
+-- a call that may change the queues, and writes nothing
+pub record OnlyWorks (s : ServiceState) (words : ℕ → ℕ) (now : ℕ) (c : KmsCall) (told : KmsReply) (drawn : ℕ) (logged : List KeyCommand) (s' : ServiceState) : Type 0 where
+  pub changed : KmsState
+  pub acts : KmsActs s.keys words now c told drawn changed
+  pub none_logged : logged ≡ []
+  pub left : s' ≡ record s { keys = changed }
 
 -- The pending command could not be settled: it is still pending, and nothing changed.
 pub record Unsettled (s : ServiceState) (fault : Type 0) (told : KmsReply) (drawn : ℕ) (logged : List KeyCommand) (s' : ServiceState) : Type 0 where
@@ -78,13 +91,14 @@ Changes keys before words now c fault told drawn logged s' =
 
 -- From s and these words to come, a call may get this reply, draw this number of words, acknowledge these commands and
 -- leave s'. A store fault comes only if `fault` holds. A pending command is acknowledged if it is found in the log.
-abbrev pub ServesBy : Bool → ServiceState → (ℕ → ℕ) → ℕ → KmsCall → Type 0 → KmsReply → ℕ → List KeyCommand → ServiceState → Type 0
-ServesBy false s words now c fault told drawn logged s' = OnlyReads s words now c told drawn logged s'
-ServesBy true s words now c fault told drawn logged s' =
+abbrev pub ServesBy : Kind → ServiceState → (ℕ → ℕ) → ℕ → KmsCall → Type 0 → KmsReply → ℕ → List KeyCommand → ServiceState → Type 0
+ServesBy Reading s words now c fault told drawn logged s' = OnlyReads s words now c told drawn logged s'
+ServesBy Working s words now c fault told drawn logged s' = OnlyWorks s words now c told drawn logged s'
+ServesBy Committing s words now c fault told drawn logged s' =
     Unsettled s fault told drawn logged s' ⊎ ((kept : Bool) × Changes (settled kept s) (settled_commands kept s.pending) words now c fault told drawn logged s')
 
 abbrev pub Serves : ServiceState → (ℕ → ℕ) → ℕ → KmsCall → Type 0 → KmsReply → ℕ → List KeyCommand → ServiceState → Type 0
-Serves s words now c fault told drawn logged s' = ServesBy (is_change c) s words now c fault told drawn logged s'
+Serves s words now c fault told drawn logged s' = ServesBy (kind c) s words now c fault told drawn logged s'
 
 -- What a crash leaves of a log of these commands while nothing is pending: the log with or without one more command, which
 -- is the call's own and applies to the table.
@@ -122,8 +136,8 @@ pub record Acts (old new : DiskState) (r : Running) (words : ℕ → ℕ) (now :
   pub rest : (k : ℕ) → words' k ≡ words (drawn + k)
   pub disk : Logs old new r.store r'.store (IsLeftOf r.store.table.keys r.store.pending (OwnOf (service_of r) words now c told (service_of r'))) logged
 
--- A start found a table in the log, and added the next opening after its commands.
+-- A start found a table in the log, and added the next opening after its commands. There are no queues yet.
 pub record Starts (old new : DiskState) (r : Running) : Type 0 where
   pub table : Table
-  pub opens : service_of r ≡ opened table
+  pub opens : service_of r ≡ opened r.ready table
   pub log : Tells old → (commands : List KeyCommand) × IsKeyLog (old.reads 0) commands table × StandsFor new r.store (commands ++ next_opening table ∷ [])

@@ -1,9 +1,10 @@
 -- The steps that the service takes in a call.
-use Rattle.std.specs.Prelude.{◌≡◌, ◌≤◌, ℕ, Bool, ◌+◌, ◌-◌, ◌/◌, ◌⊎◌, true, false, is_none, is_some, List, [], None, Some, length, map, slice_get, unwrap_or, bytes_eq, MatchOption, if◌then◌else◌}
+use Rattle.std.specs.Prelude.{◌≡◌, ◌≤◌, ℕ, Bool, ◌+◌, ◌-◌, ◌/◌, ◌⊎◌, true, false, is_none, is_some, List, [], ◌++◌, None, Some, length, map, take, slice_get, unwrap_or, bytes_eq, MatchOption, if◌then◌else◌}
 use Rattle.hk_base.specs.declared.names.KeyName.{KeyName}
 use Rattle.hk_base.specs.declared.names.Dek.{Dek}
 use Rattle.hk_base.specs.declared.names.Edek.{Edek}
 use Rattle.eek_seal.specs.Seal.{seal, unseal}
+use Rattle.eek_seal.specs.Tickets.{SealedKey}
 use Rattle.key_rows.specs.declared.rows.KeyRow.{KeyRow}
 use Rattle.key_rows.specs.Table.{find_birth, material_of, current_of}
 use Rattle.kms_calls.specs.declared.calls.RawEdek.{RawEdek}
@@ -16,9 +17,12 @@ use Rattle.key_rows.specs.declared.rows.KeyCommand.{KeyCommand}
 use Rattle.hk_base.specs.Disk.{DiskState}
 use Rattle.hk_base.specs.Faults.{Rose}
 use Rattle.kms_store.specs.Store.{IsLeftOf, NoCommand, settled_commands}
-use Rattle.kms_core.specs.State.{KmsState, Running, ServiceState, keys_of, service_of, settled}
+use Rattle.eek_queues.specs.Queues.{AllQueues, ready_in}
+use Rattle.kms_core.specs.State.{KmsState, Running, ServiceState, emptied, keys_of, service_of, settled, without}
+use Rattle.kms_core.specs.declared.queued.QueueChange.{QueueChange}
+use Rattle.kms_core.specs.declared.queued.QueueChange.TheVariants.{Empty, Keep, Remove}
 use Rattle.kms_core.specs.Service.{Changes, IsGrowing, Logs, WasWritten, listed}
-use Rattle.kms_core.specs.Calls.{Deed, done_with, causes, deed, takes_memory, birth_of, bits_of, versions_of, row_of, current_version, first_cause, sent_causes, batch_causes, is_malformed, edek_of, same_version}
+use Rattle.kms_core.specs.Calls.{CallActs, Deed, handed_out, done_with, causes, deed, takes_memory, birth_of, bits_of, versions_of, row_of, current_version, first_cause, sent_causes, batch_causes, is_malformed, edek_of, same_version}
 use Rattle.kms_core.specs.Draws.{drawn_edeks, place_of_draw}
 use Rattle.kms_core.specs.declared.drawing.CurrentVersion.{CurrentVersion}
 use Rattle.kms_core.specs.declared.sent.Checked.{Checked}
@@ -45,9 +49,9 @@ pub record StandsSo (s : KmsState) (name : KeyName) (key : Standing) : Type 0 wh
 abbrev pub Drew : (ℕ → ℕ) → (ℕ → ℕ) → ℕ → Type 0
 Drew words words' count = (k : ℕ) → words' k ≡ words (count + k)
 
--- the data encryption keys were drawn
-pub record DrewKeys (current : CurrentVersion) (words words' : ℕ → ℕ) (count : ℕ) (keys : List Edek) : Type 0 where
-  pub drawn : keys ≡ drawn_edeks current.version current.material words count
+-- data encryption keys were drawn, and added to others
+pub record DrewKeys (current : CurrentVersion) (words words' : ℕ → ℕ) (count : ℕ) (others keys : List Edek) : Type 0 where
+  pub drawn : keys ≡ others ++ drawn_edeks current.version current.material words count
   pub rest : Drew words words' (place_of_draw (length current.material) count)
 
 -- memory ran out, after at most the words of `count` data encryption keys
@@ -59,11 +63,14 @@ pub record DrewSome (current : CurrentVersion) (words words' : ℕ → ℕ) (cou
 -- the current version of a key that exists, with its material
 pub record IsCurrent (s : KmsState) (name : KeyName) (current : CurrentVersion) : Type 0 where
   pub stands : is_none (row_of s name) ≡ false
+  pub birth : current.birth ≡ birth_of (row_of s name)
+  pub found : find_birth s.table.rows current.birth ≡ row_of s name
   pub version : current.version ≡ current_version (row_of s name)
   pub material : material_of s.table.rows current.version ≡ Some current.material
 
 -- the current version of a key, with its material
 pub record IsNewest (row : KeyRow) (current : CurrentVersion) : Type 0 where
+  pub birth : current.birth ≡ row.birth
   pub version : current.version ≡ current_of row
   pub material : slice_get row.materials (length row.materials - 1) ≡ Some current.material
   pub long : length current.material ≡ row.bits / 8
@@ -119,6 +126,28 @@ pub record ResealsAll (row : KeyRow) (sent : List RawEdek) (keys : List Edek) : 
 -- they are refused for a cause, or memory ran out if there is none
 abbrev pub RefusesBatch : KeyRow → List RawEdek → KmsRefusal → Type 0
 RefusesBatch row sent why = MatchOption (first_cause (batch_causes (Some row) row.name sent)) (why ≡ NoMemory) (λ cause. cause ≡ why)
+
+-- A generate took the oldest ready keys of the current version, and drew the rest.
+pub record HandsOut (all all' : AllQueues) (current : CurrentVersion) (words words' : ℕ → ℕ) (count : ℕ) (keys : List Edek) : Type 0 where
+  pub drew : DrewKeys current words words' (count - length (ready_in all.queues current.birth)) (take count (ready_in all.queues current.birth)) keys
+  pub queues : all' ≡ handed_out all current.birth count
+
+-- a call on the queues of ready keys
+pub record WorksOn (r : Running) (words : ℕ → ℕ) (now : ℕ) (c : KmsCall) (told : KmsReply) (r' : Running) (words' : ℕ → ℕ) : Type 0 where
+  pub store : r'.store ≡ r.store
+  pub acts : CallActs (keys_of r) words now c told (keys_of r') words'
+
+-- a sealed key is of the newest version of the key of its birth
+pub record IsOfNewest (s : KmsState) (x : SealedKey) : Type 0 where
+  pub row : KeyRow
+  pub found : find_birth s.table.rows x.birth ≡ Some row
+  pub version : x.version ≡ current_of row
+
+-- what a command does to the queues of ready keys
+abbrev pub changed : QueueChange → AllQueues → AllQueues
+changed Keep all = all
+changed (Empty birth) all = emptied all birth
+changed (Remove birth) all = without all birth
 
 -- Calls over a disk.
 

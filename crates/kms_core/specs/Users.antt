@@ -15,18 +15,20 @@ use Rattle.kms_acls.specs.declared.answers.Denied.{Denied}
 use Rattle.kms_acls.specs.Lists.{Lists}
 use Rattle.kms_acls.specs.Verdict.{verdict}
 use Rattle.kms_store.specs.Store.{IsLeftOf, StoreState}
+use Rattle.eek_queues.specs.Queues.{AllQueues}
 use Rattle.kms_core.specs.State.{Running, ServiceState, service_of}
 use Rattle.kms_core.specs.Service.{Logs, OwnOf, Serves}
 
--- A running service with its users: the access control lists, the store, and the counter of the next birth.
+-- A running service with its users: the access control lists, the store, the counter of the next birth, and the queues of ready keys.
 pub record RunningKms : Type 0 where
   pub acls : Lists
   pub store : StoreState
   pub next : ℕ
+  pub ready : AllQueues
 
 -- the service without its lists
 abbrev pub running : RunningKms → Running
-running k = record { store = k.store; next = k.next }
+running k = record { store = k.store; next = k.next; ready = k.ready }
 
 -- Create and Roll return the material of the new version only if it is shown to the user. Every other call shows its whole
 -- answer.

@@ -8,11 +8,11 @@ ghost use Rattle.kms_core.specs.Steps.{Drew, DrewKeys, DrewSome};
 use eek_seal::seal;
 use hk_base::{ByteList, Dek, Edek, Iv, NoMemory, VersionName, Words};
 use kms_calls::EdekList;
-use std::alloc::Global;
 
-/// The current version of a key, with its material.
+/// The current version of a key, with its material, and the birth of the key.
 #[derive(Clone, Copy)]
 pub struct CurrentVersion {
+    pub birth: u64,
     pub version: VersionName,
     pub material: Dek,
 }
@@ -86,17 +86,16 @@ fn draw_edek<W: Words>(words: &mut W, current: &CurrentVersion) -> Edek
     }
 }
 
-/// Draws `count` data encryption keys, one after another. Allocates memory for all of them before
-/// the first word is drawn.
+/// Draws `count` data encryption keys, one after another, and adds them to others.
 pub fn draw_edeks<W: Words>(
-    alloc: Global,
     words: &mut W,
     current: &CurrentVersion,
     count: u32,
+    others: EdekList,
 ) -> Result<EdekList, NoMemory>
-    ensures { MatchResult result (λ keys. DrewKeys current.now (W.to_come words.old) (W.to_come words.new) count keys) (λ _. DrewSome current.now (W.to_come words.old) (W.to_come words.new) count) }
+    ensures { MatchResult result (λ keys. DrewKeys current.now (W.to_come words.old) (W.to_come words.new) count others keys) (λ _. DrewSome current.now (W.to_come words.old) (W.to_come words.new) count) }
 {
-    let mut keys = EdekList::with_room(alloc, count as usize)?;
+    let mut keys = others;
     for _ in 0..count {
         let key = draw_edek(words, current);
         keys.push(key)?;

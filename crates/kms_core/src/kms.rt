@@ -1,29 +1,30 @@
 //! The service as users call it.
-ghost use Rattle.std.specs.Prelude.{◌≡◌, ◌⊎◌, ℕ, List, IfOk, IsErrOf, MatchResult, length};
-ghost use Rattle.hk_base.specs.Disk.{LeavesOnly, RunOn, Tells};
-ghost use Rattle.hk_base.specs.Faults.{Rose};
-ghost use Rattle.frame_log.specs.Stands.{LeavesFrom};
-ghost use Rattle.frame_log.specs.declared.fault.StartFault.TheVariants as start;
+ghost use Rattle.std.specs.Prelude.{◌≡◌, true, [], ℕ, List, IfOk, IsErrOf, MatchResult, OnOk, length};
+ghost use Rattle.hk_base.specs.Disk.{Tells};
 ghost use Rattle.key_rows.specs.declared.rows.KeyCommand.{KeyCommand};
-ghost use Rattle.key_rows.specs.Table.{Table};
 ghost use Rattle.prop_text.specs.declared.lines.PropLine.{PropLine};
 ghost use Rattle.kms_acls.specs.StandsFor.{StandsFor as ListsFor};
-ghost use Rattle.kms_store.specs.Store.{IsDamagedAt, IsKeyLog, IsLeftByStart, StandsFor};
-ghost use Rattle.kms_core.specs.State.{IsService, service_of};
+ghost use Rattle.kms_store.specs.Store.{OpensKeys, StandsFor};
+ghost use Rattle.eek_queues.specs.Queues.{has_queue};
+ghost use Rattle.kms_core.specs.State.{IsService, keys_of, no_queues, service_of};
+ghost use Rattle.kms_core.specs.Ready.{deposit_told, is_present, queues_with, ticket_of};
 ghost use Rattle.kms_core.specs.Service.{Starts};
 ghost use Rattle.kms_core.specs.Users.{ActsFor, hides, running, told_to, without_material};
 
+use crate::deposit::Deposit;
 use crate::service::Service;
+use eek_seal::{Sealed, Ticket};
 use frame_log::StartFault;
 use hk_base::{Disk, Text, Words};
 use kms_acls::{Acls, Denied, Shown};
 use kms_calls::{KmsCall, KmsRefusal, KmsReply};
+use prop_text::Sizes;
 use std::alloc::Global;
 use std::marker::Model;
 
 /// The running key management service, over the key log on file 0 of a disk, with the access
-/// control lists of its users. Contracts see the lists, the store and the counter of the next
-/// birth. They define a call by its effect on the keys and the pending command.
+/// control lists of its users. Contracts see the lists, the store, the counter of the next birth and
+/// the queues of ready keys. They define a call by its effect on the keys and the pending command.
 ///
 /// Always pass the disk that the service was started on.
 #[derive(Drop)]
@@ -37,7 +38,7 @@ impl Model for Kms {
 
     ghost Value = { RunningKms };
 
-    ghost view = { λ a. record { acls = a.acls; store = a.service.store; next = a.service.next } };
+    ghost view = { λ a. record { acls = a.acls; store = a.service.store; next = a.service.next; ready = a.service.ready } };
 }
 
 /// Returns whether the reply to a call hides the material of the new version.
@@ -66,55 +67,43 @@ fn without_material(reply: KmsReply) -> KmsReply
 impl Kms {
     /// Opens the key log on file 0 of a disk, builds the table from its commands, and records a new
     /// opening after them. A crash may stop it at any moment; a later start then works as usual.
-    /// The lists decide who may do what.
+    /// The lists decide who may do what. There are no ready keys yet.
     ///
     /// Returns `Damaged` exactly if the file is not a log, or a record encodes no command or one
     /// that doesn't apply, with the offset of its gate. Returns `Spent` exactly if opening
     /// 4,294,967,295 is recorded.
-    pub fn start<D: Disk>(alloc: Global, disk: &mut D, acls: Acls) -> Result<Kms, StartFault>
+    pub fn start<D: Disk>(
+        alloc: Global,
+        disk: &mut D,
+        acls: Acls,
+        sizes: Sizes,
+    ) -> Result<Kms, StartFault>
         ensures started { IfOk result (λ kms. Starts (D.state disk.old) (D.state disk.new) (running kms)) }
         ensures lists { IfOk result (λ kms. kms.acls ≡ acls) }
-        ensures damaged { (at : ℕ) → IsErrOf result (start.Damaged at) → Tells (D.state disk.old) → IsDamagedAt ((D.state disk.old).reads 0) at }
-        ensures spent { IsErrOf result start.Spent → Tells (D.state disk.old) → ((commands : List KeyCommand) × (table : Table)
-            × IsKeyLog ((D.state disk.old).reads 0) commands table × (table.opening ≡ 4294967295)) }
+        ensures queues { IfOk result (λ kms. kms.ready ≡ no_queues sizes) }
 
         // A crash at any moment leaves what it might have left before, or the log found, as it is
-        // or with its end gate read as 1, or its commands with or without the new opening.
-        ensures any_moment { Tells (D.state disk.old) → LeavesOnly 0 (D.state disk.old) (D.state disk.new)
-            (λ c. (D.state disk.old).leaves 0 c ⊎ IsLeftByStart ((D.state disk.old).reads 0) c) }
-
-        // Whatever the result, after the first sync of the call a crash leaves only the latter. If
-        // that sync failed, nothing was written.
-        ensures since_sync { Tells (D.state disk.old) →
-            (IsErrOf result start.StoreFault × LeavesOnly 0 (D.state disk.old) (D.state disk.new) ((D.state disk.old).leaves 0))
-            ⊎ LeavesFrom 0 (D.state disk.old) (D.state disk.new) (IsLeftByStart ((D.state disk.old).reads 0)) }
-
-        ensures run { RunOn 0 (D.state disk.old) (D.state disk.new) }
-        ensures cause { IsErrOf result start.StoreFault → Rose (D.state disk.old).faults (D.state disk.new).faults }
+        // or with its end gate read as 1, or its commands with or without the new opening. After the
+        // first sync of the call a crash leaves only the latter. If that sync failed, nothing was written.
+        ensures opens { OpensKeys (D.state disk.old) (D.state disk.new) (λ fault. IsErrOf result fault) }
     {
-        match Service::start(alloc, disk) {
+        match Service::start(alloc, disk, sizes.queue, sizes.watermark) {
             Err(fault) => Err(fault),
             Ok(service) => Ok(Kms { acls, service }),
         }
     }
 
     /// Opens the key log again, as a start does, and continues with what it finds and with the same
-    /// lists. If that fails the service is unchanged, but must not be used with this disk again.
+    /// lists and sizes, and without ready keys. If that fails the service is unchanged, but must not be used with this disk again.
     pub fn restart<D: Disk>(&mut self, alloc: Global, disk: &mut D) -> Result<(), StartFault>
         ensures started { MatchResult result (λ _. Starts (D.state disk.old) (D.state disk.new) (running self.new)) (λ _. self.new ≡ self.old) }
         ensures lists { self.new.acls ≡ self.old.acls }
-        ensures damaged { (at : ℕ) → IsErrOf result (start.Damaged at) → Tells (D.state disk.old) → IsDamagedAt ((D.state disk.old).reads 0) at }
-        ensures spent { IsErrOf result start.Spent → Tells (D.state disk.old) → ((commands : List KeyCommand) × (table : Table)
-            × IsKeyLog ((D.state disk.old).reads 0) commands table × (table.opening ≡ 4294967295)) }
-        ensures any_moment { Tells (D.state disk.old) → LeavesOnly 0 (D.state disk.old) (D.state disk.new)
-            (λ c. (D.state disk.old).leaves 0 c ⊎ IsLeftByStart ((D.state disk.old).reads 0) c) }
-        ensures since_sync { Tells (D.state disk.old) →
-            (IsErrOf result start.StoreFault × LeavesOnly 0 (D.state disk.old) (D.state disk.new) ((D.state disk.old).leaves 0))
-            ⊎ LeavesFrom 0 (D.state disk.old) (D.state disk.new) (IsLeftByStart ((D.state disk.old).reads 0)) }
-        ensures run { RunOn 0 (D.state disk.old) (D.state disk.new) }
-        ensures cause { IsErrOf result start.StoreFault → Rose (D.state disk.old).faults (D.state disk.new).faults }
+        ensures queues { OnOk result (self.new.ready ≡ record self.old.ready { queues = [] }) }
+        ensures opens { OpensKeys (D.state disk.old) (D.state disk.new) (λ fault. IsErrOf result fault) }
     {
-        match Service::start(alloc, disk) {
+        let size = self.service.size();
+        let watermark = self.service.watermark();
+        match Service::start(alloc, disk, size, watermark) {
             Err(fault) => Err(fault),
             Ok(service) => {
                 self.service = service;
@@ -146,6 +135,26 @@ impl Kms {
         ensures { result ≡ self.now.store.table.keys.opening }
     {
         self.service.opening()
+    }
+
+    /// Returns a ticket for sealing ready keys for a low queue: the one with the fewest ready keys,
+    /// of the oldest key among equals. Returns `None` if no queue is low.
+    pub fn ticket(&self) -> Option<Ticket>
+        ensures { result ≡ ticket_of (keys_of (running self.now)) }
+    {
+        self.service.ticket()
+    }
+
+    /// Puts a ready key at the end of the queue of its key. If its opening, birth or version is no
+    /// longer current, or the queue is full, nothing changes. Does not allocate.
+    ///
+    /// If they are current, the key must have a queue.
+    pub fn deposit(&mut self, sealed: Sealed) -> Deposit
+        requires queue { is_present (keys_of (running self.old)) sealed ≡ true → has_queue self.old.ready.queues sealed.birth ≡ true }
+        ensures told { result ≡ deposit_told (keys_of (running self.old)) sealed }
+        ensures queues { self.new ≡ record self.old { ready = queues_with self.old.ready sealed result } }
+    {
+        self.service.deposit(sealed)
     }
 
     /// Answers a call of a user. `now` is the current moment, which a created key records.

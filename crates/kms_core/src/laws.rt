@@ -1,6 +1,6 @@
 //! Laws about data encryption keys that are generated, decrypted and re-encrypted, and about
 //! births. The functions do nothing: their contracts are the laws.
-ghost use Rattle.kms_core.specs.Laws.{BatchOpens, DecryptOpens, DeletedIsGone, DrawsApart, DrawsReadTheirOwn, GeneratedDecrypts, GeneratedOpens, GoneStays, GoneStaysAtStart, LostIsUsedUp, PermittedDecryptOpens, ReencryptedOpens, UsedUpAtStart, UsedUpStays};
+ghost use Rattle.kms_core.specs.Laws.{BatchOpens, DecryptOpens, DeletedIsGone, DepositOpens, DrawsApart, DrawsReadTheirOwn, GeneratedDecrypts, GeneratedOpens, GoneStays, GoneStaysAtStart, LostIsUsedUp, PermittedDecryptOpens, ReadyFirst, ReadyOpens, ReencryptedOpens, TicketOpens, UsedUpAtStart, UsedUpStays};
 
 /// A decrypt that nothing refuses returns the key that the sent bytes open to under their version.
 /// The same holds for a user who may decrypt.
@@ -9,11 +9,22 @@ pub fn decrypt_opens()
     ensures permitted { PermittedDecryptOpens }
 {}
 
-/// Each key that a generate returns opens to the data encryption key drawn for it, and decrypt
-/// returns that key.
+/// A generate returns the oldest ready keys first. Each ready key is of the current version and
+/// opens under its material. Each key after them opens to the data encryption key drawn for it, and
+/// decrypt returns that key.
 pub fn generated_keys_open()
+    ensures ready { ReadyFirst }
+    ensures ready_opens { ReadyOpens }
     ensures opens { GeneratedOpens }
     ensures decrypts { GeneratedDecrypts }
+{}
+
+/// The material of a ticket is that of its version. A sealed key that a deposit keeps is the newest
+/// ready key of its queue, and opens to the data encryption key that was sealed, if it was sealed
+/// with the current material.
+pub fn deposited_keys_open()
+    ensures ticket { TicketOpens }
+    ensures deposit { DepositOpens }
 {}
 
 /// The key that a reencrypt returns, and each key that a batch returns, is on the current version

@@ -35,6 +35,7 @@ pub fn newest(row: &KeyRow) -> Option<CurrentVersion>
     let material = row.materials.get(number)?;
     let key = row.name;
     Some(CurrentVersion {
+        birth: row.birth,
         version: VersionName { key, number },
         material,
     })

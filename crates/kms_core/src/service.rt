@@ -1,24 +1,27 @@
 //! The calls of the service, without the access control lists.
-ghost use Rattle.std.specs.Prelude.{◌≡◌, ◌*◌, ◌/◌, ◌≤◌, ◌<◌, ◌^◌, ◌+◌, ◌⊎◌, ℕ, List, true, false, IfOk, IfSome, IsErrOf, IsTrue, MatchBool, MatchOption, MatchResult, None, Some, find, is_none, is_some, length, map};
+ghost use Rattle.std.specs.Prelude.{◌≡◌, ◌*◌, ◌/◌, ◌≤◌, ◌<◌, ◌^◌, ◌+◌, ◌⊎◌, ℕ, List, [], true, false, IfOk, IfSome, IsErrOf, IsTrue, MatchBool, MatchOption, MatchResult, None, Some, find, is_none, is_some, length, map};
 ghost use Rattle.std.specs.List.{list_any};
 ghost use Rattle.std.specs.Option.{option_copied};
-ghost use Rattle.hk_base.specs.Disk.{LeavesOnly, RunOn, Tells};
-ghost use Rattle.hk_base.specs.Faults.{Rose};
-ghost use Rattle.frame_log.specs.Stands.{LeavesFrom};
-ghost use Rattle.frame_log.specs.declared.fault.StartFault.TheVariants as start;
+ghost use Rattle.hk_base.specs.Disk.{Tells};
 ghost use Rattle.key_rows.specs.Sound.{IsRow};
 ghost use Rattle.key_rows.specs.declared.rows.KeyCommand.{KeyCommand};
-ghost use Rattle.key_rows.specs.Table.{Table, find_birth, is_length, material_of};
-ghost use Rattle.kms_store.specs.Store.{IsDamagedAt, IsKeyLog, IsLeftByStart, StandsFor};
+ghost use Rattle.key_rows.specs.Table.{find_birth, is_length, material_of};
+ghost use Rattle.kms_store.specs.Store.{OpensKeys, StandsFor};
 ghost use Rattle.kms_core.specs.State.{IsService, keys_of, service_of};
-ghost use Rattle.kms_core.specs.Calls.{CallActs, all_versions, create_causes, created, current_material, current_version, deleted, first_cause, is_absent, is_full, is_misfit, meta_of, metas_of, opened, resealed, rolled, row_of, shown};
+ghost use Rattle.kms_core.specs.Calls.{all_versions, create_causes, created, current_material, current_version, deleted, first_cause, is_absent, is_full, is_misfit, meta_of, metas_of, opened, resealed, rolled, row_of, shown};
 ghost use Rattle.kms_core.specs.Order.{names_in_order};
 ghost use Rattle.kms_core.specs.Service.{Acts, Starts};
-ghost use Rattle.kms_core.specs.Steps.{ActsSettled, Answers, Commits, IsCurrent, StandsSo, Settling, IsUnsettled};
+ghost use Rattle.kms_core.specs.Steps.{ActsSettled, Answers, Commits, IsCurrent, StandsSo, Settling, IsOfNewest, IsUnsettled, WorksOn};
+ghost use Rattle.eek_queues.specs.Queues.{has_queue};
+ghost use Rattle.kms_core.specs.Ready.{deposit_told, is_present, queues_with, stale_for, ticket_of};
 
-use crate::drawing::{CurrentVersion, draw_edeks, material_for};
+use crate::deposit::Deposit;
+use crate::drawing::{CurrentVersion, material_for};
+use crate::queued::{change, change_by, hand_out};
 use crate::sent::{MOST_ASKED, newest, open, reseal, reseal_all};
 use crate::told::{meta, versions};
+use eek_queues::Queues;
+use eek_seal::{Sealed, Ticket};
 use frame_log::{StartFault, StoreRefusal};
 use hk_base::{ByteList, Dek, Disk, KeyName, NoMemory, VersionName, Words};
 use key_rows::{KeyCommand, KeyRow};
@@ -52,18 +55,19 @@ pub struct Service {
     alloc: Global,
     store: Store,
     next: u64,
+    queues: Queues,
 }
 
 impl Model for Service {
     ghost use Rattle.std.specs.Prelude.{◌≡◌, ◌+◌, ◌*◌, ◌^◌, ◌<◌, ◌≤◌, IfSome};
     ghost use Rattle.key_rows.specs.Table.{after};
-    ghost use Rattle.kms_core.specs.State.{Running};
+    ghost use Rattle.kms_core.specs.State.{AllReady, Running};
 
     ghost Value = { Running };
 
-    ghost view = { λ a. record { store = a.store; next = a.next } };
+    ghost view = { λ a. record { store = a.store; next = a.next; ready = a.queues } };
 
-    ghost invariant = { λ a. (0 < a.store.table.keys.opening) × (a.store.table.keys.opening < 2 ^ 32) × (a.store.table.keys.greatest < a.store.table.keys.opening * 2 ^ 32 + a.next) × (a.next ≤ 2 ^ 32) × IfSome a.store.pending (λ command. ((after a.store.table.keys command).opening ≡ a.store.table.keys.opening) × ((after a.store.table.keys command).greatest < a.store.table.keys.opening * 2 ^ 32 + a.next)) };
+    ghost invariant = { λ a. (0 < a.store.table.keys.opening) × (a.store.table.keys.opening < 2 ^ 32) × (a.store.table.keys.greatest < a.store.table.keys.opening * 2 ^ 32 + a.next) × (a.next ≤ 2 ^ 32) × IfSome a.store.pending (λ command. ((after a.store.table.keys command).opening ≡ a.store.table.keys.opening) × ((after a.store.table.keys command).greatest < a.store.table.keys.opening * 2 ^ 32 + a.next)) × AllReady a.store.table.keys.rows a.queues.queues };
 }
 
 fn is_length(bits: u64) -> bool
@@ -82,18 +86,15 @@ fn is_misfit(bits: u64, material: &Option<ByteList>) -> bool
 }
 
 impl Service {
-    pub fn start<D: Disk>(alloc: Global, disk: &mut D) -> Result<Service, StartFault>
+    pub fn start<D: Disk>(
+        alloc: Global,
+        disk: &mut D,
+        size: u16,
+        watermark: u16,
+    ) -> Result<Service, StartFault>
         ensures started { IfOk result (Starts (D.state disk.old) (D.state disk.new)) }
-        ensures damaged { (at : ℕ) → IsErrOf result (start.Damaged at) → Tells (D.state disk.old) → IsDamagedAt ((D.state disk.old).reads 0) at }
-        ensures spent { IsErrOf result start.Spent → Tells (D.state disk.old) → ((commands : List KeyCommand) × (table : Table)
-            × IsKeyLog ((D.state disk.old).reads 0) commands table × (table.opening ≡ 4294967295)) }
-        ensures any_moment { Tells (D.state disk.old) → LeavesOnly 0 (D.state disk.old) (D.state disk.new)
-            (λ c. (D.state disk.old).leaves 0 c ⊎ IsLeftByStart ((D.state disk.old).reads 0) c) }
-        ensures since_sync { Tells (D.state disk.old) →
-            (IsErrOf result start.StoreFault × LeavesOnly 0 (D.state disk.old) (D.state disk.new) ((D.state disk.old).leaves 0))
-            ⊎ LeavesFrom 0 (D.state disk.old) (D.state disk.new) (IsLeftByStart ((D.state disk.old).reads 0)) }
-        ensures run { RunOn 0 (D.state disk.old) (D.state disk.new) }
-        ensures cause { IsErrOf result start.StoreFault → Rose (D.state disk.old).faults (D.state disk.new).faults }
+        ensures queues { IfOk result (λ service. service.ready ≡ record { size = size; watermark = watermark; queues = [] }) }
+        ensures opens { OpensKeys (D.state disk.old) (D.state disk.new) (λ fault. IsErrOf result fault) }
     {
         let store = Store::start(alloc, disk)?;
         let _ = store.opening();
@@ -101,6 +102,7 @@ impl Service {
             alloc,
             store,
             next: 1,
+            queues: Queues::new(alloc, size, watermark),
         })
     }
 
@@ -122,6 +124,20 @@ impl Service {
         ensures { result ≡ self.now.store.table.keys.opening }
     {
         self.store.opening()
+    }
+
+    /// Returns the number of ready keys that a queue can hold.
+    pub fn size(&self) -> u16
+        ensures { result ≡ self.now.ready.size }
+    {
+        self.queues.size()
+    }
+
+    /// Returns the number of ready keys below which a queue is low.
+    pub fn watermark(&self) -> u16
+        ensures { result ≡ self.now.ready.watermark }
+    {
+        self.queues.watermark()
     }
 
     /// Answers a call.
@@ -164,7 +180,11 @@ impl Service {
         ensures { MatchResult result (λ _. Settling (D.state disk.old) (D.state disk.new) self.old self.new) (λ _. IsUnsettled (D.state disk.old) (D.state disk.new) self.old self.new) }
     {
         let _ = self.store.opening();
-        self.store.settle(disk)?;
+        let effect = change_by(self.store.pending());
+        let kept = self.store.settle(disk)?;
+        if kept {
+            change(&mut self.queues, effect);
+        }
         Ok(())
     }
 
@@ -357,7 +377,10 @@ impl Service {
         match self.store.commit(self.alloc, disk, command) {
             Err(StoreRefusal::NoMemory) => KmsReply::Refused(KmsRefusal::NoMemory),
             Err(StoreRefusal::StoreFault) => KmsReply::Refused(KmsRefusal::StoreFault),
-            Ok(()) => shown(name, key.versions, material),
+            Ok(()) => {
+                self.queues.drain(key.birth);
+                shown(name, key.versions, material)
+            }
         }
     }
 
@@ -394,7 +417,10 @@ impl Service {
         match self.store.commit(self.alloc, disk, command) {
             Err(StoreRefusal::NoMemory) => KmsReply::Refused(KmsRefusal::NoMemory),
             Err(StoreRefusal::StoreFault) => KmsReply::Refused(KmsRefusal::StoreFault),
-            Ok(()) => KmsReply::Done,
+            Ok(()) => {
+                self.queues.drop_queue(birth);
+                KmsReply::Done
+            }
         }
     }
 
@@ -402,16 +428,20 @@ impl Service {
     fn key(&self, name: &KeyName) -> Option<&KeyRow>
         ensures found { option_copied result ≡ row_of (keys_of self.now) name.now }
         ensures row { IfSome result (λ row. IsRow row.now) }
+        ensures birth { IfSome result (λ row. find_birth self.now.store.table.keys.rows row.now.birth ≡ Some row.now) }
     {
         self.store.table().find(name)
     }
 
-    fn invalidate(&self, name: KeyName) -> KmsReply
-        ensures { Answers (keys_of self.now) (KmsCall.Invalidate name) KmsReply.Done result }
+    /// Drops the ready keys of a key.
+    fn invalidate(&mut self, name: KeyName) -> KmsReply
+        ensures { (words : ℕ → ℕ) (now : ℕ) → WorksOn self.old words now (KmsCall.Invalidate name) result self.new words }
     {
-        if self.key(&name).is_none() {
+        let Some(row) = self.key(&name) else {
             return KmsReply::Refused(KmsRefusal::NoSuchKey);
-        }
+        };
+        let birth = row.birth;
+        self.queues.drain(birth);
         KmsReply::Done
     }
 
@@ -514,8 +544,8 @@ impl Service {
         }
     }
 
-    fn generate<W: Words>(&self, words: &mut W, name: KeyName, count: u32) -> KmsReply
-        ensures { (now : ℕ) → CallActs (keys_of self.now) (W.to_come words.old) now (KmsCall.Generate name count) result (keys_of self.now) (W.to_come words.new) }
+    fn generate<W: Words>(&mut self, words: &mut W, name: KeyName, count: u32) -> KmsReply
+        ensures { (now : ℕ) → WorksOn self.old (W.to_come words.old) now (KmsCall.Generate name count) result self.new (W.to_come words.new) }
     {
         let Some(current) = self.current(&name) else {
             return KmsReply::Refused(KmsRefusal::NoSuchKey);
@@ -523,9 +553,85 @@ impl Service {
         if count > MOST_ASKED {
             return KmsReply::Refused(KmsRefusal::TooManyAsked);
         }
-        match draw_edeks(self.alloc, words, &current, count) {
+        match hand_out(self.alloc, words, &mut self.queues, &current, count) {
             Err(NoMemory) => KmsReply::Refused(KmsRefusal::NoMemory),
             Ok(keys) => KmsReply::Ready(keys),
+        }
+    }
+
+    /// Returns a ticket for sealing ready keys for the lowest queue, if a queue is low.
+    pub fn ticket(&self) -> Option<Ticket>
+        ensures { result ≡ ticket_of (keys_of self.now) }
+    {
+        let birth = self.queues.low()?;
+        let row = self.store.table().with_birth(birth)?;
+        let current = newest(row)?;
+        Some(Ticket {
+            opening: self.store.opening(),
+            birth,
+            version: current.version,
+            material: current.material,
+            wanted: self.queues.room(birth),
+        })
+    }
+
+    /// Puts a ready key into the queue of its key.
+    pub fn deposit(&mut self, sealed: Sealed) -> Deposit
+        requires queue { is_present (keys_of self.old) sealed ≡ true → has_queue self.old.ready.queues sealed.birth ≡ true }
+        ensures told { result ≡ deposit_told (keys_of self.old) sealed }
+        ensures queues { self.new ≡ record self.old { ready = queues_with self.old.ready sealed result } }
+    {
+        let _ = self.count();
+        if !self.is_present(&sealed) {
+            return self.stale(&sealed);
+        }
+        self.put(&sealed)
+    }
+
+    /// Puts a ready key whose opening, birth and version are current into its queue.
+    fn put(&mut self, sealed: &Sealed) -> Deposit
+        requires present { is_present (keys_of self.old) sealed.now ≡ true }
+        requires queue { has_queue self.old.ready.queues sealed.now.birth ≡ true }
+        requires key { IsOfNewest (keys_of self.old) sealed.now }
+        ensures told { result ≡ deposit_told (keys_of self.old) sealed.now }
+        ensures queues { self.new ≡ record self.old { ready = queues_with self.old.ready sealed.now result } }
+    {
+        match self.queues.put(sealed.birth, sealed.edek()) {
+            Ok(()) => Deposit::Kept,
+            Err(_) => Deposit::Full,
+        }
+    }
+
+    /// Returns whether the opening, the birth and the version of a sealed key are the current ones.
+    fn is_present(&self, sealed: &Sealed) -> bool
+        ensures { result ≡ is_present (keys_of self.now) sealed.now }
+    {
+        let opening = self.store.opening();
+        let Some(row) = self.key(&sealed.version.key) else {
+            return false;
+        };
+        let same_birth = sealed.birth == row.birth;
+        let newest = sealed.version.number as usize == row.materials.len() - 1;
+        let same_opening = sealed.opening == opening;
+        same_birth && newest && same_opening
+    }
+
+    /// Answers with the current opening, and the current birth and version of the key.
+    fn stale(&self, sealed: &Sealed) -> Deposit
+        ensures { result ≡ stale_for (keys_of self.now) (row_of (keys_of self.now) sealed.now.version.key) }
+    {
+        let opening = self.store.opening();
+        match self.key(&sealed.version.key) {
+            None => Deposit::Stale {
+                opening,
+                birth: 0,
+                number: 0,
+            },
+            Some(row) => Deposit::Stale {
+                opening,
+                birth: row.birth,
+                number: (row.materials.len() - 1) as u16,
+            },
         }
     }
 

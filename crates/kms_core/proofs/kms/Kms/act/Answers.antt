@@ -17,7 +17,7 @@ returns g c = λ lines stands.
     let D1 = g.D.Disk.state c.act-reply.new.disk in
     let words = g.W.Words.to_come c.args.words.now in
     let words' = g.W.Words.to_come c.act-reply.new.words in
-    is_permitted D0 D1 c.args.self.now (record { acls = c.self.inside.acls; store = c.act-reply.new.self.store; next = c.act-reply.new.self.next }) lines c.args.user.now words c.args.now c.args.call c.in-Ok.shown
+    is_permitted D0 D1 c.args.self.now (record { acls = c.self.inside.acls; store = c.act-reply.new.self.store; next = c.act-reply.new.self.next; ready = c.act-reply.new.self.ready }) lines c.args.user.now words c.args.now c.args.call c.in-Ok.shown
     c.act-reply.result c.if-hides.result words'
     (sym (c.verdict.ensures lines (subst (λ (k : RunningKms). ListsFor k.acls lines) (sym c.self.view_is) stands)) ∙ c.in-Ok.is)
     (elim c.if-hides.branch [

@@ -1,11 +1,11 @@
 use Rattle.std.proofs.Common.{refl}
 use Rattle.kms_core.specs.State.{keys_of}
 use Rattle.kms_core.proofs.StepLemmas.{answers}
-use Rattle.kms_core.proofs.ServiceLemmas.{acts_reading}
+use Rattle.kms_core.proofs.ServiceLemmas.{acts_reading, acts_working}
 use Rattle.kms_core.proofs.service.Service.act.Goals as goal
 
 pub returns-in-Invalidate : goal.returns-in-Invalidate
-returns-in-Invalidate g c = rw c.in-Invalidate.is (acts_reading (g.D.Disk.state c.args.disk.now) c.args.self.now _ c.args.now _ _ _ refl (answers (keys_of c.args.self.now) _ c.args.now _ _ c.invalidate.result refl c.invalidate.ensures))
+returns-in-Invalidate g c = rw c.in-Invalidate.is (acts_working (g.D.Disk.state c.args.disk.now) c.args.self.now c.invalidate.new.self _ c.args.now _ _ _ refl (c.invalidate.ensures (g.W.Words.to_come c.args.words.now) c.args.now))
 
 pub returns-in-Metadata : goal.returns-in-Metadata
 returns-in-Metadata g c = rw c.in-Metadata.is (acts_reading (g.D.Disk.state c.args.disk.now) c.args.self.now _ c.args.now _ _ _ refl (answers (keys_of c.args.self.now) _ c.args.now _ _ c.metadata.result refl c.metadata.ensures))
@@ -35,7 +35,7 @@ pub returns-in-Batch : goal.returns-in-Batch
 returns-in-Batch g c = rw c.in-Batch.is (acts_reading (g.D.Disk.state c.args.disk.now) c.args.self.now _ c.args.now _ _ _ refl (answers (keys_of c.args.self.now) _ c.args.now _ _ c.batch.result refl c.batch.ensures))
 
 pub returns-in-Generate : goal.returns-in-Generate
-returns-in-Generate g c = rw c.in-Generate.is (acts_reading (g.D.Disk.state c.args.disk.now) c.args.self.now _ c.args.now _ _ _ refl (c.generate.ensures c.args.now))
+returns-in-Generate g c = rw c.in-Generate.is (acts_working (g.D.Disk.state c.args.disk.now) c.args.self.now c.generate.new.self _ c.args.now _ _ _ refl (c.generate.ensures c.args.now))
 
 pub returns-in-Delete : goal.returns-in-Delete
 returns-in-Delete g c = rw c.in-Delete.is (c.delete.ensures (g.W.Words.to_come c.args.words.now) c.args.now)
