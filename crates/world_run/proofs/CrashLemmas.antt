@@ -33,6 +33,7 @@ use Rattle.world_run.specs.Own.{OwnKeysOfEvent, OwnOfEvent, OwnOfPath, OwnOfRepl
 use Rattle.world_run.specs.Keeps.{Fails, KnowsWorld, RestsNow, SoundFrom, Steps, SurvivesThrough}
 use Rattle.world_run.specs.Ledger.{Hidden, Ledger, hidden_after}
 use Rattle.world_run.specs.Linked.{FilesLinked, LinkedWorld, ServicesFit, SoundFiles}
+use Rattle.world_run.specs.RenamePaths.{read_rename_paths, rename_along}
 use Rattle.world_run.specs.SnapPaths.{read_snap_path, snap_at, unsnap_at}
 use Rattle.world_run.specs.Step.{FinishReply, Step, delete_with, finish_line}
 use Rattle.world_run.specs.World.{RunningWorld, WorldState, numbered, world_of}
@@ -143,6 +144,7 @@ event-owns lines w words now e fault tells told drawn logged w' h fit step l = g
     go event.RestartName s = own-of-opening w h fit l
     go (event.Mkdir user path) s = by-path call.Mkdir (read_path path)
     go (event.Delete user path recursive) s = by-path (delete_with recursive) (read_path path)
+    go (event.Rename user path to) s = by-path rename_along (read_rename_paths path to)
     go (event.Info user path) s = by-path call.Info (read_any_path path)
     go (event.List user path) s = by-path call.List (read_any_path path)
     go (event.Allow user path) s = by-path call.Allow (read_path path)

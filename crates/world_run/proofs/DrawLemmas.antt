@@ -1,5 +1,5 @@
 -- The answer of a draw for an ask, and the key that the drawn key opens to.
-use Rattle.std.proofs.Common.{◌≡◌, ◌⊎◌, inl, inr, ℕ, ◌+◌, ◌^◌, ◌*◌, ◌/◌, ◌<◌, ◌≤◌, Bool, true, false, cond, List, [], ◌∷◌, length, Option, Some, None, is_none, find, refl, sym, ap, subst, ◌∙◌, arith}
+use Rattle.std.proofs.Common.{◌≡◌, ◌⊎◌, inl, inr, ℕ, ◌+◌, ◌-◌, ◌^◌, ◌*◌, ◌/◌, ◌<◌, ◌≤◌, Bool, true, false, cond, List, [], ◌∷◌, ◌++◌, length, take, Option, Some, None, is_none, find, refl, sym, ap, subst, ◌∙◌, arith}
 use Rattle.std.specs.Prelude.{nat_lt, ◌≢◌, slice_get}
 use Rattle.std.specs.List.{AllByRecursion}
 use Rattle.std.specs.Option.{option_map, option_and_then}
@@ -15,9 +15,9 @@ use Rattle.kms_calls.specs.declared.calls.KmsRefusal.TheVariants.{NoSuchKey, Too
 use Rattle.kms_calls.specs.declared.calls.KmsReply.{KmsReply}
 use Rattle.kms_calls.specs.declared.calls.KmsReply.TheVariants as reply
 use Rattle.key_rows.specs.Sound.{IsRow, IsTable, NamesOnce, Rising}
-use Rattle.key_rows.specs.Table.{current_of, find_name, is_named, material_of}
-use Rattle.kms_core.specs.Calls.{KmsActs, NoRoom, Plain, birth_of, causes, current_material, current_version, deed, first_cause, generate_causes, generated, row_of, unless_refused}
-use Rattle.kms_core.specs.Draws.{drawn as drawn_bytes, drawn_dek, drawn_edek, place_of_draw, words_of_draw}
+use Rattle.key_rows.specs.Table.{Table, current_of, find_name, is_named, material_of}
+use Rattle.kms_core.specs.Calls.{KmsActs, NoRoom, Plain, birth_of, causes, current_material, current_version, deed, first_cause, generate_causes, generated, ready_of, row_of, unless_refused}
+use Rattle.kms_core.specs.Draws.{drawn as drawn_bytes, drawn_dek, drawn_edek, drawn_edeks, place_of_draw, words_of_draw}
 use Rattle.kms_core.specs.Laws.{dek_of_draw}
 use Rattle.kms_core.specs.Opening.{unseals}
 use Rattle.kms_core.specs.State.{KmsState}
@@ -130,7 +130,7 @@ meta-answers s words now name told drawn s' (Plain, may, is) = subst NoKeyGiven 
 pub record OneDrawn (s : KmsState) (words : ℕ → ℕ) (name : List ℕ) (e : Edek) (drawn : ℕ) (s' : KmsState) : Type 0 where
   pub stands : is_none (row_of s name) ≡ false
   pub drawn_is : e ≡ drawn_edek (current_version (row_of s name)) (current_material s name) words 0
-  pub same : s' ≡ s
+  pub same : s'.table ≡ s.table
   pub took : drawn ≡ words_of_draw (length (current_material s name))
 
 abbrev pub Generated : KmsState → (ℕ → ℕ) → List ℕ → KmsReply → ℕ → KmsState → Type 0
@@ -147,10 +147,10 @@ first-place n = grind arith
 second-place : (n : ℕ) → place_of_draw n 1 ≡ words_of_draw n
 second-place n = grind arith
 
-pub generate-one : (s : KmsState) (words : ℕ → ℕ) (now : ℕ) (name : List ℕ) (told : KmsReply) (drawn : ℕ) (s' : KmsState)
+pub generate-one : (s : KmsState) (words : ℕ → ℕ) (now : ℕ) (name : List ℕ) (told : KmsReply) (drawn : ℕ) (s' : KmsState) → ready_of s name ≡ []
     → KmsActs s words now (call.Generate name 1) told drawn s' → Generated s words name told drawn s'
-generate-one s words now name told drawn s' (NoRoom some, may, is) = inl (_, ap (λ o. o.told) is)
-generate-one s words now name told drawn s' (Plain, may, is) = go (first_cause (generate_causes (row_of s name) 1)) refl is
+generate-one s words now name told drawn s' none (NoRoom some, may, is) = inl (_, ap (λ o. o.told) is)
+generate-one s words now name told drawn s' none (Plain, may, is) = go (first_cause (generate_causes (row_of s name) 1)) refl is
   where
     go : (o : Option KmsRefusal) → first_cause (generate_causes (row_of s name) 1) ≡ o
         → (record { told = told; drawn = drawn; state = s' }) ≡ unless_refused o s (generated s words name 1) → Generated s words name told drawn s'
@@ -158,12 +158,12 @@ generate-one s words now name told drawn s' (Plain, may, is) = go (first_cause (
     go None cause is =
         inr (
           drawn_edek (current_version (row_of s name)) (current_material s name) words (place_of_draw (length (current_material s name)) 0),
-          ap (λ o. o.told) is,
+          ap (λ o. o.told) is ∙ ap (λ (waiting : List Edek). reply.Ready (take 1 waiting ++ drawn_edeks (current_version (row_of s name)) (current_material s name) words (1 - length waiting))) none,
           record {
             stands = stands-free (is_none (row_of s name)) NoSuchKey ((nat_lt 1000 1, TooManyAsked) ∷ []) cause;
             drawn_is = ap (drawn_edek (current_version (row_of s name)) (current_material s name) words) (first-place (length (current_material s name)));
-            same = ap (λ o. o.state) is;
-            took = ap (λ o. o.drawn) is ∙ second-place (length (current_material s name));
+            same = ap (λ o. o.state.table) is;
+            took = ap (λ o. o.drawn) is ∙ ap (λ (waiting : List Edek). place_of_draw (length (current_material s name)) (1 - length waiting)) none ∙ second-place (length (current_material s name));
           },
         )
 
@@ -188,17 +188,17 @@ rising-most low top (y ∷ ys) r x (inl is) = subst (λ (z : KeyRow). z.birth �
     least b t (z ∷ zs) r = let h = least z.birth t zs r.1 in omega (arith, h, r.0)
 rising-most low top (y ∷ ys) r x (inr i) = rising-most y.birth top ys r.1 x i
 
-pub fresh-key : (s : KmsState) (words : ℕ → ℕ) (place now : ℕ) (name : List ℕ) (e : Edek) (drawn : ℕ) (s' : KmsState) → IsTable s.table
+pub fresh-key : (s : KmsState) (words : ℕ → ℕ) (place now : ℕ) (name : List ℕ) (e : Edek) (drawn : ℕ) (s' : KmsState) → IsTable s.table → ready_of s name ≡ []
     → KmsActs s words now (call.Generate name 1) (reply.Ready (e ∷ [])) drawn s' → OneDrawn s words name e drawn s' → FreshKey s words place name e
-fresh-key s words place now name e drawn s' table acts one =
+fresh-key s words place now name e drawn s' table none acts one =
     let row = row-stands (row_of s name) one.stands in
     let named : is_named name row.0 ≡ true = found_passes (is_named name) s.table.rows row.0 row.1 in
     let version : e.version ≡ current_of row.0 = ap (λ (k : Edek). k.version) one.drawn_is ∙ ap current_version row.1 in
     let key : e.version.key ≡ row.0.name = ap (λ (v : VersionName). v.key) version in
     let found : find_name s.table.rows e.version.key ≡ Some row.0 = ap (find_name s.table.rows) (key ∙ same-bytes row.0.name name named) ∙ row.1 in
     let opened : unseals s.table.rows e ≡ Some (draw_of s words place name).dek =
-    subst (λ (t : KmsState). unseals t.table.rows e ≡ Some (dek_of_draw s words name 0)) one.same
-    (generated_opens s words now name 1 (e ∷ []) s' (λ k. words (drawn + k)) table (record { drawn = drawn; acts = acts; rest = λ k. refl }) 0 e refl)
+    subst (λ (t : Table). unseals t.rows e ≡ Some (dek_of_draw s words name 0)) one.same
+    (generated_opens s words now name 1 (e ∷ []) s' (λ k. words (drawn + k)) table (record { drawn = drawn; acts = acts; rest = λ k. refl }) 0 e (ap (λ (waiting : List Edek). slice_get (e ∷ []) (length waiting + 0)) none))
     ∙ ap (λ (n : ℕ). Some (drawn_dek words n (length (current_material s name)))) (first-place (length (current_material s name))) in
     record {
       of_draw = ap (λ (k : Edek). k.version) one.drawn_is;

@@ -220,6 +220,7 @@ linked-finished w h enter a ask_id answer o names fit answered asks next files l
       ledger = subst (λ (open_asks : List OpenAsk). LedgerFits (with_entry enter ask_id o h.ledger) w.kept.replies h.replied open_asks (next_id names.names)) (sym asks)
           (subst (λ (n : ℕ). LedgerFits (with_entry enter ask_id o h.ledger) w.kept.replies h.replied (without w.names.names.asks a.id) n) (sym next)
           (entered-ledger enter h.ledger w.keys.keys.table.rows w.kept.replies h.replied w.names.names.asks a ask_id answer o (next_id w.names.names) member.0 member.1 low recent fit.ids.rising answered.at l.replies l.ledger));
+      ready = l.ready;
     }
 
 -- nothing is entered

@@ -21,12 +21,13 @@ use Rattle.edit_ops.specs.declared.ops.EditOp.TheVariants as op
 use Rattle.kms_acls.specs.declared.answers.Denied.{Denied}
 use Rattle.kms_acls.specs.declared.answers.Shown.{Shown}
 use Rattle.kms_acls.specs.Verdict.{verdict}
-use Rattle.kms_core.specs.Calls.{KmsActs}
+use Rattle.kms_core.specs.Calls.{KmsActs, birth_of, ready_of, row_of}
 use Rattle.kms_core.specs.Draws.{words_of_draw}
-use Rattle.kms_core.specs.State.{IsService, ServiceState, settled as settled_keys}
+use Rattle.kms_core.specs.State.{IsService, KmsState, ServiceState, settled as settled_keys}
 use Rattle.kms_core.specs.Users.{ServesUnder}
 use Rattle.name_store.specs.Store.{is_opening}
 use Rattle.name_store.specs.Table.{NameTable, after_table, settled_table}
+use Rattle.name_store.proofs.CauseLemmas.{renamable}
 use Rattle.name_core.specs.declared.asks.OpenAsk.{OpenAsk}
 use Rattle.name_calls.specs.declared.calls.Ask.{Ask}
 use Rattle.name_calls.specs.declared.calls.Ask.TheVariants as ask
@@ -53,19 +54,21 @@ use Rattle.world_run.specs.declared.kept.KeptReply.{KeptReply}
 use Rattle.world_run.specs.declared.kept.KeptReply.TheVariants.{ToAsk}
 use Rattle.world_run.specs.Acknowledged.{Acknowledged}
 use Rattle.world_run.specs.World.{WorldState, numbered, with_names, with_reply}
+use Rattle.world_run.specs.RenamePaths.{read_rename_paths, rename_along}
 use Rattle.world_run.specs.SnapPaths.{read_snap_path, snap_at, unsnap_at}
 use Rattle.world_run.specs.Step.{AskAt, DrawActs, FinishReply, PathActs, Step, WantActs, after_ask, delete_with, finish_line, kept_reply, zone_with}
 use Rattle.world_run.specs.Keeps.{KnowsWorld}
 use Rattle.world_run.specs.Ledger.{Draw, Hidden, Ledger, Past, behind_words, draw_noted, draw_of, draw_told, entered, enters, entry_of, entry_under, hidden_after, id_of_reply, makes_file}
 use Rattle.world_run.specs.Promise.{FilesOpen, In, ZoneFilesOpen}
-use Rattle.world_run.specs.Linked.{DrawsApart, DrawsFit, FilesLinked, IsDrawn, IsOldBirth, IsRecordedBirth, KeyLinked, LedgerFits, LinkedTables, LinkedWorld, ServicesFit, WordsApart, given}
+use Rattle.world_run.specs.Linked.{DrawsApart, DrawsFit, FilesLinked, IsDrawn, IsOldBirth, IsRecordedBirth, KeyLinked, LedgerFits, LinkedTables, LinkedWorld, NoneReady, ServicesFit, WordsApart, given}
 use Rattle.world_run.proofs.DrawLemmas.{OneDrawn, fresh-key, generate-one, meta-answers, opens-among, opens-named, words-of-draw}
+use Rattle.world_run.proofs.EmptyQueues.{none-acts, none-in, none-user}
 use Rattle.world_run.proofs.FinishLemmas.{Answered, entered-files, entered_in, finish-drawn, finish-fits, linked-finished, linked-unentered, open-in, with_entry}
-use Rattle.world_run.proofs.Laters.{later-settled, may-wait, names-with, same-later, user-later}
+use Rattle.world_run.proofs.Laters.{KeysLater, acts-later, later-settled, may-wait, names-with, same-later, user-later}
 use Rattle.world_run.proofs.Members.{in-append, numbered-beside, numbered-in}
 use Rattle.world_run.proofs.RowLemmas.{InPlace}
 use Rattle.world_run.proofs.RowsAfter.{OpFits, OpHasDraw, files-after}
-use Rattle.world_run.proofs.WorldLemmas.{NewReply, apart-reply, apart-words, files-later, ledger-more, linked-ask, linked-keys, linked-names, linked-reopened, linked-reply, linked-restart, linked-words, next-after, next-settled, rows-settled}
+use Rattle.world_run.proofs.WorldLemmas.{NewReply, apart-reply, apart-words, files-later, ledger-more, linked-ask, linked-keys, linked-names, linked-reopened, linked-reply, linked-restart, linked-words, new-same, next-after, next-settled, rows-settled}
 
 -- calls of the namesystem
 
@@ -99,32 +102,34 @@ logs-keeps w h s o changes fits has good l =
         replies = l.replies;
         draws = l.draws;
         ledger = subst (λ (n : ℕ). LedgerFits h.ledger w.kept.replies h.replied s.asks n) (sym (next-after s o changes)) l.ledger;
+        ready = l.ready;
       },
-      record { files = with-pending h.ledger w.keys.keys.table.rows s.table o (l.files true) made; replies = l.replies; draws = l.draws; ledger = l.ledger },
+      record { files = with-pending h.ledger w.keys.keys.table.rows s.table o (l.files true) made; replies = l.replies; draws = l.draws; ledger = l.ledger; ready = l.ready },
     )
 
-deed-keeps : (w : WorldState) (h : Hidden) (s : NameState) (c : NameCall) → InPlace s.table.rows → KeepsNames w h (record { names = s; pending = None }) → DoneAndPending w h s c
-deed-keeps w h s (call.Mkdir p) good l =
+deed-keeps : (w : WorldState) (h : Hidden) (s : NameState) (c : NameCall) → InPlace s.table.rows → first_cause (causes s c) ≡ None → KeepsNames w h (record { names = s; pending = None }) → DoneAndPending w h s c
+deed-keeps w h s (call.Mkdir p) good free l =
     logs-keeps w h (record s { next = s.next + 1 }) (op.Mkdir (next_id s) p) refl tt tt good
-    (record { files = l.files; replies = l.replies; draws = l.draws; ledger = ledger-more h.ledger w.kept.replies h.replied s.asks (next_id s) (next_id (record s { next = s.next + 1 })) (omega arith) l.ledger })
-deed-keeps w h s (call.Delete p recursive) good l = logs-keeps w h s (op.Remove p) refl tt tt good l
-deed-keeps w h s (call.Info r) good l = (l, l)
-deed-keeps w h s (call.List r) good l = (l, l)
-deed-keeps w h s (call.Allow p) good l = logs-keeps w h s (op.Allow p) refl tt tt good l
-deed-keeps w h s (call.Disallow p) good l = logs-keeps w h s (op.Disallow p) refl tt tt good l
-deed-keeps w h s (call.Snap p name) good l = logs-keeps w h s (op.Snap p name) refl tt tt good l
-deed-keeps w h s (call.Unsnap p name) good l = logs-keeps w h s (op.Unsnap p name) refl tt tt good l
-deed-keeps w h s call.Zones good l = (l, l)
+    (record { files = l.files; replies = l.replies; draws = l.draws; ledger = ledger-more h.ledger w.kept.replies h.replied s.asks (next_id s) (next_id (record s { next = s.next + 1 })) (omega arith) l.ledger; ready = l.ready })
+deed-keeps w h s (call.Delete p recursive) good free l = logs-keeps w h s (op.Remove p) refl tt tt good l
+deed-keeps w h s (call.Rename p q) good free l = let m = renamable s.table.rows s.table.snaps p q free in logs-keeps w h s (op.Rename p q) refl (m.can, m.zone) tt good l
+deed-keeps w h s (call.Info r) good free l = (l, l)
+deed-keeps w h s (call.List r) good free l = (l, l)
+deed-keeps w h s (call.Allow p) good free l = logs-keeps w h s (op.Allow p) refl tt tt good l
+deed-keeps w h s (call.Disallow p) good free l = logs-keeps w h s (op.Disallow p) refl tt tt good l
+deed-keeps w h s (call.Snap p name) good free l = logs-keeps w h s (op.Snap p name) refl tt tt good l
+deed-keeps w h s (call.Unsnap p name) good free l = logs-keeps w h s (op.Unsnap p name) refl tt tt good l
+deed-keeps w h s call.Zones good free l = (l, l)
 
 acts-keeps : (w : WorldState) (h : Hidden) (s : NameState) (c : NameCall) (told : NameReply) (changed : NameState) → InPlace s.table.rows → KeepsNames w h (record { names = s; pending = None })
     → NameActs s c told changed → KeepsNames w h (record { names = changed; pending = None })
 acts-keeps w h s c told changed good l (NoRoom, may, is) = subst (λ (x : NameState). KeepsNames w h (record { names = x; pending = None })) (sym (ap (λ o. o.state) is)) l
 acts-keeps w h s c told changed good l (Plain, may, is) =
-    subst (λ (x : NameState). KeepsNames w h (record { names = x; pending = None })) (sym (ap (λ o. o.state) is)) (go (first_cause (causes s c)))
+    subst (λ (x : NameState). KeepsNames w h (record { names = x; pending = None })) (sym (ap (λ o. o.state) is)) (go (first_cause (causes s c)) refl)
   where
-    go : (o : Option NameRefusal) → KeepsNames w h (record { names = (unless_refused o s (deed s c)).state; pending = None })
-    go (Some why) = l
-    go None = (deed-keeps w h s c good l).0
+    go : (o : Option NameRefusal) → first_cause (causes s c) ≡ o → KeepsNames w h (record { names = (unless_refused o s (deed s c)).state; pending = None })
+    go (Some why) refused = l
+    go None free = (deed-keeps w h s c good free l).0
 
 serves-keeps : (w : WorldState) (h : Hidden) (c : NameCall) (fault : Type 0) (told : NameReply) (ops : List EditOp) (names : NameService) (b : Bool) → IsNames w.names → LinkedWorld w h
     → ServesBy b w.names c fault told ops names → KeepsNames w h names
@@ -133,7 +138,7 @@ serves-keeps w h c fault told ops names true fit l (inl u) = subst (KeepsNames w
 serves-keeps w h c fault told ops names true fit l (inr (k, inl d)) =
     subst (KeepsNames w h) (sym d.left) (acts-keeps w h (settled k w.names) c told d.changed (rows-settled k w.names fit) (settled-keeps w h k fit l) d.acts)
 serves-keeps w h c fault told ops names true fit l (inr (k, inr u)) =
-    subst (KeepsNames w h) (sym u.left) (deed-keeps w h (settled k w.names) c (rows-settled k w.names fit) (settled-keeps w h k fit l)).1
+    subst (KeepsNames w h) (sym u.left) (deed-keeps w h (settled k w.names) c (rows-settled k w.names fit) u.free (settled-keeps w h k fit l)).1
 
 call-keeps : (w : WorldState) (h : Hidden) (user : Text) (c : NameCall) (fault : Type 0) (told : NameReply) (ops : List EditOp) (names : NameService) → IsNames w.names → LinkedWorld w h
     → Serves w.names user c fault told ops names → KeepsNames w h names
@@ -176,29 +181,34 @@ AfterDraw w words h note drawn keys wanted reply =
     StaysLinked h (with_reply (kept_reply note reply) (record w { keys = keys })) (record (behind_words drawn h) { replied = h.replied ++ draw_told w.keys.keys words h.place wanted reply ∷ [] })
 
 -- for a reply with its draw
-reply-stays : (w : WorldState) (h : Hidden) (drawn : ℕ) (r : KeptReply) (o : Option Draw) → NewReply h w.keys drawn r o → LinkedWorld w h
-    → StaysLinked h (with_reply r (record w { keys = w.keys })) (record (behind_words drawn h) { replied = h.replied ++ o ∷ [] })
-reply-stays w h drawn r o new l = (linked-reply w h w.keys drawn r o (same-later w.keys.keys.table) new l, apart-reply h w.keys drawn r o new)
+reply-stays : (w : WorldState) (h : Hidden) (keys : ServiceState) (drawn : ℕ) (r : KeptReply) (o : Option Draw) → KeysLater w.keys.keys.table keys.keys.table → NoneReady keys.keys.ready.queues
+    → NewReply h keys drawn r o → LinkedWorld w h → StaysLinked h (with_reply r (record w { keys = keys })) (record (behind_words drawn h) { replied = h.replied ++ o ∷ [] })
+reply-stays w h keys drawn r o later none new l = (linked-reply w h keys drawn r o later none new l, apart-reply h keys drawn r o new)
 
 -- a reply without a key
-unkeyed-keeps : (w : WorldState) (h : Hidden) (words : ℕ → ℕ) (note : AskNote) (wanted : Want) (reply : Option KmsReply) (drawn : ℕ) → LinkedWorld w h → given (answer_of reply) ≡ None
-    → draw_told w.keys.keys words h.place wanted reply ≡ None → AfterDraw w words h note drawn w.keys wanted reply
-unkeyed-keeps w h words note wanted reply drawn l none undrawn =
-    subst (λ (d : Option Draw). StaysLinked h (with_reply (kept_reply note reply) w) (record (behind_words drawn h) { replied = h.replied ++ d ∷ [] })) (sym undrawn)
-    (reply-stays w h drawn (kept_reply note reply) None (
+unkeyed-keeps : (w : WorldState) (h : Hidden) (words : ℕ → ℕ) (note : AskNote) (wanted : Want) (reply : Option KmsReply) (drawn : ℕ) (keys : ServiceState) → LinkedWorld w h → given (answer_of reply) ≡ None
+    → draw_told w.keys.keys words h.place wanted reply ≡ None → KeysLater w.keys.keys.table keys.keys.table → NoneReady keys.keys.ready.queues → AfterDraw w words h note drawn keys wanted reply
+unkeyed-keeps w h words note wanted reply drawn keys l none undrawn later empty =
+    subst (λ (d : Option Draw). StaysLinked h (with_reply (kept_reply note reply) (record w { keys = keys })) (record (behind_words drawn h) { replied = h.replied ++ d ∷ [] })) (sym undrawn)
+    (reply-stays w h keys drawn (kept_reply note reply) None later empty (
     record {
-      opens = subst (λ (x : Option Edek). KeyLinked w.keys.keys.table.rows x None) (sym none) tt;
+      opens = subst (λ (x : Option Edek). KeyLinked keys.keys.table.rows x None) (sym none) tt;
       begins = λ d is. absurd cc;
       ends = λ d is. absurd cc;
       born = λ d is. absurd cc;
       recent = λ d is. absurd cc;
     }) l)
 
-generated-new : (w : WorldState) (h : Hidden) (words : ℕ → ℕ) (now : ℕ) (note : AskNote) (name : KeyName) (e : Edek) (drawn : ℕ) → ServicesFit w
-    → KmsActs w.keys.keys words now (key_call.Generate name 1) (key_reply.Ready (e ∷ [])) drawn w.keys.keys → OneDrawn w.keys.keys words name e drawn w.keys.keys
+-- and with the keys unchanged
+unkeyed-same : (w : WorldState) (h : Hidden) (words : ℕ → ℕ) (note : AskNote) (wanted : Want) (reply : Option KmsReply) (drawn : ℕ) → LinkedWorld w h → given (answer_of reply) ≡ None
+    → draw_told w.keys.keys words h.place wanted reply ≡ None → AfterDraw w words h note drawn w.keys wanted reply
+unkeyed-same w h words note wanted reply drawn l none undrawn = unkeyed-keeps w h words note wanted reply drawn w.keys l none undrawn (same-later w.keys.keys.table) l.ready
+
+generated-new : (w : WorldState) (h : Hidden) (words : ℕ → ℕ) (now : ℕ) (note : AskNote) (name : KeyName) (e : Edek) (drawn : ℕ) (changed : KmsState) → ServicesFit w → ready_of w.keys.keys name ≡ []
+    → KmsActs w.keys.keys words now (key_call.Generate name 1) (key_reply.Ready (e ∷ [])) drawn changed → OneDrawn w.keys.keys words name e drawn changed
     → NewReply h w.keys drawn (kept_reply note (Some (key_reply.Ready (e ∷ [])))) (Some (draw_of w.keys.keys words h.place name))
-generated-new w h words now note name e drawn fit acts one =
-    let fresh = fresh-key w.keys.keys words h.place now name e drawn w.keys.keys fit.keys.table acts one in
+generated-new w h words now note name e drawn changed fit none acts one =
+    let fresh = fresh-key w.keys.keys words h.place now name e drawn changed fit.keys.table none acts one in
     record {
       opens = (fresh.of_draw, fresh.opens);
       begins = λ d is. let same : draw_of w.keys.keys words h.place name ≡ d = cc in omega (arith, ap (λ (x : Draw). x.place) same);
@@ -214,48 +224,61 @@ generated-new w h words now note name e drawn fit acts one =
           subst (λ (x : Draw). 2 ^ 32 ≤ x.birth) same fresh.recent;
     }
 
-made-keeps : (w : WorldState) (h : Hidden) (words : ℕ → ℕ) (now : ℕ) (note : AskNote) (name : KeyName) (reply : KmsReply) (drawn : ℕ) → ServicesFit w → LinkedWorld w h
-    → KmsActs w.keys.keys words now (key_call.Generate name 1) reply drawn w.keys.keys → AfterDraw w words h note drawn w.keys (want.Generate name) (Some reply)
-made-keeps w h words now note name reply drawn fit l acts = elim (generate-one w.keys.keys words now name reply drawn w.keys.keys acts) [
+made-keeps : (w : WorldState) (h : Hidden) (words : ℕ → ℕ) (now : ℕ) (note : AskNote) (name : KeyName) (reply : KmsReply) (drawn : ℕ) (changed : KmsState) → ServicesFit w → LinkedWorld w h
+    → KmsActs w.keys.keys words now (key_call.Generate name 1) reply drawn changed → AfterDraw w words h note drawn (record w.keys { keys = changed }) (want.Generate name) (Some reply)
+made-keeps w h words now note name reply drawn changed fit l acts = elim (generate-one w.keys.keys words now name reply drawn changed none acts) [
   | inl refused ↦
-      subst (λ (r : KmsReply). AfterDraw w words h note drawn w.keys (want.Generate name) (Some r)) (sym refused.1)
-      (unkeyed-keeps w h words note (want.Generate name) (Some (key_reply.Refused refused.0)) drawn l refl refl)
+      subst (λ (r : KmsReply). AfterDraw w words h note drawn keys (want.Generate name) (Some r)) (sym refused.1)
+      (unkeyed-keeps w h words note (want.Generate name) (Some (key_reply.Refused refused.0)) drawn keys l refl refl later empty)
   | inr ready ↦
-      subst (λ (r : KmsReply). AfterDraw w words h note drawn w.keys (want.Generate name) (Some r)) (sym ready.1)
-      (reply-stays w h drawn (kept_reply note (Some (key_reply.Ready (ready.0 ∷ [])))) (Some (draw_of w.keys.keys words h.place name))
-      (generated-new w h words now note name ready.0 drawn fit
-      (subst (λ (r : KmsReply). KmsActs w.keys.keys words now (key_call.Generate name 1) r drawn w.keys.keys) ready.1 acts) ready.2) l)
+      subst (λ (r : KmsReply). AfterDraw w words h note drawn keys (want.Generate name) (Some r)) (sym ready.1)
+      (reply-stays w h keys drawn (kept_reply note (Some (key_reply.Ready (ready.0 ∷ [])))) (Some (draw_of w.keys.keys words h.place name)) later empty
+      (new-same h w.keys keys drawn (kept_reply note (Some (key_reply.Ready (ready.0 ∷ [])))) (Some (draw_of w.keys.keys words h.place name)) ready.2.same
+      (generated-new w h words now note name ready.0 drawn changed fit none
+      (subst (λ (r : KmsReply). KmsActs w.keys.keys words now (key_call.Generate name 1) r drawn changed) ready.1 acts) ready.2)) l)
 ]
+  where
+    keys : ServiceState
+    keys = record w.keys { keys = changed }
+
+    none : ready_of w.keys.keys name ≡ []
+    none = none-in w.keys.keys.ready.queues (birth_of (row_of w.keys.keys name)) l.ready
+
+    later : KeysLater w.keys.keys.table changed.table
+    later = acts-later w.keys.keys words now (key_call.Generate name 1) reply drawn changed fit.keys.births acts
+
+    empty : NoneReady changed.ready.queues
+    empty = none-acts w.keys.keys words now (key_call.Generate name 1) reply drawn changed acts l.ready
 
 -- the reply to the call that was wanted, by the verdict on the superuser
 
 generate-keeps : (w : WorldState) (h : Hidden) (words : ℕ → ℕ) (now : ℕ) (note : AskNote) (name : KeyName) (fault : Type 0) (reply : KmsReply) (drawn : ℕ) (logged : List KeyCommand) (keys : ServiceState) (v : Result Shown Denied)
     → ServicesFit w → LinkedWorld w h → ServesUnder v w.keys words now (key_call.Generate name 1) fault reply drawn logged keys → AfterDraw w words h note drawn keys (want.Generate name) (Some reply)
 generate-keeps w h words now note name fault reply drawn logged keys (Ok shown) fit l p =
-    subst (λ (s : ServiceState). AfterDraw w words h note drawn s (want.Generate name) (Some reply)) (sym p.serves.same)
-    (subst (λ (r : KmsReply). AfterDraw w words h note drawn w.keys (want.Generate name) (Some r)) (sym p.told_is)
-    (made-keeps w h words now note name p.reply drawn fit l p.serves.acts))
+    subst (λ (s : ServiceState). AfterDraw w words h note drawn s (want.Generate name) (Some reply)) (sym p.serves.left)
+    (subst (λ (r : KmsReply). AfterDraw w words h note drawn (record w.keys { keys = p.serves.changed }) (want.Generate name) (Some r)) (sym p.told_is)
+    (made-keeps w h words now note name p.reply drawn p.serves.changed fit l p.serves.acts))
 generate-keeps w h words now note name fault reply drawn logged keys (Err denied) fit l d =
     subst (λ (s : ServiceState). AfterDraw w words h note drawn s (want.Generate name) (Some reply)) (sym d.same)
     (subst (λ (r : KmsReply). AfterDraw w words h note drawn w.keys (want.Generate name) (Some r)) (sym d.told_is)
-    (unkeyed-keeps w h words note (want.Generate name) (Some (key_reply.Refused (key_refusal.Denied denied.table denied.op))) drawn l refl refl))
+    (unkeyed-same w h words note (want.Generate name) (Some (key_reply.Refused (key_refusal.Denied denied.table denied.op))) drawn l refl refl))
 
 metadata-keeps : (w : WorldState) (h : Hidden) (words : ℕ → ℕ) (now : ℕ) (note : AskNote) (name : KeyName) (fault : Type 0) (reply : KmsReply) (drawn : ℕ) (logged : List KeyCommand) (keys : ServiceState) (v : Result Shown Denied)
     → LinkedWorld w h → ServesUnder v w.keys words now (key_call.Metadata name) fault reply drawn logged keys → AfterDraw w words h note drawn keys (want.Metadata name) (Some reply)
 metadata-keeps w h words now note name fault reply drawn logged keys (Ok shown) l p =
     subst (λ (s : ServiceState). AfterDraw w words h note drawn s (want.Metadata name) (Some reply)) (sym p.serves.same)
     (subst (λ (r : KmsReply). AfterDraw w words h note drawn w.keys (want.Metadata name) (Some r)) (sym p.told_is)
-    (unkeyed-keeps w h words note (want.Metadata name) (Some p.reply) drawn l (meta-answers w.keys.keys words now name p.reply drawn w.keys.keys p.serves.acts) refl))
+    (unkeyed-same w h words note (want.Metadata name) (Some p.reply) drawn l (meta-answers w.keys.keys words now name p.reply drawn w.keys.keys p.serves.acts) refl))
 metadata-keeps w h words now note name fault reply drawn logged keys (Err denied) l d =
     subst (λ (s : ServiceState). AfterDraw w words h note drawn s (want.Metadata name) (Some reply)) (sym d.same)
     (subst (λ (r : KmsReply). AfterDraw w words h note drawn w.keys (want.Metadata name) (Some r)) (sym d.told_is)
-    (unkeyed-keeps w h words note (want.Metadata name) (Some (key_reply.Refused (key_refusal.Denied denied.table denied.op))) drawn l refl refl))
+    (unkeyed-same w h words note (want.Metadata name) (Some (key_reply.Refused (key_refusal.Denied denied.table denied.op))) drawn l refl refl))
 
 want-keeps : (lines : List PropLine) (w : WorldState) (h : Hidden) (words : ℕ → ℕ) (now : ℕ) (note : AskNote) (fault : Type 0) (reply : Option KmsReply) (drawn : ℕ) (logged : List KeyCommand) (keys : ServiceState) (wanted : Want)
     → ServicesFit w → LinkedWorld w h → WantActs lines w.keys words now wanted fault reply drawn logged keys → AfterDraw w words h note drawn keys wanted reply
 want-keeps lines w h words now note fault reply drawn logged keys want.Nothing fit l a =
     subst (λ (s : ServiceState). AfterDraw w words h note drawn s want.Nothing reply) (sym a.same)
-    (subst (λ (r : Option KmsReply). AfterDraw w words h note drawn w.keys want.Nothing r) (sym a.told_is) (unkeyed-keeps w h words note want.Nothing None drawn l refl refl))
+    (subst (λ (r : Option KmsReply). AfterDraw w words h note drawn w.keys want.Nothing r) (sym a.told_is) (unkeyed-same w h words note want.Nothing None drawn l refl refl))
 want-keeps lines w h words now note fault reply drawn logged keys (want.Generate name) fit l a =
     subst (λ (r : Option KmsReply). AfterDraw w words h note drawn keys (want.Generate name) r) (sym a.told_is)
     (generate-keeps w h words now note name fault a.reply drawn logged keys (verdict lines superuser (key_call.Generate name 1)) fit l a.serves)
@@ -386,7 +409,8 @@ pub keeps-linked : (lines : List PropLine) (w : WorldState) (words : ℕ → ℕ
     → Step lines w words now e fault tells told drawn logged w' → LinkedWorld w h → LinkedWorld w' (hidden_after w words e told drawn w' h)
 keeps-linked lines w words now (event.Kms user c) fault tells told drawn logged w' h knows fit s l =
     subst (λ (v : WorldState). LinkedWorld v (behind_words drawn h)) (sym s.left)
-    (linked-words _ h drawn (linked-keys w h s.keys (user-later lines user w.keys words now c fault s.reply drawn s.commands s.keys fit.keys s.serves) l))
+    (linked-words _ h drawn (linked-keys w h s.keys (user-later lines user w.keys words now c fault s.reply drawn s.commands s.keys fit.keys s.serves)
+    (none-user lines user w.keys words now c fault s.reply drawn s.commands s.keys s.serves l.ready) l))
 keeps-linked lines w words now event.RestartKms fault tells told drawn logged w' h knows fit s l =
     subst (λ (v : WorldState). LinkedWorld v (behind_words drawn h)) (sym s.left) (linked-words _ h drawn (linked-restart w h (s.found knows).kept s.table (s.found knows).table_is fit.keys l))
 keeps-linked lines w words now event.RestartName fault tells told drawn logged w' h knows fit s l =
@@ -395,6 +419,8 @@ keeps-linked lines w words now (event.Mkdir user p) fault tells told drawn logge
     linked-words w' h drawn (path-keeps w h user call.Mkdir (read_path p) fault told drawn logged w' fit.names l s)
 keeps-linked lines w words now (event.Delete user p recursive) fault tells told drawn logged w' h knows fit s l =
     linked-words w' h drawn (path-keeps w h user (delete_with recursive) (read_path p) fault told drawn logged w' fit.names l s)
+keeps-linked lines w words now (event.Rename user p q) fault tells told drawn logged w' h knows fit s l =
+    linked-words w' h drawn (path-keeps w h user rename_along (read_rename_paths p q) fault told drawn logged w' fit.names l s)
 keeps-linked lines w words now (event.Info user p) fault tells told drawn logged w' h knows fit s l =
     linked-words w' h drawn (path-keeps w h user call.Info (read_any_path p) fault told drawn logged w' fit.names l s)
 keeps-linked lines w words now (event.List user p) fault tells told drawn logged w' h knows fit s l =
@@ -442,6 +468,7 @@ words-stay lines w words now e fault tells told drawn logged w' h fit s l f = go
     go event.RestartName s = apart-words h drawn f
     go (event.Mkdir user p) s = apart-words h drawn f
     go (event.Delete user p recursive) s = apart-words h drawn f
+    go (event.Rename user p q) s = apart-words h drawn f
     go (event.Info user p) s = apart-words h drawn f
     go (event.List user p) s = apart-words h drawn f
     go (event.Allow user p) s = apart-words h drawn f

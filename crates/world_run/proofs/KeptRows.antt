@@ -4,6 +4,7 @@ use Rattle.std.specs.List.{filter}
 use Rattle.std.specs.Option.{option_map_or}
 use Rattle.std.specs.Ordering.{is_lt}
 use Rattle.inode_tree.specs.Below.{rows_below, seen_from}
+use Rattle.inode_tree.specs.Moves.{renamed}
 use Rattle.inode_tree.specs.Rows.{Entry, entry_of, put}
 use Rattle.inode_tree.specs.declared.rows.Row.{Row}
 use Rattle.name_calls.specs.Paths.{is_prefix}
@@ -12,6 +13,7 @@ use Rattle.snap_store.specs.Ordered.{put_by}
 use Rattle.snap_store.specs.Snapshots.{Snapshot, frozen, put_snapshot, snapshot_cmp}
 use Rattle.world_run.specs.Promise.{In}
 use Rattle.world_run.proofs.Members.{in-append, in-left, in-right}
+use Rattle.world_run.proofs.RenameLemmas.{in-renamed}
 use Rattle.world_run.proofs.RowLemmas.{in-put}
 
 -- rows of entries
@@ -44,6 +46,13 @@ rows-filter row test (e ∷ es) i = go (test e) i (rows-filter row test es)
     go true (inl is) ih = inl is
     go true (inr i) ih = inr (ih i)
     go false i ih = inr (ih i)
+
+-- the rows after a move
+pub rows-moved : (row : Row) (p q : List (List ℕ)) (es : List Entry) → In row (rows_of_entries (renamed p q es)) → In row (rows_of_entries es)
+rows-moved row p q es i =
+    let x = of-entry row (renamed p q es) i in
+    let y = in-renamed x.0 p q es x.1 in
+    in-rows row y.0 es y.1 (x.2 ∙ ap (λ (z : Entry). z.row) y.2)
 
 -- rows of snapshots
 

@@ -30,7 +30,8 @@ use Rattle.kms_core.specs.Draws.{material_for}
 use Rattle.kms_core.specs.Calls.{KmsActs, NoRoom, Plain, birth_of, bits_of, causes, deed, done_with, first_cause, row_of, unless_refused, versions_of}
 use Rattle.kms_core.specs.Opening.{unseals}
 use Rattle.kms_core.specs.Users.{ServesUnder, ServesUser}
-use Rattle.kms_core.specs.Service.{Serves, ServesBy, is_change}
+use Rattle.kms_core.specs.Service.{Committing, Kind, Reading, Serves, ServesBy, Working, kind}
+use Rattle.eek_queues.specs.Queues.{AllQueues}
 use Rattle.kms_core.specs.State.{IsPending, IsService, KmsState, ServiceState, next_birth, opened, settled}
 use Rattle.kms_core.proofs.BirthLemmas.{below_settled, deed_keeps}
 use Rattle.world_run.specs.Ledger.{Draw}
@@ -218,8 +219,8 @@ old-recorded t room b (inl before) = omega (arith, before)
 old-recorded t room b (inr used) = omega (arith, room, used)
 
 -- those that a start finds
-pub later-opened : (t : Table) → KeysLater t (opened t).keys.table
-later-opened t = later-by t (next_opening t) (omega arith)
+pub later-opened : (all : AllQueues) (t : Table) → KeysLater t (opened all t).keys.table
+later-opened all t = later-by t (next_opening t) (omega arith)
 
 -- the keys after a call of the key management service
 
@@ -239,7 +240,7 @@ deed-later s words now (call.Decrypt name sent) below = same-later s.table
 deed-later s words now (call.Reencrypt name sent) below = same-later s.table
 deed-later s words now (call.Batch name sent) below = same-later s.table
 
-acts-later : (s : KmsState) (words : ℕ → ℕ) (now : ℕ) (c : KmsCall) (told : KmsReply) (drawn : ℕ) (s' : KmsState) → s.table.greatest < next_birth s → KmsActs s words now c told drawn s' → KeysLater s.table s'.table
+pub acts-later : (s : KmsState) (words : ℕ → ℕ) (now : ℕ) (c : KmsCall) (told : KmsReply) (drawn : ℕ) (s' : KmsState) → s.table.greatest < next_birth s → KmsActs s words now c told drawn s' → KeysLater s.table s'.table
 acts-later s words now c told drawn s' below (NoRoom some, may, is) = subst (λ (t : KmsState). KeysLater s.table t.table) (sym (ap (λ o. o.state) is)) (same-later s.table)
 acts-later s words now c told drawn s' below (Plain, may, is) = subst (λ (t : KmsState). KeysLater s.table t.table) (sym (ap (λ o. o.state) is)) (go (first_cause (causes s c)))
   where
@@ -249,16 +250,18 @@ acts-later s words now c told drawn s' below (Plain, may, is) = subst (λ (t : K
 
 serves-later : (s : ServiceState) (words : ℕ → ℕ) (now : ℕ) (c : KmsCall) (fault : Type 0) (told : KmsReply) (drawn : ℕ) (logged : List KeyCommand) (s' : ServiceState) → IsService s
     → Serves s words now c fault told drawn logged s' → KeysLater s.keys.table s'.keys.table
-serves-later s words now c fault told drawn logged s' is serves = go (is_change c) serves
+serves-later s words now c fault told drawn logged s' is serves = go (kind c) serves
   where
-    go : (b : Bool) → ServesBy b s words now c fault told drawn logged s' → KeysLater s.keys.table s'.keys.table
-    go false r = subst (λ (t : ServiceState). KeysLater s.keys.table t.keys.table) (sym r.same) (same-later s.keys.table)
-    go true (inl u) = subst (λ (t : ServiceState). KeysLater s.keys.table t.keys.table) (sym u.same) (same-later s.keys.table)
-    go true (inr (kept, inl w)) =
+    go : (k : Kind) → ServesBy k s words now c fault told drawn logged s' → KeysLater s.keys.table s'.keys.table
+    go Reading r = subst (λ (t : ServiceState). KeysLater s.keys.table t.keys.table) (sym r.same) (same-later s.keys.table)
+    go Working w =
+        subst (λ (t : ServiceState). KeysLater s.keys.table t.keys.table) (sym w.left) (acts-later s.keys words now c told drawn w.changed is.births w.acts)
+    go Committing (inl u) = subst (λ (t : ServiceState). KeysLater s.keys.table t.keys.table) (sym u.same) (same-later s.keys.table)
+    go Committing (inr (kept, inl w)) =
         subst (λ (t : ServiceState). KeysLater s.keys.table t.keys.table) (sym w.left)
         (then-later s.keys.table (settled kept s).table w.changed.table (later-settled kept s is)
         (acts-later (settled kept s) words now c told drawn w.changed (below_settled kept s is) w.acts))
-    go true (inr (kept, inr u)) =
+    go Committing (inr (kept, inr u)) =
         subst (λ (t : ServiceState). KeysLater s.keys.table t.keys.table) (sym u.left)
         (subst (λ (t : Table). KeysLater s.keys.table t) (sym (deed_keeps (settled kept s) words now c)) (later-settled kept s is))
 

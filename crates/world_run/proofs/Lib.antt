@@ -3,6 +3,7 @@ pub mod AskLemmas
 pub mod BothLemmas
 pub mod CrashLemmas
 pub mod DrawLemmas
+pub mod EmptyQueues
 pub mod FinishLemmas
 pub mod KeepLemmas
 pub mod KeptRows
@@ -10,10 +11,10 @@ pub mod KeyLemmas
 pub mod Laters
 pub mod LawLemmas
 pub mod Members
+pub mod RenameLemmas
 pub mod RestartLemmas
 pub mod RowLemmas
 pub mod RowsAfter
-pub mod SnapPathLemmas
 pub mod SoundLemmas
 pub mod StartLemmas
 pub mod StepLemmas

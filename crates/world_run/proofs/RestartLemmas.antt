@@ -1,19 +1,19 @@
 -- A restart of either service: what it finds in its log, and what a crash leaves meanwhile.
 use Rattle.std.proofs.Common.{◌≡◌, ◌⊎◌, inl, inr, ℕ, ◌≤◌, ◌∙◌, Bool, true, false, List, [], ◌∷◌, ◌++◌, refl, sym, ap, subst, ⊎_elim, arith, append_assoc}
-use Rattle.hk_base.specs.Disk.{DiskState, Image, IsImage, LeavesOnly, RunOn, Tells}
-use Rattle.hk_base.specs.Faults.{Rose}
+use Rattle.hk_base.specs.Disk.{DiskState, Image, IsImage, LeavesOnly, Tells}
 use Rattle.hk_base.proofs.Runs.{weaker}
+use Rattle.eek_queues.specs.Queues.{AllQueues}
 use Rattle.frame_log.specs.declared.fault.StartFault.{StartFault}
-use Rattle.frame_log.specs.declared.fault.StartFault.TheVariants as start
 use Rattle.edit_ops.specs.declared.ops.EditOp.{EditOp}
 use Rattle.key_rows.specs.declared.rows.KeyCommand.{KeyCommand}
 use Rattle.key_rows.specs.Table.{Table}
 use Rattle.prop_text.specs.declared.lines.PropLine.{PropLine}
-use Rattle.kms_store.specs.Store.{AKeyOpening, Applies, IsDamagedAt, IsKeyLog, IsLeftByStart, IsLeftOf, IsSoundLog, NoCommand, StandsFor, next_opening, settled_commands}
+use Rattle.kms_store.specs.Store.{AKeyOpening, Applies, IsLeftByStart, IsLeftOf, IsSoundLog, NoCommand, OpensKeys, StandsFor, next_opening, settled_commands}
 use Rattle.kms_store.proofs.Layers.{finds, left_by_start, left_by_store, not_damaged, sound_store, stands_once}
 use Rattle.kms_core.specs.Service.{Starts}
+use Rattle.kms_core.specs.State.{opened}
 use Rattle.kms_core.specs.Users.{RunningKms, running}
-use Rattle.name_store.specs.Store.{AnOpening, IsDamagedAt as IsDamagedName, IsLeftByStart as IsLeftByNameStart, IsLeftOf as IsLeftOfNames, IsNameLog, IsSoundLog as IsSoundNames, NothingMore, made_with}
+use Rattle.name_store.specs.Store.{AnOpening, IsLeftByStart as IsLeftByNameStart, IsLeftOf as IsLeftOfNames, IsSoundLog as IsSoundNames, NothingMore, OpensNames, made_with}
 use Rattle.name_store.specs.Table.{NameTable, Replayed, next_opening as next_opening_of_names, settled_ops}
 use Rattle.name_core.specs.Service.{Starts as NamesStart}
 use Rattle.name_core.specs.State.{StandsFor as NamesStandFor}
@@ -92,10 +92,10 @@ keys-reopened old new w w' of_file fit held s = go old.tells refl
         }
 
 -- the new keys replace the old ones, and the lists are the same
-pub keys-restarted : (old new : DiskState) (w w' : RunningWorld) (opening : ℕ) → w'.keys.acls ≡ w.keys.acls → w.keys.store.log.file ≡ 0 → ServicesFit (world_of w) → Held old w → Starts old new (running w'.keys)
-    → (Tells old → LeavesOnly 0 old new (λ c. old.leaves 0 c ⊎ IsLeftByStart (old.reads 0) c)) → RunOn 0 old new → opening ≡ w'.keys.store.table.keys.opening → w' ≡ record w { keys = w'.keys }
+pub keys-restarted : (old new : DiskState) (w w' : RunningWorld) (opening : ℕ) → w'.keys.acls ≡ w.keys.acls → w'.keys.ready ≡ record w.keys.ready { queues = [] } → w.keys.store.log.file ≡ 0 → ServicesFit (world_of w) → Held old w → Starts old new (running w'.keys)
+    → {fails : StartFault → Type 0} → OpensKeys old new fails → opening ≡ w'.keys.store.table.keys.opening → w' ≡ record w { keys = w'.keys }
     → (lines : List PropLine) (words : ℕ → ℕ) (now : ℕ) → Happens lines old new w words now event.RestartKms (line.Opened opening) w' words
-keys-restarted old new w w' opening lists of_file fit held s moments run number rest lines words now =
+keys-restarted old new w w' opening lists sizes of_file fit held s o number rest lines words now =
     let found = keys-reopened old new w w' of_file fit held s in
     record {
       drawn = 0;
@@ -107,13 +107,13 @@ keys-restarted old new w w' opening lists of_file fit held s moments run number 
         logged_is = refl;
         told_is = ap (λ (n : ℕ). line.Opened n) (number ∙ ap (λ t. t.keys.table.opening) s.opens);
         none_drawn = refl;
-        left = ap world_of rest ∙ ap (λ t. record (world_of w) { keys = t }) s.opens;
+        left = ap world_of rest ∙ ap (λ t. record (world_of w) { keys = t }) (s.opens ∙ ap (λ (all : AllQueues). opened all s.table) sizes);
       };
       rest = λ k. ap words (omega arith);
       disk = inl (record {
         commands = found.logged;
         logged_is = refl;
-        log = record { stands = found.stands; moments = keys-left-by-restart old new w of_file fit moments; run = run };
+        log = record { stands = found.stands; moments = keys-left-by-restart old new w of_file fit o.any_moment; run = o.run };
         names = ap (λ (v : RunningWorld). v.names) rest;
       });
       lists = lists;
@@ -121,30 +121,27 @@ keys-restarted old new w w' opening lists of_file fit held s moments run number 
 
 -- the opening failed
 pub keys-fail : (old new : DiskState) (w w' : RunningWorld) (words : ℕ → ℕ) (fault : StartFault) → Moment old → Moment new → w' ≡ w → w.keys.store.log.file ≡ 0 → w.names.store.log.log.file ≡ 1 → ServicesFit (world_of w) → Held old w
-    → ((at : ℕ) → fault ≡ start.Damaged at → Tells old → IsDamagedAt (old.reads 0) at)
-    → (fault ≡ start.Spent → Tells old → (commands : List KeyCommand) × (table : Table) × IsKeyLog (old.reads 0) commands table × (table.opening ≡ 4294967295))
-    → (fault ≡ start.StoreFault → Rose old.faults new.faults)
-    → (Tells old → LeavesOnly 0 old new (λ c. old.leaves 0 c ⊎ IsLeftByStart (old.reads 0) c)) → RunOn 0 old new → Fails old new w words event.RestartKms 0 fault w' words
-keys-fail old new w w' words fault m n same keys_file names_file fit held damaged spent cause moments run = record {
+    → OpensKeys old new (λ other. fault ≡ other) → Fails old new w words event.RestartKms 0 fault w' words
+keys-fail old new w w' words fault m n same keys_file names_file fit held o = record {
   restart = refl;
   same = same;
   same_words = refl;
-  never_damaged = λ told at is. not_damaged (old.reads 0) (held told).0.keys w.keys.store.pending w.keys.store.table.keys at (sound told) (damaged at is told);
+  never_damaged = λ told at is. not_damaged (old.reads 0) (held told).0.keys w.keys.store.pending w.keys.store.table.keys at (sound told) (o.why.damaged at is told);
   spent = λ is told.
-      let k = spent is told in
-      let f = finds (old.reads 0) (held told).0.keys w.keys.store.pending w.keys.store.table.keys k.0 k.1 (sound told) k.2 in
-      (f.kept, ap (λ (t : Table). t.opening) (sym f.table_is) ∙ k.3);
-  cause = cause;
+      let k = o.why.spent is told in
+      let f = finds (old.reads 0) (held told).0.keys w.keys.store.pending w.keys.store.table.keys k.commands k.table (sound told) k.log in
+      (f.kept, ap (λ (t : Table). t.opening) (sym f.table_is) ∙ k.last);
+  cause = o.why.cause;
   survives = survives;
-  survives_then = λ told done s c image. left-then old new w AKeyOpening NothingMore m n run.later done (survives told done s) (now done s) c image;
-  run = both-of 0 old new run;
+  survives_then = λ told done s c image. left-then old new w AKeyOpening NothingMore m n o.run.later done (survives told done s) (now done s) c image;
+  run = both-of 0 old new o.run;
 }
   where
     sound : (told : Tells old) → IsSoundLog (old.reads 0) (held told).0.keys w.keys.store.pending w.keys.store.table.keys
     sound told = sound_store old w.keys.store (held told).0.keys keys_file (may-be-kept w fit) (held told).1.keys
 
     left : Tells old → LeavesLogs old new w AKeyOpening NothingMore
-    left told = on-keys-leaves old new w AKeyOpening NothingMore names_file (keys-left-by-restart old new w keys_file fit moments told)
+    left told = on-keys-leaves old new w AKeyOpening NothingMore names_file (keys-left-by-restart old new w keys_file fit o.any_moment told)
 
     files : (h : Hidden) → LinkedWorld (world_of w) h → LinkedFiles (world_of w) h.ledger h.place
     files = world-files (world_of w)
@@ -196,9 +193,9 @@ names-reopened old new w w' of_file held s = go old.tells refl
 
 -- the new rows replace the old ones
 pub names-restarted : (old new : DiskState) (w w' : RunningWorld) (opening : ℕ) → w'.keys ≡ w.keys → w.names.store.log.log.file ≡ 1 → Held old w → NamesStart old new w'.names
-    → (Tells old → LeavesOnly 1 old new (λ c. old.leaves 1 c ⊎ IsLeftByNameStart (old.reads 1) c)) → RunOn 1 old new → opening ≡ w'.names.store.table.opening → w' ≡ record w { names = w'.names }
+    → {fails : StartFault → Type 0} → OpensNames old new fails → opening ≡ w'.names.store.table.opening → w' ≡ record w { names = w'.names }
     → (lines : List PropLine) (words : ℕ → ℕ) (now : ℕ) → Happens lines old new w words now event.RestartName (line.Opened opening) w' words
-names-restarted old new w w' opening keys of_file held s moments run number rest lines words now =
+names-restarted old new w w' opening keys of_file held s o number rest lines words now =
     let found = names-reopened old new w w' of_file held s in
     record {
       drawn = 0;
@@ -216,7 +213,7 @@ names-restarted old new w w' opening keys of_file held s moments run number rest
       disk = inr (record {
         ops = found.logged;
         logged_is = refl;
-        log = record { stands = found.stands; moments = names-left-by-restart old new w of_file moments; run = run };
+        log = record { stands = found.stands; moments = names-left-by-restart old new w of_file o.any_moment; run = o.run };
         keys = keys;
       });
       lists = ap (λ (k : RunningKms). k.acls) keys;
@@ -224,30 +221,27 @@ names-restarted old new w w' opening keys of_file held s moments run number rest
 
 -- the opening failed
 pub names-fail : (old new : DiskState) (w w' : RunningWorld) (words : ℕ → ℕ) (fault : StartFault) → Moment old → Moment new → w' ≡ w → w.keys.store.log.file ≡ 0 → w.names.store.log.log.file ≡ 1 → ServicesFit (world_of w) → Held old w
-    → ((at : ℕ) → fault ≡ start.Damaged at → Tells old → IsDamagedName (old.reads 1) at)
-    → (fault ≡ start.Spent → Tells old → (ops : List EditOp) × (made : Replayed) × IsNameLog (old.reads 1) ops made × (made.table.opening ≡ 4294967295))
-    → (fault ≡ start.StoreFault → Rose old.faults new.faults)
-    → (Tells old → LeavesOnly 1 old new (λ c. old.leaves 1 c ⊎ IsLeftByNameStart (old.reads 1) c)) → RunOn 1 old new → Fails old new w words event.RestartName 1 fault w' words
-names-fail old new w w' words fault m n same keys_file names_file fit held damaged spent cause moments run = record {
+    → OpensNames old new (λ other. fault ≡ other) → Fails old new w words event.RestartName 1 fault w' words
+names-fail old new w w' words fault m n same keys_file names_file fit held o = record {
   restart = refl;
   same = same;
   same_words = refl;
-  never_damaged = λ told at is. names_not_damaged (old.reads 1) (held told).0.names w.names.store.log.pending (made_with w.names.store (held told).1.names.used) at (sound told) (damaged at is told);
+  never_damaged = λ told at is. names_not_damaged (old.reads 1) (held told).0.names w.names.store.log.pending (made_with w.names.store (held told).1.names.used) at (sound told) (o.why.damaged at is told);
   spent = λ is told.
-      let k = spent is told in
-      let f = finds_names (old.reads 1) (held told).0.names w.names.store.log.pending (made_with w.names.store (held told).1.names.used) k.0 k.1 (sound told) k.2 in
-      (f.kept, ap (λ (m : Replayed). m.table.opening) (sym f.made_is) ∙ k.3);
-  cause = cause;
+      let k = o.why.spent is told in
+      let f = finds_names (old.reads 1) (held told).0.names w.names.store.log.pending (made_with w.names.store (held told).1.names.used) k.ops k.made (sound told) k.log in
+      (f.kept, ap (λ (m : Replayed). m.table.opening) (sym f.made_is) ∙ k.last);
+  cause = o.why.cause;
   survives = survives;
-  survives_then = λ told done s c image. left-then old new w NoCommand AnOpening m n run.later done (survives told done s) (now done s) c image;
-  run = both-of 1 old new run;
+  survives_then = λ told done s c image. left-then old new w NoCommand AnOpening m n o.run.later done (survives told done s) (now done s) c image;
+  run = both-of 1 old new o.run;
 }
   where
     sound : (told : Tells old) → IsSoundNames (old.reads 1) (held told).0.names w.names.store.log.pending (made_with w.names.store (held told).1.names.used)
     sound told = sound_names old w.names.store (held told).1.names.used (held told).0.names names_file (held told).1.names.store
 
     left : Tells old → LeavesLogs old new w NoCommand AnOpening
-    left told = on-names-leaves old new w NoCommand AnOpening keys_file fit (names-left-by-restart old new w names_file moments told)
+    left told = on-names-leaves old new w NoCommand AnOpening keys_file fit (names-left-by-restart old new w names_file o.any_moment told)
 
     files : (h : Hidden) → LinkedWorld (world_of w) h → LinkedFiles (world_of w) h.ledger h.place
     files = world-files (world_of w)

@@ -12,6 +12,7 @@ use Rattle.inode_tree.specs.declared.rows.Kind.TheVariants.{Dir}
 use Rattle.inode_tree.specs.declared.rows.Row.{Row}
 use Rattle.name_calls.specs.Paths.{is_before, is_child, is_prefix, parent, same_path}
 use Rattle.inode_tree.specs.Rows.{AllAfter, Entry, IsRising, IsRows, entry_of, has_children, is_dir, is_dir_at, is_marked, is_zone_over, longer, mark_of, put, removed, row_at, set_kind, with_kind, zone_of}
+use Rattle.inode_tree.proofs.MovedLaws.{IsPlaced, placed}
 use Rattle.inode_tree.proofs.Seeks.{before-not-same, same-is, same-itself}
 use Rattle.inode_tree.proofs.ZoneLemmas.{prefix-itself}
 use Rattle.name_store.specs.Table.{key_of_zone}
@@ -24,17 +25,20 @@ pub record InPlace (rows : List Entry) : Type 0 where
   pub once : (x : Entry) → In x rows → entry_of rows x.row.id ≡ Some x
   pub housed : (x : Entry) → In x rows → is_dir_at (row_at rows (parent x.path)) ≡ true
 
-all-in : (P : Entry → Type 0) (rows : List Entry) → All P rows → (x : Entry) → In x rows → P x
+pub all-in : (P : Entry → Type 0) (rows : List Entry) → All P rows → (x : Entry) → In x rows → P x
 all-in P [] h x i = absurd i
 all-in P (e ∷ es) h x (inl is) = subst P (sym is) (All-head P e es h)
 all-in P (e ∷ es) h x (inr i) = all-in P es (All-tail P e es h) x i
 
-pub in-place : (rows : List Entry) → IsRows rows → InPlace rows
-in-place rows good = record {
+pub from-placed : (rows : List Entry) → IsPlaced rows → InPlace rows
+from-placed rows good = record {
   rising = good.rising;
   once = all-in (λ e. entry_of rows e.row.id ≡ Some e) rows good.once;
   housed = all-in (λ e. is_dir_at (row_at rows (parent e.path)) ≡ true) rows good.housed;
 }
+
+pub in-place : (rows : List Entry) → IsRows rows → InPlace rows
+in-place rows good = from-placed rows (placed rows good)
 
 -- a row that is put in
 
@@ -98,7 +102,7 @@ member-at (e ∷ es) p row h = go (same_path e.path p) refl (member-at es p row)
     go false same ih h = let q = ih h in (q.0, inr q.1, q.2, q.3)
 
 -- a member with the id of another is that one
-one-of-id : (rows : List Entry) → InPlace rows → (x y : Entry) → In x rows → In y rows → x.row.id ≡ y.row.id → x ≡ y
+pub one-of-id : (rows : List Entry) → InPlace rows → (x y : Entry) → In x rows → In y rows → x.row.id ≡ y.row.id → x ≡ y
 one-of-id rows good x y i j same = some-is x y (sym (good.once x i) ∙ ap (entry_of rows) same ∙ good.once y j)
 
 -- no row is below a directory without children

@@ -12,20 +12,22 @@ use Rattle.inode_tree.specs.declared.rows.Kind.{Kind}
 use Rattle.inode_tree.specs.declared.rows.Kind.TheVariants.{Dir, File as FileKind}
 use Rattle.inode_tree.specs.declared.rows.Row.{Row}
 use Rattle.name_calls.specs.Paths.{is_before, is_prefix, parent, same_path}
-use Rattle.inode_tree.specs.Rows.{AllAfter, Entry, IsRising, entry_of, is_dir, is_dir_at, is_marked, put, removed, row_at, set_kind, with_kind}
+use Rattle.inode_tree.specs.Moves.{CanMove, renamed}
+use Rattle.inode_tree.specs.Rows.{AllAfter, Entry, IsRising, entry_of, is_dir, is_dir_at, is_marked, move_allowed, put, removed, row_at, set_kind, with_kind}
 use Rattle.inode_tree.proofs.Puts.{rising-put}
 use Rattle.inode_tree.proofs.Seeks.{same-is}
 use Rattle.edit_ops.specs.declared.ops.EditOp.{EditOp}
-use Rattle.edit_ops.specs.declared.ops.EditOp.TheVariants.{Opened, Mkdir, File, Remove, Zone, Allow, Disallow, Snap, Unsnap}
+use Rattle.edit_ops.specs.declared.ops.EditOp.TheVariants.{Opened, Mkdir, File, Remove, Rename, Zone, Allow, Disallow, Snap, Unsnap}
 use Rattle.name_store.specs.Causes.{first_cause, id_at, id_of, row_causes, to_be_made, zone_causes}
 use Rattle.name_store.specs.Table.{NameTable, after_table, allows, fits_zone, kept_rows, key_of_zone, marked, new_directory, new_file}
-use Rattle.name_store.proofs.CauseLemmas.{MayUse, allowed, id-may-be-used, makeable, markable, none-of-both}
+use Rattle.name_store.proofs.CauseLemmas.{MayUse, allowed, id-may-be-used, makeable, markable, none-of-both, renamable}
 use Rattle.snap_store.specs.Snapshots.{Snapshot, frozen, is_named, put_snapshot, without_snapshot}
 use Rattle.world_run.specs.Ledger.{Ledger}
 use Rattle.world_run.specs.Promise.{FitsZone, In, edek_of}
 use Rattle.world_run.specs.Linked.{FilesLinked, HasDraw}
 use Rattle.world_run.proofs.Members.{in-map, some-is}
-use Rattle.world_run.proofs.KeptRows.{kept-entries, kept-snapped, rows-filter, rows-from, rows-frozen, rows-put, snapped-filter, snapped-put}
+use Rattle.world_run.proofs.KeptRows.{kept-entries, kept-snapped, rows-filter, rows-from, rows-frozen, rows-moved, rows-put, snapped-filter, snapped-put}
+use Rattle.world_run.proofs.RenameLemmas.{in-renamed, key-renamed, renamed-in-place}
 use Rattle.world_run.proofs.RowLemmas.{InPlace, Markable, dir-some, in-mark, in-put, in-removed, key-mark, key-put, key-removed, which}
 
 none-is : {X : Type 0} (o : Option X) → is_none o ≡ true → o ≡ None
@@ -227,6 +229,7 @@ rows-after t (File id p edek) good may =
     let a = allowed t (File id p edek) refl may in
     made-in-place t (new_file id p edek) (id-may-be-used t id a.ids) a.free good
 rows-after t (Remove p) good may = removed-in-place p t.rows good
+rows-after t (Rename p q) good may = renamed-in-place t.rows p q good (renamable t.rows t.snaps p q (allowed t (Rename p q) refl may).free).can
 rows-after t (Zone p key) good may = marked-in-place (id_at t.rows p) key t.rows good
 rows-after t (Allow p) good may = good
 rows-after t (Disallow p) good may = good
@@ -240,9 +243,10 @@ abbrev pub OpHasDraw : Ledger → List KeyRow → EditOp → Type 0
 OpHasDraw ledger keys (File id p (Some e)) = HasDraw ledger keys id e
 OpHasDraw ledger keys _ = ⊤
 
--- its encrypted key is of its zone, and a directory may become a zone
+-- its encrypted key is of its zone, a directory may become a zone, and what moves stays in its zone
 abbrev pub OpFits : List Entry → EditOp → Type 0
 OpFits rows (File id p edek) = fits_zone (key_of_zone rows p) edek ≡ true
+OpFits rows (Rename p q) = CanMove rows p q × (move_allowed rows p q ≡ true)
 OpFits rows (Zone p key) = first_cause (zone_causes rows p) ≡ None
 OpFits rows _ = ⊤
 
@@ -263,6 +267,7 @@ kept-after t (Mkdir id p) row i =
     (λ live. elim (rows-put row (new_directory id p) t.rows live) [ inl old ↦ inl old | inr is ↦ inr (ap (λ (r : Row). is_dir r.kind) is) ]) i
 kept-after t (File id p edek) row i = kept-entries row t.rows (put (new_file id p edek) t.rows) t.snaps.taken (row ≡ (new_file id p edek).row) (rows-put row (new_file id p edek) t.rows) i
 kept-after t (Remove p) row i = kept-entries row t.rows (removed p t.rows) t.snaps.taken ⊥ (λ live. inl (rows-filter row (λ e. not (is_prefix p e.path)) t.rows live)) i
+kept-after t (Rename p q) row i = kept-entries row t.rows (renamed p q t.rows) t.snaps.taken ⊥ (λ live. inl (rows-moved row p q t.rows live)) i
 kept-after t (Zone p key) row i =
     kept-entries row t.rows (marked t.rows p key) t.snaps.taken (is_dir row.kind ≡ true)
     (rows-from row t.rows (marked t.rows p key) (is_dir row.kind ≡ true)
@@ -292,6 +297,7 @@ made-drawn ledger keys (Mkdir id p) row e has made h = absurd (no-key row.kind e
 made-drawn ledger keys (File id p edek) row e has made h =
     subst (λ (r : Row). HasDraw ledger keys r.id e) (sym made) (file-drawn ledger keys id p edek has e (ap (λ (r : Row). edek_of r.kind) (sym made) ∙ h))
 made-drawn ledger keys (Remove p) row e has made h = absurd made
+made-drawn ledger keys (Rename p q) row e has made h = absurd made
 made-drawn ledger keys (Zone p key) row e has made h = absurd (no-key row.kind e made h)
 made-drawn ledger keys (Allow p) row e has made h = absurd made
 made-drawn ledger keys (Disallow p) row e has made h = absurd made
@@ -315,6 +321,12 @@ zones-removed : (rows : List Entry) (p : List (List ℕ)) → ZonesFit rows → 
 zones-removed rows p zones x i =
     let was = in-removed p x rows i in
     subst (λ (k : Option KeyName). FitsZone k x.row.kind) (sym (key-removed p x.path rows was.1)) (zones x was.0)
+
+zones-renamed : (rows : List Entry) (p q : List (List ℕ)) → InPlace rows → CanMove rows p q → move_allowed rows p q ≡ true → ZonesFit rows → ZonesFit (renamed p q rows)
+zones-renamed rows p q good can allowed zones x i =
+    let y = in-renamed x p q rows i in
+    subst (λ (z : Entry). FitsZone (key_of_zone (renamed p q rows) z.path) z.row.kind) (sym y.2)
+    (subst (λ (k : Option KeyName). FitsZone k y.0.row.kind) (sym (key-renamed rows p q good can allowed y.0 y.1)) (zones y.0 y.1))
 
 of-zone : (zone : Option KeyName) (edek : Option Edek) → fits_zone zone edek ≡ true → FitsZone zone (FileKind edek)
 of-zone None None h = refl
@@ -348,6 +360,7 @@ zones-after t (Opened opening) good fits zones = zones
 zones-after t (Mkdir id p) good fits zones = zones-put t.rows (new_directory id p) refl tt zones
 zones-after t (File id p edek) good fits zones = zones-put t.rows (new_file id p edek) refl (of-zone (key_of_zone t.rows p) edek fits) zones
 zones-after t (Remove p) good fits zones = zones-removed t.rows p zones
+zones-after t (Rename p q) good fits zones = zones-renamed t.rows p q good fits.0 fits.1 zones
 zones-after t (Zone p key) good fits zones = zones-mark t.rows p key (id_at t.rows p) good (to-be-marked t.rows p fits) zones
 zones-after t (Allow p) good fits zones = zones
 zones-after t (Disallow p) good fits zones = zones

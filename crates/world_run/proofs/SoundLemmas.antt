@@ -16,6 +16,7 @@ use Rattle.kms_store.specs.Store.{Applies, settled_table}
 use Rattle.name_store.specs.Replay.{Applies as AppliesToNames}
 use Rattle.name_store.specs.Store.{AnOpening, IsLeftOf, NothingMore}
 use Rattle.name_store.specs.Table.{NameTable, Replayed, after_table, allows, is_fresh, settled_log, settled_table as settled_names_table}
+use Rattle.name_store.proofs.CauseLemmas.{renamable}
 use Rattle.name_core.specs.declared.asks.OpenAsk.{OpenAsk}
 use Rattle.name_calls.specs.declared.calls.KeyAnswer.{KeyAnswer}
 use Rattle.name_calls.specs.declared.calls.KeyAnswer.TheVariants.{Given}
@@ -24,7 +25,7 @@ use Rattle.name_calls.specs.declared.calls.NameCall.TheVariants as call
 use Rattle.name_calls.specs.declared.calls.NameRefusal.{NameRefusal}
 use Rattle.name_calls.specs.declared.calls.NameRefusal.TheVariants as refusal
 use Rattle.name_core.specs.Asks.{finish_op, open_ask}
-use Rattle.name_core.specs.Calls.{deed}
+use Rattle.name_core.specs.Calls.{causes, deed, first_cause}
 use Rattle.name_core.specs.Service.{FinishServes, FinishServesAt, FinishServesOpen, OwnOfFinish}
 use Rattle.name_core.specs.State.{NameService, next_id, settled as settled_names}
 use Rattle.hk_events.specs.declared.event.Event.{Event}
@@ -135,6 +136,7 @@ event-files lines w words now e fault tells told drawn logged w' h fit s l = go 
     go event.RestartName s = before
     go (event.Mkdir user p) s = before
     go (event.Delete user p recursive) s = before
+    go (event.Rename user p q) s = before
     go (event.Info user p) s = before
     go (event.List user p) s = before
     go (event.Allow user p) s = before
@@ -162,6 +164,7 @@ own-of-opening w h fit l kept (op.Opened opening) own may = files-opened h.ledge
 own-of-opening w h fit l kept (op.Mkdir id p) own may = absurd cc
 own-of-opening w h fit l kept (op.File id p edek) own may = absurd cc
 own-of-opening w h fit l kept (op.Remove p) own may = absurd cc
+own-of-opening w h fit l kept (op.Rename p q) own may = absurd cc
 own-of-opening w h fit l kept (op.Zone p key) own may = absurd cc
 own-of-opening w h fit l kept (op.Allow p) own may = absurd cc
 own-of-opening w h fit l kept (op.Disallow p) own may = absurd cc
@@ -169,7 +172,7 @@ own-of-opening w h fit l kept (op.Snap p name) own may = absurd cc
 own-of-opening w h fit l kept (op.Unsnap p name) own may = absurd cc
 
 pub own-of-call : (w : WorldState) (h : Hidden) (c : NameCall) (told : Line) (names : NameService) → ServicesFit w → LinkedWorld w h → OwnLinks w h.ledger (OwnOfNamesCall w.names c told names)
-own-of-call w h c told names fit l kept written own may = go c own.own.is
+own-of-call w h c told names fit l kept written own may = go c own.own.free own.own.is
   where
     linked : (o : EditOp) → OpFits (settled_names kept w.names).table.rows o → OpHasDraw h.ledger w.keys.keys.table.rows o → Some o ≡ Some written
         → FilesLinked h.ledger w.keys.keys.table.rows (after_table (settled_names kept w.names).table written)
@@ -177,16 +180,19 @@ own-of-call w h c told names fit l kept written own may = go c own.own.is
         subst (λ (x : EditOp). FilesLinked h.ledger w.keys.keys.table.rows (after_table (settled_names kept w.names).table x)) (some-is o written is)
         (files-after h.ledger w.keys.keys.table.rows (settled_names kept w.names).table o (rows-settled kept w.names fit.names) fits has (l.files kept))
 
-    go : (c : NameCall) → (deed (settled_names kept w.names) c).logs ≡ Some written → FilesLinked h.ledger w.keys.keys.table.rows (after_table (settled_names kept w.names).table written)
-    go (call.Mkdir p) is = linked (op.Mkdir (next_id (settled_names kept w.names)) p) tt tt is
-    go (call.Delete p recursive) is = linked (op.Remove p) tt tt is
-    go (call.Info r) is = absurd cc
-    go (call.List r) is = absurd cc
-    go (call.Allow p) is = linked (op.Allow p) tt tt is
-    go (call.Disallow p) is = linked (op.Disallow p) tt tt is
-    go (call.Snap p name) is = linked (op.Snap p name) tt tt is
-    go (call.Unsnap p name) is = linked (op.Unsnap p name) tt tt is
-    go call.Zones is = absurd cc
+    go : (c : NameCall) → first_cause (causes (settled_names kept w.names) c) ≡ None → (deed (settled_names kept w.names) c).logs ≡ Some written → FilesLinked h.ledger w.keys.keys.table.rows (after_table (settled_names kept w.names).table written)
+    go (call.Mkdir p) free is = linked (op.Mkdir (next_id (settled_names kept w.names)) p) tt tt is
+    go (call.Delete p recursive) free is = linked (op.Remove p) tt tt is
+    go (call.Rename p q) free is =
+        let m = renamable (settled_names kept w.names).table.rows (settled_names kept w.names).table.snaps p q free in
+        linked (op.Rename p q) (m.can, m.zone) tt is
+    go (call.Info r) free is = absurd cc
+    go (call.List r) free is = absurd cc
+    go (call.Allow p) free is = linked (op.Allow p) tt tt is
+    go (call.Disallow p) free is = linked (op.Disallow p) tt tt is
+    go (call.Snap p name) free is = linked (op.Snap p name) tt tt is
+    go (call.Unsnap p name) free is = linked (op.Unsnap p name) tt tt is
+    go call.Zones free is = absurd cc
 
 -- the answer of a finish that leaves an operation pending
 pending-told : (s : NameService) (a : OpenAsk) (given : KeyAnswer) (edek : Option Edek) (fault : Type 0) (result : Result (Unit {0}) NameRefusal) (ops : List EditOp) (names : NameService) (waiting : EditOp) → given ≡ Given edek
@@ -252,6 +258,7 @@ opening-rises t (op.Opened opening) may = next t.opening opening may
 opening-rises t (op.Mkdir id p) may = omega arith
 opening-rises t (op.File id p edek) may = omega arith
 opening-rises t (op.Remove p) may = omega arith
+opening-rises t (op.Rename p q) may = omega arith
 opening-rises t (op.Zone p key) may = omega arith
 opening-rises t (op.Allow p) may = omega arith
 opening-rises t (op.Disallow p) may = omega arith

@@ -6,10 +6,12 @@ use Rattle.std.specs.declared.result.Result.{Result}
 use Rattle.std.proofs.lemmas.Bool.Decides.{nat_tests}
 use Rattle.std.proofs.lemmas.List.{map-append}
 use Rattle.hk_base.specs.Disk.{DiskState, Image, IsImage, LeavesOnly, RunOn, Tells}
-use Rattle.hk_base.specs.Faults.{Rose}
 use Rattle.hk_base.proofs.Runs.{begin}
+use Rattle.eek_queues.specs.Queues.{AllQueues}
 use Rattle.frame_log.specs.Format.{IsAtRest}
+use Rattle.frame_log.specs.Opens.{Opens}
 use Rattle.frame_log.specs.Stands.{LeavesFrom}
+use Rattle.frame_log.proofs.Openings.{opens_for, rose_since, why_for}
 use Rattle.frame_log.specs.declared.fault.StartFault.{StartFault}
 use Rattle.frame_log.specs.declared.fault.StartFault.TheVariants as start
 use Rattle.edit_ops.specs.declared.ops.EditOp.{EditOp}
@@ -20,14 +22,13 @@ use Rattle.key_rows.specs.declared.rows.KeyCommand.TheVariants.{Opened, Create, 
 use Rattle.key_rows.specs.Records.{HasSpelling, spelling}
 use Rattle.key_rows.specs.Table.{Table, after, applies}
 use Rattle.key_rows.proofs.Births.{both}
-use Rattle.prop_text.specs.declared.lines.PropLine.{PropLine}
-use Rattle.kms_acls.specs.StandsFor.{StandsFor as ListsFor}
-use Rattle.kms_store.specs.Store.{AKeyOpening, Applies, IsDamagedAt, IsKeyLog, IsLeftByStart, IsLogOf, Opening, is_key_opening, next_opening, settled_commands, settled_table}
+use Rattle.prop_text.specs.SizeValues.{SizeValues}
+use Rattle.kms_store.specs.Store.{AKeyOpening, Applies, IsKeyLog, IsLeftByStart, IsLogOf, Opening, OpensKeys, is_key_opening, next_opening, settled_commands, settled_table}
 use Rattle.kms_store.proofs.Layers.{finds, left_by_start, log_of_store, sound_left}
 use Rattle.kms_core.specs.Service.{Starts}
-use Rattle.kms_core.specs.State.{Running, ServiceState}
-use Rattle.kms_core.specs.Users.{RunningKms, running}
-use Rattle.name_store.specs.Store.{AnOpening, IsDamagedAt as IsDamagedName, IsLeftByStart as IsLeftByNameStart, IsNameLog, is_opening}
+use Rattle.kms_core.specs.State.{Running, ServiceState, no_queues, opened}
+use Rattle.kms_core.specs.Users.{running}
+use Rattle.name_store.specs.Store.{AnOpening, IsDamagedAt as IsDamagedName, IsLeftByStart as IsLeftByNameStart, IsNameLog, OpensNames, SpentNames, is_opening}
 use Rattle.name_store.specs.Table.{NameTable, Replayed, after_table, allows, is_fresh, next_opening as next_opening_of_names, settled_log, settled_ops}
 use Rattle.name_core.specs.Service.{Starts as NamesStart}
 use Rattle.name_core.specs.State.{RunningNames}
@@ -36,7 +37,7 @@ use Rattle.world_run.specs.Acknowledged.{LeavesBoth, RunBoth}
 use Rattle.world_run.specs.Keeps.{Begins, IsOpenedLog, LeftByFirst, LeftBySecond, LeftByStarts}
 use Rattle.world_run.specs.Ledger.{Past, drawn_before}
 use Rattle.world_run.specs.Linked.{IsOldBirth, IsRecordedBirth, LinkedTables, LinkedWorld, ServicesFit, SoundFiles, StartsSound}
-use Rattle.world_run.specs.Starts.{KeysOpened, StartHappens}
+use Rattle.world_run.specs.Starts.{FailsAt, KeysOpened, OpensBoth}
 use Rattle.world_run.specs.World.{RunningWorld, WorldState, first_world, world_of}
 use Rattle.world_run.proofs.BothLemmas.{both-of, keys-beside, leaves-keys}
 use Rattle.world_run.proofs.CrashLemmas.{rests-now}
@@ -127,6 +128,7 @@ next-linked past keys t (op.Opened opening) is may l = opened-linked past keys t
 next-linked past keys t (op.Mkdir id p) is may l = absurd (cc is)
 next-linked past keys t (op.File id p edek) is may l = absurd (cc is)
 next-linked past keys t (op.Remove p) is may l = absurd (cc is)
+next-linked past keys t (op.Rename p q) is may l = absurd (cc is)
 next-linked past keys t (op.Zone p key) is may l = absurd (cc is)
 next-linked past keys t (op.Allow p) is may l = absurd (cc is)
 next-linked past keys t (op.Disallow p) is may l = absurd (cc is)
@@ -236,30 +238,21 @@ both-opened old mid new m run told opened first second = record {
     names-then bytes (inl before) = inl ((run.other_leaves bytes).0 before)
     names-then bytes (inr found) = inr (subst (λ (b : List ℕ). IsLeftByNameStart b bytes) (run.other_reads told) found)
 
--- what it leaves of each file since the first sync of its opening
+-- an opening that was done
 
-abbrev KeysSince : DiskState → DiskState → Result RunningKms StartFault → Type 0
-KeysSince old mid result =
-    ((IsErrOf result start.StoreFault ⊎ IsErrOf result start.NoMemory) × LeavesOnly 0 old mid (old.leaves 0)) ⊎ LeavesFrom 0 old mid (IsLeftByStart (old.reads 0))
+abbrev KeysDone : DiskState → DiskState → Type 0
+KeysDone old mid = OpensKeys old mid (λ fault. ⊥)
 
-abbrev NamesSince : DiskState → DiskState → Result RunningNames StartFault → Type 0
-NamesSince mid new result = (IsErrOf result start.StoreFault × LeavesOnly 1 mid new (mid.leaves 1)) ⊎ LeavesFrom 1 mid new (IsLeftByNameStart (mid.reads 1))
+abbrev NamesDone : DiskState → DiskState → Type 0
+NamesDone mid new = OpensNames mid new (λ fault. ⊥)
 
-abbrev no-keys : StartFault → Result RunningKms StartFault
-no-keys fault = Err fault
+-- since the first sync of its opening it leaves of each file what the opening leaves
 
-abbrev no-names : StartFault → Result RunningNames StartFault
-no-names fault = Err fault
+keys-synced : (old mid : DiskState) → KeysDone old mid → Tells old → LeavesFrom 0 old mid (IsLeftByStart (old.reads 0))
+keys-synced old mid o told = ⊎_elim (λ failed. absurd failed.0) (λ since. since) (o.since_sync told)
 
--- the first opening was done
-keys-synced : (old mid : DiskState) (keys : RunningKms) → KeysSince old mid (Ok keys) → LeavesFrom 0 old mid (IsLeftByStart (old.reads 0))
-keys-synced old mid keys (inl (inl is, only)) = absurd (cc is)
-keys-synced old mid keys (inl (inr is, only)) = absurd (cc is)
-keys-synced old mid keys (inr since) = since
-
-names-synced : (mid new : DiskState) (names : RunningNames) → NamesSince mid new (Ok names) → LeavesFrom 1 mid new (IsLeftByNameStart (mid.reads 1))
-names-synced mid new names (inl (is, only)) = absurd (cc is)
-names-synced mid new names (inr since) = since
+names-synced : (mid new : DiskState) → NamesDone mid new → Tells mid → LeavesFrom 1 mid new (IsLeftByNameStart (mid.reads 1))
+names-synced mid new o told = ⊎_elim (λ failed. absurd failed.0) (λ since. since) (o.since_sync told)
 
 -- the second opening leaves file 0 alone
 keys-since : (old mid new : DiskState) → Moment mid → RunOn 0 old mid → Tells old → LeavesFrom 0 old mid (IsLeftByStart (old.reads 0)) → NamesMoments mid new → RunOn 1 mid new → LeavesFrom 0 old new (IsLeftByStart (old.reads 0))
@@ -313,12 +306,13 @@ names-room old new r s told =
 
 -- the first world
 
-first-linked : (past : Past) (table : Table) (names : NameTable) → LinkedTables past table names → LinkedWorld (first_world table names) (drawn_before past)
-first-linked past table names l = record {
+first-linked : (past : Past) (sizes : SizeValues) (table : Table) (names : NameTable) → LinkedTables past table names → LinkedWorld (first_world sizes table names) (drawn_before past)
+first-linked past sizes table names l = record {
   files = λ kept. files-opened past.ledger table.rows names (names.opening + 1) l.files;
   replies = record { as_many = refl; keys_open = λ r o at. absurd (none-replied r o at); one_reply = λ n m d at other. absurd (numbered-in [] n (Some d) at) };
-  draws = draws-later past.ledger [] past.place (IsRecordedBirth table) (IsOldBirth (first_world table names).keys.keys.table) (λ b h. inl h) l.draws;
+  draws = draws-later past.ledger [] past.place (IsRecordedBirth table) (IsOldBirth (first_world sizes table names).keys.keys.table) (λ b h. inl h) l.draws;
   ledger = ledger-more past.ledger [] [] [] ((names.opening + 1) * 2 ^ 32) ((names.opening + 1) * 2 ^ 32 + 1) (omega arith) l.fits;
+  ready = tt;
 }
 
 -- the two tables that are found in sound files are linked
@@ -330,9 +324,9 @@ found-linked past a b commands table ops made s keys names =
     subst (λ (t : Table). LinkedTables past t made.table) (sym f.table_is)
     (subst (λ (m : Replayed). LinkedTables past (settled_table f.kept s.more s.table) m.table) (sym g.made_is) (s.linked f.kept g.kept))
 
-begins : (old mid new : DiskState) (r : RunningWorld) → Moment old → r.keys.store.log.file ≡ 0 → r.names.store.log.log.file ≡ 1 → ServicesFit (world_of r) → r.kept ≡ record { notes = []; replies = [] }
-    → RunOn 0 old mid → RunOn 1 mid new → Starts old mid (running r.keys) → NamesStart mid new r.names → Begins old new r
-begins old mid new r m keys_file names_file fit nothing run other_run ks ns = record {
+pub begins : (sizes : SizeValues) (old mid new : DiskState) (r : RunningWorld) → r.keys.ready ≡ no_queues sizes → Moment old → r.keys.store.log.file ≡ 0 → r.names.store.log.log.file ≡ 1 → ServicesFit (world_of r) → r.kept ≡ record { notes = []; replies = [] }
+    → RunOn 0 old mid → RunOn 1 mid new → Starts old mid (running r.keys) → NamesStart mid new r.names → Begins sizes old new r
+begins sizes old mid new r same_sizes m keys_file names_file fit nothing run other_run ks ns = record {
   table = ks.table;
   names = ns.found;
   first = first;
@@ -355,8 +349,8 @@ begins old mid new r m keys_file names_file fit nothing run other_run ks ns = re
   rests = rests-now new r keys_file names_file fit;
 }
   where
-    first : world_of r ≡ first_world ks.table ns.found
-    first = λ i. record { keys = ks.opens i; names = ns.opens i; kept = nothing i }
+    first : world_of r ≡ first_world sizes ks.table ns.found
+    first = λ i. record { keys = (ks.opens ∙ ap (λ (all : AllQueues). opened all ks.table) same_sizes) i; names = ns.opens i; kept = nothing i }
 
     edits : (told : Tells old) → IsNameLog (old.reads 1) (ns.log (tells-on 0 old mid run told)).0 (record { table = ns.found; used = (ns.log (tells-on 0 old mid run told)).1 })
     edits told = subst (λ (b : List ℕ). IsNameLog b (ns.log (tells-on 0 old mid run told)).0 (record { table = ns.found; used = (ns.log (tells-on 0 old mid run told)).1 })) (run.other_reads told) (ns.log (tells-on 0 old mid run told)).2
@@ -364,21 +358,9 @@ begins old mid new r m keys_file names_file fit nothing run other_run ks ns = re
     linked : Tells old → (past : Past) → StartsSound old past → LinkedWorld (world_of r) (drawn_before past)
     linked told past sound =
         subst (λ (w : WorldState). LinkedWorld w (drawn_before past)) (sym first)
-        (first-linked past ks.table ns.found
+        (first-linked past sizes ks.table ns.found
         (found-linked past (old.reads 0) (old.reads 1) (ks.log told).0 ks.table (ns.log (tells-on 0 old mid run told)).0 _
         (sound (pair (old.reads 0) (old.reads 1)) (pair-image old (old.reads 0) (old.reads 1) (m.is_one told 0 (omega arith)) (m.is_one told 1 (omega arith)))) (ks.log told).1 (edits told)))
-
--- a start, by its result
-
-abbrev failed-by : WorldFault → Result RunningWorld WorldFault
-failed-by fault = Err fault
-
-one-fault : (a b : WorldFault) → failed-by a ≡ failed-by b → a ≡ b
-one-fault a b is = cc is
-
--- a count of faults that rose since a later moment rose since the earlier one
-rose-since : (a b c : ℕ) → a ≤ b → Rose b c → Rose a c
-rose-since a b c le rose = omega (arith, le, rose)
 
 both-runs : (old mid new : DiskState) → RunOn 0 old mid → RunOn 1 mid new → RunBoth old new
 both-runs old mid new a b = record {
@@ -410,131 +392,117 @@ keys-are-opened old new r of_file s told =
           };
     }
 
+-- a start that fails at one of the files
+
+not-second : zero ≡ 1 → ⊥
+not-second is = absurd (omega (arith, is))
+
+not-first : suc zero ≡ 0 → ⊥
+not-first is = absurd (omega (arith, is))
+
 -- memory runs out before a log is opened
-pub no-start : (old : DiskState) (lines : List PropLine) → StartHappens old old lines (Err (record { file = 0; fault = start.NoMemory }))
-no-start old lines = record {
-  began = tt;
-  lists = tt;
-  file = λ file other is. inl (sym (ap (λ (f : WorldFault). f.file) (one-fault _ _ is)));
-  damaged_keys = λ at is. absurd (no-damage at (ap (λ (f : WorldFault). f.fault) (one-fault _ _ is)));
-  damaged_names = λ at is. absurd (no-damage at (ap (λ (f : WorldFault). f.fault) (one-fault _ _ is)));
-  spent_keys = λ is. absurd (not-spent (ap (λ (f : WorldFault). f.fault) (one-fault _ _ is)));
-  spent_names = λ is. absurd (not-spent (ap (λ (f : WorldFault). f.fault) (one-fault _ _ is)));
-  first_keys = λ fault is. absurd (other (ap (λ (f : WorldFault). f.file) (one-fault _ _ is)));
+pub no-start : (old : DiskState) → OpensBoth old old (FailsAt 0 start.NoMemory)
+no-start old = record {
+  file = λ file fault is. inl (sym is.0);
+  keys = record { damaged = λ at is. absurd (cc is.1); spent = λ is. absurd (cc is.1); cause = λ is. absurd (cc is.1) };
+  names = record { damaged = λ at is. absurd (cc is.1); spent = λ is. absurd (cc is.1); cause = λ is. absurd (cc is.1) };
+  first_keys = λ fault is. absurd (not-second is.0);
   first_names = λ fault is. (begin 0 old (λ c. ⊤)).run;
   any_moment = λ told. record { before = λ t c le left. inl left };
-  since_sync_keys = λ told. inl (inr refl, (begin 0 old (old.leaves 0)).moments);
-  since_sync_names = λ told. inl (inl (start.NoMemory, refl), record { before = λ t c le left. inl left });
+  since_sync_keys = λ told. inl (inr (refl, refl), (begin 0 old (old.leaves 0)).moments);
+  since_sync_names = λ told. inl (inl (start.NoMemory, (refl, refl)), record { before = λ t c le left. inl left });
   run = both-of 0 old old (begin 0 old (λ c. ⊤)).run;
-  cause = λ file is. absurd (no-fault (ap (λ (f : WorldFault). f.fault) (one-fault _ _ is)));
 }
-  where
-    other : zero ≡ 1 → ⊥
-    other is = absurd (omega (arith, is))
 
-    no-damage : (at : ℕ) → start.NoMemory ≡ start.Damaged at → ⊥
-    no-damage at is = absurd (cc is)
-
-    not-spent : start.NoMemory ≡ start.Spent → ⊥
-    not-spent is = absurd (cc is)
-
-    no-fault : start.NoMemory ≡ start.StoreFault → ⊥
-    no-fault is = absurd (cc is)
-
-pub keys-not-started : (old new : DiskState) (lines : List PropLine) (fault : StartFault) → Moment old
-    → ((at : ℕ) → fault ≡ start.Damaged at → Tells old → IsDamagedAt (old.reads 0) at)
-    → (fault ≡ start.Spent → Tells old → (commands : List KeyCommand) × (table : Table) × IsKeyLog (old.reads 0) commands table × (table.opening ≡ 4294967295))
-    → (fault ≡ start.StoreFault → Rose old.faults new.faults)
-    → (Tells old → KeysMoments old new) → (Tells old → KeysSince old new (no-keys fault)) → RunOn 0 old new → StartHappens old new lines (Err (record { file = 0; fault = fault }))
-keys-not-started old new lines fault m damaged spent cause moments since run = record {
-  began = tt;
-  lists = tt;
-  file = λ file other is. inl (sym (ap (λ (f : WorldFault). f.file) (one-fault _ _ is)));
-  damaged_keys = λ at is. damaged at (ap (λ (f : WorldFault). f.fault) (one-fault _ _ is));
-  damaged_names = λ at is. absurd (other (ap (λ (f : WorldFault). f.file) (one-fault _ _ is)));
-  spent_keys = λ is told. let s = spent (ap (λ (f : WorldFault). f.fault) (one-fault _ _ is)) told in record { commands = s.0; table = s.1; log = s.2; last = s.3 };
-  spent_names = λ is. absurd (other (ap (λ (f : WorldFault). f.file) (one-fault _ _ is)));
-  first_keys = λ fault is. absurd (other (ap (λ (f : WorldFault). f.file) (one-fault _ _ is)));
-  first_names = λ fault is. run;
-  any_moment = λ told. keys-opened old new m told (moments told);
-  since_sync_keys = λ told. keys (since told);
-  since_sync_names = λ told. inl (inl (fault, refl), names-beside-keys old new (moments told));
-  run = both-of 0 old new run;
-  cause = λ file is. cause (ap (λ (f : WorldFault). f.fault) (one-fault _ _ is));
+pub keys-not-started : (old new : DiskState) (fault : StartFault) → Moment old → OpensKeys old new (λ other. fault ≡ other) → OpensBoth old new (FailsAt 0 fault)
+keys-not-started old new fault m o = record {
+  file = λ file other is. inl (sym is.0);
+  keys = why_for (λ other is. is.1) o.why;
+  names = record { damaged = λ at is. absurd (not-second is.0); spent = λ is. absurd (not-second is.0); cause = λ is. absurd (not-second is.0) };
+  first_keys = λ other is. absurd (not-second is.0);
+  first_names = λ other is. o.run;
+  any_moment = λ told. keys-opened old new m told (o.any_moment told);
+  since_sync_keys = λ told. ⊎_elim (λ failed. inl (inl (refl, failed.0), failed.1)) (λ since. inr since) (o.since_sync told);
+  since_sync_names = λ told. inl (inl (fault, (refl, refl)), names-beside-keys old new (o.any_moment told));
+  run = both-of 0 old new o.run;
 }
-  where
-    other : zero ≡ 1 → ⊥
-    other is = absurd (omega (arith, is))
 
-    in-file : (which : StartFault) → no-keys fault ≡ no-keys which → failed-by (record { file = 0; fault = fault }) ≡ failed-by (record { file = 0; fault = which })
-    in-file which is = ap (λ (f : StartFault). failed-by (record { file = 0; fault = f })) (cc is)
+-- the key log was opened, and then the edit log, or not
+module _ (old mid new : DiskState) (m : Moment old) (n : Moment mid) (opened : Tells old → KeysOpened old mid) (o : KeysDone old mid) where
+  both-moments : {fails : StartFault → Type 0} → OpensNames mid new fails → Tells old → LeavesBoth old new (LeftByStarts old)
+  both-moments then told = both-opened old mid new m o.run told (opened told) (o.any_moment told) (then.any_moment (tells-on 0 old mid o.run told))
 
-    keys : KeysSince old new (no-keys fault)
-        → ((IsErrOf (failed-by (record { file = 0; fault = fault })) (record { file = 0; fault = start.StoreFault }) ⊎ IsErrOf (failed-by (record { file = 0; fault = fault })) (record { file = 0; fault = start.NoMemory })) × LeavesOnly 0 old new (old.leaves 0))
-        ⊎ LeavesFrom 0 old new (IsLeftByStart (old.reads 0))
-    keys (inl (inl is, only)) = inl (inl (in-file start.StoreFault is), only)
-    keys (inl (inr is, only)) = inl (inr (in-file start.NoMemory is), only)
-    keys (inr synced) = inr synced
+  keys-still-synced : {fails : StartFault → Type 0} → OpensNames mid new fails → Tells old → LeavesFrom 0 old new (IsLeftByStart (old.reads 0))
+  keys-still-synced then told = keys-since old mid new n o.run told (keys-synced old mid o told) (then.any_moment (tells-on 0 old mid o.run told)) then.run
 
-pub names-not-started : (old mid new : DiskState) (lines : List PropLine) (keys : RunningKms) (fault : StartFault) → Moment old → Moment mid
-    → ((at : ℕ) → fault ≡ start.Damaged at → Tells mid → IsDamagedName (mid.reads 1) at)
-    → (fault ≡ start.Spent → Tells mid → (ops : List EditOp) × (made : Replayed) × IsNameLog (mid.reads 1) ops made × (made.table.opening ≡ 4294967295))
-    → (fault ≡ start.StoreFault → Rose mid.faults new.faults)
-    → (Tells old → KeysOpened old mid)
-    → (Tells old → KeysMoments old mid) → (Tells old → KeysSince old mid (Ok keys)) → RunOn 0 old mid → (Tells mid → NamesMoments mid new) → (Tells mid → NamesSince mid new (no-names fault)) → RunOn 1 mid new
-    → StartHappens old new lines (Err (record { file = 1; fault = fault }))
-names-not-started old mid new lines keys fault m n damaged spent cause good first since run second then other_run = record {
-  began = tt;
-  lists = tt;
-  file = λ file f is. inr (sym (ap (λ (x : WorldFault). x.file) (one-fault _ _ is)));
-  damaged_keys = λ at is. absurd (other (ap (λ (f : WorldFault). f.file) (one-fault _ _ is)));
-  damaged_names = λ at is told. subst (λ (b : List ℕ). IsDamagedName b at) (run.other_reads told) (damaged at (ap (λ (f : WorldFault). f.fault) (one-fault _ _ is)) (tells-on 0 old mid run told));
-  spent_keys = λ is. absurd (other (ap (λ (f : WorldFault). f.file) (one-fault _ _ is)));
-  spent_names = λ is told.
-      let s = spent (ap (λ (f : WorldFault). f.fault) (one-fault _ _ is)) (tells-on 0 old mid run told) in
-      record { ops = s.0; made = s.1; log = subst (λ (b : List ℕ). IsNameLog b s.0 s.1) (run.other_reads told) s.2; last = s.3 };
-  first_keys = λ fault is told. keys-still-opened old mid new (good told) other_run;
-  first_names = λ fault is. absurd (other (ap (λ (f : WorldFault). f.file) (one-fault _ _ is)));
-  any_moment = moments;
-  since_sync_keys = λ told. inr (keys-since old mid new n run told (keys-synced old mid keys (since told)) (second (tells-on 0 old mid run told)) other_run);
-  since_sync_names = λ told. names told (then (tells-on 0 old mid run told));
-  run = both-runs old mid new run other_run;
-  cause = λ file is. rose-since old.faults mid.faults new.faults run.faults (cause (ap (λ (f : WorldFault). f.fault) (one-fault _ _ is)));
+  pub names-not-started : (fault : StartFault) → OpensNames mid new (λ other. fault ≡ other) → OpensBoth old new (FailsAt 1 fault)
+  names-not-started fault then = record {
+    file = λ file other is. inr (sym is.0);
+    keys = record { damaged = λ at is. absurd (not-first is.0); spent = λ is. absurd (not-first is.0); cause = λ is. absurd (not-first is.0) };
+    names = record {
+      damaged = λ at is told. subst (λ (b : List ℕ). IsDamagedName b at) (o.run.other_reads told) (then.why.damaged at is.1 (tells-on 0 old mid o.run told));
+      spent = λ is told. subst SpentNames (o.run.other_reads told) (then.why.spent is.1 (tells-on 0 old mid o.run told));
+      cause = λ is. rose_since o.run.faults (then.why.cause is.1);
+    };
+    first_keys = λ other is told. keys-still-opened old mid new (opened told) then.run;
+    first_names = λ other is. absurd (not-first is.0);
+    any_moment = both-moments then;
+    since_sync_keys = λ told. inr (keys-still-synced then told);
+    since_sync_names = λ told. ⊎_elim (λ failed. inl (inr (refl, failed.0), names-as-before old mid new o.run (o.any_moment told) failed.1)) (λ since. inr (names-since old mid new o.run told since)) (then.since_sync (tells-on 0 old mid o.run told));
+    run = both-runs old mid new o.run then.run;
+  }
+
+  pub both-started : {fails : ℕ → StartFault → Type 0} → ((file : ℕ) (fault : StartFault) → fails file fault → ⊥) → NamesDone mid new → OpensBoth old new fails
+  both-started never then = record {
+    file = λ file fault is. absurd (never file fault is);
+    keys = record { damaged = λ at is. absurd (never 0 _ is); spent = λ is. absurd (never 0 _ is); cause = λ is. absurd (never 0 _ is) };
+    names = record { damaged = λ at is. absurd (never 1 _ is); spent = λ is. absurd (never 1 _ is); cause = λ is. absurd (never 1 _ is) };
+    first_keys = λ fault is. absurd (never 1 fault is);
+    first_names = λ fault is. absurd (never 0 fault is);
+    any_moment = both-moments then;
+    since_sync_keys = λ told. inr (keys-still-synced then told);
+    since_sync_names = λ told. inr (names-since old mid new o.run told (names-synced mid new then (tells-on 0 old mid o.run told)));
+    run = both-runs old mid new o.run then.run;
+  }
+
+-- a start, by its result
+
+-- the opening of one log
+module _ {file : ℕ} {Damage : List ℕ → ℕ → Type 0} {Used : List ℕ → Type 0} {Left : List ℕ → List ℕ → Type 0} {old new : DiskState} {T : Type 0} where
+  pub done : (x : T) → Opens file Damage Used Left old new (λ fault. IsErrOf (Ok x) fault) → Opens file Damage Used Left old new (λ fault. ⊥)
+  done x o = opens_for (λ fault none. absurd none) (λ is. absurd (cc is)) o
+
+  pub failed : (why : StartFault) → Opens file Damage Used Left old new (λ fault. IsErrOf {T = T} (Err why) fault) → Opens file Damage Used Left old new (λ fault. why ≡ fault)
+  failed why o = opens_for (λ fault is. ap Err is) (λ is. cc is) o
+
+-- other words for the faults
+pub both-for : {old new : DiskState} {fails fails' : ℕ → StartFault → Type 0} → ((file : ℕ) (fault : StartFault) → fails' file fault → fails file fault) → ((file : ℕ) (fault : StartFault) → fails file fault → fails' file fault)
+    → OpensBoth old new fails → OpensBoth old new fails'
+both-for f g o = record {
+  file = λ file fault is. o.file file fault (f file fault is);
+  keys = why_for (f 0) o.keys;
+  names = why_for (f 1) o.names;
+  first_keys = λ fault is. o.first_keys fault (f 1 fault is);
+  first_names = λ fault is. o.first_names fault (f 0 fault is);
+  any_moment = o.any_moment;
+  since_sync_keys = λ told. ⊎_elim (λ no. inl (⊎_elim (λ is. inl (g 0 start.StoreFault is)) (λ is. inr (g 0 start.NoMemory is)) no.0, no.1)) (λ since. inr since) (o.since_sync_keys told);
+  since_sync_names = λ told. ⊎_elim (λ no. inl (⊎_elim (λ is. inl (is.0, g 0 is.0 is.1)) (λ is. inr (g 1 start.StoreFault is)) no.0, no.1)) (λ since. inr since) (o.since_sync_names told);
+  run = o.run;
 }
-  where
-    other : suc zero ≡ 0 → ⊥
-    other is = absurd (omega (arith, is))
 
-    names : Tells old → NamesSince mid new (no-names fault)
-        → ((((f : StartFault) × IsErrOf (failed-by (record { file = 1; fault = fault })) (record { file = 0; fault = f })) ⊎ IsErrOf (failed-by (record { file = 1; fault = fault })) (record { file = 1; fault = start.StoreFault }))
-        × LeavesBoth old new (λ c. old.leaves 1 (c 1)))
-        ⊎ LeavesFrom 1 old new (IsLeftByNameStart (old.reads 1))
-    names told (inl (is, only)) = inl (inr (ap (λ (f : StartFault). failed-by (record { file = 1; fault = f })) (cc is)), names-as-before old mid new run (first told) only)
-    names told (inr synced) = inr (names-since old mid new run told synced)
+abbrev failed-by : WorldFault → Result RunningWorld WorldFault
+failed-by why = Err why
 
-    moments : Tells old → LeavesBoth old new (LeftByStarts old)
-    moments told = both-opened old mid new m run told (good told) (first told) (second (tells-on 0 old mid run told))
+-- the fault of the result
+pub fails-at : (result : Result RunningWorld WorldFault) (why : WorldFault) → IsErrOf result why → (file : ℕ) (fault : StartFault) → IsErrOf result (record { file = file; fault = fault }) → FailsAt why.file why.fault file fault
+fails-at result why is file fault that =
+    let one : why ≡ record { file = file; fault = fault } = cc (is, that) in
+    (ap (λ (w : WorldFault). w.file) one, ap (λ (w : WorldFault). w.fault) one)
 
-pub started : (old mid new : DiskState) (lines : List PropLine) (r : RunningWorld) → Moment old → Moment mid → r.keys.store.log.file ≡ 0 → r.names.store.log.log.file ≡ 1 → ServicesFit (world_of r)
-    → r.kept ≡ record { notes = []; replies = [] } → ListsFor r.keys.acls lines → Starts old mid (running r.keys) → NamesStart mid new r.names
-    → (Tells old → KeysMoments old mid) → (Tells old → KeysSince old mid (Ok r.keys)) → RunOn 0 old mid → (Tells mid → NamesMoments mid new) → (Tells mid → NamesSince mid new (Ok r.names)) → RunOn 1 mid new
-    → StartHappens old new lines (Ok r)
-started old mid new lines r m n keys_file names_file fit nothing lists ks ns first since run second then other_run = record {
-  began = begins old mid new r m keys_file names_file fit nothing run other_run ks ns;
-  lists = lists;
-  file = λ file fault is. absurd (cc is);
-  damaged_keys = λ at is. absurd (cc is);
-  damaged_names = λ at is. absurd (cc is);
-  spent_keys = λ is. absurd (cc is);
-  spent_names = λ is. absurd (cc is);
-  first_keys = λ fault is. absurd (cc is);
-  first_names = λ fault is. absurd (cc is);
-  any_moment = moments;
-  since_sync_keys = λ told. inr (keys-since old mid new n run told (keys-synced old mid r.keys (since told)) (second (tells-on 0 old mid run told)) other_run);
-  since_sync_names = λ told. inr (names-since old mid new run told (names-synced mid new r.names (then (tells-on 0 old mid run told))));
-  run = both-runs old mid new run other_run;
-  cause = λ file is. absurd (cc is);
-}
-  where
-    moments : Tells old → LeavesBoth old new (LeftByStarts old)
-    moments told = both-opened old mid new m run told (keys-are-opened old mid (running r.keys) keys_file ks told) (first told) (second (tells-on 0 old mid run told))
+pub fails-so : (result : Result RunningWorld WorldFault) (why : WorldFault) → IsErrOf result why → (file : ℕ) (fault : StartFault) → FailsAt why.file why.fault file fault → IsErrOf result (record { file = file; fault = fault })
+fails-so result why is file fault at = is ∙ (λ i. failed-by (record { file = at.0 i; fault = at.1 i }))
+
+pub failed-at : {old new : DiskState} (file : ℕ) (fault : StartFault) → OpensBoth old new (FailsAt file fault) → OpensBoth old new (λ other_file other. IsErrOf (failed-by (record { file = file; fault = fault })) (record { file = other_file; fault = other }))
+failed-at file fault o =
+    let why : WorldFault = record { file = file; fault = fault } in
+    both-for (fails-at (failed-by why) why refl) (fails-so (failed-by why) why refl) o

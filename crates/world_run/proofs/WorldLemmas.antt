@@ -6,7 +6,7 @@ use Rattle.key_rows.specs.Table.{Table}
 use Rattle.kms_core.specs.Draws.{words_of_draw}
 use Rattle.kms_core.specs.State.{IsService, ServiceState, opened, settled}
 use Rattle.edit_ops.specs.declared.ops.EditOp.{EditOp}
-use Rattle.edit_ops.specs.declared.ops.EditOp.TheVariants.{Opened, Mkdir, File, Remove, Zone, Allow, Disallow, Snap, Unsnap}
+use Rattle.edit_ops.specs.declared.ops.EditOp.TheVariants.{Opened, Mkdir, File, Remove, Rename, Zone, Allow, Disallow, Snap, Unsnap}
 use Rattle.name_store.specs.Store.{is_opening}
 use Rattle.name_store.specs.Table.{NameTable, after_table, settled_table}
 use Rattle.name_core.specs.declared.asks.OpenAsk.{OpenAsk}
@@ -15,7 +15,7 @@ use Rattle.world_run.specs.declared.kept.KeptReply.{KeptReply}
 use Rattle.world_run.specs.World.{WorldState, with_note, with_reply}
 use Rattle.world_run.specs.Ledger.{Draw, Hidden, Ledger, behind_words}
 use Rattle.world_run.specs.Promise.{In}
-use Rattle.world_run.specs.Linked.{DrawsFit, FilesLinked, IsDrawn, IsOldBirth, KeyLinked, LedgerFits, LinkedWorld, RepliesLinked, Replied, WordsApart, key_in_reply}
+use Rattle.world_run.specs.Linked.{DrawsFit, FilesLinked, IsDrawn, IsOldBirth, KeyLinked, LedgerFits, LinkedWorld, NoneReady, RepliesLinked, Replied, WordsApart, key_in_reply}
 use Rattle.world_run.proofs.Laters.{KeysLater, LaterAt, draw-later, later-opened, later-settled, opens-later, then-later}
 use Rattle.world_run.proofs.Members.{in-more, numbered-in, numbered-more, numbered-within, some-is}
 use Rattle.world_run.proofs.RowLemmas.{InPlace, in-place}
@@ -51,13 +51,14 @@ replies-later ledger replied place IsBirth olds keys replies draws later l =
 pub draws-later : (ledger : Ledger) (replied : List (Option Draw)) (place : ℕ) (IsBirth IsLater : ℕ → Type 0) → ((b : ℕ) → IsBirth b → IsLater b) → DrawsFit ledger replied place IsBirth → DrawsFit ledger replied place IsLater
 draws-later ledger replied place IsBirth IsLater later d = record { below = d.below; one_place = d.one_place; born = λ x i. later x.birth (d.born x i); recent = d.recent }
 
-pub linked-keys : (w : WorldState) (h : Hidden) (keys : ServiceState) → KeysLater w.keys.keys.table keys.keys.table → LinkedWorld w h → LinkedWorld (record w { keys = keys }) h
-linked-keys w h keys later l =
+pub linked-keys : (w : WorldState) (h : Hidden) (keys : ServiceState) → KeysLater w.keys.keys.table keys.keys.table → NoneReady keys.keys.ready.queues → LinkedWorld w h → LinkedWorld (record w { keys = keys }) h
+linked-keys w h keys later none l =
     record {
       files = λ kept. files-later h.ledger h.replied h.place (IsOldBirth w.keys.keys.table) w.keys.keys.table.rows keys.keys.table.rows (settled_names kept w.names).table l.draws later.rows (l.files kept);
       replies = replies-later h.ledger h.replied h.place (IsOldBirth w.keys.keys.table) w.keys.keys.table.rows keys.keys.table.rows w.kept.replies l.draws later.rows l.replies;
       draws = draws-later h.ledger h.replied h.place (IsOldBirth w.keys.keys.table) (IsOldBirth keys.keys.table) later.births l.draws;
       ledger = l.ledger;
+      ready = none;
     }
 
 pub linked-words : (w : WorldState) (h : Hidden) (drawn : ℕ) → LinkedWorld w h → LinkedWorld w (behind_words drawn h)
@@ -67,15 +68,17 @@ linked-words w h drawn l =
       replies = l.replies;
       draws = record { below = λ x i. let t = l.draws.below x i in omega (arith, t); one_place = l.draws.one_place; born = l.draws.born; recent = l.draws.recent };
       ledger = l.ledger;
+      ready = l.ready;
     }
 
 pub apart-words : (h : Hidden) (drawn : ℕ) → WordsApart h → WordsApart (behind_words drawn h)
 apart-words h drawn f = record { taken = λ d i. let t = f.taken d i in omega (arith, t); apart = f.apart }
 
 -- the keys that a start finds, with the pending command kept or dropped
-pub linked-restart : (w : WorldState) (h : Hidden) (kept : Bool) (table : Table) → table ≡ (settled kept w.keys).table → IsService w.keys → LinkedWorld w h → LinkedWorld (record w { keys = opened table }) h
+pub linked-restart : (w : WorldState) (h : Hidden) (kept : Bool) (table : Table) → table ≡ (settled kept w.keys).table → IsService w.keys → LinkedWorld w h → LinkedWorld (record w { keys = opened w.keys.keys.ready table }) h
 linked-restart w h kept table is fit l =
-    linked-keys w h (opened table) (then-later w.keys.keys.table table (opened table).keys.table (subst (KeysLater w.keys.keys.table) (sym is) (later-settled kept w.keys fit)) (later-opened table)) l
+    let then : ServiceState = opened w.keys.keys.ready table in
+    linked-keys w h then (then-later w.keys.keys.table table then.keys.table (subst (KeysLater w.keys.keys.table) (sym is) (later-settled kept w.keys fit)) (later-opened w.keys.keys.ready table)) tt l
 
 -- another namesystem
 
@@ -94,6 +97,7 @@ same-opening t (Opened opening) h = absurd cc
 same-opening t (Mkdir id p) h = refl
 same-opening t (File id p edek) h = refl
 same-opening t (Remove p) h = refl
+same-opening t (Rename p q) h = refl
 same-opening t (Zone p key) h = refl
 same-opening t (Allow p) h = refl
 same-opening t (Disallow p) h = refl
@@ -124,7 +128,7 @@ ledger-more ledger replies replied asks next more over f =
 
 pub linked-names : (w : WorldState) (h : Hidden) (names : NameService) → ((kept : Bool) → FilesLinked h.ledger w.keys.keys.table.rows (settled_names kept names).table)
     → LedgerFits h.ledger w.kept.replies h.replied names.names.asks (next_id names.names) → LinkedWorld w h → LinkedWorld (record w { names = names }) h
-linked-names w h names files fits l = record { files = files; replies = l.replies; draws = l.draws; ledger = fits }
+linked-names w h names files fits l = record { files = files; replies = l.replies; draws = l.draws; ledger = fits; ready = l.ready }
 
 -- the one that a start finds, with the pending operation kept or dropped
 pub linked-reopened : (w : WorldState) (h : Hidden) (kept : Bool) (table : NameTable) → table ≡ (settled_names kept w.names).table → IsNames w.names → LinkedWorld w h → LinkedWorld (record w { names = started table }) h
@@ -172,6 +176,7 @@ linked-ask w h q names table asks next new l =
       ledger = subst (λ (open_asks : List OpenAsk). LedgerFits h.ledger w.kept.replies h.replied open_asks (next_id names)) (sym asks)
           (subst (λ (m : ℕ). LedgerFits h.ledger w.kept.replies h.replied (w.names.names.asks ++ q ∷ []) m) (sym next)
           (asks-more h.ledger w.kept.replies h.replied w.names.names.asks q (next_id w.names.names) new l.ledger));
+      ready = l.ready;
     }
 
 -- a reply that is kept, with its draw
@@ -182,6 +187,17 @@ pub record NewReply (h : Hidden) (keys : ServiceState) (drawn : ℕ) (r : KeptRe
   pub ends : (d : Draw) → o ≡ Some d → d.place + words_of_draw (length d.dek) ≤ h.place + drawn
   pub born : (d : Draw) → o ≡ Some d → d.birth ≤ keys.keys.table.greatest
   pub recent : (d : Draw) → o ≡ Some d → 2 ^ 32 ≤ d.birth
+
+-- for keys of the same table
+pub new-same : (h : Hidden) (old keys : ServiceState) (drawn : ℕ) (r : KeptReply) (o : Option Draw) → keys.keys.table ≡ old.keys.table → NewReply h old drawn r o → NewReply h keys drawn r o
+new-same h old keys drawn r o same n =
+    record {
+      opens = subst (λ (t : Table). KeyLinked t.rows (key_in_reply r) o) (sym same) n.opens;
+      begins = n.begins;
+      ends = n.ends;
+      born = λ d is. subst (λ (t : Table). d.birth ≤ t.greatest) (sym same) (n.born d is);
+      recent = n.recent;
+    }
 
 drawn-before : (ledger : Ledger) (replied : List (Option Draw)) (o : Option Draw) (d : Draw) → IsDrawn ledger (replied ++ o ∷ []) d → IsDrawn ledger replied d ⊎ (Some d ≡ o)
 drawn-before ledger replied o d (inl i) = inl (inl i)
@@ -279,13 +295,14 @@ ledger-reply w h keys drawn r o n f l g =
       ];
     }
 
-pub linked-reply : (w : WorldState) (h : Hidden) (keys : ServiceState) (drawn : ℕ) (r : KeptReply) (o : Option Draw) → KeysLater w.keys.keys.table keys.keys.table → NewReply h keys drawn r o → LinkedWorld w h
+pub linked-reply : (w : WorldState) (h : Hidden) (keys : ServiceState) (drawn : ℕ) (r : KeptReply) (o : Option Draw) → KeysLater w.keys.keys.table keys.keys.table → NoneReady keys.keys.ready.queues → NewReply h keys drawn r o → LinkedWorld w h
     → LinkedWorld (with_reply r (record w { keys = keys })) (record (behind_words drawn h) { replied = h.replied ++ o ∷ [] })
-linked-reply w h keys drawn r o later n l =
+linked-reply w h keys drawn r o later none n l =
     let replies = replies-later h.ledger h.replied h.place (IsOldBirth w.keys.keys.table) w.keys.keys.table.rows keys.keys.table.rows w.kept.replies l.draws later.rows l.replies in
     record {
       files = λ kept. files-later h.ledger h.replied h.place (IsOldBirth w.keys.keys.table) w.keys.keys.table.rows keys.keys.table.rows (settled_names kept w.names).table l.draws later.rows (l.files kept);
       replies = replies-reply w h keys drawn r o n l.draws replies;
       draws = draws-reply w h keys drawn r o later.births n l.draws;
       ledger = ledger-reply w h keys drawn r o n l.draws l.replies l.ledger;
+      ready = none;
     }

@@ -7,6 +7,7 @@ use Rattle.frame_log.specs.declared.fault.StartFault.TheVariants as start
 use Rattle.edit_ops.specs.declared.ops.EditOp.{EditOp}
 use Rattle.key_rows.specs.declared.rows.KeyCommand.{KeyCommand}
 use Rattle.key_rows.specs.Table.{Table, after}
+use Rattle.prop_text.specs.SizeValues.{SizeValues}
 use Rattle.prop_text.specs.declared.lines.PropLine.{PropLine}
 use Rattle.kms_core.specs.State.{settled}
 use Rattle.kms_store.specs.Store.{IsKeyLog, IsLeftByStart, IsSoundLog, next_opening}
@@ -107,12 +108,12 @@ pub record BeganLogs (old new : DiskState) (r : RunningWorld) (table : Table) (n
   pub names_room : names.opening < 4294967295
   pub holds : HoldsLogs new r (record { keys = commands ++ next_opening table ∷ []; names = ops ++ next_opening_of_names names ∷ [] })
 
--- A start found a table in each log, and recorded the next opening after its records. If a run may start from every image of the old
+-- A start with these sizes found a table in each log, and recorded the next opening after its records. If a run may start from every image of the old
 -- files, with a ledger of draws of earlier runs, the first world is linked with it.
-pub record Begins (old new : DiskState) (r : RunningWorld) : Type 0 where
+pub record Begins (sizes : SizeValues) (old new : DiskState) (r : RunningWorld) : Type 0 where
   pub table : Table
   pub names : NameTable
-  pub first : world_of r ≡ first_world table names
+  pub first : world_of r ≡ first_world sizes table names
   pub log : Tells old → BeganLogs old new r table names
   pub linked : Tells old → (past : Past) → StartsSound old past → LinkedWorld (world_of r) (drawn_before past)
   pub files_open : Tells old → (past : Past) → StartsSound old past → ZoneFilesOpen (world_of r) (drawn_before past)

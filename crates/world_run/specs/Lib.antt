@@ -6,6 +6,7 @@ pub mod Laws
 pub mod Linked
 pub mod Own
 pub mod Promise
+pub mod RenamePaths
 pub mod SnapPaths
 pub mod Starts
 pub mod Step

@@ -1,7 +1,9 @@
 -- What stays true from event to event, and gives the promise on zone files.
 use Rattle.std.specs.Prelude.{◌≡◌, ◌⊎◌, ◌+◌, ◌*◌, ◌^◌, ◌<◌, ◌≤◌, ℕ, ⊤, Bool, List, [], ◌∷◌, length, Option, None, Some}
+use Rattle.std.specs.List.{AllByRecursion}
 use Rattle.hk_base.specs.Disk.{DiskState, Image, IsImage}
 use Rattle.hk_base.specs.declared.names.Edek.{Edek}
+use Rattle.eek_queues.specs.Queues.{Queue}
 use Rattle.inode_tree.specs.declared.rows.Row.{Row}
 use Rattle.inode_tree.specs.Rows.{Entry}
 use Rattle.edit_ops.specs.declared.ops.EditOp.{EditOp}
@@ -114,12 +116,17 @@ pub record LedgerFits (ledger : Ledger) (replies : List KeptReply) (replied : Li
   -- the draw of an entry is of no other ask's reply
   pub its_ask : (id : ℕ) (r : KeptReply) (d : Draw) → In (id, d) ledger → Replied replies replied r (Some d) → IsReplyTo id r
 
--- From event to event, with and without the pending operation of the namesystem.
+-- no queue has a ready key
+abbrev pub NoneReady : List Queue → Type 0
+NoneReady queues = AllByRecursion (λ (q : Queue). q.ready ≡ []) queues
+
+-- From event to event, with and without the pending operation of the namesystem. No event makes keys ready.
 pub record LinkedWorld (w : WorldState) (h : Hidden) : Type 0 where
   pub files : (kept : Bool) → FilesLinked h.ledger w.keys.keys.table.rows (settled_names kept w.names).table
   pub replies : RepliesLinked w.keys.keys.table.rows w.kept.replies h.replied
   pub draws : DrawsFit h.ledger h.replied h.place (IsOldBirth w.keys.keys.table)
   pub ledger : LedgerFits h.ledger w.kept.replies h.replied w.names.names.asks (next_id w.names.names)
+  pub ready : NoneReady w.keys.keys.ready.queues
 
 -- What is true of two tables that are found in the files, while nothing is kept: files are linked, the births of the ledger are of
 -- openings that the key log records, and its ids of openings that the edit log records.

@@ -25,6 +25,7 @@ use Rattle.hk_events.specs.declared.event.Line.TheVariants as line
 use Rattle.world_run.specs.declared.kept.KeptReply.{KeptReply}
 use Rattle.world_run.specs.declared.kept.KeptReply.TheVariants.{ToAsk}
 use Rattle.world_run.specs.Acknowledged.{Acknowledged, Survives}
+use Rattle.world_run.specs.RenamePaths.{read_rename_paths, rename_along}
 use Rattle.world_run.specs.SnapPaths.{read_snap_path, snap_at, unsnap_at}
 use Rattle.world_run.specs.Step.{delete_with, finish_line}
 use Rattle.world_run.specs.World.{WorldState, numbered}
@@ -80,6 +81,7 @@ OwnOfEvent w event.RestartKms told w' kept op = NothingMore kept op
 OwnOfEvent w event.RestartName told w' kept op = AnOpening kept op
 OwnOfEvent w (event.Mkdir user path) told w' kept op = OwnOfPath w.names call.Mkdir (read_path path) told w'.names kept op
 OwnOfEvent w (event.Delete user path recursive) told w' kept op = OwnOfPath w.names (delete_with recursive) (read_path path) told w'.names kept op
+OwnOfEvent w (event.Rename user path to) told w' kept op = OwnOfPath w.names rename_along (read_rename_paths path to) told w'.names kept op
 OwnOfEvent w (event.Info user path) told w' kept op = OwnOfPath w.names call.Info (read_any_path path) told w'.names kept op
 OwnOfEvent w (event.List user path) told w' kept op = OwnOfPath w.names call.List (read_any_path path) told w'.names kept op
 OwnOfEvent w (event.Allow user path) told w' kept op = OwnOfPath w.names call.Allow (read_path path) told w'.names kept op

@@ -1,7 +1,6 @@
 -- The path of a directory with the name of one of its snapshots, as an event gives them.
 use Rattle.std.specs.Prelude.{ℕ, List, Option, Some, None, if◌then◌else◌}
-use Rattle.std.specs.Str.{is_utf8}
-use Rattle.name_calls.specs.Paths.{read_path}
+use Rattle.name_calls.specs.Paths.{is_component, read_path}
 use Rattle.name_calls.specs.declared.calls.NameCall.{NameCall}
 use Rattle.name_calls.specs.declared.calls.NameCall.TheVariants as call
 use Rattle.name_calls.specs.declared.paths.NPath.{NPath}
@@ -9,9 +8,9 @@ use Rattle.world_run.specs.declared.snap_path.SnapPath.{SnapPath}
 
 abbrev pub with_name : List ℕ → Option NPath → Option SnapPath
 with_name name None = None
-with_name name (Some path) = if is_utf8 name then Some (record { path = path; name = name }) else None
+with_name name (Some path) = if is_component name then Some (record { path = path; name = name }) else None
 
--- The path keeps the rule of paths, and the name is UTF-8. A call with a name that can't be a snapshot's is refused for itself.
+-- the path keeps the rule of paths, and the name can be a name of a path
 abbrev pub read_snap_path : List ℕ → List ℕ → Option SnapPath
 read_snap_path path name = with_name name (read_path path)
 

@@ -1,36 +1,16 @@
 -- What a start of both services does, done or not.
-use Rattle.std.specs.Prelude.{◌≡◌, ◌⊎◌, ◌<◌, ℕ, List, [], ◌∷◌, ◌++◌, IfOk, IsErrOf, None, Result}
+use Rattle.std.specs.Prelude.{◌≡◌, ◌⊎◌, ◌<◌, ℕ, List, [], ◌∷◌, ◌++◌, None}
 use Rattle.hk_base.specs.Disk.{DiskState, LeavesOnly, RunOn, Tells}
-use Rattle.hk_base.specs.Faults.{Rose}
+use Rattle.frame_log.specs.Opens.{FailsFor}
 use Rattle.frame_log.specs.Stands.{LeavesFrom}
 use Rattle.frame_log.specs.declared.fault.StartFault.{StartFault}
 use Rattle.frame_log.specs.declared.fault.StartFault.TheVariants as start
-use Rattle.edit_ops.specs.declared.ops.EditOp.{EditOp}
 use Rattle.key_rows.specs.declared.rows.KeyCommand.{KeyCommand}
 use Rattle.key_rows.specs.Table.{Table, after}
-use Rattle.prop_text.specs.declared.lines.PropLine.{PropLine}
-use Rattle.kms_acls.specs.StandsFor.{StandsFor as ListsFor}
-use Rattle.kms_store.specs.Store.{IsDamagedAt, IsKeyLog, IsLeftByStart, IsSoundLog, next_opening}
-use Rattle.name_store.specs.Table.{Replayed}
-use Rattle.name_store.specs.Store.{IsDamagedAt as IsDamagedName, IsLeftByStart as IsLeftByNameStart, IsNameLog}
-use Rattle.world_run.specs.declared.fault.WorldFault.{WorldFault}
+use Rattle.kms_store.specs.Store.{IsDamagedAt, IsKeyLog, IsLeftByStart, IsSoundLog, SpentKeys, next_opening}
+use Rattle.name_store.specs.Store.{IsDamagedAt as IsDamagedName, IsLeftByStart as IsLeftByNameStart, SpentNames}
 use Rattle.world_run.specs.Acknowledged.{LeavesBoth, RunBoth}
-use Rattle.world_run.specs.Keeps.{Begins, LeftByStarts}
-use Rattle.world_run.specs.World.{RunningWorld}
-
--- the last opening of the key log is recorded, and of the edit log
-
-pub record SpentKeys (bytes : List ℕ) : Type 0 where
-  pub commands : List KeyCommand
-  pub table : Table
-  pub log : IsKeyLog bytes commands table
-  pub last : table.opening ≡ 4294967295
-
-pub record SpentNames (bytes : List ℕ) : Type 0 where
-  pub ops : List EditOp
-  pub made : Replayed
-  pub log : IsNameLog bytes ops made
-  pub last : made.table.opening ≡ 4294967295
+use Rattle.world_run.specs.Keeps.{LeftByStarts}
 
 -- The key log was found good and opened: the commands found and the new opening are acknowledged, and each crash leaves them in the
 -- file.
@@ -41,26 +21,23 @@ pub record KeysOpened (old new : DiskState) : Type 0 where
   pub room : table.opening < 4294967295
   pub left : (bytes : List ℕ) → new.leaves 0 bytes → IsSoundLog bytes (commands ++ next_opening table ∷ []) None (after table (next_opening table))
 
--- The result of a start under the properties of these lines: a world, or the first file that has a fault, and the fault. If that is
+-- only at this file, and with this fault
+abbrev pub FailsAt : ℕ → StartFault → ℕ → StartFault → Type 0
+FailsAt file fault other_file other = (file ≡ other_file) × (fault ≡ other)
+
+-- A start opens both logs, or fails: `fails` says at which file, and with which fault. That is the first file that has one. If it is
 -- the second file, the first was found to be a key log and opened; if it is the first, the second was not touched.
-pub record StartHappens (old new : DiskState) (lines : List PropLine) (result : Result RunningWorld WorldFault) : Type 0 where
-  pub began : IfOk result (Begins old new)
-  pub lists : IfOk result (λ (world : RunningWorld). ListsFor world.keys.acls lines)
-  pub file : (file : ℕ) (fault : StartFault) → IsErrOf result (record { file = file; fault = fault }) → (file ≡ 0) ⊎ (file ≡ 1)
-  pub damaged_keys : (at : ℕ) → IsErrOf result (record { file = 0; fault = start.Damaged at }) → Tells old → IsDamagedAt (old.reads 0) at
-  pub damaged_names : (at : ℕ) → IsErrOf result (record { file = 1; fault = start.Damaged at }) → Tells old → IsDamagedName (old.reads 1) at
-  pub spent_keys : IsErrOf result (record { file = 0; fault = start.Spent }) → Tells old → SpentKeys (old.reads 0)
-  pub spent_names : IsErrOf result (record { file = 1; fault = start.Spent }) → Tells old → SpentNames (old.reads 1)
-  pub first_keys : (fault : StartFault) → IsErrOf result (record { file = 1; fault = fault }) → Tells old → KeysOpened old new
-  pub first_names : (fault : StartFault) → IsErrOf result (record { file = 0; fault = fault }) → RunOn 0 old new
+pub record OpensBoth (old new : DiskState) (fails : ℕ → StartFault → Type 0) : Type 0 where
+  pub file : (file : ℕ) (fault : StartFault) → fails file fault → (file ≡ 0) ⊎ (file ≡ 1)
+  pub keys : FailsFor 0 IsDamagedAt SpentKeys old new (fails 0)
+  pub names : FailsFor 1 IsDamagedName SpentNames old new (fails 1)
+  pub first_keys : (fault : StartFault) → fails 1 fault → Tells old → KeysOpened old new
+  pub first_names : (fault : StartFault) → fails 0 fault → RunOn 0 old new
+  -- A crash at any moment leaves what it might have left before, or files on the way: first the key log is opened, and then the edit
+  -- log. If a run may start from every image before, with a ledger, it may start from every image since.
   pub any_moment : Tells old → LeavesBoth old new (LeftByStarts old)
-  -- of each file a crash leaves only what its opening leaves of the log found, since its first sync; without that, what it might have
-  -- left before
-  pub since_sync_keys : Tells old →
-      ((IsErrOf result (record { file = 0; fault = start.StoreFault }) ⊎ IsErrOf result (record { file = 0; fault = start.NoMemory })) × LeavesOnly 0 old new (old.leaves 0))
-      ⊎ LeavesFrom 0 old new (IsLeftByStart (old.reads 0))
-  pub since_sync_names : Tells old →
-      ((((fault : StartFault) × IsErrOf result (record { file = 0; fault = fault })) ⊎ IsErrOf result (record { file = 1; fault = start.StoreFault })) × LeavesBoth old new (λ c. old.leaves 1 (c 1)))
-      ⊎ LeavesFrom 1 old new (IsLeftByNameStart (old.reads 1))
+  -- Since the first sync of its opening, a crash leaves of each file the latter alone, whatever the result. If that sync failed, or
+  -- the opening wasn't reached, nothing was written to the file, and a crash leaves of it what it might have left before.
+  pub since_sync_keys : Tells old → ((fails 0 start.StoreFault ⊎ fails 0 start.NoMemory) × LeavesOnly 0 old new (old.leaves 0)) ⊎ LeavesFrom 0 old new (IsLeftByStart (old.reads 0))
+  pub since_sync_names : Tells old → ((((fault : StartFault) × fails 0 fault) ⊎ fails 1 start.StoreFault) × LeavesBoth old new (λ c. old.leaves 1 (c 1))) ⊎ LeavesFrom 1 old new (IsLeftByNameStart (old.reads 1))
   pub run : RunBoth old new
-  pub cause : (file : ℕ) → IsErrOf result (record { file = file; fault = start.StoreFault }) → Rose old.faults new.faults

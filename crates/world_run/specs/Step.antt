@@ -44,6 +44,7 @@ use Rattle.hk_events.specs.declared.event.Line.TheVariants as line
 use Rattle.world_run.specs.declared.kept.KeptReply.{KeptReply}
 use Rattle.world_run.specs.declared.kept.KeptReply.TheVariants.{ToAsk}
 use Rattle.world_run.specs.Acknowledged.{Acknowledged, nothing_acknowledged, of_keys, of_names}
+use Rattle.world_run.specs.RenamePaths.{read_rename_paths, rename_along}
 use Rattle.world_run.specs.SnapPaths.{read_snap_path, snap_at, unsnap_at}
 use Rattle.world_run.specs.World.{WorldState, next_note, next_reply, numbered, with_names, with_note, with_reply}
 
@@ -68,8 +69,8 @@ pub record Recovers (s : ServiceState) (table : Table) (commands : List KeyComma
   pub table_is : table ≡ (settled kept s).table
   pub commands_are : commands ≡ settled_commands kept s.pending ++ next_opening table ∷ []
 
--- The key management service is dropped, and opened again from its log. All else stays. If the disk tells its content, the service
--- finds what the log is known to hold.
+-- The key management service is dropped, and opened again from its log with queues of the same sizes, without ready keys. All else stays.
+-- If the disk tells its content, the service finds what the log is known to hold.
 pub record Restarts (w : WorldState) (tells : Type 0) (told : Line) (drawn : ℕ) (logged : Acknowledged) (w' : WorldState) : Type 0 where
   pub table : Table
   pub commands : List KeyCommand
@@ -77,7 +78,7 @@ pub record Restarts (w : WorldState) (tells : Type 0) (told : Line) (drawn : ℕ
   pub logged_is : logged ≡ of_keys commands
   pub told_is : told ≡ line.Opened (table.opening + 1)
   pub none_drawn : drawn ≡ 0
-  pub left : w' ≡ record w { keys = opened table }
+  pub left : w' ≡ record w { keys = opened w.keys.keys.ready table }
 
 -- the same of the edit log
 pub record RecoversNames (s : NameService) (table : NameTable) (ops : List EditOp) : Type 0 where
@@ -234,6 +235,7 @@ Step lines w words now event.RestartKms fault tells told drawn logged w' = Resta
 Step lines w words now event.RestartName fault tells told drawn logged w' = RestartsNames w tells told drawn logged w'
 Step lines w words now (event.Mkdir user path) fault tells told drawn logged w' = PathActs w user call.Mkdir (read_path path) fault told drawn logged w'
 Step lines w words now (event.Delete user path recursive) fault tells told drawn logged w' = PathActs w user (delete_with recursive) (read_path path) fault told drawn logged w'
+Step lines w words now (event.Rename user path to) fault tells told drawn logged w' = PathActs w user rename_along (read_rename_paths path to) fault told drawn logged w'
 Step lines w words now (event.Info user path) fault tells told drawn logged w' = PathActs w user call.Info (read_any_path path) fault told drawn logged w'
 Step lines w words now (event.List user path) fault tells told drawn logged w' = PathActs w user call.List (read_any_path path) fault told drawn logged w'
 Step lines w words now (event.Allow user path) fault tells told drawn logged w' = PathActs w user call.Allow (read_path path) fault told drawn logged w'

@@ -1,7 +1,8 @@
 -- Both services, and the notes and replies that are kept.
 use Rattle.std.specs.Prelude.{ℕ, zero, suc, ◌+◌, List, [], ◌∷◌, ◌++◌, length, Option, None, slice_get}
 use Rattle.key_rows.specs.Table.{Table}
-use Rattle.kms_core.specs.State.{ServiceState, opened, service_of}
+use Rattle.prop_text.specs.SizeValues.{SizeValues}
+use Rattle.kms_core.specs.State.{ServiceState, no_queues, opened, service_of}
 use Rattle.kms_core.specs.Users.{RunningKms, running}
 use Rattle.name_store.specs.Table.{NameTable}
 use Rattle.name_core.specs.State.{NameService, NameState, RunningNames, started, service_of as names_service}
@@ -19,9 +20,9 @@ pub record WorldState : Type 0 where
   pub names : NameService
   pub kept : Kept
 
--- after a start that found these two tables: nothing is kept
-abbrev pub first_world : Table → NameTable → WorldState
-first_world table names = record { keys = opened table; names = started names; kept = record { notes = []; replies = [] } }
+-- after a start with these sizes that found these two tables: nothing is kept, and no key is ready
+abbrev pub first_world : SizeValues → Table → NameTable → WorldState
+first_world sizes table names = record { keys = opened (no_queues sizes) table; names = started names; kept = record { notes = []; replies = [] } }
 
 -- the same world with the keys of another table and with the rows of another, and nothing pending
 abbrev pub found_in : Table → NameTable → WorldState → WorldState

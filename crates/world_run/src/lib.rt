@@ -5,6 +5,7 @@
 mod fault;
 mod kept;
 mod laws;
+mod rename_paths;
 mod snap_path;
 mod world;
 

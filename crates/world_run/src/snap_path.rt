@@ -4,7 +4,7 @@ ghost use Rattle.name_calls.specs.Paths.{read_path};
 ghost use Rattle.world_run.specs.SnapPaths.{read_snap_path};
 
 use hk_base::{ByteList, Text};
-use name_calls::{NPath, PathFault};
+use name_calls::{NPath, PathFault, is_component};
 use std::alloc::Global;
 
 /// The path of a directory, and the name of a snapshot of it.
@@ -15,14 +15,17 @@ pub struct SnapPath {
 }
 
 impl SnapPath {
-    /// Reads the path, and the name as UTF-8. Returns `BadPath` exactly if one of them can't be
-    /// read. Whether the name can be that of a snapshot is not checked.
+    /// Reads the path and the name. Returns `BadPath` exactly if the path breaks the rule of paths, or
+    /// the name can't be a name of a path, which is found before any memory is taken.
     pub fn read(alloc: Global, path: &ByteList, name: ByteList) -> Result<SnapPath, PathFault>
         ensures ok { IfOk result (λ at. read_snap_path path.now name ≡ Some at) }
         ensures bad { (result ≡ Err PathFault.BadPath) ↔ (read_snap_path path.now name ≡ None) }
     {
+        if !is_component(name.as_slice()) {
+            return Err(PathFault::BadPath);
+        }
         let name = match Text::from_utf8(name.into_vec()) {
-            None => return Err(PathFault::BadPath),
+            None => unreachable!(),
             Some(name) => name,
         };
         match NPath::read(alloc, path.as_slice()) {

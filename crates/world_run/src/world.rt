@@ -1,36 +1,29 @@
 //! The world and its events.
 ghost use Rattle.std.specs.Prelude.{◌≡◌, ◌⊎◌, ◌<◌, ℕ, List, Some, IfOk, IsErrOf, MatchResult};
-ghost use Rattle.hk_base.specs.Disk.{LeavesOnly, RunOn, Tells};
-ghost use Rattle.hk_base.specs.Faults.{Rose};
-ghost use Rattle.frame_log.specs.Stands.{LeavesFrom};
-ghost use Rattle.frame_log.specs.declared.fault.StartFault.TheVariants as start;
+ghost use Rattle.hk_base.specs.Disk.{Tells};
 ghost use Rattle.name_calls.specs.Paths.{read_path};
 ghost use Rattle.name_calls.specs.ReadPaths.{read_any_path};
-ghost use Rattle.edit_ops.specs.declared.ops.EditOp.{EditOp};
 ghost use Rattle.key_rows.specs.declared.rows.KeyCommand.{KeyCommand};
-ghost use Rattle.key_rows.specs.Table.{Table};
 ghost use Rattle.kms_acls.specs.StandsFor.{StandsFor as ListsFor};
-ghost use Rattle.kms_core.specs.Service.{Starts};
-ghost use Rattle.kms_core.specs.Users.{running};
-ghost use Rattle.kms_store.specs.Store.{IsDamagedAt, IsKeyLog, IsLeftByStart, StandsFor};
+ghost use Rattle.kms_store.specs.Store.{StandsFor};
 ghost use Rattle.name_calls.specs.declared.calls.Ask.TheVariants as ask;
 ghost use Rattle.name_calls.specs.declared.calls.NameCall.TheVariants as call;
 ghost use Rattle.name_core.specs.Calls.{superuser};
-ghost use Rattle.name_store.specs.Table.{Replayed};
-ghost use Rattle.name_store.specs.Store.{IsDamagedAt as IsDamagedName, IsLeftByStart as IsLeftByNameStart, IsNameLog};
 ghost use Rattle.prop_text.specs.declared.lines.PropLine.{PropLine};
 ghost use Rattle.hk_events.specs.declared.event.Event.TheVariants as event;
-ghost use Rattle.world_run.specs.Acknowledged.{Acknowledged, HoldsLogs, LeavesBoth, RunBoth};
+ghost use Rattle.world_run.specs.Acknowledged.{Acknowledged, HoldsLogs};
 ghost use Rattle.world_run.specs.Does.{CallHappens, DrawHappens, FinishHappens, Happens, PathHappens, WantHappens};
-ghost use Rattle.world_run.specs.Keeps.{Begins, Fails, LeftByStarts, Steps};
+ghost use Rattle.world_run.specs.Keeps.{Begins, Fails, Steps};
 ghost use Rattle.world_run.specs.Linked.{ServicesFit};
-ghost use Rattle.world_run.specs.Starts.{KeysOpened, StartHappens};
+ghost use Rattle.world_run.specs.Starts.{OpensBoth};
+ghost use Rattle.world_run.specs.RenamePaths.{read_rename_paths, rename_along};
 ghost use Rattle.world_run.specs.SnapPaths.{read_snap_path, snap_at, unsnap_at};
 ghost use Rattle.world_run.specs.Step.{AskActs, AskAt, Refuses, delete_with, finish_line, unread_refusal, unread_reply, zone_with};
 ghost use Rattle.world_run.specs.World.{numbered, world_of};
 
 use crate::fault::WorldFault;
 use crate::kept::{KeptReply, again, note_numbered, reply_numbered};
+use crate::rename_paths::RenamePaths;
 use crate::snap_path::SnapPath;
 use frame_log::StartFault;
 use hk_base::{ByteList, Disk, KeyName, NoMemory, Text, Words};
@@ -118,80 +111,32 @@ fn superuser(alloc: Global) -> Result<Text, NoMemory>
     Ok(Text::of(String::from_str(alloc, "hdfs")?))
 }
 
-/// Opens the key management service over its log, with the lists of the properties. The log is
-/// opened last.
-fn open_keys<D: Disk>(alloc: Global, disk: &mut D, props: &Props) -> Result<Kms, StartFault>
-    ensures started { IfOk result (λ kms. Starts (D.state disk.old) (D.state disk.new) (running kms)) }
-    ensures lists { IfOk result (λ kms. ListsFor kms.acls props.now.lines) }
-    ensures damaged { (at : ℕ) → IsErrOf result (start.Damaged at) → Tells (D.state disk.old) → IsDamagedAt ((D.state disk.old).reads 0) at }
-    ensures spent { IsErrOf result start.Spent → Tells (D.state disk.old) → ((commands : List KeyCommand) × (table : Table)
-        × IsKeyLog ((D.state disk.old).reads 0) commands table × (table.opening ≡ 4294967295)) }
-    ensures any_moment { Tells (D.state disk.old) → LeavesOnly 0 (D.state disk.old) (D.state disk.new)
-        (λ c. (D.state disk.old).leaves 0 c ⊎ IsLeftByStart ((D.state disk.old).reads 0) c) }
-    ensures since_sync { Tells (D.state disk.old) →
-        ((IsErrOf result start.StoreFault ⊎ IsErrOf result start.NoMemory) × LeavesOnly 0 (D.state disk.old) (D.state disk.new) ((D.state disk.old).leaves 0))
-        ⊎ LeavesFrom 0 (D.state disk.old) (D.state disk.new) (IsLeftByStart ((D.state disk.old).reads 0)) }
-    ensures run { RunOn 0 (D.state disk.old) (D.state disk.new) }
-    ensures cause { IsErrOf result start.StoreFault → Rose (D.state disk.old).faults (D.state disk.new).faults }
+/// Makes what a world needs beside its logs: the user who makes the calls that asks want, and the
+/// lists of the properties.
+fn beside_logs(alloc: Global, props: &Props) -> Result<(Text, Acls), NoMemory>
+    ensures { IfOk result (λ made. (made.0 ≡ superuser) × ListsFor made.1 props.now.lines) }
 {
+    let user = superuser(alloc)?;
     let acls = Acls::from_props(alloc, props)?;
-    Kms::start(alloc, disk, acls)
+    Ok((user, acls))
 }
 
 impl World {
     /// Opens the key log on file 0 of a disk, and then the edit log on file 1. The access control
-    /// lists of the properties judge the calls of the key management service, from now on and after
-    /// each restart. If allocation fails before a log is opened, the fault is that of file 0.
+    /// lists of the properties judge the calls of the key management service, and their sizes are its
+    /// own, from now on and after each restart. If allocation fails before a log is opened, the fault is that of file 0.
     ///
     /// Returns `Damaged` exactly if the file is no log, or one of its records is none or doesn't
     /// apply, with the offset of its gate. Returns `Spent` exactly if opening 4,294,967,295 is
     /// recorded. The first file with a fault counts: if it is file 1, the key log was found good and
     /// was opened; if it is file 0, file 1 was not touched.
     pub fn start<D: Disk>(alloc: Global, disk: &mut D, props: &Props) -> Result<World, WorldFault>
-        ensures began { IfOk result (Begins (D.state disk.old) (D.state disk.new)) }
+        ensures began { IfOk result (Begins props.now.sizes (D.state disk.old) (D.state disk.new)) }
         ensures lists { IfOk result (λ world. ListsFor world.keys.acls props.now.lines) }
-        ensures file { (file : ℕ) (fault : StartFault) → IsErrOf result (record { file = file; fault = fault }) → (file ≡ 0) ⊎ (file ≡ 1) }
-        ensures damaged_keys { (at : ℕ) → IsErrOf result (record { file = 0; fault = start.Damaged at }) → Tells (D.state disk.old) → IsDamagedAt ((D.state disk.old).reads 0) at }
-        ensures damaged_names { (at : ℕ) → IsErrOf result (record { file = 1; fault = start.Damaged at }) → Tells (D.state disk.old) → IsDamagedName ((D.state disk.old).reads 1) at }
-        ensures spent_keys { IsErrOf result (record { file = 0; fault = start.Spent }) → Tells (D.state disk.old) → ((commands : List KeyCommand) × (table : Table)
-            × IsKeyLog ((D.state disk.old).reads 0) commands table × (table.opening ≡ 4294967295)) }
-        ensures spent_names { IsErrOf result (record { file = 1; fault = start.Spent }) → Tells (D.state disk.old) → ((ops : List EditOp) × (made : Replayed)
-            × IsNameLog ((D.state disk.old).reads 1) ops made × (made.table.opening ≡ 4294967295)) }
-
-        // The first file that has a fault counts. If it is the second, a crash leaves the key log with its
-        // new opening.
-        ensures first_keys { (fault : StartFault) → IsErrOf result (record { file = 1; fault = fault }) → Tells (D.state disk.old) → KeysOpened (D.state disk.old) (D.state disk.new) }
-        ensures first_names { (fault : StartFault) → IsErrOf result (record { file = 0; fault = fault }) → RunOn 0 (D.state disk.old) (D.state disk.new) }
-
-        // A crash at any moment leaves what it might have left before, or files on the way: first the key log
-        // is opened, and then the edit log. If a run may start from every image before, with a ledger, it
-        // may start from every image since.
-        ensures any_moment { Tells (D.state disk.old) → LeavesBoth (D.state disk.old) (D.state disk.new) (LeftByStarts (D.state disk.old)) }
-
-        // Since the first sync of its opening, a crash leaves of each file the latter alone, whatever the answer.
-        // If that sync failed, or the opening wasn't reached, nothing was written to the file, and a crash
-        // leaves of it what it might have left before.
-        ensures since_sync_keys { Tells (D.state disk.old) →
-            ((IsErrOf result (record { file = 0; fault = start.StoreFault }) ⊎ IsErrOf result (record { file = 0; fault = start.NoMemory }))
-            × LeavesOnly 0 (D.state disk.old) (D.state disk.new) ((D.state disk.old).leaves 0))
-            ⊎ LeavesFrom 0 (D.state disk.old) (D.state disk.new) (IsLeftByStart ((D.state disk.old).reads 0)) }
-        ensures since_sync_names { Tells (D.state disk.old) →
-            ((((fault : StartFault) × IsErrOf result (record { file = 0; fault = fault })) ⊎ IsErrOf result (record { file = 1; fault = start.StoreFault }))
-            × LeavesBoth (D.state disk.old) (D.state disk.new) (λ c. (D.state disk.old).leaves 1 (c 1)))
-            ⊎ LeavesFrom 1 (D.state disk.old) (D.state disk.new) (IsLeftByNameStart ((D.state disk.old).reads 1)) }
-
-        ensures run { RunBoth (D.state disk.old) (D.state disk.new) }
-        ensures cause { (file : ℕ) → IsErrOf result (record { file = file; fault = start.StoreFault }) → Rose (D.state disk.old).faults (D.state disk.new).faults }
+        ensures opens { OpensBoth (D.state disk.old) (D.state disk.new) (λ file fault. IsErrOf result (record { file = file; fault = fault })) }
     {
-        World::open(alloc, disk, props)
-    }
-
-    /// Does what `start` says, with one clause.
-    fn open<D: Disk>(alloc: Global, disk: &mut D, props: &Props) -> Result<World, WorldFault>
-        ensures { StartHappens (D.state disk.old) (D.state disk.new) props.now.lines result }
-    {
-        let user = match superuser(alloc) {
-            Ok(user) => user,
+        let (user, acls) = match beside_logs(alloc, props) {
+            Ok(made) => made,
             Err(_) => {
                 return Err(WorldFault {
                     file: KEYS,
@@ -199,7 +144,7 @@ impl World {
                 });
             }
         };
-        let keys = match open_keys(alloc, disk, props) {
+        let keys = match Kms::start(alloc, disk, acls, props.sizes) {
             Ok(keys) => keys,
             Err(fault) => return Err(WorldFault { file: KEYS, fault }),
         };
@@ -282,6 +227,7 @@ impl World {
                 path,
                 recursive,
             } => Ok(self.delete(disk, &user, &path, recursive)),
+            Event::Rename { user, path, to } => Ok(self.rename(disk, &user, &path, &to)),
             Event::Info { user, path } => Ok(self.info(disk, &user, &path)),
             Event::List { user, path } => Ok(self.list(disk, &user, &path)),
             Event::Allow { user, path } => Ok(self.allow(disk, &user, &path)),
@@ -377,6 +323,22 @@ impl World {
         match NPath::read(self.alloc, path.as_slice()) {
             Err(fault) => Line::Name(unread(fault)),
             Ok(path) => self.call(disk, user, NameCall::Delete { path, recursive }),
+        }
+    }
+
+    fn rename<D: Disk>(&mut self, disk: &mut D, user: &Text, path: &ByteList, to: &ByteList) -> Line
+        requires stands { Tells (D.state disk.old) → ((done : Acknowledged) × HoldsLogs (D.state disk.old) self.old done) }
+        ensures { PathHappens (D.state disk.old) (D.state disk.new) self.old user.now rename_along (read_rename_paths path.now to.now) result self.new }
+    {
+        match RenamePaths::read(self.alloc, path, to) {
+            Err(fault) => Line::Name(unread(fault)),
+            Ok(paths) => {
+                let call = NameCall::Rename {
+                    path: paths.path,
+                    to: paths.to,
+                };
+                self.call(disk, user, call)
+            }
         }
     }
 

@@ -27,6 +27,11 @@ returns-in-Delete g c lines lists =
     so-happens lines (g.D.Disk.state c.args.disk.now) (g.D.Disk.state c.delete.new.disk) c.args.self.now c.delete.new.self (g.W.Words.to_come c.args.words.now) (g.W.Words.to_come c.args.words.now) c.args.now c.args.event (event.Delete c.in-Delete.user c.in-Delete.path c.in-Delete.recursive) c.delete.result c.in-Delete.is
     (c.delete.ensures (g.W.Words.to_come c.args.words.now))
 
+pub returns-in-Rename : goal.returns-in-Rename
+returns-in-Rename g c lines lists =
+    so-happens lines (g.D.Disk.state c.args.disk.now) (g.D.Disk.state c.rename.new.disk) c.args.self.now c.rename.new.self (g.W.Words.to_come c.args.words.now) (g.W.Words.to_come c.args.words.now) c.args.now c.args.event (event.Rename c.in-Rename.user c.in-Rename.path c.in-Rename.to) c.rename.result c.in-Rename.is
+    (c.rename.ensures (g.W.Words.to_come c.args.words.now))
+
 pub returns-in-Info : goal.returns-in-Info
 returns-in-Info g c lines lists =
     so-happens lines (g.D.Disk.state c.args.disk.now) (g.D.Disk.state c.info.new.disk) c.args.self.now c.info.new.self (g.W.Words.to_come c.args.words.now) (g.W.Words.to_come c.args.words.now) c.args.now c.args.event (event.Info c.in-Info.user c.in-Info.path) c.info.result c.in-Info.is

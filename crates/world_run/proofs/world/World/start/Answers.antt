@@ -1,19 +1,46 @@
+use Rattle.kms_core.specs.Users.{running}
+use Rattle.frame_log.specs.declared.fault.StartFault.TheVariants as start
+use Rattle.world_run.proofs.StartLemmas.{begins, both-started, done, failed, failed-at, keys-are-opened, keys-not-started, names-not-started, no-start}
+use Rattle.world_run.proofs.StepLemmas.{parts}
 use Rattle.world_run.proofs.world.World.start.Goals as goal
 
-pub returns : goal.returns
-returns g c = record {
-  began = c.open.ensures.began;
-  lists = c.open.ensures.lists;
-  file = c.open.ensures.file;
-  damaged_keys = c.open.ensures.damaged_keys;
-  damaged_names = c.open.ensures.damaged_names;
-  spent_keys = λ is told. let s = c.open.ensures.spent_keys is told in (s.commands, s.table, s.log, s.last);
-  spent_names = λ is told. let s = c.open.ensures.spent_names is told in (s.ops, s.made, s.log, s.last);
-  first_keys = c.open.ensures.first_keys;
-  first_names = c.open.ensures.first_names;
-  any_moment = c.open.ensures.any_moment;
-  since_sync_keys = c.open.ensures.since_sync_keys;
-  since_sync_names = c.open.ensures.since_sync_names;
-  run = c.open.ensures.run;
-  cause = c.open.ensures.cause;
-}
+pub returns-in-Err-clause-opens : goal.returns-in-Err-clause-opens
+returns-in-Err-clause-opens g c = failed-at 0 start.NoMemory (no-start (g.D.Disk.state c.args.disk.now))
+
+pub returns-in-Err-start-clause-opens : goal.returns-in-Err-start-clause-opens
+returns-in-Err-start-clause-opens g c =
+    let fault = c.in-Err-start.fault in
+    failed-at 0 fault
+    (keys-not-started (g.D.Disk.state c.args.disk.now) (g.D.Disk.state c.start.new.disk) fault
+    (record { counts = g.met.D.Disk.counts_now c.args.disk.now; only = g.met.D.Disk.only_now c.args.disk.now; is_one = λ told file lt. g.met.D.Disk.is_one c.args.disk.now file told lt })
+    (failed fault c.in-Err-start.ensures.opens))
+
+pub returns-in-Err-start-2-clause-opens : goal.returns-in-Err-start-2-clause-opens
+returns-in-Err-start-2-clause-opens g c =
+    let D0 = g.D.Disk.state c.args.disk.now in
+    let D1 = g.D.Disk.state c.start.new.disk in
+    let fault = c.in-Err-start-2.fault in
+    failed-at 1 fault
+    (names-not-started D0 D1 (g.D.Disk.state c.start-2.new.disk)
+    (record { counts = g.met.D.Disk.counts_now c.args.disk.now; only = g.met.D.Disk.only_now c.args.disk.now; is_one = λ told file lt. g.met.D.Disk.is_one c.args.disk.now file told lt })
+    (record { counts = g.met.D.Disk.counts_now c.start.new.disk; only = g.met.D.Disk.only_now c.start.new.disk; is_one = λ told file lt. g.met.D.Disk.is_one c.start.new.disk file told lt })
+    (keys-are-opened D0 D1 (running c.in-Ok-start.keys) c.count.ensures.file c.in-Ok-start.ensures.started) (done c.in-Ok-start.keys c.in-Ok-start.ensures.opens)
+    fault (failed fault c.in-Err-start-2.ensures.opens))
+
+pub returns-clause-opens : goal.returns-clause-opens
+returns-clause-opens g c =
+    let D0 = g.D.Disk.state c.args.disk.now in
+    let D1 = g.D.Disk.state c.start.new.disk in
+    both-started D0 D1 (g.D.Disk.state c.start-2.new.disk)
+    (record { counts = g.met.D.Disk.counts_now c.args.disk.now; only = g.met.D.Disk.only_now c.args.disk.now; is_one = λ told file lt. g.met.D.Disk.is_one c.args.disk.now file told lt })
+    (record { counts = g.met.D.Disk.counts_now c.start.new.disk; only = g.met.D.Disk.only_now c.start.new.disk; is_one = λ told file lt. g.met.D.Disk.is_one c.start.new.disk file told lt })
+    (keys-are-opened D0 D1 (running c.in-Ok-start.keys) c.count.ensures.file c.in-Ok-start.ensures.started) (done c.in-Ok-start.keys c.in-Ok-start.ensures.opens)
+    (λ file fault is. absurd (cc is)) (done c.in-Ok-start-2.names c.in-Ok-start-2.ensures.opens)
+
+pub returns-clause-began : goal.returns-clause-began
+returns-clause-began g c =
+    begins c.args.props.now.sizes (g.D.Disk.state c.args.disk.now) (g.D.Disk.state c.start.new.disk) (g.D.Disk.state c.start-2.new.disk)
+    (parts c.in-Ok-start.keys c.in-Ok-start-2.names c.new.result.items c.new-2.result.items) c.in-Ok-start.ensures.queues
+    (record { counts = g.met.D.Disk.counts_now c.args.disk.now; only = g.met.D.Disk.only_now c.args.disk.now; is_one = λ told file lt. g.met.D.Disk.is_one c.args.disk.now file told lt })
+    c.count.ensures.file c.invariants.ensures.file (record { keys = c.count.ensures.rules; names = c.invariants.ensures.names }) (λ i. record { notes = c.new.ensures.items i; replies = c.new-2.ensures.items i })
+    c.in-Ok-start.ensures.opens.run c.start-2.ensures.opens.run c.in-Ok-start.ensures.started c.in-Ok-start-2.ensures.started
