@@ -83,6 +83,7 @@ module _ (Holds : NameTable → Type 0) (P : OpenAsk → Type 0) (Spares : NameS
       takes (numbered s) (op.Mkdir (next_id s) p) (inv.called s (call.Mkdir p) (op.Mkdir (next_id s) p) k h.later spares free refl (h.table true)) refl
       (record { later = let l = h.later in omega (arith, l); asks = h.asks; table = h.table })
   does s (call.Delete p recursive) k spares free h = takes s (op.Remove p) (inv.called s (call.Delete p recursive) (op.Remove p) k h.later spares free refl (h.table true)) refl h
+  does s (call.Rename p q) k spares free h = takes s (op.Rename p q) (inv.called s (call.Rename p q) (op.Rename p q) k h.later spares free refl (h.table true)) refl h
   does s (call.Info r) k spares free h = (h, h)
   does s (call.List r) k spares free h = (h, h)
   does s (call.Allow p) k spares free h = takes s (op.Allow p) (inv.called s (call.Allow p) (op.Allow p) k h.later spares free refl (h.table true)) refl h

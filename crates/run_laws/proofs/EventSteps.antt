@@ -7,15 +7,21 @@ use Rattle.hk_base.specs.declared.texts.Text.{Text}
 use Rattle.name_calls.specs.declared.paths.NPath.{NPath}
 use Rattle.name_calls.specs.Paths.{read_path}
 use Rattle.name_calls.specs.ReadPaths.{read_any_path}
+use Rattle.key_rows.specs.declared.rows.KeyCommand.{KeyCommand}
+use Rattle.kms_calls.specs.declared.calls.KmsCall.TheVariants as key_call
+use Rattle.kms_calls.specs.declared.calls.KmsReply.{KmsReply}
 use Rattle.prop_text.specs.declared.lines.PropLine.{PropLine}
-use Rattle.kms_core.specs.State.{opened}
+use Rattle.kms_core.specs.State.{ServiceState, opened}
 use Rattle.name_calls.specs.declared.calls.Ask.{Ask}
 use Rattle.name_calls.specs.declared.calls.Ask.TheVariants as ask
 use Rattle.name_calls.specs.declared.calls.AskNote.{AskNote}
 use Rattle.name_calls.specs.declared.calls.NameCall.{NameCall}
 use Rattle.name_calls.specs.declared.calls.NameCall.TheVariants as call
 use Rattle.name_calls.specs.declared.calls.NameRefusal.{NameRefusal}
+use Rattle.name_calls.specs.declared.calls.Want.{Want}
+use Rattle.name_calls.specs.declared.calls.Want.TheVariants as want
 use Rattle.name_core.specs.Asks.{Asks}
+use Rattle.name_core.specs.Calls.{superuser}
 use Rattle.name_core.specs.Laws.{AnyFault, Asked, Called, Finished, IsStep}
 use Rattle.name_core.specs.State.{NameService, settled, started}
 use Rattle.hk_events.specs.declared.event.Event.{Event}
@@ -24,9 +30,12 @@ use Rattle.hk_events.specs.declared.event.Line.{Line}
 use Rattle.world_run.specs.declared.kept.KeptReply.{KeptReply}
 use Rattle.world_run.specs.declared.kept.KeptReply.TheVariants.{ToAsk}
 use Rattle.world_run.specs.Acknowledged.{Acknowledged}
-use Rattle.world_run.specs.Step.{AskAt, DrawActs, FinishReply, NamesAct, PathActs, Step, after_ask, delete_with, kept_reply, zone_with}
+use Rattle.world_run.specs.Step.{AskAt, DrawActs, FinishReply, NamesAct, PathActs, Step, WantActs, after_ask, delete_with, kept_reply, zone_with}
+use Rattle.world_run.specs.RenamePaths.{read_rename_paths, rename_along}
 use Rattle.world_run.specs.SnapPaths.{read_snap_path, snap_at, unsnap_at}
+use Rattle.world_run.specs.Linked.{NoneReady}
 use Rattle.world_run.specs.World.{Kept, WorldState, numbered, with_names, with_reply}
+use Rattle.world_run.proofs.EmptyQueues.{none-user}
 use Rattle.run_laws.specs.Runs.{DiskTells, Happens, Leads, call_of}
 
 -- values kept under numbers
@@ -70,6 +79,14 @@ pub data Turns (e : Event) (s s' : NameService) : Type 0 where
 pub record Moves (e : Event) (w w' : WorldState) : Type 0 where
   pub names : Turns e w.names w'.names
   pub kept : StaysKept w.kept w'.kept
+  pub ready : NoneReady w.keys.keys.ready.queues → NoneReady w'.keys.keys.ready.queues
+
+-- the call that an ask wants makes no key ready
+none-wanted : (lines : List PropLine) (s : ServiceState) (words : ℕ → ℕ) (now : ℕ) (wanted : Want) (fault : Type 0) (told : Option KmsReply) (drawn : ℕ) (logged : List KeyCommand) (s' : ServiceState)
+    → WantActs lines s words now wanted fault told drawn logged s' → NoneReady s.keys.ready.queues → NoneReady s'.keys.ready.queues
+none-wanted lines s words now want.Nothing fault told drawn logged s' a none = subst (λ (t : ServiceState). NoneReady t.keys.ready.queues) (sym a.same) none
+none-wanted lines s words now (want.Generate name) fault told drawn logged s' a none = none-user lines superuser s words now (key_call.Generate name 1) fault a.reply drawn logged s' a.serves none
+none-wanted lines s words now (want.Metadata name) fault told drawn logged s' a none = none-user lines superuser s words now (key_call.Metadata name) fault a.reply drawn logged s' a.serves none
 
 -- events
 
@@ -78,10 +95,10 @@ module _ (e : Event) where
   at w v v' is m = subst (Moves e w) (sym is) m
 
   rests : (w w' : WorldState) → w' ≡ w → Moves e w w'
-  rests w w' is = at w w w' is (record { names = Rests refl; kept = kept-same w.kept })
+  rests w w' is = at w w w' is (record { names = Rests refl; kept = kept-same w.kept; ready = λ none. none })
 
   turns : (w : WorldState) (names : NameService) → Turns e w.names names → Moves e w (record w { names = names })
-  turns w names t = record { names = t; kept = kept-same w.kept }
+  turns w names t = record { names = t; kept = kept-same w.kept; ready = λ none. none }
 
   call-moves : (w : WorldState) (user : Text) (c : NameCall) (told : Line) (drawn : ℕ) (logged : Acknowledged) (w' : WorldState) → call_of e ≡ Some c → NamesAct w user c AnyFault told drawn logged w' → Moves e w w'
   call-moves w user c told drawn logged w' its a = at w (record w { names = a.names }) w' a.left (turns w a.names (Stepped (Called user c a.reply a.ops a.serves) its))
@@ -101,6 +118,7 @@ module _ (e : Event) where
       go (Ok note) asks = record {
         names = Stepped (Asked user (k p) (Ok note) asks refl) tt;
         kept = record { notes = λ n x h. numbered-stays w.kept.notes note n x h; replies = λ n x h. h };
+        ready = λ none. none;
       }
       go (Err why) asks = turns w (record w.names { names = a.names }) (Stepped (Asked user (k p) (Err why) asks refl) tt)
 
@@ -111,6 +129,7 @@ module _ (e : Event) where
   draw-moves lines w words now (Some note) told drawn logged w' (inl d) = at w (with_reply (kept_reply note d.reply) (record w { keys = d.keys })) w' d.left (record {
     names = Rests refl;
     kept = record { notes = λ n x h. h; replies = λ n x h. numbered-stays w.kept.replies (kept_reply note d.reply) n x h };
+    ready = none-wanted lines w.keys words now note.want AnyFault d.reply drawn d.commands d.keys d.acts;
   })
 
   finish-moves : (w : WorldState) (o : Option KeptReply) (told : Line) (drawn : ℕ) (logged : Acknowledged) (w' : WorldState) → FinishReply w o AnyFault told drawn logged w' → Moves e w w'
@@ -119,12 +138,17 @@ module _ (e : Event) where
 
 step-moves : (lines : List PropLine) (w : WorldState) (words : ℕ → ℕ) (now : ℕ) (e : Event) (told : Line) (drawn : ℕ) (logged : Acknowledged) (w' : WorldState)
     → Step lines w words now e AnyFault DiskTells told drawn logged w' → Moves e w w'
-step-moves lines w words now (event.Kms user c) told drawn logged w' s = at (event.Kms user c) w (record w { keys = s.keys }) w' s.left (record { names = Rests refl; kept = kept-same w.kept })
-step-moves lines w words now event.RestartKms told drawn logged w' s = at event.RestartKms w (record w { keys = opened s.table }) w' s.left (record { names = Rests refl; kept = kept-same w.kept })
+step-moves lines w words now (event.Kms user c) told drawn logged w' s = at (event.Kms user c) w (record w { keys = s.keys }) w' s.left (record {
+  names = Rests refl;
+  kept = kept-same w.kept;
+  ready = none-user lines user w.keys words now c AnyFault s.reply drawn s.commands s.keys s.serves;
+})
+step-moves lines w words now event.RestartKms told drawn logged w' s = at event.RestartKms w (record w { keys = opened w.keys.keys.ready s.table }) w' s.left (record { names = Rests refl; kept = kept-same w.kept; ready = λ none. tt })
 step-moves lines w words now event.RestartName told drawn logged w' s =
     at event.RestartName w (record w { names = started s.table }) w' s.left (turns event.RestartName w (started s.table) (Reopened (s.found tt).kept (ap started (s.found tt).table_is)))
 step-moves lines w words now (event.Mkdir user p) told drawn logged w' s = path-moves (event.Mkdir user p) w user call.Mkdir (read_path p) told drawn logged w' refl s
 step-moves lines w words now (event.Delete user p recursive) told drawn logged w' s = path-moves (event.Delete user p recursive) w user (delete_with recursive) (read_path p) told drawn logged w' refl s
+step-moves lines w words now (event.Rename user p q) told drawn logged w' s = path-moves (event.Rename user p q) w user rename_along (read_rename_paths p q) told drawn logged w' refl s
 step-moves lines w words now (event.Info user p) told drawn logged w' s = path-moves (event.Info user p) w user call.Info (read_any_path p) told drawn logged w' refl s
 step-moves lines w words now (event.List user p) told drawn logged w' s = path-moves (event.List user p) w user call.List (read_any_path p) told drawn logged w' refl s
 step-moves lines w words now (event.Allow user p) told drawn logged w' s = path-moves (event.Allow user p) w user call.Allow (read_path p) told drawn logged w' refl s
@@ -148,3 +172,7 @@ leads-keep w (m ∷ ms) v leads =
     let first = (moves w leads.0.event leads.0.told m leads.0.happens).kept in
     let rest = leads-keep m ms v leads.1 in
     record { notes = λ n note h. rest.notes n note (first.notes n note h); replies = λ n reply h. rest.replies n reply (first.replies n reply h) }
+
+pub leads-ready : (w : WorldState) (between : List WorldState) (v : WorldState) → Leads w between v → NoneReady w.keys.keys.ready.queues → NoneReady v.keys.keys.ready.queues
+leads-ready w [] v is none = subst (λ (x : WorldState). NoneReady x.keys.keys.ready.queues) (sym is) none
+leads-ready w (m ∷ ms) v leads none = leads-ready m ms v leads.1 ((moves w leads.0.event leads.0.told m leads.0.happens).ready none)

@@ -92,6 +92,7 @@ module _ (s : NameService) (k : Ask) (names : IsNames s) where
   leaves (op.Mkdir id p) w = unused (op.Mkdir id p) id refl refl w
   leaves (op.File id p edek) w = unused (op.File id p edek) id refl refl w
   leaves (op.Remove p) w = tt
+  leaves (op.Rename p q) w = tt
   leaves (op.Zone p k) w = let m = markable rows p (allowed s.names.table (op.Zone p k) refl w.pending.allowed).free in (m.dir, ap is_some m.outside)
   leaves (op.Allow p) w = tt
   leaves (op.Disallow p) w = tt

@@ -32,12 +32,13 @@ use Rattle.hk_events.specs.declared.event.Line.{Line}
 use Rattle.hk_events.specs.declared.event.Line.TheVariants as line
 use Rattle.world_run.specs.declared.kept.KeptReply.{KeptReply}
 use Rattle.world_run.specs.declared.kept.KeptReply.TheVariants.{ToAsk}
+use Rattle.world_run.specs.Linked.{NoneReady}
 use Rattle.world_run.specs.Step.{AskAt, DrawActs, FinishReply, after_ask, ask_line, finish_line, kept_reply, zone_with}
 use Rattle.world_run.specs.World.{WorldState, next_note, next_reply, numbered, with_names}
 use Rattle.run_laws.specs.Runs.{Happens, Leads, RunsRefuseForTheZone, ask_of}
 use Rattle.run_laws.proofs.AskSteps.{AnyAsk, any-asks, asks-keep, keeps-reopened}
 use Rattle.run_laws.proofs.DrawnKeys.{Fits, drawn-fits}
-use Rattle.run_laws.proofs.EventSteps.{Reopened, Rests, Stepped, Turns, leads-keep, moves, numbered-last}
+use Rattle.run_laws.proofs.EventSteps.{Reopened, Rests, Stepped, Turns, leads-keep, leads-ready, moves, numbered-last}
 use Rattle.run_laws.proofs.RefusalLaw.{refused_for_its_zone}
 
 -- an ask since it was made
@@ -115,6 +116,7 @@ asks-so w event.RestartKms a number note w' is h = absurd cc
 asks-so w event.RestartName a number note w' is h = absurd cc
 asks-so w (event.Mkdir user p) a number note w' is h = absurd cc
 asks-so w (event.Delete user p recursive) a number note w' is h = absurd cc
+asks-so w (event.Rename user p q) a number note w' is h = absurd cc
 asks-so w (event.Info user p) a number note w' is h = absurd cc
 asks-so w (event.List user p) a number note w' is h = absurd cc
 asks-so w (event.Allow user p) a number note w' is h = absurd cc
@@ -142,8 +144,8 @@ record Gives (note : AskNote) (number : ℕ) (w : WorldState) : Type 0 where
   fits : Fits note.want given
 
 gives : (w : WorldState) (number : ℕ) (note : AskNote) (reply_number : ℕ) (reply : Option KmsReply) (w' : WorldState) → numbered w.kept.notes number ≡ Some note
-    → Happens w (event.Draw number) (line.Replied reply_number reply) w' → Gives note reply_number w'
-gives w number note reply_number reply w' noted h =
+    → NoneReady w.keys.keys.ready.queues → Happens w (event.Draw number) (line.Replied reply_number reply) w' → Gives note reply_number w'
+gives w number note reply_number reply w' noted none h =
     go (subst (λ (o : Option AskNote). DrawActs h.lines w h.words h.now o AnyFault (line.Replied reply_number reply) h.drawn h.logged w') noted h.step)
   where
     go : DrawActs h.lines w h.words h.now (Some note) AnyFault (line.Replied reply_number reply) h.drawn h.logged w' → Gives note reply_number w'
@@ -155,7 +157,7 @@ gives w number note reply_number reply w' noted h =
           given = answer_of d.reply;
           replied = subst (λ (n : ℕ). numbered w'.kept.replies n ≡ Some (kept_reply note d.reply)) at
               (ap (λ (x : WorldState). numbered x.kept.replies (next_reply w)) d.left ∙ numbered-last w.kept.replies (kept_reply note d.reply));
-          fits = drawn-fits h.lines w.keys h.words h.now note.want AnyFault d.reply h.drawn d.commands d.keys d.acts;
+          fits = drawn-fits h.lines w.keys h.words h.now note.want AnyFault d.reply h.drawn d.commands d.keys none d.acts;
         }
 
 -- the finish, which is refused with ZoneChanged
@@ -197,7 +199,7 @@ was-given s id (answer.Refused why) logged s' finish = go (open_ask s.names.asks
 -- the law
 
 pub runs_refuse_for_the_zone : RunsRefuseForTheZone
-runs_refuse_for_the_zone w e a number note asked before_draw ready reply_number reply drawn before_finish last refused names its asks leads draws leads' finishes = elim since.how [
+runs_refuse_for_the_zone w e a number note asked before_draw ready reply_number reply drawn before_finish last refused names none its asks leads draws leads' finishes = elim since.how [
   | inl steps ↦
       refused_for_its_zone w.names acc.user a note s steps.0 last.names given.0 finish.ops refused.names names acc.asks refl steps.1 (gave.fits given.0 given.1)
       (subst (λ (x : KeyAnswer). FinishServes last.names note.id x AnyFault (Err refusal.ZoneChanged) finish.ops refused.names) given.1 finish.serves)
@@ -211,7 +213,8 @@ runs_refuse_for_the_zone w e a number note asked before_draw ready reply_number 
     s = record w.names { names = acc.names }
 
     gave : Gives note reply_number drawn
-    gave = gives ready number note reply_number reply drawn ((leads-keep asked before_draw ready leads).notes number note acc.noted) draws
+    gave = gives ready number note reply_number reply drawn ((leads-keep asked before_draw ready leads).notes number note acc.noted)
+        (leads-ready asked before_draw ready leads ((moves w e (line.Asked number note) asked asks).ready none)) draws
 
     finish : Ends last note.id gave.given refused
     finish = ends last reply_number note.id gave.given refused ((leads-keep drawn before_finish last leads').replies reply_number _ gave.replied) finishes

@@ -1,5 +1,5 @@
 -- Rows with the id of a zone keep its key while operations take effect.
-use Rattle.std.proofs.Common.{◌≡◌, ℕ, Bool, true, false, cond, ◌&&◌, is_some, nat_lt, List, [], ◌∷◌, length, get_or, Option, Some, None, IfSome, refl, sym, ap, ◌∙◌}
+use Rattle.std.proofs.Common.{◌≡◌, ℕ, Bool, true, false, cond, ◌&&◌, is_some, nat_lt, List, [], ◌∷◌, length, get_or, map, Option, Some, None, IfSome, refl, sym, ap, ◌∙◌}
 use Rattle.std.specs.Prelude.{◌==◌, not}
 use Rattle.std.specs.Bool.{⊤}
 use Rattle.std.specs.List.{All}
@@ -8,6 +8,7 @@ use Rattle.std.proofs.lemmas.List.Elements.{All-filter, All-head, All-map, All-t
 use Rattle.hk_base.specs.declared.names.KeyName.{KeyName}
 use Rattle.inode_tree.specs.declared.rows.Kind.TheVariants.{Dir}
 use Rattle.name_calls.specs.Paths.{is_prefix, same_path}
+use Rattle.inode_tree.specs.Moves.{in_order, moved}
 use Rattle.inode_tree.specs.Rows.{Entry, is_dir_at, is_marked, is_zone_over, longer, mark_of, row_at, with_kind, zone_of}
 use Rattle.inode_tree.proofs.Seeks.{same-is}
 use Rattle.inode_tree.proofs.ZoneLemmas.{prefix-itself}
@@ -33,6 +34,11 @@ zone-holds P p (x ∷ rows) h = go (is_zone_over p x) refl (zone_of rows p) (zon
     go true over None rest = here over
     go true over (Some f) rest = longest (nat_lt (length x.path) (length f.path)) f (here over) rest
 
+-- a property of each row is true of them in path order
+all-order : (P : Entry → Type 0) (es : List Entry) → All P es → All P (in_order es)
+all-order P [] h = h
+all-order P (e ∷ es) h = all-put P e (in_order es) (All-head P e es h) (all-order P es (All-tail P e es h))
+
 -- a row that has the id of the zone has its key
 abbrev pub HasKey : Option ℕ → Option KeyName → Entry → Type 0
 HasKey under key e = under ≡ Some e.row.id → mark_of e.row.kind ≡ key
@@ -43,6 +49,7 @@ LeavesZone under rows (op.Opened opening) = ⊤
 LeavesZone under rows (op.Mkdir id p) = under ≡ Some id → ⊥
 LeavesZone under rows (op.File id p edek) = under ≡ Some id → ⊥
 LeavesZone under rows (op.Remove p) = ⊤
+LeavesZone under rows (op.Rename p q) = ⊤
 LeavesZone under rows (op.Zone p key) = (is_dir_at (row_at rows p) ≡ true) × (is_some (zone_of rows p) ≡ false)
 LeavesZone under rows (op.Allow p) = ⊤
 LeavesZone under rows (op.Disallow p) = ⊤
@@ -81,6 +88,7 @@ module _ (under : Option ℕ) (key : Option KeyName) (marked : (i : ℕ) → und
   keys-stay t (op.Mkdir id p) leaves h = all-put (HasKey under key) (new_directory id p) t.rows (λ is. absurd (leaves is)) h
   keys-stay t (op.File id p edek) leaves h = all-put (HasKey under key) (new_file id p edek) t.rows (λ is. absurd (leaves is)) h
   keys-stay t (op.Remove p) leaves h = All-filter (λ (e : Entry). not (is_prefix p e.path)) (HasKey under key) t.rows h
+  keys-stay t (op.Rename p q) leaves h = all-order (HasKey under key) (map (moved p q) t.rows) (All-map (HasKey under key) (moved p q) t.rows h)
   keys-stay t (op.Allow p) leaves h = h
   keys-stay t (op.Disallow p) leaves h = h
   keys-stay t (op.Snap p name) leaves h = h

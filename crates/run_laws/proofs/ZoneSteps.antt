@@ -43,6 +43,7 @@ module _ (under : Option ℕ) (key : Option KeyName) (P : OpenAsk → Type 0) (n
       go : (c : NameCall) → (deed s c).logs ≡ Some o → LeavesZone under s.table.rows o
       go (call.Mkdir p) is = so (op.Mkdir (next_id s) p) (next-is-new (next_id s) new) is
       go (call.Delete p recursive) is = so (op.Remove p) tt is
+      go (call.Rename p q) is = so (op.Rename p q) tt is
       go (call.Info r) is = absurd cc
       go (call.List r) is = absurd cc
       go (call.Allow p) is = so (op.Allow p) tt is

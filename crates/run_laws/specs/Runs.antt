@@ -20,6 +20,8 @@ use Rattle.hk_events.specs.declared.event.Event.TheVariants as event
 use Rattle.hk_events.specs.declared.event.Line.{Line}
 use Rattle.hk_events.specs.declared.event.Line.TheVariants as line
 use Rattle.world_run.specs.Acknowledged.{Acknowledged}
+use Rattle.world_run.specs.Linked.{NoneReady}
+use Rattle.world_run.specs.RenamePaths.{read_rename_paths, rename_along}
 use Rattle.world_run.specs.SnapPaths.{read_snap_path, snap_at, unsnap_at}
 use Rattle.world_run.specs.Step.{Step, delete_with, zone_with}
 use Rattle.world_run.specs.World.{WorldState}
@@ -59,6 +61,7 @@ ask_of _ = None
 abbrev pub call_of : Event → Option NameCall
 call_of (event.Mkdir user path) = option_map call.Mkdir (read_path path)
 call_of (event.Delete user path recursive) = option_map (delete_with recursive) (read_path path)
+call_of (event.Rename user path to) = option_map rename_along (read_rename_paths path to)
 call_of (event.Info user path) = option_map call.Info (read_any_path path)
 call_of (event.List user path) = option_map call.List (read_any_path path)
 call_of (event.Allow user path) = option_map call.Allow (read_path path)
@@ -87,13 +90,13 @@ RunsKeepSnapshots =
     (w : WorldState) (dir : ℕ) (name : List ℕ) (was : Snapshot) (between : List WorldState) (v : WorldState)
     → IsNames w.names → HasSnapshot dir name was w.names → LeadsKeeping dir name w between v → HasSnapshot dir name was v.names
 
--- An ask is accepted; after any events its draw is made, by the number of its note, and the reply is kept; after any events its finish
+-- While no key is ready, an ask is accepted; after any events its draw is made, by the number of its note, and the reply is kept; after any events its finish
 -- takes that reply. If it is refused with ZoneChanged, the zone that the path lies in is another one than when the ask was made.
 abbrev pub RunsRefuseForTheZone : Type 0
 RunsRefuseForTheZone =
     (w : WorldState) (e : Event) (ask : Ask) (number : ℕ) (note : AskNote) (asked : WorldState) (before_draw : List WorldState) (ready : WorldState)
     (reply_number : ℕ) (reply : Option KmsReply) (drawn : WorldState) (before_finish : List WorldState) (last refused : WorldState)
-    → IsNames w.names → ask_of e ≡ Some ask → Happens w e (line.Asked number note) asked → Leads asked before_draw ready
+    → IsNames w.names → NoneReady w.keys.keys.ready.queues → ask_of e ≡ Some ask → Happens w e (line.Asked number note) asked → Leads asked before_draw ready
     → Happens ready (event.Draw number) (line.Replied reply_number reply) drawn → Leads drawn before_finish last
     → Happens last (event.Finish reply_number) (line.Refused refusal.ZoneChanged) refused
     → is_other_zone refused.names.names.table.rows (opened w.names.names ask) ≡ true
