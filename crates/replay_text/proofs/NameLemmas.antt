@@ -3,7 +3,7 @@ use Rattle.std.proofs.Common.{◌≡◌, ℕ, List, [], ◌∷◌, length, codes
 use Rattle.hk_base.specs.declared.texts.NoMemory.{NoMemory}
 use Rattle.hk_events.specs.declared.event.Event.{Event}
 use Rattle.hk_events.specs.declared.event.Event.TheVariants as event
-use Rattle.replay_text.specs.Events.{IsPathVerb, IsSnapshotVerb, SpellsEvent, SpellsPath, SpellsSnapshot, SpellsZones, fields_of, is_space}
+use Rattle.replay_text.specs.Events.{IsPathVerb, IsTwoFieldVerb, SpellsEvent, SpellsPath, SpellsTwoFields, SpellsZones, fields_of, is_space}
 use Rattle.replay_text.proofs.CallLemmas.{apart, two_verbs}
 use Rattle.replay_text.proofs.FieldLemmas.{never_empty}
 
@@ -11,9 +11,9 @@ use Rattle.replay_text.proofs.FieldLemmas.{never_empty}
 abbrev pub NoPath : List (List ℕ) → Type 0
 NoPath fields = (verb user path : List ℕ) → IsPathVerb verb → ¬ SpellsPath verb fields user path
 
--- the fields are the text of no call on a snapshot
-abbrev pub NoSnapshot : List (List ℕ) → Type 0
-NoSnapshot fields = (verb user path name : List ℕ) → IsSnapshotVerb verb → ¬ SpellsSnapshot verb fields user path name
+-- the fields are the text of no call on a path and another path or the name of a snapshot
+abbrev pub NoTwoFields : List (List ℕ) → Type 0
+NoTwoFields fields = (verb user path second : List ℕ) → IsTwoFieldVerb verb → ¬ SpellsTwoFields verb fields user path second
 
 -- the fields don't ask for the zones
 abbrev pub NoZones : List (List ℕ) → Type 0
@@ -23,41 +23,42 @@ NoZones fields = (user : List ℕ) → ¬ SpellsZones fields user
 abbrev pub Reads : List (List ℕ) → Result (Option Event) NoMemory → Type 0
 Reads fields result = IfOk result (λ found. MatchOption found ((e : Event) → ¬ SpellsEvent fields e) (SpellsEvent fields))
 
--- a line of the namesystem has a path, or a path and the name of a snapshot, or asks for the zones
-no_name_line : (more : List (List ℕ)) → NoPath (codes "nn" ∷ more) → NoSnapshot (codes "nn" ∷ more) → NoZones (codes "nn" ∷ more) → (e : Event) → ¬ SpellsEvent (codes "nn" ∷ more) e
-no_name_line more no_path no_snapshot no_zones (event.Kms user call) x = two_verbs _ _ _ (codes "nn") (codes "kms") (apart _ _ refl) refl x.fields_are
-no_name_line more no_path no_snapshot no_zones event.RestartKms x = two_verbs _ _ _ (codes "nn") (codes "restart") (apart _ _ refl) refl x
-no_name_line more no_path no_snapshot no_zones event.RestartName x = two_verbs _ _ _ (codes "nn") (codes "restart") (apart _ _ refl) refl x
-no_name_line more no_path no_snapshot no_zones (event.Mkdir user path) x = no_path (codes "mkdir") user path (inl refl) x
-no_name_line more no_path no_snapshot no_zones (event.Delete user path false) x = no_path (codes "delete") user path (inr (inl refl)) x
-no_name_line more no_path no_snapshot no_zones (event.Delete user path true) x = no_path (codes "rdelete") user path (inr (inr (inl refl))) x
-no_name_line more no_path no_snapshot no_zones (event.Info user path) x = no_path (codes "info") user path (inr (inr (inr (inl refl)))) x
-no_name_line more no_path no_snapshot no_zones (event.List user path) x = no_path (codes "list") user path (inr (inr (inr (inr (inl refl))))) x
-no_name_line more no_path no_snapshot no_zones (event.Allow user path) x = no_path (codes "allow") user path (inr (inr (inr (inr (inr (inl refl)))))) x
-no_name_line more no_path no_snapshot no_zones (event.Disallow user path) x = no_path (codes "disallow") user path (inr (inr (inr (inr (inr (inr refl)))))) x
-no_name_line more no_path no_snapshot no_zones (event.Snap user path name) x = no_snapshot (codes "snap") user path name (inl refl) x
-no_name_line more no_path no_snapshot no_zones (event.Unsnap user path name) x = no_snapshot (codes "unsnap") user path name (inr refl) x
-no_name_line more no_path no_snapshot no_zones (event.Zones user) x = no_zones user x
-no_name_line more no_path no_snapshot no_zones (event.AskCreate user path) x = two_verbs _ _ _ (codes "nn") (codes "ask") (apart _ _ refl) refl x.fields_are
-no_name_line more no_path no_snapshot no_zones (event.AskZone user path key) x = two_verbs _ _ _ (codes "nn") (codes "ask") (apart _ _ refl) refl x.fields_are
-no_name_line more no_path no_snapshot no_zones (event.Draw number) x = two_verbs _ _ _ (codes "nn") (codes "draw") (apart _ _ refl) refl x.fields_are
-no_name_line more no_path no_snapshot no_zones (event.Finish number) x = two_verbs _ _ _ (codes "nn") (codes "finish") (apart _ _ refl) refl x.fields_are
+-- a line of the namesystem has a path, or a path and a second field, or asks for the zones
+no_name_line : (more : List (List ℕ)) → NoPath (codes "nn" ∷ more) → NoTwoFields (codes "nn" ∷ more) → NoZones (codes "nn" ∷ more) → (e : Event) → ¬ SpellsEvent (codes "nn" ∷ more) e
+no_name_line more no_path no_two no_zones (event.Kms user call) x = two_verbs _ _ _ (codes "nn") (codes "kms") (apart _ _ refl) refl x.fields_are
+no_name_line more no_path no_two no_zones event.RestartKms x = two_verbs _ _ _ (codes "nn") (codes "restart") (apart _ _ refl) refl x
+no_name_line more no_path no_two no_zones event.RestartName x = two_verbs _ _ _ (codes "nn") (codes "restart") (apart _ _ refl) refl x
+no_name_line more no_path no_two no_zones (event.Mkdir user path) x = no_path (codes "mkdir") user path (inl refl) x
+no_name_line more no_path no_two no_zones (event.Delete user path false) x = no_path (codes "delete") user path (inr (inl refl)) x
+no_name_line more no_path no_two no_zones (event.Delete user path true) x = no_path (codes "rdelete") user path (inr (inr (inl refl))) x
+no_name_line more no_path no_two no_zones (event.Rename user path to) x = no_two (codes "rename") user path to (inl refl) x
+no_name_line more no_path no_two no_zones (event.Info user path) x = no_path (codes "info") user path (inr (inr (inr (inl refl)))) x
+no_name_line more no_path no_two no_zones (event.List user path) x = no_path (codes "list") user path (inr (inr (inr (inr (inl refl))))) x
+no_name_line more no_path no_two no_zones (event.Allow user path) x = no_path (codes "allow") user path (inr (inr (inr (inr (inr (inl refl)))))) x
+no_name_line more no_path no_two no_zones (event.Disallow user path) x = no_path (codes "disallow") user path (inr (inr (inr (inr (inr (inr refl)))))) x
+no_name_line more no_path no_two no_zones (event.Snap user path name) x = no_two (codes "snap") user path name (inr (inl refl)) x
+no_name_line more no_path no_two no_zones (event.Unsnap user path name) x = no_two (codes "unsnap") user path name (inr (inr refl)) x
+no_name_line more no_path no_two no_zones (event.Zones user) x = no_zones user x
+no_name_line more no_path no_two no_zones (event.AskCreate user path) x = two_verbs _ _ _ (codes "nn") (codes "ask") (apart _ _ refl) refl x.fields_are
+no_name_line more no_path no_two no_zones (event.AskZone user path key) x = two_verbs _ _ _ (codes "nn") (codes "ask") (apart _ _ refl) refl x.fields_are
+no_name_line more no_path no_two no_zones (event.Draw number) x = two_verbs _ _ _ (codes "nn") (codes "draw") (apart _ _ refl) refl x.fields_are
+no_name_line more no_path no_two no_zones (event.Finish number) x = two_verbs _ _ _ (codes "nn") (codes "finish") (apart _ _ refl) refl x.fields_are
 
 -- two fields after `nn` have no path
 two_fields : (user verb : List ℕ) → NoZones (codes "nn" ∷ user ∷ verb ∷ []) → (e : Event) → ¬ SpellsEvent (codes "nn" ∷ user ∷ verb ∷ []) e
-two_fields user verb = no_name_line (user ∷ verb ∷ []) (λ word who path is x. omega (arith, ap length x.fields_are)) (λ word who path name is x. omega (arith, ap length x.fields_are))
+two_fields user verb = no_name_line (user ∷ verb ∷ []) (λ word who path is x. omega (arith, ap length x.fields_are)) (λ word who path second is x. omega (arith, ap length x.fields_are))
 
--- three fields after `nn` have no name of a snapshot, and don't ask for the zones
+-- three fields after `nn` have one path alone, and don't ask for the zones
 three_fields : (user verb path : List ℕ) → NoPath (codes "nn" ∷ user ∷ verb ∷ path ∷ []) → (e : Event) → ¬ SpellsEvent (codes "nn" ∷ user ∷ verb ∷ path ∷ []) e
 three_fields user verb path no_path =
-    no_name_line (user ∷ verb ∷ path ∷ []) no_path (λ word who p name is x. omega (arith, ap length x.fields_are)) (λ who x. omega (arith, ap length x.fields_are))
+    no_name_line (user ∷ verb ∷ path ∷ []) no_path (λ word who p second is x. omega (arith, ap length x.fields_are)) (λ who x. omega (arith, ap length x.fields_are))
 
 -- four or more fields after `nn` are no call on a path alone, and don't ask for the zones
-more_fields : (user verb path bytes : List ℕ) → NoSnapshot (codes "nn" ∷ user ∷ verb ∷ path ∷ fields_of bytes) → (e : Event) → ¬ SpellsEvent (codes "nn" ∷ user ∷ verb ∷ path ∷ fields_of bytes) e
-more_fields user verb path bytes no_snapshot =
+more_fields : (user verb path bytes : List ℕ) → NoTwoFields (codes "nn" ∷ user ∷ verb ∷ path ∷ fields_of bytes) → (e : Event) → ¬ SpellsEvent (codes "nn" ∷ user ∷ verb ∷ path ∷ fields_of bytes) e
+more_fields user verb path bytes no_two =
     no_name_line (user ∷ verb ∷ path ∷ fields_of bytes)
     (λ word who p is x. let same = x.fields_are in let none : fields_of bytes ≡ [] = cc in never_empty is_space bytes none)
-    no_snapshot
+    no_two
     (λ who x. omega (arith, ap length x.fields_are))
 
 -- what is known of fields is known of equal ones
@@ -76,12 +77,12 @@ path_tells user verb path (Ok None) told = three_fields user verb path told
 path_tells user verb path (Ok (Some event)) told = told
 path_tells user verb path (Err wanting) told = told
 
-snapshot_tells : (user verb path bytes : List ℕ) (result : Result (Option Event) NoMemory)
-    → IfOk result (λ found. MatchOption found (NoSnapshot (codes "nn" ∷ user ∷ verb ∷ path ∷ fields_of bytes)) (SpellsEvent (codes "nn" ∷ user ∷ verb ∷ path ∷ fields_of bytes)))
+two_fields_tell : (user verb path bytes : List ℕ) (result : Result (Option Event) NoMemory)
+    → IfOk result (λ found. MatchOption found (NoTwoFields (codes "nn" ∷ user ∷ verb ∷ path ∷ fields_of bytes)) (SpellsEvent (codes "nn" ∷ user ∷ verb ∷ path ∷ fields_of bytes)))
     → Reads (codes "nn" ∷ user ∷ verb ∷ path ∷ fields_of bytes) result
-snapshot_tells user verb path bytes (Ok None) told = more_fields user verb path bytes told
-snapshot_tells user verb path bytes (Ok (Some event)) told = told
-snapshot_tells user verb path bytes (Err wanting) told = told
+two_fields_tell user verb path bytes (Ok None) told = more_fields user verb path bytes told
+two_fields_tell user verb path bytes (Ok (Some event)) told = told
+two_fields_tell user verb path bytes (Err wanting) told = told
 
 -- the same for fields that are equal to these
 pub zones_told : (fields rest : List (List ℕ)) (user verb : List ℕ) (result : Result (Option Event) NoMemory) → fields ≡ user ∷ rest → rest ≡ verb ∷ []
@@ -99,8 +100,8 @@ pub path_told : (fields : List (List ℕ)) (user verb path : List ℕ) (result :
 path_told fields user verb path result is told =
     reads_same (codes "nn" ∷ user ∷ verb ∷ fields) (codes "nn" ∷ user ∷ verb ∷ path ∷ []) result (ap (λ fs. codes "nn" ∷ user ∷ verb ∷ fs) (sym is)) (path_tells user verb path result told)
 
-pub snapshot_told : (fields : List (List ℕ)) (user verb path bytes : List ℕ) (result : Result (Option Event) NoMemory) → fields ≡ path ∷ fields_of bytes
-    → IfOk result (λ found. MatchOption found (NoSnapshot (codes "nn" ∷ user ∷ verb ∷ path ∷ fields_of bytes)) (SpellsEvent (codes "nn" ∷ user ∷ verb ∷ path ∷ fields_of bytes)))
+pub two_fields_told : (fields : List (List ℕ)) (user verb path bytes : List ℕ) (result : Result (Option Event) NoMemory) → fields ≡ path ∷ fields_of bytes
+    → IfOk result (λ found. MatchOption found (NoTwoFields (codes "nn" ∷ user ∷ verb ∷ path ∷ fields_of bytes)) (SpellsEvent (codes "nn" ∷ user ∷ verb ∷ path ∷ fields_of bytes)))
     → Reads (codes "nn" ∷ user ∷ verb ∷ fields) result
-snapshot_told fields user verb path bytes result is told =
-    reads_same (codes "nn" ∷ user ∷ verb ∷ fields) (codes "nn" ∷ user ∷ verb ∷ path ∷ fields_of bytes) result (ap (λ fs. codes "nn" ∷ user ∷ verb ∷ fs) (sym is)) (snapshot_tells user verb path bytes result told)
+two_fields_told fields user verb path bytes result is told =
+    reads_same (codes "nn" ∷ user ∷ verb ∷ fields) (codes "nn" ∷ user ∷ verb ∷ path ∷ fields_of bytes) result (ap (λ fs. codes "nn" ∷ user ∷ verb ∷ fs) (sym is)) (two_fields_tell user verb path bytes result told)

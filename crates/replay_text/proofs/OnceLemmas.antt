@@ -10,7 +10,7 @@ use Rattle.kms_calls.specs.declared.calls.KmsCall.{KmsCall}
 use Rattle.kms_calls.specs.declared.calls.KmsCall.TheVariants as call
 use Rattle.hk_events.specs.declared.event.Event.{Event}
 use Rattle.hk_events.specs.declared.event.Event.TheVariants as event
-use Rattle.replay_text.specs.Events.{AreTriples, IsEscaped, IsMaterial, IsQuiet, IsTriple, IsUser, Spells, SpellsAskCreate, SpellsAskZone, SpellsBatch, SpellsCall, SpellsCreate, SpellsEdek, SpellsEvent, SpellsGenerate, SpellsKept, SpellsKms, SpellsMaterial, SpellsMetadatas, SpellsNamed, SpellsPath, SpellsRoll, SpellsSent, SpellsSnapshot, SpellsVersion, SpellsZones, delete_verb, fields_of, is_comma}
+use Rattle.replay_text.specs.Events.{AreTriples, IsEscaped, IsMaterial, IsQuiet, IsTriple, IsUser, Spells, SpellsAskCreate, SpellsAskZone, SpellsBatch, SpellsCall, SpellsCreate, SpellsEdek, SpellsEvent, SpellsGenerate, SpellsKept, SpellsKms, SpellsMaterial, SpellsMetadatas, SpellsNamed, SpellsPath, SpellsRoll, SpellsSent, SpellsTwoFields, SpellsVersion, SpellsZones, delete_verb, fields_of, is_comma}
 use Rattle.replay_text.proofs.CallLemmas.{apart, two_verbs}
 
 both : (s t : Bool) → (s && t) ≡ true → (s ≡ true) × (t ≡ true)
@@ -371,17 +371,17 @@ same_path verb fields user other path also x y =
     let path_field : x.path_field ≡ y.path_field = cc in
     (user_once x.user_field y.user_field user other user_field x.user_is y.user_is, path_once x.path_field y.path_field path also path_field x.path_is y.path_is)
 
--- the same for lines with the name of a snapshot
-same_snapshot : (verb : List ℕ) (fields : List (List ℕ)) (user other path also name second : List ℕ) → SpellsSnapshot verb fields user path name → SpellsSnapshot verb fields other also second → (user ≡ other) × ((path ≡ also) × (name ≡ second))
-same_snapshot verb fields user other path also name second x y =
+-- the same for lines with another path or the name of a snapshot
+same_two_fields : (verb : List ℕ) (fields : List (List ℕ)) (user other path also second last : List ℕ) → SpellsTwoFields verb fields user path second → SpellsTwoFields verb fields other also last → (user ≡ other) × ((path ≡ also) × (second ≡ last))
+same_two_fields verb fields user other path also second last x y =
     let same = sym x.fields_are ∙ y.fields_are in
     let user_field : x.user_field ≡ y.user_field = cc in
     let path_field : x.path_field ≡ y.path_field = cc in
-    let name_field : x.name_field ≡ y.name_field = cc in (
+    let second_field : x.second_field ≡ y.second_field = cc in (
       user_once x.user_field y.user_field user other user_field x.user_is y.user_is,
       (
         path_once x.path_field y.path_field path also path_field x.path_is y.path_is,
-        path_once x.name_field y.name_field name second name_field x.name_is y.name_is,
+        path_once x.second_field y.second_field second last second_field x.second_is y.second_is,
       ),
     )
 
@@ -421,7 +421,7 @@ data Kind : Type 0 where
   Call : Kind
   Restart : (service : List ℕ) → Kind
   OnPath : (verb : List ℕ) → Kind
-  OnSnapshot : (verb : List ℕ) → Kind
+  OnTwoFields : (verb : List ℕ) → Kind
   OnZones : Kind
   NewFile : Kind
   NewZone : Kind
@@ -436,7 +436,7 @@ abbrev name_kind : List (List ℕ) → Kind
 name_kind [] = Call
 name_kind (verb ∷ []) = OnZones
 name_kind (verb ∷ path ∷ []) = OnPath verb
-name_kind (verb ∷ path ∷ name ∷ more) = OnSnapshot verb
+name_kind (verb ∷ path ∷ second ∷ more) = OnTwoFields verb
 
 -- from the fields after `ask U`
 abbrev ask_kind : List (List ℕ) → Kind
@@ -465,12 +465,13 @@ kind event.RestartName = Restart (codes "nn")
 kind (event.Mkdir user path) = OnPath (codes "mkdir")
 kind (event.Delete user path false) = OnPath (codes "delete")
 kind (event.Delete user path true) = OnPath (codes "rdelete")
+kind (event.Rename user path to) = OnTwoFields (codes "rename")
 kind (event.Info user path) = OnPath (codes "info")
 kind (event.List user path) = OnPath (codes "list")
 kind (event.Allow user path) = OnPath (codes "allow")
 kind (event.Disallow user path) = OnPath (codes "disallow")
-kind (event.Snap user path name) = OnSnapshot (codes "snap")
-kind (event.Unsnap user path name) = OnSnapshot (codes "unsnap")
+kind (event.Snap user path name) = OnTwoFields (codes "snap")
+kind (event.Unsnap user path name) = OnTwoFields (codes "unsnap")
 kind (event.Zones user) = OnZones
 kind (event.AskCreate user path) = NewFile
 kind (event.AskZone user path key) = NewZone
@@ -484,6 +485,7 @@ kind_is fields event.RestartName x = ap kind_of x
 kind_is fields (event.Mkdir user path) x = ap kind_of x.fields_are
 kind_is fields (event.Delete user path false) x = ap kind_of x.fields_are
 kind_is fields (event.Delete user path true) x = ap kind_of x.fields_are
+kind_is fields (event.Rename user path to) x = ap kind_of x.fields_are
 kind_is fields (event.Info user path) x = ap kind_of x.fields_are
 kind_is fields (event.List user path) x = ap kind_of x.fields_are
 kind_is fields (event.Allow user path) x = ap kind_of x.fields_are
@@ -516,8 +518,13 @@ path_event verb user path =
     then event.Allow user path
     else event.Disallow user path
 
-abbrev snapshot_event : List ℕ → List ℕ → List ℕ → List ℕ → Event
-snapshot_event verb user path name = if bytes_eq verb (codes "snap") then event.Snap user path name else event.Unsnap user path name
+abbrev two_field_event : List ℕ → List ℕ → List ℕ → List ℕ → Event
+two_field_event verb user path second =
+    if bytes_eq verb (codes "rename")
+    then event.Rename user path second
+    else if bytes_eq verb (codes "snap")
+    then event.Snap user path second
+    else event.Unsnap user path second
 
 abbrev number_event : List ℕ → ℕ → Event
 number_event verb n = if bytes_eq verb (codes "draw") then event.Draw n else event.Finish n
@@ -527,7 +534,7 @@ abbrev Says : Kind → List (List ℕ) → Event → Type 0
 Says Call fields e = (user : List ℕ) × ((c : KmsCall) × (SpellsKms fields user c × (e ≡ event.Kms user c)))
 Says (Restart service) fields e = e ≡ restart_event service
 Says (OnPath verb) fields e = (user : List ℕ) × ((path : List ℕ) × (SpellsPath verb fields user path × (e ≡ path_event verb user path)))
-Says (OnSnapshot verb) fields e = (user : List ℕ) × ((path : List ℕ) × ((name : List ℕ) × (SpellsSnapshot verb fields user path name × (e ≡ snapshot_event verb user path name))))
+Says (OnTwoFields verb) fields e = (user : List ℕ) × ((path : List ℕ) × ((second : List ℕ) × (SpellsTwoFields verb fields user path second × (e ≡ two_field_event verb user path second))))
 Says OnZones fields e = (user : List ℕ) × (SpellsZones fields user × (e ≡ event.Zones user))
 Says NewFile fields e = (user : List ℕ) × ((path : List ℕ) × (SpellsAskCreate fields user path × (e ≡ event.AskCreate user path)))
 Says NewZone fields e = (user : List ℕ) × ((path : List ℕ) × ((key : List ℕ) × (SpellsAskZone fields user path key × (e ≡ event.AskZone user path key))))
@@ -540,6 +547,7 @@ says fields event.RestartName x = refl
 says fields (event.Mkdir user path) x = (user, (path, (x, refl)))
 says fields (event.Delete user path false) x = (user, (path, (x, refl)))
 says fields (event.Delete user path true) x = (user, (path, (x, refl)))
+says fields (event.Rename user path to) x = (user, (path, (to, (x, refl))))
 says fields (event.Info user path) x = (user, (path, (x, refl)))
 says fields (event.List user path) x = (user, (path, (x, refl)))
 says fields (event.Allow user path) x = (user, (path, (x, refl)))
@@ -558,9 +566,9 @@ says_once (Restart service) fields a b is also = is ∙ sym also
 says_once (OnPath verb) fields a b (user, (path, (x, is))) (other, (second, (y, also))) =
     let same = same_path verb fields user other path second x y in
     is ∙ (λ i. path_event verb (same.0 i) (same.1 i)) ∙ sym also
-says_once (OnSnapshot verb) fields a b (user, (path, (name, (x, is)))) (other, (second, (title, (y, also)))) =
-    let same = same_snapshot verb fields user other path second name title x y in
-    is ∙ (λ i. snapshot_event verb (same.0 i) (same.1.0 i) (same.1.1 i)) ∙ sym also
+says_once (OnTwoFields verb) fields a b (user, (path, (second, (x, is)))) (other, (at, (last, (y, also)))) =
+    let same = same_two_fields verb fields user other path at second last x y in
+    is ∙ (λ i. two_field_event verb (same.0 i) (same.1.0 i) (same.1.1 i)) ∙ sym also
 says_once OnZones fields a b (user, (x, is)) (other, (y, also)) = is ∙ ap event.Zones (zones_once fields user other x y) ∙ sym also
 says_once NewFile fields a b (user, (path, (x, is))) (other, (second, (y, also))) = is ∙ ask_create_once fields user other path second x y ∙ sym also
 says_once NewZone fields a b (user, (path, (key, (x, is)))) (other, (second, (word, (y, also)))) = is ∙ ask_zone_once fields user other path second key word x y ∙ sym also
@@ -590,12 +598,13 @@ begins fields event.RestartKms x = record { first = 114; front = codes "estart";
 begins fields event.RestartName x = record { first = 114; front = codes "estart"; more = codes "nn" ∷ []; begin = x; no_comment = λ e. omega (arith, e) }
 begins fields (event.Mkdir user path) x = record { first = 110; front = codes "n"; more = x.user_field ∷ codes "mkdir" ∷ x.path_field ∷ []; begin = x.fields_are; no_comment = λ e. omega (arith, e) }
 begins fields (event.Delete user path recursive) x = record { first = 110; front = codes "n"; more = x.user_field ∷ delete_verb recursive ∷ x.path_field ∷ []; begin = x.fields_are; no_comment = λ e. omega (arith, e) }
+begins fields (event.Rename user path to) x = record { first = 110; front = codes "n"; more = x.user_field ∷ codes "rename" ∷ x.path_field ∷ x.second_field ∷ []; begin = x.fields_are; no_comment = λ e. omega (arith, e) }
 begins fields (event.Info user path) x = record { first = 110; front = codes "n"; more = x.user_field ∷ codes "info" ∷ x.path_field ∷ []; begin = x.fields_are; no_comment = λ e. omega (arith, e) }
 begins fields (event.List user path) x = record { first = 110; front = codes "n"; more = x.user_field ∷ codes "list" ∷ x.path_field ∷ []; begin = x.fields_are; no_comment = λ e. omega (arith, e) }
 begins fields (event.Allow user path) x = record { first = 110; front = codes "n"; more = x.user_field ∷ codes "allow" ∷ x.path_field ∷ []; begin = x.fields_are; no_comment = λ e. omega (arith, e) }
 begins fields (event.Disallow user path) x = record { first = 110; front = codes "n"; more = x.user_field ∷ codes "disallow" ∷ x.path_field ∷ []; begin = x.fields_are; no_comment = λ e. omega (arith, e) }
-begins fields (event.Snap user path name) x = record { first = 110; front = codes "n"; more = x.user_field ∷ codes "snap" ∷ x.path_field ∷ x.name_field ∷ []; begin = x.fields_are; no_comment = λ e. omega (arith, e) }
-begins fields (event.Unsnap user path name) x = record { first = 110; front = codes "n"; more = x.user_field ∷ codes "unsnap" ∷ x.path_field ∷ x.name_field ∷ []; begin = x.fields_are; no_comment = λ e. omega (arith, e) }
+begins fields (event.Snap user path name) x = record { first = 110; front = codes "n"; more = x.user_field ∷ codes "snap" ∷ x.path_field ∷ x.second_field ∷ []; begin = x.fields_are; no_comment = λ e. omega (arith, e) }
+begins fields (event.Unsnap user path name) x = record { first = 110; front = codes "n"; more = x.user_field ∷ codes "unsnap" ∷ x.path_field ∷ x.second_field ∷ []; begin = x.fields_are; no_comment = λ e. omega (arith, e) }
 begins fields (event.Zones user) x = record { first = 110; front = codes "n"; more = x.user_field ∷ codes "zones" ∷ []; begin = x.fields_are; no_comment = λ e. omega (arith, e) }
 begins fields (event.AskCreate user path) x = record { first = 97; front = codes "sk"; more = x.user_field ∷ codes "create" ∷ x.path_field ∷ []; begin = x.fields_are; no_comment = λ e. omega (arith, e) }
 begins fields (event.AskZone user path key) x = record { first = 97; front = codes "sk"; more = x.user_field ∷ codes "zone" ∷ x.path_field ∷ key ∷ []; begin = x.fields_are; no_comment = λ e. omega (arith, e) }

@@ -193,15 +193,15 @@ pub record SpellsPath (verb : List ℕ) (fields : List (List ℕ)) (user path : 
   pub user_is : IsUser user_field user
   pub path_is : IsEscaped path_field path
 
--- `nn U`, this verb, a path and the name of a snapshot
-pub record SpellsSnapshot (verb : List ℕ) (fields : List (List ℕ)) (user path name : List ℕ) : Type 0 where
+-- `nn U`, this verb, a path, and another path or the name of a snapshot
+pub record SpellsTwoFields (verb : List ℕ) (fields : List (List ℕ)) (user path second : List ℕ) : Type 0 where
   pub user_field : List ℕ
   pub path_field : List ℕ
-  pub name_field : List ℕ
-  pub fields_are : fields ≡ codes "nn" ∷ user_field ∷ verb ∷ path_field ∷ name_field ∷ []
+  pub second_field : List ℕ
+  pub fields_are : fields ≡ codes "nn" ∷ user_field ∷ verb ∷ path_field ∷ second_field ∷ []
   pub user_is : IsUser user_field user
   pub path_is : IsEscaped path_field path
-  pub name_is : IsEscaped name_field name
+  pub second_is : IsEscaped second_field second
 
 -- `nn U zones`
 pub record SpellsZones (fields : List (List ℕ)) (user : List ℕ) : Type 0 where
@@ -247,12 +247,13 @@ SpellsEvent fields event.RestartKms = SpellsRestart (codes "kms") fields
 SpellsEvent fields event.RestartName = SpellsRestart (codes "nn") fields
 SpellsEvent fields (event.Mkdir user path) = SpellsPath (codes "mkdir") fields user path
 SpellsEvent fields (event.Delete user path recursive) = SpellsPath (delete_verb recursive) fields user path
+SpellsEvent fields (event.Rename user path to) = SpellsTwoFields (codes "rename") fields user path to
 SpellsEvent fields (event.Info user path) = SpellsPath (codes "info") fields user path
 SpellsEvent fields (event.List user path) = SpellsPath (codes "list") fields user path
 SpellsEvent fields (event.Allow user path) = SpellsPath (codes "allow") fields user path
 SpellsEvent fields (event.Disallow user path) = SpellsPath (codes "disallow") fields user path
-SpellsEvent fields (event.Snap user path name) = SpellsSnapshot (codes "snap") fields user path name
-SpellsEvent fields (event.Unsnap user path name) = SpellsSnapshot (codes "unsnap") fields user path name
+SpellsEvent fields (event.Snap user path name) = SpellsTwoFields (codes "snap") fields user path name
+SpellsEvent fields (event.Unsnap user path name) = SpellsTwoFields (codes "unsnap") fields user path name
 SpellsEvent fields (event.Zones user) = SpellsZones fields user
 SpellsEvent fields (event.AskCreate user path) = SpellsAskCreate fields user path
 SpellsEvent fields (event.AskZone user path key) = SpellsAskZone fields user path key
@@ -276,13 +277,14 @@ IsPathEvent verb user path e =
     ⊎ ((verb ≡ codes "rdelete") × (e ≡ event.Delete user path true)) ⊎ ((verb ≡ codes "info") × (e ≡ event.Info user path)) ⊎ ((verb ≡ codes "list") × (e ≡ event.List user path))
     ⊎ ((verb ≡ codes "allow") × (e ≡ event.Allow user path)) ⊎ ((verb ≡ codes "disallow") × (e ≡ event.Disallow user path))
 
--- the verbs that take a path and the name of a snapshot, and the event of each
-abbrev pub IsSnapshotVerb : List ℕ → Type 0
-IsSnapshotVerb verb = (verb ≡ codes "snap") ⊎ (verb ≡ codes "unsnap")
+-- the verbs that take a path, and another path or the name of a snapshot, and the event of each
+abbrev pub IsTwoFieldVerb : List ℕ → Type 0
+IsTwoFieldVerb verb = (verb ≡ codes "rename") ⊎ (verb ≡ codes "snap") ⊎ (verb ≡ codes "unsnap")
 
-abbrev pub IsSnapshotEvent : List ℕ → List ℕ → List ℕ → List ℕ → Event → Type 0
-IsSnapshotEvent verb user path name e =
-    ((verb ≡ codes "snap") × (e ≡ event.Snap user path name)) ⊎ ((verb ≡ codes "unsnap") × (e ≡ event.Unsnap user path name))
+abbrev pub IsTwoFieldEvent : List ℕ → List ℕ → List ℕ → List ℕ → Event → Type 0
+IsTwoFieldEvent verb user path second e =
+    ((verb ≡ codes "rename") × (e ≡ event.Rename user path second)) ⊎ ((verb ≡ codes "snap") × (e ≡ event.Snap user path second))
+    ⊎ ((verb ≡ codes "unsnap") × (e ≡ event.Unsnap user path second))
 
 -- the line is empty or a comment: its first byte is '#'
 abbrev pub IsQuiet : List ℕ → Type 0

@@ -1,7 +1,7 @@
 //! Event lines.
 ghost use Rattle.std.specs.Prelude.{◌≡◌, ◌≢◌, ◌≤◌, ◌⊎◌, ◌∷◌, [], ℕ, List, length, codes, IfOk, MatchOption, MatchResult};
 ghost use Rattle.kms_calls.specs.declared.calls.KmsCall.{KmsCall};
-ghost use Rattle.replay_text.specs.Events.{IsBad, IsPathEvent, IsPathVerb, IsQuiet, IsSnapshotEvent, IsSnapshotVerb, Spells, SpellsEvent, SpellsKms, SpellsPath, SpellsRestart, SpellsSnapshot, SpellsZones, fields_of};
+ghost use Rattle.replay_text.specs.Events.{IsBad, IsPathEvent, IsPathVerb, IsQuiet, IsTwoFieldEvent, IsTwoFieldVerb, Spells, SpellsEvent, SpellsKms, SpellsPath, SpellsRestart, SpellsTwoFields, SpellsZones, fields_of};
 ghost use Rattle.hk_events.specs.declared.event.Event.{Event};
 ghost use Rattle.hk_events.specs.declared.event.Event.TheVariants as event;
 
@@ -129,7 +129,7 @@ fn read_zones(alloc: Global, user: &[u8], verb: &[u8]) -> Result<Option<Event>, 
     Ok(Some(Event::Zones { user }))
 }
 
-/// Reads `nn U`, a verb, a path and perhaps the name of a snapshot, from after the verb.
+/// Reads `nn U`, a verb, a path, and perhaps another path or the name of a snapshot, from after the verb.
 fn read_path_event(
     alloc: Global,
     user: &[u8],
@@ -141,7 +141,7 @@ fn read_path_event(
     let (path, rest) = cut(fields);
     match rest {
         None => read_path_call(alloc, user, verb, path),
-        Some(rest) => read_snapshot_call(alloc, user, verb, path, rest),
+        Some(rest) => read_two_field_call(alloc, user, verb, path, rest),
     }
 }
 
@@ -163,17 +163,17 @@ fn read_path_call(
     Ok(path_event(verb, user, path))
 }
 
-/// Reads `nn U`, a verb, a path and the name of a snapshot, from after the path.
-fn read_snapshot_call(
+/// Reads `nn U`, a verb, a path, and another path or the name of a snapshot, from after the path.
+fn read_two_field_call(
     alloc: Global,
     user: &[u8],
     verb: &[u8],
     path: &[u8],
     fields: &[u8],
 ) -> Result<Option<Event>, NoMemory>
-    ensures { IfOk result (λ found. MatchOption found ((word who p name : List ℕ) → IsSnapshotVerb word → ¬ SpellsSnapshot word (codes "nn" ∷ user.now ∷ verb.now ∷ path.now ∷ fields_of fields.now) who p name) (SpellsEvent (codes "nn" ∷ user.now ∷ verb.now ∷ path.now ∷ fields_of fields.now))) }
+    ensures { IfOk result (λ found. MatchOption found ((word who p second : List ℕ) → IsTwoFieldVerb word → ¬ SpellsTwoFields word (codes "nn" ∷ user.now ∷ verb.now ∷ path.now ∷ fields_of fields.now) who p second) (SpellsEvent (codes "nn" ∷ user.now ∷ verb.now ∷ path.now ∷ fields_of fields.now))) }
 {
-    let Some(name) = only_field(fields) else {
+    let Some(second) = only_field(fields) else {
         return Ok(None);
     };
     let Some(user) = read_user(alloc, user)? else {
@@ -182,22 +182,37 @@ fn read_snapshot_call(
     let Some(path) = read_escaped(alloc, path)? else {
         return Ok(None);
     };
-    let Some(name) = read_escaped(alloc, name)? else {
+    let Some(second) = read_escaped(alloc, second)? else {
         return Ok(None);
     };
-    Ok(snapshot_event(verb, user, path, name))
+    Ok(two_field_event(verb, user, path, second))
 }
 
-/// Returns the event of a verb that takes a path and the name of a snapshot, or `None` if there is no
-/// such verb.
-fn snapshot_event(verb: &[u8], user: Text, path: ByteList, name: ByteList) -> Option<Event>
-    ensures { MatchOption result (¬ IsSnapshotVerb verb.now) (IsSnapshotEvent verb.now user path name) }
+/// Returns the event of a verb that takes a path, and another path or the name of a snapshot, or
+/// `None` if there is no such verb.
+fn two_field_event(verb: &[u8], user: Text, path: ByteList, second: ByteList) -> Option<Event>
+    ensures { MatchOption result (¬ IsTwoFieldVerb verb.now) (IsTwoFieldEvent verb.now user path second) }
 {
+    if verb == b"rename".as_slice() {
+        return Some(Event::Rename {
+            user,
+            path,
+            to: second,
+        });
+    }
     if verb == b"snap".as_slice() {
-        return Some(Event::Snap { user, path, name });
+        return Some(Event::Snap {
+            user,
+            path,
+            name: second,
+        });
     }
     if verb == b"unsnap".as_slice() {
-        return Some(Event::Unsnap { user, path, name });
+        return Some(Event::Unsnap {
+            user,
+            path,
+            name: second,
+        });
     }
     None
 }

@@ -313,6 +313,7 @@ fn refusal_name(why: &NameRefusal) -> &'static [u8]
         NameRefusal::NotEmpty => b"N5 NotEmpty",
         NameRefusal::NotSuperuser => b"N6 NotSuperuser",
         NameRefusal::AlreadyInZone => b"N7 AlreadyInZone",
+        NameRefusal::CrossZone => b"N9 CrossZone",
         NameRefusal::HasSnapshots => b"N11 HasSnapshots",
         NameRefusal::NotSnapshottable => b"N12 NotSnapshottable",
         NameRefusal::SnapshotExists => b"N13 SnapshotExists",
