@@ -1,27 +1,30 @@
 -- A start, and a history after it.
-use Rattle.std.proofs.Common.{◌≡◌, ◌⊎◌, inl, inr, ℕ, [], ◌∷◌, Err, ap, subst, sym, ◌∙◌}
+use Rattle.std.proofs.Common.{◌≡◌, ◌⊎◌, inl, inr, ⊎_elim, ℕ, zero, suc, [], ◌∷◌, refl, subst, sym}
 use Rattle.std.specs.Prelude.{IsErrOf}
 use Rattle.std.specs.declared.result.Result.{Result}
-use Rattle.hk_base.specs.Disk.{DiskState, Image, LeavesOnly, Tells}
-use Rattle.frame_log.specs.Stands.{LeavesFrom}
+use Rattle.hk_base.specs.Disk.{DiskState, Image, Tells}
+use Rattle.hk_base.specs.Faults.{Rose}
 use Rattle.frame_log.specs.declared.fault.StartFault.{StartFault}
 use Rattle.frame_log.specs.declared.fault.StartFault.TheVariants as start
-use Rattle.kms_store.specs.Store.{IsLeftByStart}
-use Rattle.name_store.specs.Store.{IsLeftByStart as IsLeftByNameStart}
 use Rattle.hk_events.specs.declared.event.Event.{Event}
+use Rattle.prop_text.specs.SizeValues.{SizeValues}
 use Rattle.world_run.specs.declared.fault.WorldFault.{WorldFault}
 use Rattle.world_run.specs.Acknowledged.{Acknowledged, LeavesBoth, RunBoth}
 use Rattle.world_run.specs.Keeps.{Begins, LeftByStarts}
 use Rattle.world_run.specs.Ledger.{Hidden}
 use Rattle.world_run.specs.Linked.{DrawsApart, LinkedWorld, WordsApart}
+use Rattle.world_run.specs.Starts.{FailsAt, OpensBoth}
 use Rattle.world_run.specs.World.{RunningWorld, WorldState, first_world, world_of}
+use Rattle.world_run.proofs.StartLemmas.{both-for, fails-at, fails-so}
+use Rattle.hkms_commands.specs.declared.replay.ReplayEnd.TheVariants as ended
+use Rattle.hkms_commands.specs.Replay.{ended_by}
 use Rattle.hkms_commands.specs.Logs.{HiddenBefore, LeftByStop, SurvivesLast, SurvivesUntil}
 use Rattle.hkms_commands.specs.Run.{FilesOpen, History, IsHidden, RestsAfter, StayApart, SurvivesIn}
 use Rattle.hkms_commands.proofs.LivedLemmas.{leaves_on, weaker}
 
 -- what may be hidden before a run is hidden beside the first world, which is linked, and whose zone files open
-first_hidden : (old new : DiskState) (r : RunningWorld) → Begins old new r → Tells old → (h : Hidden) → HiddenBefore old h → IsHidden (world_of r) h
-first_hidden old new r b told h before =
+first_hidden : (sizes : SizeValues) (old new : DiskState) (r : RunningWorld) → Begins sizes old new r → Tells old → (h : Hidden) → HiddenBefore old h → IsHidden (world_of r) h
+first_hidden sizes old new r b told h before =
     subst (IsHidden (world_of r)) (sym before.is) (record { linked = b.linked told before.past before.sound; files_open = b.files_open told before.past before.sound })
 
 -- fewer may have been hidden before
@@ -39,11 +42,11 @@ in_weaker A B f done first words (x ∷ earlier) image (inl left) = inl (rests_w
 in_weaker A B f done first words (x ∷ earlier) image (inr (inl left)) = inr (inl (left.0, λ h is. left.1 h (f h is)))
 in_weaker A B f done first words (x ∷ earlier) image (inr (inr left)) = inr (inr (in_weaker A B f done first words earlier image left))
 
-module _ (old mid new : DiskState) (r : RunningWorld) (b : Begins old mid r) (told : Tells old) (words : ℕ → ℕ) (h : History) (Cut : Event → Type 0) (done : Acknowledged) where
+module _ (sizes : SizeValues) (old mid new : DiskState) (r : RunningWorld) (b : Begins sizes old mid r) (told : Tells old) (words : ℕ → ℕ) (h : History) (Cut : Event → Type 0) (done : Acknowledged) where
   linked : (x : Hidden) → HiddenBefore old x → LinkedWorld (world_of r) x
-  linked x before = (first_hidden old mid r b told x before).linked
+  linked x before = (first_hidden sizes old mid r b told x before).linked
 
-  until_kept : (image : Image) → SurvivesUntil Cut done (LinkedWorld (world_of r)) (world_of r) words h image → SurvivesUntil Cut done (HiddenBefore old) (first_world b.table b.names) words h image
+  until_kept : (image : Image) → SurvivesUntil Cut done (LinkedWorld (world_of r)) (world_of r) words h image → SurvivesUntil Cut done (HiddenBefore old) (first_world sizes b.table b.names) words h image
   until_kept image left = subst (λ (w : WorldState). SurvivesUntil Cut done (HiddenBefore old) w words h image) b.first (go left)
     where
       go : SurvivesUntil Cut done (LinkedWorld (world_of r)) (world_of r) words h image → SurvivesUntil Cut done (HiddenBefore old) (world_of r) words h image
@@ -52,11 +55,11 @@ module _ (old mid new : DiskState) (r : RunningWorld) (b : Begins old mid r) (to
 
   -- what the start and the history left of both files, if the start acknowledged this
   pub survives_kept : LeavesBoth old mid (LeftByStarts old) → RunBoth old mid → LeavesBoth mid new (SurvivesUntil Cut done (LinkedWorld (world_of r)) (world_of r) words h)
-      → LeavesBoth old new (λ image. LeftByStarts old image ⊎ SurvivesUntil Cut done (HiddenBefore old) (first_world b.table b.names) words h image)
+      → LeavesBoth old new (λ image. LeftByStarts old image ⊎ SurvivesUntil Cut done (HiddenBefore old) (first_world sizes b.table b.names) words h image)
   survives_kept moments run survives = leaves_on run (weaker (λ image left. inl left) moments) (weaker (λ image left. inr (until_kept image left)) survives)
 
   -- and what is left in the end
-  pub last_kept : (image : Image) → SurvivesLast Cut done (LinkedWorld (world_of r)) (world_of r) words h image → SurvivesLast Cut done (HiddenBefore old) (first_world b.table b.names) words h image
+  pub last_kept : (image : Image) → SurvivesLast Cut done (LinkedWorld (world_of r)) (world_of r) words h image → SurvivesLast Cut done (HiddenBefore old) (first_world sizes b.table b.names) words h image
   last_kept image left = subst (λ (w : WorldState). SurvivesLast Cut done (HiddenBefore old) w words h image) b.first (go left)
     where
       go : SurvivesLast Cut done (LinkedWorld (world_of r)) (world_of r) words h image → SurvivesLast Cut done (HiddenBefore old) (world_of r) words h image
@@ -64,51 +67,28 @@ module _ (old mid new : DiskState) (r : RunningWorld) (b : Begins old mid r) (to
       go (inr end) = inr (stop_weaker (LinkedWorld (world_of r)) (HiddenBefore old) linked Cut done (world_of r) words h image end)
 
   -- the promise on zone files, with a ledger that the files at the start allow
-  pub promise_kept : ((x : Hidden) → IsHidden (world_of r) x → FilesOpen x (world_of r) words h) → (x : Hidden) → HiddenBefore old x → FilesOpen x (first_world b.table b.names) words h
-  promise_kept opens x before = subst (λ (w : WorldState). FilesOpen x w words h) b.first (opens x (first_hidden old mid r b told x before))
+  pub promise_kept : ((x : Hidden) → IsHidden (world_of r) x → FilesOpen x (world_of r) words h) → (x : Hidden) → HiddenBefore old x → FilesOpen x (first_world sizes b.table b.names) words h
+  promise_kept opens x before = subst (λ (w : WorldState). FilesOpen x w words h) b.first (opens x (first_hidden sizes old mid r b told x before))
 
   -- and its draws stay apart
-  pub apart_kept : ((x : Hidden) → LinkedWorld (world_of r) x → DrawsApart x → StayApart x (world_of r) words h) → (x : Hidden) → HiddenBefore old x → WordsApart x → StayApart x (first_world b.table b.names) words h
+  pub apart_kept : ((x : Hidden) → LinkedWorld (world_of r) x → DrawsApart x → StayApart x (world_of r) words h) → (x : Hidden) → HiddenBefore old x → WordsApart x → StayApart x (first_world sizes b.table b.names) words h
   apart_kept stay x before apart =
       subst (λ (w : WorldState). StayApart x w words h) b.first
       (stay x (linked x before) (subst DrawsApart (sym before.is) (b.draws_apart told before.past before.sound (subst WordsApart before.is apart))))
 
--- which fault a start had
+-- why a start failed
+pub not_opened : (old new : DiskState) (result : Result RunningWorld WorldFault) (why : WorldFault) → IsErrOf result why → OpensBoth old new (λ file fault. IsErrOf result (record { file = file; fault = fault }))
+    → OpensBoth old new (FailsAt why.file why.fault)
+not_opened old new result why is o = both-for (fails-so result why is) (fails-at result why is) o
 
-abbrev failed_by : WorldFault → Result RunningWorld WorldFault
-failed_by why = Err why
+-- it counted the fault of its disk
+pub start_cause : (old new : DiskState) (file : ℕ) (fault : StartFault) → OpensBoth old new (FailsAt file fault) → fault ≡ start.StoreFault → Rose old.faults new.faults
+start_cause old new file fault o is = ⊎_elim (λ first. o.keys.cause (first, is)) (λ second. o.names.cause (second, is)) (o.file file fault (refl, refl))
 
-pub fails_so : (result : Result RunningWorld WorldFault) (why : WorldFault) (file : ℕ) (fault : StartFault) → IsErrOf result why → why.file ≡ file → why.fault ≡ fault → IsErrOf result (record { file = file; fault = fault })
-fails_so result why file fault is of_file of_fault = is ∙ (λ i. failed_by (record { file = of_file i; fault = of_fault i }))
-
-one_fault : (result : Result RunningWorld WorldFault) (a b : WorldFault) → IsErrOf result a → IsErrOf result b → a ≡ b
-one_fault result a b is that = cc (is, that)
-
--- what a start leaves of each file since the first sync of its opening
-
-abbrev KeysSince : DiskState → DiskState → Result RunningWorld WorldFault → Type 0
-KeysSince old new result =
-    ((IsErrOf result (record { file = 0; fault = start.StoreFault }) ⊎ IsErrOf result (record { file = 0; fault = start.NoMemory })) × LeavesOnly 0 old new (old.leaves 0)) ⊎ LeavesFrom 0 old new (IsLeftByStart (old.reads 0))
-
-abbrev NamesSince : DiskState → DiskState → Result RunningWorld WorldFault → Type 0
-NamesSince old new result =
-    ((((fault : StartFault) × IsErrOf result (record { file = 0; fault = fault })) ⊎ IsErrOf result (record { file = 1; fault = start.StoreFault })) × LeavesBoth old new (λ c. old.leaves 1 (c 1)))
-    ⊎ LeavesFrom 1 old new (IsLeftByNameStart (old.reads 1))
-
-pub keys_fail : (old new : DiskState) (result : Result RunningWorld WorldFault) (why : WorldFault) → IsErrOf result why → KeysSince old new result
-    → ((why.file ≡ 0) × ((why.fault ≡ start.StoreFault) ⊎ (why.fault ≡ start.NoMemory)) × LeavesOnly 0 old new (old.leaves 0)) ⊎ LeavesFrom 0 old new (IsLeftByStart (old.reads 0))
-keys_fail old new result why is (inl (inl that, only)) =
-    let same = one_fault result why (record { file = 0; fault = start.StoreFault }) is that in
-    inl (ap (λ (f : WorldFault). f.file) same, inl (ap (λ (f : WorldFault). f.fault) same), only)
-keys_fail old new result why is (inl (inr that, only)) =
-    let same = one_fault result why (record { file = 0; fault = start.NoMemory }) is that in
-    inl (ap (λ (f : WorldFault). f.file) same, inr (ap (λ (f : WorldFault). f.fault) same), only)
-keys_fail old new result why is (inr since) = inr since
-
-pub names_fail : (old new : DiskState) (result : Result RunningWorld WorldFault) (why : WorldFault) → IsErrOf result why → NamesSince old new result
-    → (((why.file ≡ 0) ⊎ ((why.file ≡ 1) × (why.fault ≡ start.StoreFault))) × LeavesBoth old new (λ c. old.leaves 1 (c 1))) ⊎ LeavesFrom 1 old new (IsLeftByNameStart (old.reads 1))
-names_fail old new result why is (inl (inl (fault, that), only)) = inl (inl (ap (λ (f : WorldFault). f.file) (one_fault result why (record { file = 0; fault = fault }) is that)), only)
-names_fail old new result why is (inl (inr that, only)) =
-    let same = one_fault result why (record { file = 1; fault = start.StoreFault }) is that in
-    inl (inr (ap (λ (f : WorldFault). f.file) same, ap (λ (f : WorldFault). f.fault) same), only)
-names_fail old new result why is (inr since) = inr since
+-- an end that only such a fault brings about
+pub store_ended : (file : ℕ) (fault : StartFault) → ended_by file fault ≡ ended.StoreFault → fault ≡ start.StoreFault
+store_ended zero (start.Damaged at) is = absurd (cc is)
+store_ended (suc file) (start.Damaged at) is = absurd (cc is)
+store_ended file start.StoreFault is = refl
+store_ended file start.NoMemory is = absurd (cc is)
+store_ended file start.Spent is = absurd (cc is)

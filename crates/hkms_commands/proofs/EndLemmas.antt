@@ -213,6 +213,7 @@ which_restart event.RestartKms file r = inl (refl, r)
 which_restart event.RestartName file r = inr (refl, r)
 which_restart (event.Mkdir user path) file r = absurd r
 which_restart (event.Delete user path recursive) file r = absurd r
+which_restart (event.Rename user path to) file r = absurd r
 which_restart (event.Info user path) file r = absurd r
 which_restart (event.List user path) file r = absurd r
 which_restart (event.Allow user path) file r = absurd r

@@ -8,12 +8,13 @@ use Rattle.hk_base.specs.Writing.{WroteFront}
 use Rattle.frame_log.specs.declared.fault.StartFault.{StartFault}
 use Rattle.frame_log.specs.declared.fault.StartFault.TheVariants as start
 use Rattle.kms_core.proofs.ServiceLemmas.{rose_before, rose_since}
-use Rattle.prop_text.specs.declared.lines.PropLine.{PropLine}
+use Rattle.prop_text.specs.declared.props.Props.{Props}
 use Rattle.prop_text.specs.declared.faults.PropFault.{PropFault}
 use Rattle.prop_text.specs.declared.faults.PropFault.TheVariants as prop_fault
 use Rattle.hk_events.specs.declared.event.Event.{Event}
 use Rattle.world_run.specs.Acknowledged.{Acknowledged, LeavesBoth, RunBoth, also}
 use Rattle.world_run.specs.Keeps.{Begins, LeftByStarts}
+use Rattle.world_run.specs.Starts.{FailsAt, OpensBoth}
 use Rattle.world_run.specs.World.{RunningWorld, WorldState, first_world}
 use Rattle.hkms_commands.specs.declared.replay.ReplayEnd.{ReplayEnd}
 use Rattle.hkms_commands.specs.declared.replay.ReplayEnd.TheVariants as ended
@@ -23,7 +24,7 @@ use Rattle.hkms_commands.specs.Properties.{HasPropsFault, ReadsProperties}
 use Rattle.hkms_commands.specs.Logs.{OnDisk, opened_logs}
 use Rattle.hkms_commands.specs.PlayedLines.{events_of_lines, lines_in, transcript}
 use Rattle.hkms_commands.specs.Run.{History, Runs, logged_in, world_after}
-use Rattle.hkms_commands.specs.Replay.{CutAt, IsTold, NotOpened, Played, ReadsAt, Replay, ReplayUnder, RestartStops, Says, ended_by, ended_by_props, ended_by_text, last_line, status_of}
+use Rattle.hkms_commands.specs.Replay.{CutAt, IsTold, Played, ReadsAt, Replay, ReplayUnder, RestartStops, Says, ended_by, ended_by_props, ended_by_text, last_line, status_of}
 use Rattle.hkms_commands.specs.Steps.{Caused, Closes, Ran}
 use Rattle.hkms_commands.proofs.BeganLemmas.{apart_kept, last_kept, promise_kept, survives_kept}
 use Rattle.hkms_commands.proofs.LivedLemmas.{tells_now}
@@ -78,9 +79,9 @@ nothing_told file start.StoreFault = refl
 nothing_told file start.NoMemory = ([], refl)
 nothing_told file start.Spent = refl
 
-pub unopened : (lines : List PropLine) (same : Type 0) (old new : DiskState) (words words' : ℕ → ℕ) (left written now : Option (List ℕ)) (file : ℕ) (fault : StartFault) (how : ReplayEnd) → NotOpened old new file fault → same
-    → Closes (ended_by file fault) 0 written now how → ReplayUnder lines same old new words words' left written now how
-unopened lines same old new words words' left written now file fault how not untouched c =
+pub unopened : (props : Props) (same : Type 0) (old new : DiskState) (words words' : ℕ → ℕ) (left written now : Option (List ℕ)) (file : ℕ) (fault : StartFault) (how : ReplayEnd) → OpensBoth old new (FailsAt file fault) → same
+    → Closes (ended_by file fault) 0 written now how → ReplayUnder props same old new words words' left written now how
+unopened props same old new words words' left written now file fault how not untouched c =
     let w = closed (ended_by file fault) how 0 [] [] written written now (nothing_told file fault) (Appends-nil written) c in
     inl (record { file = file; fault = fault; not_opened = not; untouched = untouched; text = w.text; wrote = w.wrote; says = w.says })
 
@@ -103,16 +104,16 @@ bad_properties same_disk same old new acls acls' words words' left written now f
     let w = closed (ended_by_props fault) how 0 [] [] written written now (nothing_told_of_props fault) (Appends-nil written) c in
     inl (record { fault = fault; has_fault = has; untouched = untouched; text = w.text; wrote = w.wrote; says = w.says })
 
-pub has_read : (same_disk same : Type 0) (old new : DiskState) (acls acls' : Option (List ℕ)) (words words' : ℕ → ℕ) (left written now : Option (List ℕ)) (how : ReplayEnd) (lines : List PropLine)
-    → ReadsProperties acls acls' lines → ReplayUnder lines same old new words words' left written now how → Replay same_disk same old new acls acls' words words' left written now how
-has_read same_disk same old new acls acls' words words' left written now how lines read replay = inr (record { lines = lines; read = read; replay = replay })
+pub has_read : (same_disk same : Type 0) (old new : DiskState) (acls acls' : Option (List ℕ)) (words words' : ℕ → ℕ) (left written now : Option (List ℕ)) (how : ReplayEnd) (props : Props)
+    → ReadsProperties acls acls' props → ReplayUnder props same old new words words' left written now how → Replay same_disk same old new acls acls' words words' left written now how
+has_read same_disk same old new acls acls' words words' left written now how props read replay = inr (record { props = props; read = read; replay = replay })
 
 -- lines were played
 
-pub played : (lines : List PropLine) (same : Type 0) (old mid new : DiskState) (r : RunningWorld) (words words' : ℕ → ℕ) (left written told now : Option (List ℕ)) (stop how : ReplayEnd) (count : ℕ) → Begins old mid r
+pub played : (props : Props) (same : Type 0) (old mid new : DiskState) (r : RunningWorld) (words words' : ℕ → ℕ) (left written told now : Option (List ℕ)) (stop how : ReplayEnd) (count : ℕ) → Begins props.sizes old mid r
     → (Tells old → LeavesBoth old mid (LeftByStarts old)) → RunBoth old mid
-    → Ran lines mid new r words words' left written told stop count → Closes stop count told now how → ReplayUnder lines same old new words words' left written now how
-played lines same old mid new r words words' left written told now stop how count b moments run ran c =
+    → Ran props.lines mid new r words words' left written told stop count → Closes stop count told now how → ReplayUnder props same old new words words' left written now how
+played props same old mid new r words words' left written told now stop how count b moments run ran c =
     inr (record { played_lines = ran.played; stop = stop; played = whole; rest = ran.rest; text = w.text; wrote = w.wrote; says = w.says })
   where
     h : History
@@ -125,7 +126,7 @@ played lines same old mid new r words words' left written told now stop how coun
     Cut = CutAt stop left lines_played
 
     first : WorldState
-    first = first_world b.table b.names
+    first = first_world props.sizes b.table b.names
 
     w : Wrote stop how (length lines_played) (transcript h) written now
     w = subst (λ (n : ℕ). Wrote stop how n (transcript h) written now) ran.counted (closed stop how count (transcript h) ran.text written told now ran.told ran.wrote c)
@@ -136,7 +137,7 @@ played lines same old mid new r words words' left written told now stop how coun
     found : Tells old → Acknowledged
     found tells = opened_logs (b.log tells).commands b.table (b.log tells).ops b.names
 
-    disk : Tells old → OnDisk old new words b.table b.names h Cut
+    disk : Tells old → OnDisk old new words props.sizes b.table b.names h Cut
     disk tells =
         let log = b.log tells in
         let kept = ran.kept (tells_now old mid run tells) b.rests (found tells) log.holds in
@@ -148,22 +149,22 @@ played lines same old mid new r words words' left written told now stop how coun
           edits = log.edits;
           keys_room = log.keys_room;
           names_room = log.names_room;
-          moments = survives_kept old mid new r b tells words h Cut (found tells) (moments tells) run kept.moments;
-          last = λ image is. last_kept old mid new r b tells words h Cut (found tells) image (kept.last image is);
+          moments = survives_kept props.sizes old mid new r b tells words h Cut (found tells) (moments tells) run kept.moments;
+          last = λ image is. last_kept props.sizes old mid new r b tells words h Cut (found tells) image (kept.last image is);
         }
 
-    whole : Played lines old new words left stop ran.played
+    whole : Played props old new words left stop ran.played
     whole = record {
       table = b.table;
       names = b.names;
       before = mid.faults;
       spelled = ran.spelled;
-      runs = subst (λ (T : Type 0). Runs lines T first words mid.faults h) same_tells (subst (λ (v : WorldState). Runs lines (Tells mid) v words mid.faults h) b.first ran.runs);
+      runs = subst (λ (T : Type 0). Runs props.lines T first words mid.faults h) same_tells (subst (λ (v : WorldState). Runs props.lines (Tells mid) v words mid.faults h) b.first ran.runs);
       began = run.faults;
       ended = ran.counted_faults;
       on_disk = disk;
-      promise = λ tells. promise_kept old mid new r b tells words h Cut (found tells) (ran.promise (tells_now old mid run tells));
-      apart = λ tells. apart_kept old mid new r b tells words h Cut (found tells) (ran.apart (tells_now old mid run tells));
+      promise = λ tells. promise_kept props.sizes old mid new r b tells words h Cut (found tells) (ran.promise (tells_now old mid run tells));
+      apart = λ tells. apart_kept props.sizes old mid new r b tells words h Cut (found tells) (ran.apart (tells_now old mid run tells));
       reads = λ tells. subst (λ (v : WorldState). ReadsAt stop left lines_played new (also (found tells) (logged_in h)) (world_after v h)) b.first (ran.kept (tells_now old mid run tells) b.rests (found tells) (b.log tells).holds).reads;
       restart = λ tells. subst (λ (v : WorldState). RestartStops stop left lines_played (world_after v h)) b.first (ran.restart (tells_now old mid run tells));
       stops = ran.stops;

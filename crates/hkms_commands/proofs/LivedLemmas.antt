@@ -139,6 +139,7 @@ knows event.RestartKms T t = t
 knows event.RestartName T t = t
 knows (event.Mkdir user path) T t = tt
 knows (event.Delete user path recursive) T t = tt
+knows (event.Rename user path to) T t = tt
 knows (event.Info user path) T t = tt
 knows (event.List user path) T t = tt
 knows (event.Allow user path) T t = tt

@@ -4,6 +4,7 @@ use Rattle.hk_base.specs.Disk.{DiskState, Tells}
 use Rattle.kms_calls.specs.declared.calls.KmsCall.{KmsCall}
 use Rattle.kms_calls.specs.declared.calls.KmsReply.{KmsReply}
 use Rattle.prop_text.specs.declared.lines.PropLine.{PropLine}
+use Rattle.prop_text.specs.declared.props.Props.{Props}
 use Rattle.hk_events.specs.declared.event.Event.TheVariants as event
 use Rattle.hk_events.specs.declared.event.Line.TheVariants as line
 use Rattle.world_run.specs.Acknowledged.{Acknowledged, LeavesBoth, RunBoth}
@@ -54,8 +55,8 @@ abbrev TalksAs : {D W : Type 0} → (D → DiskState) → (W → ℕ → ℕ) �
 TalksAs state to_come props o v history = Talked props o (state v.disk) v.world (to_come v.words) history
 
 -- a connection was served, once both logs were opened
-pub converses : {D W : Type 0} (state : D → DiskState) (to_come : W → ℕ → ℕ) (props : List PropLine) (old : DiskState) (v v' : WorldView D W) (left left' written now : Option (List ℕ)) (unused : List ℕ) (how : Ended)
-    → Begins old (state v.disk) v.world → (Tells old → LeavesBoth old (state v.disk) (LeftByStarts old)) → RunBoth old (state v.disk) → HasLists v.world props
+pub converses : {D W : Type 0} (state : D → DiskState) (to_come : W → ℕ → ℕ) (props : Props) (old : DiskState) (v v' : WorldView D W) (left left' written now : Option (List ℕ)) (unused : List ℕ) (how : Ended)
+    → Begins props.sizes old (state v.disk) v.world → (Tells old → LeavesBoth old (state v.disk) (LeftByStarts old)) → RunBoth old (state v.disk) → HasLists v.world props.lines
     → Served (Happens state to_come) (record { ahead = left; desk = v; written = written }) (record { ahead = ahead unused left'; desk = v'; written = now }) how
     → Converses props old (state v'.disk) (to_come v.words) (to_come v'.words) left left' written now how
 converses {D} {W} state to_come props old v v' left left' written now unused how b moments run has served = record {
@@ -65,8 +66,8 @@ converses {D} {W} state to_come props old v v' left left' written now unused how
   history = h;
   unused = unused;
   served = so.served;
-  runs = subst (λ (T : Type 0). Runs props T (first_world b.table b.names) words mid.faults h) (ap (λ (t : Bool). IsTrue t) run.tells)
-      (subst (λ (w : WorldState). Runs props (Tells mid) w words mid.faults h) b.first talked.runs);
+  runs = subst (λ (T : Type 0). Runs props.lines T (first_world props.sizes b.table b.names) words mid.faults h) (ap (λ (t : Bool). IsTrue t) run.tells)
+      (subst (λ (w : WorldState). Runs props.lines (Tells mid) w words mid.faults h) b.first talked.runs);
   rest = talked.rest;
   began = run.faults;
   ended = omega (arith, talked.faults_are);
@@ -81,12 +82,12 @@ converses {D} {W} state to_come props old v v' left left' written now unused how
         edits = log.edits;
         keys_room = log.keys_room;
         names_room = log.names_room;
-        moments = survives_kept old mid (state v'.disk) v.world b told words h NoRestart (found told) (moments told) run (weaker (λ image left. inl left) (talked.survives tells (found told) log.holds));
-        last = λ image is. last_kept old mid (state v'.disk) v.world b told words h NoRestart (found told) image
-            (inl (rests_after props mid (state v'.disk) v.world v'.world words (to_come v'.words) h talked tells b.rests (found told) log.holds image is));
+        moments = survives_kept props.sizes old mid (state v'.disk) v.world b told words h NoRestart (found told) (moments told) run (weaker (λ image left. inl left) (talked.survives tells (found told) log.holds));
+        last = λ image is. last_kept props.sizes old mid (state v'.disk) v.world b told words h NoRestart (found told) image
+            (inl (rests_after props.lines mid (state v'.disk) v.world v'.world words (to_come v'.words) h talked tells b.rests (found told) log.holds image is));
       };
-  promise = λ told. promise_kept old mid (state v'.disk) v.world b told words h NoRestart (found told) (talked.files_open (tells_now old mid run told));
-  apart = λ told. apart_kept old mid (state v'.disk) v.world b told words h NoRestart (found told) (talked.draws_apart (tells_now old mid run told));
+  promise = λ told. promise_kept props.sizes old mid (state v'.disk) v.world b told words h NoRestart (found told) (talked.files_open (tells_now old mid run told));
+  apart = λ told. apart_kept props.sizes old mid (state v'.disk) v.world b told words h NoRestart (found told) (talked.draws_apart (tells_now old mid run told));
   reads = λ told.
       let log = b.log told in (
         v'.world,
@@ -104,18 +105,18 @@ converses {D} {W} state to_come props old v v' left left' written now unused how
     o : Opened
     o = record { disk = mid; services = v.world; words = words }
 
-    so : ServedSo Asks (TalksAs state to_come props o) (record { ahead = left; desk = v; written = written }) (record { ahead = ahead unused left'; desk = v'; written = now }) how []
-    so = served_so (Happens state to_come) Asks (TalksAs state to_come props o)
+    so : ServedSo Asks (TalksAs state to_come props.lines o) (record { ahead = left; desk = v; written = written }) (record { ahead = ahead unused left'; desk = v'; written = now }) how []
+    so = served_so (Happens state to_come) Asks (TalksAs state to_come props.lines o)
         (λ d e user asked reply next r happens.
-        let steps = happens.steps props (has_lists v.world d.world props r.lists has) in
-        let more = call_more props o (state d.disk) (state next.disk) d.world next.world (to_come d.words) (to_come next.words) e happens.now user asked reply r steps in
+        let steps = happens.steps props.lines (has_lists v.world d.world props.lines r.lists has) in
+        let more = call_more props.lines o (state d.disk) (state next.disk) d.world next.world (to_come d.words) (to_come next.words) e happens.now user asked reply r steps in
         (more.later, (more.asks, more.talked)))
-        (record { ahead = left; desk = v; written = written }) (record { ahead = ahead unused left'; desk = v'; written = now }) how [] (lived_nothing props mid v.world words words (λ k. refl)) served
+        (record { ahead = left; desk = v; written = written }) (record { ahead = ahead unused left'; desk = v'; written = now }) how [] (lived_nothing props.lines mid v.world words words (λ k. refl)) served
 
     h : History
     h = so.then
 
-    talked : Talked props o (state v'.disk) v'.world (to_come v'.words) h
+    talked : Talked props.lines o (state v'.disk) v'.world (to_come v'.words) h
     talked = so.follows
 
     found : Tells old → Acknowledged
@@ -155,6 +156,6 @@ pub pipe_is_no_usage : (same_disk same : Type 0) (old new : DiskState) (acls acl
 pipe_is_no_usage same_disk same old new acls acls' words words' left left' written now status (inl refused) two = replay_usage (ended_by_props refused.fault) (sym refused.status_is ∙ two)
 pipe_is_no_usage same_disk same old new acls acls' words words' left left' written now status (inr pipes) two = go pipes.pipe
   where
-    go : PipeUnder pipes.lines same old new words words' left left' written now status → ⊥
+    go : PipeUnder pipes.props same old new words words' left left' written now status → ⊥
     go (inl cannot) = replay_usage (ended_by cannot.file cannot.fault) (sym cannot.status_is ∙ two)
     go (inr connects) = connection_usage connects.how (sym connects.status_is ∙ two)

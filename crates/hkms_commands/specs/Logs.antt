@@ -14,6 +14,7 @@ use Rattle.world_run.specs.Keeps.{LeftByStarts}
 use Rattle.world_run.specs.Ledger.{Hidden, Past, drawn_before}
 use Rattle.world_run.specs.Linked.{StartsSound}
 use Rattle.world_run.specs.Own.{SurvivesRestart}
+use Rattle.prop_text.specs.SizeValues.{SizeValues}
 use Rattle.world_run.specs.World.{RunningWorld, WorldState, first_world, world_of}
 use Rattle.hkms_commands.specs.Run.{History, RestsAfter, SoundAfter, SurvivesIn, logged_in, world_after}
 
@@ -50,10 +51,10 @@ SurvivesUntil Cut before Before first words history image = SurvivesIn before Be
 abbrev pub SurvivesLast : (Event → Type 0) → Acknowledged → (Hidden → Type 0) → WorldState → (ℕ → ℕ) → History → Image → Type 0
 SurvivesLast Cut before Before first words history image = RestsAfter before Before first words history image ⊎ LeftByStop Cut before Before first words history image
 
--- Both files were found to be logs, of these commands and operations. A crash at any moment since left what it may have left before,
--- or files on the way of the openings; or both logs, with the records acknowledged in a world on the way. A crash in the end leaves
--- all that was acknowledged.
-pub record OnDisk (old new : DiskState) (words : ℕ → ℕ) (table : Table) (names : NameTable) (history : History) (Cut : Event → Type 0) : Type 0 where
+-- Both files were found to be logs, of these commands and operations, by a start with these sizes. A crash at any moment since left
+-- what it may have left before, or files on the way of the openings; or both logs, with the records acknowledged in a world on the
+-- way. A crash in the end leaves all that was acknowledged.
+pub record OnDisk (old new : DiskState) (words : ℕ → ℕ) (sizes : SizeValues) (table : Table) (names : NameTable) (history : History) (Cut : Event → Type 0) : Type 0 where
   pub commands : List KeyCommand
   pub ops : List EditOp
   pub used : List ℕ
@@ -62,8 +63,8 @@ pub record OnDisk (old new : DiskState) (words : ℕ → ℕ) (table : Table) (n
   -- neither of the openings found was the last one
   pub keys_room : table.opening < 4294967295
   pub names_room : names.opening < 4294967295
-  pub moments : LeavesBoth old new (λ image. LeftByStarts old image ⊎ SurvivesUntil Cut (opened_logs commands table ops names) (HiddenBefore old) (first_world table names) words history image)
-  pub last : (image : Image) → IsImage new image → SurvivesLast Cut (opened_logs commands table ops names) (HiddenBefore old) (first_world table names) words history image
+  pub moments : LeavesBoth old new (λ image. LeftByStarts old image ⊎ SurvivesUntil Cut (opened_logs commands table ops names) (HiddenBefore old) (first_world sizes table names) words history image)
+  pub last : (image : Image) → IsImage new image → SurvivesLast Cut (opened_logs commands table ops names) (HiddenBefore old) (first_world sizes table names) words history image
 
 -- the disk holds both logs of the records acknowledged by now, beside those that are pending in this world
 abbrev pub ReadsAs : DiskState → Acknowledged → WorldState → Type 0

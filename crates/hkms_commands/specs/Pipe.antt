@@ -6,9 +6,10 @@ use Rattle.kms_calls.specs.declared.calls.KmsCall.{KmsCall}
 use Rattle.kms_calls.specs.declared.calls.KmsReply.{KmsReply}
 use Rattle.key_rows.specs.Table.{Table}
 use Rattle.name_store.specs.Table.{NameTable}
-use Rattle.prop_text.specs.declared.lines.PropLine.{PropLine}
+use Rattle.prop_text.specs.declared.props.Props.{Props}
 use Rattle.hk_events.specs.declared.event.Event.TheVariants as event
 use Rattle.hk_events.specs.declared.event.Line.TheVariants as line
+use Rattle.world_run.specs.Starts.{FailsAt, OpensBoth}
 use Rattle.world_run.specs.World.{first_world}
 use Rattle.world_run.specs.Acknowledged.{also}
 use Rattle.world_run.specs.Ledger.{Hidden}
@@ -20,7 +21,7 @@ use Rattle.hk_serve.specs.Served.{Served}
 use Rattle.hkms_commands.specs.declared.props.PropsFault.{PropsFault}
 use Rattle.hkms_commands.specs.Properties.{HasPropsFault, ReadsProperties}
 use Rattle.hkms_commands.specs.Logs.{HiddenBefore, NoRestart, OnDisk, ReadsAs, opened_logs}
-use Rattle.hkms_commands.specs.Replay.{NotOpened, ended_by, ended_by_props, status_of}
+use Rattle.hkms_commands.specs.Replay.{ended_by, ended_by_props, status_of}
 use Rattle.hkms_commands.specs.Run.{FilesOpen, Happened, History, Runs, StayApart, behind, drawn_in, faults_after, logged_in, world_after}
 
 -- a call of a user is the next event of a history, with this reply
@@ -30,26 +31,26 @@ pub record Asks (earlier : History) (user : List ℕ) (asked : KmsCall) (reply :
   pub reply_is : happened.reply ≡ line.Kms reply
   pub grows : later ≡ happened ∷ earlier
 
--- Under properties of these lines, a connection was served from the world on that the two logs were found to stand for: its requests are
+-- Under these properties, a connection was served from the world on that the two logs were found to stand for: its requests are
 -- those of the bytes that were left of the input, each call happens after those before it, and the responses were written after
 -- the old output. Bytes that were read after the last request are unused. `words'` are to come now.
-pub record Converses (lines : List PropLine) (old new : DiskState) (words words' : ℕ → ℕ) (left left' written now : Option (List ℕ)) (how : Ended) : Type 0 where
+pub record Converses (props : Props) (old new : DiskState) (words words' : ℕ → ℕ) (left left' written now : Option (List ℕ)) (how : Ended) : Type 0 where
   pub table : Table
   pub names : NameTable
   pub before : ℕ
   pub history : History
   pub unused : List ℕ
   pub served : Served Asks (record { ahead = left; desk = []; written = written }) (record { ahead = ahead unused left'; desk = history; written = now }) how
-  pub runs : Runs lines (Tells old) (first_world table names) words before history
+  pub runs : Runs props.lines (Tells old) (first_world props.sizes table names) words before history
   -- the words to come are those after the words that its calls drew
   pub rest : (k : ℕ) → words' k ≡ behind (drawn_in history) words k
   -- the count of faults in the calls is the disk's: it begins at no fewer than the disk had, and ends at no more than it has
   pub began : old.faults ≤ before
   pub ended : faults_after before history ≤ new.faults
-  pub on_disk : Tells old → OnDisk old new words table names history NoRestart
-  pub promise : Tells old → (h : Hidden) → HiddenBefore old h → FilesOpen h (first_world table names) words history
-  pub apart : Tells old → (h : Hidden) → HiddenBefore old h → WordsApart h → StayApart h (first_world table names) words history
-  pub reads : (told : Tells old) → let found = on_disk told in ReadsAs new (also (opened_logs found.commands table found.ops names) (logged_in history)) (world_after (first_world table names) history)
+  pub on_disk : Tells old → OnDisk old new words props.sizes table names history NoRestart
+  pub promise : Tells old → (h : Hidden) → HiddenBefore old h → FilesOpen h (first_world props.sizes table names) words history
+  pub apart : Tells old → (h : Hidden) → HiddenBefore old h → WordsApart h → StayApart h (first_world props.sizes table names) words history
+  pub reads : (told : Tells old) → let found = on_disk told in ReadsAs new (also (opened_logs found.commands table found.ops names) (logged_in history)) (world_after (first_world props.sizes table names) history)
 
 -- the status of a connection
 abbrev pub connection_status : Ended → ℕ
@@ -72,25 +73,25 @@ pub record RefusesProperties (same : Type 0) (acls : Option (List ℕ)) (status 
 pub record CannotOpen (same : Type 0) (old new : DiskState) (status : ℕ) : Type 0 where
   pub file : ℕ
   pub fault : StartFault
-  pub not_opened : NotOpened old new file fault
+  pub not_opened : OpensBoth old new (FailsAt file fault)
   pub untouched : same
   pub status_is : status ≡ status_of (ended_by file fault)
 
 -- The connection was served.
-pub record Connects (lines : List PropLine) (old new : DiskState) (words words' : ℕ → ℕ) (left left' written now : Option (List ℕ)) (status : ℕ) : Type 0 where
+pub record Connects (props : Props) (old new : DiskState) (words words' : ℕ → ℕ) (left left' written now : Option (List ℕ)) (status : ℕ) : Type 0 where
   pub how : Ended
-  pub converses : Converses lines old new words words' left left' written now how
+  pub converses : Converses props old new words words' left left' written now how
   pub status_is : status ≡ connection_status how
 
--- Under properties of these lines, both logs were opened and the connection served, or a log could not be opened.
-abbrev pub PipeUnder : List PropLine → Type 0 → DiskState → DiskState → (ℕ → ℕ) → (ℕ → ℕ) → Option (List ℕ) → Option (List ℕ) → Option (List ℕ) → Option (List ℕ) → ℕ → Type 0
-PipeUnder lines same old new words words' left left' written now status = CannotOpen same old new status ⊎ Connects lines old new words words' left left' written now status
+-- Under these properties, both logs were opened and the connection served, or a log could not be opened.
+abbrev pub PipeUnder : Props → Type 0 → DiskState → DiskState → (ℕ → ℕ) → (ℕ → ℕ) → Option (List ℕ) → Option (List ℕ) → Option (List ℕ) → Option (List ℕ) → ℕ → Type 0
+PipeUnder props same old new words words' left left' written now status = CannotOpen same old new status ⊎ Connects props old new words words' left left' written now status
 
--- The properties were read. Each call is judged by their lines.
+-- The properties were read. Each call is judged by their lines, and the service has their sizes.
 pub record PipesUnder (same : Type 0) (old new : DiskState) (acls acls' : Option (List ℕ)) (words words' : ℕ → ℕ) (left left' written now : Option (List ℕ)) (status : ℕ) : Type 0 where
-  pub lines : List PropLine
-  pub read : ReadsProperties acls acls' lines
-  pub pipe : PipeUnder lines same old new words words' left left' written now status
+  pub props : Props
+  pub read : ReadsProperties acls acls' props
+  pub pipe : PipeUnder props same old new words words' left left' written now status
 
 -- The properties were read first, then both logs were opened, and then the connection was served. What could not be done ends it,
 -- and nothing is written of that. `same_disk` says that the disk is unchanged, and `same` that all else is, except for the properties.

@@ -2,7 +2,6 @@
 use Rattle.std.specs.Prelude.{◌≡◌, ◌≤◌, ℕ, List, ◌++◌, length, Option, Some}
 use Rattle.std.specs.Io.KnownBytes.{Consumes, IsAtEnd}
 use Rattle.prop_text.specs.Properties.{HasFault, IsProps, longest_text}
-use Rattle.prop_text.specs.declared.lines.PropLine.{PropLine}
 use Rattle.prop_text.specs.declared.props.Props.{Props}
 use Rattle.hkms_commands.specs.declared.props.PropsFault.{PropsFault}
 use Rattle.hkms_commands.specs.declared.props.PropsFault.TheVariants.{ReadFault, TextFault}
@@ -13,14 +12,12 @@ pub record ReadsText (left left' : Option (List ℕ)) (text : List ℕ) : Type 0
   pub consumed : length text ≤ longest_text → Consumes left left' text
   pub end : length text ≤ longest_text → IsAtEnd left'
 
--- The properties were read to the end of their source, and have these lines.
-pub record ReadsProperties (left left' : Option (List ℕ)) (lines : List PropLine) : Type 0 where
+-- The properties were read to the end of their source, and are these.
+pub record ReadsProperties (left left' : Option (List ℕ)) (props : Props) : Type 0 where
   pub text : List ℕ
   pub consumed : Consumes left left' text
   pub end : IsAtEnd left'
-  pub props : Props
   pub is_props : IsProps text props
-  pub lines_are : lines ≡ props.lines
 
 -- why properties could not be read: the source failed, or its whole text has the fault, if the source tells its text
 abbrev pub HasPropsFault : Option (List ℕ) → PropsFault → Type 0

@@ -2,29 +2,23 @@
 use Rattle.std.specs.Prelude.{◌≡◌, ◌⊎◌, ℕ, zero, suc, ◌+◌, ◌<◌, ◌≤◌, ◌^◌, Bool, List, [], ◌∷◌, ◌++◌, length, count_by, take, codes, Option, Some}
 use Rattle.std.specs.Fmt.{decimal}
 use Rattle.std.specs.Io.KnownBytes.{Appends}
-use Rattle.hk_base.specs.Disk.{DiskState, LeavesOnly, RunOn, Tells}
-use Rattle.frame_log.specs.Stands.{LeavesFrom}
+use Rattle.hk_base.specs.Disk.{DiskState, Tells}
 use Rattle.frame_log.specs.declared.fault.StartFault.{StartFault}
 use Rattle.frame_log.specs.declared.fault.StartFault.TheVariants as start
-use Rattle.edit_ops.specs.declared.ops.EditOp.{EditOp}
-use Rattle.key_rows.specs.declared.rows.KeyCommand.{KeyCommand}
 use Rattle.key_rows.specs.Table.{Table}
 use Rattle.prop_text.specs.declared.faults.PropFault.{PropFault}
 use Rattle.prop_text.specs.declared.faults.PropFault.TheVariants as prop_fault
-use Rattle.prop_text.specs.declared.lines.PropLine.{PropLine}
+use Rattle.prop_text.specs.declared.props.Props.{Props}
 use Rattle.kms_core.specs.State.{settled}
-use Rattle.kms_store.specs.Store.{IsDamagedAt, IsKeyLog, IsLeftByStart}
 use Rattle.name_core.specs.State.{settled as settled_names}
-use Rattle.name_store.specs.Table.{NameTable, Replayed}
-use Rattle.name_store.specs.Store.{IsDamagedAt as IsDamagedName, IsLeftByStart as IsLeftByNameStart, IsNameLog}
+use Rattle.name_store.specs.Table.{NameTable}
 use Rattle.replay_text.specs.Events.{IsBad, Spells}
 use Rattle.hk_events.specs.declared.event.Event.{Event}
 use Rattle.hk_events.specs.declared.event.Event.TheVariants.{RestartKms, RestartName}
-use Rattle.world_run.specs.Acknowledged.{Acknowledged, LeavesBoth, also}
-use Rattle.world_run.specs.Keeps.{LeftByStarts}
+use Rattle.world_run.specs.Acknowledged.{Acknowledged, also}
 use Rattle.world_run.specs.Ledger.{Hidden}
 use Rattle.world_run.specs.Linked.{WordsApart}
-use Rattle.world_run.specs.Starts.{KeysOpened}
+use Rattle.world_run.specs.Starts.{FailsAt, OpensBoth}
 use Rattle.world_run.specs.World.{WorldState, first_world}
 use Rattle.hkms_commands.specs.declared.replay.ReplayEnd.{ReplayEnd}
 use Rattle.hkms_commands.specs.declared.replay.ReplayEnd.TheVariants.{Done, AclRefused, AclRepeated, AclUnknown, AclTooLong, BadLine, DamagedKeys, DamagedNames, StoreFault, NoMemory, ReadFault, WriteFault, Spent}
@@ -164,28 +158,11 @@ ended_by file start.StoreFault = StoreFault
 ended_by file start.NoMemory = NoMemory
 ended_by file start.Spent = Spent
 
--- The log of a file could not be opened: the key log on file 0, or the edit log on file 1. A crash at any moment since left what it may
--- have left before, or files on the way: first the key log is opened, and then the edit log.
-pub record NotOpened (old new : DiskState) (file : ℕ) (fault : StartFault) : Type 0 where
-  pub which : (file ≡ 0) ⊎ (file ≡ 1)
-  pub damaged_keys : (at : ℕ) → file ≡ 0 → fault ≡ start.Damaged at → Tells old → IsDamagedAt (old.reads 0) at
-  pub damaged_names : (at : ℕ) → file ≡ 1 → fault ≡ start.Damaged at → Tells old → IsDamagedName (old.reads 1) at
-  pub spent_keys : file ≡ 0 → fault ≡ start.Spent → Tells old → (commands : List KeyCommand) × (table : Table) × IsKeyLog (old.reads 0) commands table × (table.opening ≡ 4294967295)
-  pub spent_names : file ≡ 1 → fault ≡ start.Spent → Tells old → (ops : List EditOp) × (made : Replayed) × IsNameLog (old.reads 1) ops made × (made.table.opening ≡ 4294967295)
-  -- the first file that has a fault counts: the key log was found good and its opening is acknowledged, or the edit log was not touched
-  pub first_keys : file ≡ 1 → Tells old → KeysOpened old new
-  pub first_names : file ≡ 0 → RunOn 0 old new
-  pub moments : Tells old → LeavesBoth old new (LeftByStarts old)
-  -- Since the first sync of its opening a crash left of each file the latter alone. Where that sync failed, or the opening wasn't
-  -- reached, it left what it may have left before.
-  pub since_sync_keys : Tells old → ((file ≡ 0) × ((fault ≡ start.StoreFault) ⊎ (fault ≡ start.NoMemory)) × LeavesOnly 0 old new (old.leaves 0)) ⊎ LeavesFrom 0 old new (IsLeftByStart (old.reads 0))
-  pub since_sync_names : Tells old → (((file ≡ 0) ⊎ ((file ≡ 1) × (fault ≡ start.StoreFault))) × LeavesBoth old new (λ c. old.leaves 1 (c 1))) ⊎ LeavesFrom 1 old new (IsLeftByNameStart (old.reads 1))
-
 -- The logs could not be opened, and nothing was played: `same` says that input and random source are as they were.
 pub record Unopened (same : Type 0) (old new : DiskState) (written now : Option (List ℕ)) (how : ReplayEnd) : Type 0 where
   pub file : ℕ
   pub fault : StartFault
-  pub not_opened : NotOpened old new file fault
+  pub not_opened : OpensBoth old new (FailsAt file fault)
   pub untouched : same
   pub text : List ℕ
   pub wrote : Appends written now text
@@ -236,52 +213,52 @@ RestartStops (DamagedNames at) left lines w = ⊥
 RestartStops Spent left lines w = IsSpent left lines w
 RestartStops _ left lines w = Unit {0}
 
--- Under properties of these lines, lines of the input were played from the world on that the two logs were found to stand for: their
--- events happened one after another.
-pub record Played (lines : List PropLine) (old new : DiskState) (words : ℕ → ℕ) (left : Option (List ℕ)) (stop : ReplayEnd) (played : List PlayedLine) : Type 0 where
+-- Under these properties, lines of the input were played from the world on that the two logs were found to stand for: their events
+-- happened one after another.
+pub record Played (props : Props) (old new : DiskState) (words : ℕ → ℕ) (left : Option (List ℕ)) (stop : ReplayEnd) (played : List PlayedLine) : Type 0 where
   pub table : Table
   pub names : NameTable
   pub before : ℕ
   pub spelled : AreSpelled played
-  pub runs : Runs lines (Tells old) (first_world table names) words before (events_of_lines played)
+  pub runs : Runs props.lines (Tells old) (first_world props.sizes table names) words before (events_of_lines played)
   -- the count of faults in the run is the disk's: it begins at no fewer than the disk had, and ends at no more than it has
   pub began : old.faults ≤ before
   pub ended : faults_after before (events_of_lines played) ≤ new.faults
-  pub on_disk : Tells old → OnDisk old new words table names (events_of_lines played) (CutAt stop left (lines_in played))
+  pub on_disk : Tells old → OnDisk old new words props.sizes table names (events_of_lines played) (CutAt stop left (lines_in played))
   -- with a ledger of draws that the files at the start allow, each world on the way is linked, and its zone files open
-  pub promise : Tells old → (h : Hidden) → HiddenBefore old h → FilesOpen h (first_world table names) words (events_of_lines played)
+  pub promise : Tells old → (h : Hidden) → HiddenBefore old h → FilesOpen h (first_world props.sizes table names) words (events_of_lines played)
   -- and if the draws before are apart, they stay so
-  pub apart : Tells old → (h : Hidden) → HiddenBefore old h → WordsApart h → StayApart h (first_world table names) words (events_of_lines played)
+  pub apart : Tells old → (h : Hidden) → HiddenBefore old h → WordsApart h → StayApart h (first_world props.sizes table names) words (events_of_lines played)
   pub reads : (told : Tells old) → let found = on_disk told in
       let history = events_of_lines played in
-      ReadsAt stop left (lines_in played) new (also (opened_logs found.commands table found.ops names) (logged_in history)) (world_after (first_world table names) history)
-  pub restart : Tells old → RestartStops stop left (lines_in played) (world_after (first_world table names) (events_of_lines played))
+      ReadsAt stop left (lines_in played) new (also (opened_logs found.commands table found.ops names) (logged_in history)) (world_after (first_world props.sizes table names) history)
+  pub restart : Tells old → RestartStops stop left (lines_in played) (world_after (first_world props.sizes table names) (events_of_lines played))
   pub stops : (all : List ℕ) → left ≡ Some all → Stops stop all (lines_in played)
   pub has_properties : HasProperties stop
 
 -- Lines were played: `words` were to come before, and `words'` are to come now.
-pub record PlaysOn (lines : List PropLine) (old new : DiskState) (words words' : ℕ → ℕ) (left written now : Option (List ℕ)) (how : ReplayEnd) : Type 0 where
+pub record PlaysOn (props : Props) (old new : DiskState) (words words' : ℕ → ℕ) (left written now : Option (List ℕ)) (how : ReplayEnd) : Type 0 where
   pub played_lines : List PlayedLine
   pub stop : ReplayEnd
-  pub played : Played lines old new words left stop played_lines
+  pub played : Played props old new words left stop played_lines
   -- the words to come are those after the words that its events drew
   pub rest : (k : ℕ) → words' k ≡ behind (drawn_in (events_of_lines played_lines)) words k
   pub text : List ℕ
   pub wrote : Appends written now text
   pub says : Says stop how (length (lines_in played_lines)) (transcript (events_of_lines played_lines)) text
 
--- Under properties of these lines, a replay of what was left of an input, with these words to come, wrote after the old output,
+-- Under these properties, a replay of what was left of an input, with these words to come, wrote after the old output,
 -- and this is how it ended; `words'` are to come now. `same` says that input and random source are unchanged.
-abbrev pub ReplayUnder : List PropLine → Type 0 → DiskState → DiskState → (ℕ → ℕ) → (ℕ → ℕ) → Option (List ℕ) → Option (List ℕ) → Option (List ℕ) → ReplayEnd → Type 0
-ReplayUnder lines same old new words words' left written now how = Unopened same old new written now how ⊎ PlaysOn lines old new words words' left written now how
+abbrev pub ReplayUnder : Props → Type 0 → DiskState → DiskState → (ℕ → ℕ) → (ℕ → ℕ) → Option (List ℕ) → Option (List ℕ) → Option (List ℕ) → ReplayEnd → Type 0
+ReplayUnder props same old new words words' left written now how = Unopened same old new written now how ⊎ PlaysOn props old new words words' left written now how
 
--- The properties were read. Each call of the key management service is judged by their lines.
+-- The properties were read. Each call of the key management service is judged by their lines, and it has their sizes.
 pub record HasRead (same : Type 0) (old new : DiskState) (acls acls' : Option (List ℕ)) (words words' : ℕ → ℕ) (left written now : Option (List ℕ)) (how : ReplayEnd) : Type 0 where
-  pub lines : List PropLine
-  pub read : ReadsProperties acls acls' lines
-  pub replay : ReplayUnder lines same old new words words' left written now how
+  pub props : Props
+  pub read : ReadsProperties acls acls' props
+  pub replay : ReplayUnder props same old new words words' left written now how
 
--- A replay read the properties first, and replayed the input under their lines; or it ended since they could not be read.
+-- A replay read the properties first, and replayed the input under them; or it ended since they could not be read.
 -- `same_disk` says that the disk is unchanged, and `same` that input and random source are.
 abbrev pub Replay : Type 0 → Type 0 → DiskState → DiskState → Option (List ℕ) → Option (List ℕ) → (ℕ → ℕ) → (ℕ → ℕ) → Option (List ℕ) → Option (List ℕ) → Option (List ℕ) → ReplayEnd → Type 0
 Replay same_disk same old new acls acls' words words' left written now how =

@@ -4,7 +4,6 @@
 
 mod command;
 mod lines;
-mod opening;
 mod pipe;
 mod props;
 mod replay;

@@ -8,7 +8,6 @@ ghost use Rattle.hk_serve.specs.Served.{Served};
 ghost use Rattle.hk_serve.specs.Worlds.{Happens, IsReady};
 ghost use Rattle.hkms_commands.specs.Pipe.{Pipe, PipeUnder, connection_status};
 
-use crate::opening::open_logs;
 use crate::props::read_properties;
 use crate::replay::{ended_by, ended_by_props, status_of};
 use hk_base::{Clock, Disk, Sink, Source, Words};
@@ -42,12 +41,12 @@ fn pipe_under<S: Source, K: Sink, D: Disk, W: Words, C: Clock>(
     rand: &mut W,
     clock: &mut C,
 ) -> u8
-    ensures pipe { PipeUnder props.now.lines ((input.new ≡ input.old) × (out.new ≡ out.old) × (rand.new ≡ rand.old) × (clock.new ≡ clock.old)) (D.state disk.old) (D.state disk.new) (W.to_come rand.old) (W.to_come rand.new) (S.left input.old) (S.left input.new) (K.written out.old) (K.written out.new) result }
+    ensures pipe { PipeUnder props.now ((input.new ≡ input.old) × (out.new ≡ out.old) × (rand.new ≡ rand.old) × (clock.new ≡ clock.old)) (D.state disk.old) (D.state disk.new) (W.to_come rand.old) (W.to_come rand.new) (S.left input.old) (S.left input.new) (K.written out.old) (K.written out.new) result }
     ensures read { result ≡ 7 → Rose (S.faults input.old) (S.faults input.new) }
     ensures write { result ≡ 8 → Rose (K.faults out.old) (K.faults out.new) }
     ensures store { result ≡ 5 → Rose (D.state disk.old).faults (D.state disk.new).faults }
 {
-    match open_logs(alloc, disk, props) {
+    match World::start(alloc, disk, props) {
         Err(why) => status_of(ended_by(why)),
         Ok(world) => connection_status(serve_in(alloc, world, input, out, disk, rand, clock)),
     }

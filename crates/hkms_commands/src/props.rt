@@ -51,7 +51,7 @@ fn read_text<A: Source>(alloc: Global, source: &mut A) -> Result<ByteList, Props
 /// Returns `ReadFault` only if the source's count of faults rose, and a fault of the text other than
 /// `NoMemory` exactly if the whole text has it.
 pub fn read_properties<A: Source>(alloc: Global, acls: &mut A) -> Result<Props, PropsFault>
-    ensures read { IfOk result (λ props. ReadsProperties (A.left acls.old) (A.left acls.new) props.lines) }
+    ensures read { IfOk result (ReadsProperties (A.left acls.old) (A.left acls.new)) }
     ensures fault { (why : PropsFault) → IsErrOf result why → HasPropsFault (A.left acls.old) why }
     ensures later { A.faults acls.old ≤ A.faults acls.new }
     ensures cause { IsErrOf result props_fault.ReadFault → Rose (A.faults acls.old) (A.faults acls.new) }

@@ -11,7 +11,6 @@ ghost use Rattle.hkms_commands.specs.Steps.{Caused, Closes, HasLists, LinePlayed
 ghost use Rattle.hkms_commands.specs.declared.replay.ReplayEnd.{ReplayEnd};
 
 use crate::lines::{LineEnd, read_line};
-use crate::opening::open_logs;
 use crate::props::{PropsFault, read_properties};
 use crate::stage::{LineOutcome, Session};
 use frame_log::StartFault;
@@ -331,13 +330,13 @@ fn replay_under<S: Source, D: Disk, K: Sink, W: Words>(
     disk: &mut D,
     rand: &mut W,
 ) -> ReplayEnd
-    ensures replay { ReplayUnder props.now.lines ((input.new ≡ input.old) × (rand.new ≡ rand.old)) (D.state disk.old) (D.state disk.new) (W.to_come rand.old) (W.to_come rand.new) (S.left input.old) (K.written out.old) (K.written out.new) result }
+    ensures replay { ReplayUnder props.now ((input.new ≡ input.old) × (rand.new ≡ rand.old)) (D.state disk.old) (D.state disk.new) (W.to_come rand.old) (W.to_come rand.new) (S.left input.old) (K.written out.old) (K.written out.new) result }
     ensures end { result ≡ ReplayEnd.Done → IsAtEnd (S.left input.new) }
     ensures read { result ≡ ReplayEnd.ReadFault → Rose (S.faults input.old) (S.faults input.new) }
     ensures write { result ≡ ReplayEnd.WriteFault → Rose (K.faults out.old) (K.faults out.new) }
     ensures store { result ≡ ReplayEnd.StoreFault → Rose (D.state disk.old).faults (D.state disk.new).faults }
 {
-    match open_logs(alloc, disk, props) {
+    match World::start(alloc, disk, props) {
         Err(why) => finish(alloc, out, ended_by(why), 0),
         Ok(world) => replay_in(alloc, world, input, out, disk, rand),
     }
