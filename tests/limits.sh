@@ -44,6 +44,31 @@ repeat_name() {
 { printf 'nn a mkdir '; repeat_name 79 100; printf a; } | expect 'a path too long' 0 '1 refused N1 BadPath'
 { printf 'nn a mkdir '; repeat_name 1 100; } | expect 'the deepest path' 0 '1 refused N2 NoSuchPath'
 { printf 'nn a mkdir '; repeat_name 1 101; } | expect 'a path too deep' 0 '1 refused N1 BadPath'
+# A rename keeps the limits of each path below, and of the one that is farthest down.
+# chain LENGTH COUNT: the lines that make the directories of such a path, one in another
+chain() {
+    for ((k = 1; k <= $2; k++)); do
+        printf 'nn a mkdir '
+        repeat_name "$1" "$k"
+        echo
+    done
+}
+deepest=$(repeat_name 1 99)
+{ chain 1 100; echo 'nn a mkdir /b'; echo 'nn a rename /a /b/a'; } | expect 'a rename that makes a path too deep' 0 '102 refused N1 BadPath'
+{ chain 1 100; echo 'nn a mkdir /b'; echo 'nn a rename /a/a /b/a'; echo "nn a info /b$deepest"; } | expect 'a rename that makes the deepest path' 0 '103 dir 4294967396 - -'
+{ chain 79 100; printf 'nn a rename '; repeat_name 79 1; printf ' /'; repeat b 80; echo; } | expect 'a rename that makes a path too long' 0 '101 refused N1 BadPath'
+longest=$(repeat_name 79 100)
+{
+    chain 79 100
+    printf 'nn a rename '
+    repeat_name 79 1
+    printf ' /'
+    repeat b 79
+    printf '\nnn a info /'
+    repeat b 79
+    printf '%s\n' "${longest:80}"
+} | expect 'a rename that makes the longest path' 0 '102 dir 4294967396 - -'
+
 for ((i = 1; i < 20000; i++)); do
     printf 'nn a mkdir /%s\n' "$i"
 done | { cat; echo 'nn a info /19999'; } | expect 'many directories' 0 '20000 dir 4294987295 - -'

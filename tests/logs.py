@@ -13,6 +13,7 @@ KINDS = {
         2: ("mkdir", "8t"),
         3: ("file", "8te"),
         4: ("remove", "t"),
+        5: ("rename", "tt"),
         6: ("zone", "tn"),
         7: ("allow", "t"),
         8: ("disallow", "t"),

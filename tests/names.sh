@@ -316,6 +316,8 @@ file() {
     [ -n "${3-}" ] || printf 00
 }
 remove() { printf '04%s' "$(path "$1")"; }
+# rename PATH PATH
+rename() { printf '05%s%s' "$(path "$1")" "$(path "$2")"; }
 # zone PATH KEY, of one letter
 zone() { printf '06%s01%s' "$(path "$1")" "$(printf %s "$2" | od -An -tx1 | tr -d ' \n')"; }
 allow() { printf '07%s' "$(path "$1")"; }
@@ -393,6 +395,22 @@ refuses 'a snapshot with a slash in its name' "$opened" "$d" "$allowed" "$(snap 
 refuses 'the removal of no snapshot' "$opened" "$d" "$allowed" "$snapped" "$(unsnap /d t)"
 refuses 'the removal of a directory with a snapshot' "$opened" "$d" "$allowed" "$snapped" "$(remove /d)"
 refuses 'the removal of a directory above one with a snapshot' "$opened" "$d" "$e" "$(allow /d/e)" "$(snap /d/e s)" "$(remove /d)"
+refuses 'a rename of the root' "$opened" "$d" "$(rename / /e)"
+refuses 'a rename of a directory to its own path' "$opened" "$d" "$(rename /d /d)"
+refuses 'a rename of a directory below itself' "$opened" "$d" "$(rename /d /d/e)"
+refuses 'a rename of nothing' "$opened" "$d" "$(rename /e /f)"
+refuses 'a rename to a path that stands' "$opened" "$d" "$z" "$(rename /d /z)"
+refuses 'a rename into no directory' "$opened" "$d" "$(rename /d /e/f)"
+refuses 'a rename into a file' "$opened" "$d" "$(file 2 /f)" "$(rename /d /f/d)"
+refuses 'a rename of a directory with a snapshot' "$opened" "$d" "$allowed" "$snapped" "$(rename /d /x)"
+refuses 'a rename of a directory above one with a snapshot' "$opened" "$d" "$e" "$(allow /d/e)" "$(snap /d/e s)" "$(rename /d /x)"
+refuses 'a rename of a snapshottable directory into another' "$opened" "$d" "$(dir 2 /t)" "$allowed" "$(allow /t)" "$(rename /t /d/t)"
+refuses 'a rename into a zone' "$opened" "$d" "$z" "$marked" "$(rename /d /z/d)"
+refuses 'a rename out of a zone' "$opened" "$z" "$marked" "$(file 3 /z/f k)" "$(rename /z/f /f)"
+refuses 'a rename from a zone to another' "$opened" "$z" "$marked" "$(dir 3 /y)" "$(zone /y k)" "$(file 4 /z/f k)" "$(rename /z/f /y/f)"
+refuses 'a rename to a path without a slash' "$opened" "$d" "$(rename /d x)"
+refuses 'a rename to a reserved path' "$opened" "$d" "$(rename /d /.reserved)"
+refuses 'a rename with one path' "$opened" "$d" "05$(path /d)"
 refuses 'a record of no kind' "$opened" "$d" 00
 refuses 'a record with a byte behind it' "$opened" "$d" "$(remove /d)00"
 
@@ -407,6 +425,22 @@ expect 'a log made by hand' 0 '1 list g z/
 2 file 4294967299 /z k@0:00000000000000000000000000000001:00000000000000000000000000000002
 3 file 4294967300 - -
 4 zones /z:k'
+
+# A zone and a snapshottable directory that move keep their ids.
+make_log "$opened" "$d" "$z" "$marked" "$(file 3 /z/f k)" "$(rename /z/f /z/g)" "$(rename /z /y)" "$(rename /y /d/z)" "$allowed" "$(rename /d /z)" \
+    "$(snap /z s)" "$(rename /z/z/g /z/z/f)" "$(rename /z/z /z/y)"
+run_here <<'EOT'
+nn a list /
+nn a info /z/y/f
+nn hdfs zones
+nn a info /z/.snapshot/s/z/g
+nn a info /z/y
+EOT
+expect 'a log of renames made by hand' 0 '1 list z/
+2 file 4294967299 /z/y k@0:00000000000000000000000000000001:00000000000000000000000000000002
+3 zones /z/y:k
+4 file 4294967299 /z/z k@0:00000000000000000000000000000001:00000000000000000000000000000002
+5 dir 4294967298 /z/y k'
 
 # Snapshots that were allowed twice are allowed; the removal of a directory disallows those below it.
 make_log "$opened" "$d" "$e" "$allowed" "$allowed" "$snapped" "$(snap /d t)" "$(remove /d/e)" "$(unsnap /d t)" "$(dir 3 /p)" "$(dir 4 /p/c)" \
@@ -443,11 +477,12 @@ nn hdfs allow /z
 nn a snap /z s
 nn a unsnap /z s
 nn hdfs disallow /z
+nn a rename /z/f /z/g
 EOT
 output=$(stat -c %s "$room/names.log")
-expect 'the log of all kinds of records' 0 181
+expect 'the log of all kinds of records' 0 199
 cp "$room/names.log" "$folder/all"
-gates=(8 18 36 48 106 124 134 144 157 170 180)
+gates=(8 18 36 48 106 124 134 144 157 170 180 198)
 
 room=$quick
 # Runs the program on a log that is made of standard input.
@@ -456,7 +491,7 @@ run_on() {
     run_here <<<'nn a list /'
 }
 
-for ((length = 0; length <= 180; length++)); do
+for ((length = 0; length <= 198; length++)); do
     head -c "$length" "$folder/all" >"$folder/cut"
     run_on <"$folder/cut"
     if [ "$length" -le 9 ]; then
@@ -475,7 +510,7 @@ for gate in "${gates[@]}"; do
 done
 
 whole=$(digits "$folder/all")
-for ((at = 0; at < 181; at++)); do
+for ((at = 0; at < 199; at++)); do
     for change in 1 255; do
         changed=$(printf %02x $((16#${whole:2 * at:2} ^ change)))
         bytes "${whole:0:2 * at}$changed${whole:2 * at + 2}" >"$folder/changed"

@@ -41,6 +41,10 @@ def remove(path):
     return b"\x04" + path_bytes(path)
 
 
+def rename(path, to):
+    return b"\x05" + path_bytes(path) + path_bytes(to)
+
+
 def zone(path, key):
     return b"\x06" + path_bytes(path) + bytes([len(key)]) + key
 
@@ -103,6 +107,14 @@ expect(
     (0, f"1 file {row_id(2, 2)} - -\n2 zones\n"),
 )
 
+# A zone that moves keeps its mark and its files, and a file that moves its key.
+MOVED = BASE + [rename(b"/z", b"/d/y"), rename(b"/d/y/g", b"/d/y/h"), rename(b"/d", b"/z"), rename(b"/z/y", b"/g")]
+expect(
+    "a zone that moved",
+    run(log(MOVED)[0], b"nn a list /\nnn a info /g/h\nnn hdfs zones\nnn a info /g\n"),
+    (0, f"1 list f g/ z/\n2 file {row_id(4)} /g {EDEK}\n3 zones /g:k\n4 dir {row_id(3)} /g k\n"),
+)
+
 # Sealed keys of each length, the highest version, and the longest name of a key.
 for sealed in (bytes(16), bytes(range(24)), bytes(range(32))):
     for name in (b"k", b"a.b-c_D9", b"K" * 64):
@@ -135,6 +147,16 @@ for name, records in {
     "a zone at no path": [zone(b"/x", b"k")],
     "a removal of the root": [remove(b"/")],
     "a removal at no path": [remove(b"/nothing")],
+    "a rename of the root": [rename(b"/", b"/r")],
+    "a rename of nothing": [rename(b"/x", b"/y")],
+    "a rename below itself": [rename(b"/d", b"/d/e")],
+    "a rename to a path that is taken": [rename(b"/d", b"/f")],
+    "a rename below a file": [rename(b"/d", b"/f/d")],
+    "a rename below nothing": [rename(b"/d", b"/x/d")],
+    "a rename into a zone": [rename(b"/f", b"/z/f")],
+    "a rename out of a zone": [rename(b"/z/g", b"/g")],
+    "a rename of what was removed": [remove(b"/d"), rename(b"/d", b"/e")],
+    "a removal of what was renamed": [rename(b"/d", b"/e"), remove(b"/d")],
     "an opening left out": [opened(3)],
     "the same opening": [opened(1)],
 }.items():
@@ -147,17 +169,27 @@ first, at = log(BASE + [mkdir(row_id(5), b"/d")])
 expect("the first of two", run(log(BASE + [mkdir(row_id(5), b"/d"), opened(7)])[0]), (4, f"damaged names {at}\n"))
 
 # Records that are cut short, that have a byte more, or that are out of form.
-for record in (opened(2), mkdir(row_id(5), b"/y"), file(row_id(5), b"/y"), file(row_id(5), b"/z/y", edek(b"k")), remove(b"/d"), zone(b"/d", b"a.b")):
+for record in (
+    opened(2),
+    mkdir(row_id(5), b"/y"),
+    file(row_id(5), b"/y"),
+    file(row_id(5), b"/z/y", edek(b"k")),
+    remove(b"/d"),
+    rename(b"/d", b"/y"),
+    zone(b"/d", b"a.b"),
+):
     for length in range(1, len(record)):
         is_damaged(f"{record.hex()} cut to {length} bytes", BASE + [record[:length]])
     is_damaged(f"{record.hex()} with a byte more", BASE + [record + b"\x00"])
 for name, record in {
     "an unknown first byte": b"\x00",
-    "an unknown record": b"\x05\x00\x02/z\x00\x02/y",
+    "an unknown record": b"\x0b\x00\x02/z\x00\x02/y",
     "a byte 2 for what may be absent": b"\x03" + row_id(5).to_bytes(8, "big") + path_bytes(b"/z/y") + b"\x02" + edek(b"k"),
     "sealed bytes of another length": file(row_id(5), b"/z/y", edek(b"k", bytes(17))),
     "a path without its slash": remove(b"d/"),
     "a path that begins with .reserved": remove(b"/.reserved"),
+    "a rename to a path without its slash": rename(b"/d", b"d"),
+    "a rename to a path that begins with .reserved": rename(b"/d", b"/.reserved/d"),
     "the name of a key that is none": zone(b"/d", b"/"),
     "the name of a key without bytes": zone(b"/d", b""),
 }.items():
@@ -170,6 +202,14 @@ for depth in range(1, 101):
     rows.append(mkdir(row_id(depth), above))
 expect("a path of 8,000 bytes", run(log(rows)[0], b"nn a info " + above + b"\n"), (0, f"1 dir {row_id(100)} - -\n"))
 is_damaged("a path of 8,001 bytes", rows[:-1] + [mkdir(row_id(100), above + b"a")])
+is_damaged("a rename that makes a path of 8,001 bytes", rows + [rename(longest, longest + b"a")])
+is_damaged("a rename that makes a path of 101 names", rows + [mkdir(row_id(101), b"/b"), rename(longest, b"/b/a")])
+renamed = b"/" + b"b" * 79 + above[80:]
+expect(
+    "a rename that keeps a path of 8,000 bytes",
+    run(log(rows + [rename(longest, renamed[:80])])[0], b"nn a info " + renamed + b"\n"),
+    (0, f"1 dir {row_id(100)} - -\n"),
+)
 
 if runs < 400:
     failures.append(f"only {runs} runs")

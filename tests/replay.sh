@@ -154,6 +154,27 @@ expect 'a file that was deleted, in a snapshot' 0 '1 version k@0 H
 23 done
 24 done'
 
+run_masked examples/renames.events
+expect 'a zone that is renamed' 0 '1 version k@0 H
+2 done
+3 ask 1 4294967298 metadata k
+4 reply 1 meta k 128 1 1
+5 done
+6 ask 2 4294967299 generate k
+7 reply 2 ready k@0:H:H
+8 done
+9 done
+10 done
+11 file 4294967299 /vault k@0:H:H
+12 refused N9 CrossZone
+13 done
+14 file 4294967299 /archive/vault k@0:H:H
+15 zones /archive/vault:k
+16 refused N3 Exists
+17 refused N25 RootOrInside
+18 done
+19 list archive/ vault/'
+
 run_masked examples/create.events
 expect 'created keys' 0 '1 version payroll@0 H
 2 version archive@0 H

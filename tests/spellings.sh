@@ -41,6 +41,11 @@ snapshots=(
     'nn a snap /d a:b' 'nn a snap /d a,b' 'nn a snap /d %4' 'nn a snap /d %zz' 'nn a snap /d ä' 'nn a snap /a:b s'
     'nn a unsnap' 'nn a unsnap /d' 'nn a unsnap /d s t' 'nn a unsnap /d s%4' 'nn a info /d s' 'nn a:b snap /d s' 'nn %ff snap /d s'
 )
+renames=(
+    'nn a rename' 'nn a rename /d' 'nn a rename /d /e ' 'nn a rename /d /e /f' 'nn a rename  /d /e' 'nn a rename /d  /e'
+    'nn a Rename /d /e' 'nn a mv /d /e' 'nn a rename /d /e:f' 'nn a rename /d /e,f' 'nn a rename /d:e /f' 'nn a rename /d /%4'
+    'nn a rename /d /%zz' 'nn a rename /d /ä' 'nn a rename /ä /d' 'nn a mkdir /d /e' 'nn a delete /d /e' 'nn a:b rename /d /e' 'nn %ff rename /d /e'
+)
 asks=(
     'ask a create' 'ask a  create /f' 'ask a create  /f' 'ask a create /f k' 'ask a create /f%2'
     'ask hdfs zone /z' 'ask hdfs zone /z  k' 'ask hdfs zone /z k ' 'ask hdfs zone /z k%6b' 'ask hdfs zone /%zz k'
@@ -56,7 +61,7 @@ restarts=(
 )
 
 # The line before it is answered, and the line after it is not.
-for line in "${calls_on_keys[@]}" "${users[@]}" "${paths[@]}" "${snapshots[@]}" "${asks[@]}" "${numbers[@]}" "${restarts[@]}"; do
+for line in "${calls_on_keys[@]}" "${users[@]}" "${paths[@]}" "${snapshots[@]}" "${renames[@]}" "${asks[@]}" "${numbers[@]}" "${restarts[@]}"; do
     room=$(mktemp -d -p "$quick") || exit 1
     output=$(cd "$room" && printf 'nn a info /\n%s\nnn a info /\n' "$line" | "$program" replay)
     status=$?
