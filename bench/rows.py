@@ -302,6 +302,22 @@ class Bench:
         print_row("its removal, ms", min(removed) * 1e3, most, 100, 0)
 
 
+    def print_renames(self, files):
+        """Measures renames of a directory with so many rows below it, there and back."""
+        rows = in_any_order(rows_in("/zone/all", [b"/zone/all"], files))
+        self.clear()
+        with open(self.names, "wb") as file:
+            file.write(rows.log())
+        session = Session(self.program, self.folder)
+        session.run([ROOT_LINE, "nn a mkdir /zone/in\n"], ["dir 0 - -", "done"])
+        taken = []
+        for _ in range(3):
+            taken.append(session.run(["nn a rename /zone/all /zone/in/all\n"], ["done"]))
+            taken.append(session.run(["nn a rename /zone/in/all /zone/all\n"], ["done"]))
+        session.end()
+        print_row(f"a rename of a directory of {files:,} files, ms", max(taken) * 1e3, "the most that is wanted", 250, 0)
+
+
 def main():
     program, folder = sys.argv[1:3]
     files = int(sys.argv[3]) if len(sys.argv) > 3 else 990_000
@@ -322,6 +338,7 @@ def main():
     ):
         bench.opening(what, made, 2, 3)
     bench.print_snapshots(min(files, 100_000))
+    bench.print_renames(min(files, 500_000))
     bench.clear()
 
 
