@@ -14,7 +14,7 @@ begin file old P = record {
     tells = refl;
     faults = omega arith;
     later = omega arith;
-    other_reads = λ told. refl;
+    other_reads = λ telling. refl;
     other_leaves = λ c. (λ h. h, λ h. h);
   };
   moments = record { before = λ t c le left. inl left };
@@ -27,7 +27,7 @@ then {file} {old} {mid} {new} {P} so_far call file_in here = record {
     tells = call.tells ∙ so_far.run.tells;
     faults = omega (arith, call.faults, so_far.run.faults);
     later = omega (arith, call.later, so_far.run.later);
-    other_reads = λ told. call.other_reads (subst (λ b. IsTrue b) (sym so_far.run.tells) told) ∙ so_far.run.other_reads told;
+    other_reads = λ telling. call.other_reads (subst (λ b. IsTrue b) (sym so_far.run.tells) telling) ∙ so_far.run.other_reads telling;
     other_leaves = λ c. (λ h. (so_far.run.other_leaves c).0 ((call.other_leaves c).0 h), λ h. (call.other_leaves c).1 ((so_far.run.other_leaves c).1 h));
   };
   moments = record {
@@ -51,7 +51,7 @@ compose {file} {old} {mid} {new} {P} {Q} a b weaker_than = record {
     tells = b.run.tells ∙ a.run.tells;
     faults = omega (arith, a.run.faults, b.run.faults);
     later = omega (arith, a.run.later, b.run.later);
-    other_reads = λ told. b.run.other_reads (subst (λ x. IsTrue x) (sym a.run.tells) told) ∙ a.run.other_reads told;
+    other_reads = λ telling. b.run.other_reads (subst (λ x. IsTrue x) (sym a.run.tells) telling) ∙ a.run.other_reads telling;
     other_leaves = λ c. (λ h. (a.run.other_leaves c).0 ((b.run.other_leaves c).0 h), λ h. (b.run.other_leaves c).1 ((a.run.other_leaves c).1 h));
   };
   moments = record {
@@ -62,6 +62,6 @@ compose {file} {old} {mid} {new} {P} {Q} a b weaker_than = record {
 -- reading changes nothing
 pub both_read : {file : ℕ} {old mid new : DiskState} {P : List ℕ → Type 0} → Going file old mid P → Reads file old mid → Reads file mid new → Reads file old new
 both_read so_far a b = record {
-  reads = λ told. b.reads (subst (λ x. IsTrue x) (sym so_far.run.tells) told) ∙ a.reads told;
+  reads = λ telling. b.reads (subst (λ x. IsTrue x) (sym so_far.run.tells) telling) ∙ a.reads telling;
   leaves = λ c h. a.leaves c (b.leaves c h);
 }

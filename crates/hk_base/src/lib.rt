@@ -4,6 +4,7 @@
 
 mod disk;
 mod ended;
+mod listing;
 mod names;
 mod numbers;
 mod outside;
@@ -14,6 +15,7 @@ mod writing;
 
 pub use disk::{Disk, LONGEST_FILE};
 pub use ended::Ended;
+pub use listing::Listing;
 pub use names::{Dek, Edek, Iv, KeyName, VersionName};
 pub use numbers::read_number;
 pub use outside::{Clock, Failed, Sink, Source, Words};

@@ -1,7 +1,6 @@
 //! Names of keys and of key versions, data encryption keys and encrypted keys.
 ghost use Rattle.std.specs.Prelude.{◌≡◌, ◌<◌, ◌≤◌, ◌^◌, ◌++◌, ℕ, List, length, take, position, false, All, IfNone, IsTrue, SomeIff, MatchOption, OnOk, OnErr};
 ghost use Rattle.std.specs.List.{list_all};
-ghost use Rattle.std.specs.Str.{bytes_eq};
 ghost use Rattle.hk_base.specs.Names.{IsKeyName, is_key_name, is_name_byte, is_key_length, padded, is_at_sign, version_text};
 
 use crate::numbers::read_number;
@@ -11,7 +10,7 @@ use std::marker::Model;
 
 /// The name of a key: 1 to 64 letters, digits, dots, underscores and hyphens. Contracts see its
 /// bytes.
-#[derive(Clone, Copy, PartialEq, Eq)]
+#[derive(Clone, Copy)]
 pub struct KeyName {
     bytes: [u8; 64],
     len: u8,
@@ -87,13 +86,27 @@ impl KeyName {
     {
         &self.bytes[..self.len as usize]
     }
+}
 
-    /// Returns whether both names are equal.
-    pub fn is(&self, other: &KeyName) -> bool
-        ensures { result ≡ bytes_eq self.now other.now }
-    {
+impl PartialEq for KeyName {
+    ghost use Rattle.std.specs.Str.{bytes_eq};
+    ghost use Rattle.std.specs.Cmp.Rules.{comparing};
+    ghost use Rattle.std.proofs.Common.{rules};
+
+    ghost eq = { bytes_eq };
+
+    ghost laws = { Prim.search (comparing, rules) };
+
+    fn eq(&self, other: &KeyName) -> bool {
         self.as_bytes() == other.as_bytes()
     }
+}
+
+impl Eq for KeyName {
+    ghost use Rattle.std.specs.Cmp.Rules.{comparing};
+    ghost use Rattle.std.proofs.Common.{rules};
+
+    ghost laws = { Prim.search (comparing, rules) };
 }
 
 /// A version of a key: the key's name and the version's number, which starts at 0. Its text form is

@@ -2,12 +2,9 @@
 //! v1).
 use crate::acl::{AclOp, AclTable};
 use crate::description::Description;
-use crate::edek_list::EdekList;
-use crate::meta_list::MetaList;
-use crate::name_list::NameList;
-use crate::raw_edek_list::RawEdekList;
-use crate::version_list::VersionList;
+use crate::lists::{EdekList, MetaList, NameList, RawEdekList, VersionList};
 use hk_base::{ByteList, Dek, Edek, KeyName, NoMemory, VersionName};
+use std::marker::Model;
 
 /// An encrypted data encryption key as a client sends it: the key version that is said to have
 /// sealed it, and an initialization vector and sealed bytes of any length.
@@ -16,6 +13,23 @@ pub struct RawEdek {
     pub version: VersionName,
     pub iv: ByteList,
     pub sealed: ByteList,
+}
+
+/// A version of a key with its material, or `None` if the material is hidden.
+#[derive(Clone, Copy, PartialEq, Eq)]
+pub struct KeyVersion {
+    pub version: VersionName,
+    pub material: Option<Dek>,
+}
+
+impl Model for KeyVersion {
+    ghost use Rattle.kms_calls.specs.Shown.{Shown};
+
+    ghost Value = { Shown };
+
+    ghost view = { λ a. record { version = a.version; material = a.material } };
+
+    ghost inverse = { λ v. record { version = v.version; material = v.material } };
 }
 
 /// A call of the key management service.

@@ -45,9 +45,9 @@ pub enum NameRefusal {
     /// A call on a path that was read is refused like this only if the first name of the path is
     /// `.reserved`, or if a path at or below one that moves would become longer than the rule allows.
     BadPath,
-    /// There is no entry at the path, or no parent for the path that is to be made or moved to.
+    /// There is no entry at the path, or no parent directory of the new path.
     NoSuchPath,
-    /// There is an entry at the path that is to be made or moved to.
+    /// There already is an entry at the new path.
     Exists,
     /// A file is found in place of a directory.
     NotADirectory,
