@@ -12,7 +12,7 @@ opaque_call file faults later le = record {
   later = omega arith;
   nothing_else = λ t c in_time h. inl h;
   keeps = λ recorded t c in_time h. h;
-  other_reads = λ told. refl;
+  other_reads = λ telling. refl;
   other_leaves = λ c. (λ h. h, λ h. h);
 }
 

@@ -12,7 +12,7 @@ plain_call file old new faults later le same =
       later = omega arith;
       nothing_else = λ t c in_time h. inl h;
       keeps = λ recorded t c in_time h. h;
-      other_reads = λ told. refl;
+      other_reads = λ telling. refl;
       other_leaves = λ c. (λ h. h, λ h. h);
     })
 
@@ -24,6 +24,6 @@ one_changed file old new faults later le other = record {
   later = omega arith;
   nothing_else = λ t c in_time h. inr h;
   keeps = λ recorded t c in_time h. absurd cc;
-  other_reads = λ told. other;
+  other_reads = λ telling. other;
   other_leaves = λ c. (λ h. h ∙ other, λ h. h ∙ sym other);
 }

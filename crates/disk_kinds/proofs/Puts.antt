@@ -42,7 +42,7 @@ put_call file f old new old_past new_past faults later lt le put = record {
   later = omega (arith, ap length put.past, length-append old_past (put.kept ∷ []));
   nothing_else = λ t c in_time left. ⊎_elim (λ now. inr now) (λ was. inl (past_of t c (was_adds (drop t old_past) put.kept c (subst (λ (l : List Moment). WasImage l c) (dropped t in_time) was)))) left;
   keeps = λ recorded t c in_time left. inr (subst (λ (l : List Moment). WasImage l c) (sym (dropped t in_time)) (was_keeps (drop t old_past) put.kept c (kept_of t c left)));
-  other_reads = λ told. ap (λ (m : MomentAt). (the_file m (1 - file)).reads) put.now ∙ ap (λ (g : FileAt). g.reads) (the_other file f old lt);
+  other_reads = λ telling. ap (λ (m : MomentAt). (the_file m (1 - file)).reads) put.now ∙ ap (λ (g : FileAt). g.reads) (the_other file f old lt);
   other_leaves = λ c. (
     λ h. subst (λ (g : FileAt). MayLeave g c) (the_other file f old lt) (subst (λ (m : MomentAt). MayLeave (the_file m (1 - file)) c) put.now h),
     λ h. subst (λ (m : MomentAt). MayLeave (the_file m (1 - file)) c) (sym put.now) (subst (λ (g : FileAt). MayLeave g c) (sym (the_other file f old lt)) h),
@@ -69,7 +69,7 @@ left_call file old new old_past new_past faults later le left =
       later = omega arith;
       nothing_else = λ t c in_time h. inl h;
       keeps = λ recorded t c in_time h. h;
-      other_reads = λ told. refl;
+      other_reads = λ telling. refl;
       other_leaves = λ c. (λ h. h, λ h. h);
     }))
 

@@ -10,7 +10,7 @@ use Rattle.edit_ops.specs.Laws.{longest_record}
 use Rattle.edit_ops.specs.Records.{HasSpelling, spelling}
 use Rattle.edit_ops.specs.declared.ops.EditOp.{EditOp}
 use Rattle.edit_ops.proofs.RecordLemmas.{records_are_short}
-use Rattle.edit_log.specs.Log.{EditLogState, StandsFor, IsWithOrWithout}
+use Rattle.edit_log.specs.Log.{EditLogState, IsEditLogOf, IsWithOrWithout}
 use Rattle.edit_log.proofs.Replays.{each_more}
 
 -- the longest record is within the log's bound
@@ -24,31 +24,31 @@ is_payload op bytes has is =
     subst IsPayload (sym is) (record { some = short.0; limit = omega (arith, short.1, longest_fits) })
 
 module _ (old new : DiskState) (edits : EditLogState) (ops : List EditOp) (op : EditOp) where
-  pub stands_alone : StandsFor old edits ops → edits.pending ≡ None → Stands old edits.log (map spelling ops) None
+  pub stands_alone : IsEditLogOf old edits ops → edits.pending ≡ None → Stands old edits.log (map spelling ops) None
   stands_alone s none = subst (λ (o : Option EditOp). Stands old edits.log (map spelling ops) (option_map spelling o)) none s.log
 
-  pub stands_beside : StandsFor old edits ops → edits.pending ≡ Some op → Stands old edits.log (map spelling ops) (Some (spelling op))
+  pub stands_beside : IsEditLogOf old edits ops → edits.pending ≡ Some op → Stands old edits.log (map spelling ops) (Some (spelling op))
   stands_beside s some = subst (λ (o : Option EditOp). Stands old edits.log (map spelling ops) (option_map spelling o)) some s.log
 
   -- an operation more
-  one_more : (log : Log) (pending : Option EditOp) → StandsFor old edits ops → pending ≡ None → HasSpelling op
-      → Stands new log (map spelling ops ++ spelling op ∷ []) None → StandsFor new (record { log = log; pending = pending }) (ops ++ op ∷ [])
+  one_more : (log : Log) (pending : Option EditOp) → IsEditLogOf old edits ops → pending ≡ None → HasSpelling op
+      → Stands new log (map spelling ops ++ spelling op ∷ []) None → IsEditLogOf new (record { log = log; pending = pending }) (ops ++ op ∷ [])
   one_more log pending s none spelled stands = record {
     spelled = each_more HasSpelling ops op s.spelled spelled;
     waits = subst (λ (o : Option EditOp). IfSome o HasSpelling) (sym none) tt;
     log = subst (λ (o : Option EditOp). Stands new log (map spelling (ops ++ op ∷ [])) (option_map spelling o)) (sym none) (subst (λ (l : List (List ℕ)). Stands new log l None) (sym (map-append spelling ops (op ∷ []))) stands);
   }
 
-  pub committed : (log : Log) (pending : Option EditOp) (payload : List ℕ) → StandsFor old edits ops → edits.pending ≡ None → pending ≡ None → HasSpelling op → payload ≡ spelling op
+  pub committed : (log : Log) (pending : Option EditOp) (payload : List ℕ) → IsEditLogOf old edits ops → edits.pending ≡ None → pending ≡ None → HasSpelling op → payload ≡ spelling op
       → ((payloads : List (List ℕ)) → Stands old edits.log payloads None → Stands new log (payloads ++ payload ∷ []) None)
-      → StandsFor new (record { log = log; pending = pending }) (ops ++ op ∷ [])
+      → IsEditLogOf new (record { log = log; pending = pending }) (ops ++ op ∷ [])
   committed log pending payload s alone none spelled is added =
       one_more log pending s none spelled (subst (λ (p : List ℕ). Stands new log (map spelling ops ++ p ∷ []) None) is (added (map spelling ops) (stands_alone s alone)))
 
   -- the pending operation was kept
-  pub kept : (log : Log) (pending : Option EditOp) (was_kept : Bool) → StandsFor old edits ops → edits.pending ≡ Some op → pending ≡ None → was_kept ≡ true
+  pub kept : (log : Log) (pending : Option EditOp) (was_kept : Bool) → IsEditLogOf old edits ops → edits.pending ≡ Some op → pending ≡ None → was_kept ≡ true
       → ((payloads : List (List ℕ)) (payload : List ℕ) → Stands old edits.log payloads (Some payload) → Stands new log (if was_kept then payloads ++ payload ∷ [] else payloads) None)
-      → StandsFor new (record { log = log; pending = pending }) (ops ++ op ∷ [])
+      → IsEditLogOf new (record { log = log; pending = pending }) (ops ++ op ∷ [])
   kept log pending was_kept s waits none true_is settled =
       let spelled : HasSpelling op = subst (λ (o : Option EditOp). IfSome o HasSpelling) waits s.waits in
       let whole : List (List ℕ) = map spelling ops ++ spelling op ∷ [] in
@@ -59,12 +59,12 @@ module _ (old new : DiskState) (edits : EditLogState) (ops : List EditOp) (op : 
       subst (λ (p : List ℕ). LeavesOnly 1 old new (IsBeforeOrAfter 1 (map spelling ops) p)) is (subst (λ (k : ℕ). LeavesOnly k old new (IsBeforeOrAfter k (map spelling ops) payload)) one_is left)
 
 -- the pending operation was dropped
-pub dropped : (old new : DiskState) (edits : EditLogState) (ops : List EditOp) (log : Log) (pending : Option EditOp) (was_kept : Bool) → StandsFor old edits ops → ¬ (edits.pending ≡ None) → pending ≡ None → was_kept ≡ false
+pub dropped : (old new : DiskState) (edits : EditLogState) (ops : List EditOp) (log : Log) (pending : Option EditOp) (was_kept : Bool) → IsEditLogOf old edits ops → ¬ (edits.pending ≡ None) → pending ≡ None → was_kept ≡ false
     → ((payloads : List (List ℕ)) (payload : List ℕ) → Stands old edits.log payloads (Some payload) → Stands new log (if was_kept then payloads ++ payload ∷ [] else payloads) None)
-    → StandsFor new (record { log = log; pending = pending }) ops
+    → IsEditLogOf new (record { log = log; pending = pending }) ops
 dropped old new edits ops log pending was_kept s some none false_is settled = go edits.pending refl
   where
-    go : (o : Option EditOp) → edits.pending ≡ o → StandsFor new (record { log = log; pending = pending }) ops
+    go : (o : Option EditOp) → edits.pending ≡ o → IsEditLogOf new (record { log = log; pending = pending }) ops
     go None waits = absurd (some waits)
     go (Some op) waits =
         let whole : List (List ℕ) = map spelling ops ++ spelling op ∷ [] in

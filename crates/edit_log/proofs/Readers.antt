@@ -15,7 +15,7 @@ use Rattle.edit_ops.specs.declared.ops.EditOp.{EditOp}
 use Rattle.edit_log.specs.declared.replay.PlacedOp.{PlacedOp}
 use Rattle.edit_log.specs.declared.reader.OpReader.{OpReader}
 use Rattle.edit_log.specs.Replay.{then_last, IsNext, IsNoNext}
-use Rattle.edit_log.specs.Log.{EditLogState, StandsFor}
+use Rattle.edit_log.specs.Log.{EditLogState, IsEditLogOf}
 use Rattle.edit_log.specs.Reader.{OpsAhead, IsFirstOp, IsNextOp, HasNoNextOp, IsOpened}
 use Rattle.edit_log.proofs.Replays.{each_more, openings_more}
 
@@ -60,12 +60,12 @@ no_next_op disk now old records done todo a offset got other at none = record {
 }
 
 -- a log whose payloads are the records of operations holds them
-pub stands_for_ops : (disk : DiskState) (log : Log) (payloads : List (List ℕ)) (ops : List EditOp) → Stands disk log payloads None → AllByRecursion HasSpelling ops → payloads ≡ map spelling ops → StandsFor disk (record { log = log; pending = None }) ops
+pub stands_for_ops : (disk : DiskState) (log : Log) (payloads : List (List ℕ)) (ops : List EditOp) → Stands disk log payloads None → AllByRecursion HasSpelling ops → payloads ≡ map spelling ops → IsEditLogOf disk (record { log = log; pending = None }) ops
 stands_for_ops disk log payloads ops s spelled are = record { spelled = spelled; waits = tt; log = subst (λ (l : List (List ℕ)). Stands disk log l None) are s }
 
 -- the log holds the same operations after calls that only read
-pub still_stands_for : (old new : DiskState) (edits : EditLogState) (ops : List EditOp) → Reads 1 old new → edits.log.file ≡ 1 → Tells old → StandsFor old edits ops → StandsFor new edits ops
-still_stands_for old new edits ops same is told s = record { spelled = s.spelled; waits = s.waits; log = still_stands 1 old new edits.log (map spelling ops) _ same is told s.log }
+pub still_stands_for : (old new : DiskState) (edits : EditLogState) (ops : List EditOp) → Reads 1 old new → edits.log.file ≡ 1 → Tells old → IsEditLogOf old edits ops → IsEditLogOf new edits ops
+still_stands_for old new edits ops same is tells s = record { spelled = s.spelled; waits = s.waits; log = still_stands 1 old new edits.log (map spelling ops) _ same is tells s.log }
 
 -- a log that was recovered, and a reader at its first record
 pub opened : (bytes : List ℕ) (disk : DiskState) (log : Log) (reader : OpReader) (payloads : List (List ℕ)) (gate : ℕ) → log_of 1 bytes ≡ Found payloads gate → Ahead disk reader.records payloads → Stands disk log payloads None → log.file ≡ 1 → reader.records.at ≡ 8 → reader.opening ≡ 0

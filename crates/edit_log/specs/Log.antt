@@ -21,7 +21,7 @@ WaitTogether (Some op) (Some size) = Unit {0}
 
 -- The log holds these acknowledged operations on the disk: they are its records, apart from the pending
 -- one.
-pub record StandsFor (disk : DiskState) (edits : EditLogState) (ops : List EditOp) : Type 0 where
+pub record IsEditLogOf (disk : DiskState) (edits : EditLogState) (ops : List EditOp) : Type 0 where
   pub spelled : AllByRecursion HasSpelling ops
   pub waits : IfSome edits.pending HasSpelling
   pub log : Stands disk edits.log (map spelling ops) (option_map spelling edits.pending)

@@ -9,7 +9,7 @@ use Rattle.edit_ops.specs.declared.ops.EditOp.{EditOp}
 use Rattle.edit_log.specs.declared.replay.PlacedOp.{PlacedOp}
 use Rattle.edit_log.specs.declared.reader.OpReader.{OpReader}
 use Rattle.edit_log.specs.Replay.{openings, IsNoNext}
-use Rattle.edit_log.specs.Log.{EditLogState, StandsFor}
+use Rattle.edit_log.specs.Log.{EditLogState, IsEditLogOf}
 
 -- The reader returned the operations `done`, each in turn, and the records `todo` follow them.
 pub record OpsAhead (disk : DiskState) (reader : OpReader) (done : List EditOp) (todo : List (List ℕ)) : Type 0 where
@@ -46,4 +46,4 @@ pub record IsOpened (bytes : List ℕ) (disk : DiskState) (edits : EditLogState)
   pub found : log_of 1 bytes ≡ Found payloads gate
   pub ahead : OpsAhead disk reader [] payloads
   pub leaves : (left : List ℕ) → disk.leaves 1 left → IsAsFound 1 bytes left
-  pub stands : (ops : List EditOp) → AllByRecursion HasSpelling ops → payloads ≡ map spelling ops → StandsFor disk edits ops
+  pub stands : (ops : List EditOp) → AllByRecursion HasSpelling ops → payloads ≡ map spelling ops → IsEditLogOf disk edits ops

@@ -43,7 +43,7 @@ impl EditLog {
     ghost use Rattle.edit_ops.specs.declared.ops.EditOp.{EditOp};
     ghost use Rattle.edit_ops.specs.declared.ops.EditOp.TheVariants as op;
     ghost use Rattle.edit_log.specs.Reader.{IsOpened};
-    ghost use Rattle.edit_log.specs.Log.{StandsFor, IsWithOrWithout};
+    ghost use Rattle.edit_log.specs.Log.{IsEditLogOf, IsWithOrWithout};
 
     /// Recovers a disk's edit log. The reader returns its operations one after another. Nothing is
     /// committed: the file is unchanged, or its end gate is set to 0. Returns `Damaged` only if the file is
@@ -87,21 +87,21 @@ impl EditLog {
         last: u32,
     ) -> Result<(), StartFault>
         requires settled { self.old.pending ≡ None }
-        requires stands { Tells (D.state disk.old) → ((ops : List EditOp) × StandsFor (D.state disk.old) self.old ops) }
+        requires stands { Tells (D.state disk.old) → ((ops : List EditOp) × IsEditLogOf (D.state disk.old) self.old ops) }
 
-        ensures committed { OnOk result (Tells (D.state disk.old) → (ops : List EditOp) → StandsFor (D.state disk.old) self.old ops
-            → StandsFor (D.state disk.new) self.new (ops ++ op.Opened (last + 1) ∷ [])) }
+        ensures committed { OnOk result (Tells (D.state disk.old) → (ops : List EditOp) → IsEditLogOf (D.state disk.old) self.old ops
+            → IsEditLogOf (D.state disk.new) self.new (ops ++ op.Opened (last + 1) ∷ [])) }
         ensures opened { OnOk result (self.new.pending ≡ None) }
         ensures pending { IsErrOf result start.StoreFault → self.new.pending ≡ Some (op.Opened (last + 1)) }
         ensures memory { IsErrOf result start.NoMemory → (self.new ≡ self.old) × (disk.new ≡ disk.old) }
         ensures spent { IsErrOf result start.Spent → (last ≡ 4294967295) × (self.new ≡ self.old) × (disk.new ≡ disk.old) }
         ensures room { OnOk result (last < 4294967295) }
         ensures damaged { (at : ℕ) → IsErrOf result (start.Damaged at) → ⊥ }
-        ensures refused { OnErr result (Tells (D.state disk.old) → (ops : List EditOp) → StandsFor (D.state disk.old) self.old ops
-            → StandsFor (D.state disk.new) self.new ops) }
+        ensures refused { OnErr result (Tells (D.state disk.old) → (ops : List EditOp) → IsEditLogOf (D.state disk.old) self.old ops
+            → IsEditLogOf (D.state disk.new) self.new ops) }
 
         // A crash at any moment of the call leaves the operations from before it, with the opening or without.
-        ensures any_moment { Tells (D.state disk.old) → (ops : List EditOp) → StandsFor (D.state disk.old) self.old ops
+        ensures any_moment { Tells (D.state disk.old) → (ops : List EditOp) → IsEditLogOf (D.state disk.old) self.old ops
             → LeavesOnly 1 (D.state disk.old) (D.state disk.new) (IsWithOrWithout ops (op.Opened (last + 1))) }
 
         ensures run { RunOn 1 (D.state disk.old) (D.state disk.new) }
@@ -128,19 +128,19 @@ impl EditLog {
     ) -> Result<(), StoreRefusal>
         requires settled { self.old.pending ≡ None }
         requires fits { IsTrue (fits op.now) }
-        requires stands { Tells (D.state disk.old) → ((ops : List EditOp) × StandsFor (D.state disk.old) self.old ops) }
+        requires stands { Tells (D.state disk.old) → ((ops : List EditOp) × IsEditLogOf (D.state disk.old) self.old ops) }
 
-        ensures committed { OnOk result (Tells (D.state disk.old) → (ops : List EditOp) → StandsFor (D.state disk.old) self.old ops
-            → StandsFor (D.state disk.new) self.new (ops ++ op.now ∷ [])) }
+        ensures committed { OnOk result (Tells (D.state disk.old) → (ops : List EditOp) → IsEditLogOf (D.state disk.old) self.old ops
+            → IsEditLogOf (D.state disk.new) self.new (ops ++ op.now ∷ [])) }
         ensures done { OnOk result (self.new.pending ≡ None) }
 
         ensures pending { IsErrOf result store.StoreFault → self.new.pending ≡ Some op.now }
         ensures memory { IsErrOf result store.NoMemory → (self.new ≡ self.old) × (disk.new ≡ disk.old) }
-        ensures refused { OnErr result (Tells (D.state disk.old) → (ops : List EditOp) → StandsFor (D.state disk.old) self.old ops
-            → StandsFor (D.state disk.new) self.new ops) }
+        ensures refused { OnErr result (Tells (D.state disk.old) → (ops : List EditOp) → IsEditLogOf (D.state disk.old) self.old ops
+            → IsEditLogOf (D.state disk.new) self.new ops) }
 
         // A crash at any moment of the call leaves the operations from before it, with the new one or without.
-        ensures any_moment { Tells (D.state disk.old) → (ops : List EditOp) → StandsFor (D.state disk.old) self.old ops
+        ensures any_moment { Tells (D.state disk.old) → (ops : List EditOp) → IsEditLogOf (D.state disk.old) self.old ops
             → LeavesOnly 1 (D.state disk.old) (D.state disk.new) (IsWithOrWithout ops op.now) }
 
         ensures run { RunOn 1 (D.state disk.old) (D.state disk.new) }
@@ -173,24 +173,24 @@ impl EditLog {
     /// after a sync, and dropped otherwise. Does nothing if none is pending. After `StoreFault`, the only
     /// error, it is still pending. Does not allocate.
     pub fn settle<D: Disk>(&mut self, disk: &mut D) -> Result<Option<EditOp>, StoreRefusal>
-        requires stands { Tells (D.state disk.old) → ((ops : List EditOp) × StandsFor (D.state disk.old) self.old ops) }
+        requires stands { Tells (D.state disk.old) → ((ops : List EditOp) × IsEditLogOf (D.state disk.old) self.old ops) }
 
         ensures nothing { self.old.pending ≡ None → (result ≡ Ok None) × (self.new ≡ self.old) × (disk.new ≡ disk.old) }
         ensures settled { OnOk result (self.new.pending ≡ None) }
         ensures answer { IfOk result (λ kept. (kept ≡ None) ⊎ (kept ≡ self.old.pending)) }
-        ensures kept { IfOk result (λ kept. Tells (D.state disk.old) → (ops : List EditOp) (op : EditOp) → StandsFor (D.state disk.old) self.old ops → self.old.pending ≡ Some op
+        ensures kept { IfOk result (λ kept. Tells (D.state disk.old) → (ops : List EditOp) (op : EditOp) → IsEditLogOf (D.state disk.old) self.old ops → self.old.pending ≡ Some op
             → slice_get ((D.state disk.old).reads 1) self.old.log.end ≡ Some 1
-            → (kept ≡ Some op) × StandsFor (D.state disk.new) self.new (ops ++ op ∷ [])) }
-        ensures dropped { IfOk result (λ kept. Tells (D.state disk.old) → (ops : List EditOp) → StandsFor (D.state disk.old) self.old ops
+            → (kept ≡ Some op) × IsEditLogOf (D.state disk.new) self.new (ops ++ op ∷ [])) }
+        ensures dropped { IfOk result (λ kept. Tells (D.state disk.old) → (ops : List EditOp) → IsEditLogOf (D.state disk.old) self.old ops
             → slice_get ((D.state disk.old).reads 1) self.old.log.end ≢ Some 1
-            → (kept ≡ None) × StandsFor (D.state disk.new) self.new ops) }
+            → (kept ≡ None) × IsEditLogOf (D.state disk.new) self.new ops) }
         ensures still_pending { OnErr result (self.new ≡ self.old) }
-        ensures refused { OnErr result (Tells (D.state disk.old) → (ops : List EditOp) → StandsFor (D.state disk.old) self.old ops
-            → StandsFor (D.state disk.new) self.new ops) }
+        ensures refused { OnErr result (Tells (D.state disk.old) → (ops : List EditOp) → IsEditLogOf (D.state disk.old) self.old ops
+            → IsEditLogOf (D.state disk.new) self.new ops) }
         ensures fault { IsErr result → IsErrOf result store.StoreFault }
 
         // A crash at any moment of the call leaves the operations from before it, with the pending one or without.
-        ensures any_moment { Tells (D.state disk.old) → (ops : List EditOp) (op : EditOp) → StandsFor (D.state disk.old) self.old ops → self.old.pending ≡ Some op
+        ensures any_moment { Tells (D.state disk.old) → (ops : List EditOp) (op : EditOp) → IsEditLogOf (D.state disk.old) self.old ops → self.old.pending ≡ Some op
             → LeavesOnly 1 (D.state disk.old) (D.state disk.new) (IsWithOrWithout ops op) }
 
         ensures run { RunOn 1 (D.state disk.old) (D.state disk.new) }

@@ -9,12 +9,12 @@ use Rattle.frame_log.proofs.Reading.{log_shut}
 
 -- calls on one file keep the invariant of the other log
 pub other_stands : (file : ℕ) (old new : DiskState) (log : Log) (payloads : List (List ℕ)) (unsettled : Option (List ℕ)) → RunOn file old new → log.file ≡ 1 - file → Tells old → Stands old log payloads unsettled → Stands new log payloads unsettled
-other_stands file old new log payloads unsettled run other told s = record {
+other_stands file old new log payloads unsettled run other tells s = record {
   sized = s.sized;
   payload = s.payload;
   end = s.end;
   waits = s.waits;
-  reads = subst (Is (front log.file payloads) unsettled) (sym (subst (λ (k : ℕ). new.reads k ≡ old.reads k) (sym other) (run.other_reads told))) s.reads;
+  reads = subst (Is (front log.file payloads) unsettled) (sym (subst (λ (k : ℕ). new.reads k ≡ old.reads k) (sym other) (run.other_reads tells))) s.reads;
   leaves = λ bytes h. s.leaves bytes (subst (λ (k : ℕ). new.leaves k bytes → old.leaves k bytes) (sym other) (run.other_leaves bytes).0 h);
 }
 
@@ -30,12 +30,12 @@ reads_at_rest d log payloads s = ap (log_of log.file) s.reads.1 ∙ log_shut log
 
 -- calls that only read leave the log standing
 pub still_stands : (file : ℕ) (old new : DiskState) (log : Log) (payloads : List (List ℕ)) (unsettled : Option (List ℕ)) → Reads file old new → log.file ≡ file → Tells old → Stands old log payloads unsettled → Stands new log payloads unsettled
-still_stands file old new log payloads unsettled same is told s = record {
+still_stands file old new log payloads unsettled same is tells s = record {
   sized = s.sized;
   payload = s.payload;
   end = s.end;
   waits = s.waits;
-  reads = subst (Is (front log.file payloads) unsettled) (sym (subst (λ (k : ℕ). new.reads k ≡ old.reads k) (sym is) (same.reads told))) s.reads;
+  reads = subst (Is (front log.file payloads) unsettled) (sym (subst (λ (k : ℕ). new.reads k ≡ old.reads k) (sym is) (same.reads tells))) s.reads;
   leaves = λ bytes h. s.leaves bytes (subst (λ (k : ℕ). new.leaves k bytes → old.leaves k bytes) (sym is) (same.leaves bytes) h);
 }
 

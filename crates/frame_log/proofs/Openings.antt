@@ -28,7 +28,7 @@ run_then a b = record {
   tells = b.tells ∙ a.tells;
   faults = omega (arith, a.faults, b.faults);
   later = omega (arith, a.later, b.later);
-  other_reads = λ told. b.other_reads (subst (λ x. IsTrue x) (sym a.tells) told) ∙ a.other_reads told;
+  other_reads = λ telling. b.other_reads (subst (λ x. IsTrue x) (sym a.tells) telling) ∙ a.other_reads telling;
   other_leaves = λ c. (λ h. (a.other_leaves c).0 ((b.other_leaves c).0 h), λ h. (b.other_leaves c).1 ((a.other_leaves c).1 h));
 }
 
@@ -48,8 +48,8 @@ module _ {file : ℕ} {Damage : List ℕ → ℕ → Type 0} {Used : List ℕ �
   -- more of the fault is known since an earlier moment
   pub why_since : (old mid new : DiskState) {fails : StartFault → Type 0} → RunOn file old mid → (Tells old → mid.reads file ≡ old.reads file) → FailsFor file Damage Used mid new fails → FailsFor file Damage Used old new fails
   why_since old mid new run same w = record {
-    damaged = λ at is told. subst (λ (b : List ℕ). Damage b at) (same told) (w.damaged at is (run.tells ∙ told));
-    spent = λ is told. subst Used (same told) (w.spent is (run.tells ∙ told));
+    damaged = λ at is telling. subst (λ (b : List ℕ). Damage b at) (same telling) (w.damaged at is (run.tells ∙ telling));
+    spent = λ is telling. subst Used (same telling) (w.spent is (run.tells ∙ telling));
     cause = λ is. rose_since run.faults (w.cause is);
   }
 
@@ -59,7 +59,7 @@ module _ {file : ℕ} {Damage : List ℕ → ℕ → Type 0} {Used : List ℕ �
     opens_for f g o = record {
       why = why_for f o.why;
       any_moment = o.any_moment;
-      since_sync = λ told. ⊎_elim (λ failed. inl (g failed.0, failed.1)) (λ since. inr since) (o.since_sync told);
+      since_sync = λ telling. ⊎_elim (λ failed. inl (g failed.0, failed.1)) (λ since. inr since) (o.since_sync telling);
       run = o.run;
     }
 
@@ -78,12 +78,12 @@ module _ {file : ℕ} {Damage Damage' : List ℕ → ℕ → Type 0} {Used Used'
       → Opens file Damage Used Left old new fails → Opens file Damage' Used' Left' old new fails
   opens_as damage used left o = record {
     why = record {
-      damaged = λ at is told. damage (old.reads file) at (o.why.damaged at is told);
-      spent = λ is told. used (old.reads file) (o.why.spent is told);
+      damaged = λ at is telling. damage (old.reads file) at (o.why.damaged at is telling);
+      spent = λ is telling. used (old.reads file) (o.why.spent is telling);
       cause = o.why.cause;
     };
-    any_moment = λ told. weaker (λ c here. ⊎_elim (λ past. inl past) (λ now. inr (left (old.reads file) c now)) here) (o.any_moment told);
-    since_sync = λ told. ⊎_elim (λ failed. inl failed) (λ since. inr (from_weaker (left (old.reads file)) since)) (o.since_sync told);
+    any_moment = λ telling. weaker (λ c here. ⊎_elim (λ past. inl past) (λ now. inr (left (old.reads file) c now)) here) (o.any_moment telling);
+    since_sync = λ telling. ⊎_elim (λ failed. inl failed) (λ since. inr (from_weaker (left (old.reads file)) since)) (o.since_sync telling);
     run = o.run;
   }
 
@@ -93,15 +93,15 @@ module _ {file : ℕ} {Damage Damage' : List ℕ → ℕ → Type 0} {Used Used'
       → Opens file Damage' Used' Left old new fails'
   opens_then opened o run moments why = record {
     why = why;
-    any_moment = λ told.
-        let first : Going file old mid (λ c. old.leaves file c ⊎ Left (old.reads file) c) = record { run = o.run; moments = o.any_moment told } in
-        (compose first (on told) (λ c here. inr here)).moments;
-    since_sync = λ told. ⊎_elim (λ failed. absurd (opened failed.0)) (λ since. inr (from_then since (on told) (λ c here. here))) (o.since_sync told);
+    any_moment = λ telling.
+        let first : Going file old mid (λ c. old.leaves file c ⊎ Left (old.reads file) c) = record { run = o.run; moments = o.any_moment telling } in
+        (compose first (on telling) (λ c here. inr here)).moments;
+    since_sync = λ telling. ⊎_elim (λ failed. absurd (opened failed.0)) (λ since. inr (from_then since (on telling) (λ c here. here))) (o.since_sync telling);
     run = run_then o.run run;
   }
     where
       on : Tells old → Going file mid new (Left (old.reads file))
-      on told = record { run = run; moments = moments told }
+      on telling = record { run = run; moments = moments telling }
 
 -- beside what a crash might have left before, a recovery leaves only the log found
 pub as_found : (file : ℕ) (old new : DiskState) → old.leaves file (old.reads file) → LeavesOnly file old new (λ c. old.leaves file c ⊎ IsRecovered file (old.reads file) c) → LeavesOnly file old new (λ c. old.leaves file c ⊎ IsAsFound file (old.reads file) c)

@@ -1,6 +1,6 @@
 -- Files of known bytes, read as logs.
 use Rattle.std.specs.Prelude.{◌≡◌, ℕ, List, [], ◌∷◌, ◌++◌, take, set, refl, length}
-use Rattle.frame_log.specs.Format.{log_of, Found, NoLog, magic, opened, frames}
+use Rattle.frame_log.specs.Format.{log_of, Found, NoLog, magic, bytes_after_opening, frames}
 
 -- the record of opening 1
 abbrev pub opened_1 : List ℕ
@@ -33,7 +33,7 @@ spelled = refl
 pub gate_7 : log_of 0 (set rolled_log 62 7) ≡ Found (opened_1 ∷ create_k ∷ []) 7
 gate_7 = refl
 
-pub gate_7_opened : log_of 0 (opened 0 (set rolled_log 62 7)) ≡ Found (opened_1 ∷ create_k ∷ roll_k ∷ []) 0
+pub gate_7_opened : log_of 0 (bytes_after_opening 0 (set rolled_log 62 7)) ≡ Found (opened_1 ∷ create_k ∷ roll_k ∷ []) 0
 gate_7_opened = refl
 
 pub cut_80 : log_of 0 (take 80 rolled_log) ≡ NoLog 62

@@ -320,6 +320,6 @@ are_names rows entries index = record { order = index.order; among = λ name. am
     mapped None = refl
     mapped (Some row) = refl
 
-pub told_names : (rows : List KeyRow) (entries : List NamedBirth) (r : Result (List (List ℕ)) NoMemory) → IsIndex rows entries → IfOk r (λ names. names ≡ names_of entries) → IfOk r (AreNames rows)
-told_names rows entries (Ok names) index is = subst (AreNames rows) (sym is) (are_names rows entries index)
-told_names rows entries (Err wanting) index is = tt
+pub names_answered : (rows : List KeyRow) (entries : List NamedBirth) (r : Result (List (List ℕ)) NoMemory) → IsIndex rows entries → IfOk r (λ names. names ≡ names_of entries) → IfOk r (AreNames rows)
+names_answered rows entries (Ok names) index is = subst (AreNames rows) (sym is) (are_names rows entries index)
+names_answered rows entries (Err wanting) index is = tt

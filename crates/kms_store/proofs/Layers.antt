@@ -14,11 +14,11 @@ use Rattle.key_rows.specs.declared.rows.KeyCommand.{KeyCommand}
 use Rattle.key_rows.proofs.Births.{each_more}
 use Rattle.key_rows.proofs.RecordLemmas.{one_spelling}
 use Rattle.kms_store.specs.Replay.{key_replay}
-use Rattle.kms_store.specs.Store.{AKeyOpening, Applies, IsDamagedAt, IsKeyLog, IsLeftByStart, IsLeftOf, IsLogOf, IsSoundLog, IsWithOrWithout, NoCommand, Not_a_key_log, Not_a_log, Opening, Recovered, StandsFor, StoreState, next_opening, settled_commands, settled_table}
+use Rattle.kms_store.specs.Store.{AKeyOpening, Applies, IsDamagedAt, IsKeyLog, IsLeftByStart, IsLeftOf, IsLogOf, IsSoundLog, IsWithOrWithout, NoCommand, Not_a_key_log, Not_a_log, Opening, Recovered, IsKeyStoreOf, StoreState, next_opening, settled_commands, settled_table}
 use Rattle.kms_store.proofs.Replays.{replay_more, spelled_more}
 
 -- the file of a store is a log of its commands, with or without the pending one
-pub log_of_store : (d : DiskState) (store : StoreState) (commands : List KeyCommand) → store.log.file ≡ 0 → StandsFor d store commands
+pub log_of_store : (d : DiskState) (store : StoreState) (commands : List KeyCommand) → store.log.file ≡ 0 → IsKeyStoreOf d store commands
     → (bytes : List ℕ) → Is (front store.log.file (map spelling commands)) (option_map spelling store.pending) bytes → IsLogOf commands store.pending bytes
 log_of_store d store commands of_file s bytes is = go store.pending is s.log.payload
   where
@@ -143,7 +143,7 @@ sound_left table pending own commands bytes spelled waits makes applies l = reco
 }
 
 -- the log of a store is sound
-pub sound_store : (d : DiskState) (store : StoreState) (commands : List KeyCommand) → store.log.file ≡ 0 → Applies store.table.keys store.pending → StandsFor d store commands
+pub sound_store : (d : DiskState) (store : StoreState) (commands : List KeyCommand) → store.log.file ≡ 0 → Applies store.table.keys store.pending → IsKeyStoreOf d store commands
     → IsSoundLog (d.reads 0) commands store.pending store.table.keys
 sound_store d store commands of_file may s = record {
   spelled = s.spelled;
@@ -154,7 +154,7 @@ sound_store d store commands of_file may s = record {
 }
 
 -- and so is the log that a crash leaves
-pub left_by_store : (d : DiskState) (store : StoreState) (commands : List KeyCommand) → store.log.file ≡ 0 → Applies store.table.keys store.pending → StandsFor d store commands
+pub left_by_store : (d : DiskState) (store : StoreState) (commands : List KeyCommand) → store.log.file ≡ 0 → Applies store.table.keys store.pending → IsKeyStoreOf d store commands
     → (bytes : List ℕ) → d.leaves 0 bytes → IsLeftOf store.table.keys store.pending NoCommand commands bytes
 left_by_store d store commands of_file may s bytes left =
     go store.pending may s.waits (log_of_store d store commands of_file s bytes (s.log.leaves bytes (subst (λ (k : ℕ). d.leaves k bytes) (sym of_file) left)))
@@ -210,13 +210,13 @@ not_damaged bytes commands more table at s (Not_a_key_log k) =
 
 -- a store holds exactly one list of commands
 pub stands_once : (d : DiskState) (store : StoreState) (commands others found : List KeyCommand) (made : Table) → store.log.file ≡ 0 → Applies store.table.keys store.pending
-    → StandsFor d store commands → StandsFor d store others → IsKeyLog (d.reads 0) found made → others ≡ commands
+    → IsKeyStoreOf d store commands → IsKeyStoreOf d store others → IsKeyLog (d.reads 0) found made → others ≡ commands
 stands_once d store commands others found made of_file may s t k =
     let f = finds (d.reads 0) commands store.pending store.table.keys found made (sound_store d store commands of_file may s) k in
     let g = finds (d.reads 0) others store.pending store.table.keys found made (sound_store d store others of_file may t) k in
     go f.kept g.kept store.pending (sym g.commands_are ∙ f.commands_are)
   where
-    long : (a b : List KeyCommand) → StandsFor d store a → StandsFor d store b → (command : KeyCommand) → a ≡ b ++ command ∷ [] → ⊥
+    long : (a b : List KeyCommand) → IsKeyStoreOf d store a → IsKeyStoreOf d store b → (command : KeyCommand) → a ≡ b ++ command ∷ [] → ⊥
     long a b p q command is =
         let whole : length (front store.log.file (map spelling a)) ≡ length (front store.log.file (map spelling b ++ spelling command ∷ [])) =
         ap (λ (l : List (List ℕ)). length (front store.log.file l)) (ap (map spelling) is ∙ spelled_more b command) in

@@ -17,7 +17,7 @@ use Rattle.key_rows.specs.Table.{Table, Kept}
 use Rattle.key_rows.specs.Records.{spelling}
 use Rattle.key_rows.specs.declared.rows.KeyCommand.TheVariants.{Opened}
 use Rattle.kms_store.specs.Replay.{IsReplayed, IsStuck, payload_of, payloads, place_of}
-use Rattle.kms_store.specs.Store.{StandsFor, IsWritten, IsKeyLog, IsNoKeyLog, IsLeftByStart, Not_a_log, Recovered, Opening, IsOpening, OpensKeys}
+use Rattle.kms_store.specs.Store.{IsKeyStoreOf, IsWritten, IsKeyLog, IsNoKeyLog, IsLeftByStart, Not_a_log, Recovered, Opening, IsOpening, OpensKeys}
 
 pub if_ok : {T E : Type 0} {P Q : T → Type 0} (result : Result T E) → ((x : T) → P x → Q x) → IfOk result P → IfOk result Q
 if_ok (Ok x) f held = f x held
@@ -77,7 +77,7 @@ module _ (bytes : List ℕ) (list : List (List ℕ)) (gate : ℕ) (framed : List
   left_opening c o = Opening o.replayed.commands o.table (key_log o.table o.replayed) o.left
 
 -- the store before its opening is recorded
-pub began : (disk : DiskState) (log : Log) (table : Kept) (list : List Frame) (r : IsReplayed (map frame_view list) table.keys) → Stands disk log (payloads list) None → StandsFor disk (record { log = log; table = table; pending = None }) r.commands
+pub began : (disk : DiskState) (log : Log) (table : Kept) (list : List Frame) (r : IsReplayed (map frame_view list) table.keys) → Stands disk log (payloads list) None → IsKeyStoreOf disk (record { log = log; table = table; pending = None }) r.commands
 began disk log table list r stands = record {
   spelled = r.spelled;
   makes = r.makes;

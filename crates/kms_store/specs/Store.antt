@@ -27,7 +27,7 @@ WaitTogether (Some command) (Some size) = Unit {0}
 
 -- The store holds these acknowledged commands on the disk: they make its table, and they are the
 -- records of its log, beside the pending one.
-pub record StandsFor (disk : DiskState) (store : StoreState) (commands : List KeyCommand) : Type 0 where
+pub record IsKeyStoreOf (disk : DiskState) (store : StoreState) (commands : List KeyCommand) : Type 0 where
   pub spelled : AllByRecursion HasSpelling commands
   pub makes : key_replay no_keys commands ≡ Some store.table.keys
   pub waits : IfSome store.pending HasSpelling
@@ -45,10 +45,10 @@ settled_commands true (Some command) = command ∷ []
 settled_commands false (Some command) = []
 
 -- The pending command was settled: kept or dropped.
-pub record Settles (old new : DiskState) (store store' : StoreState) (kept : Bool) : Type 0 where
+pub record SettlesKeys (old new : DiskState) (store store' : StoreState) (kept : Bool) : Type 0 where
   pub none : store'.pending ≡ None
   pub table : store'.table.keys ≡ settled_table kept store.pending store.table.keys
-  pub log : Tells old → (commands : List KeyCommand) → StandsFor old store commands → StandsFor new store' (commands ++ settled_commands kept store.pending)
+  pub log : Tells old → (commands : List KeyCommand) → IsKeyStoreOf old store commands → IsKeyStoreOf new store' (commands ++ settled_commands kept store.pending)
 
 -- a key log of these commands, with or without one more, both now and once its end gate byte is set to 1
 abbrev pub IsWithOrWithout : List KeyCommand → KeyCommand → List ℕ → Type 0

@@ -44,7 +44,7 @@ impl Store {
     ghost use Rattle.key_rows.specs.Table.{Table, applies, after, material_of};
     ghost use Rattle.key_rows.specs.declared.rows.KeyCommand.{KeyCommand};
     ghost use Rattle.kms_store.specs.Replay.{IsReplayed, IsStuck, payloads};
-    ghost use Rattle.kms_store.specs.Store.{Applies, StandsFor, IsWithOrWithout, IsWritten, IsKeyLog, IsOpening, OpensKeys, Settles, next_opening};
+    ghost use Rattle.kms_store.specs.Store.{Applies, IsKeyStoreOf, IsWithOrWithout, IsWritten, IsKeyLog, IsOpening, OpensKeys, SettlesKeys, next_opening};
 
     /// Opens the key log of a disk, builds the table from its commands, and commits the record of a
     /// new opening. A crash may stop it at any moment; a later start then works as usual.
@@ -55,7 +55,7 @@ impl Store {
     pub fn start<D: Disk>(alloc: Global, disk: &mut D) -> Result<Store, StartFault>
         ensures log { IfOk result (λ store. Tells (D.state disk.old) → ((commands : List KeyCommand) × (table : Table)
             × IsKeyLog ((D.state disk.old).reads 0) commands table
-            × StandsFor (D.state disk.new) store (commands ++ next_opening table ∷ []))) }
+            × IsKeyStoreOf (D.state disk.new) store (commands ++ next_opening table ∷ []))) }
         ensures opened { IfOk result (λ store. (store.pending ≡ None) × (store.table.keys.greatest < store.table.keys.opening * 2 ^ 32)) }
 
         // A crash at any moment leaves what it might have left before, or the log found, as it is
@@ -79,7 +79,7 @@ impl Store {
         requires stands { Tells (D.state disk.old) → Stands (D.state disk.old) log (payloads frames.now) None }
 
         ensures log { IfOk result (λ store. (table : Table) × (r : IsReplayed (map frame_view frames.now) table)
-            × (Tells (D.state disk.old) → StandsFor (D.state disk.new) store (r.commands ++ next_opening table ∷ []))) }
+            × (Tells (D.state disk.old) → IsKeyStoreOf (D.state disk.new) store (r.commands ++ next_opening table ∷ []))) }
         ensures opened { IfOk result (λ store. (store.pending ≡ None) × (store.table.keys.greatest < store.table.keys.opening * 2 ^ 32)) }
         ensures damaged { (at : ℕ) → IsErrOf result (start.Damaged at) → IsStuck (map frame_view frames.now) at }
         ensures spent { IsErrOf result start.Spent → ((table : Table) × IsReplayed (map frame_view frames.now) table × (table.opening ≡ 4294967295)) }
@@ -118,20 +118,20 @@ impl Store {
     ) -> Result<(), StoreRefusal>
         requires settled { self.old.pending ≡ None }
         requires applies { IsTrue (applies self.old.table.keys command) }
-        requires stands { Tells (D.state disk.old) → ((commands : List KeyCommand) × StandsFor (D.state disk.old) self.old commands) }
+        requires stands { Tells (D.state disk.old) → ((commands : List KeyCommand) × IsKeyStoreOf (D.state disk.old) self.old commands) }
 
         ensures table { OnOk result ((self.new.table.keys ≡ after self.old.table.keys command) × (self.new.pending ≡ None)) }
-        ensures committed { OnOk result (Tells (D.state disk.old) → (commands : List KeyCommand) → StandsFor (D.state disk.old) self.old commands
-            → StandsFor (D.state disk.new) self.new (commands ++ command ∷ [])) }
+        ensures committed { OnOk result (Tells (D.state disk.old) → (commands : List KeyCommand) → IsKeyStoreOf (D.state disk.old) self.old commands
+            → IsKeyStoreOf (D.state disk.new) self.new (commands ++ command ∷ [])) }
 
         ensures pending { IsErrOf result store.StoreFault → (self.new.table.keys ≡ self.old.table.keys) × (self.new.pending ≡ Some command) }
         ensures memory { IsErrOf result store.NoMemory → (self.new.table.keys ≡ self.old.table.keys) × (self.new.log ≡ self.old.log) × (self.new.pending ≡ None) × (disk.new ≡ disk.old) }
-        ensures refused { OnErr result (Tells (D.state disk.old) → (commands : List KeyCommand) → StandsFor (D.state disk.old) self.old commands
-            → StandsFor (D.state disk.new) self.new commands) }
+        ensures refused { OnErr result (Tells (D.state disk.old) → (commands : List KeyCommand) → IsKeyStoreOf (D.state disk.old) self.old commands
+            → IsKeyStoreOf (D.state disk.new) self.new commands) }
 
         // A crash at any moment of the call leaves the commands from before it, with or without the
         // new one.
-        ensures any_moment { Tells (D.state disk.old) → (commands : List KeyCommand) → StandsFor (D.state disk.old) self.old commands
+        ensures any_moment { Tells (D.state disk.old) → (commands : List KeyCommand) → IsKeyStoreOf (D.state disk.old) self.old commands
             → LeavesOnly 0 (D.state disk.old) (D.state disk.new) (IsWritten commands command) }
 
         ensures run { RunOn 0 (D.state disk.old) (D.state disk.new) }
@@ -160,27 +160,27 @@ impl Store {
     /// After `StoreFault`, the only error, the command is still pending. The commit has allocated
     /// the memory.
     pub fn settle<D: Disk>(&mut self, disk: &mut D) -> Result<bool, StoreRefusal>
-        requires stands { Tells (D.state disk.old) → ((commands : List KeyCommand) × StandsFor (D.state disk.old) self.old commands) }
+        requires stands { Tells (D.state disk.old) → ((commands : List KeyCommand) × IsKeyStoreOf (D.state disk.old) self.old commands) }
 
         ensures nothing { self.old.pending ≡ None → (result ≡ Ok false) × (self.new ≡ self.old) × (disk.new ≡ disk.old) }
         ensures settled { OnOk result (self.new.pending ≡ None) }
-        ensures settles { IfOk result (Settles (D.state disk.old) (D.state disk.new) self.old self.new) }
+        ensures settles { IfOk result (SettlesKeys (D.state disk.old) (D.state disk.new) self.old self.new) }
         ensures table { OnOk result ((self.new.table.keys ≡ self.old.table.keys)
             ⊎ ((command : KeyCommand) × (self.old.pending ≡ Some command) × (self.new.table.keys ≡ after self.old.table.keys command))) }
-        ensures kept { OnOk result (Tells (D.state disk.old) → (commands : List KeyCommand) (command : KeyCommand) → StandsFor (D.state disk.old) self.old commands → self.old.pending ≡ Some command
+        ensures kept { OnOk result (Tells (D.state disk.old) → (commands : List KeyCommand) (command : KeyCommand) → IsKeyStoreOf (D.state disk.old) self.old commands → self.old.pending ≡ Some command
             → slice_get ((D.state disk.old).reads 0) self.old.log.end ≡ Some 1
-            → StandsFor (D.state disk.new) self.new (commands ++ command ∷ [])) }
-        ensures dropped { OnOk result (Tells (D.state disk.old) → (commands : List KeyCommand) → StandsFor (D.state disk.old) self.old commands
+            → IsKeyStoreOf (D.state disk.new) self.new (commands ++ command ∷ [])) }
+        ensures dropped { OnOk result (Tells (D.state disk.old) → (commands : List KeyCommand) → IsKeyStoreOf (D.state disk.old) self.old commands
             → slice_get ((D.state disk.old).reads 0) self.old.log.end ≢ Some 1
-            → StandsFor (D.state disk.new) self.new commands) }
+            → IsKeyStoreOf (D.state disk.new) self.new commands) }
         ensures still_pending { OnErr result (self.new ≡ self.old) }
-        ensures refused { OnErr result (Tells (D.state disk.old) → (commands : List KeyCommand) → StandsFor (D.state disk.old) self.old commands
-            → StandsFor (D.state disk.new) self.new commands) }
+        ensures refused { OnErr result (Tells (D.state disk.old) → (commands : List KeyCommand) → IsKeyStoreOf (D.state disk.old) self.old commands
+            → IsKeyStoreOf (D.state disk.new) self.new commands) }
         ensures fault { IsErr result → IsErrOf result store.StoreFault }
 
         // A crash at any moment of the call leaves the commands from before it, with or without the
         // pending one.
-        ensures any_moment { Tells (D.state disk.old) → (commands : List KeyCommand) (command : KeyCommand) → StandsFor (D.state disk.old) self.old commands → self.old.pending ≡ Some command
+        ensures any_moment { Tells (D.state disk.old) → (commands : List KeyCommand) (command : KeyCommand) → IsKeyStoreOf (D.state disk.old) self.old commands → self.old.pending ≡ Some command
             → LeavesOnly 0 (D.state disk.old) (D.state disk.new) (IsWithOrWithout commands command) }
 
         ensures run { RunOn 0 (D.state disk.old) (D.state disk.new) }

@@ -14,7 +14,7 @@ use Rattle.inode_tree.proofs.Seeks.{not-before-itself}
 use Rattle.name_calls.specs.declared.zone_list.ZonePath.{ZonePath}
 use Rattle.zone_table.specs.declared.zones.ZoneRow.{ZoneRow}
 use Rattle.zone_table.specs.Listings.{listed_at, place_of}
-use Rattle.zone_table.specs.Zones.{by_directory, put_zone, listed, with_mark, zone_paths, zones_of}
+use Rattle.zone_table.specs.Zones.{by_directory, put_zone, with_zone, with_mark, zone_paths, zones_of}
 use Rattle.zone_table.proofs.Marks.{IsFound}
 use Rattle.zone_table.proofs.Sorts.{AllUpFrom, Climbs, sorted-back}
 
@@ -69,11 +69,11 @@ listed-marks rows n (e ∷ es) h = go (mark_of e.row.kind) refl (listed-marks ro
         plain : (a : ℕ) → a ≡ a + 0
         plain a = omega arith
 
-    go : (m : Option KeyName) → mark_of e.row.kind ≡ m → flat_map (listed_at rows) (marks_from (suc n) es) ≡ zone_paths es → flat_map (listed_at rows) (marked_place m n (marks_from (suc n) es)) ≡ listed m e.path (zone_paths es)
+    go : (m : Option KeyName) → mark_of e.row.kind ≡ m → flat_map (listed_at rows) (marks_from (suc n) es) ≡ zone_paths es → flat_map (listed_at rows) (marked_place m n (marks_from (suc n) es)) ≡ with_zone m e.path (zone_paths es)
     go None f ih = ih
     go (Some key) f ih =
-        ap (λ (o : Option Entry). Rattle.zone_table.specs.Listings.shown o ++ flat_map (listed_at rows) (marks_from (suc n) es)) here
-        ∙ ap (λ (m : Option KeyName). listed m e.path [] ++ flat_map (listed_at rows) (marks_from (suc n) es)) f
+        ap (λ (o : Option Entry). Rattle.zone_table.specs.Listings.paths_of_entry o ++ flat_map (listed_at rows) (marks_from (suc n) es)) here
+        ∙ ap (λ (m : Option KeyName). with_zone m e.path [] ++ flat_map (listed_at rows) (marks_from (suc n) es)) f
         ∙ ap (λ (zones : List ZonePath). record { path = e.path; key = key } ∷ zones) ih
 
 -- the rows of es are n places further on in the whole list

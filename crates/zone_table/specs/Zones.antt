@@ -45,11 +45,11 @@ zones_of [] = []
 zones_of (e ∷ es) = with_mark (mark_of e.row.kind) e.row.id (zones_of es)
 
 -- the zones by their paths with one more at the front, if the row is marked
-abbrev pub listed : Option KeyName → List (List ℕ) → List ZonePath → List ZonePath
-listed None path zones = zones
-listed (Some key) path zones = record { path = path; key = key } ∷ zones
+abbrev pub with_zone : Option KeyName → List (List ℕ) → List ZonePath → List ZonePath
+with_zone None path zones = zones
+with_zone (Some key) path zones = record { path = path; key = key } ∷ zones
 
 -- the zones by their paths, in path order
 abbrev pub zone_paths : List Entry → List ZonePath
 zone_paths [] = []
-zone_paths (e ∷ es) = listed (mark_of e.row.kind) e.path (zone_paths es)
+zone_paths (e ∷ es) = with_zone (mark_of e.row.kind) e.path (zone_paths es)

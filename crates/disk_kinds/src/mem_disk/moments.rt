@@ -221,9 +221,9 @@ impl Disk for MemDisk {
 
     ghost only_now = { λ d c left. only_image (now_of d) (past_of d) c left };
 
-    ghost is_one = { λ d f told lt. inl refl };
+    ghost is_one = { λ d f tells lt. inl refl };
 
-    ghost bounded = { λ d f told lt. within d f lt };
+    ghost bounded = { λ d f tells lt. within d f lt };
 
     ghost later_leaves_less = { λ d s t c le left. since_earlier (now_of d) (past_of d) s t c (Prim.omega arith) left };
 

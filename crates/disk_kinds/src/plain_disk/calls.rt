@@ -89,9 +89,9 @@ impl Disk for PlainDisk {
 
     ghost only_now = { λ d c left. left };
 
-    ghost is_one = { λ d f told lt. refl };
+    ghost is_one = { λ d f tells lt. refl };
 
-    ghost bounded = { λ d f told lt. within d f lt };
+    ghost bounded = { λ d f tells lt. within d f lt };
 
     ghost later_leaves_less = { λ d s t c le left. left };
 

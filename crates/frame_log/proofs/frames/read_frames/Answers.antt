@@ -11,19 +11,19 @@ use Rattle.frame_log.proofs.frames.read_frames.Goals as goal
 
 pub next-requires : goal.next-requires
 next-requires g c = record {
-  ahead = λ told.
-      let told0 = subst (λ b. IsTrue b) c.payloads.invariant.going.run.tells told in
-      let first = c.requires.ahead told0 in
-      let partly = c.payloads.invariant.told told0 first.0 first.1 in
+  ahead = λ tells.
+      let tells0 = subst (λ b. IsTrue b) c.payloads.invariant.going.run.tells tells in
+      let first = c.requires.ahead tells0 in
+      let partly = c.payloads.invariant.tells tells0 first.0 first.1 in
       (partly.rest, partly.ahead);
 }
 
 pub returns-in-None-clause-frames : goal.returns-in-None-clause-frames
-returns-in-None-clause-frames g c told todo a =
+returns-in-None-clause-frames g c tells todo a =
     let inv = c.payloads.invariant in
-    let told1 = subst (λ b. IsTrue b) (sym inv.going.run.tells) told in
-    let partly = inv.told told todo a in
-    let end : IsNextPayload (g.D.Disk.state c.next.new.disk) c.payloads.records c.next.new.self partly.rest c.in_ok-next.field-0 = c.in_ok-next.ensures.first told1 partly.rest partly.ahead in
+    let tells1 = subst (λ b. IsTrue b) (sym inv.going.run.tells) tells in
+    let partly = inv.tells tells todo a in
+    let end : IsNextPayload (g.D.Disk.state c.next.new.disk) c.payloads.records c.next.new.self partly.rest c.in_ok-next.field-0 = c.in_ok-next.ensures.first tells1 partly.rest partly.ahead in
     let none = (subst (λ (o : Option ℕ). IsNextPayload (g.D.Disk.state c.next.new.disk) c.payloads.records c.next.new.self partly.rest o) c.in-None.is end).0 in
     let listed : List (ℕ × List ℕ) = map frame_view c.payloads.list.items in
     sym (partly.split ∙ ap (λ (l : List (List ℕ)). listed ++ placed c.payloads.records.at l) none ∙ append-nil listed)
@@ -40,12 +40,12 @@ payloads-preserved g c =
       file_is = c.next.ensures.file ∙ inv.file_is;
       going = compose inv.going step inv.same.leaves;
       same = both_read inv.going inv.same reads;
-      told = λ told todo a.
-          let told1 = subst (λ b. IsTrue b) (sym inv.going.run.tells) told in
-          let partly = inv.told told todo a in
+      tells = λ tells todo a.
+          let tells1 = subst (λ b. IsTrue b) (sym inv.going.run.tells) tells in
+          let partly = inv.tells tells todo a in
           let records = c.next.new.self in
           let offset = c.in-Some.at in
-          let got : IsFirstPayload new c.payloads.records records partly.rest offset = subst (λ (o : Option ℕ). IsNextPayload new c.payloads.records records partly.rest o) c.in-Some.is (c.in_ok-next.ensures.first told1 partly.rest partly.ahead) in
+          let got : IsFirstPayload new c.payloads.records records partly.rest offset = subst (λ (o : Option ℕ). IsNextPayload new c.payloads.records records partly.rest o) c.in-Some.is (c.in_ok-next.ensures.first tells1 partly.rest partly.ahead) in
           let before : List (ℕ × List ℕ) = map frame_view c.payloads.list.items in
           let listed : map frame_view c.push.new.self.items ≡ before ++ (offset, records.payload.items) ∷ [] =
           ap (map frame_view) c.in_ok-push-in-Some.ensures.items

@@ -14,7 +14,7 @@ invariant-payloads g l =
       file_is : l.records.file ≡ file;
       going : Going file old now (old.leaves file);
       same : Reads file old now;
-      told : Tells old → (todo : List (List ℕ)) → Ahead old l.fn.records todo → IsPartlyRead now l.fn.records.at todo l.records (map frame_view l.list.items);
+      tells : Tells old → (todo : List (List ℕ)) → Ahead old l.fn.records todo → IsPartlyRead now l.fn.records.at todo l.records (map frame_view l.list.items);
     }
 
 abbrev pub decreases-payloads : goal.decreases-payloads

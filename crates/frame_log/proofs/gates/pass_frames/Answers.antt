@@ -12,9 +12,9 @@ pub gates-init : goal.gates-init
 gates-init g c = record {
   inside = c.requires.place;
   going = begin c.args.file (g.D.Disk.state c.args.disk.now) _;
-  same = record { reads = λ told. refl; leaves = λ b h. h };
-  told = λ told. first c.args.size _ (c.requires.size told) (omega arith);
-  window = λ told. nothing ((g.D.Disk.state c.args.disk.now).reads c.args.file) c.empty-window.result c.empty-window.ensures;
+  same = record { reads = λ tells. refl; leaves = λ b h. h };
+  tells = λ tells. first c.args.size _ (c.requires.size tells) (omega arith);
+  window = λ tells. nothing ((g.D.Disk.state c.args.disk.now).reads c.args.file) c.empty-window.result c.empty-window.ensures;
 }
 
 pub gates-preserved : goal.gates-preserved
@@ -25,39 +25,39 @@ gates-preserved g c =
       inside = omega (arith, fits.0);
       going = compose inv.going (going c.show.ensures.run c.show.ensures.moments) inv.same.leaves;
       same = both_read inv.going inv.same c.show.ensures.same;
-      told = λ told.
+      tells = λ tells.
           let R = (g.D.Disk.state c.args.disk.now).reads c.args.file in
-          let told1 = subst (λ b. IsTrue b) (sym inv.going.run.tells) told in
-          let shows = still_shown R _ c.gates.window c.show.new.self c.gates.at 5 (inv.same.reads told) (c.in_ok-show.ensures.shows told1) (inv.window told) in
-          let long : length (drop c.gates.at R) ≡ c.args.size - c.gates.at = omega (arith, length-drop c.gates.at R, c.requires.size told) in
+          let tells1 = subst (λ b. IsTrue b) (sym inv.going.run.tells) tells in
+          let shows = still_shown R _ c.gates.window c.show.new.self c.gates.at 5 (inv.same.reads tells) (c.in_ok-show.ensures.shows tells1) (inv.window tells) in
+          let long : length (drop c.gates.at R) ≡ c.args.size - c.gates.at = omega (arith, length-drop c.gates.at R, c.requires.size tells) in
           let here : IsNext (drop c.gates.at R) (nexts.Payload c.in-Payload.count) =
-          c.in-Payload.ensures.next (drop c.gates.at R) (sym long) (c.bytes_at.ensures ∙ shown R c.show.new.self c.gates.at 5 (omega (arith, c.requires.size told, inv.inside)) shows) in
-          next_counted c.args.size R c.gates.at (inv.told told) c.in-Payload.count (omega (arith, long, fits.0)) here;
-      window = λ told.
+          c.in-Payload.ensures.next (drop c.gates.at R) (sym long) (c.bytes_at.ensures ∙ shown R c.show.new.self c.gates.at 5 (omega (arith, c.requires.size tells, inv.inside)) shows) in
+          next_counted c.args.size R c.gates.at (inv.tells tells) c.in-Payload.count (omega (arith, long, fits.0)) here;
+      window = λ tells.
           let R = (g.D.Disk.state c.args.disk.now).reads c.args.file in
-          let told1 = subst (λ b. IsTrue b) (sym inv.going.run.tells) told in
-          (still_shown R _ c.gates.window c.show.new.self c.gates.at 5 (inv.same.reads told) (c.in_ok-show.ensures.shows told1) (inv.window told)).bytes;
+          let tells1 = subst (λ b. IsTrue b) (sym inv.going.run.tells) tells in
+          (still_shown R _ c.gates.window c.show.new.self c.gates.at 5 (inv.same.reads tells) (c.in_ok-show.ensures.shows tells1) (inv.window tells)).bytes;
     }
 
 pub returns-in-End-clause-scan : goal.returns-in-End-clause-scan
-returns-in-End-clause-scan g c told =
+returns-in-End-clause-scan g c tells =
     let inv = c.gates.invariant in
     let R = (g.D.Disk.state c.args.disk.now).reads c.args.file in
-    let told1 = subst (λ b. IsTrue b) (sym inv.going.run.tells) told in
-    let shows = still_shown R _ c.gates.window c.show.new.self c.gates.at 5 (inv.same.reads told) (c.in_ok-show.ensures.shows told1) (inv.window told) in
-    let long : length (drop c.gates.at R) ≡ c.args.size - c.gates.at = omega (arith, length-drop c.gates.at R, c.requires.size told) in
+    let tells1 = subst (λ b. IsTrue b) (sym inv.going.run.tells) tells in
+    let shows = still_shown R _ c.gates.window c.show.new.self c.gates.at 5 (inv.same.reads tells) (c.in_ok-show.ensures.shows tells1) (inv.window tells) in
+    let long : length (drop c.gates.at R) ≡ c.args.size - c.gates.at = omega (arith, length-drop c.gates.at R, c.requires.size tells) in
     let here : IsEnd (drop c.gates.at R) c.in-End.gate =
-    c.in-End.ensures.next (drop c.gates.at R) (sym long) (c.bytes_at.ensures ∙ shown R c.show.new.self c.gates.at 5 (omega (arith, c.requires.size told, inv.inside)) shows) in
-    last c.args.size R c.gates.at (inv.told told) _ refl here
+    c.in-End.ensures.next (drop c.gates.at R) (sym long) (c.bytes_at.ensures ∙ shown R c.show.new.self c.gates.at 5 (omega (arith, c.requires.size tells, inv.inside)) shows) in
+    last c.args.size R c.gates.at (inv.tells tells) _ refl here
 
 pub returns-in-Broken-clause-damaged : goal.returns-in-Broken-clause-damaged
-returns-in-Broken-clause-damaged g c at is told =
+returns-in-Broken-clause-damaged g c at is tells =
     let inv = c.gates.invariant in
     let R = (g.D.Disk.state c.args.disk.now).reads c.args.file in
-    let told1 = subst (λ b. IsTrue b) (sym inv.going.run.tells) told in
-    let shows = still_shown R _ c.gates.window c.show.new.self c.gates.at 5 (inv.same.reads told) (c.in_ok-show.ensures.shows told1) (inv.window told) in
-    let long : length (drop c.gates.at R) ≡ c.args.size - c.gates.at = omega (arith, length-drop c.gates.at R, c.requires.size told) in
+    let tells1 = subst (λ b. IsTrue b) (sym inv.going.run.tells) tells in
+    let shows = still_shown R _ c.gates.window c.show.new.self c.gates.at 5 (inv.same.reads tells) (c.in_ok-show.ensures.shows tells1) (inv.window tells) in
+    let long : length (drop c.gates.at R) ≡ c.args.size - c.gates.at = omega (arith, length-drop c.gates.at R, c.requires.size tells) in
     let here : part (drop c.gates.at R) ≡ Broken =
-    c.in-Broken.ensures.next (drop c.gates.at R) (sym long) (c.bytes_at.ensures ∙ shown R c.show.new.self c.gates.at 5 (omega (arith, c.requires.size told, inv.inside)) shows) in
+    c.in-Broken.ensures.next (drop c.gates.at R) (sym long) (c.bytes_at.ensures ∙ shown R c.show.new.self c.gates.at 5 (omega (arith, c.requires.size tells, inv.inside)) shows) in
     let where_at : c.gates.at ≡ at = cc is in
-    none c.args.size R c.gates.at (inv.told told) (omega (arith, long, inv.inside)) here ∙ ap NoLog where_at
+    none c.args.size R c.gates.at (inv.tells tells) (omega (arith, long, inv.inside)) here ∙ ap NoLog where_at

@@ -13,7 +13,7 @@ invariant-gates g l =
       inside : l.at < l.size;
       going : Going l.file old now (old.leaves l.file);
       same : Reads l.file old now;
-      told : Tells old → SoFar l.size (old.reads l.file) l.at;
+      tells : Tells old → SoFar l.size (old.reads l.file) l.at;
       window : Tells old → HasBytesOf (old.reads l.file) l.window;
     }
 

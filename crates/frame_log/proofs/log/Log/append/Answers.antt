@@ -8,10 +8,10 @@ use Rattle.frame_log.proofs.Steps.{behind_torn, behind_leaves, staged, gate_torn
 use Rattle.frame_log.proofs.log.Log.append.Goals as goal
 
 still : {file : ℕ} {old new : DiskState} → CallOn file old new → Tells old → Tells new
-still call told = subst (λ b. IsTrue b) (sym call.tells) told
+still call tells = subst (λ b. IsTrue b) (sym call.tells) tells
 
 pub returns-in_err-write_at-clause-any_moment : goal.returns-in_err-write_at-clause-any_moment
-returns-in_err-write_at-clause-any_moment g c told payloads s =
+returns-in_err-write_at-clause-any_moment g c tells payloads s =
     let file = c.args.self.now.file in
     let file_in = c.args.self.now.file_in in
     let x = c.args.payload.now in
@@ -23,7 +23,7 @@ returns-in_err-write_at-clause-any_moment g c told payloads s =
     weaker (before_or_after file payloads x s.sized c.requires.payload) go1.moments
 
 pub returns-in_err-write_at-clause-unsettled : goal.returns-in_err-write_at-clause-unsettled
-returns-in_err-write_at-clause-unsettled g c fault told payloads s =
+returns-in_err-write_at-clause-unsettled g c fault tells payloads s =
     let file = c.args.self.now.file in
     let file_in = c.args.self.now.file_in in
     let x = c.args.payload.now in
@@ -36,12 +36,12 @@ returns-in_err-write_at-clause-unsettled g c fault told payloads s =
       payload = c.requires.payload;
       end = s.end;
       waits = refl;
-      reads = inl (behind_torn F end s.end _ _ _ s.reads (c.in_err-write_at.ensures.torn told));
+      reads = inl (behind_torn F end s.end _ _ _ s.reads (c.in_err-write_at.ensures.torn tells));
       leaves = λ b h. inl (l1 b h);
     }
 
 pub returns-in_err-sync-clause-any_moment : goal.returns-in_err-sync-clause-any_moment
-returns-in_err-sync-clause-any_moment g c told payloads s =
+returns-in_err-sync-clause-any_moment g c tells payloads s =
     let file = c.args.self.now.file in
     let file_in = c.args.self.now.file_in in
     let x = c.args.payload.now in
@@ -54,7 +54,7 @@ returns-in_err-sync-clause-any_moment g c told payloads s =
     weaker (before_or_after file payloads x s.sized c.requires.payload) go2.moments
 
 pub returns-in_err-sync-clause-unsettled : goal.returns-in_err-sync-clause-unsettled
-returns-in_err-sync-clause-unsettled g c fault told payloads s =
+returns-in_err-sync-clause-unsettled g c fault tells payloads s =
     let file = c.args.self.now.file in
     let file_in = c.args.self.now.file_in in
     let x = c.args.payload.now in
@@ -62,31 +62,31 @@ returns-in_err-sync-clause-unsettled g c fault told payloads s =
     let F = front file payloads in
     let P = Is F (Some x) in
     let l1 = behind_leaves F end s.end _ _ _ s.leaves c.write_at.ensures.crash in
-    let told1 = still c.write_at.ensures.call told in
+    let tells1 = still c.write_at.ensures.call tells in
     let bytes : c.deref.result.now ≡ behind x ++ 0 ∷ [] = search rules in
-    let s1 = staged F end s.end x _ _ _ s.reads bytes (c.in_ok-write_at.ensures.written told) in
+    let s1 = staged F end s.end x _ _ _ s.reads bytes (c.in_ok-write_at.ensures.written tells) in
     record {
       sized = s.sized;
       payload = c.requires.payload;
       end = s.end;
       waits = refl;
-      reads = inl (subst (IsShut F) (sym (c.sync.ensures.same.reads told1)) (shut F x _ s1));
+      reads = inl (subst (IsShut F) (sym (c.sync.ensures.same.reads tells1)) (shut F x _ s1));
       leaves = λ b h. inl (l1 b (c.sync.ensures.same.leaves b h));
     }
 
 pub returns-in_err-write_at-2-clause-any_moment : goal.returns-in_err-write_at-2-clause-any_moment
-returns-in_err-write_at-2-clause-any_moment g c told payloads s =
+returns-in_err-write_at-2-clause-any_moment g c tells payloads s =
     let file = c.args.self.now.file in
     let file_in = c.args.self.now.file_in in
     let x = c.args.payload.now in
     let end = c.args.self.now.end in
     let F = front file payloads in
     let P = Is F (Some x) in
-    let told1 = still c.write_at.ensures.call told in
+    let tells1 = still c.write_at.ensures.call tells in
     let l1 = behind_leaves F end s.end _ _ _ s.leaves c.write_at.ensures.crash in
     let bytes : c.deref.result.now ≡ behind x ++ 0 ∷ [] = search rules in
-    let s1 = staged F end s.end x _ _ _ s.reads bytes (c.in_ok-write_at.ensures.written told) in
-    let l2 : (b : List ℕ) → (g.D.Disk.state c.sync.new.self).leaves file b → IsReady F x b = λ b h. subst (IsReady F x) (sym (c.in_ok-sync.ensures.durable told1 b h)) (ready F 0 x _ s1) in
+    let s1 = staged F end s.end x _ _ _ s.reads bytes (c.in_ok-write_at.ensures.written tells) in
+    let l2 : (b : List ℕ) → (g.D.Disk.state c.sync.new.self).leaves file b → IsReady F x b = λ b h. subst (IsReady F x) (sym (c.in_ok-sync.ensures.durable tells1 b h)) (ready F 0 x _ s1) in
     let l3 = gate_leaves F end s.end x _ _ l2 c.write_at-2.ensures.crash in
     let go1 = then (begin file (g.D.Disk.state c.args.disk.now) P) c.write_at.ensures.call file_in (λ b h. inl (l1 b h)) in
     let go2 = then go1 c.sync.ensures.call file_in (λ b h. inl (l1 b (c.sync.ensures.same.leaves b h))) in
@@ -94,43 +94,43 @@ returns-in_err-write_at-2-clause-any_moment g c told payloads s =
     weaker (before_or_after file payloads x s.sized c.requires.payload) go3.moments
 
 pub returns-in_err-write_at-2-clause-unsettled : goal.returns-in_err-write_at-2-clause-unsettled
-returns-in_err-write_at-2-clause-unsettled g c fault told payloads s =
+returns-in_err-write_at-2-clause-unsettled g c fault tells payloads s =
     let file = c.args.self.now.file in
     let file_in = c.args.self.now.file_in in
     let x = c.args.payload.now in
     let end = c.args.self.now.end in
     let F = front file payloads in
     let P = Is F (Some x) in
-    let told1 = still c.write_at.ensures.call told in
-    let told2 = still c.sync.ensures.call told1 in
+    let tells1 = still c.write_at.ensures.call tells in
+    let tells2 = still c.sync.ensures.call tells1 in
     let l1 = behind_leaves F end s.end _ _ _ s.leaves c.write_at.ensures.crash in
     let bytes : c.deref.result.now ≡ behind x ++ 0 ∷ [] = search rules in
-    let s1 = staged F end s.end x _ _ _ s.reads bytes (c.in_ok-write_at.ensures.written told) in
-    let l2 : (b : List ℕ) → (g.D.Disk.state c.sync.new.self).leaves file b → IsReady F x b = λ b h. subst (IsReady F x) (sym (c.in_ok-sync.ensures.durable told1 b h)) (ready F 0 x _ s1) in
-    let r2 : IsReady F x ((g.D.Disk.state c.sync.new.self).reads file) = subst (IsReady F x) (sym (c.sync.ensures.same.reads told1)) (ready F 0 x _ s1) in
+    let s1 = staged F end s.end x _ _ _ s.reads bytes (c.in_ok-write_at.ensures.written tells) in
+    let l2 : (b : List ℕ) → (g.D.Disk.state c.sync.new.self).leaves file b → IsReady F x b = λ b h. subst (IsReady F x) (sym (c.in_ok-sync.ensures.durable tells1 b h)) (ready F 0 x _ s1) in
+    let r2 : IsReady F x ((g.D.Disk.state c.sync.new.self).reads file) = subst (IsReady F x) (sym (c.sync.ensures.same.reads tells1)) (ready F 0 x _ s1) in
     let l3 = gate_leaves F end s.end x _ _ l2 c.write_at-2.ensures.crash in
     record {
       sized = s.sized;
       payload = c.requires.payload;
       end = s.end;
       waits = refl;
-      reads = inr (gate_torn F end s.end x _ _ r2 (c.in_err-write_at-2.ensures.torn told2));
+      reads = inr (gate_torn F end s.end x _ _ r2 (c.in_err-write_at-2.ensures.torn tells2));
       leaves = λ b h. inr (l3 b h);
     }
 
 pub returns-in_err-sync-2-clause-any_moment : goal.returns-in_err-sync-2-clause-any_moment
-returns-in_err-sync-2-clause-any_moment g c told payloads s =
+returns-in_err-sync-2-clause-any_moment g c tells payloads s =
     let file = c.args.self.now.file in
     let file_in = c.args.self.now.file_in in
     let x = c.args.payload.now in
     let end = c.args.self.now.end in
     let F = front file payloads in
     let P = Is F (Some x) in
-    let told1 = still c.write_at.ensures.call told in
+    let tells1 = still c.write_at.ensures.call tells in
     let l1 = behind_leaves F end s.end _ _ _ s.leaves c.write_at.ensures.crash in
     let bytes : c.deref.result.now ≡ behind x ++ 0 ∷ [] = search rules in
-    let s1 = staged F end s.end x _ _ _ s.reads bytes (c.in_ok-write_at.ensures.written told) in
-    let l2 : (b : List ℕ) → (g.D.Disk.state c.sync.new.self).leaves file b → IsReady F x b = λ b h. subst (IsReady F x) (sym (c.in_ok-sync.ensures.durable told1 b h)) (ready F 0 x _ s1) in
+    let s1 = staged F end s.end x _ _ _ s.reads bytes (c.in_ok-write_at.ensures.written tells) in
+    let l2 : (b : List ℕ) → (g.D.Disk.state c.sync.new.self).leaves file b → IsReady F x b = λ b h. subst (IsReady F x) (sym (c.in_ok-sync.ensures.durable tells1 b h)) (ready F 0 x _ s1) in
     let l3 = gate_leaves F end s.end x _ _ l2 c.write_at-2.ensures.crash in
     let go1 = then (begin file (g.D.Disk.state c.args.disk.now) P) c.write_at.ensures.call file_in (λ b h. inl (l1 b h)) in
     let go2 = then go1 c.sync.ensures.call file_in (λ b h. inl (l1 b (c.sync.ensures.same.leaves b h))) in
@@ -139,45 +139,45 @@ returns-in_err-sync-2-clause-any_moment g c told payloads s =
     weaker (before_or_after file payloads x s.sized c.requires.payload) go4.moments
 
 pub returns-in_err-sync-2-clause-unsettled : goal.returns-in_err-sync-2-clause-unsettled
-returns-in_err-sync-2-clause-unsettled g c fault told payloads s =
+returns-in_err-sync-2-clause-unsettled g c fault tells payloads s =
     let file = c.args.self.now.file in
     let file_in = c.args.self.now.file_in in
     let x = c.args.payload.now in
     let end = c.args.self.now.end in
     let F = front file payloads in
     let P = Is F (Some x) in
-    let told1 = still c.write_at.ensures.call told in
-    let told2 = still c.sync.ensures.call told1 in
-    let told3 = still c.write_at-2.ensures.call told2 in
+    let tells1 = still c.write_at.ensures.call tells in
+    let tells2 = still c.sync.ensures.call tells1 in
+    let tells3 = still c.write_at-2.ensures.call tells2 in
     let l1 = behind_leaves F end s.end _ _ _ s.leaves c.write_at.ensures.crash in
     let bytes : c.deref.result.now ≡ behind x ++ 0 ∷ [] = search rules in
-    let s1 = staged F end s.end x _ _ _ s.reads bytes (c.in_ok-write_at.ensures.written told) in
-    let l2 : (b : List ℕ) → (g.D.Disk.state c.sync.new.self).leaves file b → IsReady F x b = λ b h. subst (IsReady F x) (sym (c.in_ok-sync.ensures.durable told1 b h)) (ready F 0 x _ s1) in
-    let r2 : IsReady F x ((g.D.Disk.state c.sync.new.self).reads file) = subst (IsReady F x) (sym (c.sync.ensures.same.reads told1)) (ready F 0 x _ s1) in
+    let s1 = staged F end s.end x _ _ _ s.reads bytes (c.in_ok-write_at.ensures.written tells) in
+    let l2 : (b : List ℕ) → (g.D.Disk.state c.sync.new.self).leaves file b → IsReady F x b = λ b h. subst (IsReady F x) (sym (c.in_ok-sync.ensures.durable tells1 b h)) (ready F 0 x _ s1) in
+    let r2 : IsReady F x ((g.D.Disk.state c.sync.new.self).reads file) = subst (IsReady F x) (sym (c.sync.ensures.same.reads tells1)) (ready F 0 x _ s1) in
     let l3 = gate_leaves F end s.end x _ _ l2 c.write_at-2.ensures.crash in
-    let s3 = gate_written F end s.end 1 x _ _ r2 (c.in_ok-write_at-2.ensures.written told2) in
+    let s3 = gate_written F end s.end 1 x _ _ r2 (c.in_ok-write_at-2.ensures.written tells2) in
     record {
       sized = s.sized;
       payload = c.requires.payload;
       end = s.end;
       waits = refl;
-      reads = inr (subst (IsReady F x) (sym (c.sync-2.ensures.same.reads told3)) (ready F 1 x _ s3));
+      reads = inr (subst (IsReady F x) (sym (c.sync-2.ensures.same.reads tells3)) (ready F 1 x _ s3));
       leaves = λ b h. inr (l3 b (c.sync-2.ensures.same.leaves b h));
     }
 
 pub returns-clause-any_moment : goal.returns-clause-any_moment
-returns-clause-any_moment g c told payloads s =
+returns-clause-any_moment g c tells payloads s =
     let file = c.args.self.now.file in
     let file_in = c.args.self.now.file_in in
     let x = c.args.payload.now in
     let end = c.args.self.now.end in
     let F = front file payloads in
     let P = Is F (Some x) in
-    let told1 = still c.write_at.ensures.call told in
+    let tells1 = still c.write_at.ensures.call tells in
     let l1 = behind_leaves F end s.end _ _ _ s.leaves c.write_at.ensures.crash in
     let bytes : c.deref.result.now ≡ behind x ++ 0 ∷ [] = search rules in
-    let s1 = staged F end s.end x _ _ _ s.reads bytes (c.in_ok-write_at.ensures.written told) in
-    let l2 : (b : List ℕ) → (g.D.Disk.state c.sync.new.self).leaves file b → IsReady F x b = λ b h. subst (IsReady F x) (sym (c.in_ok-sync.ensures.durable told1 b h)) (ready F 0 x _ s1) in
+    let s1 = staged F end s.end x _ _ _ s.reads bytes (c.in_ok-write_at.ensures.written tells) in
+    let l2 : (b : List ℕ) → (g.D.Disk.state c.sync.new.self).leaves file b → IsReady F x b = λ b h. subst (IsReady F x) (sym (c.in_ok-sync.ensures.durable tells1 b h)) (ready F 0 x _ s1) in
     let l3 = gate_leaves F end s.end x _ _ l2 c.write_at-2.ensures.crash in
     let go1 = then (begin file (g.D.Disk.state c.args.disk.now) P) c.write_at.ensures.call file_in (λ b h. inl (l1 b h)) in
     let go2 = then go1 c.sync.ensures.call file_in (λ b h. inl (l1 b (c.sync.ensures.same.leaves b h))) in
@@ -186,28 +186,28 @@ returns-clause-any_moment g c told payloads s =
     weaker (before_or_after file payloads x s.sized c.requires.payload) go4.moments
 
 pub returns-clause-added : goal.returns-clause-added
-returns-clause-added g c told payloads s =
+returns-clause-added g c tells payloads s =
     let file = c.args.self.now.file in
     let file_in = c.args.self.now.file_in in
     let x = c.args.payload.now in
     let end = c.args.self.now.end in
     let F = front file payloads in
     let P = Is F (Some x) in
-    let told1 = still c.write_at.ensures.call told in
-    let told2 = still c.sync.ensures.call told1 in
-    let told3 = still c.write_at-2.ensures.call told2 in
+    let tells1 = still c.write_at.ensures.call tells in
+    let tells2 = still c.sync.ensures.call tells1 in
+    let tells3 = still c.write_at-2.ensures.call tells2 in
     let l1 = behind_leaves F end s.end _ _ _ s.leaves c.write_at.ensures.crash in
     let bytes : c.deref.result.now ≡ behind x ++ 0 ∷ [] = search rules in
-    let s1 = staged F end s.end x _ _ _ s.reads bytes (c.in_ok-write_at.ensures.written told) in
-    let l2 : (b : List ℕ) → (g.D.Disk.state c.sync.new.self).leaves file b → IsReady F x b = λ b h. subst (IsReady F x) (sym (c.in_ok-sync.ensures.durable told1 b h)) (ready F 0 x _ s1) in
-    let r2 : IsReady F x ((g.D.Disk.state c.sync.new.self).reads file) = subst (IsReady F x) (sym (c.sync.ensures.same.reads told1)) (ready F 0 x _ s1) in
-    let s3 = gate_written F end s.end 1 x _ _ r2 (c.in_ok-write_at-2.ensures.written told2) in
+    let s1 = staged F end s.end x _ _ _ s.reads bytes (c.in_ok-write_at.ensures.written tells) in
+    let l2 : (b : List ℕ) → (g.D.Disk.state c.sync.new.self).leaves file b → IsReady F x b = λ b h. subst (IsReady F x) (sym (c.in_ok-sync.ensures.durable tells1 b h)) (ready F 0 x _ s1) in
+    let r2 : IsReady F x ((g.D.Disk.state c.sync.new.self).reads file) = subst (IsReady F x) (sym (c.sync.ensures.same.reads tells1)) (ready F 0 x _ s1) in
+    let s3 = gate_written F end s.end 1 x _ _ r2 (c.in_ok-write_at-2.ensures.written tells2) in
     let done : IsShut (front file (payloads ++ x ∷ [])) ((g.D.Disk.state c.write_at-2.new.self).reads file) = (s3.0, s3.1 ∙ joined file payloads x s.sized c.requires.payload s3.0) in
     record {
       sized = fit_push file payloads x s.sized c.requires.payload;
       payload = tt;
       end = omega (arith, s.end, end_push file payloads x);
       waits = refl;
-      reads = subst (IsShut (front file (payloads ++ x ∷ []))) (sym (c.sync-2.ensures.same.reads told3)) done;
-      leaves = λ b h. subst (IsShut (front file (payloads ++ x ∷ []))) (sym (c.in_ok-sync-2.ensures.durable told3 b h)) done;
+      reads = subst (IsShut (front file (payloads ++ x ∷ []))) (sym (c.sync-2.ensures.same.reads tells3)) done;
+      leaves = λ b h. subst (IsShut (front file (payloads ++ x ∷ []))) (sym (c.in_ok-sync-2.ensures.durable tells3 b h)) done;
     }

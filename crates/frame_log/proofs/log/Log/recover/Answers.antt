@@ -12,7 +12,7 @@ use Rattle.frame_log.proofs.Openings.{as_found, log_err, log_ok, opens_for, open
 use Rattle.frame_log.proofs.log.Log.recover.Goals as goal
 
 still : {file : ℕ} {old new : DiskState} → RunOn file old new → Tells old → Tells new
-still run told = subst (λ b. IsTrue b) (sym run.tells) told
+still run tells = subst (λ b. IsTrue b) (sym run.tells) tells
 
 -- a run on the reader's file is one on the file of the log
 on_file : (file other : ℕ) (old new : DiskState) → other ≡ file → RunOn other old new → LeavesOnly other old new (old.leaves other) → Going file old new (old.leaves file)
@@ -24,19 +24,19 @@ only_read : (file : ℕ) (old mid new : DiskState) (log : Log) (payloads : List 
 only_read file old mid new log payloads gate found stands is on = weaker (λ b h. Log_as_found (left_as_found mid log payloads file gate (old.reads file) stands is found b h)) on.moments
 
 pub returns-clause-log : goal.returns-clause-log
-returns-clause-log g c told =
+returns-clause-log g c tells =
     let file = c.args.file in
     let D1 = g.D.Disk.state c.recover_records.new.disk in
     let D2 = g.D.Disk.state c.read_frames.new.disk in
-    let told1 = still c.recover_records.ensures.opens.run told in
-    let found = c.in_ok-log.ensures.log told in
+    let tells1 = still c.recover_records.ensures.opens.run tells in
+    let found = c.in_ok-log.ensures.log tells in
     let reader = c.in_ok-log.ensures.reader in
     let same : Reads file D1 D2 = subst (λ (k : ℕ). Reads k D1 D2) reader.0 c.read_frames.ensures.same in (
       found.0,
       found.1,
       found.2,
-      c.in_ok-frames.ensures.frames told1 found.0 found.3 ∙ ap (λ (k : ℕ). placed k found.0) reader.1,
-      still_stands file D1 D2 c.in_ok-log.log found.0 None same c.in_ok-log.ensures.settled.0 told1 found.4,
+      c.in_ok-frames.ensures.frames tells1 found.0 found.3 ∙ ap (λ (k : ℕ). placed k found.0) reader.1,
+      still_stands file D1 D2 c.in_ok-log.log found.0 None same c.in_ok-log.ensures.settled.0 tells1 found.4,
     )
 
 pub returns-in_err-log-clause-opens : goal.returns-in_err-log-clause-opens
@@ -54,9 +54,9 @@ returns-in_err-frames-clause-opens g c =
     let on = on_file c.args.file c.in_ok-log.records.file D1 D2 c.in_ok-log.ensures.reader.0 c.read_frames.ensures.run c.read_frames.ensures.moments in
     let o = c.in_ok-log.ensures.opens in
     opens_then D0 D1 D2 (log_ok _ start.StoreFault) o on.run
-    (λ told. let found = c.in_ok-log.ensures.log told in only_read c.args.file D0 D1 D2 c.in_ok-log.log found.0 found.1 found.2 found.4 c.in_ok-log.ensures.settled.0 on)
+    (λ tells. let found = c.in_ok-log.ensures.log tells in only_read c.args.file D0 D1 D2 c.in_ok-log.log found.0 found.1 found.2 found.4 c.in_ok-log.ensures.settled.0 on)
     (why_for (log_err c.in_err-frames.field-0.0 c.read_frames.result c.from_residual-in_err-frames.result c.in_err-frames.was now)
-    (why_log D0 D2 c.read_frames.result (λ at is told. absurd (c.read_frames.ensures.damaged at is (still o.run told))) (λ is. rose_since o.run.faults (c.read_frames.ensures.cause is))))
+    (why_log D0 D2 c.read_frames.result (λ at is tells. absurd (c.read_frames.ensures.damaged at is (still o.run tells))) (λ is. rose_since o.run.faults (c.read_frames.ensures.cause is))))
 
 pub returns-clause-opens : goal.returns-clause-opens
 returns-clause-opens g c =
@@ -65,11 +65,11 @@ returns-clause-opens g c =
     let D2 = g.D.Disk.state c.read_frames.new.disk in
     let on = on_file c.args.file c.in_ok-log.records.file D1 D2 c.in_ok-log.ensures.reader.0 c.read_frames.ensures.run c.read_frames.ensures.moments in
     opens_then D0 D1 D2 (log_ok _ start.StoreFault) c.in_ok-log.ensures.opens on.run
-    (λ told. let found = c.in_ok-log.ensures.log told in only_read c.args.file D0 D1 D2 c.in_ok-log.log found.0 found.1 found.2 found.4 c.in_ok-log.ensures.settled.0 on)
+    (λ tells. let found = c.in_ok-log.ensures.log tells in only_read c.args.file D0 D1 D2 c.in_ok-log.log found.0 found.1 found.2 found.4 c.in_ok-log.ensures.settled.0 on)
     (why_log D0 D2 _ (λ at is. absurd (cc is)) (λ is. absurd (cc is)))
 
 pub returns-in_err-frames-clause-any_moment : goal.returns-in_err-frames-clause-any_moment
-returns-in_err-frames-clause-any_moment g c told = as_found c.args.file _ _ (g.met.D.Disk.is_one c.args.disk.now c.args.file told c.requires) ((returns-in_err-frames-clause-opens g c).any_moment told)
+returns-in_err-frames-clause-any_moment g c tells = as_found c.args.file _ _ (g.met.D.Disk.is_one c.args.disk.now c.args.file tells c.requires) ((returns-in_err-frames-clause-opens g c).any_moment tells)
 
 pub returns-clause-any_moment : goal.returns-clause-any_moment
-returns-clause-any_moment g c told = as_found c.args.file _ _ (g.met.D.Disk.is_one c.args.disk.now c.args.file told c.requires) ((returns-clause-opens g c).any_moment told)
+returns-clause-any_moment g c tells = as_found c.args.file _ _ (g.met.D.Disk.is_one c.args.disk.now c.args.file tells c.requires) ((returns-clause-opens g c).any_moment tells)

@@ -15,19 +15,19 @@ use Rattle.frame_log.proofs.Openings.{as_found, log_err, log_ok, run_then, why_f
 use Rattle.frame_log.proofs.log.Log.recover_records.Goals as goal
 
 still : {file : ℕ} {old new : DiskState} → CallOn file old new → Tells old → Tells new
-still call told = subst (λ b. IsTrue b) (sym call.tells) told
+still call tells = subst (λ b. IsTrue b) (sym call.tells) tells
 
 pub returns-clause-log : goal.returns-clause-log
-returns-clause-log g c told =
+returns-clause-log g c tells =
     let file = c.args.file in
     let D2 = g.D.Disk.state c.open_synced.new.disk in
-    let found = c.in_ok-log.ensures.log (still c.sync.ensures.call told) in
+    let found = c.in_ok-log.ensures.log (still c.sync.ensures.call tells) in
     let log = c.in_ok-log.log in
     let is : log.file ≡ file = c.in_ok-log.ensures.settled.0 in
     let size : c.new-records.result.size ≡ length (D2.reads log.file) = c.new-records.ensures.size ∙ found.3 ∙ ap (λ (k : ℕ). length (D2.reads k)) (sym is) in (
       found.0,
       found.1,
-      ap (log_of file) (sym (c.sync.ensures.same.reads told)) ∙ found.2,
+      ap (log_of file) (sym (c.sync.ensures.same.reads tells)) ∙ found.2,
       log_ahead D2 log found.0 c.new-records.result found.4 (c.new-records.ensures.file ∙ sym is) size c.new-records.ensures.at c.new-records.ensures.window,
       found.4,
     )
@@ -40,22 +40,22 @@ module _ (file : ℕ) (old mid : DiskState) (file_in : file < 2) (call : CallOn 
   not_synced : {T : Type 0} (result : Result T LogFault) → result ≡ Err log.StoreFault → Rose old.faults mid.faults → Recovers file old mid (FailsAs result)
   not_synced result is rose = record {
     why = why_log old mid result (λ at other. absurd (cc (is, other))) (λ other. rose);
-    any_moment = λ told. (synced (λ b. old.leaves file b ⊎ IsRecovered file (old.reads file) b) (λ b h. inl h)).moments;
-    since_sync = λ told. inl ((log.StoreFault, is, refl), (synced (old.leaves file) (λ b h. h)).moments);
+    any_moment = λ tells. (synced (λ b. old.leaves file b ⊎ IsRecovered file (old.reads file) b) (λ b h. inl h)).moments;
+    since_sync = λ tells. inl ((log.StoreFault, is, refl), (synced (old.leaves file) (λ b h. h)).moments);
     run = (synced (old.leaves file) (λ b h. h)).run;
   }
 
   module _ (new : DiskState) where
     on_old : Tells old → RunOn file mid new → LeavesOnly file mid new (IsRecovered file (mid.reads file)) → Going file mid new (IsRecovered file (old.reads file))
-    on_old told run moments = compose (begin file mid _) (going run moments) (λ b h. subst (λ (l : List ℕ). IsRecovered file l b) (same.reads told) h)
+    on_old tells run moments = compose (begin file mid _) (going run moments) (λ b h. subst (λ (l : List ℕ). IsRecovered file l b) (same.reads tells) h)
 
     opened : {fails : StartFault → Type 0} → RunOn file mid new → (Tells mid → LeavesOnly file mid new (IsRecovered file (mid.reads file)))
         → ((c : Image) → mid.left_since mid.moment c → IsImage mid c) → (Tells old → Only (old.reads file) (mid.leaves file))
         → FailsFor file (λ bytes at. log_of file bytes ≡ NoLog at) (λ bytes. ⊥) mid new fails → Recovers file old new fails
     opened run moments only_now durable why = record {
       why = why_since old mid new (synced (old.leaves file) (λ b h. h)).run same.reads why;
-      any_moment = λ told. (compose (synced _ (λ b h. inl h)) (on_old told run (moments (still call told))) (λ b h. inr h)).moments;
-      since_sync = λ told. inr (since file old mid new (IsRecovered file (old.reads file)) file_in call.later only_now (λ b h. untouched file (old.reads file) b (durable told b h)) (on_old told run (moments (still call told))));
+      any_moment = λ tells. (compose (synced _ (λ b h. inl h)) (on_old tells run (moments (still call tells))) (λ b h. inr h)).moments;
+      since_sync = λ tells. inr (since file old mid new (IsRecovered file (old.reads file)) file_in call.later only_now (λ b h. untouched file (old.reads file) b (durable tells b h)) (on_old tells run (moments (still call tells))));
       run = run_then (synced (old.leaves file) (λ b h. h)).run run;
     }
 
@@ -77,7 +77,7 @@ returns-clause-opens g c =
     (why_for (λ fault is. absurd (log_ok _ fault is)) (why_log _ _ c.open_synced.result c.open_synced.ensures.damaged c.open_synced.ensures.cause))
 
 pub returns-in_err-log-clause-any_moment : goal.returns-in_err-log-clause-any_moment
-returns-in_err-log-clause-any_moment g c told = as_found c.args.file _ _ (g.met.D.Disk.is_one c.args.disk.now c.args.file told c.requires) ((returns-in_err-log-clause-opens g c).any_moment told)
+returns-in_err-log-clause-any_moment g c tells = as_found c.args.file _ _ (g.met.D.Disk.is_one c.args.disk.now c.args.file tells c.requires) ((returns-in_err-log-clause-opens g c).any_moment tells)
 
 pub returns-clause-any_moment : goal.returns-clause-any_moment
-returns-clause-any_moment g c told = as_found c.args.file _ _ (g.met.D.Disk.is_one c.args.disk.now c.args.file told c.requires) ((returns-clause-opens g c).any_moment told)
+returns-clause-any_moment g c tells = as_found c.args.file _ _ (g.met.D.Disk.is_one c.args.disk.now c.args.file tells c.requires) ((returns-clause-opens g c).any_moment tells)

@@ -10,10 +10,10 @@ use Rattle.frame_log.proofs.log.Log.settle.Goals.{in-Some, in-None, then-byte-ne
 use Rattle.frame_log.proofs.log.Log.settle.Goals as goal
 
 still : {file : ℕ} {old new : DiskState} → CallOn file old new → Tells old → Tells new
-still call told = subst (λ b. IsTrue b) (sym call.tells) told
+still call tells = subst (λ b. IsTrue b) (sym call.tells) tells
 
 pub returns-in_err-sync-clause-any_moment : goal.returns-in_err-sync-clause-any_moment
-returns-in_err-sync-clause-any_moment g c told payloads x s =
+returns-in_err-sync-clause-any_moment g c tells payloads x s =
     let file = c.args.self.now.file in
     let file_in = c.args.self.now.file_in in
     let end = c.args.self.now.end in
@@ -23,7 +23,7 @@ returns-in_err-sync-clause-any_moment g c told payloads x s =
     weaker (before_or_after file payloads x s.sized s.payload) go1.moments
 
 pub returns-in_err-read-clause-any_moment : goal.returns-in_err-read-clause-any_moment
-returns-in_err-read-clause-any_moment g c told payloads x s =
+returns-in_err-read-clause-any_moment g c tells payloads x s =
     let file = c.args.self.now.file in
     let file_in = c.args.self.now.file_in in
     let end = c.args.self.now.end in
@@ -34,7 +34,7 @@ returns-in_err-read-clause-any_moment g c told payloads x s =
     weaker (before_or_after file payloads x s.sized s.payload) go2.moments
 
 pub returns-then-next-le-LONGEST_FILE-clause-any_moment : goal.returns-then-next-le-LONGEST_FILE-clause-any_moment
-returns-then-next-le-LONGEST_FILE-clause-any_moment g c told payloads x s =
+returns-then-next-le-LONGEST_FILE-clause-any_moment g c tells payloads x s =
     let file = c.args.self.now.file in
     let file_in = c.args.self.now.file_in in
     let end = c.args.self.now.end in
@@ -45,20 +45,20 @@ returns-then-next-le-LONGEST_FILE-clause-any_moment g c told payloads x s =
     weaker (before_or_after file payloads x s.sized s.payload) go2.moments
 
 pub returns-then-next-le-LONGEST_FILE-clause-settled : goal.returns-then-next-le-LONGEST_FILE-clause-settled
-returns-then-next-le-LONGEST_FILE-clause-settled g c told payloads x s =
+returns-then-next-le-LONGEST_FILE-clause-settled g c tells payloads x s =
     let file = c.args.self.now.file in
     let file_in = c.args.self.now.file_in in
     let end = c.args.self.now.end in
     let F = front file payloads in
     let P = Is F (Some x) in
-    let told1 = still c.sync.ensures.call told in
-    let told2 = still c.read.ensures.call told1 in
+    let tells1 = still c.sync.ensures.call tells in
+    let tells2 = still c.read.ensures.call tells1 in
     let R = (g.D.Disk.state c.args.disk.now).reads file in
-    let R1 = c.sync.ensures.same.reads told in
-    let R2 = c.read.ensures.same.reads told1 ∙ R1 in
+    let R1 = c.sync.ensures.same.reads tells in
+    let R2 = c.read.ensures.same.reads tells1 ∙ R1 in
     let in1 : end < length ((g.D.Disk.state c.sync.new.self).reads file) = subst (λ (l : List ℕ). end < length l) (sym R1) (inside F end s.end x R s.reads) in
-    let byte : slice_index_or c.read.new.buf 0 0 ≡ get_or R end 0 = byte_read c.read.new.buf _ end _ (omega arith) in1 (c.in_ok-read.ensures.answer told1) (c.in_ok-read.ensures.bytes told1) ∙ ap (λ (l : List ℕ). get_or l end 0) R1 in
-    let only : (b : List ℕ) → (g.D.Disk.state c.read.new.self).leaves file b → b ≡ R = λ b h. c.in_ok-sync.ensures.durable told b (c.read.ensures.same.leaves b h) in
+    let byte : slice_index_or c.read.new.buf 0 0 ≡ get_or R end 0 = byte_read c.read.new.buf _ end _ (omega arith) in1 (c.in_ok-read.ensures.answer tells1) (c.in_ok-read.ensures.bytes tells1) ∙ ap (λ (l : List ℕ). get_or l end 0) R1 in
+    let only : (b : List ℕ) → (g.D.Disk.state c.read.new.self).leaves file b → b ≡ R = λ b h. c.in_ok-sync.ensures.durable tells b (c.read.ensures.same.leaves b h) in
     let next_is : c.match-self.next ≡ end + 5 + length x = elim c.match-self.branch [
       | in-Some w ↦ let same : w.in-Some.size ≡ length x = cc (w.in-Some.is, s.waits) in omega (arith, w.next-is, same)
       | in-None w ↦ cc (w.in-None.is, s.waits)
@@ -76,8 +76,8 @@ returns-then-next-le-LONGEST_FILE-clause-settled g c told payloads x s =
     }
 
 pub returns-then-next-le-LONGEST_FILE-clause-kept : goal.returns-then-next-le-LONGEST_FILE-clause-kept
-returns-then-next-le-LONGEST_FILE-clause-kept g c told =
-    let was = c.requires.stands told in
+returns-then-next-le-LONGEST_FILE-clause-kept g c tells =
+    let was = c.requires.stands tells in
     let payloads = was.0 in
     let x = was.1 in
     let s = was.2 in
@@ -86,30 +86,30 @@ returns-then-next-le-LONGEST_FILE-clause-kept g c told =
     let end = c.args.self.now.end in
     let F = front file payloads in
     let P = Is F (Some x) in
-    let told1 = still c.sync.ensures.call told in
-    let told2 = still c.read.ensures.call told1 in
+    let tells1 = still c.sync.ensures.call tells in
+    let tells2 = still c.read.ensures.call tells1 in
     let R = (g.D.Disk.state c.args.disk.now).reads file in
-    let R1 = c.sync.ensures.same.reads told in
-    let R2 = c.read.ensures.same.reads told1 ∙ R1 in
+    let R1 = c.sync.ensures.same.reads tells in
+    let R2 = c.read.ensures.same.reads tells1 ∙ R1 in
     let in1 : end < length ((g.D.Disk.state c.sync.new.self).reads file) = subst (λ (l : List ℕ). end < length l) (sym R1) (inside F end s.end x R s.reads) in
-    let byte : slice_index_or c.read.new.buf 0 0 ≡ get_or R end 0 = byte_read c.read.new.buf _ end _ (omega arith) in1 (c.in_ok-read.ensures.answer told1) (c.in_ok-read.ensures.bytes told1) ∙ ap (λ (l : List ℕ). get_or l end 0) R1 in
+    let byte : slice_index_or c.read.new.buf 0 0 ≡ get_or R end 0 = byte_read c.read.new.buf _ end _ (omega arith) in1 (c.in_ok-read.ensures.answer tells1) (c.in_ok-read.ensures.bytes tells1) ∙ ap (λ (l : List ℕ). get_or l end 0) R1 in
     (λ yes. slice_get-get_or R end 0 (inside F end s.end x R s.reads) ∙ ap (λ (k : ℕ). Some k) (sym byte ∙ c.if-byte-eq-OPEN.true), λ is. refl)
 
 pub returns-in_err-write_at-clause-any_moment : goal.returns-in_err-write_at-clause-any_moment
-returns-in_err-write_at-clause-any_moment g c told payloads x s =
+returns-in_err-write_at-clause-any_moment g c tells payloads x s =
     let file = c.args.self.now.file in
     let file_in = c.args.self.now.file_in in
     let end = c.args.self.now.end in
     let F = front file payloads in
     let P = Is F (Some x) in
-    let told1 = still c.sync.ensures.call told in
-    let told2 = still c.read.ensures.call told1 in
+    let tells1 = still c.sync.ensures.call tells in
+    let tells2 = still c.read.ensures.call tells1 in
     let R = (g.D.Disk.state c.args.disk.now).reads file in
-    let R1 = c.sync.ensures.same.reads told in
-    let R2 = c.read.ensures.same.reads told1 ∙ R1 in
+    let R1 = c.sync.ensures.same.reads tells in
+    let R2 = c.read.ensures.same.reads tells1 ∙ R1 in
     let in1 : end < length ((g.D.Disk.state c.sync.new.self).reads file) = subst (λ (l : List ℕ). end < length l) (sym R1) (inside F end s.end x R s.reads) in
-    let byte : slice_index_or c.read.new.buf 0 0 ≡ get_or R end 0 = byte_read c.read.new.buf _ end _ (omega arith) in1 (c.in_ok-read.ensures.answer told1) (c.in_ok-read.ensures.bytes told1) ∙ ap (λ (l : List ℕ). get_or l end 0) R1 in
-    let only : (b : List ℕ) → (g.D.Disk.state c.read.new.self).leaves file b → b ≡ R = λ b h. c.in_ok-sync.ensures.durable told b (c.read.ensures.same.leaves b h) in
+    let byte : slice_index_or c.read.new.buf 0 0 ≡ get_or R end 0 = byte_read c.read.new.buf _ end _ (omega arith) in1 (c.in_ok-read.ensures.answer tells1) (c.in_ok-read.ensures.bytes tells1) ∙ ap (λ (l : List ℕ). get_or l end 0) R1 in
+    let only : (b : List ℕ) → (g.D.Disk.state c.read.new.self).leaves file b → b ≡ R = λ b h. c.in_ok-sync.ensures.durable tells b (c.read.ensures.same.leaves b h) in
     let rdy = not_shut F end s.end x R s.reads (λ z. c.if-byte-ne-SHUT.true (byte ∙ z)) in
     let r2 : IsReady F x ((g.D.Disk.state c.read.new.self).reads file) = subst (IsReady F x) (sym R2) rdy in
     let l3 = gate_leaves F end s.end x _ _ (λ b h. subst (IsReady F x) (sym (only b h)) rdy) c.write_at.ensures.crash in
@@ -119,20 +119,20 @@ returns-in_err-write_at-clause-any_moment g c told payloads x s =
     weaker (before_or_after file payloads x s.sized s.payload) go3.moments
 
 pub returns-in_err-write_at-clause-unsettled : goal.returns-in_err-write_at-clause-unsettled
-returns-in_err-write_at-clause-unsettled g c err told payloads x s =
+returns-in_err-write_at-clause-unsettled g c err tells payloads x s =
     let file = c.args.self.now.file in
     let file_in = c.args.self.now.file_in in
     let end = c.args.self.now.end in
     let F = front file payloads in
     let P = Is F (Some x) in
-    let told1 = still c.sync.ensures.call told in
-    let told2 = still c.read.ensures.call told1 in
+    let tells1 = still c.sync.ensures.call tells in
+    let tells2 = still c.read.ensures.call tells1 in
     let R = (g.D.Disk.state c.args.disk.now).reads file in
-    let R1 = c.sync.ensures.same.reads told in
-    let R2 = c.read.ensures.same.reads told1 ∙ R1 in
+    let R1 = c.sync.ensures.same.reads tells in
+    let R2 = c.read.ensures.same.reads tells1 ∙ R1 in
     let in1 : end < length ((g.D.Disk.state c.sync.new.self).reads file) = subst (λ (l : List ℕ). end < length l) (sym R1) (inside F end s.end x R s.reads) in
-    let byte : slice_index_or c.read.new.buf 0 0 ≡ get_or R end 0 = byte_read c.read.new.buf _ end _ (omega arith) in1 (c.in_ok-read.ensures.answer told1) (c.in_ok-read.ensures.bytes told1) ∙ ap (λ (l : List ℕ). get_or l end 0) R1 in
-    let only : (b : List ℕ) → (g.D.Disk.state c.read.new.self).leaves file b → b ≡ R = λ b h. c.in_ok-sync.ensures.durable told b (c.read.ensures.same.leaves b h) in
+    let byte : slice_index_or c.read.new.buf 0 0 ≡ get_or R end 0 = byte_read c.read.new.buf _ end _ (omega arith) in1 (c.in_ok-read.ensures.answer tells1) (c.in_ok-read.ensures.bytes tells1) ∙ ap (λ (l : List ℕ). get_or l end 0) R1 in
+    let only : (b : List ℕ) → (g.D.Disk.state c.read.new.self).leaves file b → b ≡ R = λ b h. c.in_ok-sync.ensures.durable tells b (c.read.ensures.same.leaves b h) in
     let rdy = not_shut F end s.end x R s.reads (λ z. c.if-byte-ne-SHUT.true (byte ∙ z)) in
     let r2 : IsReady F x ((g.D.Disk.state c.read.new.self).reads file) = subst (IsReady F x) (sym R2) rdy in
     let l3 = gate_leaves F end s.end x _ _ (λ b h. subst (IsReady F x) (sym (only b h)) rdy) c.write_at.ensures.crash in
@@ -141,25 +141,25 @@ returns-in_err-write_at-clause-unsettled g c err told payloads x s =
       payload = s.payload;
       end = s.end;
       waits = s.waits;
-      reads = inr (gate_torn F end s.end x _ _ r2 (c.in_err-write_at.ensures.torn told2));
+      reads = inr (gate_torn F end s.end x _ _ r2 (c.in_err-write_at.ensures.torn tells2));
       leaves = λ b h. inr (l3 b h);
     }
 
 pub returns-in_err-sync-2-clause-any_moment : goal.returns-in_err-sync-2-clause-any_moment
-returns-in_err-sync-2-clause-any_moment g c told payloads x s =
+returns-in_err-sync-2-clause-any_moment g c tells payloads x s =
     let file = c.args.self.now.file in
     let file_in = c.args.self.now.file_in in
     let end = c.args.self.now.end in
     let F = front file payloads in
     let P = Is F (Some x) in
-    let told1 = still c.sync.ensures.call told in
-    let told2 = still c.read.ensures.call told1 in
+    let tells1 = still c.sync.ensures.call tells in
+    let tells2 = still c.read.ensures.call tells1 in
     let R = (g.D.Disk.state c.args.disk.now).reads file in
-    let R1 = c.sync.ensures.same.reads told in
-    let R2 = c.read.ensures.same.reads told1 ∙ R1 in
+    let R1 = c.sync.ensures.same.reads tells in
+    let R2 = c.read.ensures.same.reads tells1 ∙ R1 in
     let in1 : end < length ((g.D.Disk.state c.sync.new.self).reads file) = subst (λ (l : List ℕ). end < length l) (sym R1) (inside F end s.end x R s.reads) in
-    let byte : slice_index_or c.read.new.buf 0 0 ≡ get_or R end 0 = byte_read c.read.new.buf _ end _ (omega arith) in1 (c.in_ok-read.ensures.answer told1) (c.in_ok-read.ensures.bytes told1) ∙ ap (λ (l : List ℕ). get_or l end 0) R1 in
-    let only : (b : List ℕ) → (g.D.Disk.state c.read.new.self).leaves file b → b ≡ R = λ b h. c.in_ok-sync.ensures.durable told b (c.read.ensures.same.leaves b h) in
+    let byte : slice_index_or c.read.new.buf 0 0 ≡ get_or R end 0 = byte_read c.read.new.buf _ end _ (omega arith) in1 (c.in_ok-read.ensures.answer tells1) (c.in_ok-read.ensures.bytes tells1) ∙ ap (λ (l : List ℕ). get_or l end 0) R1 in
+    let only : (b : List ℕ) → (g.D.Disk.state c.read.new.self).leaves file b → b ≡ R = λ b h. c.in_ok-sync.ensures.durable tells b (c.read.ensures.same.leaves b h) in
     let rdy = not_shut F end s.end x R s.reads (λ z. c.if-byte-ne-SHUT.true (byte ∙ z)) in
     let r2 : IsReady F x ((g.D.Disk.state c.read.new.self).reads file) = subst (IsReady F x) (sym R2) rdy in
     let l3 = gate_leaves F end s.end x _ _ (λ b h. subst (IsReady F x) (sym (only b h)) rdy) c.write_at.ensures.crash in
@@ -170,49 +170,49 @@ returns-in_err-sync-2-clause-any_moment g c told payloads x s =
     weaker (before_or_after file payloads x s.sized s.payload) go4.moments
 
 pub returns-in_err-sync-2-clause-unsettled : goal.returns-in_err-sync-2-clause-unsettled
-returns-in_err-sync-2-clause-unsettled g c err told payloads x s =
+returns-in_err-sync-2-clause-unsettled g c err tells payloads x s =
     let file = c.args.self.now.file in
     let file_in = c.args.self.now.file_in in
     let end = c.args.self.now.end in
     let F = front file payloads in
     let P = Is F (Some x) in
-    let told1 = still c.sync.ensures.call told in
-    let told2 = still c.read.ensures.call told1 in
+    let tells1 = still c.sync.ensures.call tells in
+    let tells2 = still c.read.ensures.call tells1 in
     let R = (g.D.Disk.state c.args.disk.now).reads file in
-    let R1 = c.sync.ensures.same.reads told in
-    let R2 = c.read.ensures.same.reads told1 ∙ R1 in
+    let R1 = c.sync.ensures.same.reads tells in
+    let R2 = c.read.ensures.same.reads tells1 ∙ R1 in
     let in1 : end < length ((g.D.Disk.state c.sync.new.self).reads file) = subst (λ (l : List ℕ). end < length l) (sym R1) (inside F end s.end x R s.reads) in
-    let byte : slice_index_or c.read.new.buf 0 0 ≡ get_or R end 0 = byte_read c.read.new.buf _ end _ (omega arith) in1 (c.in_ok-read.ensures.answer told1) (c.in_ok-read.ensures.bytes told1) ∙ ap (λ (l : List ℕ). get_or l end 0) R1 in
-    let only : (b : List ℕ) → (g.D.Disk.state c.read.new.self).leaves file b → b ≡ R = λ b h. c.in_ok-sync.ensures.durable told b (c.read.ensures.same.leaves b h) in
+    let byte : slice_index_or c.read.new.buf 0 0 ≡ get_or R end 0 = byte_read c.read.new.buf _ end _ (omega arith) in1 (c.in_ok-read.ensures.answer tells1) (c.in_ok-read.ensures.bytes tells1) ∙ ap (λ (l : List ℕ). get_or l end 0) R1 in
+    let only : (b : List ℕ) → (g.D.Disk.state c.read.new.self).leaves file b → b ≡ R = λ b h. c.in_ok-sync.ensures.durable tells b (c.read.ensures.same.leaves b h) in
     let rdy = not_shut F end s.end x R s.reads (λ z. c.if-byte-ne-SHUT.true (byte ∙ z)) in
     let r2 : IsReady F x ((g.D.Disk.state c.read.new.self).reads file) = subst (IsReady F x) (sym R2) rdy in
     let l3 = gate_leaves F end s.end x _ _ (λ b h. subst (IsReady F x) (sym (only b h)) rdy) c.write_at.ensures.crash in
-    let told3 = still c.write_at.ensures.call told2 in
-    let s3 = gate_written F end s.end 0 x _ _ r2 (c.in_ok-write_at.ensures.written told2) in
+    let tells3 = still c.write_at.ensures.call tells2 in
+    let s3 = gate_written F end s.end 0 x _ _ r2 (c.in_ok-write_at.ensures.written tells2) in
     record {
       sized = s.sized;
       payload = s.payload;
       end = s.end;
       waits = s.waits;
-      reads = inr (subst (IsReady F x) (sym (c.sync-then-byte-ne-SHUT.ensures.same.reads told3)) (ready F 0 x _ s3));
+      reads = inr (subst (IsReady F x) (sym (c.sync-then-byte-ne-SHUT.ensures.same.reads tells3)) (ready F 0 x _ s3));
       leaves = λ b h. inr (l3 b (c.sync-then-byte-ne-SHUT.ensures.same.leaves b h));
     }
 
 pub returns-clause-any_moment : goal.returns-clause-any_moment
-returns-clause-any_moment g c told payloads x s =
+returns-clause-any_moment g c tells payloads x s =
     let file = c.args.self.now.file in
     let file_in = c.args.self.now.file_in in
     let end = c.args.self.now.end in
     let F = front file payloads in
     let P = Is F (Some x) in
-    let told1 = still c.sync.ensures.call told in
-    let told2 = still c.read.ensures.call told1 in
+    let tells1 = still c.sync.ensures.call tells in
+    let tells2 = still c.read.ensures.call tells1 in
     let R = (g.D.Disk.state c.args.disk.now).reads file in
-    let R1 = c.sync.ensures.same.reads told in
-    let R2 = c.read.ensures.same.reads told1 ∙ R1 in
+    let R1 = c.sync.ensures.same.reads tells in
+    let R2 = c.read.ensures.same.reads tells1 ∙ R1 in
     let in1 : end < length ((g.D.Disk.state c.sync.new.self).reads file) = subst (λ (l : List ℕ). end < length l) (sym R1) (inside F end s.end x R s.reads) in
-    let byte : slice_index_or c.read.new.buf 0 0 ≡ get_or R end 0 = byte_read c.read.new.buf _ end _ (omega arith) in1 (c.in_ok-read.ensures.answer told1) (c.in_ok-read.ensures.bytes told1) ∙ ap (λ (l : List ℕ). get_or l end 0) R1 in
-    let only : (b : List ℕ) → (g.D.Disk.state c.read.new.self).leaves file b → b ≡ R = λ b h. c.in_ok-sync.ensures.durable told b (c.read.ensures.same.leaves b h) in
+    let byte : slice_index_or c.read.new.buf 0 0 ≡ get_or R end 0 = byte_read c.read.new.buf _ end _ (omega arith) in1 (c.in_ok-read.ensures.answer tells1) (c.in_ok-read.ensures.bytes tells1) ∙ ap (λ (l : List ℕ). get_or l end 0) R1 in
+    let only : (b : List ℕ) → (g.D.Disk.state c.read.new.self).leaves file b → b ≡ R = λ b h. c.in_ok-sync.ensures.durable tells b (c.read.ensures.same.leaves b h) in
     let go1 = then (begin file (g.D.Disk.state c.args.disk.now) P) c.sync.ensures.call file_in (λ b h. s.leaves b (c.sync.ensures.same.leaves b h)) in
     let go2 = then go1 c.read.ensures.call file_in (λ b h. s.leaves b (c.sync.ensures.same.leaves b (c.read.ensures.same.leaves b h))) in
     elim c.if-byte-ne-SHUT.branch [
@@ -227,30 +227,30 @@ returns-clause-any_moment g c told payloads x s =
     ]
 
 pub returns-clause-settled : goal.returns-clause-settled
-returns-clause-settled g c told payloads x s =
+returns-clause-settled g c tells payloads x s =
     let file = c.args.self.now.file in
     let file_in = c.args.self.now.file_in in
     let end = c.args.self.now.end in
     let F = front file payloads in
     let P = Is F (Some x) in
-    let told1 = still c.sync.ensures.call told in
-    let told2 = still c.read.ensures.call told1 in
+    let tells1 = still c.sync.ensures.call tells in
+    let tells2 = still c.read.ensures.call tells1 in
     let R = (g.D.Disk.state c.args.disk.now).reads file in
-    let R1 = c.sync.ensures.same.reads told in
-    let R2 = c.read.ensures.same.reads told1 ∙ R1 in
+    let R1 = c.sync.ensures.same.reads tells in
+    let R2 = c.read.ensures.same.reads tells1 ∙ R1 in
     let in1 : end < length ((g.D.Disk.state c.sync.new.self).reads file) = subst (λ (l : List ℕ). end < length l) (sym R1) (inside F end s.end x R s.reads) in
-    let byte : slice_index_or c.read.new.buf 0 0 ≡ get_or R end 0 = byte_read c.read.new.buf _ end _ (omega arith) in1 (c.in_ok-read.ensures.answer told1) (c.in_ok-read.ensures.bytes told1) ∙ ap (λ (l : List ℕ). get_or l end 0) R1 in
-    let only : (b : List ℕ) → (g.D.Disk.state c.read.new.self).leaves file b → b ≡ R = λ b h. c.in_ok-sync.ensures.durable told b (c.read.ensures.same.leaves b h) in
+    let byte : slice_index_or c.read.new.buf 0 0 ≡ get_or R end 0 = byte_read c.read.new.buf _ end _ (omega arith) in1 (c.in_ok-read.ensures.answer tells1) (c.in_ok-read.ensures.bytes tells1) ∙ ap (λ (l : List ℕ). get_or l end 0) R1 in
+    let only : (b : List ℕ) → (g.D.Disk.state c.read.new.self).leaves file b → b ≡ R = λ b h. c.in_ok-sync.ensures.durable tells b (c.read.ensures.same.leaves b h) in
     elim c.if-byte-ne-SHUT.branch [
       | then-byte-ne-SHUT+in_ok-write_at+in_ok-sync-2 w ↦
           let rdy = not_shut F end s.end x R s.reads (λ z. w.if-byte-ne-SHUT.true (byte ∙ z)) in
           let r2 : IsReady F x ((g.D.Disk.state c.read.new.self).reads file) = subst (IsReady F x) (sym R2) rdy in
           let l3 = gate_leaves F end s.end x _ _ (λ b h. subst (IsReady F x) (sym (only b h)) rdy) w.write_at.ensures.crash in
-          let told3 = still w.write_at.ensures.call told2 in
-          let s3 = gate_written F end s.end 0 x _ _ r2 (w.in_ok-write_at.ensures.written told2) in
+          let tells3 = still w.write_at.ensures.call tells2 in
+          let s3 = gate_written F end s.end 0 x _ _ r2 (w.in_ok-write_at.ensures.written tells2) in
           let done = shut F x _ s3 in
-          let reads4 : IsShut F ((g.D.Disk.state c.if-byte-ne-SHUT.disk).reads file) = subst (λ d. IsShut F ((g.D.Disk.state d).reads file)) (sym w.disk-is) (subst (IsShut F) (sym (w.sync-then-byte-ne-SHUT.ensures.same.reads told3)) done) in
-          let leaves4 : (b : List ℕ) → (g.D.Disk.state c.if-byte-ne-SHUT.disk).leaves file b → IsShut F b = subst (λ d. (b : List ℕ) → (g.D.Disk.state d).leaves file b → IsShut F b) (sym w.disk-is) (λ b h. subst (IsShut F) (sym (w.in_ok-sync-2.ensures.durable told3 b h)) done) in
+          let reads4 : IsShut F ((g.D.Disk.state c.if-byte-ne-SHUT.disk).reads file) = subst (λ d. IsShut F ((g.D.Disk.state d).reads file)) (sym w.disk-is) (subst (IsShut F) (sym (w.sync-then-byte-ne-SHUT.ensures.same.reads tells3)) done) in
+          let leaves4 : (b : List ℕ) → (g.D.Disk.state c.if-byte-ne-SHUT.disk).leaves file b → IsShut F b = subst (λ d. (b : List ℕ) → (g.D.Disk.state d).leaves file b → IsShut F b) (sym w.disk-is) (λ b h. subst (IsShut F) (sym (w.in_ok-sync-2.ensures.durable tells3 b h)) done) in
           record {
             sized = s.sized;
             payload = tt;
@@ -274,8 +274,8 @@ returns-clause-settled g c told payloads x s =
     ]
 
 pub returns-clause-kept : goal.returns-clause-kept
-returns-clause-kept g c told =
-    let was = c.requires.stands told in
+returns-clause-kept g c tells =
+    let was = c.requires.stands tells in
     let payloads = was.0 in
     let x = was.1 in
     let s = was.2 in
@@ -284,13 +284,13 @@ returns-clause-kept g c told =
     let end = c.args.self.now.end in
     let F = front file payloads in
     let P = Is F (Some x) in
-    let told1 = still c.sync.ensures.call told in
-    let told2 = still c.read.ensures.call told1 in
+    let tells1 = still c.sync.ensures.call tells in
+    let tells2 = still c.read.ensures.call tells1 in
     let R = (g.D.Disk.state c.args.disk.now).reads file in
-    let R1 = c.sync.ensures.same.reads told in
-    let R2 = c.read.ensures.same.reads told1 ∙ R1 in
+    let R1 = c.sync.ensures.same.reads tells in
+    let R2 = c.read.ensures.same.reads tells1 ∙ R1 in
     let in1 : end < length ((g.D.Disk.state c.sync.new.self).reads file) = subst (λ (l : List ℕ). end < length l) (sym R1) (inside F end s.end x R s.reads) in
-    let byte : slice_index_or c.read.new.buf 0 0 ≡ get_or R end 0 = byte_read c.read.new.buf _ end _ (omega arith) in1 (c.in_ok-read.ensures.answer told1) (c.in_ok-read.ensures.bytes told1) ∙ ap (λ (l : List ℕ). get_or l end 0) R1 in (
+    let byte : slice_index_or c.read.new.buf 0 0 ≡ get_or R end 0 = byte_read c.read.new.buf _ end _ (omega arith) in1 (c.in_ok-read.ensures.answer tells1) (c.in_ok-read.ensures.bytes tells1) ∙ ap (λ (l : List ℕ). get_or l end 0) R1 in (
       λ (yes : IsTrue false). cc,
       λ is.
           let next_is : c.match-self.next ≡ end + 5 + length x = elim c.match-self.branch [
@@ -300,7 +300,7 @@ returns-clause-kept g c told =
           let one : get_or R end 0 ≡ 1 = cc (slice_get-get_or R end 0 (inside F end s.end x R s.reads), is) in
           let staged = kept F end s.end x R s.reads one in
           elim c.else-byte-eq-OPEN.branch [
-            | else-byte-eq-OPEN-via-then-byte-eq-OPEN+else-next-le-LONGEST_FILE w ↦ absurd (omega (arith, w.if-next-le-LONGEST_FILE.false, next_is, long F end s.end x R staged, g.met.D.Disk.bounded c.args.disk.now file told file_in))
+            | else-byte-eq-OPEN-via-then-byte-eq-OPEN+else-next-le-LONGEST_FILE w ↦ absurd (omega (arith, w.if-next-le-LONGEST_FILE.false, next_is, long F end s.end x R staged, g.met.D.Disk.bounded c.args.disk.now file tells file_in))
             | else-byte-eq-OPEN-via-else-byte-eq-OPEN w ↦ absurd (w.if-byte-eq-OPEN.false (byte ∙ one))
           ],
     )

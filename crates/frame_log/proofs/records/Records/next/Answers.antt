@@ -8,62 +8,62 @@ use Rattle.frame_log.proofs.Windows.{shown}
 use Rattle.frame_log.proofs.records.Records.next.Goals as goal
 
 pub show-requires-clause-place : goal.show-requires-clause-place
-show-requires-clause-place g c told = let a = c.requires.ahead told in omega (arith, a.1.size, c.args.self.now.at_in)
+show-requires-clause-place g c tells = let a = c.requires.ahead tells in omega (arith, a.1.size, c.args.self.now.at_in)
 
 pub copy_payload-requires-clause-size : goal.copy_payload-requires-clause-size
-copy_payload-requires-clause-size g c told =
-    let told0 = subst (λ b. IsTrue b) c.show.ensures.run.tells told in
-    (c.requires.ahead told0).1.size ∙ ap length (sym (c.show.ensures.same.reads told0))
+copy_payload-requires-clause-size g c tells =
+    let tells0 = subst (λ b. IsTrue b) c.show.ensures.run.tells tells in
+    (c.requires.ahead tells0).1.size ∙ ap length (sym (c.show.ensures.same.reads tells0))
 
 pub returns-in-Payload-clause-first : goal.returns-in-Payload-clause-first
-returns-in-Payload-clause-first g c told todo a =
+returns-in-Payload-clause-first g c tells todo a =
     let old = c.args.self.now in
     let D0 = g.D.Disk.state c.args.disk.now in
     let D1 = g.D.Disk.state c.show.new.disk in
     let F = D0.reads old.file in
     let B : List ℕ = drop old.at F in
     let count : ℕ = c.in-Payload.count in
-    let told1 = subst (λ b. IsTrue b) (sym c.show.ensures.run.tells) told in
-    let F1 : D1.reads old.file ≡ F = c.show.ensures.same.reads told in
-    let shows = c.in_ok-show.ensures.shows told a.window in
+    let tells1 = subst (λ b. IsTrue b) (sym c.show.ensures.run.tells) tells in
+    let F1 : D1.reads old.file ≡ F = c.show.ensures.same.reads tells in
+    let shows = c.in_ok-show.ensures.shows tells a.window in
     let long : length B ≡ old.size - old.at = omega (arith, length-drop old.at F, a.size) in
     let inside : old.at ≤ length F = omega (arith, a.size, old.at_in) in
     let fits : NextFits (old.size - old.at) (nexts.Payload count) = c.in-Payload.ensures.fits in
     let here : IsNext B (nexts.Payload count) = c.in-Payload.ensures.next B (sym long) (c.bytes_at.ensures ∙ shown F c.show.new.self old.at 5 inside shows) in
     let window1 : HasBytesOf (D1.reads old.file) c.show.new.self = subst (λ (l : List ℕ). HasBytesOf l c.show.new.self) (sym F1) shows.bytes in
-    let copied : c.copy_payload.new.self.payload.items ≡ take count (drop (old.at + 5) F) = c.in_ok-copy_payload-in-Payload.ensures.copied told1 window1 ∙ ap (λ (l : List ℕ). take count (drop (old.at + 5) l)) F1 in
-    let window2 : HasBytesOf F c.copy_payload.new.self.window = subst (λ (l : List ℕ). HasBytesOf l c.copy_payload.new.self.window) F1 (c.copy_payload.ensures.window told1 window1) in
-    given D0 (g.D.Disk.state c.copy_payload.new.disk) old _ todo a (c.copy_payload.ensures.same.reads told1 ∙ F1) c.copy_payload.ensures.file c.copy_payload.ensures.size window2 count (omega (arith, long, fits.0)) here refl copied
+    let copied : c.copy_payload.new.self.payload.items ≡ take count (drop (old.at + 5) F) = c.in_ok-copy_payload-in-Payload.ensures.copied tells1 window1 ∙ ap (λ (l : List ℕ). take count (drop (old.at + 5) l)) F1 in
+    let window2 : HasBytesOf F c.copy_payload.new.self.window = subst (λ (l : List ℕ). HasBytesOf l c.copy_payload.new.self.window) F1 (c.copy_payload.ensures.window tells1 window1) in
+    given D0 (g.D.Disk.state c.copy_payload.new.disk) old _ todo a (c.copy_payload.ensures.same.reads tells1 ∙ F1) c.copy_payload.ensures.file c.copy_payload.ensures.size window2 count (omega (arith, long, fits.0)) here refl copied
 
 pub returns-in-End-clause-first : goal.returns-in-End-clause-first
-returns-in-End-clause-first g c told todo a =
+returns-in-End-clause-first g c tells todo a =
     let old = c.args.self.now in
     let D0 = g.D.Disk.state c.args.disk.now in
     let D1 = g.D.Disk.state c.show.new.disk in
     let F = D0.reads old.file in
     let B : List ℕ = drop old.at F in
-    let shows = c.in_ok-show.ensures.shows told a.window in
+    let shows = c.in_ok-show.ensures.shows tells a.window in
     let long : length B ≡ old.size - old.at = omega (arith, length-drop old.at F, a.size) in
     let inside : old.at ≤ length F = omega (arith, a.size, old.at_in) in
     let here : IsEnd B c.in-End.gate = c.in-End.ensures.next B (sym long) (c.bytes_at.ensures ∙ shown F c.show.new.self old.at 5 inside shows) in
     let none : todo ≡ [] = no_more B a.gate a.rest a.shut todo a.split c.in-End.gate here in
-    (none, refl, still_ahead D0 D1 old _ [] (subst (λ (l : List (List ℕ)). Ahead D0 old l) none a) (c.show.ensures.same.reads told) refl refl shows.bytes refl)
+    (none, refl, still_ahead D0 D1 old _ [] (subst (λ (l : List (List ℕ)). Ahead D0 old l) none a) (c.show.ensures.same.reads tells) refl refl shows.bytes refl)
 
 pub returns-in-Broken-clause-damaged : goal.returns-in-Broken-clause-damaged
-returns-in-Broken-clause-damaged g c at is told =
+returns-in-Broken-clause-damaged g c at is tells =
     let old = c.args.self.now in
     let F = (g.D.Disk.state c.args.disk.now).reads old.file in
     let B : List ℕ = drop old.at F in
-    let todo = (c.requires.ahead told).0 in
-    let a = (c.requires.ahead told).1 in
-    let shows = c.in_ok-show.ensures.shows told a.window in
+    let todo = (c.requires.ahead tells).0 in
+    let a = (c.requires.ahead tells).1 in
+    let shows = c.in_ok-show.ensures.shows tells a.window in
     let long : length B ≡ old.size - old.at = omega (arith, length-drop old.at F, a.size) in
     let inside : old.at ≤ length F = omega (arith, a.size, old.at_in) in
     let here : part B ≡ Broken = c.in-Broken.ensures.next B (sym long) (c.bytes_at.ensures ∙ shown F c.show.new.self old.at 5 inside shows) in
     not_broken B a.gate a.rest a.shut todo a.sized a.split here
 
 pub returns-then-self-gate-lt7-clause-first : goal.returns-then-self-gate-lt7-clause-first
-returns-then-self-gate-lt7-clause-first g c told todo a =
+returns-then-self-gate-lt7-clause-first g c tells todo a =
     let old = c.args.self.now in
     let D0 = g.D.Disk.state c.args.disk.now in
     let B : List ℕ = drop old.at (D0.reads old.file) in

@@ -18,21 +18,21 @@ returns-in_err-log-clause-opens g c =
     opens_log _ _ (opens_fault c.in_err-log.field-0.0 c.recover.result c.from_residual.result c.in_err-log.was now c.recover.ensures.opens)
 
 pub open-requires-clause-stands : goal.open-requires-clause-stands
-open-requires-clause-stands g c told1 =
-    let told = subst (λ (b : Bool). IsTrue b) c.recover.ensures.opens.run.tells told1 in
-    let found = c.in_ok-log.ensures.log told in
+open-requires-clause-stands g c tells1 =
+    let tells = subst (λ (b : Bool). IsTrue b) c.recover.ensures.opens.run.tells tells1 in
+    let found = c.in_ok-log.ensures.log tells in
     let are = ap (λ (l : List Frame). map payload_of (map frame_view l)) c.as_slice.ensures.value ∙ ap (map payload_of) found.3 ∙ placed_payloads 8 found.0 in
     subst (λ (l : List (List ℕ)). Stands (g.D.Disk.state c.recover.new.disk) c.in_ok-log.log l None) (sym are) found.4
 
 pub returns-clause-log : goal.returns-clause-log
 returns-clause-log g c =
     if_ok c.open.result
-    (λ store held told.
-    let told1 = subst (λ (b : Bool). IsTrue b) (sym c.recover.ensures.opens.run.tells) told in
-    let found = c.in_ok-log.ensures.log told in
+    (λ store held tells.
+    let tells1 = subst (λ (b : Bool). IsTrue b) (sym c.recover.ensures.opens.run.tells) tells in
+    let found = c.in_ok-log.ensures.log tells in
     let framed : List (ℕ × List ℕ) = map frame_view c.as_slice.result.now in
     let are : framed ≡ placed 8 found.0 = ap (λ (l : List Frame). map frame_view l) c.as_slice.ensures.value ∙ found.3 in
-    (held.1.commands, held.0, key_log ((g.D.Disk.state c.args.disk.now).reads 0) found.0 found.1 framed found.2 are held.0 held.1, held.2 told1))
+    (held.1.commands, held.0, key_log ((g.D.Disk.state c.args.disk.now).reads 0) found.0 found.1 framed found.2 are held.0 held.1, held.2 tells1))
     c.open.ensures.log
 
 pub returns-clause-opens : goal.returns-clause-opens
@@ -44,15 +44,15 @@ returns-clause-opens g c =
     let framed : List (ℕ × List ℕ) = map frame_view c.as_slice.result.now in
     let are : (list : List (List ℕ)) → map frame_view c.in_ok-log.frames.list.items ≡ placed 8 list → framed ≡ placed 8 list = λ list is. ap (λ (l : List Frame). map frame_view l) c.as_slice.ensures.value ∙ is in
     opens_then D0 D1 (g.D.Disk.state c.open.new.disk) (log_ok _ start.StoreFault) (opens_log D0 D1 o) c.open.ensures.run
-    (λ told.
-    let found = c.in_ok-log.ensures.log told in
-    weaker (left_opening R found.0 found.1 framed found.2 (are found.0 found.3)) (c.open.ensures.moments (subst (λ (b : Bool). IsTrue b) (sym o.run.tells) told)))
+    (λ tells.
+    let found = c.in_ok-log.ensures.log tells in
+    weaker (left_opening R found.0 found.1 framed found.2 (are found.0 found.3)) (c.open.ensures.moments (subst (λ (b : Bool). IsTrue b) (sym o.run.tells) tells)))
     (record {
-      damaged = λ at is told.
-          let found = c.in_ok-log.ensures.log told in
+      damaged = λ at is tells.
+          let found = c.in_ok-log.ensures.log tells in
           Not_a_key_log (no_key_log R found.0 found.1 framed found.2 (are found.0 found.3) at (c.open.ensures.damaged at is));
-      spent = λ is told.
-          let found = c.in_ok-log.ensures.log told in
+      spent = λ is tells.
+          let found = c.in_ok-log.ensures.log tells in
           let s = c.open.ensures.spent is in
           record { commands = s.1.commands; table = s.0; log = key_log R found.0 found.1 framed found.2 (are found.0 found.3) s.0 s.1; last = s.2 };
       cause = λ is. rose_since o.run.faults (c.open.ensures.cause is);
