@@ -215,20 +215,20 @@ begins_unique all o p rest left one other =
 -- ---- the answer of a call
 
 -- known bytes stay known
-told : (all used : List ℕ) (new : Option (List ℕ)) → Consumes (Some all) new used → (rest : List ℕ) × (new ≡ Some rest) × (all ≡ used ++ rest)
-told all used None taken = absurd taken
-told all used (Some rest) taken = (rest, refl, taken)
+rest_left : (all used : List ℕ) (new : Option (List ℕ)) → Consumes (Some all) new used → (rest : List ℕ) × (new ≡ Some rest) × (all ≡ used ++ rest)
+rest_left all used None taken = absurd taken
+rest_left all used (Some rest) taken = (rest, refl, taken)
 
 exact_ok : (old new : Option (List ℕ)) (m : Message) → Takes old new m → IsExact old new (Ok m)
 exact_ok old new m takes all outcome rest is begins of_bytes =
-    let left = told all takes.bytes new (subst (λ (o : Option (List ℕ)). Consumes o new takes.bytes) is takes.used) in
+    let left = rest_left all takes.bytes new (subst (λ (o : Option (List ℕ)). Consumes o new takes.bytes) is takes.used) in
     let mine : Begins all (Ok m) left.0 = record { used = takes.bytes; whole = left.2; of_bytes = tt; spells = takes.spells; ended = tt } in
     let same = begins_unique all (Ok m) outcome left.0 rest mine begins in
     (same.0, left.1 ∙ ap (λ (bytes : List ℕ). Some bytes) same.1)
 
 exact_err : (old new : Option (List ℕ)) (fault : WireFault) → Stops old new fault → IsExact old new (Err fault)
 exact_err old new fault stops all outcome rest is begins of_bytes =
-    let left = told all stops.bytes new (subst (λ (o : Option (List ℕ)). Consumes o new stops.bytes) is stops.used) in
+    let left = rest_left all stops.bytes new (subst (λ (o : Option (List ℕ)). Consumes o new stops.bytes) is stops.used) in
     let ended : Ended fault (Some left.0) = subst (λ (o : Option (List ℕ)). Ended fault o) left.1 stops.ended in
     let mine : Begins all (Err fault) left.0 = record { used = stops.bytes; whole = left.2; of_bytes = of_bytes; spells = stops.spells; ended = ended } in
     let same = begins_unique all (Err fault) outcome left.0 rest mine begins in

@@ -12,11 +12,11 @@ use Rattle.kms_acls.specs.declared.members.Members.{Members}
 use Rattle.kms_acls.specs.declared.lists.KeyLists.{KeyLists}
 use Rattle.kms_acls.specs.declared.lists.OpAcl.{OpAcl}
 use Rattle.kms_acls.specs.Lists.{Lists, acl_meaning, all_of_key, list_of, list_of_key, lists_of_key, members_meaning, named_in, users_of}
-use Rattle.kms_acls.specs.StandsFor.{StandsFor}
+use Rattle.kms_acls.specs.Agreement.{AreListsOf}
 use Rattle.kms_acls.specs.Verdict.{blacklist, default_list, given_if, is_of_key, key_all_list, key_list, same_op, service_list, users_of_group, whitelist}
 use Rattle.kms_acls.proofs.FirstLemmas.{added, any_more, any_stays, list_more, map_given, stays}
 
-pub nothing : (lists : Lists) → lists.services ≡ [] → lists.blacklists ≡ [] → lists.defaults ≡ [] → lists.whitelists ≡ [] → ((k : List ℕ) → lists_of_key k lists.keys ≡ None) → ((g : List ℕ) → users_of g lists.groups ≡ None) → StandsFor lists []
+pub nothing : (lists : Lists) → lists.services ≡ [] → lists.blacklists ≡ [] → lists.defaults ≡ [] → lists.whitelists ≡ [] → ((k : List ℕ) → lists_of_key k lists.keys ≡ None) → ((g : List ℕ) → users_of g lists.groups ≡ None) → AreListsOf lists []
 nothing lists services blacklists defaults whitelists keys groups = record {
   services = λ o. ap (λ l. option_map members_meaning (list_of o l)) services;
   blacklists = λ o. ap (λ l. option_map members_meaning (list_of o l)) blacklists;
@@ -28,7 +28,7 @@ nothing lists services blacklists defaults whitelists keys groups = record {
   groups = λ g. ap (option_map named_in) (groups g);
 }
 
-pub service_added : (old : Lists) (new : List OpAcl) (lines : List PropLine) (p : AclOp) (acl : Acl) (members : Members) → new ≡ old.services ++ record { op = p; members = members } ∷ [] → members_meaning members ≡ acl_meaning acl → StandsFor old lines → StandsFor (record old { services = new }) (lines ++ line.Service p acl ∷ [])
+pub service_added : (old : Lists) (new : List OpAcl) (lines : List PropLine) (p : AclOp) (acl : Acl) (members : Members) → new ≡ old.services ++ record { op = p; members = members } ∷ [] → members_meaning members ≡ acl_meaning acl → AreListsOf old lines → AreListsOf (record old { services = new }) (lines ++ line.Service p acl ∷ [])
 service_added old new lines p acl members is same s = record {
   services = λ o. added members_meaning acl_meaning (service_list o) lines (line.Service p acl) (list_of o old.services) (list_of o new) (given_if (same_op p o) members) (ap (list_of o) is ∙ list_more o old.services (record { op = p; members = members })) (s.services o) (map_given members_meaning acl_meaning (same_op p o) members acl same);
   blacklists = λ o. stays members_meaning acl_meaning (blacklist o) lines (line.Service p acl) (list_of o old.blacklists) (list_of o old.blacklists) refl refl (s.blacklists o);
@@ -40,7 +40,7 @@ service_added old new lines p acl members is same s = record {
   groups = λ g. stays named_in named_in (users_of_group g) lines (line.Service p acl) (users_of g old.groups) (users_of g old.groups) refl refl (s.groups g);
 }
 
-pub blacklist_added : (old : Lists) (new : List OpAcl) (lines : List PropLine) (p : AclOp) (acl : Acl) (members : Members) → new ≡ old.blacklists ++ record { op = p; members = members } ∷ [] → members_meaning members ≡ acl_meaning acl → StandsFor old lines → StandsFor (record old { blacklists = new }) (lines ++ line.Blacklist p acl ∷ [])
+pub blacklist_added : (old : Lists) (new : List OpAcl) (lines : List PropLine) (p : AclOp) (acl : Acl) (members : Members) → new ≡ old.blacklists ++ record { op = p; members = members } ∷ [] → members_meaning members ≡ acl_meaning acl → AreListsOf old lines → AreListsOf (record old { blacklists = new }) (lines ++ line.Blacklist p acl ∷ [])
 blacklist_added old new lines p acl members is same s = record {
   services = λ o. stays members_meaning acl_meaning (service_list o) lines (line.Blacklist p acl) (list_of o old.services) (list_of o old.services) refl refl (s.services o);
   blacklists = λ o. added members_meaning acl_meaning (blacklist o) lines (line.Blacklist p acl) (list_of o old.blacklists) (list_of o new) (given_if (same_op p o) members) (ap (list_of o) is ∙ list_more o old.blacklists (record { op = p; members = members })) (s.blacklists o) (map_given members_meaning acl_meaning (same_op p o) members acl same);
@@ -52,7 +52,7 @@ blacklist_added old new lines p acl members is same s = record {
   groups = λ g. stays named_in named_in (users_of_group g) lines (line.Blacklist p acl) (users_of g old.groups) (users_of g old.groups) refl refl (s.groups g);
 }
 
-pub default_added : (old : Lists) (new : List OpAcl) (lines : List PropLine) (p : AclOp) (acl : Acl) (members : Members) → new ≡ old.defaults ++ record { op = p; members = members } ∷ [] → members_meaning members ≡ acl_meaning acl → StandsFor old lines → StandsFor (record old { defaults = new }) (lines ++ line.Default p acl ∷ [])
+pub default_added : (old : Lists) (new : List OpAcl) (lines : List PropLine) (p : AclOp) (acl : Acl) (members : Members) → new ≡ old.defaults ++ record { op = p; members = members } ∷ [] → members_meaning members ≡ acl_meaning acl → AreListsOf old lines → AreListsOf (record old { defaults = new }) (lines ++ line.Default p acl ∷ [])
 default_added old new lines p acl members is same s = record {
   services = λ o. stays members_meaning acl_meaning (service_list o) lines (line.Default p acl) (list_of o old.services) (list_of o old.services) refl refl (s.services o);
   blacklists = λ o. stays members_meaning acl_meaning (blacklist o) lines (line.Default p acl) (list_of o old.blacklists) (list_of o old.blacklists) refl refl (s.blacklists o);
@@ -64,7 +64,7 @@ default_added old new lines p acl members is same s = record {
   groups = λ g. stays named_in named_in (users_of_group g) lines (line.Default p acl) (users_of g old.groups) (users_of g old.groups) refl refl (s.groups g);
 }
 
-pub whitelist_added : (old : Lists) (new : List OpAcl) (lines : List PropLine) (p : AclOp) (acl : Acl) (members : Members) → new ≡ old.whitelists ++ record { op = p; members = members } ∷ [] → members_meaning members ≡ acl_meaning acl → StandsFor old lines → StandsFor (record old { whitelists = new }) (lines ++ line.Whitelist p acl ∷ [])
+pub whitelist_added : (old : Lists) (new : List OpAcl) (lines : List PropLine) (p : AclOp) (acl : Acl) (members : Members) → new ≡ old.whitelists ++ record { op = p; members = members } ∷ [] → members_meaning members ≡ acl_meaning acl → AreListsOf old lines → AreListsOf (record old { whitelists = new }) (lines ++ line.Whitelist p acl ∷ [])
 whitelist_added old new lines p acl members is same s = record {
   services = λ o. stays members_meaning acl_meaning (service_list o) lines (line.Whitelist p acl) (list_of o old.services) (list_of o old.services) refl refl (s.services o);
   blacklists = λ o. stays members_meaning acl_meaning (blacklist o) lines (line.Whitelist p acl) (list_of o old.blacklists) (list_of o old.blacklists) refl refl (s.blacklists o);
@@ -76,7 +76,7 @@ whitelist_added old new lines p acl members is same s = record {
   groups = λ g. stays named_in named_in (users_of_group g) lines (line.Whitelist p acl) (users_of g old.groups) (users_of g old.groups) refl refl (s.groups g);
 }
 
-pub key_added : (old : Lists) (new : List (List ℕ × KeyLists)) (lines : List PropLine) (key bytes : List ℕ) (p : AclOp) (acl : Acl) (members : Members) → bytes ≡ key → ((k : List ℕ) (o : AclOp) → list_of_key k o new ≡ option_or (list_of_key k o old.keys) (given_if (bytes_eq k bytes && same_op p o) members)) → ((k : List ℕ) → all_of_key k new ≡ all_of_key k old.keys) → ((k : List ℕ) → is_some (lists_of_key k new) ≡ (is_some (lists_of_key k old.keys) || bytes_eq k bytes)) → members_meaning members ≡ acl_meaning acl → StandsFor old lines → StandsFor (record old { keys = new }) (lines ++ line.Key key p acl ∷ [])
+pub key_added : (old : Lists) (new : List (List ℕ × KeyLists)) (lines : List PropLine) (key bytes : List ℕ) (p : AclOp) (acl : Acl) (members : Members) → bytes ≡ key → ((k : List ℕ) (o : AclOp) → list_of_key k o new ≡ option_or (list_of_key k o old.keys) (given_if (bytes_eq k bytes && same_op p o) members)) → ((k : List ℕ) → all_of_key k new ≡ all_of_key k old.keys) → ((k : List ℕ) → is_some (lists_of_key k new) ≡ (is_some (lists_of_key k old.keys) || bytes_eq k bytes)) → members_meaning members ≡ acl_meaning acl → AreListsOf old lines → AreListsOf (record old { keys = new }) (lines ++ line.Key key p acl ∷ [])
 key_added old new lines key bytes p acl members is by_op all has same s = record {
   services = λ o. stays members_meaning acl_meaning (service_list o) lines (line.Key key p acl) (list_of o old.services) (list_of o old.services) refl refl (s.services o);
   blacklists = λ o. stays members_meaning acl_meaning (blacklist o) lines (line.Key key p acl) (list_of o old.blacklists) (list_of o old.blacklists) refl refl (s.blacklists o);
@@ -88,7 +88,7 @@ key_added old new lines key bytes p acl members is by_op all has same s = record
   groups = λ g. stays named_in named_in (users_of_group g) lines (line.Key key p acl) (users_of g old.groups) (users_of g old.groups) refl refl (s.groups g);
 }
 
-pub key_all_added : (old : Lists) (new : List (List ℕ × KeyLists)) (lines : List PropLine) (key bytes : List ℕ) (acl : Acl) (members : Members) → bytes ≡ key → ((k : List ℕ) → all_of_key k new ≡ option_or (all_of_key k old.keys) (given_if (bytes_eq k bytes) members)) → ((k : List ℕ) (o : AclOp) → list_of_key k o new ≡ list_of_key k o old.keys) → ((k : List ℕ) → is_some (lists_of_key k new) ≡ (is_some (lists_of_key k old.keys) || bytes_eq k bytes)) → members_meaning members ≡ acl_meaning acl → StandsFor old lines → StandsFor (record old { keys = new }) (lines ++ line.KeyAll key acl ∷ [])
+pub key_all_added : (old : Lists) (new : List (List ℕ × KeyLists)) (lines : List PropLine) (key bytes : List ℕ) (acl : Acl) (members : Members) → bytes ≡ key → ((k : List ℕ) → all_of_key k new ≡ option_or (all_of_key k old.keys) (given_if (bytes_eq k bytes) members)) → ((k : List ℕ) (o : AclOp) → list_of_key k o new ≡ list_of_key k o old.keys) → ((k : List ℕ) → is_some (lists_of_key k new) ≡ (is_some (lists_of_key k old.keys) || bytes_eq k bytes)) → members_meaning members ≡ acl_meaning acl → AreListsOf old lines → AreListsOf (record old { keys = new }) (lines ++ line.KeyAll key acl ∷ [])
 key_all_added old new lines key bytes acl members is all by_op has same s = record {
   services = λ o. stays members_meaning acl_meaning (service_list o) lines (line.KeyAll key acl) (list_of o old.services) (list_of o old.services) refl refl (s.services o);
   blacklists = λ o. stays members_meaning acl_meaning (blacklist o) lines (line.KeyAll key acl) (list_of o old.blacklists) (list_of o old.blacklists) refl refl (s.blacklists o);
@@ -100,7 +100,7 @@ key_all_added old new lines key bytes acl members is all by_op has same s = reco
   groups = λ g. stays named_in named_in (users_of_group g) lines (line.KeyAll key acl) (users_of g old.groups) (users_of g old.groups) refl refl (s.groups g);
 }
 
-pub group_added : (old : Lists) (new : List (List ℕ × List (List ℕ))) (lines : List PropLine) (group bytes : List ℕ) (users set : List (List ℕ)) → bytes ≡ group → ((g : List ℕ) → users_of g new ≡ option_or (users_of g old.groups) (given_if (bytes_eq g bytes) set)) → ((name : List ℕ) → is_among name set ≡ is_among name users) → StandsFor old lines → StandsFor (record old { groups = new }) (lines ++ line.Group group users ∷ [])
+pub group_added : (old : Lists) (new : List (List ℕ × List (List ℕ))) (lines : List PropLine) (group bytes : List ℕ) (users set : List (List ℕ)) → bytes ≡ group → ((g : List ℕ) → users_of g new ≡ option_or (users_of g old.groups) (given_if (bytes_eq g bytes) set)) → ((name : List ℕ) → is_among name set ≡ is_among name users) → AreListsOf old lines → AreListsOf (record old { groups = new }) (lines ++ line.Group group users ∷ [])
 group_added old new lines group bytes users set name_is is same s = record {
   services = λ o. stays members_meaning acl_meaning (service_list o) lines (line.Group group users) (list_of o old.services) (list_of o old.services) refl refl (s.services o);
   blacklists = λ o. stays members_meaning acl_meaning (blacklist o) lines (line.Group group users) (list_of o old.blacklists) (list_of o old.blacklists) refl refl (s.blacklists o);
@@ -112,7 +112,7 @@ group_added old new lines group bytes users set name_is is same s = record {
   groups = λ g. added named_in named_in (users_of_group g) lines (line.Group group users) (users_of g old.groups) (users_of g new) (given_if (bytes_eq g group) set) (is g ∙ ap (λ b. option_or (users_of g old.groups) (given_if (bytes_eq g b) set)) name_is) (s.groups g) (map_given named_in named_in (bytes_eq g group) set users (λ i name. same name i));
 }
 
-pub queue_size_kept : (old : Lists) (lines : List PropLine) (size : ℕ) → StandsFor old lines → StandsFor old (lines ++ line.QueueSize size ∷ [])
+pub queue_size_kept : (old : Lists) (lines : List PropLine) (size : ℕ) → AreListsOf old lines → AreListsOf old (lines ++ line.QueueSize size ∷ [])
 queue_size_kept old lines size s = record {
   services = λ o. stays members_meaning acl_meaning (service_list o) lines (line.QueueSize size) (list_of o old.services) (list_of o old.services) refl refl (s.services o);
   blacklists = λ o. stays members_meaning acl_meaning (blacklist o) lines (line.QueueSize size) (list_of o old.blacklists) (list_of o old.blacklists) refl refl (s.blacklists o);
@@ -124,7 +124,7 @@ queue_size_kept old lines size s = record {
   groups = λ g. stays named_in named_in (users_of_group g) lines (line.QueueSize size) (users_of g old.groups) (users_of g old.groups) refl refl (s.groups g);
 }
 
-pub watermark_kept : (old : Lists) (lines : List PropLine) (size : ℕ) → StandsFor old lines → StandsFor old (lines ++ line.QueueWatermark size ∷ [])
+pub watermark_kept : (old : Lists) (lines : List PropLine) (size : ℕ) → AreListsOf old lines → AreListsOf old (lines ++ line.QueueWatermark size ∷ [])
 watermark_kept old lines size s = record {
   services = λ o. stays members_meaning acl_meaning (service_list o) lines (line.QueueWatermark size) (list_of o old.services) (list_of o old.services) refl refl (s.services o);
   blacklists = λ o. stays members_meaning acl_meaning (blacklist o) lines (line.QueueWatermark size) (list_of o old.blacklists) (list_of o old.blacklists) refl refl (s.blacklists o);
@@ -136,7 +136,7 @@ watermark_kept old lines size s = record {
   groups = λ g. stays named_in named_in (users_of_group g) lines (line.QueueWatermark size) (users_of g old.groups) (users_of g old.groups) refl refl (s.groups g);
 }
 
-pub batch_size_kept : (old : Lists) (lines : List PropLine) (size : ℕ) → StandsFor old lines → StandsFor old (lines ++ line.BatchSize size ∷ [])
+pub batch_size_kept : (old : Lists) (lines : List PropLine) (size : ℕ) → AreListsOf old lines → AreListsOf old (lines ++ line.BatchSize size ∷ [])
 batch_size_kept old lines size s = record {
   services = λ o. stays members_meaning acl_meaning (service_list o) lines (line.BatchSize size) (list_of o old.services) (list_of o old.services) refl refl (s.services o);
   blacklists = λ o. stays members_meaning acl_meaning (blacklist o) lines (line.BatchSize size) (list_of o old.blacklists) (list_of o old.blacklists) refl refl (s.blacklists o);
@@ -148,7 +148,7 @@ batch_size_kept old lines size s = record {
   groups = λ g. stays named_in named_in (users_of_group g) lines (line.BatchSize size) (users_of g old.groups) (users_of g old.groups) refl refl (s.groups g);
 }
 
-pub cache_size_kept : (old : Lists) (lines : List PropLine) (size : ℕ) → StandsFor old lines → StandsFor old (lines ++ line.CacheSize size ∷ [])
+pub cache_size_kept : (old : Lists) (lines : List PropLine) (size : ℕ) → AreListsOf old lines → AreListsOf old (lines ++ line.CacheSize size ∷ [])
 cache_size_kept old lines size s = record {
   services = λ o. stays members_meaning acl_meaning (service_list o) lines (line.CacheSize size) (list_of o old.services) (list_of o old.services) refl refl (s.services o);
   blacklists = λ o. stays members_meaning acl_meaning (blacklist o) lines (line.CacheSize size) (list_of o old.blacklists) (list_of o old.blacklists) refl refl (s.blacklists o);

@@ -14,8 +14,8 @@ use Rattle.prop_text.specs.declared.acls.Acl.{Acl}
 use Rattle.prop_text.specs.declared.lines.PropLine.{PropLine}
 use Rattle.kms_acls.specs.declared.members.Members.{Members}
 use Rattle.kms_acls.specs.Lists.{Lists, Meaning, acl_meaning, holds, members_meaning, named_in, stands, users_of}
-use Rattle.kms_acls.specs.StandsFor.{StandsFor}
-use Rattle.kms_acls.specs.Verdict.{Standing, allowed, asked, first_denial, first_of, is_in, key_denial, names_user, service_denial, shown, standing, users_of_group, verdict}
+use Rattle.kms_acls.specs.Agreement.{AreListsOf}
+use Rattle.kms_acls.specs.Verdict.{Standing, allowed, asked, first_denial, first_of, is_in, key_denial, names_user, service_denial, parts_shown, standing, users_of_group, verdict}
 
 -- the user is in a list, given the groups that have the user
 abbrev is_meant : (List ℕ → Bool) → List ℕ → Meaning → Bool
@@ -33,17 +33,17 @@ map_twice : {X Y Z : Type 0} (f : X → Y) (h : Y → Z) (o : Option X) → opti
 map_twice f h None = refl
 map_twice f h (Some x) = refl
 
-same_groups : (lists : Lists) (lines : List PropLine) → StandsFor lists lines → (user : List ℕ) → ◌≡◌ {A = List ℕ → Bool} (λ g. names_user user (users_of g lists.groups)) (λ g. names_user user (first_of (users_of_group g) lines))
+same_groups : (lists : Lists) (lines : List PropLine) → AreListsOf lists lines → (user : List ℕ) → ◌≡◌ {A = List ℕ → Bool} (λ g. names_user user (users_of g lists.groups)) (λ g. names_user user (first_of (users_of_group g) lines))
 same_groups lists lines s user = λ i g.
     (has_user_is user (users_of g lists.groups) ∙ ap (has_user user) (s.groups g) ∙ sym (has_user_is user (first_of (users_of_group g) lines))) i
 
-same_in : (lists : Lists) (lines : List PropLine) → StandsFor lists lines → (user : List ℕ) (kept : Option Members) (given : Option Acl) → option_map members_meaning kept ≡ option_map acl_meaning given → option_map (holds lists.groups user) kept ≡ option_map (is_in lines user) given
+same_in : (lists : Lists) (lines : List PropLine) → AreListsOf lists lines → (user : List ℕ) (kept : Option Members) (given : Option Acl) → option_map members_meaning kept ≡ option_map acl_meaning given → option_map (holds lists.groups user) kept ≡ option_map (is_in lines user) given
 same_in lists lines s user kept given same =
     map_twice members_meaning (is_meant (λ g. names_user user (users_of g lists.groups)) user) kept
     ∙ (λ i. option_map (is_meant (same_groups lists lines s user i) user) (same i))
     ∙ sym (map_twice acl_meaning (is_meant (λ g. names_user user (first_of (users_of_group g) lines)) user) given)
 
-pub same_standing : (lists : Lists) (lines : List PropLine) → StandsFor lists lines → (user : List ℕ) → stands lists user ≡ standing lines user
+pub same_standing : (lists : Lists) (lines : List PropLine) → AreListsOf lists lines → (user : List ℕ) → stands lists user ≡ standing lines user
 same_standing lists lines s user = λ i. record {
   service = λ o. same_in lists lines s user _ _ (s.services o) i;
   blacklist = λ o. same_in lists lines s user _ _ (s.blacklists o) i;
@@ -79,14 +79,14 @@ all_taken xs i past = take_all i xs past
 -- the verdict on what a call needs, in two parts
 abbrev pub judged_parts : Standing → AclOp → Bool → AclOp → List (List ℕ) → Result Shown Denied
 judged_parts s service material on_keys keys =
-    allowed (shown s) (option_or (option_or (service_denial s service) (if material then service_denial s op.SetKeyMaterial else None)) (first_denial (map (key_denial s on_keys) keys)))
+    allowed (parts_shown s) (option_or (option_or (service_denial s service) (if material then service_denial s op.SetKeyMaterial else None)) (first_denial (map (key_denial s on_keys) keys)))
 
-pub same_verdict : (lists : Lists) (lines : List PropLine) → StandsFor lists lines → (user other : List ℕ) → other ≡ user → (call : KmsCall) (service : AclOp) (material : Bool) (on_keys : AclOp) (keys : List (List ℕ)) → service ≡ (asked call).service → material ≡ (asked call).material → on_keys ≡ (asked call).on_keys → keys ≡ (asked call).keys → verdict lines user call ≡ judged_parts (stands lists other) service material on_keys keys
+pub same_verdict : (lists : Lists) (lines : List PropLine) → AreListsOf lists lines → (user other : List ℕ) → other ≡ user → (call : KmsCall) (service : AclOp) (material : Bool) (on_keys : AclOp) (keys : List (List ℕ)) → service ≡ (asked call).service → material ≡ (asked call).material → on_keys ≡ (asked call).on_keys → keys ≡ (asked call).keys → verdict lines user call ≡ judged_parts (stands lists other) service material on_keys keys
 same_verdict lists lines s user other same call service material on_keys keys is_service is_material is_on_keys is_keys =
     let there : stands lists other ≡ standing lines user = ap (stands lists) same ∙ same_standing lists lines s user in
     let st = standing lines user in
     let a = asked call in
-    ap (allowed (shown st)) (or_assoc (service_denial st a.service) (if a.material then service_denial st op.SetKeyMaterial else None) (first_denial (map (key_denial st a.on_keys) a.keys)))
+    ap (allowed (parts_shown st)) (or_assoc (service_denial st a.service) (if a.material then service_denial st op.SetKeyMaterial else None) (first_denial (map (key_denial st a.on_keys) a.keys)))
     ∙ sym (λ i. judged_parts (there i) (is_service i) (is_material i) (is_on_keys i) (is_keys i))
 
 pub denied_first : (v : Result Shown Denied) (x : Shown) (a b : Option Denied) (d : Denied) → v ≡ allowed x (option_or a b) → a ≡ Some d → Err d ≡ v
@@ -99,6 +99,6 @@ turned : (a b : Bool) → a ≡ not b → b ≡ not a
 turned a true is = sym (ap not is)
 turned a false is = sym (ap not is)
 
-pub denied_by_none : (v : Result Shown Denied) (s : Standing) (a b : Option Denied) (material : Bool) → v ≡ allowed (shown s) (option_or a b) → a ≡ None → b ≡ None → is_some (service_denial s op.Get) ≡ not material → Ok record { material = material } ≡ v
+pub denied_by_none : (v : Result Shown Denied) (s : Standing) (a b : Option Denied) (material : Bool) → v ≡ allowed (parts_shown s) (option_or a b) → a ≡ None → b ≡ None → is_some (service_denial s op.Get) ≡ not material → Ok record { material = material } ≡ v
 denied_by_none v s a b material is first second get =
-    ap (λ m. Ok record { material = m }) (turned (is_some (service_denial s op.Get)) material get) ∙ sym (is ∙ (λ i. allowed (shown s) (option_or (first i) (second i))))
+    ap (λ m. Ok record { material = m }) (turned (is_some (service_denial s op.Get)) material get) ∙ sym (is ∙ (λ i. allowed (parts_shown s) (option_or (first i) (second i))))

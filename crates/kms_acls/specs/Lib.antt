@@ -1,3 +1,3 @@
 pub mod Verdict
 pub mod Lists
-pub mod StandsFor
+pub mod Agreement

@@ -177,12 +177,12 @@ allowed x None = Ok x
 allowed x (Some d) = Err d
 
 -- whether the user sees material: the operation GET of the service is allowed
-abbrev pub shown : Standing → Shown
-shown s = record { material = is_none (service_denial s op.Get) }
+abbrev pub parts_shown : Standing → Shown
+parts_shown s = record { material = is_none (service_denial s op.Get) }
 
 -- the first denial, or else whether material is shown
 abbrev pub judged : Standing → KmsCall → Result Shown Denied
-judged s c = allowed (shown s) (denial s (asked c))
+judged s c = allowed (parts_shown s) (denial s (asked c))
 
 abbrev pub verdict : List PropLine → Text → KmsCall → Result Shown Denied
 verdict lines user c = judged (standing lines user) c

@@ -5,7 +5,7 @@ ghost use Rattle.std.specs.Option.{option_copied, option_or, unwrap_or};
 ghost use Rattle.kms_calls.specs.declared.acl.AclTable.TheVariants.{KeyAcl};
 ghost use Rattle.kms_calls.specs.declared.acl.AclOp.TheVariants as op;
 ghost use Rattle.kms_acls.specs.Lists.{holds, list_of, stands, users_of};
-ghost use Rattle.kms_acls.specs.StandsFor.{StandsFor};
+ghost use Rattle.kms_acls.specs.Agreement.{AreListsOf};
 ghost use Rattle.kms_acls.specs.Verdict.{default_denial, denied as denied_by, first_denial, key_denial, names_user, service_denial, verdict};
 ghost use Rattle.prop_text.specs.declared.lines.PropLine.{PropLine};
 ghost use Rattle.prop_text.specs.declared.lines.PropLine.TheVariants as prop;
@@ -50,7 +50,7 @@ fn denied(table: AclTable, op: AclOp) -> Option<Denied>
 impl Acls {
     /// Creates empty lists. Does not allocate.
     fn new(alloc: Global) -> Acls
-        ensures { StandsFor result [] }
+        ensures { AreListsOf result [] }
     {
         Acls {
             services: AclsByOp::new(alloc),
@@ -64,7 +64,7 @@ impl Acls {
 
     /// Adds a list for an operation of the service.
     fn add_service(&mut self, alloc: Global, op: AclOp, acl: &Acl) -> Result<(), NoMemory>
-        ensures { OnOk result ((lines : List PropLine) → StandsFor self.old lines → StandsFor self.new (lines ++ prop.Service op acl.now ∷ [])) }
+        ensures { OnOk result ((lines : List PropLine) → AreListsOf self.old lines → AreListsOf self.new (lines ++ prop.Service op acl.now ∷ [])) }
     {
         let members = Members::of(alloc, acl)?;
         self.services.add(op, members)
@@ -72,7 +72,7 @@ impl Acls {
 
     /// Adds a blacklist for an operation of the service.
     fn add_blacklist(&mut self, alloc: Global, op: AclOp, acl: &Acl) -> Result<(), NoMemory>
-        ensures { OnOk result ((lines : List PropLine) → StandsFor self.old lines → StandsFor self.new (lines ++ prop.Blacklist op acl.now ∷ [])) }
+        ensures { OnOk result ((lines : List PropLine) → AreListsOf self.old lines → AreListsOf self.new (lines ++ prop.Blacklist op acl.now ∷ [])) }
     {
         let members = Members::of(alloc, acl)?;
         self.blacklists.add(op, members)
@@ -80,7 +80,7 @@ impl Acls {
 
     /// Adds the default list for an operation on keys.
     fn add_default(&mut self, alloc: Global, op: AclOp, acl: &Acl) -> Result<(), NoMemory>
-        ensures { OnOk result ((lines : List PropLine) → StandsFor self.old lines → StandsFor self.new (lines ++ prop.Default op acl.now ∷ [])) }
+        ensures { OnOk result ((lines : List PropLine) → AreListsOf self.old lines → AreListsOf self.new (lines ++ prop.Default op acl.now ∷ [])) }
     {
         let members = Members::of(alloc, acl)?;
         self.defaults.add(op, members)
@@ -88,7 +88,7 @@ impl Acls {
 
     /// Adds the whitelist for an operation on keys.
     fn add_whitelist(&mut self, alloc: Global, op: AclOp, acl: &Acl) -> Result<(), NoMemory>
-        ensures { OnOk result ((lines : List PropLine) → StandsFor self.old lines → StandsFor self.new (lines ++ prop.Whitelist op acl.now ∷ [])) }
+        ensures { OnOk result ((lines : List PropLine) → AreListsOf self.old lines → AreListsOf self.new (lines ++ prop.Whitelist op acl.now ∷ [])) }
     {
         let members = Members::of(alloc, acl)?;
         self.whitelists.add(op, members)
@@ -102,7 +102,7 @@ impl Acls {
         op: AclOp,
         acl: &Acl,
     ) -> Result<(), NoMemory>
-        ensures { OnOk result ((lines : List PropLine) → StandsFor self.old lines → StandsFor self.new (lines ++ prop.Key key.now op acl.now ∷ [])) }
+        ensures { OnOk result ((lines : List PropLine) → AreListsOf self.old lines → AreListsOf self.new (lines ++ prop.Key key.now op acl.now ∷ [])) }
     {
         let members = Members::of(alloc, acl)?;
         self.keys.add(key.as_bytes(), op, members)
@@ -110,7 +110,7 @@ impl Acls {
 
     /// Adds a list for all operations on a key.
     fn add_key_all(&mut self, alloc: Global, key: &KeyName, acl: &Acl) -> Result<(), NoMemory>
-        ensures { OnOk result ((lines : List PropLine) → StandsFor self.old lines → StandsFor self.new (lines ++ prop.KeyAll key.now acl.now ∷ [])) }
+        ensures { OnOk result ((lines : List PropLine) → AreListsOf self.old lines → AreListsOf self.new (lines ++ prop.KeyAll key.now acl.now ∷ [])) }
     {
         let members = Members::of(alloc, acl)?;
         self.keys.add_all(key.as_bytes(), members)
@@ -118,7 +118,7 @@ impl Acls {
 
     /// Adds a group.
     fn add_group(&mut self, alloc: Global, group: &Text, users: &TextList) -> Result<(), NoMemory>
-        ensures { OnOk result ((lines : List PropLine) → StandsFor self.old lines → StandsFor self.new (lines ++ prop.Group group.now users.now ∷ [])) }
+        ensures { OnOk result ((lines : List PropLine) → AreListsOf self.old lines → AreListsOf self.new (lines ++ prop.Group group.now users.now ∷ [])) }
     {
         let users = set_of(alloc, users)?;
         self.groups.add(group.as_str().as_bytes(), users)
@@ -126,7 +126,7 @@ impl Acls {
 
     /// Adds the content of a line.
     fn add(&mut self, alloc: Global, line: &PropLine) -> Result<(), NoMemory>
-        ensures { OnOk result ((lines : List PropLine) → StandsFor self.old lines → StandsFor self.new (lines ++ line.now ∷ [])) }
+        ensures { OnOk result ((lines : List PropLine) → AreListsOf self.old lines → AreListsOf self.new (lines ++ line.now ∷ [])) }
     {
         match line {
             PropLine::Service { op, acl } => self.add_service(alloc, *op, acl),
@@ -145,7 +145,7 @@ impl Acls {
 
     /// Builds the lists from properties.
     pub fn from_props(alloc: Global, props: &Props) -> Result<Acls, NoMemory>
-        ensures { IfOk result (λ acls. StandsFor acls props.now.lines) }
+        ensures { IfOk result (λ acls. AreListsOf acls props.now.lines) }
     {
         let mut acls = Acls::new(alloc);
         for line in props.lines.as_slice() {
@@ -283,7 +283,7 @@ impl Acls {
     /// Does not allocate. Takes time logarithmic in the number of lines for each list that is
     /// searched, and linear in the number of the list's groups.
     pub fn verdict(&self, user: &Text, call: &KmsCall) -> Result<Shown, Denied>
-        ensures { (lines : List PropLine) → StandsFor self.now lines → result ≡ verdict lines user.now call.now }
+        ensures { (lines : List PropLine) → AreListsOf self.now lines → result ≡ verdict lines user.now call.now }
     {
         let user = user.as_str().as_bytes();
         let asked = asked_by(call);

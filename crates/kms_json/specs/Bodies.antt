@@ -30,9 +30,9 @@ IsAtFault reading body (fault.BadValue m) = (d : Data) × (IsBody body d × (rea
 IsAtFault reading body fault.NoMemory = ⊤
 
 -- the meaning of the body by this reading of its value
-abbrev pub StandsFor : {A : Type 0} → (Data → Result A JsonFault) → List ℕ → Result A JsonFault → Type 0
-StandsFor reading body (Ok a) = (d : Data) × (IsBody body d × (reading d ≡ Ok a))
-StandsFor reading body (Err e) = IsAtFault reading body e
+abbrev pub IsReadingOf : {A : Type 0} → (Data → Result A JsonFault) → List ℕ → Result A JsonFault → Type 0
+IsReadingOf reading body (Ok a) = (d : Data) × (IsBody body d × (reading d ≡ Ok a))
+IsReadingOf reading body (Err e) = IsAtFault reading body e
 
 -- a reading that takes only objects
 abbrev pub in_object : {A : Type 0} → JsonFault → Data → Result A JsonFault → Result A JsonFault

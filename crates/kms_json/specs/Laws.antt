@@ -8,17 +8,17 @@ use Rattle.kms_json.specs.declared.eek.EekBody.{EekBody}
 use Rattle.kms_json.specs.declared.faults.JsonFault.{JsonFault}
 use Rattle.kms_json.specs.declared.faults.JsonFault.TheVariants as fault
 use Rattle.kms_json.specs.Base64.{IsBase64, base64_bytes}
-use Rattle.kms_json.specs.Bodies.{StandsFor}
+use Rattle.kms_json.specs.Bodies.{IsReadingOf}
 use Rattle.kms_json.specs.Versions.{version_named}
 
 -- a body has one answer, except for lack of memory
 abbrev pub OneCall : Type 0
 OneCall = (reading : Data → Result KmsCall JsonFault) (body : List ℕ) (a b : Result KmsCall JsonFault)
-    → StandsFor reading body a → StandsFor reading body b → ¬ (a ≡ Err fault.NoMemory) → ¬ (b ≡ Err fault.NoMemory) → a ≡ b
+    → IsReadingOf reading body a → IsReadingOf reading body b → ¬ (a ≡ Err fault.NoMemory) → ¬ (b ≡ Err fault.NoMemory) → a ≡ b
 
 abbrev pub OneEek : Type 0
 OneEek = (reading : Data → Result EekBody JsonFault) (body : List ℕ) (a b : Result EekBody JsonFault)
-    → StandsFor reading body a → StandsFor reading body b → ¬ (a ≡ Err fault.NoMemory) → ¬ (b ≡ Err fault.NoMemory) → a ≡ b
+    → IsReadingOf reading body a → IsReadingOf reading body b → ¬ (a ≡ Err fault.NoMemory) → ¬ (b ≡ Err fault.NoMemory) → a ≡ b
 
 -- a text is the base64 of the bytes that it gives
 abbrev pub BytesAreSpelled : Type 0

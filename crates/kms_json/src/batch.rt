@@ -16,7 +16,7 @@ use std::alloc::Global;
 /// the text `EEK`, and `material`. The elements are checked in order, and in each the members in
 /// this order.
 pub fn read_batch(alloc: Global, name: KeyName, body: &[u8]) -> Result<KmsCall, JsonFault>
-    ensures { spec.StandsFor (spec.batch_of name) body.now result }
+    ensures { spec.IsReadingOf (spec.batch_of name) body.now result }
 {
     let value = parse(alloc, body)?;
     batch_of(alloc, name, &value)

@@ -14,7 +14,7 @@ use std::alloc::Global;
 /// `cipher`, `length` in bits, `material` and `description`, checked in this order. The default
 /// length is 128 bits.
 pub fn read_create(alloc: Global, body: &[u8]) -> Result<KmsCall, JsonFault>
-    ensures { spec.StandsFor spec.create_of body.now result }
+    ensures { spec.IsReadingOf spec.create_of body.now result }
 {
     let value = parse(alloc, body)?;
     create_of(alloc, &value)

@@ -15,7 +15,7 @@ use std::alloc::Global;
 /// with `name`, `iv` and `material`, checked in this order. The key version comes from the path of
 /// the request. The body does not depend on it.
 pub fn read_eek(alloc: Global, _version: VersionName, body: &[u8]) -> Result<EekBody, JsonFault>
-    ensures { spec.StandsFor spec.eek_of body.now result }
+    ensures { spec.IsReadingOf spec.eek_of body.now result }
 {
     let value = parse(alloc, body)?;
     eek_of(alloc, &value)

@@ -14,7 +14,7 @@ use std::alloc::Global;
 /// Reads the body of a call that gives a key its next version: an object with an optional
 /// `material`. An empty body counts as `{}`.
 pub fn read_roll(alloc: Global, name: KeyName, body: &[u8]) -> Result<KmsCall, JsonFault>
-    ensures { spec.StandsFor (spec.roll_of name) (spec.or_no_members body.now) result }
+    ensures { spec.IsReadingOf (spec.roll_of name) (spec.or_no_members body.now) result }
 {
     let body = or_no_members(body);
     let value = parse(alloc, body)?;

@@ -11,7 +11,7 @@ use Rattle.kms_calls.specs.declared.calls.KmsCall.TheVariants as call
 use Rattle.kms_json.specs.declared.eek.EekBody.{EekBody}
 use Rattle.kms_json.specs.declared.faults.JsonFault.{JsonFault}
 use Rattle.kms_json.specs.declared.faults.JsonFault.TheVariants as json
-use Rattle.kms_json.specs.Bodies.{StandsFor, batch_of, create_of, eek_of, or_no_members, roll_of}
+use Rattle.kms_json.specs.Bodies.{IsReadingOf, batch_of, create_of, eek_of, or_no_members, roll_of}
 use Rattle.kms_json.specs.Laws.{NamedByText, OneCall, OneEek}
 use Rattle.kms_json.specs.Versions.{version_named}
 use Rattle.path_routes.specs.declared.query.Parameter.{Parameter}
@@ -135,7 +135,7 @@ pub record Laws : Type 0 where
   pub eek : OneEek
   pub named : NamedByText
 
-one_body : Laws → (reading : Data → Result KmsCall JsonFault) (body : List ℕ) (a b : KmsCall) → StandsFor reading body (Ok a) → StandsFor reading body (Ok b) → a ≡ b
+one_body : Laws → (reading : Data → Result KmsCall JsonFault) (body : List ℕ) (a b : KmsCall) → IsReadingOf reading body (Ok a) → IsReadingOf reading body (Ok b) → a ≡ b
 one_body laws reading body a b x y = unok (done a) a b refl (laws.body reading body (Ok a) (Ok b) x y (λ q. cc) (λ q. cc))
 
 no_two : (r : Result KmsCall JsonFault) (a : KmsCall) (e : JsonFault) → r ≡ Ok a → r ≡ Err e → ⊥
@@ -150,10 +150,10 @@ unerr r e f x y = cc
 unerr_eek : (r : Result EekBody JsonFault) (e f : JsonFault) → r ≡ Err e → r ≡ Err f → e ≡ f
 unerr_eek r e f x y = cc
 
-faultless : Laws → (reading : Data → Result KmsCall JsonFault) (body : List ℕ) (a : KmsCall) → StandsFor reading body (Ok a) → ¬ IsFaultyBody reading body
+faultless : Laws → (reading : Data → Result KmsCall JsonFault) (body : List ℕ) (a : KmsCall) → IsReadingOf reading body (Ok a) → ¬ IsFaultyBody reading body
 faultless laws reading body a x f = no_two (done a) a f.0 refl (laws.body reading body (Ok a) (Err f.0) x f.1.1 (λ q. cc) (λ q. f.1.0 (unerr (failed f.0) f.0 json.NoMemory refl q)))
 
-faultless_eek : Laws → (body : List ℕ) (a : EekBody) → StandsFor eek_of body (Ok a) → ¬ IsFaultyBody eek_of body
+faultless_eek : Laws → (body : List ℕ) (a : EekBody) → IsReadingOf eek_of body (Ok a) → ¬ IsFaultyBody eek_of body
 faultless_eek laws body a x f = no_two_eek (done a) a f.0 refl (laws.eek eek_of body (Ok a) (Err f.0) x f.1.1 (λ q. cc) (λ q. f.1.0 (unerr_eek (failed f.0) f.0 json.NoMemory refl q)))
 
 same_call : Laws → (operation : Operation) (name : List ℕ) (ps : List Parameter) (body : List ℕ) (a b : KmsCall) → AsksBy operation name ps body a → AsksBy operation name ps body b → a ≡ b

@@ -11,7 +11,7 @@ use Rattle.kms_calls.specs.declared.calls.RawEdek.{RawEdek}
 use Rattle.kms_json.specs.declared.eek.EekBody.{EekBody}
 use Rattle.kms_json.specs.declared.faults.JsonFault.{JsonFault}
 use Rattle.kms_json.specs.declared.faults.JsonFault.TheVariants as json
-use Rattle.kms_json.specs.Bodies.{StandsFor, batch_of, create_of, eek_of, or_no_members, roll_of}
+use Rattle.kms_json.specs.Bodies.{IsReadingOf, batch_of, create_of, eek_of, or_no_members, roll_of}
 use Rattle.path_routes.specs.declared.query.Parameter.{Parameter}
 use Rattle.path_routes.specs.Queries.{values}
 use Rattle.kms_rest.specs.declared.calls.EekOperation.{EekOperation}
@@ -23,7 +23,7 @@ use Rattle.kms_rest.specs.declared.operation.Operation.TheVariants as op
 
 -- the body has a fault other than lack of memory
 abbrev pub IsFaultyBody : {A : Type 0} → (Data → Result A JsonFault) → List ℕ → Type 0
-IsFaultyBody reading body = (why : JsonFault) × ((why ≢ json.NoMemory) × StandsFor reading body (Err why))
+IsFaultyBody reading body = (why : JsonFault) × ((why ≢ json.NoMemory) × IsReadingOf reading body (Err why))
 
 -- the text is the text of the version
 abbrev pub NamesVersion : List ℕ → Version → Type 0
@@ -75,7 +75,7 @@ pub record AsksOfEek (part : List ℕ) (ps : List Parameter) (body : List ℕ) (
   pub version : Version
   pub eek : EekBody
   pub named : NamesVersion part version
-  pub stands : StandsFor eek_of body (Ok eek)
+  pub stands : IsReadingOf eek_of body (Ok eek)
   pub asks : AsksEek (operation_values ps) version eek asked
 
 -- The part names a key, and the query says how many keys to generate.
@@ -92,15 +92,15 @@ AsksOfKey part asked is = IsKeyName part × (asked ≡ is)
 
 -- the call of an operation
 abbrev pub AsksBy : Operation → List ℕ → List Parameter → List ℕ → KmsCall → Type 0
-AsksBy op.Create part ps body asked = StandsFor create_of body (Ok asked)
-AsksBy op.Roll part ps body asked = IsKeyName part × StandsFor (roll_of part) (or_no_members body) (Ok asked)
+AsksBy op.Create part ps body asked = IsReadingOf create_of body (Ok asked)
+AsksBy op.Roll part ps body asked = IsKeyName part × IsReadingOf (roll_of part) (or_no_members body) (Ok asked)
 AsksBy op.Delete part ps body asked = AsksOfKey part asked (call.Delete part)
 AsksBy op.Invalidate part ps body asked = AsksOfKey part asked (call.Invalidate part)
 AsksBy op.Metadata part ps body asked = AsksOfKey part asked (call.Metadata part)
 AsksBy op.Current part ps body asked = AsksOfKey part asked (call.Current part)
 AsksBy op.Versions part ps body asked = AsksOfKey part asked (call.Versions part)
 AsksBy op.Generate part ps body asked = AsksToGenerate part ps asked
-AsksBy op.Batch part ps body asked = IsKeyName part × StandsFor (batch_of part) body (Ok asked)
+AsksBy op.Batch part ps body asked = IsKeyName part × IsReadingOf (batch_of part) body (Ok asked)
 AsksBy op.Version part ps body asked = (version : Version) × (NamesVersion part version × (asked ≡ call.Version version))
 AsksBy op.Eek part ps body asked = AsksOfEek part ps body asked
 AsksBy op.Names part ps body asked = asked ≡ call.Names

@@ -3,7 +3,7 @@ use Rattle.std.proofs.Common.{◌≡◌, ℕ, List, [], ◌∷◌, ◌++◌, ref
 use denote.Ref.{Bor}
 use Rattle.std.specs.List.{slice_split, All}
 use Rattle.std.proofs.lemmas.List.Elements.{All-head, All-tail, All-same}
-use Rattle.prop_text.specs.Acls.{IsName, SpellsParts, is_comma, is_space, listed}
+use Rattle.prop_text.specs.Acls.{IsName, SpellsParts, is_comma, is_space, comma_parts}
 use Rattle.prop_text.proofs.CutLemmas.{never_empty}
 
 here : (names : List (List ℕ)) (part : List ℕ) (more : List (List ℕ)) → All IsName (names ++ part ∷ more) → IsName part
@@ -20,7 +20,7 @@ first_part bytes part None cut = ([], cut)
 first_part bytes part (Some r) cut = (slice_split is_comma r.now, cut)
 
 -- bytes that are not empty are split into their parts
-pub listed_parts : (bytes : List ℕ) → (length bytes == 0) ≡ false → listed bytes ≡ slice_split is_comma bytes
+pub listed_parts : (bytes : List ℕ) → (length bytes == 0) ≡ false → comma_parts bytes ≡ slice_split is_comma bytes
 listed_parts [] some = absurd cc
 listed_parts (b ∷ bs) some = refl
 

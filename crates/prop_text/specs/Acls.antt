@@ -22,13 +22,13 @@ pub record IsName (bytes : List ℕ) : Type 0 where
   pub text : IsUtf8 bytes
 
 -- the parts between commas; empty bytes have no parts
-abbrev pub listed : List ℕ → List (List ℕ)
-listed [] = []
-listed (b ∷ bs) = slice_split is_comma (b ∷ bs)
+abbrev pub comma_parts : List ℕ → List (List ℕ)
+comma_parts [] = []
+comma_parts (b ∷ bs) = slice_split is_comma (b ∷ bs)
 
 -- the bytes list these names
 pub record SpellsNames (bytes : List ℕ) (names : List (List ℕ)) : Type 0 where
-  pub parts : listed bytes ≡ names
+  pub parts : comma_parts bytes ≡ names
   pub each : All IsName names
 
 -- one part lists users, and two list users and groups

@@ -1,9 +1,9 @@
 use Rattle.std.proofs.Common.{subst, sym}
-use Rattle.kms_acls.specs.StandsFor.{StandsFor}
+use Rattle.kms_acls.specs.Agreement.{AreListsOf}
 use Rattle.kms_acls.proofs.AddLemmas.{whitelist_added}
 use Rattle.kms_acls.proofs.FirstLemmas.{on_ok}
 use Rattle.kms_acls.proofs.acls.Acls.add_whitelist.Goals as goal
 
 pub returns : goal.returns
 returns c = on_ok c.add.result c.add.ensures (λ is lines s.
-    whitelist_added _ c.add.new.self lines c.args.op _ c.in_ok-members.members is c.in_ok-members.ensures (subst (λ lists. StandsFor lists lines) (sym c.self.view_is) s))
+    whitelist_added _ c.add.new.self lines c.args.op _ c.in_ok-members.members is c.in_ok-members.ensures (subst (λ lists. AreListsOf lists lines) (sym c.self.view_is) s))

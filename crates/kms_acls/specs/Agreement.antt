@@ -9,7 +9,7 @@ use Rattle.kms_acls.specs.Lists.{Lists, acl_meaning, all_of_key, list_of, list_o
 use Rattle.kms_acls.specs.Verdict.{blacklist, default_list, first_of, is_of_key, key_all_list, key_list, service_list, users_of_group, whitelist}
 
 -- each stored list means what the first line of its name says, and no line's list is missing
-pub record StandsFor (lists : Lists) (lines : List PropLine) : Type 0 where
+pub record AreListsOf (lists : Lists) (lines : List PropLine) : Type 0 where
   pub services : (o : AclOp) → option_map members_meaning (list_of o lists.services) ≡ option_map acl_meaning (first_of (service_list o) lines)
   pub blacklists : (o : AclOp) → option_map members_meaning (list_of o lists.blacklists) ≡ option_map acl_meaning (first_of (blacklist o) lines)
   pub defaults : (o : AclOp) → option_map members_meaning (list_of o lists.defaults) ≡ option_map acl_meaning (first_of (default_list o) lines)
