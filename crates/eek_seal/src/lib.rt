@@ -7,10 +7,12 @@ ghost use Rattle.std.specs.Prelude.{◌≡◌, ℕ, List, length};
 ghost use Rattle.aes_ctr.specs.Ctr.{ctr};
 ghost use Rattle.eek_seal.specs.Seal.{flipped, seal, unseal};
 
+mod deposit;
 mod tickets;
 
 use aes_core::AnyAes;
 use aes_ctr::ctr_xor;
+pub use deposit::Deposit;
 use hk_base::{Dek, Iv};
 pub use tickets::{Sealed, Ticket};
 

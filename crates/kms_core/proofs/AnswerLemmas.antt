@@ -19,7 +19,7 @@ use Rattle.kms_calls.specs.declared.calls.RawEdek.{RawEdek}
 use Rattle.kms_calls.specs.Shown.{Shown}
 use Rattle.key_rows.specs.Table.{material_of}
 use Rattle.kms_core.specs.State.{KmsState}
-use Rattle.kms_core.specs.Calls.{all_versions, batch_causes, causes, current_material, current_version, first_cause, is_absent, meta_of, metas_of, opened, resealed, row_of, sent_causes, takes_memory, version_causes, versions_from}
+use Rattle.kms_core.specs.Calls.{all_versions, batch_causes, causes, current_material, current_version, first_cause, is_absent, meta_of, metas_of, unsealed_dek, resealed, row_of, sent_causes, takes_memory, version_causes, versions_from}
 use Rattle.kms_core.specs.Steps.{Answers, OpensIn, RefusesBatch, Reseals, ResealsAll, resealed_in}
 use Rattle.kms_core.proofs.KeyLemmas.{named}
 use Rattle.kms_core.proofs.SentLemmas.{each_allowed, each_none, map_more, opened_is, resealed_is, same_cause, same_causes}
@@ -27,10 +27,10 @@ use Rattle.kms_core.proofs.SentLemmas.{each_allowed, each_none, map_more, opened
 -- the three outcomes of such a call
 
 abbrev Ends : KmsCall → KmsReply → KmsReply → Option KmsRefusal → Type 0
-Ends c answer told cause = MatchOption cause ((told ≡ answer) ⊎ ((takes_memory c ≡ true) × (told ≡ reply.Refused refusal.NoMemory))) (λ why. told ≡ reply.Refused why)
+Ends c answer result cause = MatchOption cause ((result ≡ answer) ⊎ ((takes_memory c ≡ true) × (result ≡ reply.Refused refusal.NoMemory))) (λ why. result ≡ reply.Refused why)
 
-pub answered : (s : KmsState) (c : KmsCall) (answer told : KmsReply) → first_cause (causes s c) ≡ None → told ≡ answer → Answers s c answer told
-answered s c answer told none is = subst (Ends c answer told) (sym none) (inl is)
+pub answered : (s : KmsState) (c : KmsCall) (answer result : KmsReply) → first_cause (causes s c) ≡ None → result ≡ answer → Answers s c answer result
+answered s c answer result none is = subst (Ends c answer result) (sym none) (inl is)
 
 pub not_answered : (s : KmsState) (c : KmsCall) (answer : KmsReply) (why : KmsRefusal) → first_cause (causes s c) ≡ Some why → Answers s c answer (reply.Refused why)
 not_answered s c answer why stands = subst (Ends c answer (reply.Refused why)) (sym stands) refl
@@ -148,13 +148,13 @@ tells_current s name version material stands version_is has =
 -- the keys sent
 
 pub decrypts : (s : KmsState) (name : List ℕ) (sent : RawEdek) (row : KeyRow) (key : List ℕ) → row_of s name ≡ Some row → OpensIn row sent key
-    → Answers s (call.Decrypt name sent) (reply.Key (opened s sent)) (reply.Key key)
+    → Answers s (call.Decrypt name sent) (reply.Key (unsealed_dek s sent)) (reply.Key key)
 decrypts s name sent row key found is =
     answered s (call.Decrypt name sent) _ _ (sym (same_cause s name row sent found) ∙ is.allowed)
     (ap reply.Key (is.is ∙ ap (λ o. unwrap_or o []) (sym (opened_is s name row sent found is.allowed))))
 
 pub decrypts_not : (s : KmsState) (name : List ℕ) (sent : RawEdek) (row : KeyRow) (why : KmsRefusal) → row_of s name ≡ Some row → first_cause (sent_causes (Some row) row.name sent) ≡ Some why
-    → Answers s (call.Decrypt name sent) (reply.Key (opened s sent)) (reply.Refused why)
+    → Answers s (call.Decrypt name sent) (reply.Key (unsealed_dek s sent)) (reply.Refused why)
 decrypts_not s name sent row why found stands = not_answered s (call.Decrypt name sent) _ why (sym (same_cause s name row sent found) ∙ stands)
 
 pub reencrypts : (s : KmsState) (name : List ℕ) (sent : RawEdek) (row : KeyRow) (key : Edek) → row_of s name ≡ Some row → Reseals row sent key

@@ -18,7 +18,7 @@ use Rattle.key_rows.proofs.Births.{both, other_number}
 use Rattle.key_rows.proofs.TableLemmas.{sound_create, sound_roll, sound_delete}
 use Rattle.kms_store.specs.Store.{settled_commands, settled_table}
 use Rattle.kms_core.specs.State.{IsPending, IsService, KmsState, ServiceState, next_birth, settled, took}
-use Rattle.kms_core.specs.Service.{Changes, Committing, Kind, OnlyWorks, Reading, Serves, ServesBy, Working, kind}
+use Rattle.kms_core.specs.Service.{Changes, Committing, Kind, OnlyWorks, Reading, KmsServes, ServesBy, Working, kind}
 use Rattle.kms_core.specs.Calls.{KmsActs, Plain, NoRoom, Ending, birth_of, causes, deed, deleted, done_with, first_cause, outcome, row_of, unless_refused, versions_of}
 use Rattle.kms_core.specs.Laws.{Gone, GoneStaysAtStart, IsUsedUp, OnlyQueues, UsedUpAtStart}
 
@@ -74,7 +74,7 @@ made_gone : (t : Table) (row : KeyRow) (birth : ℕ) → t.greatest < row.birth 
 made_gone t row birth new gone = none_more (is_born birth) t.rows row gone.absent (other_number row.birth birth (λ same. absurd (omega (arith, same, new, gone.used))))
 
 -- a command that, if it creates a key, gives it a new birth
-abbrev IsNew : Table → KeyCommand → Type 0
+abbrev pub IsNew : Table → KeyCommand → Type 0
 IsNew t (Opened opening) = ⊤
 IsNew t (Create birth name bits description created material) = t.greatest < birth
 IsNew t (Roll birth number material) = ⊤
@@ -87,7 +87,7 @@ gone_after t (Roll rolled number material) birth new gone = record { used = gone
 gone_after t (Delete gone_too) birth new gone = record { used = gone.used; absent = none_filter (is_born birth) (λ row. not (is_born gone_too row)) t.rows gone.absent }
 
 -- a command that applies and creates a key gives it a new birth
-new_birth : (t : Table) (command : KeyCommand) → applies t command ≡ true → IsNew t command
+pub new_birth : (t : Table) (command : KeyCommand) → applies t command ≡ true → IsNew t command
 new_birth t (Opened opening) may = tt
 new_birth t (Create birth name bits description created material) may =
     let a = both (nat_lt 0 t.opening && is_none (find_name t.rows name) && opening_of birth == t.opening && nat_lt t.greatest birth && nat_lt (length t.rows) 10000 && is_length bits) (length material == bits / 8) may in
@@ -121,15 +121,15 @@ below_settled kept s is = go kept s.pending is.waits
 
 -- the keys after a call
 
-after_call : (P : KmsState → Type 0) (s : KmsState) (words : ℕ → ℕ) (now : ℕ) (c : KmsCall) (told : KmsReply) (drawn : ℕ) (s' : KmsState)
-    → KmsActs s words now c told drawn s' → P s → P (done_with (deed s words now c).logs (deed s words now c).state) → P s'
-after_call P s words now c told drawn s' (e, may, is) here there = by_end e is
+after_call : (P : KmsState → Type 0) (s : KmsState) (words : ℕ → ℕ) (now : ℕ) (c : KmsCall) (answer : KmsReply) (drawn : ℕ) (s' : KmsState)
+    → KmsActs s words now c answer drawn s' → P s → P (done_with (deed s words now c).logs (deed s words now c).state) → P s'
+after_call P s words now c answer drawn s' (e, may, is) here there = by_end e is
   where
-    by_cause : (cause : Option KmsRefusal) → (record { told = told; drawn = drawn; state = s' }) ≡ unless_refused cause s (deed s words now c) → P s'
+    by_cause : (cause : Option KmsRefusal) → (record { reply = answer; drawn = drawn; state = s' }) ≡ unless_refused cause s (deed s words now c) → P s'
     by_cause (Some why) is = subst P (sym (ap (λ o. o.state) is)) here
     by_cause None is = subst P (sym (ap (λ o. o.state) is)) there
 
-    by_end : (e : Ending) → (record { told = told; drawn = drawn; state = s' }) ≡ outcome s words now c e → P s'
+    by_end : (e : Ending) → (record { reply = answer; drawn = drawn; state = s' }) ≡ outcome s words now c e → P s'
     by_end Plain is = by_cause (first_cause (causes s c)) is
     by_end (NoRoom some) is = subst P (sym (ap (λ o. o.state) is)) here
 
@@ -190,26 +190,26 @@ deed_works s words now (call.Decrypt name sent) works = absurd cc
 deed_works s words now (call.Reencrypt name sent) works = absurd cc
 deed_works s words now (call.Batch name sent) works = absurd cc
 
-pub works_only : (s : ServiceState) (words : ℕ → ℕ) (now : ℕ) (c : KmsCall) (told : KmsReply) (drawn : ℕ) (logged : List KeyCommand) (s' : ServiceState)
-    → kind c ≡ Working → OnlyWorks s words now c told drawn logged s' → OnlyQueues s s'
-works_only s words now c told drawn logged s' works w =
-    let same : SameKeys s.keys w.changed = after_call (SameKeys s.keys) s.keys words now c told drawn w.changed w.acts refl (deed_works s.keys words now c works) in
+pub works_only : (s : ServiceState) (words : ℕ → ℕ) (now : ℕ) (c : KmsCall) (answer : KmsReply) (drawn : ℕ) (logged : List KeyCommand) (s' : ServiceState)
+    → kind c ≡ Working → OnlyWorks s words now c answer drawn logged s' → OnlyQueues s s'
+works_only s words now c answer drawn logged s' works w =
+    let same : SameKeys s.keys w.changed = after_call (SameKeys s.keys) s.keys words now c answer drawn w.changed w.acts refl (deed_works s.keys words now c works) in
     subst (λ (t : ServiceState). OnlyQueues s t) (sym w.left) (λ i. record s { keys = same i })
 
-pub gone_stays : (s : ServiceState) (words : ℕ → ℕ) (now : ℕ) (c : KmsCall) (before later : ℕ) (told : KmsReply) (drawn : ℕ) (logged : List KeyCommand) (s' : ServiceState)
-    → IsService s → Serves s words now c (Rose before later) told drawn logged s' → (birth : ℕ) → Gone s.keys.table birth → Gone s'.keys.table birth
-gone_stays s words now c before later told drawn logged s' is serves birth gone = go (kind c) refl serves
+pub gone_stays : (s : ServiceState) (words : ℕ → ℕ) (now : ℕ) (c : KmsCall) (before later : ℕ) (answer : KmsReply) (drawn : ℕ) (logged : List KeyCommand) (s' : ServiceState)
+    → IsService s → KmsServes s words now c (Rose before later) answer drawn logged s' → (birth : ℕ) → Gone s.keys.table birth → Gone s'.keys.table birth
+gone_stays s words now c before later answer drawn logged s' is serves birth gone = go (kind c) refl serves
   where
     base_gone : (kept : Bool) → Gone (settled kept s).table birth
     base_gone kept = gone_settled kept s.pending s.keys birth is.waits gone
 
-    go : (k : Kind) → kind c ≡ k → ServesBy k s words now c (Rose before later) told drawn logged s' → Gone s'.keys.table birth
+    go : (k : Kind) → kind c ≡ k → ServesBy k s words now c (Rose before later) answer drawn logged s' → Gone s'.keys.table birth
     go Reading is r = subst (λ (t : ServiceState). Gone t.keys.table birth) (sym r.same) gone
-    go Working is r = subst (λ (t : ServiceState). Gone t.keys.table birth) (sym (works_only s words now c told drawn logged s' is r)) gone
+    go Working is r = subst (λ (t : ServiceState). Gone t.keys.table birth) (sym (works_only s words now c answer drawn logged s' is r)) gone
     go Committing is (inl u) = subst (λ (t : ServiceState). Gone t.keys.table birth) (sym u.same) gone
     go Committing commits (inr (kept, inl w)) =
         subst (λ (t : ServiceState). Gone t.keys.table birth) (sym w.left)
-        (after_call (λ (t : KmsState). Gone t.table birth) (settled kept s) words now c told drawn w.changed w.acts (base_gone kept)
+        (after_call (λ (t : KmsState). Gone t.table birth) (settled kept s) words now c answer drawn w.changed w.acts (base_gone kept)
         (deed_gone (settled kept s) words now c birth (below_settled kept s is) (base_gone kept)))
     go Committing commits (inr (kept, inr u)) =
         subst (λ (t : ServiceState). Gone t.keys.table birth) (sym u.left) (subst (λ (t : Table). Gone t birth) (sym (deed_keeps (settled kept s) words now c)) (base_gone kept))
@@ -302,15 +302,15 @@ next_settled kept s is = go kept s.pending is.waits
     go false (Some command) waits = refl
 
 -- a birth below the next one that no key has after a change while nothing was pending
-changes_use_up : (s : KmsState) (logged_before : List KeyCommand) (words : ℕ → ℕ) (now : ℕ) (c : KmsCall) (fault : Type 0) (told : KmsReply) (drawn : ℕ) (logged : List KeyCommand) (s' : ServiceState) (birth : ℕ)
-    → birth < next_birth s → Changes s logged_before words now c fault told drawn logged s' → is_none (find_birth s'.keys.table.rows birth) ≡ true → IsUsedUp s' birth
-changes_use_up s logged_before words now c fault told drawn logged s' birth below (inl w) none =
+changes_use_up : (s : KmsState) (logged_before : List KeyCommand) (words : ℕ → ℕ) (now : ℕ) (c : KmsCall) (fault : Type 0) (answer : KmsReply) (drawn : ℕ) (logged : List KeyCommand) (s' : ServiceState) (birth : ℕ)
+    → birth < next_birth s → Changes s logged_before words now c fault answer drawn logged s' → is_none (find_birth s'.keys.table.rows birth) ≡ true → IsUsedUp s' birth
+changes_use_up s logged_before words now c fault answer drawn logged s' birth below (inl w) none =
     subst (λ (t : ServiceState). IsUsedUp t birth) (sym w.left)
     (record { below = omega (arith, below, rises); absent = λ kept. subst (λ (t : ServiceState). is_none (find_birth t.keys.table.rows birth) ≡ true) w.left none })
   where
     rises : next_birth s ≤ next_birth w.changed
-    rises = after_call (λ (t : KmsState). next_birth s ≤ next_birth t) s words now c told drawn w.changed w.acts (omega arith) (done_next s words now c)
-changes_use_up s logged_before words now c fault told drawn logged s' birth below (inr u) none =
+    rises = after_call (λ (t : KmsState). next_birth s ≤ next_birth t) s words now c answer drawn w.changed w.acts (omega arith) (done_next s words now c)
+changes_use_up s logged_before words now c fault answer drawn logged s' birth below (inr u) none =
     subst (λ (t : ServiceState). IsUsedUp t birth) (sym u.left)
     (record {
       below = omega (arith, below, deed_next s words now c);
@@ -319,42 +319,42 @@ changes_use_up s logged_before words now c fault told drawn logged s' birth belo
     })
 
 -- a change of keys gives no key such a birth
-changes_give : (s : KmsState) (logged_before : List KeyCommand) (words : ℕ → ℕ) (now : ℕ) (c : KmsCall) (fault : Type 0) (told : KmsReply) (drawn : ℕ) (logged : List KeyCommand) (s' : ServiceState) (birth : ℕ)
-    → birth < next_birth s → Changes s logged_before words now c fault told drawn logged s' → is_none (find_birth s.table.rows birth) ≡ true → is_none (find_birth s'.keys.table.rows birth) ≡ true
-changes_give s logged_before words now c fault told drawn logged s' birth below (inl w) none =
+changes_give : (s : KmsState) (logged_before : List KeyCommand) (words : ℕ → ℕ) (now : ℕ) (c : KmsCall) (fault : Type 0) (answer : KmsReply) (drawn : ℕ) (logged : List KeyCommand) (s' : ServiceState) (birth : ℕ)
+    → birth < next_birth s → Changes s logged_before words now c fault answer drawn logged s' → is_none (find_birth s.table.rows birth) ≡ true → is_none (find_birth s'.keys.table.rows birth) ≡ true
+changes_give s logged_before words now c fault answer drawn logged s' birth below (inl w) none =
     subst (λ (t : ServiceState). is_none (find_birth t.keys.table.rows birth) ≡ true) (sym w.left)
-    (after_call (λ (t : KmsState). is_none (find_birth t.table.rows birth) ≡ true) s words now c told drawn w.changed w.acts none
+    (after_call (λ (t : KmsState). is_none (find_birth t.table.rows birth) ≡ true) s words now c answer drawn w.changed w.acts none
     (absent_done (deed s words now c).logs (deed s words now c).state birth (deed_gives s words now c birth below)
     (subst (λ (t : Table). is_none (find_birth t.rows birth) ≡ true) (sym (deed_keeps s words now c)) none)))
-changes_give s logged_before words now c fault told drawn logged s' birth below (inr u) none =
+changes_give s logged_before words now c fault answer drawn logged s' birth below (inr u) none =
     subst (λ (t : ServiceState). is_none (find_birth t.keys.table.rows birth) ≡ true) (sym u.left)
     (subst (λ (t : Table). is_none (find_birth t.rows birth) ≡ true) (sym (deed_keeps s words now c)) none)
 
-pub used_up_stays : (s : ServiceState) (words : ℕ → ℕ) (now : ℕ) (c : KmsCall) (before later : ℕ) (told : KmsReply) (drawn : ℕ) (logged : List KeyCommand) (s' : ServiceState)
-    → IsService s → Serves s words now c (Rose before later) told drawn logged s' → (birth : ℕ) → IsUsedUp s birth → IsUsedUp s' birth
-used_up_stays s words now c before later told drawn logged s' is serves birth used = go (kind c) refl serves
+pub used_up_stays : (s : ServiceState) (words : ℕ → ℕ) (now : ℕ) (c : KmsCall) (before later : ℕ) (answer : KmsReply) (drawn : ℕ) (logged : List KeyCommand) (s' : ServiceState)
+    → IsService s → KmsServes s words now c (Rose before later) answer drawn logged s' → (birth : ℕ) → IsUsedUp s birth → IsUsedUp s' birth
+used_up_stays s words now c before later answer drawn logged s' is serves birth used = go (kind c) refl serves
   where
     below : (kept : Bool) → birth < next_birth (settled kept s)
     below kept = subst (λ (n : ℕ). birth < n) (sym (next_settled kept s is)) used.below
 
-    go : (k : Kind) → kind c ≡ k → ServesBy k s words now c (Rose before later) told drawn logged s' → IsUsedUp s' birth
+    go : (k : Kind) → kind c ≡ k → ServesBy k s words now c (Rose before later) answer drawn logged s' → IsUsedUp s' birth
     go Reading reads r = subst (λ (t : ServiceState). IsUsedUp t birth) (sym r.same) used
-    go Working works r = subst (λ (t : ServiceState). IsUsedUp t birth) (sym (works_only s words now c told drawn logged s' works r)) (record { below = used.below; absent = used.absent })
+    go Working works r = subst (λ (t : ServiceState). IsUsedUp t birth) (sym (works_only s words now c answer drawn logged s' works r)) (record { below = used.below; absent = used.absent })
     go Committing commits (inl u) = subst (λ (t : ServiceState). IsUsedUp t birth) (sym u.same) used
     go Committing commits (inr (kept, changes)) =
-        changes_use_up (settled kept s) (settled_commands kept s.pending) words now c (Rose before later) told drawn logged s' birth (below kept) changes
-        (changes_give (settled kept s) (settled_commands kept s.pending) words now c (Rose before later) told drawn logged s' birth (below kept) changes (used.absent kept))
+        changes_use_up (settled kept s) (settled_commands kept s.pending) words now c (Rose before later) answer drawn logged s' birth (below kept) changes
+        (changes_give (settled kept s) (settled_commands kept s.pending) words now c (Rose before later) answer drawn logged s' birth (below kept) changes (used.absent kept))
 
-pub lost_is_used_up : (s : ServiceState) (words : ℕ → ℕ) (now : ℕ) (c : KmsCall) (before later : ℕ) (told : KmsReply) (drawn : ℕ) (logged : List KeyCommand) (s' : ServiceState)
-    → IsService s → Serves s words now c (Rose before later) told drawn logged s' → (birth : ℕ) → birth < next_birth s.keys → is_none (find_birth s'.keys.table.rows birth) ≡ true → IsUsedUp s' birth ⊎ OnlyQueues s s'
-lost_is_used_up s words now c before later told drawn logged s' is serves birth below none = go (kind c) refl serves
+pub lost_is_used_up : (s : ServiceState) (words : ℕ → ℕ) (now : ℕ) (c : KmsCall) (before later : ℕ) (answer : KmsReply) (drawn : ℕ) (logged : List KeyCommand) (s' : ServiceState)
+    → IsService s → KmsServes s words now c (Rose before later) answer drawn logged s' → (birth : ℕ) → birth < next_birth s.keys → is_none (find_birth s'.keys.table.rows birth) ≡ true → IsUsedUp s' birth ⊎ OnlyQueues s s'
+lost_is_used_up s words now c before later answer drawn logged s' is serves birth below none = go (kind c) refl serves
   where
-    go : (k : Kind) → kind c ≡ k → ServesBy k s words now c (Rose before later) told drawn logged s' → IsUsedUp s' birth ⊎ OnlyQueues s s'
+    go : (k : Kind) → kind c ≡ k → ServesBy k s words now c (Rose before later) answer drawn logged s' → IsUsedUp s' birth ⊎ OnlyQueues s s'
     go Reading reads r = inr (only_queues s s' r.same)
-    go Working works r = inr (works_only s words now c told drawn logged s' works r)
+    go Working works r = inr (works_only s words now c answer drawn logged s' works r)
     go Committing commits (inl u) = inr (only_queues s s' u.same)
     go Committing commits (inr (kept, changes)) =
-        inl (changes_use_up (settled kept s) (settled_commands kept s.pending) words now c (Rose before later) told drawn logged s' birth
+        inl (changes_use_up (settled kept s) (settled_commands kept s.pending) words now c (Rose before later) answer drawn logged s' birth
         (subst (λ (n : ℕ). birth < n) (sym (next_settled kept s is)) below) changes none)
 
 pub used_up_at_start : UsedUpAtStart
@@ -386,13 +386,13 @@ was_deleted : (s : KmsState) (words : ℕ → ℕ) (now : ℕ) (name : List ℕ)
 was_deleted s words now name drawn s' (e, may, is) = by_end e is
   where
     by_row : (absent : Bool) → is_none (row_of s name) ≡ absent
-        → (record { told = reply.Done; drawn = drawn; state = s' }) ≡ unless_refused (cond absent (Some refusal.NoSuchKey) None) s (deed s words now (call.Delete name)) → Deleted s name s'
-    by_row true stands is = let no : reply.Done ≡ reply.Refused refusal.NoSuchKey = ap (λ o. o.told) is in absurd cc
+        → (record { reply = reply.Done; drawn = drawn; state = s' }) ≡ unless_refused (cond absent (Some refusal.NoSuchKey) None) s (deed s words now (call.Delete name)) → Deleted s name s'
+    by_row true stands is = let no : reply.Done ≡ reply.Refused refusal.NoSuchKey = ap (λ o. o.reply) is in absurd cc
     by_row false stands is = record { stands = stands; state = ap (λ o. o.state) is }
 
-    by_end : (e : Ending) → (record { told = reply.Done; drawn = drawn; state = s' }) ≡ outcome s words now (call.Delete name) e → Deleted s name s'
+    by_end : (e : Ending) → (record { reply = reply.Done; drawn = drawn; state = s' }) ≡ outcome s words now (call.Delete name) e → Deleted s name s'
     by_end Plain is = by_row (is_none (row_of s name)) refl is
-    by_end (NoRoom some) is = let no : reply.Done ≡ reply.Refused refusal.NoMemory = ap (λ o. o.told) is in absurd cc
+    by_end (NoRoom some) is = let no : reply.Done ≡ reply.Refused refusal.NoMemory = ap (λ o. o.reply) is in absurd cc
 
 -- births increase even after the pending command was settled
 rising_settled : (kept : Bool) (s : ServiceState) → IsService s → Rising 0 (settled kept s).table.rows (settled kept s).table.greatest
@@ -418,12 +418,12 @@ deleted_in s words now name drawn s' rising acts =
     subst (λ (t : KmsState). Gone t.table birth) (sym done.state) (record { used = used; absent = none_left birth s.table.rows })
 
 pub deleted_is_gone : (s : ServiceState) (words : ℕ → ℕ) (now : ℕ) (name : List ℕ) (before later : ℕ) (drawn : ℕ) (logged : List KeyCommand) (s' : ServiceState)
-    → IsService s → Serves s words now (call.Delete name) (Rose before later) reply.Done drawn logged s'
+    → IsService s → KmsServes s words now (call.Delete name) (Rose before later) reply.Done drawn logged s'
     → (kept : Bool) × Gone s'.keys.table (birth_of (row_of (settled kept s) name))
 deleted_is_gone s words now name before later drawn logged s' is serves = go serves
   where
     go : ServesBy Committing s words now (call.Delete name) (Rose before later) reply.Done drawn logged s' → (kept : Bool) × Gone s'.keys.table (birth_of (row_of (settled kept s) name))
-    go (inl u) = let no : reply.Done ≡ reply.Refused refusal.StoreFault = u.told_is in absurd cc
+    go (inl u) = let no : reply.Done ≡ reply.Refused refusal.StoreFault = u.reply_is in absurd cc
     go (inr (kept, inl w)) =
         (kept, subst (λ (t : ServiceState). Gone t.keys.table (birth_of (row_of (settled kept s) name))) (sym w.left) (deleted_in (settled kept s) words now name drawn w.changed (rising_settled kept s is) w.acts))
-    go (inr (kept, inr u)) = let no : reply.Done ≡ reply.Refused refusal.StoreFault = u.told_is in absurd cc
+    go (inr (kept, inr u)) = let no : reply.Done ≡ reply.Refused refusal.StoreFault = u.reply_is in absurd cc

@@ -7,15 +7,14 @@ use Rattle.eek_seal.specs.Tickets.{SealedKey}
 use Rattle.eek_queues.specs.Queues.{AllQueues, Queue, has_queue, ready_in}
 use Rattle.eek_queues.proofs.Births.{is-same, other-is, same-is}
 use Rattle.key_rows.specs.declared.rows.KeyRow.{KeyRow}
-use Rattle.key_rows.specs.Table.{current_of, find_birth}
-use Rattle.key_rows.specs.Sound.{IsTable}
-use Rattle.key_rows.proofs.TableLemmas.{found_birth}
-use Rattle.key_rows.proofs.Births.{both, each_more}
+use Rattle.key_rows.specs.Table.{current_of, find_birth, is_named}
+use Rattle.key_rows.specs.Sound.{IsTable, Rising}
+use Rattle.key_rows.proofs.Births.{both, by_birth, each_more}
 use Rattle.kms_core.specs.declared.drawing.CurrentVersion.{CurrentVersion}
-use Rattle.kms_core.specs.declared.deposit.Deposit.TheVariants.{Full, Kept}
+use Rattle.eek_seal.specs.declared.deposit.Deposit.TheVariants.{Full, Kept}
 use Rattle.kms_core.specs.State.{AllReady, KmsState, ServiceState, emptied}
 use Rattle.kms_core.specs.Calls.{current_version, row_of}
-use Rattle.kms_core.specs.Ready.{deposit_told, edek_of_sealed, is_of_key, is_present, low_birth, newest_material, stale_for, ticket_for, ticket_of, with_sealed}
+use Rattle.kms_core.specs.Ready.{deposit_answer, edek_of_sealed, is_filled, is_of_key, is_present, low_birth, newest_material, stale_for, ticket_for, ticket_of, with_sealed}
 use Rattle.kms_core.specs.Steps.{DrewSome, HandsOut, IsCurrent, IsNewest, IsOfNewest}
 use Rattle.kms_core.proofs.KeyLemmas.{named}
 use Rattle.kms_core.proofs.KeepLemmas.{Keeps}
@@ -71,14 +70,17 @@ present_key s x row found born present =
     let number : x.version.number ≡ length row.materials - 1 = is-same x.version.number (length row.materials - 1) parts.1 in
     record { row = row; found = ap (find_birth s.table.rows) (is-same x.birth row.birth parts.0) ∙ born; version = λ i. record { key = key i; number = number i } }
 
-pub present_newest : (s : KmsState) (x : SealedKey) → IsTable s.table → is_present s x ≡ true → IsOfNewest s x
-present_newest s x table present = go (row_of s x.version.key) refl (found_birth s.table x.version.key table)
+pub newest_of : (s : KmsState) (x : SealedKey) → Rising 0 s.table.rows s.table.greatest → is_present s x ≡ true → IsOfNewest s x
+newest_of s x rising present = go (row_of s x.version.key) refl (by_birth 0 (is_named x.version.key) s.table.rows s.table.greatest rising)
   where
     go : (o : Option KeyRow) → row_of s x.version.key ≡ o → IfSome o (λ row. find_birth s.table.rows row.birth ≡ Some row) → IsOfNewest s x
     go None found born =
         let no : false ≡ true = ap (λ o. is_of_key o x && x.opening == s.table.opening) (sym found) ∙ present in
         absurd cc
     go (Some row) found born = present_key s x row found born present
+
+pub present_newest : (s : KmsState) (x : SealedKey) → IsTable s.table → is_present s x ≡ true → IsOfNewest s x
+present_newest s x table present = newest_of s x table.births present
 
 pub all_deposited : (s : KmsState) (x : SealedKey) → IsOfNewest s x → AllReady s.table.rows s.ready.queues → AllReady s.table.rows (with_sealed s.ready x).queues
 all_deposited s x is all =
@@ -88,16 +90,21 @@ all_deposited s x is all =
 
 -- the answer
 
-pub told_stale : (s : KmsState) (x : SealedKey) → is_present s x ≡ false → stale_for s (row_of s x.version.key) ≡ deposit_told s x
-told_stale s x past =
-    ap (λ b. cond b (cond (length (ready_in s.ready.queues x.birth) == s.ready.size) Full Kept) (stale_for s (row_of s x.version.key))) (sym past)
+pub answers_stale : (s : KmsState) (x : SealedKey) → is_present s x ≡ false → stale_for s (row_of s x.version.key) ≡ deposit_answer s x
+answers_stale s x past = ap (λ b. cond b (cond (is_filled s.ready x.birth) Full Kept) (stale_for s (row_of s x.version.key))) (sym past)
 
-pub told_full : (s : KmsState) (x : SealedKey) → is_present s x ≡ true → length (ready_in s.ready.queues x.birth) ≡ s.ready.size → Full ≡ deposit_told s x
-told_full s x present full =
-    ap (λ b. cond b Full Kept) (sym (same-is (length (ready_in s.ready.queues x.birth)) s.ready.size full))
-    ∙ ap (λ b. cond b (cond (length (ready_in s.ready.queues x.birth) == s.ready.size) Full Kept) (stale_for s (row_of s x.version.key))) (sym present)
+answers_filled : (s : KmsState) (x : SealedKey) (b : Bool) → is_present s x ≡ true → is_filled s.ready x.birth ≡ b → cond b Full Kept ≡ deposit_answer s x
+answers_filled s x b present filled =
+    ap (λ c. cond c Full Kept) (sym filled) ∙ ap (λ c. cond c (cond (is_filled s.ready x.birth) Full Kept) (stale_for s (row_of s x.version.key))) (sym present)
 
-pub told_kept : (s : KmsState) (x : SealedKey) → is_present s x ≡ true → (length (ready_in s.ready.queues x.birth) ≡ s.ready.size → ⊥) → Kept ≡ deposit_told s x
-told_kept s x present room =
-    ap (λ b. cond b Full Kept) (sym (other-is (length (ready_in s.ready.queues x.birth)) s.ready.size room))
-    ∙ ap (λ b. cond b (cond (length (ready_in s.ready.queues x.birth) == s.ready.size) Full Kept) (stale_for s (row_of s x.version.key))) (sym present)
+filled_in : (all : AllQueues) (birth : ℕ) (b : Bool) → has_queue all.queues birth ≡ b → is_filled all birth ≡ cond b (length (ready_in all.queues birth) == all.size) true
+filled_in all birth b has = ap (λ c. cond c (length (ready_in all.queues birth) == all.size) true) has
+
+pub answers_full : (s : KmsState) (x : SealedKey) → is_present s x ≡ true → has_queue s.ready.queues x.birth ≡ true → length (ready_in s.ready.queues x.birth) ≡ s.ready.size → Full ≡ deposit_answer s x
+answers_full s x present has full = answers_filled s x true present (filled_in s.ready x.birth true has ∙ same-is (length (ready_in s.ready.queues x.birth)) s.ready.size full)
+
+pub answers_kept : (s : KmsState) (x : SealedKey) → is_present s x ≡ true → has_queue s.ready.queues x.birth ≡ true → (length (ready_in s.ready.queues x.birth) ≡ s.ready.size → ⊥) → Kept ≡ deposit_answer s x
+answers_kept s x present has room = answers_filled s x false present (filled_in s.ready x.birth true has ∙ other-is (length (ready_in s.ready.queues x.birth)) s.ready.size room)
+
+pub answers_unqueued : (s : KmsState) (x : SealedKey) → is_present s x ≡ true → has_queue s.ready.queues x.birth ≡ false → Full ≡ deposit_answer s x
+answers_unqueued s x present none = answers_filled s x true present (filled_in s.ready x.birth false none)

@@ -34,14 +34,14 @@ use Rattle.kms_core.proofs.SentLemmas.{none_stands, opened_is, same_cause, sent_
 use Rattle.kms_core.proofs.KeyLemmas.{each_get, found_passes, sent_allowed, version_at}
 
 -- the answer of decrypt without a cause of a refusal
-decrypt_told : (s : KmsState) (words : ℕ → ℕ) (now : ℕ) (name : List ℕ) (sent : RawEdek) (told : KmsReply) (s' : KmsState) (words' : ℕ → ℕ)
-    → first_cause (sent_causes (row_of s name) name sent) ≡ None → CallActs s words now (call.Decrypt name sent) told s' words'
-    → told ≡ reply.Key (unwrap_or (unseals s.table.rows (edek_of sent)) [])
-decrypt_told s words now name sent told s' words' none acts = by_end acts.acts.0 acts.acts.1 acts.acts.2
+decrypt_answered : (s : KmsState) (words : ℕ → ℕ) (now : ℕ) (name : List ℕ) (sent : RawEdek) (result : KmsReply) (s' : KmsState) (words' : ℕ → ℕ)
+    → first_cause (sent_causes (row_of s name) name sent) ≡ None → CallActs s words now (call.Decrypt name sent) result s' words'
+    → result ≡ reply.Key (unwrap_or (unseals s.table.rows (edek_of sent)) [])
+decrypt_answered s words now name sent result s' words' none acts = by_end acts.acts.0 acts.acts.1 acts.acts.2
   where
     by_end : (e : Ending) → MayEnd s words now (call.Decrypt name sent) e
-        → (record { told = told; drawn = acts.drawn; state = s' }) ≡ outcome s words now (call.Decrypt name sent) e → told ≡ reply.Key (unwrap_or (unseals s.table.rows (edek_of sent)) [])
-    by_end Plain may is = ap (λ o. o.told) is ∙ ap (λ cause. (unless_refused cause s (deed s words now (call.Decrypt name sent))).told) none
+        → (record { reply = result; drawn = acts.drawn; state = s' }) ≡ outcome s words now (call.Decrypt name sent) e → result ≡ reply.Key (unwrap_or (unseals s.table.rows (edek_of sent)) [])
+    by_end Plain may is = ap (λ o. o.reply) is ∙ ap (λ cause. (unless_refused cause s (deed s words now (call.Decrypt name sent))).reply) none
     by_end (NoRoom some) may is = absurd cc
 
 -- a sent key without a cause of a refusal opens
@@ -53,9 +53,9 @@ opens_to s name sent none = by_row (row_of s name) refl
     by_row (Some row) found = (opened_in row sent, opened_is s name row sent found (same_cause s name row sent found ∙ none))
 
 pub decrypt_opens : DecryptOpens
-decrypt_opens s words now name sent told s' words' none acts =
+decrypt_opens s words now name sent result s' words' none acts =
     let opens = opens_to s name sent none in
-    (opens.0, opens.1, decrypt_told s words now name sent told s' words' none acts ∙ ap (λ o. reply.Key (unwrap_or o [])) opens.1)
+    (opens.0, opens.1, decrypt_answered s words now name sent result s' words' none acts ∙ ap (λ o. reply.Key (unwrap_or o [])) opens.1)
 
 -- the answer of a generate that returns keys
 record Gave (s : KmsState) (words : ℕ → ℕ) (name : List ℕ) (count : ℕ) (keys : List Edek) (s' : KmsState) : Type 0 where
@@ -68,15 +68,15 @@ gave : (s : KmsState) (words : ℕ → ℕ) (now : ℕ) (name : List ℕ) (count
 gave s words now name count keys s' words' acts = by_end acts.acts.0 acts.acts.2
   where
     by_cause : (cause : Option KmsRefusal) → first_cause (generate_causes (row_of s name) count) ≡ cause
-        → (record { told = reply.Ready keys; drawn = acts.drawn; state = s' }) ≡ unless_refused cause s (generated s words name count) → Gave s words name count keys s'
-    by_cause (Some why) found is = let no : reply.Ready keys ≡ reply.Refused why = ap (λ o. o.told) is in absurd cc
+        → (record { reply = reply.Ready keys; drawn = acts.drawn; state = s' }) ≡ unless_refused cause s (generated s words name count) → Gave s words name count keys s'
+    by_cause (Some why) found is = let no : reply.Ready keys ≡ reply.Refused why = ap (λ o. o.reply) is in absurd cc
     by_cause None found is =
-        let told : reply.Ready keys ≡ (generated s words name count).answer = ap (λ o. o.told) is in
+        let tells : reply.Ready keys ≡ (generated s words name count).answer = ap (λ o. o.reply) is in
         record { stands = (none_stands (is_none (row_of s name)) refusal.NoSuchKey ((nat_lt 1000 count, refusal.TooManyAsked) ∷ []) found).0; given = cc; same = ap (λ o. o.state.table) is }
 
-    by_end : (e : Ending) → (record { told = reply.Ready keys; drawn = acts.drawn; state = s' }) ≡ outcome s words now (call.Generate name count) e → Gave s words name count keys s'
+    by_end : (e : Ending) → (record { reply = reply.Ready keys; drawn = acts.drawn; state = s' }) ≡ outcome s words now (call.Generate name count) e → Gave s words name count keys s'
     by_end Plain is = by_cause (first_cause (generate_causes (row_of s name) count)) refl is
-    by_end (NoRoom some) is = let no : reply.Ready keys ≡ reply.Refused refusal.NoMemory = ap (λ o. o.told) is in absurd cc
+    by_end (NoRoom some) is = let no : reply.Ready keys ≡ reply.Refused refusal.NoMemory = ap (λ o. o.reply) is in absurd cc
 
 -- the keys drawn, by their numbers
 
@@ -235,12 +235,12 @@ allowed_back row name material words place sound named got =
     (well_formed row.bits (current_version (Some row)) material words place sound.bits long)
 
 pub generated_decrypts : GeneratedDecrypts
-generated_decrypts s words now name count keys s' words' is acts number key at later then told s'' later' answered =
+generated_decrypts s words now name count keys s' words' is acts number key at later then result s'' later' answered =
     let all = gave s words now name count keys s' words' acts in
     let row = standing_key s name is all.stands in
     let drawn_key = drawn_behind s words name count keys s' number key all at in
     let free : first_cause (sent_causes (row_of s' name) name (sent_of key)) ≡ None = ap (λ t. first_cause (sent_causes (find_name t.rows name) name (sent_of key))) all.same ∙ no_cause s words name number key row.0 row.1 drawn_key in
-    decrypt_told s' later then name (sent_of key) told s'' later' free answered
+    decrypt_answered s' later then name (sent_of key) result s'' later' free answered
     ∙ ap (λ o. reply.Key (unwrap_or o [])) (generated_opens s words now name count keys s' words' is acts number key at)
   where
     no_cause : (s : KmsState) (words : ℕ → ℕ) (name : List ℕ) (number : ℕ) (key : Edek) (row : KeyRow) → Standing_key s name row

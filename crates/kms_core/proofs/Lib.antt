@@ -8,6 +8,7 @@ pub mod LawLemmas
 pub mod NameLemmas
 pub mod QueueLemmas
 pub mod ReadyLaws
+pub mod ReadyLemmas
 pub mod ResealLemmas
 pub mod SentLemmas
 pub mod ServiceLemmas

@@ -8,29 +8,37 @@ use Rattle.eek_seal.specs.Seal.{unseal}
 use Rattle.eek_seal.specs.Tickets.{SealedKey}
 use Rattle.eek_seal.specs.declared.tickets.Ticket.{Ticket}
 use Rattle.eek_seal.proofs.SealLemmas.{unseal-seal}
-use Rattle.eek_queues.specs.Queues.{Queue, is_lower, limit, lower_of, lowest, ready_in}
+use Rattle.eek_queues.specs.Queues.{Queue, has_queue, is_lower, limit, lower_of, lowest, ready_in}
 use Rattle.eek_queues.proofs.Births.{is-same, ready-set}
 use Rattle.key_rows.specs.declared.rows.KeyRow.{KeyRow}
 use Rattle.key_rows.specs.Sound.{NamesOnce}
 use Rattle.key_rows.specs.Table.{current_of, find_birth, find_name, is_born, material_of}
 use Rattle.key_rows.proofs.Births.{both, found_has}
-use Rattle.kms_core.specs.declared.deposit.Deposit.{Deposit}
-use Rattle.kms_core.specs.declared.deposit.Deposit.TheVariants.{Full, Kept}
+use Rattle.eek_seal.specs.declared.deposit.Deposit.{Deposit}
+use Rattle.eek_seal.specs.declared.deposit.Deposit.TheVariants.{Full, Kept}
 use Rattle.kms_core.specs.State.{IsReadyFor, KmsState}
 use Rattle.kms_core.specs.Calls.{current_material, current_version, row_of}
 use Rattle.kms_core.specs.Laws.{DepositOpens, TicketOpens}
-use Rattle.kms_core.specs.Ready.{deposit_told, edek_of_sealed, is_of_key, is_present, newest_material, queues_with, stale_for, ticket_for}
+use Rattle.kms_core.specs.Ready.{deposit_answer, edek_of_sealed, is_filled, is_of_key, is_present, newest_material, queues_with, stale_for, ticket_for}
+use Rattle.kms_core.proofs.DepositLemmas.{answers_unqueued}
 use Rattle.kms_core.proofs.KeyLemmas.{named}
 use Rattle.kms_core.proofs.LawLemmas.{standing_key}
 
 -- a sealed key that is kept is present, and its key exists
 
-kept_present : (s : KmsState) (x : SealedKey) → deposit_told s x ≡ Kept → is_present s x ≡ true
-kept_present s x told = go (is_present s x) refl told
+pub kept_present : (s : KmsState) (x : SealedKey) → deposit_answer s x ≡ Kept → is_present s x ≡ true
+kept_present s x tells = go (is_present s x) refl tells
   where
-    go : (b : Bool) → is_present s x ≡ b → cond b (cond (length (ready_in s.ready.queues x.birth) == s.ready.size) Full Kept) (stale_for s (row_of s x.version.key)) ≡ Kept → is_present s x ≡ true
-    go true is told = is
-    go false is told = absurd cc
+    go : (b : Bool) → is_present s x ≡ b → cond b (cond (is_filled s.ready x.birth) Full Kept) (stale_for s (row_of s x.version.key)) ≡ Kept → is_present s x ≡ true
+    go true is tells = is
+    go false is tells = absurd cc
+
+pub kept_queued : (s : KmsState) (x : SealedKey) → is_present s x ≡ true → deposit_answer s x ≡ Kept → has_queue s.ready.queues x.birth ≡ true
+kept_queued s x present kept = go (has_queue s.ready.queues x.birth) refl
+  where
+    go : (b : Bool) → has_queue s.ready.queues x.birth ≡ b → has_queue s.ready.queues x.birth ≡ true
+    go true is = is
+    go false is = let no : Full ≡ Kept = answers_unqueued s x present is ∙ kept in absurd cc
 
 present_stands : (s : KmsState) (x : SealedKey) → is_present s x ≡ true → is_none (row_of s x.version.key) ≡ false
 present_stands s x present = go (row_of s x.version.key) present
@@ -48,13 +56,13 @@ present_version s x row found present =
     λ i. record { key = key i; number = number i }
 
 pub deposit_opens : DepositOpens
-deposit_opens s x is has told =
-    let present : is_present s.keys x ≡ true = kept_present s.keys x told in
+deposit_opens s x is kept =
+    let present : is_present s.keys x ≡ true = kept_present s.keys x kept in
     let row = standing_key s.keys x.version.key is.table (present_stands s.keys x present) in
     let version : x.version ≡ current_version (row_of s.keys x.version.key) = present_version s.keys x row.0 row.1.found present ∙ ap current_version (sym row.1.found) in
     let material : List ℕ = current_material s.keys x.version.key in
     record {
-      newest = ap (λ (d : Deposit). ready_in (queues_with s.keys.ready x d).queues x.birth) told ∙ ready-set s.keys.ready.queues x.birth (ready_in s.keys.ready.queues x.birth ++ edek_of_sealed x ∷ []) has;
+      newest = ap (λ (d : Deposit). ready_in (queues_with s.keys.ready x d).queues x.birth) kept ∙ ready-set s.keys.ready.queues x.birth (ready_in s.keys.ready.queues x.birth ++ edek_of_sealed x ∷ []) (kept_queued s.keys x present kept);
       opens = λ sealed.
           ap (λ v. option_map (λ m. unseal m x.iv x.sealed) (material_of s.keys.table.rows v)) version ∙ ap (option_map (λ m. unseal m x.iv x.sealed)) row.1.has
           ∙ ap (λ bytes. Some (unseal material x.iv bytes)) sealed ∙ ap Some (unseal-seal material x.iv x.dek);
@@ -96,7 +104,7 @@ by_name (r ∷ rows) birth row once found =
         cases refl
 
 pub ticket_opens : TicketOpens
-ticket_opens s ticket is told = go (lowest (limit s.keys.ready) s.keys.ready.queues) (lowest_has (IsReadyFor s.keys.table.rows) (limit s.keys.ready) s.keys.ready.queues is.ready) told
+ticket_opens s ticket is tells = go (lowest (limit s.keys.ready) s.keys.ready.queues) (lowest_has (IsReadyFor s.keys.table.rows) (limit s.keys.ready) s.keys.ready.queues is.ready) tells
   where
     for_row : (birth : ℕ) (row : KeyRow) → find_birth s.keys.table.rows birth ≡ Some row → material_of s.keys.table.rows (ticket_for s.keys birth).version ≡ Some (ticket_for s.keys birth).material
     for_row birth row found =
@@ -106,7 +114,7 @@ ticket_opens s ticket is told = go (lowest (limit s.keys.ready) s.keys.ready.que
         ap (λ o. material_of s.keys.table.rows (current_version o)) (found ∙ sym here) ∙ key.1.has ∙ ap Some (sym material ∙ ap newest_material (here ∙ sym found))
 
     go : (o : Option Queue) → IfSome o (IsReadyFor s.keys.table.rows) → option_map (ticket_for s.keys) (option_map (λ q. q.birth) o) ≡ Some ticket → material_of s.keys.table.rows ticket.version ≡ Some ticket.material
-    go None ready told = absurd cc
-    go (Some q) ready told =
+    go None ready tells = absurd cc
+    go (Some q) ready tells =
         let same : ticket_for s.keys q.birth ≡ ticket = cc in
         subst (λ (t : Ticket). material_of s.keys.table.rows t.version ≡ Some t.material) same (for_row q.birth ready.0 ready.1)

@@ -20,31 +20,31 @@ use Rattle.key_rows.specs.declared.rows.KeyRow.{KeyRow}
 use Rattle.key_rows.specs.Sound.{IsTable}
 use Rattle.kms_core.specs.State.{KmsState}
 use Rattle.kms_core.specs.Opening.{unseals}
-use Rattle.kms_core.specs.Calls.{CallActs, Plain, NoRoom, Ending, outcome, accepted, deed, causes, first_cause, unless_refused, only_answer, sent_causes, batch_causes, lacks_version, is_of_other_key, is_malformed, row_of, bits_of, edek_of, current_version, current_material, same_version, opened, resealed}
+use Rattle.kms_core.specs.Calls.{CallActs, Plain, NoRoom, Ending, outcome, accepted, deed, causes, first_cause, unless_refused, only_answer, sent_causes, batch_causes, lacks_version, is_of_other_key, is_malformed, row_of, bits_of, edek_of, current_version, current_material, same_version, unsealed_dek, resealed}
 use Rattle.kms_core.specs.Laws.{BatchOpens, ReencryptedOpens, SameKey}
 use Rattle.kms_core.proofs.KeyLemmas.{sent_allowed}
 use Rattle.kms_core.proofs.LawLemmas.{Standing_key, standing_key, opens_to}
 use Rattle.kms_core.proofs.SentLemmas.{batch_has, neither, sent_has}
 
 -- the reply of a call that only answers, if it is not refused
-record Told (s : KmsState) (c : KmsCall) (answer told : KmsReply) (s' : KmsState) : Type 0 where
+record Told (s : KmsState) (c : KmsCall) (answer result : KmsReply) (s' : KmsState) : Type 0 where
   none : first_cause (causes s c) ≡ None
-  is : told ≡ answer
+  is : result ≡ answer
   same : s' ≡ s
 
-has_told : (s : KmsState) (words : ℕ → ℕ) (now : ℕ) (c : KmsCall) (answer told : KmsReply) (s' : KmsState) (words' : ℕ → ℕ)
-    → deed s words now c ≡ only_answer s answer → ((why : KmsRefusal) → told ≡ reply.Refused why → ⊥) → CallActs s words now c told s' words' → Told s c answer told s'
-has_told s words now c answer told s' words' deed_is let_go acts = by_end acts.acts.0 acts.acts.2
+has_answered : (s : KmsState) (words : ℕ → ℕ) (now : ℕ) (c : KmsCall) (answer result : KmsReply) (s' : KmsState) (words' : ℕ → ℕ)
+    → deed s words now c ≡ only_answer s answer → ((why : KmsRefusal) → result ≡ reply.Refused why → ⊥) → CallActs s words now c result s' words' → Told s c answer result s'
+has_answered s words now c answer result s' words' deed_is let_go acts = by_end acts.acts.0 acts.acts.2
   where
-    by_cause : (cause : Option KmsRefusal) → first_cause (causes s c) ≡ cause → (record { told = told; drawn = acts.drawn; state = s' }) ≡ unless_refused cause s (deed s words now c)
-        → Told s c answer told s'
-    by_cause (Some why) stands is = absurd (let_go why (ap (λ o. o.told) is))
+    by_cause : (cause : Option KmsRefusal) → first_cause (causes s c) ≡ cause → (record { reply = result; drawn = acts.drawn; state = s' }) ≡ unless_refused cause s (deed s words now c)
+        → Told s c answer result s'
+    by_cause (Some why) stands is = absurd (let_go why (ap (λ o. o.reply) is))
     by_cause None none is =
-        record { none = none; is = ap (λ o. o.told) is ∙ ap (λ d. d.answer) deed_is; same = ap (λ o. o.state) is ∙ ap (λ d. (accepted d).state) deed_is }
+        record { none = none; is = ap (λ o. o.reply) is ∙ ap (λ d. d.answer) deed_is; same = ap (λ o. o.state) is ∙ ap (λ d. (accepted d).state) deed_is }
 
-    by_end : (e : Ending) → (record { told = told; drawn = acts.drawn; state = s' }) ≡ outcome s words now c e → Told s c answer told s'
+    by_end : (e : Ending) → (record { reply = result; drawn = acts.drawn; state = s' }) ≡ outcome s words now c e → Told s c answer result s'
     by_end Plain is = by_cause (first_cause (causes s c)) refl is
-    by_end (NoRoom some) is = absurd (let_go refusal.NoMemory (ap (λ o. o.told) is))
+    by_end (NoRoom some) is = absurd (let_go refusal.NoMemory (ap (λ o. o.reply) is))
 
 both : (a b : Bool) → (a && b) ≡ true → (a ≡ true) × (b ≡ true)
 both true b h = (refl, h)
@@ -75,11 +75,11 @@ same_key s name sent is none = cases refl
     material = current_material s name
 
     again : Edek
-    again = record { version = version; iv = sent.iv; sealed = seal material sent.iv (opened s sent) }
+    again = record { version = version; iv = sent.iv; sealed = seal material sent.iv (unsealed_dek s sent) }
 
     after : unseals s.table.rows again ≡ Some opens.0
-    after = ap (option_map (λ m. unseal m sent.iv (seal material sent.iv (opened s sent)))) row.1.has
-        ∙ ap Some (unseal-seal material sent.iv (opened s sent)) ∙ ap (λ o. Some (unwrap_or o [])) opens.1
+    after = ap (option_map (λ m. unseal m sent.iv (seal material sent.iv (unsealed_dek s sent)))) row.1.has
+        ∙ ap Some (unseal-seal material sent.iv (unsealed_dek s sent)) ∙ ap (λ o. Some (unwrap_or o [])) opens.1
 
     P : Bool → Type 0
     P b = same_version sent.version version ≡ b → SameKey s name sent s (cond b (edek_of sent) again)
@@ -95,8 +95,8 @@ moved s name sent s' key key' same is it = subst (λ (t : KmsState). SameKey s n
 
 pub reencrypted_opens : ReencryptedOpens
 reencrypted_opens s words now name sent key s' words' is acts =
-    let got = has_told s words now (call.Reencrypt name sent) (reply.Resealed (resealed s name sent)) (reply.Resealed key) s' words' refl (λ why no. absurd cc) acts in
-    let told : reply.Resealed key ≡ reply.Resealed (resealed s name sent) = got.is in
+    let got = has_answered s words now (call.Reencrypt name sent) (reply.Resealed (resealed s name sent)) (reply.Resealed key) s' words' refl (λ why no. absurd cc) acts in
+    let tells : reply.Resealed key ≡ reply.Resealed (resealed s name sent) = got.is in
     let key_is : key ≡ resealed s name sent = cc in
     moved s name sent s' (resealed s name sent) key got.same key_is (same_key s name sent is got.none)
 
@@ -125,8 +125,8 @@ map_at f (z ∷ zs) (suc i) x y at got = map_at f zs i x y at got
 
 pub batch_opens : BatchOpens
 batch_opens s words now name sent keys s' words' is acts =
-    let got = has_told s words now (call.Batch name sent) (reply.Ready (map (resealed s name) sent)) (reply.Ready keys) s' words' refl (λ why no. absurd cc) acts in
-    let told : reply.Ready keys ≡ reply.Ready (map (resealed s name) sent) = got.is in
+    let got = has_answered s words now (call.Batch name sent) (reply.Ready (map (resealed s name) sent)) (reply.Ready keys) s' words' refl (λ why no. absurd cc) acts in
+    let tells : reply.Ready keys ≡ reply.Ready (map (resealed s name) sent) = got.is in
     let keys_are : keys ≡ map (resealed s name) sent = cc in (
       ap length keys_are ∙ length-map (resealed s name) sent,
       λ place one key at got_key.

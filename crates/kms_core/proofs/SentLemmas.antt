@@ -15,7 +15,7 @@ use Rattle.kms_calls.specs.declared.calls.KmsRefusal.TheVariants as refusal
 use Rattle.key_rows.specs.Table.{find_name, material_of, current_of}
 use Rattle.kms_core.specs.State.{KmsState}
 use Rattle.kms_core.specs.Opening.{unseals}
-use Rattle.kms_core.specs.Calls.{first_cause, sent_causes, batch_causes, lacks_version, is_of_other_key, is_malformed, row_of, bits_of, current_version, current_material, edek_of, same_version, opened, resealed}
+use Rattle.kms_core.specs.Calls.{first_cause, sent_causes, batch_causes, lacks_version, is_of_other_key, is_malformed, row_of, bits_of, current_version, current_material, edek_of, same_version, unsealed_dek, resealed}
 use Rattle.kms_core.specs.Steps.{Allowed, opened_in, resealed_in}
 use Rattle.kms_core.proofs.KeyLemmas.{named, sent_allowed, version_at}
 
@@ -87,10 +87,10 @@ pub resealed_is : (s : KmsState) (name : List ℕ) (row : KeyRow) (sent : RawEde
     → resealed_in row sent ≡ resealed s name sent
 resealed_is s name row sent found allowed =
     let material = current_material_is s name row found in
-    let key : opened s sent ≡ opened_in row sent = ap (λ o. unwrap_or o []) (opened_is s name row sent found allowed) in
+    let key : unsealed_dek s sent ≡ opened_in row sent = ap (λ o. unwrap_or o []) (opened_is s name row sent found allowed) in
     let both : Edek → Edek = λ e. cond (same_version sent.version (current_of row)) (edek_of sent) e in
     (λ i. both (record { version = current_of row; iv = sent.iv; sealed = seal (sym material i) sent.iv (sym key i) }))
-    ∙ ap (λ o. cond (same_version sent.version (current_version o)) (edek_of sent) (record { version = current_version o; iv = sent.iv; sealed = seal (current_material s name) sent.iv (opened s sent) })) (sym found)
+    ∙ ap (λ o. cond (same_version sent.version (current_version o)) (edek_of sent) (record { version = current_version o; iv = sent.iv; sealed = seal (current_material s name) sent.iv (unsealed_dek s sent) })) (sym found)
 
 -- keys sent together
 

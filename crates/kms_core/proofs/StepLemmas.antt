@@ -27,24 +27,24 @@ all_three : (a b c : Bool) → a ≡ true → b ≡ true → c ≡ true → (a &
 all_three a b c f g h = both_hold (a && b) c (both_hold a b f g) h
 
 -- a call is refused if a cause is true
-pub refuses : (s : KmsState) (words : ℕ → ℕ) (now : ℕ) (c : KmsCall) (why : KmsRefusal) (told : KmsReply) (s' : KmsState) (words' : ℕ → ℕ)
-    → first_cause (causes s c) ≡ Some why → told ≡ Refused why → s' ≡ s → ((k : ℕ) → words' k ≡ words k) → CallActs s words now c told s' words'
-refuses s words now c why told s' words' cause told_is same rest = record {
+pub refuses : (s : KmsState) (words : ℕ → ℕ) (now : ℕ) (c : KmsCall) (why : KmsRefusal) (result : KmsReply) (s' : KmsState) (words' : ℕ → ℕ)
+    → first_cause (causes s c) ≡ Some why → result ≡ Refused why → s' ≡ s → ((k : ℕ) → words' k ≡ words k) → CallActs s words now c result s' words'
+refuses s words now c why result s' words' cause reply_is same rest = record {
   drawn = 0;
   acts = (Plain, tt, cc);
   rest = λ k. rest k ∙ ap words (omega arith);
 }
 
 -- a call without a cause of refusal does its deed
-pub enacted : (s : KmsState) (words : ℕ → ℕ) (now : ℕ) (c : KmsCall) (told : KmsReply) (s' : KmsState) (words' : ℕ → ℕ)
-    → takes_memory c ≡ true → first_cause (causes s c) ≡ None → Enacts s (deed s words now c) told s'
-    → ((k : ℕ) → words' k ≡ words ((deed s words now c).words + k)) → CallActs s words now c told s' words'
-enacted s words now c told s' words' takes none (inl done) rest = record {
+pub enacted : (s : KmsState) (words : ℕ → ℕ) (now : ℕ) (c : KmsCall) (result : KmsReply) (s' : KmsState) (words' : ℕ → ℕ)
+    → takes_memory c ≡ true → first_cause (causes s c) ≡ None → Enacts s (deed s words now c) result s'
+    → ((k : ℕ) → words' k ≡ words ((deed s words now c).words + k)) → CallActs s words now c result s' words'
+enacted s words now c result s' words' takes none (inl done) rest = record {
   drawn = (deed s words now c).words;
   acts = (Plain, tt, cc);
   rest = rest;
 }
-enacted s words now c told s' words' takes none (inr wanting) rest = record {
+enacted s words now c result s' words' takes none (inr wanting) rest = record {
   drawn = (deed s words now c).words;
   acts = (NoRoom (deed s words now c).words, (takes, none, omega arith), cc);
   rest = rest;
@@ -128,26 +128,26 @@ pub invalidates : (s : KmsState) (words : ℕ → ℕ) (now : ℕ) (name : List 
     → CallActs s words now (call.Invalidate name) Done (record s { ready = emptied s.ready birth }) words
 invalidates s words now name birth stands is = record {
   drawn = 0;
-  acts = (Plain, tt, (λ i. record { told = Done; drawn = 0; state = record s { ready = emptied s.ready (is i) } }) ∙ ap (λ b. unless_refused (cond b (Some NoSuchKey) None) s (invalidated s name)) (sym stands));
+  acts = (Plain, tt, (λ i. record { reply = Done; drawn = 0; state = record s { ready = emptied s.ready (is i) } }) ∙ ap (λ b. unless_refused (cond b (Some NoSuchKey) None) s (invalidated s name)) (sym stands));
   rest = λ k. ap words (omega arith);
 }
 
 -- a call that only answers
-pub answers : (s : KmsState) (words : ℕ → ℕ) (now : ℕ) (c : KmsCall) (answer told : KmsReply)
-    → deed s words now c ≡ only_answer s answer → Answers s c answer told → CallActs s words now c told s words
-answers s words now c answer told deed_is says = by_cause (first_cause (causes s c)) refl says
+pub answers : (s : KmsState) (words : ℕ → ℕ) (now : ℕ) (c : KmsCall) (answer result : KmsReply)
+    → deed s words now c ≡ only_answer s answer → Answers s c answer result → CallActs s words now c result s words
+answers s words now c answer result deed_is says = by_cause (first_cause (causes s c)) refl says
   where
     by_cause : (cause : Option KmsRefusal) → first_cause (causes s c) ≡ cause
-        → MatchOption cause ((told ≡ answer) ⊎ ((takes_memory c ≡ true) × (told ≡ Refused NoMemory))) (λ why. told ≡ Refused why) → CallActs s words now c told s words
-    by_cause (Some why) stands is = refuses s words now c why told s words stands is refl (λ k. refl)
+        → MatchOption cause ((result ≡ answer) ⊎ ((takes_memory c ≡ true) × (result ≡ Refused NoMemory))) (λ why. result ≡ Refused why) → CallActs s words now c result s words
+    by_cause (Some why) stands is = refuses s words now c why result s words stands is refl (λ k. refl)
     by_cause None none (inl is) = record {
       drawn = 0;
-      acts = (Plain, tt, (λ i. record { told = is i; drawn = 0; state = s }) ∙ (λ i. unless_refused (sym none i) s (sym deed_is i)));
+      acts = (Plain, tt, (λ i. record { reply = is i; drawn = 0; state = s }) ∙ (λ i. unless_refused (sym none i) s (sym deed_is i)));
       rest = λ k. ap words (omega arith);
     }
     by_cause None none (inr wanting) = record {
       drawn = 0;
-      acts = (NoRoom 0, (wanting.0, none, omega arith), λ i. record { told = wanting.1 i; drawn = 0; state = s });
+      acts = (NoRoom 0, (wanting.0, none, omega arith), λ i. record { reply = wanting.1 i; drawn = 0; state = s });
       rest = λ k. ap words (omega arith);
     }
 

@@ -145,14 +145,14 @@ pub record Deed : Type 0 where
   pub state : KmsState
   pub words : ℕ
 
-abbrev pub shown : KeyName → ℕ → List ℕ → KmsReply
-shown name number material = reply.Version (record { key = name; number = number }) (Some material)
+abbrev pub version_with_material : KeyName → ℕ → List ℕ → KmsReply
+version_with_material name number material = reply.Version (record { key = name; number = number }) (Some material)
 
 -- the key with its first version
 abbrev pub created : KmsState → ℕ → KeyName → ℕ → List ℕ → List ℕ → ℕ → Deed
 created s now name bits description material words =
     record {
-      answer = shown name 0 material;
+      answer = version_with_material name 0 material;
       logs = Some (command.Create (next_birth s) name bits description now material);
       state = record s { next = s.next + 1 };
       words = words;
@@ -162,7 +162,7 @@ created s now name bits description material words =
 abbrev pub rolled : KmsState → KeyName → Option KeyRow → List ℕ → ℕ → Deed
 rolled s name row material words =
     record {
-      answer = shown name (versions_of row) material;
+      answer = version_with_material name (versions_of row) material;
       logs = Some (command.Roll (birth_of row) (versions_of row) material);
       state = s;
       words = words;
@@ -229,8 +229,8 @@ abbrev pub edek_of : RawEdek → Edek
 edek_of sent = record { version = sent.version; iv = sent.iv; sealed = sent.sealed }
 
 -- the sent key, opened under the material of its version
-abbrev pub opened : KmsState → RawEdek → Dek
-opened s sent = unwrap_or (unseals s.table.rows (edek_of sent)) []
+abbrev pub unsealed_dek : KmsState → RawEdek → Dek
+unsealed_dek s sent = unwrap_or (unseals s.table.rows (edek_of sent)) []
 
 abbrev pub same_version : VersionName → VersionName → Bool
 same_version version other = bytes_eq version.key other.key && version.number == other.number
@@ -241,7 +241,7 @@ abbrev pub resealed : KmsState → KeyName → RawEdek → Edek
 resealed s name sent =
     let current = current_version (row_of s name) in
     if same_version sent.version current then edek_of sent
-    else record { version = current; iv = sent.iv; sealed = seal (current_material s name) sent.iv (opened s sent) }
+    else record { version = current; iv = sent.iv; sealed = seal (current_material s name) sent.iv (unsealed_dek s sent) }
 
 abbrev pub deed : KmsState → (ℕ → ℕ) → ℕ → KmsCall → Deed
 deed s words now (call.Create name bits material description) =
@@ -258,7 +258,7 @@ deed s words now (call.Current name) = only_answer s (reply.Version (current_ver
 deed s words now (call.Versions name) = only_answer s (reply.Versions (all_versions (row_of s name)))
 deed s words now (call.Version version) = only_answer s (reply.Version version (material_of s.table.rows version))
 deed s words now (call.Generate name count) = generated s words name count
-deed s words now (call.Decrypt name sent) = only_answer s (reply.Key (opened s sent))
+deed s words now (call.Decrypt name sent) = only_answer s (reply.Key (unsealed_dek s sent))
 deed s words now (call.Reencrypt name sent) = only_answer s (reply.Resealed (resealed s name sent))
 deed s words now (call.Batch name sent) = only_answer s (reply.Ready (map (resealed s name) sent))
 
@@ -268,16 +268,16 @@ done_with (Some c) s = took s c
 
 -- the result of a call: its reply, the number of words drawn, and the state after it
 pub record Outcome : Type 0 where
-  pub told : KmsReply
+  pub reply : KmsReply
   pub drawn : ℕ
   pub state : KmsState
 
 -- a refusal leaves the state unchanged
 abbrev pub refused : KmsRefusal → ℕ → KmsState → Outcome
-refused why drawn s = record { told = reply.Refused why; drawn = drawn; state = s }
+refused why drawn s = record { reply = reply.Refused why; drawn = drawn; state = s }
 
 abbrev pub accepted : Deed → Outcome
-accepted d = record { told = d.answer; drawn = d.words; state = done_with d.logs d.state }
+accepted d = record { reply = d.answer; drawn = d.words; state = done_with d.logs d.state }
 
 abbrev pub unless_refused : Option KmsRefusal → KmsState → Deed → Outcome
 unless_refused (Some why) s d = refused why 0 s
@@ -315,10 +315,10 @@ outcome s words now c (NoRoom drawn) = refused refusal.NoMemory drawn s
 
 -- From s, with these words to come, a call may get this reply, draw this number of words, and leave s'.
 abbrev pub KmsActs : KmsState → (ℕ → ℕ) → ℕ → KmsCall → KmsReply → ℕ → KmsState → Type 0
-KmsActs s words now c told drawn s' = (e : Ending) × MayEnd s words now c e × (record { told = told; drawn = drawn; state = s' } ≡ outcome s words now c e)
+KmsActs s words now c answered drawn s' = (e : Ending) × MayEnd s words now c e × (record { reply = answered; drawn = drawn; state = s' } ≡ outcome s words now c e)
 
 -- the same, with the words that come afterwards
-pub record CallActs (s : KmsState) (words : ℕ → ℕ) (now : ℕ) (c : KmsCall) (told : KmsReply) (s' : KmsState) (words' : ℕ → ℕ) : Type 0 where
+pub record CallActs (s : KmsState) (words : ℕ → ℕ) (now : ℕ) (c : KmsCall) (answered : KmsReply) (s' : KmsState) (words' : ℕ → ℕ) : Type 0 where
   pub drawn : ℕ
-  pub acts : KmsActs s words now c told drawn s'
+  pub acts : KmsActs s words now c answered drawn s'
   pub rest : (k : ℕ) → words' k ≡ words (drawn + k)

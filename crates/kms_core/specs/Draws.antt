@@ -5,6 +5,8 @@ use Rattle.hk_base.specs.declared.names.Dek.{Dek}
 use Rattle.hk_base.specs.declared.names.Edek.{Edek}
 use Rattle.hk_base.specs.declared.names.VersionName.{VersionName}
 use Rattle.eek_seal.specs.Seal.{seal}
+use Rattle.eek_seal.specs.Tickets.{SealedKey}
+use Rattle.eek_seal.specs.declared.tickets.Ticket.{Ticket}
 
 -- the bytes of n words from this place of the stream on; of each word the least significant byte comes first
 abbrev pub drawn : (ℕ → ℕ) → ℕ → ℕ → List ℕ
@@ -41,6 +43,18 @@ words_of_draw len = 4 + len / 4
 -- the place where the draw of this number, from 0, begins: each draw comes after the one before
 abbrev pub place_of_draw : ℕ → ℕ → ℕ
 place_of_draw len number = number * words_of_draw len
+
+-- a data encryption key drawn and sealed with a ticket
+abbrev pub sealed_with : Ticket → (ℕ → ℕ) → SealedKey
+sealed_with ticket words =
+    record {
+      opening = ticket.opening;
+      birth = ticket.birth;
+      version = ticket.version;
+      iv = drawn_iv words 0;
+      dek = drawn_dek words 0 (length ticket.material);
+      sealed = seal ticket.material (drawn_iv words 0) (drawn_dek words 0 (length ticket.material));
+    }
 
 -- n data encryption keys, drawn one after another
 abbrev pub drawn_edeks : VersionName → Dek → (ℕ → ℕ) → ℕ → List Edek

@@ -20,30 +20,30 @@ use Rattle.eek_seal.specs.Seal.{seal, unseal}
 use Rattle.eek_seal.specs.Tickets.{SealedKey}
 use Rattle.eek_seal.specs.declared.tickets.Ticket.{Ticket}
 use Rattle.eek_queues.specs.Queues.{AllQueues, has_queue, ready_in}
-use Rattle.kms_core.specs.declared.deposit.Deposit.TheVariants.{Kept}
-use Rattle.kms_core.specs.Ready.{deposit_told, deposited, edek_of_sealed, ticket_of}
+use Rattle.eek_seal.specs.declared.deposit.Deposit.TheVariants.{Kept}
+use Rattle.kms_core.specs.Ready.{deposit_answer, deposited, edek_of_sealed, ticket_of}
 use Rattle.kms_core.specs.Draws.{drawn_dek, drawn_edek, place_of_draw, words_of_draw}
 use Rattle.kms_core.specs.Opening.{unseals}
 use Rattle.key_rows.specs.declared.rows.KeyCommand.{KeyCommand}
-use Rattle.kms_core.specs.State.{IsService, KmsState, ServiceState, next_birth, opened, settled}
+use Rattle.kms_core.specs.State.{IsService, KmsState, ServiceState, next_birth, service_after_opening, settled}
 use Rattle.kms_core.specs.Users.{ServesUser}
 use Rattle.kms_core.specs.Calls.{CallActs, birth_of, current_version, first_cause, sent_causes, row_of, edek_of, current_material, ready_of}
 
 -- a decryption without a cause of a refusal opens the key, and gets no other answer
 abbrev pub DecryptOpens : Type 0
 DecryptOpens =
-    (s : KmsState) (words : ℕ → ℕ) (now : ℕ) (name : KeyName) (sent : RawEdek) (told : KmsReply) (s' : KmsState) (words' : ℕ → ℕ)
-    → first_cause (sent_causes (row_of s name) name sent) ≡ None → CallActs s words now (call.Decrypt name sent) told s' words'
-    → (key : Dek) × (unseals s.table.rows (edek_of sent) ≡ Some key) × (told ≡ reply.Key key)
+    (s : KmsState) (words : ℕ → ℕ) (now : ℕ) (name : KeyName) (sent : RawEdek) (result : KmsReply) (s' : KmsState) (words' : ℕ → ℕ)
+    → first_cause (sent_causes (row_of s name) name sent) ≡ None → CallActs s words now (call.Decrypt name sent) result s' words'
+    → (key : Dek) × (unseals s.table.rows (edek_of sent) ≡ Some key) × (result ≡ reply.Key key)
 
 -- So the decryption of a permitted user opens the key, and nothing changes.
 abbrev pub PermittedDecryptOpens : Type 0
 PermittedDecryptOpens =
-    (lines : List PropLine) (user : Text) (s : ServiceState) (words : ℕ → ℕ) (now : ℕ) (name : KeyName) (sent : RawEdek) (before later : ℕ) (told : KmsReply) (drawn : ℕ)
+    (lines : List PropLine) (user : Text) (s : ServiceState) (words : ℕ → ℕ) (now : ℕ) (name : KeyName) (sent : RawEdek) (before later : ℕ) (result : KmsReply) (drawn : ℕ)
     (logged : List KeyCommand) (s' : ServiceState) (shown : Shown)
     → verdict lines user (call.Decrypt name sent) ≡ Ok shown → first_cause (sent_causes (row_of s.keys name) name sent) ≡ None
-    → ServesUser lines user s words now (call.Decrypt name sent) (Rose before later) told drawn logged s'
-    → ((key : Dek) × (unseals s.keys.table.rows (edek_of sent) ≡ Some key) × (told ≡ reply.Key key)) × (s' ≡ s)
+    → ServesUser lines user s words now (call.Decrypt name sent) (Rose before later) result drawn logged s'
+    → ((key : Dek) × (unseals s.keys.table.rows (edek_of sent) ≡ Some key) × (result ≡ reply.Key key)) × (s' ≡ s)
 
 -- the data key of the draw of this number in a generate, from 0
 abbrev pub dek_of_draw : KmsState → (ℕ → ℕ) → KeyName → ℕ → Dek
@@ -80,7 +80,7 @@ pub record OpensDeposited (s : KmsState) (x : SealedKey) : Type 0 where
 
 abbrev pub DepositOpens : Type 0
 DepositOpens =
-    (s : ServiceState) (x : SealedKey) → IsService s → has_queue s.keys.ready.queues x.birth ≡ true → deposit_told s.keys x ≡ Kept → OpensDeposited s.keys x
+    (s : ServiceState) (x : SealedKey) → IsService s → deposit_answer s.keys x ≡ Kept → OpensDeposited s.keys x
 
 -- each key that a generate returns after the ready keys opens, under the table after it, to the data key drawn for it
 abbrev pub GeneratedOpens : Type 0
@@ -99,8 +99,8 @@ GeneratedDecrypts =
     (s : KmsState) (words : ℕ → ℕ) (now : ℕ) (name : KeyName) (count : ℕ) (keys : List Edek) (s' : KmsState) (words' : ℕ → ℕ)
     → IsTable s.table → CallActs s words now (call.Generate name count) (reply.Ready keys) s' words'
     → (number : ℕ) (key : Edek) → slice_get keys (length (ready_of s name) + number) ≡ Some key
-    → (later : ℕ → ℕ) (then : ℕ) (told : KmsReply) (s'' : KmsState) (later' : ℕ → ℕ)
-    → CallActs s' later then (call.Decrypt name (sent_of key)) told s'' later' → told ≡ reply.Key (dek_of_draw s words name number)
+    → (later : ℕ → ℕ) (then : ℕ) (result : KmsReply) (s'' : KmsState) (later' : ℕ → ℕ)
+    → CallActs s' later then (call.Decrypt name (sent_of key)) result s'' later' → result ≡ reply.Key (dek_of_draw s words name number)
 
 -- The key sent and the key returned open to the same data encryption key, with the same initialization vector, and the
 -- key returned is on the current version.
@@ -133,14 +133,14 @@ pub record Gone (t : Table) (birth : ℕ) : Type 0 where
 -- no call of a user gives a used birth to a key again
 abbrev pub GoneStays : Type 0
 GoneStays =
-    (lines : List PropLine) (user : Text) (s : ServiceState) (words : ℕ → ℕ) (now : ℕ) (c : KmsCall) (before later : ℕ) (told : KmsReply) (drawn : ℕ) (logged : List KeyCommand)
+    (lines : List PropLine) (user : Text) (s : ServiceState) (words : ℕ → ℕ) (now : ℕ) (c : KmsCall) (before later : ℕ) (result : KmsReply) (drawn : ℕ) (logged : List KeyCommand)
     (s' : ServiceState)
-    → IsService s → ServesUser lines user s words now c (Rose before later) told drawn logged s' → (birth : ℕ) → Gone s.keys.table birth → Gone s'.keys.table birth
+    → IsService s → ServesUser lines user s words now c (Rose before later) result drawn logged s' → (birth : ℕ) → Gone s.keys.table birth → Gone s'.keys.table birth
 
 -- nor does a start, whether it finds the pending command or not
 abbrev pub GoneStaysAtStart : Type 0
 GoneStaysAtStart =
-    (s : ServiceState) (kept : Bool) (sizes : AllQueues) → IsService s → (birth : ℕ) → Gone s.keys.table birth → Gone (opened sizes (settled kept s).table).keys.table birth
+    (s : ServiceState) (kept : Bool) (sizes : AllQueues) → IsService s → (birth : ℕ) → Gone s.keys.table birth → Gone (service_after_opening sizes (settled kept s).table).keys.table birth
 
 -- the birth of a deleted key is used and gone
 abbrev pub DeletedIsGone : Type 0
@@ -158,9 +158,9 @@ pub record IsUsedUp (s : ServiceState) (birth : ℕ) : Type 0 where
 -- no call of a user gives a used-up birth to a key
 abbrev pub UsedUpStays : Type 0
 UsedUpStays =
-    (lines : List PropLine) (user : Text) (s : ServiceState) (words : ℕ → ℕ) (now : ℕ) (c : KmsCall) (before later : ℕ) (told : KmsReply) (drawn : ℕ) (logged : List KeyCommand)
+    (lines : List PropLine) (user : Text) (s : ServiceState) (words : ℕ → ℕ) (now : ℕ) (c : KmsCall) (before later : ℕ) (result : KmsReply) (drawn : ℕ) (logged : List KeyCommand)
     (s' : ServiceState)
-    → IsService s → ServesUser lines user s words now c (Rose before later) told drawn logged s' → (birth : ℕ) → IsUsedUp s birth → IsUsedUp s' birth
+    → IsService s → ServesUser lines user s words now c (Rose before later) result drawn logged s' → (birth : ℕ) → IsUsedUp s birth → IsUsedUp s' birth
 
 -- the queues of ready keys may differ, and nothing else
 abbrev pub OnlyQueues : ServiceState → ServiceState → Type 0
@@ -170,16 +170,16 @@ OnlyQueues s s' = s' ≡ record s { keys = record s.keys { ready = s'.keys.ready
 -- then the pending command, which may create a key with it, is still pending.
 abbrev pub LostIsUsedUp : Type 0
 LostIsUsedUp =
-    (lines : List PropLine) (user : Text) (s : ServiceState) (words : ℕ → ℕ) (now : ℕ) (c : KmsCall) (before later : ℕ) (told : KmsReply) (drawn : ℕ) (logged : List KeyCommand)
+    (lines : List PropLine) (user : Text) (s : ServiceState) (words : ℕ → ℕ) (now : ℕ) (c : KmsCall) (before later : ℕ) (result : KmsReply) (drawn : ℕ) (logged : List KeyCommand)
     (s' : ServiceState)
-    → IsService s → ServesUser lines user s words now c (Rose before later) told drawn logged s'
+    → IsService s → ServesUser lines user s words now c (Rose before later) result drawn logged s'
     → (birth : ℕ) → birth < next_birth s.keys → is_none (find_birth s'.keys.table.rows birth) ≡ true → IsUsedUp s' birth ⊎ OnlyQueues s s'
 
 -- so is each birth below the next one that no key has in the table that a start finds
 abbrev pub UsedUpAtStart : Type 0
 UsedUpAtStart =
     (s : ServiceState) (kept : Bool) (sizes : AllQueues) → IsService s → (birth : ℕ) → birth < next_birth s.keys → is_none (find_birth (settled kept s).table.rows birth) ≡ true
-    → IsUsedUp (opened sizes (settled kept s).table) birth
+    → IsUsedUp (service_after_opening sizes (settled kept s).table) birth
 
 -- `count` words from this place on are the same in both streams
 abbrev pub SameWords : (ℕ → ℕ) → (ℕ → ℕ) → ℕ → ℕ → Type 0

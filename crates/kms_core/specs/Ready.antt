@@ -1,16 +1,16 @@
 -- Ready keys: the tickets with which they are sealed, and their deposit in the queues.
-use Rattle.std.specs.Prelude.{ℕ, ◌-◌, Bool, false, ◌&&◌, ◌==◌, [], ◌∷◌, ◌++◌, length, Option, None, Some, option_map, slice_get, unwrap_or, if◌then◌else◌}
+use Rattle.std.specs.Prelude.{ℕ, ◌-◌, Bool, false, true, ◌&&◌, ◌==◌, [], ◌∷◌, ◌++◌, length, Option, None, Some, option_map, slice_get, unwrap_or, if◌then◌else◌}
 use Rattle.hk_base.specs.declared.names.Dek.{Dek}
 use Rattle.hk_base.specs.declared.names.Edek.{Edek}
 use Rattle.eek_seal.specs.Tickets.{SealedKey}
 use Rattle.eek_seal.specs.declared.tickets.Ticket.{Ticket}
-use Rattle.eek_queues.specs.Queues.{AllQueues, limit, lowest, ready_in, set_ready}
+use Rattle.eek_queues.specs.Queues.{AllQueues, has_queue, limit, lowest, ready_in, set_ready}
 use Rattle.key_rows.specs.declared.rows.KeyRow.{KeyRow}
 use Rattle.key_rows.specs.Table.{find_birth}
 use Rattle.kms_core.specs.State.{KmsState}
 use Rattle.kms_core.specs.Calls.{birth_of, current_version, row_of}
-use Rattle.kms_core.specs.declared.deposit.Deposit.{Deposit}
-use Rattle.kms_core.specs.declared.deposit.Deposit.TheVariants.{Full, Kept, Stale}
+use Rattle.eek_seal.specs.declared.deposit.Deposit.{Deposit}
+use Rattle.eek_seal.specs.declared.deposit.Deposit.TheVariants.{Full, Kept, Stale}
 
 -- the material of the newest version
 abbrev pub newest_material : Option KeyRow → Dek
@@ -50,10 +50,14 @@ is_present s x = is_of_key (row_of s x.version.key) x && x.opening == s.table.op
 abbrev pub stale_for : KmsState → Option KeyRow → Deposit
 stale_for s row = Stale s.table.opening (birth_of row) (current_version row).number
 
+-- there is no room for a ready key of this birth: its queue holds as many as it can, or it has no queue
+abbrev pub is_filled : AllQueues → ℕ → Bool
+is_filled all birth = if has_queue all.queues birth then length (ready_in all.queues birth) == all.size else true
+
 -- the answer to a deposit
-abbrev pub deposit_told : KmsState → SealedKey → Deposit
-deposit_told s x =
-    if is_present s x then (if length (ready_in s.ready.queues x.birth) == s.ready.size then Full else Kept)
+abbrev pub deposit_answer : KmsState → SealedKey → Deposit
+deposit_answer s x =
+    if is_present s x then (if is_filled s.ready x.birth then Full else Kept)
     else stale_for s (row_of s x.version.key)
 
 abbrev pub edek_of_sealed : SealedKey → Edek
@@ -71,4 +75,4 @@ queues_with all x (Stale opening birth number) = all
 
 -- the keys after a deposit
 abbrev pub deposited : KmsState → SealedKey → KmsState
-deposited s x = record s { ready = queues_with s.ready x (deposit_told s x) }
+deposited s x = record s { ready = queues_with s.ready x (deposit_answer s x) }

@@ -10,8 +10,8 @@ use Rattle.kms_calls.specs.declared.calls.KmsReply.TheVariants as reply
 use Rattle.kms_calls.specs.declared.calls.KmsRefusal.TheVariants as refusal
 use Rattle.key_rows.specs.Records.{HasSpelling}
 use Rattle.key_rows.specs.Table.{Table}
-use Rattle.kms_store.specs.Store.{Applies, IsKeyLog, IsLeftOf, IsLogOf, StandsFor, StoreState, next_opening, settled_commands}
-use Rattle.kms_core.specs.State.{KmsState, Running, ServiceState, opened, service_of, settled}
+use Rattle.kms_store.specs.Store.{Applies, IsKeyLog, IsLeftOf, IsLogOf, IsKeyStoreOf, StoreState, next_opening, settled_commands}
+use Rattle.kms_core.specs.State.{KmsState, Running, ServiceState, service_after_opening, service_of, settled}
 use Rattle.kms_core.specs.Calls.{KmsActs, causes, deed, first_cause}
 
 -- What a call may do: only read; or work on the queues of ready keys, and write nothing; or change keys, and write to the log.
@@ -37,68 +37,68 @@ kind (call.Decrypt name sent) = Reading
 kind (call.Reencrypt name sent) = Reading
 kind (call.Batch name sent) = Reading
 
-abbrev pub listed : Option KeyCommand → List KeyCommand
-listed None = []
-listed (Some command) = command ∷ []
+abbrev pub commands_of : Option KeyCommand → List KeyCommand
+commands_of None = []
+commands_of (Some command) = command ∷ []
 
 -- a command is acknowledged by an answer that is not a refusal
 abbrev pub acknowledged : KmsReply → Option KeyCommand → List KeyCommand
 acknowledged (reply.Refused why) logs = []
-acknowledged _ logs = listed logs
+acknowledged _ logs = commands_of logs
 
 -- a call that changes nothing
-pub record OnlyReads (s : ServiceState) (words : ℕ → ℕ) (now : ℕ) (c : KmsCall) (told : KmsReply) (drawn : ℕ) (logged : List KeyCommand) (s' : ServiceState) : Type 0 where
-  pub acts : KmsActs s.keys words now c told drawn s.keys
+pub record OnlyReads (s : ServiceState) (words : ℕ → ℕ) (now : ℕ) (c : KmsCall) (result : KmsReply) (drawn : ℕ) (logged : List KeyCommand) (s' : ServiceState) : Type 0 where
+  pub acts : KmsActs s.keys words now c result drawn s.keys
   pub none_logged : logged ≡ []
   pub same : s' ≡ s
 
 -- a call that may change the queues, and writes nothing
-pub record OnlyWorks (s : ServiceState) (words : ℕ → ℕ) (now : ℕ) (c : KmsCall) (told : KmsReply) (drawn : ℕ) (logged : List KeyCommand) (s' : ServiceState) : Type 0 where
+pub record OnlyWorks (s : ServiceState) (words : ℕ → ℕ) (now : ℕ) (c : KmsCall) (result : KmsReply) (drawn : ℕ) (logged : List KeyCommand) (s' : ServiceState) : Type 0 where
   pub changed : KmsState
-  pub acts : KmsActs s.keys words now c told drawn changed
+  pub acts : KmsActs s.keys words now c result drawn changed
   pub none_logged : logged ≡ []
   pub left : s' ≡ record s { keys = changed }
 
 -- The pending command could not be settled: it is still pending, and nothing changed.
-pub record Unsettled (s : ServiceState) (fault : Type 0) (told : KmsReply) (drawn : ℕ) (logged : List KeyCommand) (s' : ServiceState) : Type 0 where
+pub record Unsettled (s : ServiceState) (fault : Type 0) (result : KmsReply) (drawn : ℕ) (logged : List KeyCommand) (s' : ServiceState) : Type 0 where
   pub waits : is_some s.pending ≡ true
   pub failed : fault
-  pub told_is : told ≡ reply.Refused refusal.StoreFault
+  pub reply_is : result ≡ reply.Refused refusal.StoreFault
   pub none_drawn : drawn ≡ 0
   pub none_logged : logged ≡ []
   pub same : s' ≡ s
 
 -- A change of keys while nothing is pending, after the commands that were settled. Its command, if it has one, was written
 -- to the log.
-pub record Written (keys : KmsState) (before : List KeyCommand) (words : ℕ → ℕ) (now : ℕ) (c : KmsCall) (told : KmsReply) (drawn : ℕ) (logged : List KeyCommand) (s' : ServiceState) : Type 0 where
+pub record Written (keys : KmsState) (before : List KeyCommand) (words : ℕ → ℕ) (now : ℕ) (c : KmsCall) (result : KmsReply) (drawn : ℕ) (logged : List KeyCommand) (s' : ServiceState) : Type 0 where
   pub changed : KmsState
-  pub acts : KmsActs keys words now c told drawn changed
-  pub logged_is : logged ≡ before ++ acknowledged told (deed keys words now c).logs
+  pub acts : KmsActs keys words now c result drawn changed
+  pub logged_is : logged ≡ before ++ acknowledged result (deed keys words now c).logs
   pub left : s' ≡ record { keys = changed; pending = None }
 
 -- The disk failed while the change was written: its command is pending, its birth is used, and nothing else changed.
-pub record Unwritten (keys : KmsState) (before : List KeyCommand) (words : ℕ → ℕ) (now : ℕ) (c : KmsCall) (fault : Type 0) (told : KmsReply) (drawn : ℕ) (logged : List KeyCommand) (s' : ServiceState) : Type 0 where
+pub record Unwritten (keys : KmsState) (before : List KeyCommand) (words : ℕ → ℕ) (now : ℕ) (c : KmsCall) (fault : Type 0) (result : KmsReply) (drawn : ℕ) (logged : List KeyCommand) (s' : ServiceState) : Type 0 where
   pub failed : fault
   pub free : first_cause (causes keys c) ≡ None
-  pub told_is : told ≡ reply.Refused refusal.StoreFault
+  pub reply_is : result ≡ reply.Refused refusal.StoreFault
   pub drawn_is : drawn ≡ (deed keys words now c).words
   pub logged_is : logged ≡ before
   pub left : s' ≡ record { keys = (deed keys words now c).state; pending = (deed keys words now c).logs }
 
 abbrev pub Changes : KmsState → List KeyCommand → (ℕ → ℕ) → ℕ → KmsCall → Type 0 → KmsReply → ℕ → List KeyCommand → ServiceState → Type 0
-Changes keys before words now c fault told drawn logged s' =
-    Written keys before words now c told drawn logged s' ⊎ Unwritten keys before words now c fault told drawn logged s'
+Changes keys before words now c fault result drawn logged s' =
+    Written keys before words now c result drawn logged s' ⊎ Unwritten keys before words now c fault result drawn logged s'
 
 -- From s and these words to come, a call may get this reply, draw this number of words, acknowledge these commands and
 -- leave s'. A store fault comes only if `fault` holds. A pending command is acknowledged if it is found in the log.
 abbrev pub ServesBy : Kind → ServiceState → (ℕ → ℕ) → ℕ → KmsCall → Type 0 → KmsReply → ℕ → List KeyCommand → ServiceState → Type 0
-ServesBy Reading s words now c fault told drawn logged s' = OnlyReads s words now c told drawn logged s'
-ServesBy Working s words now c fault told drawn logged s' = OnlyWorks s words now c told drawn logged s'
-ServesBy Committing s words now c fault told drawn logged s' =
-    Unsettled s fault told drawn logged s' ⊎ ((kept : Bool) × Changes (settled kept s) (settled_commands kept s.pending) words now c fault told drawn logged s')
+ServesBy Reading s words now c fault result drawn logged s' = OnlyReads s words now c result drawn logged s'
+ServesBy Working s words now c fault result drawn logged s' = OnlyWorks s words now c result drawn logged s'
+ServesBy Committing s words now c fault result drawn logged s' =
+    Unsettled s fault result drawn logged s' ⊎ ((kept : Bool) × Changes (settled kept s) (settled_commands kept s.pending) words now c fault result drawn logged s')
 
-abbrev pub Serves : ServiceState → (ℕ → ℕ) → ℕ → KmsCall → Type 0 → KmsReply → ℕ → List KeyCommand → ServiceState → Type 0
-Serves s words now c fault told drawn logged s' = ServesBy (kind c) s words now c fault told drawn logged s'
+abbrev pub KmsServes : ServiceState → (ℕ → ℕ) → ℕ → KmsCall → Type 0 → KmsReply → ℕ → List KeyCommand → ServiceState → Type 0
+KmsServes s words now c fault result drawn logged s' = ServesBy (kind c) s words now c fault result drawn logged s'
 
 -- What a crash leaves of a log of these commands while nothing is pending: the log with or without one more command, which
 -- is the call's own and applies to the table.
@@ -112,32 +112,32 @@ pub record IsGrowing (table : Table) (own : KeyCommand → Type 0) (commands : L
 -- What a call of the service does to its disk: the acknowledged commands are in the log after the earlier ones, and a crash
 -- at any moment of the call leaves what P allows for the earlier ones.
 pub record Logs (old new : DiskState) (store store' : StoreState) (P : List KeyCommand → List ℕ → Type 0) (logged : List KeyCommand) : Type 0 where
-  pub stands : Tells old → (commands : List KeyCommand) → StandsFor old store commands → StandsFor new store' (commands ++ logged)
-  pub moments : Tells old → (commands : List KeyCommand) → StandsFor old store commands → LeavesOnly 0 old new (P commands)
+  pub stands : Tells old → (commands : List KeyCommand) → IsKeyStoreOf old store commands → IsKeyStoreOf new store' (commands ++ logged)
+  pub moments : Tells old → (commands : List KeyCommand) → IsKeyStoreOf old store commands → LeavesOnly 0 old new (P commands)
   pub run : RunOn 0 old new
 
 -- the answer acknowledges the command, or it is pending afterwards
 abbrev pub WasWritten : KmsReply → ServiceState → KeyCommand → Type 0
-WasWritten told s' command = (acknowledged told (Some command) ≡ command ∷ []) ⊎ (s'.pending ≡ Some command)
+WasWritten result s' command = (acknowledged result (Some command) ≡ command ∷ []) ⊎ (s'.pending ≡ Some command)
 
 -- What a call with this answer, and this state after it, may write after the settled log: its own command, if nothing refuses
 -- the call, and the answer acknowledges the command or it is pending afterwards. So a refused call writes nothing, except
 -- before a store fault.
-pub record OwnOf (s : ServiceState) (words : ℕ → ℕ) (now : ℕ) (c : KmsCall) (told : KmsReply) (s' : ServiceState) (kept : Bool) (command : KeyCommand) : Type 0 where
+pub record OwnOf (s : ServiceState) (words : ℕ → ℕ) (now : ℕ) (c : KmsCall) (result : KmsReply) (s' : ServiceState) (kept : Bool) (command : KeyCommand) : Type 0 where
   pub free : first_cause (causes (settled kept s) c) ≡ None
   pub is : (deed (settled kept s) words now c).logs ≡ Some command
-  pub was_written : WasWritten told s' command
+  pub was_written : WasWritten result s' command
 
 -- A call of a running service over its disk.
-pub record Acts (old new : DiskState) (r : Running) (words : ℕ → ℕ) (now : ℕ) (c : KmsCall) (told : KmsReply) (r' : Running) (words' : ℕ → ℕ) : Type 0 where
+pub record KmsActsOnDisk (old new : DiskState) (r : Running) (words : ℕ → ℕ) (now : ℕ) (c : KmsCall) (result : KmsReply) (r' : Running) (words' : ℕ → ℕ) : Type 0 where
   pub drawn : ℕ
   pub logged : List KeyCommand
-  pub serves : Serves (service_of r) words now c (Rose old.faults new.faults) told drawn logged (service_of r')
+  pub serves : KmsServes (service_of r) words now c (Rose old.faults new.faults) result drawn logged (service_of r')
   pub rest : (k : ℕ) → words' k ≡ words (drawn + k)
-  pub disk : Logs old new r.store r'.store (IsLeftOf r.store.table.keys r.store.pending (OwnOf (service_of r) words now c told (service_of r'))) logged
+  pub disk : Logs old new r.store r'.store (IsLeftOf r.store.table.keys r.store.pending (OwnOf (service_of r) words now c result (service_of r'))) logged
 
 -- A start found a table in the log, and added the next opening after its commands. There are no queues yet.
 pub record Starts (old new : DiskState) (r : Running) : Type 0 where
   pub table : Table
-  pub opens : service_of r ≡ opened r.ready table
-  pub log : Tells old → (commands : List KeyCommand) × IsKeyLog (old.reads 0) commands table × StandsFor new r.store (commands ++ next_opening table ∷ [])
+  pub opens : service_of r ≡ service_after_opening r.ready table
+  pub log : Tells old → (commands : List KeyCommand) × IsKeyLog (old.reads 0) commands table × IsKeyStoreOf new r.store (commands ++ next_opening table ∷ [])

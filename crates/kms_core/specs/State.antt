@@ -65,8 +65,8 @@ abbrev pub no_queues : SizeValues → AllQueues
 no_queues sizes = record { size = sizes.queue; watermark = sizes.watermark; queues = [] }
 
 -- after a start that found this table: in the next opening, with nothing pending, and without queues, whose sizes stay
-abbrev pub opened : AllQueues → Table → ServiceState
-opened all t = record { keys = record { table = after t (next_opening t); next = 1; ready = record all { queues = [] } }; pending = None }
+abbrev pub service_after_opening : AllQueues → Table → ServiceState
+service_after_opening all t = record { keys = record { table = after t (next_opening t); next = 1; ready = record all { queues = [] } }; pending = None }
 
 -- a queue is of an existing key, and its ready keys are of the key's current version
 abbrev pub IsReadyFor : List KeyRow → Queue → Type 0

@@ -21,7 +21,7 @@ use Rattle.eek_queues.specs.Queues.{AllQueues, ready_in}
 use Rattle.kms_core.specs.State.{KmsState, Running, ServiceState, emptied, keys_of, service_of, settled, without}
 use Rattle.kms_core.specs.declared.queued.QueueChange.{QueueChange}
 use Rattle.kms_core.specs.declared.queued.QueueChange.TheVariants.{Empty, Keep, Remove}
-use Rattle.kms_core.specs.Service.{Changes, IsGrowing, Logs, WasWritten, listed}
+use Rattle.kms_core.specs.Service.{Changes, IsGrowing, Logs, WasWritten, commands_of}
 use Rattle.kms_core.specs.Calls.{CallActs, Deed, handed_out, done_with, causes, deed, takes_memory, birth_of, bits_of, versions_of, row_of, current_version, first_cause, sent_causes, batch_causes, is_malformed, edek_of, same_version}
 use Rattle.kms_core.specs.Draws.{drawn_edeks, place_of_draw}
 use Rattle.kms_core.specs.declared.drawing.CurrentVersion.{CurrentVersion}
@@ -30,12 +30,12 @@ use Rattle.kms_core.specs.declared.service.Standing.{Standing}
 
 -- the deed is done, or memory ran out and nothing changes
 abbrev pub Enacts : KmsState → Deed → KmsReply → KmsState → Type 0
-Enacts s d told s' = ((told ≡ d.answer) × (s' ≡ done_with d.logs d.state)) ⊎ ((told ≡ Refused NoMemory) × (s' ≡ s))
+Enacts s d reply s' = ((reply ≡ d.answer) × (s' ≡ done_with d.logs d.state)) ⊎ ((reply ≡ Refused NoMemory) × (s' ≡ s))
 
 -- a call that only answers: it is refused for its first cause, or answered, or memory ran out if it allocates
 abbrev pub Answers : KmsState → KmsCall → KmsReply → KmsReply → Type 0
-Answers s c answer told =
-    MatchOption (first_cause (causes s c)) ((told ≡ answer) ⊎ ((takes_memory c ≡ true) × (told ≡ Refused NoMemory))) (λ why. told ≡ Refused why)
+Answers s c answer reply =
+    MatchOption (first_cause (causes s c)) ((reply ≡ answer) ⊎ ((takes_memory c ≡ true) × (reply ≡ Refused NoMemory))) (λ why. reply ≡ Refused why)
 
 -- the data of a key that exists
 pub record StandsSo (s : KmsState) (name : KeyName) (key : Standing) : Type 0 where
@@ -133,9 +133,9 @@ pub record HandsOut (all all' : AllQueues) (current : CurrentVersion) (words wor
   pub queues : all' ≡ handed_out all current.birth count
 
 -- a call on the queues of ready keys
-pub record WorksOn (r : Running) (words : ℕ → ℕ) (now : ℕ) (c : KmsCall) (told : KmsReply) (r' : Running) (words' : ℕ → ℕ) : Type 0 where
+pub record WorksOn (r : Running) (words : ℕ → ℕ) (now : ℕ) (c : KmsCall) (reply : KmsReply) (r' : Running) (words' : ℕ → ℕ) : Type 0 where
   pub store : r'.store ≡ r.store
-  pub acts : CallActs (keys_of r) words now c told (keys_of r') words'
+  pub acts : CallActs (keys_of r) words now c reply (keys_of r') words'
 
 -- a sealed key is of the newest version of the key of its birth
 pub record IsOfNewest (s : KmsState) (x : SealedKey) : Type 0 where
@@ -154,20 +154,20 @@ changed (Remove birth) all = without all birth
 -- A deed while nothing is pending: it is written and done; or memory ran out, and nothing changes; or the disk failed while
 -- its command was written, which is then pending.
 abbrev pub EndsSo : KmsState → Deed → Type 0 → KmsReply → List KeyCommand → ServiceState → Type 0
-EndsSo s d fault told logged s' =
-    ((told ≡ d.answer) × (logged ≡ listed d.logs) × (s' ≡ record { keys = done_with d.logs d.state; pending = None }))
-    ⊎ ((told ≡ Refused NoMemory) × (logged ≡ []) × (s' ≡ record { keys = s; pending = None }))
-    ⊎ (fault × (told ≡ Refused StoreFault) × (logged ≡ []) × (s' ≡ record { keys = d.state; pending = d.logs }))
+EndsSo s d fault reply logged s' =
+    ((reply ≡ d.answer) × (logged ≡ commands_of d.logs) × (s' ≡ record { keys = done_with d.logs d.state; pending = None }))
+    ⊎ ((reply ≡ Refused NoMemory) × (logged ≡ []) × (s' ≡ record { keys = s; pending = None }))
+    ⊎ (fault × (reply ≡ Refused StoreFault) × (logged ≡ []) × (s' ≡ record { keys = d.state; pending = d.logs }))
 
 -- the command that a deed with this answer and this state after it may write
-pub record OwnDeed (d : Deed) (told : KmsReply) (s' : ServiceState) (command : KeyCommand) : Type 0 where
+pub record OwnDeed (d : Deed) (reply : KmsReply) (s' : ServiceState) (command : KeyCommand) : Type 0 where
   pub is : d.logs ≡ Some command
-  pub was_written : WasWritten told s' command
+  pub was_written : WasWritten reply s' command
 
-pub record Commits (old new : DiskState) (r : Running) (d : Deed) (told : KmsReply) (r' : Running) : Type 0 where
+pub record Commits (old new : DiskState) (r : Running) (d : Deed) (reply : KmsReply) (r' : Running) : Type 0 where
   pub logged : List KeyCommand
-  pub ends : EndsSo (keys_of r) d (Rose old.faults new.faults) told logged (service_of r')
-  pub disk : Logs old new r.store r'.store (IsGrowing r.store.table.keys (OwnDeed d told (service_of r'))) logged
+  pub ends : EndsSo (keys_of r) d (Rose old.faults new.faults) reply logged (service_of r')
+  pub disk : Logs old new r.store r'.store (IsGrowing r.store.table.keys (OwnDeed d reply (service_of r'))) logged
 
 -- the pending command was settled: kept or dropped
 pub record Settling (old new : DiskState) (r r' : Running) : Type 0 where
@@ -183,15 +183,15 @@ pub record IsUnsettled (old new : DiskState) (r r' : Running) : Type 0 where
   pub disk : Logs old new r.store r'.store (IsLeftOf r.store.table.keys r.store.pending NoCommand) []
 
 -- the command that a change with this answer and this state after it may write, while nothing is pending
-pub record OwnChange (s : KmsState) (words : ℕ → ℕ) (now : ℕ) (c : KmsCall) (told : KmsReply) (s' : ServiceState) (command : KeyCommand) : Type 0 where
+pub record OwnChange (s : KmsState) (words : ℕ → ℕ) (now : ℕ) (c : KmsCall) (reply : KmsReply) (s' : ServiceState) (command : KeyCommand) : Type 0 where
   pub free : first_cause (causes s c) ≡ None
   pub is : (deed s words now c).logs ≡ Some command
-  pub was_written : WasWritten told s' command
+  pub was_written : WasWritten reply s' command
 
 -- a change of keys while nothing is pending
-pub record ActsSettled (old new : DiskState) (r : Running) (words : ℕ → ℕ) (now : ℕ) (c : KmsCall) (told : KmsReply) (r' : Running) (words' : ℕ → ℕ) : Type 0 where
+pub record ActsSettled (old new : DiskState) (r : Running) (words : ℕ → ℕ) (now : ℕ) (c : KmsCall) (reply : KmsReply) (r' : Running) (words' : ℕ → ℕ) : Type 0 where
   pub drawn : ℕ
   pub logged : List KeyCommand
-  pub changes : Changes (keys_of r) [] words now c (Rose old.faults new.faults) told drawn logged (service_of r')
+  pub changes : Changes (keys_of r) [] words now c (Rose old.faults new.faults) reply drawn logged (service_of r')
   pub rest : Drew words words' drawn
-  pub disk : Logs old new r.store r'.store (IsGrowing r.store.table.keys (OwnChange (keys_of r) words now c told (service_of r'))) logged
+  pub disk : Logs old new r.store r'.store (IsGrowing r.store.table.keys (OwnChange (keys_of r) words now c reply (service_of r'))) logged

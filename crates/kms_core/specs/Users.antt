@@ -17,7 +17,7 @@ use Rattle.kms_acls.specs.Verdict.{verdict}
 use Rattle.kms_store.specs.Store.{IsLeftOf, StoreState}
 use Rattle.eek_queues.specs.Queues.{AllQueues}
 use Rattle.kms_core.specs.State.{Running, ServiceState, service_of}
-use Rattle.kms_core.specs.Service.{Logs, OwnOf, Serves}
+use Rattle.kms_core.specs.Service.{Logs, OwnOf, KmsServes}
 
 -- A running service with its users: the access control lists, the store, the counter of the next birth, and the queues of ready keys.
 pub record RunningKms : Type 0 where
@@ -39,32 +39,32 @@ hides shown _ = false
 
 abbrev pub without_material : KmsReply → KmsReply
 without_material (reply.Version version material) = reply.Version version None
-without_material told = told
+without_material result = result
 
 -- the part of a reply that the user sees
-abbrev pub told_to : Shown → KmsCall → KmsReply → KmsReply
-told_to shown c told = if hides shown c then without_material told else told
+abbrev pub reply_to : Shown → KmsCall → KmsReply → KmsReply
+reply_to shown c result = if hides shown c then without_material result else result
 
 -- A call that is denied does nothing.
-pub record Denies (denied : Denied) (s : ServiceState) (told : KmsReply) (drawn : ℕ) (logged : List KeyCommand) (s' : ServiceState) : Type 0 where
-  pub told_is : told ≡ reply.Refused (refusal.Denied denied.table denied.op)
+pub record Denies (denied : Denied) (s : ServiceState) (result : KmsReply) (drawn : ℕ) (logged : List KeyCommand) (s' : ServiceState) : Type 0 where
+  pub reply_is : result ≡ reply.Refused (refusal.Denied denied.table denied.op)
   pub none_drawn : drawn ≡ 0
   pub none_logged : logged ≡ []
   pub same : s' ≡ s
 
 -- A call that is permitted is served.
-pub record Permits (shown : Shown) (s : ServiceState) (words : ℕ → ℕ) (now : ℕ) (c : KmsCall) (fault : Type 0) (told : KmsReply) (drawn : ℕ) (logged : List KeyCommand) (s' : ServiceState) : Type 0 where
+pub record Permits (shown : Shown) (s : ServiceState) (words : ℕ → ℕ) (now : ℕ) (c : KmsCall) (fault : Type 0) (result : KmsReply) (drawn : ℕ) (logged : List KeyCommand) (s' : ServiceState) : Type 0 where
   pub reply : KmsReply
-  pub serves : Serves s words now c fault reply drawn logged s'
-  pub told_is : told ≡ told_to shown c reply
+  pub serves : KmsServes s words now c fault reply drawn logged s'
+  pub reply_is : result ≡ reply_to shown c reply
 
 abbrev pub ServesUnder : Result Shown Denied → ServiceState → (ℕ → ℕ) → ℕ → KmsCall → Type 0 → KmsReply → ℕ → List KeyCommand → ServiceState → Type 0
-ServesUnder (Ok shown) s words now c fault told drawn logged s' = Permits shown s words now c fault told drawn logged s'
-ServesUnder (Err denied) s words now c fault told drawn logged s' = Denies denied s told drawn logged s'
+ServesUnder (Ok shown) s words now c fault result drawn logged s' = Permits shown s words now c fault result drawn logged s'
+ServesUnder (Err denied) s words now c fault result drawn logged s' = Denies denied s result drawn logged s'
 
 -- A call of a user under the properties of these lines: the verdict comes first, before anything is settled.
 abbrev pub ServesUser : List PropLine → Text → ServiceState → (ℕ → ℕ) → ℕ → KmsCall → Type 0 → KmsReply → ℕ → List KeyCommand → ServiceState → Type 0
-ServesUser lines user s words now c fault told drawn logged s' = ServesUnder (verdict lines user c) s words now c fault told drawn logged s'
+ServesUser lines user s words now c fault result drawn logged s' = ServesUnder (verdict lines user c) s words now c fault result drawn logged s'
 
 -- The disk is unchanged: it reads the same, and a crash leaves nothing that it might not have left before.
 pub record IsUntouched (old new : DiskState) : Type 0 where
@@ -75,12 +75,12 @@ pub record IsUntouched (old new : DiskState) : Type 0 where
   pub left : (t : ℕ) (c : Image) → new.left_since t c → old.left_since t c
 
 -- A call of a user on a running service over its disk. The lists stay the same.
-pub record ActsFor (lines : List PropLine) (user : Text) (old new : DiskState) (k : RunningKms) (words : ℕ → ℕ) (now : ℕ) (c : KmsCall) (told : KmsReply) (k' : RunningKms) (words' : ℕ → ℕ) : Type 0 where
+pub record ActsFor (lines : List PropLine) (user : Text) (old new : DiskState) (k : RunningKms) (words : ℕ → ℕ) (now : ℕ) (c : KmsCall) (result : KmsReply) (k' : RunningKms) (words' : ℕ → ℕ) : Type 0 where
   pub drawn : ℕ
   pub logged : List KeyCommand
-  pub serves : ServesUser lines user (service_of (running k)) words now c (Rose old.faults new.faults) told drawn logged (service_of (running k'))
+  pub serves : ServesUser lines user (service_of (running k)) words now c (Rose old.faults new.faults) result drawn logged (service_of (running k'))
   pub rest : (n : ℕ) → words' n ≡ words (drawn + n)
-  pub disk : Logs old new k.store k'.store (IsLeftOf k.store.table.keys k.store.pending (OwnOf (service_of (running k)) words now c told (service_of (running k')))) logged
+  pub disk : Logs old new k.store k'.store (IsLeftOf k.store.table.keys k.store.pending (OwnOf (service_of (running k)) words now c result (service_of (running k')))) logged
   -- a denied call leaves the disk unchanged
   pub untouched : (denied : Denied) → verdict lines user c ≡ Err denied → IsUntouched old new
   pub lists : k'.acls ≡ k.acls

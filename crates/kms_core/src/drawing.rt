@@ -1,11 +1,11 @@
 //! Drawing keys from random words. docs/glossary.md says what a draw is.
 ghost use Rattle.std.specs.Prelude.{◌≡◌, ◌*◌, ◌/◌, ◌≤◌, ◌⊎◌, ℕ, false, length, take, IsTrue, MatchResult};
 ghost use Rattle.key_rows.specs.Table.{is_length};
-ghost use Rattle.kms_core.specs.Draws.{drawn, drawn_edek, drawn_iv, material_for, words_for, words_of_draw};
+ghost use Rattle.kms_core.specs.Draws.{drawn, drawn_edek, drawn_iv, material_for, sealed_with, words_for, words_of_draw};
 ghost use Rattle.kms_core.specs.Calls.{is_misfit};
 ghost use Rattle.kms_core.specs.Steps.{Drew, DrewKeys, DrewSome};
 
-use eek_seal::seal;
+use eek_seal::{Sealed, Ticket, seal};
 use hk_base::{ByteList, Dek, Edek, Iv, NoMemory, VersionName, Words};
 use kms_calls::EdekList;
 
@@ -84,6 +84,17 @@ fn draw_edek<W: Words>(words: &mut W, current: &CurrentVersion) -> Edek
         iv,
         sealed: seal(&current.material, iv, &dek),
     }
+}
+
+/// Draws an initialization vector and then a data encryption key, and seals the key with a ticket.
+pub fn draw_sealed<W: Words>(words: &mut W, ticket: &Ticket) -> Sealed
+    ensures key { result ≡ sealed_with ticket.now (W.to_come words.old) }
+    ensures rest { Drew (W.to_come words.old) (W.to_come words.new) (words_of_draw (length ticket.now.material)) }
+{
+    let iv = draw_iv(words);
+    let len = ticket.material.as_bytes().len() as u64;
+    let dek = draw_key(words, len / 4);
+    Sealed::make(ticket, iv, dek)
 }
 
 /// Draws `count` data encryption keys, one after another, and adds them to others.

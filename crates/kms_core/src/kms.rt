@@ -3,17 +3,15 @@ ghost use Rattle.std.specs.Prelude.{◌≡◌, true, [], ℕ, List, IfOk, IsErrO
 ghost use Rattle.hk_base.specs.Disk.{Tells};
 ghost use Rattle.key_rows.specs.declared.rows.KeyCommand.{KeyCommand};
 ghost use Rattle.prop_text.specs.declared.lines.PropLine.{PropLine};
-ghost use Rattle.kms_acls.specs.StandsFor.{StandsFor as ListsFor};
-ghost use Rattle.kms_store.specs.Store.{OpensKeys, StandsFor};
-ghost use Rattle.eek_queues.specs.Queues.{has_queue};
+ghost use Rattle.kms_acls.specs.Agreement.{AreListsOf};
+ghost use Rattle.kms_store.specs.Store.{OpensKeys, IsKeyStoreOf};
 ghost use Rattle.kms_core.specs.State.{IsService, keys_of, no_queues, service_of};
-ghost use Rattle.kms_core.specs.Ready.{deposit_told, is_present, queues_with, ticket_of};
+ghost use Rattle.kms_core.specs.Ready.{deposit_answer, queues_with, ticket_of};
 ghost use Rattle.kms_core.specs.Service.{Starts};
-ghost use Rattle.kms_core.specs.Users.{ActsFor, hides, running, told_to, without_material};
+ghost use Rattle.kms_core.specs.Users.{ActsFor, hides, running, reply_to, without_material};
 
-use crate::deposit::Deposit;
 use crate::service::Service;
-use eek_seal::{Sealed, Ticket};
+use eek_seal::{Deposit, Sealed, Ticket};
 use frame_log::StartFault;
 use hk_base::{Disk, Text, Words};
 use kms_acls::{Acls, Denied, Shown};
@@ -146,12 +144,10 @@ impl Kms {
     }
 
     /// Puts a ready key at the end of the queue of its key. If its opening, birth or version is no
-    /// longer current, or the queue is full, nothing changes. Does not allocate.
-    ///
-    /// If they are current, the key must have a queue.
+    /// longer current, or the queue is full, nothing changes. A key without a queue has no room for
+    /// ready keys, either. Does not allocate.
     pub fn deposit(&mut self, sealed: Sealed) -> Deposit
-        requires queue { is_present (keys_of (running self.old)) sealed ≡ true → has_queue self.old.ready.queues sealed.birth ≡ true }
-        ensures told { result ≡ deposit_told (keys_of (running self.old)) sealed }
+        ensures answer { result ≡ deposit_answer (keys_of (running self.old)) sealed }
         ensures queues { self.new ≡ record self.old { ready = queues_with self.old.ready sealed result } }
     {
         self.service.deposit(sealed)
@@ -177,8 +173,8 @@ impl Kms {
         user: &Text,
         call: KmsCall,
     ) -> KmsReply
-        requires stands { Tells (D.state disk.old) → ((commands : List KeyCommand) × StandsFor (D.state disk.old) self.old.store commands) }
-        ensures { (lines : List PropLine) → ListsFor self.old.acls lines
+        requires stands { Tells (D.state disk.old) → ((commands : List KeyCommand) × IsKeyStoreOf (D.state disk.old) self.old.store commands) }
+        ensures { (lines : List PropLine) → AreListsOf self.old.acls lines
             → ActsFor lines user.now (D.state disk.old) (D.state disk.new) self.old (W.to_come words.old) now call result self.new (W.to_come words.new) }
     {
         let shown = match self.acls.verdict(user, &call) {

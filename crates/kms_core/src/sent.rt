@@ -63,7 +63,7 @@ fn check(row: &KeyRow, sent: &RawEdek) -> Result<Checked, KmsRefusal>
     let Some(material) = row.materials.get(sent.version.number) else {
         return Err(KmsRefusal::NoSuchVersion);
     };
-    if !sent.version.key.is(&row.name) {
+    if sent.version.key != row.name {
         return Err(KmsRefusal::WrongKey);
     }
     let Some((iv, sealed)) = parts(row.bits, sent) else {
@@ -122,7 +122,7 @@ fn any_lacks_version(row: &KeyRow, sent: &[RawEdek]) -> bool
 fn any_is_of_other_key(name: &KeyName, sent: &[RawEdek]) -> bool
     ensures { result ≡ list_any (is_of_other_key name.now) sent.now }
 {
-    sent.iter().any(|edek| !edek.version.key.is(name))
+    sent.iter().any(|edek| edek.version.key != *name)
 }
 
 fn any_is_malformed(bits: u16, sent: &[RawEdek]) -> bool

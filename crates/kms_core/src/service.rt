@@ -6,22 +6,21 @@ ghost use Rattle.hk_base.specs.Disk.{Tells};
 ghost use Rattle.key_rows.specs.Sound.{IsRow};
 ghost use Rattle.key_rows.specs.declared.rows.KeyCommand.{KeyCommand};
 ghost use Rattle.key_rows.specs.Table.{find_birth, is_length, material_of};
-ghost use Rattle.kms_store.specs.Store.{OpensKeys, StandsFor};
+ghost use Rattle.kms_store.specs.Store.{OpensKeys, IsKeyStoreOf};
 ghost use Rattle.kms_core.specs.State.{IsService, keys_of, service_of};
-ghost use Rattle.kms_core.specs.Calls.{all_versions, create_causes, created, current_material, current_version, deleted, first_cause, is_absent, is_full, is_misfit, meta_of, metas_of, opened, resealed, rolled, row_of, shown};
+ghost use Rattle.kms_core.specs.Calls.{all_versions, create_causes, created, current_material, current_version, deleted, first_cause, is_absent, is_full, is_misfit, meta_of, metas_of, unsealed_dek, resealed, rolled, row_of, version_with_material};
 ghost use Rattle.kms_core.specs.Order.{names_in_order};
-ghost use Rattle.kms_core.specs.Service.{Acts, Starts};
+ghost use Rattle.kms_core.specs.Service.{KmsActsOnDisk, Starts};
 ghost use Rattle.kms_core.specs.Steps.{ActsSettled, Answers, Commits, IsCurrent, StandsSo, Settling, IsOfNewest, IsUnsettled, WorksOn};
 ghost use Rattle.eek_queues.specs.Queues.{has_queue};
-ghost use Rattle.kms_core.specs.Ready.{deposit_told, is_present, queues_with, stale_for, ticket_of};
+ghost use Rattle.kms_core.specs.Ready.{deposit_answer, is_present, queues_with, stale_for, ticket_of};
 
-use crate::deposit::Deposit;
 use crate::drawing::{CurrentVersion, material_for};
 use crate::queued::{change, change_by, hand_out};
+use crate::replies::{meta, versions};
 use crate::sent::{MOST_ASKED, newest, open, reseal, reseal_all};
-use crate::told::{meta, versions};
 use eek_queues::Queues;
-use eek_seal::{Sealed, Ticket};
+use eek_seal::{Deposit, Sealed, Ticket};
 use frame_log::{StartFault, StoreRefusal};
 use hk_base::{ByteList, Dek, Disk, KeyName, NoMemory, VersionName, Words};
 use key_rows::{KeyCommand, KeyRow};
@@ -148,8 +147,8 @@ impl Service {
         now: u64,
         call: KmsCall,
     ) -> KmsReply
-        requires stands { Tells (D.state disk.old) → ((commands : List KeyCommand) × StandsFor (D.state disk.old) self.old.store commands) }
-        ensures { Acts (D.state disk.old) (D.state disk.new) self.old (W.to_come words.old) now call result self.new (W.to_come words.new) }
+        requires stands { Tells (D.state disk.old) → ((commands : List KeyCommand) × IsKeyStoreOf (D.state disk.old) self.old.store commands) }
+        ensures { KmsActsOnDisk (D.state disk.old) (D.state disk.new) self.old (W.to_come words.old) now call result self.new (W.to_come words.new) }
     {
         match call {
             KmsCall::Create {
@@ -176,7 +175,7 @@ impl Service {
 
     /// Settles the pending command, if there is one. If the disk fails, it is still pending.
     fn settle<D: Disk>(&mut self, disk: &mut D) -> Result<(), StoreRefusal>
-        requires stands { Tells (D.state disk.old) → ((commands : List KeyCommand) × StandsFor (D.state disk.old) self.old.store commands) }
+        requires stands { Tells (D.state disk.old) → ((commands : List KeyCommand) × IsKeyStoreOf (D.state disk.old) self.old.store commands) }
         ensures { MatchResult result (λ _. Settling (D.state disk.old) (D.state disk.new) self.old self.new) (λ _. IsUnsettled (D.state disk.old) (D.state disk.new) self.old self.new) }
     {
         let _ = self.store.opening();
@@ -198,8 +197,8 @@ impl Service {
         material: Option<ByteList>,
         description: Description,
     ) -> KmsReply
-        requires stands { Tells (D.state disk.old) → ((commands : List KeyCommand) × StandsFor (D.state disk.old) self.old.store commands) }
-        ensures { Acts (D.state disk.old) (D.state disk.new) self.old (W.to_come words.old) now (KmsCall.Create name bits material description) result self.new (W.to_come words.new) }
+        requires stands { Tells (D.state disk.old) → ((commands : List KeyCommand) × IsKeyStoreOf (D.state disk.old) self.old.store commands) }
+        ensures { KmsActsOnDisk (D.state disk.old) (D.state disk.new) self.old (W.to_come words.old) now (KmsCall.Create name bits material description) result self.new (W.to_come words.new) }
     {
         match self.settle(disk) {
             Err(_) => KmsReply::Refused(KmsRefusal::StoreFault),
@@ -219,7 +218,7 @@ impl Service {
         description: Description,
     ) -> KmsReply
         requires settled { self.old.store.pending ≡ None }
-        requires stands { Tells (D.state disk.old) → ((commands : List KeyCommand) × StandsFor (D.state disk.old) self.old.store commands) }
+        requires stands { Tells (D.state disk.old) → ((commands : List KeyCommand) × IsKeyStoreOf (D.state disk.old) self.old.store commands) }
         ensures { ActsSettled (D.state disk.old) (D.state disk.new) self.old (W.to_come words.old) now (KmsCall.Create name bits material description) result self.new (W.to_come words.new) }
     {
         if let Some(why) = self.create_refusal(&name, bits, &material) {
@@ -273,7 +272,7 @@ impl Service {
         requires bits { IsTrue (is_length bits) }
         requires length { length material ≡ bits / 8 }
         requires settled { self.old.store.pending ≡ None }
-        requires stands { Tells (D.state disk.old) → ((commands : List KeyCommand) × StandsFor (D.state disk.old) self.old.store commands) }
+        requires stands { Tells (D.state disk.old) → ((commands : List KeyCommand) × IsKeyStoreOf (D.state disk.old) self.old.store commands) }
         ensures { Commits (D.state disk.old) (D.state disk.new) self.old (created (keys_of self.old) now name bits description material 0) result self.new }
     {
         let birth = self.store.opening() as u64 * BIRTHS + self.next;
@@ -293,7 +292,7 @@ impl Service {
             }
             Ok(()) => {
                 self.next += 1;
-                shown(name, 0, material)
+                version_with_material(name, 0, material)
             }
         }
     }
@@ -306,8 +305,8 @@ impl Service {
         name: KeyName,
         material: Option<ByteList>,
     ) -> KmsReply
-        requires stands { Tells (D.state disk.old) → ((commands : List KeyCommand) × StandsFor (D.state disk.old) self.old.store commands) }
-        ensures { Acts (D.state disk.old) (D.state disk.new) self.old (W.to_come words.old) now (KmsCall.Roll name material) result self.new (W.to_come words.new) }
+        requires stands { Tells (D.state disk.old) → ((commands : List KeyCommand) × IsKeyStoreOf (D.state disk.old) self.old.store commands) }
+        ensures { KmsActsOnDisk (D.state disk.old) (D.state disk.new) self.old (W.to_come words.old) now (KmsCall.Roll name material) result self.new (W.to_come words.new) }
     {
         match self.settle(disk) {
             Err(_) => KmsReply::Refused(KmsRefusal::StoreFault),
@@ -325,7 +324,7 @@ impl Service {
         material: Option<ByteList>,
     ) -> KmsReply
         requires settled { self.old.store.pending ≡ None }
-        requires stands { Tells (D.state disk.old) → ((commands : List KeyCommand) × StandsFor (D.state disk.old) self.old.store commands) }
+        requires stands { Tells (D.state disk.old) → ((commands : List KeyCommand) × IsKeyStoreOf (D.state disk.old) self.old.store commands) }
         ensures { ActsSettled (D.state disk.old) (D.state disk.new) self.old (W.to_come words.old) now (KmsCall.Roll name material) result self.new (W.to_come words.new) }
     {
         let Some(key) = self.standing(&name) else {
@@ -366,7 +365,7 @@ impl Service {
         requires room { key.versions < 65535 }
         requires length { length material ≡ key.bits / 8 }
         requires settled { self.old.store.pending ≡ None }
-        requires stands { Tells (D.state disk.old) → ((commands : List KeyCommand) × StandsFor (D.state disk.old) self.old.store commands) }
+        requires stands { Tells (D.state disk.old) → ((commands : List KeyCommand) × IsKeyStoreOf (D.state disk.old) self.old.store commands) }
         ensures { Commits (D.state disk.old) (D.state disk.new) self.old (rolled (keys_of self.old) name (row_of (keys_of self.old) name) material 0) result self.new }
     {
         let command = KeyCommand::Roll {
@@ -379,14 +378,14 @@ impl Service {
             Err(StoreRefusal::StoreFault) => KmsReply::Refused(KmsRefusal::StoreFault),
             Ok(()) => {
                 self.queues.drain(key.birth);
-                shown(name, key.versions, material)
+                version_with_material(name, key.versions, material)
             }
         }
     }
 
     fn delete<D: Disk>(&mut self, disk: &mut D, name: KeyName) -> KmsReply
-        requires stands { Tells (D.state disk.old) → ((commands : List KeyCommand) × StandsFor (D.state disk.old) self.old.store commands) }
-        ensures { (words : ℕ → ℕ) (now : ℕ) → Acts (D.state disk.old) (D.state disk.new) self.old words now (KmsCall.Delete name) result self.new words }
+        requires stands { Tells (D.state disk.old) → ((commands : List KeyCommand) × IsKeyStoreOf (D.state disk.old) self.old.store commands) }
+        ensures { (words : ℕ → ℕ) (now : ℕ) → KmsActsOnDisk (D.state disk.old) (D.state disk.new) self.old words now (KmsCall.Delete name) result self.new words }
     {
         match self.settle(disk) {
             Err(_) => KmsReply::Refused(KmsRefusal::StoreFault),
@@ -397,7 +396,7 @@ impl Service {
     /// Deletes a key. No command may be pending.
     fn delete_settled<D: Disk>(&mut self, disk: &mut D, name: KeyName) -> KmsReply
         requires settled { self.old.store.pending ≡ None }
-        requires stands { Tells (D.state disk.old) → ((commands : List KeyCommand) × StandsFor (D.state disk.old) self.old.store commands) }
+        requires stands { Tells (D.state disk.old) → ((commands : List KeyCommand) × IsKeyStoreOf (D.state disk.old) self.old.store commands) }
         ensures { (words : ℕ → ℕ) (now : ℕ) → ActsSettled (D.state disk.old) (D.state disk.new) self.old words now (KmsCall.Delete name) result self.new words }
     {
         let Some(key) = self.standing(&name) else {
@@ -410,7 +409,7 @@ impl Service {
     fn remove<D: Disk>(&mut self, disk: &mut D, birth: u64) -> KmsReply
         requires born { is_some (find_birth self.old.store.table.keys.rows birth) ≡ true }
         requires settled { self.old.store.pending ≡ None }
-        requires stands { Tells (D.state disk.old) → ((commands : List KeyCommand) × StandsFor (D.state disk.old) self.old.store commands) }
+        requires stands { Tells (D.state disk.old) → ((commands : List KeyCommand) × IsKeyStoreOf (D.state disk.old) self.old.store commands) }
         ensures { Commits (D.state disk.old) (D.state disk.new) self.old (deleted (keys_of self.old) birth) result self.new }
     {
         let command = KeyCommand::Delete { birth };
@@ -575,17 +574,26 @@ impl Service {
         })
     }
 
-    /// Puts a ready key into the queue of its key.
+    /// Puts a ready key into the queue of its key, unless there is no room for it.
     pub fn deposit(&mut self, sealed: Sealed) -> Deposit
-        requires queue { is_present (keys_of self.old) sealed ≡ true → has_queue self.old.ready.queues sealed.birth ≡ true }
-        ensures told { result ≡ deposit_told (keys_of self.old) sealed }
+        ensures answer { result ≡ deposit_answer (keys_of self.old) sealed }
         ensures queues { self.new ≡ record self.old { ready = queues_with self.old.ready sealed result } }
     {
         let _ = self.count();
         if !self.is_present(&sealed) {
             return self.stale(&sealed);
         }
+        if !self.has_queue(&sealed) {
+            return Deposit::Full;
+        }
         self.put(&sealed)
+    }
+
+    /// Returns whether the key of a sealed key has a queue.
+    fn has_queue(&self, sealed: &Sealed) -> bool
+        ensures { result ≡ has_queue self.now.ready.queues sealed.now.birth }
+    {
+        self.queues.has(sealed.birth)
     }
 
     /// Puts a ready key whose opening, birth and version are current into its queue.
@@ -593,7 +601,7 @@ impl Service {
         requires present { is_present (keys_of self.old) sealed.now ≡ true }
         requires queue { has_queue self.old.ready.queues sealed.now.birth ≡ true }
         requires key { IsOfNewest (keys_of self.old) sealed.now }
-        ensures told { result ≡ deposit_told (keys_of self.old) sealed.now }
+        ensures answer { result ≡ deposit_answer (keys_of self.old) sealed.now }
         ensures queues { self.new ≡ record self.old { ready = queues_with self.old.ready sealed.now result } }
     {
         match self.queues.put(sealed.birth, sealed.edek()) {
@@ -644,7 +652,7 @@ impl Service {
     }
 
     fn decrypt(&self, name: KeyName, sent: RawEdek) -> KmsReply
-        ensures { Answers (keys_of self.now) (KmsCall.Decrypt name sent) (KmsReply.Key (opened (keys_of self.now) sent)) result }
+        ensures { Answers (keys_of self.now) (KmsCall.Decrypt name sent) (KmsReply.Key (unsealed_dek (keys_of self.now) sent)) result }
     {
         let Some(row) = self.key(&name) else {
             return KmsReply::Refused(KmsRefusal::NoSuchKey);
@@ -681,8 +689,8 @@ impl Service {
 }
 
 /// Answers with a version and its material.
-fn shown(key: KeyName, number: u16, material: Dek) -> KmsReply
-    ensures { result ≡ shown key number material }
+fn version_with_material(key: KeyName, number: u16, material: Dek) -> KmsReply
+    ensures { result ≡ version_with_material key number material }
 {
     KmsReply::Version {
         version: VersionName { key, number },

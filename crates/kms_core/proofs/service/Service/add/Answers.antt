@@ -45,8 +45,8 @@ returns-in-Ok g c =
     record { logs = ap (λ (n : ℕ). Some (Create (n * 2 ^ 32 + c.self.inside.next) c.args.name c.args.bits c.args.description c.args.now c.args.material)) (sym c.opening.ensures.opening); same_table = refl; acknowledges = refl } in
     let may : applies c.self.inside.store.table.keys command ≡ true = search rules in
     let k : Committed D0 D1 c.self.inside.store command = record { may = may; moments = c.commit.ensures.any_moment; run = c.commit.ensures.run } in
-    subst (λ (x : Running). Commits D0 D1 x (created (keys_of x) c.args.now c.args.name c.args.bits c.args.description c.args.material 0) c.shown.result t) c.self.view_is
-    (commit_done D0 D1 r t _ command c.shown.result of_deed refl refl c.shown.ensures c.in-Ok.ensures.table.0 c.in-Ok.ensures.table.1 k c.in-Ok.ensures.committed)
+    subst (λ (x : Running). Commits D0 D1 x (created (keys_of x) c.args.now c.args.name c.args.bits c.args.description c.args.material 0) c.version_with_material.result t) c.self.view_is
+    (commit_done D0 D1 r t _ command c.version_with_material.result of_deed refl refl c.version_with_material.ensures c.in-Ok.ensures.table.0 c.in-Ok.ensures.table.1 k c.in-Ok.ensures.committed)
 
 pub invariant_of-self-in-Ok : goal.invariant_of-self-in-Ok
 invariant_of-self-in-Ok g c =

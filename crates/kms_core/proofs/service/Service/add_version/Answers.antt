@@ -3,7 +3,7 @@ use Rattle.key_rows.specs.declared.rows.KeyCommand.{KeyCommand}
 use Rattle.key_rows.specs.declared.rows.KeyCommand.TheVariants.{Roll}
 use Rattle.key_rows.specs.Table.{applies}
 use Rattle.kms_core.specs.State.{Running, keys_of, service_of}
-use Rattle.kms_core.specs.Calls.{rolled, row_of, shown, versions_of}
+use Rattle.kms_core.specs.Calls.{rolled, row_of, version_with_material, versions_of}
 use Rattle.kms_core.specs.Steps.{Commits, StandsSo}
 use Rattle.kms_core.proofs.StepLemmas.{can_roll}
 use Rattle.kms_core.proofs.KeepLemmas.{Keeps, keeps_is, keeps_rolled, keeps_unrolled}
@@ -46,8 +46,8 @@ returns-in-Ok g c =
     record { logs = ap (λ (b : ℕ). Some (Roll b (versions_of (row_of (keys_of r) c.args.name)) c.args.material)) (sym so.birth) ∙ ap (λ (n : ℕ). Some (Roll c.args.key.birth n c.args.material)) (sym so.versions); same_table = refl; acknowledges = refl } in
     let may : applies c.self.inside.store.table.keys command ≡ true = can_roll (keys_of r) c.args.name c.args.key c.args.material c.self.invariant.0 so c.requires.room c.requires.length in
     let k : Committed D0 D1 c.self.inside.store command = record { may = may; moments = c.commit.ensures.any_moment; run = c.commit.ensures.run } in
-    subst (λ (x : Running). Commits D0 D1 x (rolled (keys_of x) c.args.name (row_of (keys_of x) c.args.name) c.args.material 0) c.shown.result t) c.self.view_is
-    (commit_done D0 D1 r t _ command _ of_deed refl c.drain.ensures (c.shown.ensures ∙ ap (λ (n : ℕ). shown c.args.name n c.args.material) so.versions) c.in-Ok.ensures.table.0 c.in-Ok.ensures.table.1 k c.in-Ok.ensures.committed)
+    subst (λ (x : Running). Commits D0 D1 x (rolled (keys_of x) c.args.name (row_of (keys_of x) c.args.name) c.args.material 0) c.version_with_material.result t) c.self.view_is
+    (commit_done D0 D1 r t _ command _ of_deed refl c.drain.ensures (c.version_with_material.ensures ∙ ap (λ (n : ℕ). version_with_material c.args.name n c.args.material) so.versions) c.in-Ok.ensures.table.0 c.in-Ok.ensures.table.1 k c.in-Ok.ensures.committed)
 
 pub invariant_of-self-in-Ok : goal.invariant_of-self-in-Ok
 invariant_of-self-in-Ok g c =

@@ -32,18 +32,18 @@ returns g c = λ now.
     let t : Running = record r { ready = c.hand_out.new.queues } in
     let few : nat_lt 1000 c.args.count ≡ false = grind (arith, c.if-count-gt-MOST_ASKED.false) in
     let is : IsCurrent (keys_of r) c.args.name c.in-Some.current = subst (λ (x : Running). IsCurrent (keys_of x) c.args.name c.in-Some.current) (sym c.self.view_is) c.in-Some.ensures in
-    let told : KmsReply → Type 0 = λ reply. CallActs (keys_of r) words now (Generate c.args.name c.args.count) reply (keys_of t) words' in
+    let answer : KmsReply → Type 0 = λ reply. CallActs (keys_of r) words now (Generate c.args.name c.args.count) reply (keys_of t) words' in
     subst (λ (x : Running). WorksOn x words now (Generate c.args.name c.args.count) c.match-hand_out.result t words') c.self.view_is
     (elim c.match-hand_out.branch [
       | in-Err w ↦ record {
         store = refl;
-        acts = subst told (sym w.result-is)
+        acts = subst answer (sym w.result-is)
             (subst (λ (all : AllQueues). CallActs (keys_of r) words now (Generate c.args.name c.args.count) (Refused NoMemory) (record (keys_of r) { ready = all }) words') (sym w.in-Err.ensures.wanting.0)
             (generates_none (keys_of r) words now c.args.name c.args.count c.in-Some.current words' is few w.in-Err.ensures.wanting.1));
       }
       | in-Ok w ↦ record {
         store = refl;
-        acts = subst told (sym w.result-is) (generates (keys_of r) words now c.args.name c.args.count c.in-Some.current t.ready w.in-Ok.keys words' is few w.in-Ok.ensures.given);
+        acts = subst answer (sym w.result-is) (generates (keys_of r) words now c.args.name c.args.count c.in-Some.current t.ready w.in-Ok.keys words' is few w.in-Ok.ensures.given);
       }
     ])
 

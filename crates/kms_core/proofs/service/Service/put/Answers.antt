@@ -3,9 +3,9 @@ use Rattle.eek_seal.specs.Tickets.{SealedKey}
 use Rattle.eek_queues.specs.Queues.{AllQueues, has_queue, ready_in, set_ready}
 use Rattle.kms_core.specs.State.{AllReady, Running, keys_of, service_of}
 use Rattle.kms_core.specs.Steps.{IsOfNewest}
-use Rattle.kms_core.specs.Ready.{deposit_told, is_present, queues_with, with_sealed}
-use Rattle.kms_core.specs.declared.deposit.Deposit.{Deposit}
-use Rattle.kms_core.proofs.DepositLemmas.{all_deposited, keeps_queues, told_full, told_kept}
+use Rattle.kms_core.specs.Ready.{deposit_answer, is_present, queues_with, with_sealed}
+use Rattle.eek_seal.specs.declared.deposit.Deposit.{Deposit}
+use Rattle.kms_core.proofs.DepositLemmas.{all_deposited, keeps_queues, answers_full, answers_kept}
 use Rattle.kms_core.proofs.service.Service.put.Goals.{in-Ok, in-Err}
 use Rattle.kms_core.proofs.service.Service.put.Goals as goal
 
@@ -28,16 +28,17 @@ invariant_of-self c =
     ] in
     keeps_queues (service_of r) c.put.new.self each c.self.invariant
 
-pub returns-clause-told : goal.returns-clause-told
-returns-clause-told c =
+pub returns-clause-answer : goal.returns-clause-answer
+returns-clause-answer c =
     let r : Running = record { store = c.self.inside.store; next = c.self.inside.next; ready = c.self.inside.queues } in
     let birth : c.sealed.inside.birth ≡ c.args.sealed.now.birth = ap (λ (x : SealedKey). x.birth) c.sealed.view_is in
     let held : length (ready_in r.ready.queues c.sealed.inside.birth) ≡ length (ready_in r.ready.queues c.args.sealed.now.birth) = ap (λ (b : ℕ). length (ready_in r.ready.queues b)) birth in
     let present : is_present (keys_of r) c.args.sealed.now ≡ true = ap (λ (x : Running). is_present (keys_of x) c.args.sealed.now) c.self.view_is ∙ c.requires.present in
-    subst (λ (x : Running). c.match-put.result ≡ deposit_told (keys_of x) c.args.sealed.now) c.self.view_is
+    let has : has_queue r.ready.queues c.args.sealed.now.birth ≡ true = subst (λ (x : Running). has_queue x.ready.queues c.args.sealed.now.birth ≡ true) (sym c.self.view_is) c.requires.queue in
+    subst (λ (x : Running). c.match-put.result ≡ deposit_answer (keys_of x) c.args.sealed.now) c.self.view_is
     (elim c.match-put.branch [
-      | in-Ok w ↦ w.result-is ∙ told_kept (keys_of r) c.args.sealed.now present (λ full. let no : false ≡ true = w.in-Ok.ensures.full.1 (held ∙ full) in absurd cc)
-      | in-Err w ↦ w.result-is ∙ told_full (keys_of r) c.args.sealed.now present (sym held ∙ w.in-Err.ensures.full.0 refl)
+      | in-Ok w ↦ w.result-is ∙ answers_kept (keys_of r) c.args.sealed.now present has (λ full. let no : false ≡ true = w.in-Ok.ensures.full.1 (held ∙ full) in absurd cc)
+      | in-Err w ↦ w.result-is ∙ answers_full (keys_of r) c.args.sealed.now present has (sym held ∙ w.in-Err.ensures.full.0 refl)
     ])
 
 pub returns-clause-queues : goal.returns-clause-queues

@@ -2,7 +2,7 @@ use Rattle.std.proofs.Common.{◌∙◌, ◌∷◌, ◌++◌, [], ap, arith}
 use Rattle.std.proofs.lemmas.List.{take_all}
 use Rattle.kms_core.specs.Calls.{versions_from}
 use Rattle.kms_core.proofs.AnswerLemmas.{one_more_version}
-use Rattle.kms_core.proofs.told.versions.Goals as goal
+use Rattle.kms_core.proofs.replies.versions.Goals as goal
 
 pub loop-number-preserved : goal.loop-number-preserved
 loop-number-preserved c =

@@ -1,4 +1,4 @@
-//! What a deposit of a ready key answers.
+//! The answer to a deposit of a ready key.
 
 /// The answer to a deposit of a data encryption key that was sealed in advance.
 #[derive(Clone, Copy, Debug, PartialEq, Eq)]
@@ -12,6 +12,6 @@ pub enum Deposit {
         birth: u64,
         number: u16,
     },
-    /// The queue holds as many ready keys as it can.
+    /// The queue holds as many ready keys as it can, or the key has no queue.
     Full,
 }
