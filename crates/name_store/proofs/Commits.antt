@@ -13,7 +13,7 @@ use Rattle.edit_log.specs.Log.{EditLogState}
 use Rattle.edit_log.specs.Log as edits
 use Rattle.name_store.specs.Table.{NameTable, after_table, allows, applies, is_fresh, nothing_logged, settled_ops, settled_used, uses}
 use Rattle.name_store.specs.Replay.{Applies}
-use Rattle.name_store.specs.Store.{Commits, IsWritten, StandsFor, StoreState, made_with}
+use Rattle.name_store.specs.Store.{Commits, IsWritten, IsNameStoreOf, StoreState, made_with}
 use Rattle.name_store.proofs.Replays.{replay_more}
 
 pub and_both : (a b : Bool) → a ≡ true → b ≡ true → (a && b) ≡ true
@@ -29,8 +29,8 @@ each_last P (y ∷ ys) x each = each_last P ys x each.1
 
 module _ (old new : DiskState) (store store' : StoreState) (used : List ℕ) (ops : List EditOp) where
   -- one more operation
-  pub one_more : (op : EditOp) → StandsFor old store used ops → applies (made_with store used) op ≡ true → store'.log.pending ≡ None → store'.table ≡ after_table store.table op
-      → edits.StandsFor new store'.log (ops ++ op ∷ []) → StandsFor new store' (uses op ++ used) (ops ++ op ∷ [])
+  pub one_more : (op : EditOp) → IsNameStoreOf old store used ops → applies (made_with store used) op ≡ true → store'.log.pending ≡ None → store'.table ≡ after_table store.table op
+      → edits.IsEditLogOf new store'.log (ops ++ op ∷ []) → IsNameStoreOf new store' (uses op ++ used) (ops ++ op ∷ [])
   one_more op s may none then_is stands = record {
     log = stands;
     makes =
@@ -40,7 +40,7 @@ module _ (old new : DiskState) (store store' : StoreState) (used : List ℕ) (op
   }
 
   -- no more operation
-  pub as_before : StandsFor old store used ops → store'.table ≡ store.table → Applies (made_with store used) store'.log.pending → edits.StandsFor new store'.log ops → StandsFor new store' used ops
+  pub as_before : IsNameStoreOf old store used ops → store'.table ≡ store.table → Applies (made_with store used) store'.log.pending → edits.IsEditLogOf new store'.log ops → IsNameStoreOf new store' used ops
   as_before s same waits stands = record {
     log = stands;
     makes = s.makes ∙ ap (λ (t : NameTable). Some (record { table = t; used = used })) (sym same);
@@ -49,42 +49,42 @@ module _ (old new : DiskState) (store store' : StoreState) (used : List ℕ) (op
 
 module _ (old new : DiskState) (store store' : StoreState) (op : EditOp) (run : RunOn 1 old new) where
   abbrev Moments : Type 0
-  Moments = Tells old → (ops : List EditOp) → edits.StandsFor old store.log ops → LeavesOnly 1 old new (edits.IsWithOrWithout ops op)
+  Moments = Tells old → (ops : List EditOp) → edits.IsEditLogOf old store.log ops → LeavesOnly 1 old new (edits.IsWithOrWithout ops op)
 
   abbrev Added : Type 0
-  Added = Tells old → (ops : List EditOp) → edits.StandsFor old store.log ops → edits.StandsFor new store'.log (ops ++ op ∷ [])
+  Added = Tells old → (ops : List EditOp) → edits.IsEditLogOf old store.log ops → edits.IsEditLogOf new store'.log (ops ++ op ∷ [])
 
   abbrev Kept : Type 0
-  Kept = Tells old → (ops : List EditOp) → edits.StandsFor old store.log ops → edits.StandsFor new store'.log ops
+  Kept = Tells old → (ops : List EditOp) → edits.IsEditLogOf old store.log ops → edits.IsEditLogOf new store'.log ops
 
-  unwritten : (used : List ℕ) (ops : List EditOp) → StandsFor new store' used ops → StandsFor new store' (settled_used false (Some op) used) (ops ++ settled_ops false (Some op))
-  unwritten used ops s = subst (λ (l : List EditOp). StandsFor new store' used l) (sym (append-nil ops)) s
+  unwritten : (used : List ℕ) (ops : List EditOp) → IsNameStoreOf new store' used ops → IsNameStoreOf new store' (settled_used false (Some op) used) (ops ++ settled_ops false (Some op))
+  unwritten used ops s = subst (λ (l : List EditOp). IsNameStoreOf new store' used l) (sym (append-nil ops)) s
 
   pub commits_done : allows store.table op ≡ true → store'.log.pending ≡ None → store'.table ≡ after_table store.table op → Moments → Added → Commits old new store op true store'
   commits_done may none then_is any added = record {
-    stands = λ told used ops s fresh. one_more old new store store' used ops op s (and_both (allows store.table op) (is_fresh used op) may fresh) none then_is (added told ops s.log);
-    moments = λ told used ops s. let now = added told ops s.log in weaker (λ c with. (each_last HasSpelling ops op now.spelled, with)) (any told ops s.log);
+    stands = λ tells used ops s fresh. one_more old new store store' used ops op s (and_both (allows store.table op) (is_fresh used op) may fresh) none then_is (added tells ops s.log);
+    moments = λ tells used ops s. let now = added tells ops s.log in weaker (λ c with. (each_last HasSpelling ops op now.spelled, with)) (any tells ops s.log);
     run = run;
   }
 
   pub commits_pending : allows store.table op ≡ true → store'.log.pending ≡ Some op → store'.table ≡ store.table → Moments → Kept → Commits old new store op false store'
   commits_pending may waits same any kept = record {
-    stands = λ told used ops s fresh.
+    stands = λ tells used ops s fresh.
         let now : Applies (made_with store used) store'.log.pending = subst (λ (o : Option EditOp). Applies (made_with store used) o) (sym waits) (and_both (allows store.table op) (is_fresh used op) may fresh) in
-        unwritten used ops (as_before old new store store' used ops s same now (kept told ops s.log));
-    moments = λ told used ops s.
-        let now = kept told ops s.log in
+        unwritten used ops (as_before old new store store' used ops s same now (kept tells ops s.log));
+    moments = λ tells used ops s.
+        let now = kept tells ops s.log in
         let spelled : HasSpelling op = subst (λ (o : Option EditOp). IfSome o HasSpelling) waits now.waits in
-        weaker (λ c with. (spelled, with)) (any told ops s.log);
+        weaker (λ c with. (spelled, with)) (any tells ops s.log);
     run = run;
   }
 
   pub commits_none : store'.log ≡ store.log → store'.table ≡ store.table → ((P : List ℕ → Type 0) → LeavesOnly 1 old new P) → Kept → Commits old new store op false store'
   commits_none log_is same still kept = record {
-    stands = λ told used ops s fresh.
+    stands = λ tells used ops s fresh.
         let now : Applies (made_with store used) store'.log.pending = subst (λ (l : EditLogState). Applies (made_with store used) l.pending) (sym log_is) s.waits in
-        unwritten used ops (as_before old new store store' used ops s same now (kept told ops s.log));
-    moments = λ told used ops s. still (IsWritten ops op);
+        unwritten used ops (as_before old new store store' used ops s same now (kept tells ops s.log));
+    moments = λ tells used ops s. still (IsWritten ops op);
     run = run;
   }
 

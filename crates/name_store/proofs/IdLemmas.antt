@@ -1,7 +1,7 @@
 -- The ids that operations use.
 use Rattle.std.proofs.Common.{◌≡◌, ℕ, ◌+◌, ◌*◌, ◌^◌, ◌<◌, ◌≤◌, Bool, true, false, not, ◌||◌, ◌==◌, nat_lt, nat_le, cond, List, [], ◌∷◌, Some, None, refl, sym, ◌∙◌, ap, subst, arith}
 use Rattle.std.specs.Prelude.{if◌then◌else◌}
-use Rattle.std.specs.List.{All}
+use Rattle.std.specs.List.{All, AllByRecursion}
 use Rattle.std.proofs.lemmas.Bool.Decides.{Decides-eqb, nat_tests}
 use Rattle.std.proofs.lemmas.List.Elements.{All-cons, All-filter, All-head, All-map, All-nil, All-tail, All-weaker}
 use Rattle.inode_tree.specs.declared.rows.Kind.{Kind}
@@ -11,13 +11,20 @@ use Rattle.inode_tree.specs.Moves.{moved, renamed}
 use Rattle.inode_tree.specs.Rows.{Entry, put, set_kind, with_kind}
 use Rattle.edit_ops.specs.declared.ops.EditOp.{EditOp}
 use Rattle.edit_ops.specs.declared.ops.EditOp.TheVariants as op
-use Rattle.name_store.specs.Table.{NameTable, Replayed, after, allows, applies, is_among, is_fresh, is_of_opening, nothing_logged}
+use Rattle.name_store.specs.Table.{NameTable, Replayed, after, after_table, allows, applies, is_among, is_fresh, is_of_opening, nothing_logged, uses}
 use Rattle.name_store.specs.Causes.{id_at}
 use Rattle.name_store.specs.Replay.{AllBelow, IdsOfOpening, name_replay}
 use Rattle.name_store.proofs.CauseLemmas.{MayUse, allowed, both, id-may-be-used}
 
+-- the id of the entry has P
+abbrev pub IdHas : (ℕ → Type 0) → Entry → Type 0
+IdHas P e = P e.row.id
+
+abbrev IsBefore : ℕ → ℕ → Type 0
+IsBefore n id = id < n
+
 abbrev BelowId : ℕ → Entry → Type 0
-BelowId n e = e.row.id < n
+BelowId n = IdHas (IsBefore n)
 
 all-either : (P : Entry → Type 0) (b : Bool) (xs ys : List Entry) → All P xs → All P ys → All P (cond b xs ys)
 all-either P true xs ys h g = h
@@ -37,14 +44,26 @@ kind-id n kind e = go (e.row.id == n) refl
     go true h = sym ((Decides-eqb e.row.id n).0 h)
     go false h = refl
 
-kinds-below : (m n : ℕ) (kind : Kind) (es : List Entry) → All (BelowId m) es → All (BelowId m) (set_kind es n kind)
-kinds-below m n kind es h =
-    All-map (BelowId m) (with_kind n kind) es (All-weaker (BelowId m) (λ e. BelowId m (with_kind n kind e)) (λ e below. subst (λ (i : ℕ). i < m) (sym (kind-id n kind e)) below) es h)
+kinds-have : (P : ℕ → Type 0) (n : ℕ) (kind : Kind) (es : List Entry) → All (IdHas P) es → All (IdHas P) (set_kind es n kind)
+kinds-have P n kind es h = All-map (IdHas P) (with_kind n kind) es (All-weaker (IdHas P) (λ e. IdHas P (with_kind n kind e)) (λ e has. subst P (sym (kind-id n kind e)) has) es h)
 
 -- a move leaves the ids
-moved-below : (m : ℕ) (p q : List (List ℕ)) (es : List Entry) → All (BelowId m) es → All (BelowId m) (renamed p q es)
-moved-below m p q [] h = All-nil (BelowId m)
-moved-below m p q (e ∷ es) h = all-put (BelowId m) (moved p q e) (renamed p q es) (All-head (BelowId m) e es h) (moved-below m p q es (All-tail (BelowId m) e es h))
+moved-have : (P : ℕ → Type 0) (p q : List (List ℕ)) (es : List Entry) → All (IdHas P) es → All (IdHas P) (renamed p q es)
+moved-have P p q [] h = All-nil (IdHas P)
+moved-have P p q (e ∷ es) h = all-put (IdHas P) (moved p q e) (renamed p q es) (All-head (IdHas P) e es h) (moved-have P p q es (All-tail (IdHas P) e es h))
+
+-- the rows after an operation have the ids from before it, and those that it uses
+pub rows_have : (P : ℕ → Type 0) (t : NameTable) (o : EditOp) → AllByRecursion P (uses o) → All (IdHas P) t.rows → All (IdHas P) (after_table t o).rows
+rows_have P t (op.Opened opening) own h = h
+rows_have P t (op.Mkdir id p) own h = all-put (IdHas P) _ t.rows own.0 h
+rows_have P t (op.File id p edek) own h = all-put (IdHas P) _ t.rows own.0 h
+rows_have P t (op.Remove p) own h = All-filter _ (IdHas P) t.rows h
+rows_have P t (op.Rename p q) own h = moved-have P p q t.rows h
+rows_have P t (op.Zone p key) own h = kinds-have P (id_at t.rows p) (Dir (Some key)) t.rows h
+rows_have P t (op.Allow p) own h = h
+rows_have P t (op.Disallow p) own h = h
+rows_have P t (op.Snap p name) own h = h
+rows_have P t (op.Unsnap p name) own h = h
 
 used-weaker : (n m : ℕ) → n ≤ m → (ids : List ℕ) → AllBelow n ids → AllBelow m ids
 used-weaker n m le [] h = tt
@@ -77,32 +96,32 @@ ids-after r (op.Opened opening) may h =
     }
 ids-after r (op.Mkdir id p) may h =
     let below = of-opening r.table id (id-may-be-used r.table id (allowed r.table (op.Mkdir id p) refl may).ids) in
-    record { rows = all-put (BelowId (end_of_ids r.table.opening)) _ r.table.rows below h.rows; used = (below, h.used) }
+    record { rows = rows_have (IsBefore (end_of_ids r.table.opening)) r.table (op.Mkdir id p) (below, tt) h.rows; used = (below, h.used) }
 ids-after r (op.File id p edek) may h =
     let below = of-opening r.table id (id-may-be-used r.table id (allowed r.table (op.File id p edek) refl may).ids) in
-    record { rows = all-put (BelowId (end_of_ids r.table.opening)) _ r.table.rows below h.rows; used = (below, h.used) }
-ids-after r (op.Remove p) may h = record { rows = All-filter _ (BelowId (end_of_ids r.table.opening)) r.table.rows h.rows; used = h.used }
-ids-after r (op.Rename p q) may h = record { rows = moved-below (end_of_ids r.table.opening) p q r.table.rows h.rows; used = h.used }
-ids-after r (op.Zone p key) may h = record {
-  rows = kinds-below (end_of_ids r.table.opening) (id_at r.table.rows p) (Dir (Some key)) r.table.rows h.rows;
-  used = h.used;
-}
+    record { rows = rows_have (IsBefore (end_of_ids r.table.opening)) r.table (op.File id p edek) (below, tt) h.rows; used = (below, h.used) }
+ids-after r (op.Remove p) may h = record { rows = rows_have (IsBefore (end_of_ids r.table.opening)) r.table (op.Remove p) tt h.rows; used = h.used }
+ids-after r (op.Rename p q) may h = record { rows = rows_have (IsBefore (end_of_ids r.table.opening)) r.table (op.Rename p q) tt h.rows; used = h.used }
+ids-after r (op.Zone p key) may h = record { rows = rows_have (IsBefore (end_of_ids r.table.opening)) r.table (op.Zone p key) tt h.rows; used = h.used }
 ids-after r (op.Allow p) may h = record { rows = h.rows; used = h.used }
 ids-after r (op.Disallow p) may h = record { rows = h.rows; used = h.used }
 ids-after r (op.Snap p name) may h = record { rows = h.rows; used = h.used }
 ids-after r (op.Unsnap p name) may h = record { rows = h.rows; used = h.used }
 
-ids-of-all : (r made : Replayed) (ops : List EditOp) → IdsOfOpening r → name_replay r ops ≡ Some made → IdsOfOpening made
-ids-of-all r made [] h is = let same : r ≡ made = cc is in subst IdsOfOpening same h
-ids-of-all r made (o ∷ ops) h is = go (ids-of-all (after r o) made ops) (applies r o) refl is
+-- what the operations that apply keep holds of the result
+pub kept : (I : Replayed → Type 0) → ((r : Replayed) (o : EditOp) → applies r o ≡ true → I r → I (after r o)) → (r made : Replayed) (ops : List EditOp) → I r → name_replay r ops ≡ Some made → I made
+kept I keeps r made [] h is = let same : r ≡ made = cc is in subst I same h
+kept I keeps r made (o ∷ ops) h is = go (kept I keeps (after r o) made ops) (applies r o) refl is
   where
-    go : (IdsOfOpening (after r o) → name_replay (after r o) ops ≡ Some made → IdsOfOpening made) → (b : Bool) → applies r o ≡ b → (if b then name_replay (after r o) ops else None) ≡ Some made → IdsOfOpening made
-    go rest true may is = rest (ids-after r o (both (allows r.table o) (is_fresh r.used o) may).0 h) is
+    go : (I (after r o) → name_replay (after r o) ops ≡ Some made → I made) → (b : Bool) → applies r o ≡ b → (if b then name_replay (after r o) ops else None) ≡ Some made → I made
+    go rest true may is = rest (keeps r o may h) is
     go rest false may is = absurd cc
 
 -- ids used are of the openings so far
 pub used_earlier : (r : Replayed) (ops : List EditOp) → name_replay nothing_logged ops ≡ Some r → IdsOfOpening r
-used_earlier r ops is = ids-of-all nothing_logged r ops (record { rows = All-cons (BelowId (end_of_ids 0)) _ [] (omega arith) (All-nil (BelowId (end_of_ids 0))); used = tt }) is
+used_earlier r ops is =
+    kept IdsOfOpening (λ q o may h. ids-after q o (both (allows q.table o) (is_fresh q.used o) may).0 h) nothing_logged r ops
+    (record { rows = All-cons (BelowId (end_of_ids 0)) _ [] (omega arith) (All-nil (BelowId (end_of_ids 0))); used = tt }) is
 
 -- an operation of this opening uses no id of an earlier one
 
@@ -113,13 +132,13 @@ among-below n (i ∷ used) id h le =
     let apart : (i == id) ≡ false = grind (arith, nat_tests) in
     ap (λ (b : Bool). b || is_among used id) apart ∙ among-below n used id h.1 le
 
-from-first : (opening id : ℕ) → is_of_opening opening id ≡ true → opening * 2 ^ 32 ≤ id
-from-first opening id h =
+pub from_first : (opening id : ℕ) → is_of_opening opening id ≡ true → opening * 2 ^ 32 ≤ id
+from_first opening id h =
     let first : nat_le (opening * 2 ^ 32) id ≡ true = (both (nat_le (opening * 2 ^ 32) id) (nat_lt id ((opening + 1) * 2 ^ 32)) h).0 in
     grind (arith, nat_tests, first)
 
 of-this : (t : NameTable) (used : List ℕ) (id : ℕ) → MayUse t id → AllBelow (t.opening * 2 ^ 32) used → not (is_among used id || false) ≡ true
-of-this t used id may h = ap (λ (b : Bool). not (b || false)) (among-below (t.opening * 2 ^ 32) used id h (from-first t.opening id may.of_opening))
+of-this t used id may h = ap (λ (b : Bool). not (b || false)) (among-below (t.opening * 2 ^ 32) used id h (from_first t.opening id may.of_opening))
 
 pub fresh_in : (t : NameTable) (used : List ℕ) (o : EditOp) → allows t o ≡ true → AllBelow (t.opening * 2 ^ 32) used → is_fresh used o ≡ true
 fresh_in t used (op.Opened opening) may h = refl

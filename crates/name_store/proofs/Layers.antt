@@ -13,14 +13,14 @@ use Rattle.edit_ops.proofs.RecordLemmas.{one_spelling}
 use Rattle.edit_log.specs.Log.{IsWithOrWithout}
 use Rattle.name_store.specs.Table.{Replayed, after, applies, next_opening, nothing_logged, settled_log, settled_ops}
 use Rattle.name_store.specs.Replay.{Applies, IdsOfOpening, name_replay}
-use Rattle.name_store.specs.Store.{AnOpening, IsDamagedAt, IsLeftByStart, IsLeftOf, IsLogOf, IsNameLog, IsSoundLog, NothingMore, Not_a_log, Not_a_name_log, Opening, Recovered, StandsFor, StoreState, made_with}
+use Rattle.name_store.specs.Store.{AnOpening, IsDamagedAt, IsLeftByStart, IsLeftOf, IsLogOf, IsNameLog, IsSoundLog, NothingMore, Not_a_log, Not_a_name_log, Opening, Recovered, IsNameStoreOf, StoreState, made_with}
 use Rattle.name_store.proofs.Commits.{each_more}
 use Rattle.name_store.proofs.IdLemmas as ids
 use Rattle.name_store.proofs.Replays.{replay_more, spelled_more}
 use Rattle.name_store.proofs.Starts.{opens}
 
 -- each image of the file of a store is a log of its operations, with the pending one or without it
-pub log_of_store : (d : DiskState) (store : StoreState) (used : List ℕ) (ops : List EditOp) → store.log.log.file ≡ 1 → StandsFor d store used ops
+pub log_of_store : (d : DiskState) (store : StoreState) (used : List ℕ) (ops : List EditOp) → store.log.log.file ≡ 1 → IsNameStoreOf d store used ops
     → (bytes : List ℕ) → Is (front store.log.log.file (map spelling ops)) (option_map spelling store.log.pending) bytes → IsLogOf ops store.log.pending bytes
 log_of_store d store used ops of_file s bytes is = go store.log.pending is s.log.log.payload
   where
@@ -145,7 +145,7 @@ sound_left made pending own ops bytes spelled waits makes applies l = record {
 }
 
 -- the log of a store is a sound one
-pub sound_store : (d : DiskState) (store : StoreState) (used : List ℕ) (ops : List EditOp) → store.log.log.file ≡ 1 → StandsFor d store used ops
+pub sound_store : (d : DiskState) (store : StoreState) (used : List ℕ) (ops : List EditOp) → store.log.log.file ≡ 1 → IsNameStoreOf d store used ops
     → IsSoundLog (d.reads 1) ops store.log.pending (made_with store used)
 sound_store d store used ops of_file s = record {
   spelled = s.log.spelled;
@@ -156,7 +156,7 @@ sound_store d store used ops of_file s = record {
 }
 
 -- and a crash leaves such a log
-pub left_by_store : (d : DiskState) (store : StoreState) (used : List ℕ) (ops : List EditOp) → store.log.log.file ≡ 1 → StandsFor d store used ops
+pub left_by_store : (d : DiskState) (store : StoreState) (used : List ℕ) (ops : List EditOp) → store.log.log.file ≡ 1 → IsNameStoreOf d store used ops
     → (bytes : List ℕ) → d.leaves 1 bytes → IsLeftOf (made_with store used) store.log.pending NothingMore ops bytes
 left_by_store d store used ops of_file s bytes left =
     go store.log.pending s.waits s.log.waits (log_of_store d store used ops of_file s bytes (s.log.log.leaves bytes (subst (λ (k : ℕ). d.leaves k bytes) (sym of_file) left)))
@@ -234,14 +234,14 @@ found_log bytes ops more made s =
     is_found (Some op) (inr (inr half)) = (map spelling ops, half.gate, half.now)
 
 -- a store holds one list of operations, and these used one list of ids
-pub stands_once : (d : DiskState) (store : StoreState) (used others_used : List ℕ) (ops others : List EditOp) → store.log.log.file ≡ 1 → StandsFor d store used ops → StandsFor d store others_used others
+pub stands_once : (d : DiskState) (store : StoreState) (used others_used : List ℕ) (ops others : List EditOp) → store.log.log.file ≡ 1 → IsNameStoreOf d store used ops → IsNameStoreOf d store others_used others
     → (others ≡ ops) × (others_used ≡ used)
 stands_once d store used others_used ops others of_file s t = (same, ap used_by one)
   where
     sound : IsSoundLog (d.reads 1) ops store.log.pending (made_with store used)
     sound = sound_store d store used ops of_file s
 
-    long : (a b : List EditOp) (used_a used_b : List ℕ) → StandsFor d store used_a a → StandsFor d store used_b b → (op : EditOp) → a ≡ b ++ op ∷ [] → ⊥
+    long : (a b : List EditOp) (used_a used_b : List ℕ) → IsNameStoreOf d store used_a a → IsNameStoreOf d store used_b b → (op : EditOp) → a ≡ b ++ op ∷ [] → ⊥
     long a b used_a used_b p q op is =
         let whole : length (front store.log.log.file (map spelling a)) ≡ length (front store.log.log.file (map spelling b ++ spelling op ∷ [])) =
         ap (λ (l : List (List ℕ)). length (front store.log.log.file l)) (ap (map spelling) is ∙ spelled_more b op) in

@@ -6,5 +6,7 @@ pub mod Layers
 mod ReaderLemmas
 pub mod Replays
 pub mod RowLemmas
+pub mod RunLemmas
 pub mod SettleLemmas
 pub mod Starts
+pub mod UsedLemmas

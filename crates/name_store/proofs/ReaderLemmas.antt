@@ -18,10 +18,10 @@ use Rattle.name_store.proofs.Starts.{no-next, openings-of}
 pub record SoFar (old now : DiskState) (first reader : OpReader) (t : NameTable) (has : Ids) : Type 0 where
   pub ops : List EditOp
   pub comes : ComesTo ops t has
-  pub told : Tells old → (todo : List (List ℕ)) → OpsAhead old first [] todo → (rest : List (List ℕ)) × (todo ≡ map spelling ops ++ rest) × OpsAhead now reader ops rest
+  pub tells : Tells old → (todo : List (List ℕ)) → OpsAhead old first [] todo → (rest : List (List ℕ)) × (todo ≡ map spelling ops ++ rest) × OpsAhead now reader ops rest
 
 pub none_so_far : (disk : DiskState) (reader : OpReader) (t : NameTable) (has : Ids) → t ≡ nothing_logged.table → ((id : ℕ) → has id ≡ false) → SoFar disk disk reader reader t has
-none_so_far disk reader t has is none = record { ops = []; comes = comes_to_none t has is none; told = λ told todo a. (todo, refl, a) }
+none_so_far disk reader t has is none = record { ops = []; comes = comes_to_none t has is none; tells = λ tells todo a. (todo, refl, a) }
 
 module _ (old now : DiskState) (first reader : OpReader) (t : NameTable) (has : Ids) (s : SoFar old now first reader t has) where
   -- the reader has no more
@@ -30,13 +30,13 @@ module _ (old now : DiskState) (first reader : OpReader) (t : NameTable) (has : 
     ops = s.ops;
     used = s.comes.used;
     makes = s.comes.makes;
-    all = λ told todo a. let p = s.told told todo a in (p.2.spelled, p.1 ∙ ap (λ (l : List (List ℕ)). map spelling s.ops ++ l) (end told p.0 p.2) ∙ append-nil (map spelling s.ops));
+    all = λ tells todo a. let p = s.tells tells todo a in (p.2.spelled, p.1 ∙ ap (λ (l : List (List ℕ)). map spelling s.ops ++ l) (end tells p.0 p.2) ∙ append-nil (map spelling s.ops));
   }
 
   -- the next record is no operation, or one that is out of turn
   pub no_operation : (at : ℕ) → Tells old → ((rest : List (List ℕ)) → OpsAhead now reader s.ops rest → HasNoNextOp reader s.ops rest at) → (todo : List (List ℕ)) → OpsAhead old first [] todo → IsRefusedAt todo at
-  no_operation at told none todo a =
-      let p = s.told told todo a in
+  no_operation at tells none todo a =
+      let p = s.tells tells todo a in
       let h = none p.0 p.2 in
       let last : reader.opening ≡ t.opening = cc (sym p.2.turns ∙ openings-of nothing_logged (record { table = t; used = s.comes.used }) s.ops s.comes.makes) in
       record {
@@ -57,9 +57,9 @@ module _ (old now : DiskState) (first reader : OpReader) (t : NameTable) (has : 
     one_more u had n = record {
       ops = s.ops ++ placed.op ∷ [];
       comes = comes_to_more s.ops placed.op t u has had s.comes n;
-      told = λ told todo a.
-          let p = s.told told todo a in
-          let f = read told p.0 p.2 in
+      tells = λ tells todo a.
+          let p = s.tells tells todo a in
+          let f = read tells p.0 p.2 in
           let so_far : List (List ℕ) = map spelling s.ops in (
             f.rest,
             p.1
@@ -72,9 +72,9 @@ module _ (old now : DiskState) (first reader : OpReader) (t : NameTable) (has : 
 
     -- it doesn't
     pub not_applied : (at : ℕ) → placed.at ≡ at → applies_beside t has placed.op ≡ false → Tells old → (todo : List (List ℕ)) → OpsAhead old first [] todo → IsRefusedAt todo at
-    not_applied at place none told todo a =
-        let p = s.told told todo a in
-        let f = read told p.0 p.2 in
+    not_applied at place none tells todo a =
+        let p = s.tells tells todo a in
+        let f = read tells p.0 p.2 in
         let spelled : HasSpelling placed.op = each_last HasSpelling s.ops placed.op f.ahead.spelled in
         let r : Replayed = record { table = t; used = s.comes.used } in
         record {

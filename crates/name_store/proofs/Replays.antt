@@ -37,7 +37,7 @@ or_assoc : (a b c : Bool) → (a || (b || c)) ≡ ((a || b) || c)
 or_assoc true b c = refl
 or_assoc false b c = refl
 
-among_append : (ids used : List ℕ) (id : ℕ) → is_among (ids ++ used) id ≡ (is_among ids id || is_among used id)
+pub among_append : (ids used : List ℕ) (id : ℕ) → is_among (ids ++ used) id ≡ (is_among ids id || is_among used id)
 among_append [] used id = refl
 among_append (i ∷ ids) used id = ap (λ (b : Bool). i == id || b) (among_append ids used id) ∙ or_assoc (i == id) (is_among ids id) (is_among used id)
 

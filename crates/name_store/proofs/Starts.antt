@@ -96,17 +96,17 @@ damaged_at bytes todo gate at found r = Not_a_name_log (record {
 })
 
 -- a log that was recovered, and the table that its reader's operations make
-module _ (bytes : List ℕ) (disk : DiskState) (log : EditLogState) (reader : OpReader) (table : NameTable) (m : IsMade disk reader table) (opened : IsOpened bytes disk log reader) (told : Tells disk) where
+module _ (bytes : List ℕ) (disk : DiskState) (log : EditLogState) (reader : OpReader) (table : NameTable) (m : IsMade disk reader table) (opened : IsOpened bytes disk log reader) (tells : Tells disk) where
   pub name_log : IsNameLog bytes m.ops (record { table = table; used = m.used })
   name_log =
-      let all = m.all told opened.payloads opened.ahead in
+      let all = m.all tells opened.payloads opened.ahead in
       record { gate = opened.gate; spelled = all.0; found = opened.found ∙ ap (λ (l : List (List ℕ)). Found l opened.gate) all.1; makes = m.makes }
 
   -- after a run of calls that only read
-  pub log_stands : (now : DiskState) → Reads 1 disk now → log.log.file ≡ 1 → edits.StandsFor now log m.ops
+  pub log_stands : (now : DiskState) → Reads 1 disk now → log.log.file ≡ 1 → edits.IsEditLogOf now log m.ops
   log_stands now same file =
-      let all = m.all told opened.payloads opened.ahead in
-      still_stands_for disk now log m.ops same file told (opened.stands m.ops all.0 all.1)
+      let all = m.all tells opened.payloads opened.ahead in
+      still_stands_for disk now log m.ops same file tells (opened.stands m.ops all.0 all.1)
 
 -- the next opening
 
@@ -116,7 +116,7 @@ opens r = ap (λ (b : Bool). b && true) ((Decides-eqb (r.table.opening + 1) (r.t
 pub started : (old mid new : DiskState) (store : StoreState) (reader : OpReader) (table : NameTable) (m : IsMade mid reader table)
     → store.table ≡ after_table table (next_opening table) → store.log.pending ≡ None
     → (Tells old → IsNameLog (old.reads 1) m.ops (record { table = table; used = m.used }))
-    → (Tells old → edits.StandsFor new store.log (m.ops ++ next_opening table ∷ [])) → Started old new store
+    → (Tells old → edits.IsEditLogOf new store.log (m.ops ++ next_opening table ∷ [])) → Started old new store
 started old mid new store reader table m then_is none log stands =
     let made : Replayed = record { table = table; used = m.used } in
     let ids = used_earlier made m.ops m.makes in
@@ -125,12 +125,12 @@ started old mid new store reader table m then_is none log stands =
       table = then_is;
       settled = none;
       earlier = subst (λ (t : NameTable). All (λ e. e.row.id < t.opening * 2 ^ 32) t.rows) (sym then_is) ids.rows;
-      log = λ told. record {
+      log = λ tells. record {
         ops = m.ops;
         used = m.used;
-        is = log told;
+        is = log tells;
         stands = record {
-          log = stands told;
+          log = stands tells;
           makes = replay_more nothing_logged made m.ops (next_opening table) m.makes (opens made) ∙ ap (λ (t : NameTable). Some (record { table = t; used = m.used })) (sym then_is);
           waits = subst (λ (o : Option EditOp). Applies (made_with store m.used) o) (sym none) tt;
         };
@@ -140,21 +140,21 @@ started old mid new store reader table m then_is none log stands =
 
 -- what a crash leaves
 
-module _ (old new : DiskState) (was is : EditLogState) (o : EditOp) (any : Tells old → (ops : List EditOp) → edits.StandsFor old was ops → LeavesOnly 1 old new (edits.IsWithOrWithout ops o)) where
-  pub done_moments : (Tells old → (ops : List EditOp) → edits.StandsFor old was ops → edits.StandsFor new is (ops ++ o ∷ []))
-      → Tells old → (ops : List EditOp) → edits.StandsFor old was ops → LeavesOnly 1 old new (IsWritten ops o)
-  done_moments added told ops s = let now = added told ops s in weaker (λ c with. (each_last HasSpelling ops o now.spelled, with)) (any told ops s)
+module _ (old new : DiskState) (was is : EditLogState) (o : EditOp) (any : Tells old → (ops : List EditOp) → edits.IsEditLogOf old was ops → LeavesOnly 1 old new (edits.IsWithOrWithout ops o)) where
+  pub done_moments : (Tells old → (ops : List EditOp) → edits.IsEditLogOf old was ops → edits.IsEditLogOf new is (ops ++ o ∷ []))
+      → Tells old → (ops : List EditOp) → edits.IsEditLogOf old was ops → LeavesOnly 1 old new (IsWritten ops o)
+  done_moments added tells ops s = let now = added tells ops s in weaker (λ c with. (each_last HasSpelling ops o now.spelled, with)) (any tells ops s)
 
-  pub fault_moments : (why : StartFault) → (Tells old → (ops : List EditOp) → edits.StandsFor old was ops → edits.StandsFor new is ops) → (why ≡ fault.StoreFault → is.pending ≡ Some o)
+  pub fault_moments : (why : StartFault) → (Tells old → (ops : List EditOp) → edits.IsEditLogOf old was ops → edits.IsEditLogOf new is ops) → (why ≡ fault.StoreFault → is.pending ≡ Some o)
       → (why ≡ fault.NoMemory → (P : List ℕ → Type 0) → LeavesOnly 1 old new P) → (why ≡ fault.Spent → (P : List ℕ → Type 0) → LeavesOnly 1 old new P) → ((at : ℕ) → why ≡ fault.Damaged at → ⊥)
-      → Tells old → (ops : List EditOp) → edits.StandsFor old was ops → LeavesOnly 1 old new (IsWritten ops o)
-  fault_moments (fault.Damaged at) kept waits memory spent damaged told ops s = absurd (damaged at refl)
-  fault_moments fault.StoreFault kept waits memory spent damaged told ops s =
-      let now = kept told ops s in
+      → Tells old → (ops : List EditOp) → edits.IsEditLogOf old was ops → LeavesOnly 1 old new (IsWritten ops o)
+  fault_moments (fault.Damaged at) kept waits memory spent damaged tells ops s = absurd (damaged at refl)
+  fault_moments fault.StoreFault kept waits memory spent damaged tells ops s =
+      let now = kept tells ops s in
       let spelled : HasSpelling o = subst (λ (x : Option EditOp). IfSome x HasSpelling) (waits refl) now.waits in
-      weaker (λ c with. (spelled, with)) (any told ops s)
-  fault_moments fault.NoMemory kept waits memory spent damaged told ops s = memory refl (IsWritten ops o)
-  fault_moments fault.Spent kept waits memory spent damaged told ops s = spent refl (IsWritten ops o)
+      weaker (λ c with. (spelled, with)) (any tells ops s)
+  fault_moments fault.NoMemory kept waits memory spent damaged tells ops s = memory refl (IsWritten ops o)
+  fault_moments fault.Spent kept waits memory spent damaged tells ops s = spent refl (IsWritten ops o)
 
 -- a recovery of the edit log, as a start
 pub opens_log : (old new : DiskState) {fails : StartFault → Type 0} → Recovers 1 old new fails → OpensNames old new fails
@@ -163,12 +163,12 @@ opens_log old new o = opens_as old new (λ bytes at none. Not_a_log none) (λ by
 -- a log that was recovered, and calls that read its operations
 module _ (old mid read : DiskState) {fails : StartFault → Type 0} (opened : fails fault.StoreFault → ⊥) (o : Recovers 1 old mid fails) (leaves : Tells old → (c : List ℕ) → mid.leaves 1 c → IsAsFound 1 (old.reads 1) c) (on : Going 1 mid read (mid.leaves 1)) where
   pub opens_read : {fails' : StartFault → Type 0} → FailsFor 1 IsDamagedAt SpentNames old read fails' → OpensNames old read fails'
-  opens_read why = opens_then old mid read opened (opens_log old mid o) on.run (λ told. weaker (λ c here. Recovered (Log_as_found (leaves told c here))) on.moments) why
+  opens_read why = opens_then old mid read opened (opens_log old mid o) on.run (λ tells. weaker (λ c here. Recovered (Log_as_found (leaves tells c here))) on.moments) why
 
   -- and then the record of the next opening was committed
   pub opens_next : (new : DiskState) (ops : List EditOp) (made : Replayed) {fails' : StartFault → Type 0} → (Tells old → IsNameLog (old.reads 1) ops made) → RunOn 1 read new
       → (Tells old → LeavesOnly 1 read new (IsWritten ops (next_opening made.table))) → FailsFor 1 IsDamagedAt SpentNames old new fails' → OpensNames old new fails'
-  opens_next new ops made log run moments why = opens_then old read new (λ none. none) (opens_read never) run (λ told. weaker (λ c left. Opening ops made (log told) left) (moments told)) why
+  opens_next new ops made log run moments why = opens_then old read new (λ none. none) (opens_read never) run (λ tells. weaker (λ c left. Opening ops made (log tells) left) (moments tells)) why
     where
       never : FailsFor 1 IsDamagedAt SpentNames old read (λ why. ⊥)
       never = record { damaged = λ at none. absurd none; spent = λ none. absurd none; cause = λ none. absurd none }

@@ -24,8 +24,8 @@ made_with store used = record { table = store.table; used = used }
 
 -- The store holds these acknowledged operations on the disk: they make its table, they used these ids, and they are the
 -- records of its log, apart from the pending one, which applies after them.
-pub record StandsFor (disk : DiskState) (store : StoreState) (used : List ℕ) (ops : List EditOp) : Type 0 where
-  pub log : edits.StandsFor disk store.log ops
+pub record IsNameStoreOf (disk : DiskState) (store : StoreState) (used : List ℕ) (ops : List EditOp) : Type 0 where
+  pub log : edits.IsEditLogOf disk store.log ops
   pub makes : name_replay nothing_logged ops ≡ Some (made_with store used)
   pub waits : Applies (made_with store used) store.log.pending
 
@@ -116,7 +116,7 @@ pub record StartedLog (old new : DiskState) (store : StoreState) (found : NameTa
   pub ops : List EditOp
   pub used : List ℕ
   pub is : IsNameLog (old.reads 1) ops (record { table = found; used = used })
-  pub stands : StandsFor new store used (ops ++ next_opening found ∷ [])
+  pub stands : IsNameStoreOf new store used (ops ++ next_opening found ∷ [])
   -- the ids used are of earlier openings
   pub earlier : AllBelow (store.table.opening * 2 ^ 32) used
 
@@ -132,26 +132,26 @@ pub record Started (old new : DiskState) (store : StoreState) : Type 0 where
 -- A log during the commit of an operation: if the store held a list of acknowledged operations, among whose ids the operation's is
 -- not, it holds that list after it, with the operation if it was written.
 pub record Commits (old new : DiskState) (store : StoreState) (op : EditOp) (written : Bool) (store' : StoreState) : Type 0 where
-  pub stands : Tells old → (used : List ℕ) (ops : List EditOp) → StandsFor old store used ops → IsTrue (is_fresh used op)
-      → StandsFor new store' (settled_used written (Some op) used) (ops ++ settled_ops written (Some op))
+  pub stands : Tells old → (used : List ℕ) (ops : List EditOp) → IsNameStoreOf old store used ops → IsTrue (is_fresh used op)
+      → IsNameStoreOf new store' (settled_used written (Some op) used) (ops ++ settled_ops written (Some op))
   -- a crash at any moment leaves the earlier operations, with the new one or without
-  pub moments : Tells old → (used : List ℕ) (ops : List EditOp) → StandsFor old store used ops → LeavesOnly 1 old new (IsWritten ops op)
+  pub moments : Tells old → (used : List ℕ) (ops : List EditOp) → IsNameStoreOf old store used ops → LeavesOnly 1 old new (IsWritten ops op)
   pub run : RunOn 1 old new
 
 -- The pending operation was settled: kept or dropped.
-pub record Settles (old new : DiskState) (store store' : StoreState) : Type 0 where
+pub record SettlesNames (old new : DiskState) (store store' : StoreState) : Type 0 where
   pub kept : Bool
   pub none : store'.log.pending ≡ None
   pub table : store'.table ≡ settled_table kept store.log.pending store.table
-  pub stands : Tells old → (used : List ℕ) (ops : List EditOp) → StandsFor old store used ops
-      → StandsFor new store' (settled_used kept store.log.pending used) (ops ++ settled_ops kept store.log.pending)
+  pub stands : Tells old → (used : List ℕ) (ops : List EditOp) → IsNameStoreOf old store used ops
+      → IsNameStoreOf new store' (settled_used kept store.log.pending used) (ops ++ settled_ops kept store.log.pending)
 
 -- The disk failed, and the operation is still pending.
 pub record Unsettled (old new : DiskState) (store store' : StoreState) : Type 0 where
   pub waits : is_some store.log.pending ≡ true
   pub failed : Rose old.faults new.faults
   pub same : store' ≡ store
-  pub stands : Tells old → (used : List ℕ) (ops : List EditOp) → StandsFor old store used ops → StandsFor new store' used ops
+  pub stands : Tells old → (used : List ℕ) (ops : List EditOp) → IsNameStoreOf old store used ops → IsNameStoreOf new store' used ops
 
 -- What is true of a pending operation: it is allowed, and it is not an opening.
 pub record IsPending (t : NameTable) (waiting : EditOp) : Type 0 where

@@ -8,6 +8,7 @@ mod names;
 mod opening;
 mod replay;
 mod rules;
+mod runs;
 mod store;
 mod used;
 

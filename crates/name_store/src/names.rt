@@ -38,6 +38,7 @@ impl Names {
     ghost use Rattle.name_store.specs.Table.{IsTable, after_table, allows, nothing_logged};
     ghost use Rattle.name_store.specs.Names.{HasRoom};
     ghost use Rattle.name_store.specs.Causes.{first_cause, rename_causes};
+    ghost use Rattle.name_store.specs.Used.{HasFreeIds};
 
     /// Creates the table of the root alone, before the first opening.
     pub(crate) fn new(alloc: Global) -> Result<Names, NoMemory>
@@ -53,8 +54,10 @@ impl Names {
         })
     }
 
-    /// Returns whether the operation may take effect. Does not check whether its id was used before.
+    /// Returns whether the operation, whose id no row must have, may take effect. Does not check whether
+    /// its id was used before.
     pub(crate) fn allows(&self, op: &EditOp) -> bool
+        requires { HasFreeIds self.now.table.rows op.now }
         ensures { result ≡ allows self.now.table op.now }
     {
         allows(self.opening, &self.tree, &self.zones, &self.snaps, op)

@@ -1,12 +1,11 @@
 //! Reading an edit log: each record is an operation that applies to the table of those before it.
 ghost use Rattle.std.specs.Prelude.{◌≡◌, ℕ, List, [], false, IfOk, OnOk, IsErrOf};
-ghost use Rattle.std.specs.HashSet.{contains};
-ghost use Rattle.std.specs.Bool.{nat_eq};
 ghost use Rattle.hk_base.specs.Disk.{Tells, Reads, RunOn, LeavesOnly};
 ghost use Rattle.hk_base.specs.Faults.{Rose};
 ghost use Rattle.frame_log.specs.declared.fault.StartFault.TheVariants.{Damaged, StoreFault, Spent};
 ghost use Rattle.edit_log.specs.Reader.{OpsAhead};
 ghost use Rattle.name_store.specs.Replay.{IsMade, IsNext, IsRefusedAt, IsTaken, applies_beside};
+ghost use Rattle.name_store.specs.Used.{RowsUsed, is_used};
 
 use crate::names::Names;
 use crate::used::UsedIds;
@@ -16,14 +15,19 @@ use frame_log::StartFault;
 use hk_base::{Disk, NoMemory};
 use std::alloc::Global;
 
-/// Lets an operation take effect if it applies. Returns whether it does.
+/// Lets an operation take effect if it applies. Returns whether it does. No row has an id that was never
+/// used, so the rows are not searched for the id.
 fn take(names: &mut Names, used: &mut UsedIds, op: &EditOp) -> Result<bool, NoMemory>
-    ensures { IfOk result (IsTaken names.old.table (contains nat_eq used.old.ids) op.now names.new.table (contains nat_eq used.new.ids)) }
+    requires { RowsUsed names.old.table (is_used used.old) }
+    ensures { IfOk result (IsTaken names.old.table (is_used used.old) op.now names.new.table (is_used used.new)) }
 {
     names.focus(op);
-    let allowed = names.allows(op);
     let fresh = used.is_fresh(op);
-    if !(allowed && fresh) {
+    if !fresh {
+        return Ok(false);
+    }
+    let allowed = names.allows(op);
+    if !allowed {
         return Ok(false);
     }
     names.apply(op)?;
@@ -33,8 +37,9 @@ fn take(names: &mut Names, used: &mut UsedIds, op: &EditOp) -> Result<bool, NoMe
 
 /// Lets an operation take effect, or returns `Damaged` with its offset if it does not apply.
 fn take_placed(names: &mut Names, used: &mut UsedIds, placed: PlacedOp) -> Result<(), StartFault>
-    ensures taken { OnOk result (IsNext names.old.table (contains nat_eq used.old.ids) placed.op names.new.table (contains nat_eq used.new.ids)) }
-    ensures damaged { (at : ℕ) → IsErrOf result (Damaged at) → (placed.at ≡ at) × (applies_beside names.old.table (contains nat_eq used.old.ids) placed.op ≡ false) }
+    requires { RowsUsed names.old.table (is_used used.old) }
+    ensures taken { OnOk result (IsNext names.old.table (is_used used.old) placed.op names.new.table (is_used used.new)) }
+    ensures damaged { (at : ℕ) → IsErrOf result (Damaged at) → (placed.at ≡ at) × (applies_beside names.old.table (is_used used.old) placed.op ≡ false) }
     ensures fault { IsErrOf result StoreFault → ⊥ }
     ensures spent { IsErrOf result Spent → ⊥ }
 {

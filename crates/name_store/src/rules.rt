@@ -1,12 +1,13 @@
 //! What a tree and its snapshots say of a change: why it is refused, and whether an operation of the
 //! log is allowed.
-ghost use Rattle.std.specs.Prelude.{◌≡◌, ◌++◌, ℕ};
+ghost use Rattle.std.specs.Prelude.{◌≡◌, ◌<◌, ◌++◌, ℕ};
 ghost use Rattle.inode_tree.specs.Moves.{move_fits};
 ghost use Rattle.inode_tree.specs.Rows.{is_dir_at, mark_of, move_allowed, row_at};
 ghost use Rattle.name_calls.specs.Paths.{is_prefix, parent};
 ghost use Rattle.snap_store.specs.Snapshots.{SnapTable};
 ghost use Rattle.name_store.specs.Causes.{allow_causes, allowed_causes, directory_causes, disallow_causes, first_cause, has_most_rows, has_most_snapshots, id_at, kept_causes, move_causes, nests_allowed, removal_causes, rename_causes, row_causes, snap_causes, to_be_made, unsnap_causes, zone_causes};
-ghost use Rattle.name_store.specs.Table.{allows, allows_change, fits_key, fits_zone, is_of_opening, key_of_zone, may_use, may_use_all, op_causes, uses};
+ghost use Rattle.name_store.specs.Table.{NameTable, allows, allows_change, fits_key, fits_zone, is_of_opening, key_of_zone, may_use_all, op_causes, uses};
+ghost use Rattle.name_store.specs.Used.{HasFreeIds};
 
 use edit_ops::EditOp;
 use hk_base::{Edek, KeyName, Text};
@@ -229,9 +230,10 @@ pub(crate) fn to_be_renamed(
     None
 }
 
-/// Returns whether the table of an opening, a tree and its snapshots allows the operation. Does not
-/// check whether its id was used before.
+/// Returns whether the table of an opening, a tree and its snapshots allows the operation, whose id no
+/// row must have. Does not look for a row of that id, nor check whether it was used before.
 pub(crate) fn allows(opening: u32, tree: &Tree, zones: &Zones, snaps: &Snaps, op: &EditOp) -> bool
+    requires { HasFreeIds tree.now.rows op.now }
     ensures { result ≡ allows (record { opening = opening; rows = tree.now.rows; snaps = snaps.now.table }) op.now }
 {
     match op {
@@ -241,20 +243,26 @@ pub(crate) fn allows(opening: u32, tree: &Tree, zones: &Zones, snaps: &Snaps, op
 }
 
 fn allows_change(opening: u32, tree: &Tree, zones: &Zones, snaps: &Snaps, op: &EditOp) -> bool
+    requires { HasFreeIds tree.now.rows op.now }
     ensures { result ≡ allows_change (record { opening = opening; rows = tree.now.rows; snaps = snaps.now.table }) op.now }
 {
-    let ids = may_use_all(opening, tree, op);
+    if opening == 0 {
+        return false;
+    }
+    let ids = may_use_all(opening, op);
     let free = refusal(tree, zones, snaps, op).is_none();
     let fits = fits_key(tree, op);
-    0 < opening && ids && free && fits
+    ids && free && fits
 }
 
-fn may_use_all(opening: u32, tree: &Tree, op: &EditOp) -> bool
-    ensures { (snaps : SnapTable) → result ≡ may_use_all (record { opening = opening; rows = tree.now.rows; snaps = snaps }) (uses op.now) }
+/// Returns whether the operation may use its ids if no row has them.
+fn may_use_all(opening: u32, op: &EditOp) -> bool
+    requires { 0 < opening }
+    ensures { (t : NameTable) → t.opening ≡ opening → HasFreeIds t.rows op.now → result ≡ may_use_all t (uses op.now) }
 {
     match op {
-        EditOp::Mkdir { id, .. } => may_use(opening, tree, *id),
-        EditOp::File { id, .. } => may_use(opening, tree, *id),
+        EditOp::Mkdir { id, .. } => is_of_opening(opening, *id),
+        EditOp::File { id, .. } => is_of_opening(opening, *id),
         _ => true,
     }
 }
@@ -321,14 +329,6 @@ fn is_of_opening(opening: u32, id: u64) -> bool
     first <= id && id - first < IDS
 }
 
-fn may_use(opening: u32, tree: &Tree, id: u64) -> bool
-    ensures { (snaps : SnapTable) → result ≡ may_use (record { opening = opening; rows = tree.now.rows; snaps = snaps }) id }
-{
-    let given = is_of_opening(opening, id);
-    let free = tree.row(id).is_none();
-    given && free
-}
-
 /// Returns the key of the zone that a path lies in.
 pub fn key_of_zone(tree: &Tree, path: &NPath) -> Option<KeyName>
     ensures { result ≡ key_of_zone tree.now.rows path.now }
@@ -362,6 +362,6 @@ pub fn fits_zone(key: &Option<KeyName>, edek: &Option<Edek>) -> bool
         (None, None) => true,
         (None, Some(_)) => false,
         (Some(_), None) => false,
-        (Some(key), Some(edek)) => edek.version.key.is(key),
+        (Some(key), Some(edek)) => edek.version.key == *key,
     }
 }

@@ -45,7 +45,7 @@ impl NameStore {
     ghost use Rattle.zone_table.specs.Zones.{zone_paths};
     ghost use Rattle.name_store.specs.Causes.{first_cause, rename_causes};
     ghost use Rattle.name_store.specs.Table.{after_table, allows};
-    ghost use Rattle.name_store.specs.Store.{Commits, IsLeftOf, IsStore, NothingMore, OpensNames, Settles, StandsFor, Started, Unsettled, is_opening, made_with};
+    ghost use Rattle.name_store.specs.Store.{Commits, IsLeftOf, IsStore, NothingMore, OpensNames, SettlesNames, IsNameStoreOf, Started, Unsettled, is_opening, made_with};
 
     /// Opens the edit log of a disk, makes the table of its operations, and commits the record of a new
     /// opening. A crash may stop this call at any moment; start again then.
@@ -81,7 +81,7 @@ impl NameStore {
         requires allowed { IsTrue (allows self.old.table op.now) }
         requires no_opening { is_opening op.now ≡ false }
         requires fits { IsTrue (fits op.now) }
-        requires stands { Tells (D.state disk.old) → ((used : List ℕ) × (ops : List EditOp) × StandsFor (D.state disk.old) self.old used ops) }
+        requires stands { Tells (D.state disk.old) → ((used : List ℕ) × (ops : List EditOp) × IsNameStoreOf (D.state disk.old) self.old used ops) }
 
         ensures done { OnOk result ((self.new.table ≡ after_table self.old.table op.now) × (self.new.log.pending ≡ None)) }
         ensures pending { IsErrOf result store.StoreFault → (self.new.table ≡ self.old.table) × (self.new.log.pending ≡ Some op.now) }
@@ -105,16 +105,16 @@ impl NameStore {
     /// nothing if none is pending. Does not allocate. After `StoreFault`, the only error, it is still
     /// pending.
     pub fn settle<D: Disk>(&mut self, disk: &mut D) -> Result<(), StoreRefusal>
-        requires stands { Tells (D.state disk.old) → ((used : List ℕ) × (ops : List EditOp) × StandsFor (D.state disk.old) self.old used ops) }
+        requires stands { Tells (D.state disk.old) → ((used : List ℕ) × (ops : List EditOp) × IsNameStoreOf (D.state disk.old) self.old used ops) }
 
         ensures nothing { self.old.log.pending ≡ None → (result ≡ Ok tt) × (self.new ≡ self.old) × (disk.new ≡ disk.old) }
         ensures settles { MatchResult result
-            (λ _. Settles (D.state disk.old) (D.state disk.new) self.old self.new)
+            (λ _. SettlesNames (D.state disk.old) (D.state disk.new) self.old self.new)
             (λ _. Unsettled (D.state disk.old) (D.state disk.new) self.old self.new) }
         ensures fault { IsErr result → IsErrOf result store.StoreFault }
 
         // A crash at any moment leaves the operations from before it, with the pending one or without.
-        ensures any_moment { Tells (D.state disk.old) → (used : List ℕ) (ops : List EditOp) → StandsFor (D.state disk.old) self.old used ops
+        ensures any_moment { Tells (D.state disk.old) → (used : List ℕ) (ops : List EditOp) → IsNameStoreOf (D.state disk.old) self.old used ops
             → LeavesOnly 1 (D.state disk.old) (D.state disk.new) (IsLeftOf (made_with self.old used) self.old.log.pending NothingMore ops) }
         ensures run { RunOn 1 (D.state disk.old) (D.state disk.new) }
     {

@@ -1,8 +1,7 @@
-use Rattle.std.specs.Bool.{nat_eq}
-use Rattle.std.specs.HashSet.{contains}
 use Rattle.hk_base.specs.Disk.{Reads}
 use Rattle.hk_base.proofs.Runs.{Going}
 use Rattle.frame_log.specs.Ahead.{left}
+use Rattle.name_store.specs.Used.{is_used}
 use Rattle.name_store.proofs.ReaderLemmas.{SoFar}
 use Rattle.name_store.proofs.replay.replay.Given as goal
 
@@ -13,7 +12,7 @@ invariant-each g l =
     record {
       going : Going 1 old now (old.leaves 1);
       same : Reads 1 old now;
-      read : SoFar old now l.fn.reader l.reader l.names.table (contains nat_eq l.used.ids);
+      read : SoFar old now l.fn.reader l.reader l.names.table (is_used l.used);
     }
 
 abbrev pub decreases-each : goal.decreases-each

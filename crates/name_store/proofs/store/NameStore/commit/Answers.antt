@@ -38,5 +38,5 @@ returns-in_err-reserve-clause-log g c =
     let was : StoreState = record { log = c.self.inside.log; table = c.self.inside.names.table } in
     let is : StoreState = record { log = c.self.inside.log; table = c.reserve.new.self.table } in
     let none : Commits D0 D0 c.args.self.now op false is = subst (λ (s : StoreState). Commits D0 D0 s op false is) c.self.view_is
-    (commits_none D0 D0 was is op (begin 1 D0 (λ b. Unit {0})).run refl c.in_err-reserve.ensures.same (λ P. (begin 1 D0 P).moments) (λ told ops s. s)) in
+    (commits_none D0 D0 was is op (begin 1 D0 (λ b. Unit {0})).run refl c.in_err-reserve.ensures.same (λ P. (begin 1 D0 P).moments) (λ tells ops s. s)) in
     on_err c.from_residual.result (Commits D0 D0 c.args.self.now op true is) (Commits D0 D0 c.args.self.now op false is) c.from_residual.ensures.0 none

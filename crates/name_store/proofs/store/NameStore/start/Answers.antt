@@ -13,23 +13,23 @@ returns-in_err-log-clause-opens g c =
 
 pub replay-requires : goal.replay-requires
 replay-requires g c = record {
-  ahead = λ told1.
-      let told = subst (λ (b : Bool). IsTrue b) c.recover_records.ensures.opens.run.tells told1 in
-      let opened = c.in_ok-log.ensures.opened told in
+  ahead = λ tells1.
+      let tells = subst (λ (b : Bool). IsTrue b) c.recover_records.ensures.opens.run.tells tells1 in
+      let opened = c.in_ok-log.ensures.opened tells in
       (opened.payloads, opened.ahead);
 }
 
 pub open-requires-clause-stands : goal.open-requires-clause-stands
-open-requires-clause-stands g c told2 =
+open-requires-clause-stands g c tells2 =
     let D0 = g.D.Disk.state c.args.disk.now in
     let D1 = g.D.Disk.state c.recover_records.new.disk in
     let D2 = g.D.Disk.state c.replay.new.disk in
-    let told1 = subst (λ (b : Bool). IsTrue b) c.replay.ensures.run.tells told2 in
-    let told = subst (λ (b : Bool). IsTrue b) c.recover_records.ensures.opens.run.tells told1 in
-    let opened = c.in_ok-log.ensures.opened told in
+    let tells1 = subst (λ (b : Bool). IsTrue b) c.replay.ensures.run.tells tells2 in
+    let tells = subst (λ (b : Bool). IsTrue b) c.recover_records.ensures.opens.run.tells tells1 in
+    let opened = c.in_ok-log.ensures.opened tells in
     let m = c.in_ok-names.ensures.made in
     let table = c.in_ok-names.names.table in
-    (m.ops, log_stands (D0.reads 1) D1 c.in_ok-log.log c.in_ok-log.reader table m opened told1 D2 c.replay.ensures.same c.in_ok-log.ensures.settled.1)
+    (m.ops, log_stands (D0.reads 1) D1 c.in_ok-log.log c.in_ok-log.reader table m opened tells1 D2 c.replay.ensures.same c.in_ok-log.ensures.settled.1)
 
 pub returns-clause-started : goal.returns-clause-started
 returns-clause-started g c =
@@ -41,16 +41,16 @@ returns-clause-started g c =
     let table = c.in_ok-names.names.table in
     let is : StoreState = record { log = c.open.new.log; table = c.open.new.names.table } in
     started D0 D1 D3 is c.in_ok-log.reader table m c.in_ok-open.ensures.opened.0 c.in_ok-open.ensures.opened.1
-    (λ told.
-    let opened = c.in_ok-log.ensures.opened told in
-    let told1 = subst (λ (b : Bool). IsTrue b) (sym c.recover_records.ensures.opens.run.tells) told in
-    name_log (D0.reads 1) D1 c.in_ok-log.log c.in_ok-log.reader table m opened told1)
-    (λ told.
-    let opened = c.in_ok-log.ensures.opened told in
-    let told1 = subst (λ (b : Bool). IsTrue b) (sym c.recover_records.ensures.opens.run.tells) told in
-    let told2 = subst (λ (b : Bool). IsTrue b) (sym c.replay.ensures.run.tells) told1 in
-    let stands = log_stands (D0.reads 1) D1 c.in_ok-log.log c.in_ok-log.reader table m opened told1 D2 c.replay.ensures.same c.in_ok-log.ensures.settled.1 in
-    c.in_ok-open.ensures.log told2 m.ops stands)
+    (λ tells.
+    let opened = c.in_ok-log.ensures.opened tells in
+    let tells1 = subst (λ (b : Bool). IsTrue b) (sym c.recover_records.ensures.opens.run.tells) tells in
+    name_log (D0.reads 1) D1 c.in_ok-log.log c.in_ok-log.reader table m opened tells1)
+    (λ tells.
+    let opened = c.in_ok-log.ensures.opened tells in
+    let tells1 = subst (λ (b : Bool). IsTrue b) (sym c.recover_records.ensures.opens.run.tells) tells in
+    let tells2 = subst (λ (b : Bool). IsTrue b) (sym c.replay.ensures.run.tells) tells1 in
+    let stands = log_stands (D0.reads 1) D1 c.in_ok-log.log c.in_ok-log.reader table m opened tells1 D2 c.replay.ensures.same c.in_ok-log.ensures.settled.1 in
+    c.in_ok-open.ensures.log tells2 m.ops stands)
 
 pub returns-in_err-names-clause-opens : goal.returns-in_err-names-clause-opens
 returns-in_err-names-clause-opens g c =
@@ -60,13 +60,13 @@ returns-in_err-names-clause-opens g c =
     let now : IsErrOf c.from_residual-in_err-names.result c.in_err-names.field-0.0 = search rules in
     let o = c.recover_records.ensures.opens in
     let reading : Going 1 D1 D2 (D1.leaves 1) = record { run = c.replay.ensures.run; moments = c.replay.ensures.moments } in
-    opens_read D0 D1 D2 (λ is. absurd (cc (c.in_ok-log.was, is))) o (λ told. (c.in_ok-log.ensures.opened told).leaves) reading
+    opens_read D0 D1 D2 (λ is. absurd (cc (c.in_ok-log.was, is))) o (λ tells. (c.in_ok-log.ensures.opened tells).leaves) reading
     (why_for (same_fault c.in_err-names.field-0.0 c.replay.result c.from_residual-in_err-names.result c.in_err-names.was now)
     (record {
-      damaged = λ at is told.
-          let opened = c.in_ok-log.ensures.opened told in
-          let told1 = subst (λ (b : Bool). IsTrue b) (sym o.run.tells) told in
-          damaged_at (D0.reads 1) opened.payloads opened.gate at opened.found (c.replay.ensures.damaged at is told1 opened.payloads opened.ahead);
+      damaged = λ at is tells.
+          let opened = c.in_ok-log.ensures.opened tells in
+          let tells1 = subst (λ (b : Bool). IsTrue b) (sym o.run.tells) tells in
+          damaged_at (D0.reads 1) opened.payloads opened.gate at opened.found (c.replay.ensures.damaged at is tells1 opened.payloads opened.ahead);
       spent = λ is. absurd (c.replay.ensures.spent is);
       cause = λ is. rose_since o.run.faults (c.replay.ensures.cause is);
     }))
@@ -81,18 +81,18 @@ returns-in_err-open-clause-opens g c =
     let reading : Going 1 D1 D2 (D1.leaves 1) = record { run = c.replay.ensures.run; moments = c.replay.ensures.moments } in
     let m = c.in_ok-names.ensures.made in
     let table = c.in_ok-names.names.table in
-    let on : Tells D0 → Tells D1 = λ told. subst (λ (b : Bool). IsTrue b) (sym o.run.tells) told in
-    opens_next D0 D1 D2 (λ is. absurd (cc (c.in_ok-log.was, is))) o (λ told. (c.in_ok-log.ensures.opened told).leaves) reading D3 m.ops (record { table = table; used = m.used })
-    (λ told. name_log (D0.reads 1) D1 c.in_ok-log.log c.in_ok-log.reader table m (c.in_ok-log.ensures.opened told) (on told)) c.open.ensures.run
-    (λ told. c.open.ensures.moments (subst (λ (b : Bool). IsTrue b) (sym c.replay.ensures.run.tells) (on told)) m.ops
-    (log_stands (D0.reads 1) D1 c.in_ok-log.log c.in_ok-log.reader table m (c.in_ok-log.ensures.opened told) (on told) D2 c.replay.ensures.same c.in_ok-log.ensures.settled.1))
+    let on : Tells D0 → Tells D1 = λ tells. subst (λ (b : Bool). IsTrue b) (sym o.run.tells) tells in
+    opens_next D0 D1 D2 (λ is. absurd (cc (c.in_ok-log.was, is))) o (λ tells. (c.in_ok-log.ensures.opened tells).leaves) reading D3 m.ops (record { table = table; used = m.used })
+    (λ tells. name_log (D0.reads 1) D1 c.in_ok-log.log c.in_ok-log.reader table m (c.in_ok-log.ensures.opened tells) (on tells)) c.open.ensures.run
+    (λ tells. c.open.ensures.moments (subst (λ (b : Bool). IsTrue b) (sym c.replay.ensures.run.tells) (on tells)) m.ops
+    (log_stands (D0.reads 1) D1 c.in_ok-log.log c.in_ok-log.reader table m (c.in_ok-log.ensures.opened tells) (on tells) D2 c.replay.ensures.same c.in_ok-log.ensures.settled.1))
     (why_for (λ fault is. let why : c.in_err-open.field-0.0 ≡ fault = search rules in c.in_err-open.was ∙ ap Err why)
     (record {
       damaged = λ at is. absurd (c.open.ensures.damaged at is);
-      spent = λ is told. record {
+      spent = λ is tells. record {
         ops = m.ops;
         made = record { table = table; used = m.used };
-        log = name_log (D0.reads 1) D1 c.in_ok-log.log c.in_ok-log.reader table m (c.in_ok-log.ensures.opened told) (on told);
+        log = name_log (D0.reads 1) D1 c.in_ok-log.log c.in_ok-log.reader table m (c.in_ok-log.ensures.opened tells) (on tells);
         last = c.open.ensures.spent is;
       };
       cause = λ is. rose_since o.run.faults (rose_since c.replay.ensures.run.faults (c.open.ensures.cause is));
@@ -108,9 +108,9 @@ returns-clause-opens g c =
     let reading : Going 1 D1 D2 (D1.leaves 1) = record { run = c.replay.ensures.run; moments = c.replay.ensures.moments } in
     let m = c.in_ok-names.ensures.made in
     let table = c.in_ok-names.names.table in
-    let on : Tells D0 → Tells D1 = λ told. subst (λ (b : Bool). IsTrue b) (sym o.run.tells) told in
-    opens_next D0 D1 D2 (λ is. absurd (cc (c.in_ok-log.was, is))) o (λ told. (c.in_ok-log.ensures.opened told).leaves) reading D3 m.ops (record { table = table; used = m.used })
-    (λ told. name_log (D0.reads 1) D1 c.in_ok-log.log c.in_ok-log.reader table m (c.in_ok-log.ensures.opened told) (on told)) c.open.ensures.run
-    (λ told. c.open.ensures.moments (subst (λ (b : Bool). IsTrue b) (sym c.replay.ensures.run.tells) (on told)) m.ops
-    (log_stands (D0.reads 1) D1 c.in_ok-log.log c.in_ok-log.reader table m (c.in_ok-log.ensures.opened told) (on told) D2 c.replay.ensures.same c.in_ok-log.ensures.settled.1))
+    let on : Tells D0 → Tells D1 = λ tells. subst (λ (b : Bool). IsTrue b) (sym o.run.tells) tells in
+    opens_next D0 D1 D2 (λ is. absurd (cc (c.in_ok-log.was, is))) o (λ tells. (c.in_ok-log.ensures.opened tells).leaves) reading D3 m.ops (record { table = table; used = m.used })
+    (λ tells. name_log (D0.reads 1) D1 c.in_ok-log.log c.in_ok-log.reader table m (c.in_ok-log.ensures.opened tells) (on tells)) c.open.ensures.run
+    (λ tells. c.open.ensures.moments (subst (λ (b : Bool). IsTrue b) (sym c.replay.ensures.run.tells) (on tells)) m.ops
+    (log_stands (D0.reads 1) D1 c.in_ok-log.log c.in_ok-log.reader table m (c.in_ok-log.ensures.opened tells) (on tells) D2 c.replay.ensures.same c.in_ok-log.ensures.settled.1))
     (record { damaged = λ at is. absurd (cc is); spent = λ is. absurd (cc is); cause = λ is. absurd (cc is) })
