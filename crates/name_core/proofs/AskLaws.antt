@@ -24,28 +24,28 @@ use Rattle.name_calls.specs.declared.calls.NameReply.TheVariants.{Refused}
 use Rattle.name_calls.specs.declared.calls.NameRefusal.{NameRefusal}
 use Rattle.name_calls.specs.declared.calls.NameRefusal.TheVariants as refusal
 use Rattle.name_core.specs.State.{IsRising, NameService, NameState, next_id, settled}
-use Rattle.name_core.specs.Asks.{Finishes, ask_gone, closed, finish_causes, finish_op, finished, open_ask, opened, path_asked, unless_stopped, without}
+use Rattle.name_core.specs.Asks.{Finishes, ask_gone, closed, finish_causes, finish_op, finished, open_ask, ask_opened, path_asked, unless_stopped, without}
 use Rattle.name_core.specs.Calls.{NameActs, Plain, NoRoom, causes, deed, done_with, early_causes, first_cause, numbered, unless_refused}
 use Rattle.name_core.specs.Reads.{info_reply, path_of_zone, shown_at}
-use Rattle.name_core.specs.Service.{Changes, Concludes, FinishServes, FinishServesAt, FinishServesOpen, Serves, ServesBy, ServesUnless, is_change}
+use Rattle.name_core.specs.Service.{Changes, Concludes, FinishServes, FinishServesAt, FinishServesOpen, NameServes, ServesBy, ServesUnless, is_change}
 use Rattle.name_core.specs.Steps.{Keeps}
-use Rattle.name_core.specs.Laws.{AnyFault, IsStep, Called, Asked, Finished, Reaches, FileIsTold, FinishedForGood, FinishedOnce, IdsStayBelow, OthersStayByFile, ZoneIsAsAsked}
+use Rattle.name_core.specs.Laws.{AnyFault, IsStep, Called, Asked, Finished, Reaches, FileIsReported, FinishedForGood, FinishedOnce, IdsStayBelow, OthersStayByFile, ZoneIsAsAsked}
 use Rattle.name_store.proofs.CauseLemmas.{makeable}
 use Rattle.name_core.proofs.AllowedLemmas.{behind-finish, behind-make, behind-plain, may-make-file}
 use Rattle.name_core.proofs.AskLemmas.{ask-room, open-holds, open-id, without-apart}
 use Rattle.name_core.proofs.KeepLemmas.{keeps-asked, keeps-closed, keeps-done, keeps-pending, keeps-settled, next-done, settled-next}
-use Rattle.name_core.proofs.LawLemmas.{other, row-new, row-other, told-by, zone-above, zone-same}
+use Rattle.name_core.proofs.LawLemmas.{other, row-new, row-other, info-by, zone-above, zone-same}
 use Rattle.name_core.proofs.Layers.{Asking, Same, Opened, asking}
 use Rattle.name_core.proofs.RowLemmas.{room-left}
 
 -- a finish that was done had no cause of a refusal, and left this state
 pub finished-by : (s : NameState) (a : OpenAsk) (edek : Option Edek) (s' : NameState) → Finishes s a edek (Ok tt) s'
     → (first_cause (finish_causes s.table.rows a edek a.ask) ≡ None) × (s' ≡ finished s a edek)
-finished-by s a edek s' (NoRoom, may, is) = let f : Ok tt ≡ Err refusal.NoMemory = ap (λ o. o.told) is in absurd cc
+finished-by s a edek s' (NoRoom, may, is) = let f : Ok tt ≡ Err refusal.NoMemory = ap (λ o. o.reply) is in absurd cc
 finished-by s a edek s' (Plain, may, is) = go (first_cause (finish_causes s.table.rows a edek a.ask)) is
   where
-    go : (o : Option NameRefusal) → (record { told = Ok tt; state = s' }) ≡ unless_stopped o s a edek → (o ≡ None) × (s' ≡ finished s a edek)
-    go (Some why) is = let f : Ok tt ≡ Err why = ap (λ o. o.told) is in absurd cc
+    go : (o : Option NameRefusal) → (record { reply = Ok tt; state = s' }) ≡ unless_stopped o s a edek → (o ≡ None) × (s' ≡ finished s a edek)
+    go (Some why) is = let f : Ok tt ≡ Err why = ap (λ o. o.reply) is in absurd cc
     go None is = (refl, ap (λ o. o.state) is)
 
 -- properties of a file that was made
@@ -79,8 +79,8 @@ made-by s a p edek s' asks finishes =
       rows = ap (λ (t : NameState). t.table.rows) done.1 ∙ ap (λ (k : Ask). (after_table s.table (finish_op a.id edek k)).rows) asks;
     }
 
-pub file_is_told : FileIsTold
-file_is_told s a p edek s' told s'' asks finishes info = go (told-by s' p told s'' info)
+pub file_is_reported : FileIsReported
+file_is_reported s a p edek s' result s'' asks finishes info = go (info-by s' p result s'' info)
   where
     made : MadeBy s a p edek s'
     made = made-by s a p edek s' asks finishes
@@ -88,7 +88,7 @@ file_is_told s a p edek s' told s'' asks finishes info = go (told-by s' p told s
     zone_is : path_of_zone (put (new_file a.id p edek) s.table.rows) p ≡ path_of_zone s.table.rows (parent p)
     zone_is = ap (option_map (λ e. e.path)) (zone-same (new_file a.id p edek) s.table.rows p refl ∙ zone-above s.table.rows p made.absent)
 
-    go : (told ≡ Refused refusal.NoMemory) ⊎ (told ≡ info_reply s'.table (as_it_is p)) → (told ≡ Refused refusal.NoMemory) ⊎ (told ≡ shown_at (path_of_zone s.table.rows (parent p)) (Some (new_file a.id p edek).row))
+    go : (result ≡ Refused refusal.NoMemory) ⊎ (result ≡ info_reply s'.table (as_it_is p)) → (result ≡ Refused refusal.NoMemory) ⊎ (result ≡ shown_at (path_of_zone s.table.rows (parent p)) (Some (new_file a.id p edek).row))
     go (inl wanting) = inl wanting
     go (inr is) = inr (is ∙ ap (λ (rows : List Entry). shown_at (path_of_zone rows p) (row_at rows p)) made.rows ∙ (λ i. shown_at (zone_is i) (row-new (new_file a.id p edek) s.table.rows made.absent i)))
 
@@ -171,11 +171,11 @@ deed-pending s (call.Info p) free k = served-none s k
 deed-pending s (call.List p) free k = served-none s k
 deed-pending s call.Zones free k = served-none s k
 
-acts-on : (s : NameState) (c : NameCall) (told : NameReply) (s' : NameState) → NameActs s c told s' → Keeps (Alone s) → Served s (Alone s')
-acts-on s c told s' (NoRoom, may, is) k = served-at s (Alone s) (Alone s') (ap Alone (ap (λ o. o.state) is)) (served-none s k)
-acts-on s c told s' (Plain, may, is) k = go (first_cause (causes s c)) refl is
+acts-on : (s : NameState) (c : NameCall) (result : NameReply) (s' : NameState) → NameActs s c result s' → Keeps (Alone s) → Served s (Alone s')
+acts-on s c result s' (NoRoom, may, is) k = served-at s (Alone s) (Alone s') (ap Alone (ap (λ o. o.state) is)) (served-none s k)
+acts-on s c result s' (Plain, may, is) k = go (first_cause (causes s c)) refl is
   where
-    go : (o : Option NameRefusal) → first_cause (causes s c) ≡ o → (record { told = told; state = s' }) ≡ unless_refused o s (deed s c) → Served s (Alone s')
+    go : (o : Option NameRefusal) → first_cause (causes s c) ≡ o → (record { reply = result; state = s' }) ≡ unless_refused o s (deed s c) → Served s (Alone s')
     go (Some why) stops is = served-at s (Alone s) (Alone s') (ap Alone (ap (λ o. o.state) is)) (served-none s k)
     go None free is = served-at s (Alone (done_with (deed s c).logs (deed s c).state)) (Alone s') (ap Alone (ap (λ o. o.state) is)) (deed-done s c free k)
 
@@ -185,35 +185,35 @@ behind-settled kept s s' k h =
     let r = h.onward.rises in
     record { onward = record { asks = h.onward.asks; rises = omega (arith, n, r) }; keeps = h.keeps }
 
-served : (s : NameService) (user : List ℕ) (c : NameCall) (told : NameReply) (logged : List EditOp) (s' : NameService) → Serves s user c AnyFault told logged s' → Keeps s → Served s.names s'
-served s user c told logged s' serves k = early (first_cause (early_causes user c)) serves
+served : (s : NameService) (user : List ℕ) (c : NameCall) (result : NameReply) (logged : List EditOp) (s' : NameService) → NameServes s user c AnyFault result logged s' → Keeps s → Served s.names s'
+served s user c result logged s' serves k = early (first_cause (early_causes user c)) serves
   where
-    changes : (kept : Bool) → Changes (settled kept s) (settled_ops kept s.pending) c AnyFault told logged s' → Served (settled kept s) s'
-    changes kept (inl w) = served-at (settled kept s) (Alone w.changed) s' w.left (acts-on (settled kept s) c told w.changed w.acts (keeps-settled kept s k))
+    changes : (kept : Bool) → Changes (settled kept s) (settled_ops kept s.pending) c AnyFault result logged s' → Served (settled kept s) s'
+    changes kept (inl w) = served-at (settled kept s) (Alone w.changed) s' w.left (acts-on (settled kept s) c result w.changed w.acts (keeps-settled kept s k))
     changes kept (inr u) =
         served-at (settled kept s) (record { names = (deed (settled kept s) c).state; pending = (deed (settled kept s) c).logs }) s' u.left (deed-pending (settled kept s) c u.free (keeps-settled kept s k))
 
-    by : (change : Bool) → ServesBy change s c AnyFault told logged s' → Served s.names s'
+    by : (change : Bool) → ServesBy change s c AnyFault result logged s' → Served s.names s'
     by false reads = served-same s s' reads.same k
     by true (inl waits) = served-same s s' waits.same k
     by true (inr (kept, did)) = behind-settled kept s s' k (changes kept did)
 
-    early : (o : Option NameRefusal) → ServesUnless o s c AnyFault told logged s' → Served s.names s'
+    early : (o : Option NameRefusal) → ServesUnless o s c AnyFault result logged s' → Served s.names s'
     early (Some why) refused = served-same s s' refused.same k
     early None serves = by (is_change c) serves
 
 -- after a finish its ask is not open, unless memory ran out
-data Finishing (s : NameState) (id : ℕ) (told : Result (Unit {0}) NameRefusal) (s' : NameService) : Type 0 where
-  Wanting : told ≡ Err refusal.NoMemory → Served s s' → Finishing s id told s'
-  Gone : open_ask s.asks id ≡ None → Served s s' → Finishing s id told s'
-  Closed : (a : OpenAsk) → open_ask s.asks id ≡ Some a → s'.names.asks ≡ without s.asks a.id → next_id s ≤ next_id s'.names → Keeps s' → Finishing s id told s'
+data Finishing (s : NameState) (id : ℕ) (result : Result (Unit {0}) NameRefusal) (s' : NameService) : Type 0 where
+  Wanting : result ≡ Err refusal.NoMemory → Served s s' → Finishing s id result s'
+  Gone : open_ask s.asks id ≡ None → Served s s' → Finishing s id result s'
+  Closed : (a : OpenAsk) → open_ask s.asks id ≡ Some a → s'.names.asks ≡ without s.asks a.id → next_id s ≤ next_id s'.names → Keeps s' → Finishing s id result s'
 
 module _ (s : NameService) (id : ℕ) (a : OpenAsk) (stands : open_ask s.names.asks id ≡ Some a) (k : Keeps s) where
   its : open_ask s.names.asks a.id ≡ Some a
   its = subst (λ (i : ℕ). open_ask s.names.asks i ≡ Some a) (sym (open-id s.names.asks id a stands)) stands
 
-  away : (told : Result (Unit {0}) NameRefusal) (s' t : NameService) → s' ≡ t → t.names.asks ≡ without s.names.asks a.id → next_id s.names ≤ next_id t.names → Keeps t → Finishing s.names id told s'
-  away told s' t is gone rises keeps = subst (Finishing s.names id told) (sym is) (Closed a stands gone rises keeps)
+  away : (result : Result (Unit {0}) NameRefusal) (s' t : NameService) → s' ≡ t → t.names.asks ≡ without s.names.asks a.id → next_id s.names ≤ next_id t.names → Keeps t → Finishing s.names id result s'
+  away result s' t is gone rises keeps = subst (Finishing s.names id result) (sym is) (Closed a stands gone rises keeps)
 
   module _ (kept : Bool) (edek : Option Edek) where
     abbrev n : NameState
@@ -237,49 +237,49 @@ module _ (s : NameService) (id : ℕ) (a : OpenAsk) (stands : open_ask s.names.a
     pending-keeps : Keeps (record { names = closed n a.id; pending = Some o })
     pending-keeps = keeps-pending n (closed n a.id) o (behind-finish n a.id a edek alone.few alone.ids alone.recent its)
 
-    wrote : (told : Result (Unit {0}) NameRefusal) (changed : NameState) (s' : NameService) → Finishes n a edek told changed → s' ≡ Alone changed → Finishing s.names id told s'
-    wrote told changed s' (NoRoom, may, is) left =
-        Wanting (ap (λ x. x.told) is) (behind-settled kept s s' k (served-at n (Alone n) s' (left ∙ ap Alone (ap (λ x. x.state) is)) (served-none n alone)))
-    wrote told changed s' (Plain, may, is) left = go (first_cause (finish_causes n.table.rows a edek a.ask)) is
+    wrote : (result : Result (Unit {0}) NameRefusal) (changed : NameState) (s' : NameService) → Finishes n a edek result changed → s' ≡ Alone changed → Finishing s.names id result s'
+    wrote result changed s' (NoRoom, may, is) left =
+        Wanting (ap (λ x. x.reply) is) (behind-settled kept s s' k (served-at n (Alone n) s' (left ∙ ap Alone (ap (λ x. x.state) is)) (served-none n alone)))
+    wrote result changed s' (Plain, may, is) left = go (first_cause (finish_causes n.table.rows a edek a.ask)) is
       where
-        go : (why : Option NameRefusal) → (record { told = told; state = changed }) ≡ unless_stopped why n a edek → Finishing s.names id told s'
-        go (Some why) is = away told s' (Alone (closed n a.id)) (left ∙ ap Alone (ap (λ x. x.state) is)) refl left-next (keeps-closed (Alone n) a.id alone)
-        go None is = away told s' (Alone (finished n a edek)) (left ∙ ap Alone (ap (λ x. x.state) is)) refl done-next done-keeps
+        go : (why : Option NameRefusal) → (record { reply = result; state = changed }) ≡ unless_stopped why n a edek → Finishing s.names id result s'
+        go (Some why) is = away result s' (Alone (closed n a.id)) (left ∙ ap Alone (ap (λ x. x.state) is)) refl left-next (keeps-closed (Alone n) a.id alone)
+        go None is = away result s' (Alone (finished n a edek)) (left ∙ ap Alone (ap (λ x. x.state) is)) refl done-next done-keeps
 
-    concludes : (told : Result (Unit {0}) NameRefusal) (logged : List EditOp) (s' : NameService) → Concludes n (settled_ops kept s.pending) a edek AnyFault told logged s' → Finishing s.names id told s'
-    concludes told logged s' (inl w) = wrote told w.changed s' w.finishes w.left
-    concludes told logged s' (inr u) = away told s' (record { names = closed n a.id; pending = Some o }) u.left refl left-next pending-keeps
+    concludes : (result : Result (Unit {0}) NameRefusal) (logged : List EditOp) (s' : NameService) → Concludes n (settled_ops kept s.pending) a edek AnyFault result logged s' → Finishing s.names id result s'
+    concludes result logged s' (inl w) = wrote result w.changed s' w.finishes w.left
+    concludes result logged s' (inr u) = away result s' (record { names = closed n a.id; pending = Some o }) u.left refl left-next pending-keeps
 
   closed-now : Keeps (record { names = closed s.names a.id; pending = s.pending })
   closed-now = keeps-closed s a.id k
 
-  opened-by : (given : KeyAnswer) (told : Result (Unit {0}) NameRefusal) (logged : List EditOp) (s' : NameService) → FinishServesOpen s a given AnyFault told logged s' → Finishing s.names id told s'
-  opened-by (answer.Refused why) told logged s' ends = away told s' (record { names = closed s.names a.id; pending = s.pending }) ends.left_is refl (omega arith) closed-now
-  opened-by (answer.Given edek) told logged s' (inl waits) = away told s' (record { names = closed s.names a.id; pending = s.pending }) waits.ends.left_is refl (omega arith) closed-now
-  opened-by (answer.Given edek) told logged s' (inr (kept, did)) = concludes kept edek told logged s' did
+  opened-by : (given : KeyAnswer) (result : Result (Unit {0}) NameRefusal) (logged : List EditOp) (s' : NameService) → FinishServesOpen s a given AnyFault result logged s' → Finishing s.names id result s'
+  opened-by (answer.Refused why) result logged s' ends = away result s' (record { names = closed s.names a.id; pending = s.pending }) ends.left_is refl (omega arith) closed-now
+  opened-by (answer.Given edek) result logged s' (inl waits) = away result s' (record { names = closed s.names a.id; pending = s.pending }) waits.ends.left_is refl (omega arith) closed-now
+  opened-by (answer.Given edek) result logged s' (inr (kept, did)) = concludes kept edek result logged s' did
 
-finishing : (s : NameService) (id : ℕ) (given : KeyAnswer) (told : Result (Unit {0}) NameRefusal) (logged : List EditOp) (s' : NameService) → FinishServes s id given AnyFault told logged s' → Keeps s
-    → Finishing s.names id told s'
-finishing s id given told logged s' serves k = go (open_ask s.names.asks id) refl serves
+finishing : (s : NameService) (id : ℕ) (given : KeyAnswer) (result : Result (Unit {0}) NameRefusal) (logged : List EditOp) (s' : NameService) → FinishServes s id given AnyFault result logged s' → Keeps s
+    → Finishing s.names id result s'
+finishing s id given result logged s' serves k = go (open_ask s.names.asks id) refl serves
   where
-    go : (o : Option OpenAsk) → open_ask s.names.asks id ≡ o → FinishServesAt s o given AnyFault told logged s' → Finishing s.names id told s'
+    go : (o : Option OpenAsk) → open_ask s.names.asks id ≡ o → FinishServesAt s o given AnyFault result logged s' → Finishing s.names id result s'
     go None is ends = Gone is (served-same s s' ends.left_is k)
-    go (Some a) is serves = opened-by s id a is k given told logged s' serves
+    go (Some a) is serves = opened-by s id a is k given result logged s' serves
 
-finishing-keeps : (s : NameState) (id : ℕ) (told : Result (Unit {0}) NameRefusal) (s' : NameService) → Finishing s id told s' → Keeps s'
-finishing-keeps s id told s' (Wanting wants h) = h.keeps
-finishing-keeps s id told s' (Gone none h) = h.keeps
-finishing-keeps s id told s' (Closed a stands gone rises keeps) = keeps
+finishing-keeps : (s : NameState) (id : ℕ) (result : Result (Unit {0}) NameRefusal) (s' : NameService) → Finishing s id result s' → Keeps s'
+finishing-keeps s id result s' (Wanting wants h) = h.keeps
+finishing-keeps s id result s' (Gone none h) = h.keeps
+finishing-keeps s id result s' (Closed a stands gone rises keeps) = keeps
 
 asked-keeps : (s s' : NameService) (user : List ℕ) (a : Ask) → s'.pending ≡ s.pending → Asking s.names user a s'.names → Keeps s → Keeps s'
 asked-keeps s s' user a same (Same is) k = subst Keeps (sym (λ i. record { names = is i; pending = same i })) k
 asked-keeps s s' user a same (Opened free is) k =
-    subst Keeps (sym (λ i. record { names = is i; pending = same i })) (keeps-asked s (opened s.names a) refl (ask-room s.names user a free) k)
+    subst Keeps (sym (λ i. record { names = is i; pending = same i })) (keeps-asked s (ask_opened s.names a) refl (ask-room s.names user a free) k)
 
 pub ids_stay_below : IdsStayBelow
-ids_stay_below s s' (Called user c told logged serves) k = (served s user c told logged s' serves k).keeps
-ids_stay_below s s' (Asked user a told asks same) k = asked-keeps s s' user a same (asking s.names user a told s'.names asks) k
-ids_stay_below s s' (Finished id given told logged serves) k = finishing-keeps s.names id told s' (finishing s id given told logged s' serves k)
+ids_stay_below s s' (Called user c result logged serves) k = (served s user c result logged s' serves k).keeps
+ids_stay_below s s' (Asked user a result asks same) k = asked-keeps s s' user a same (asking s.names user a result s'.names asks) k
+ids_stay_below s s' (Finished id given result logged serves) k = finishing-keeps s.names id result s' (finishing s id given result logged s' serves k)
 
 -- no ask with the id is open
 
@@ -294,22 +294,22 @@ gone-from : (asks : List OpenAsk) (id : ℕ) (a : OpenAsk) → IsRising asks →
 gone-from asks id a rising stands =
     subst (λ (i : ℕ). open_ask (without asks i) id ≡ None) (sym (open-id asks id a stands)) (none-open (without asks id) id (without-apart asks id rising))
 
-told-gone : (s : NameService) (id : ℕ) (given : KeyAnswer) (told : Result (Unit {0}) NameRefusal) (logged : List EditOp) (s' : NameService) → open_ask s.names.asks id ≡ None
-    → FinishServes s id given AnyFault told logged s' → (told ≡ Err (ask_gone s.names)) × (s' ≡ s)
-told-gone s id given told logged s' none serves =
-    let ends = subst (λ (o : Option OpenAsk). FinishServesAt s o given AnyFault told logged s') none serves in (ends.told_is, ends.left_is)
+answered-gone : (s : NameService) (id : ℕ) (given : KeyAnswer) (result : Result (Unit {0}) NameRefusal) (logged : List EditOp) (s' : NameService) → open_ask s.names.asks id ≡ None
+    → FinishServes s id given AnyFault result logged s' → (result ≡ Err (ask_gone s.names)) × (s' ≡ s)
+answered-gone s id given result logged s' none serves =
+    let ends = subst (λ (o : Option OpenAsk). FinishServesAt s o given AnyFault result logged s') none serves in (ends.reply_is, ends.left_is)
 
 moved : (id : ℕ) (asks left : List OpenAsk) → left ≡ asks → open_ask asks id ≡ None → open_ask left id ≡ None
 moved id asks left is h = subst (λ (l : List OpenAsk). open_ask l id ≡ None) (sym is) h
 
-closes : (s : NameState) (id : ℕ) (told : Result (Unit {0}) NameRefusal) (s' : NameService) → IsRising s.asks → Finishing s id told s' → (told ≡ Err refusal.NoMemory → ⊥) → open_ask s'.names.asks id ≡ None
-closes s id told s' rising (Wanting wants h) room = absurd (room wants)
-closes s id told s' rising (Gone none h) room = moved id s.asks s'.names.asks h.onward.asks none
-closes s id told s' rising (Closed a stands gone rises keeps) room = moved id (without s.asks a.id) s'.names.asks gone (gone-from s.asks id a rising stands)
+closes : (s : NameState) (id : ℕ) (result : Result (Unit {0}) NameRefusal) (s' : NameService) → IsRising s.asks → Finishing s id result s' → (result ≡ Err refusal.NoMemory → ⊥) → open_ask s'.names.asks id ≡ None
+closes s id result s' rising (Wanting wants h) room = absurd (room wants)
+closes s id result s' rising (Gone none h) room = moved id s.asks s'.names.asks h.onward.asks none
+closes s id result s' rising (Closed a stands gone rises keeps) room = moved id (without s.asks a.id) s'.names.asks gone (gone-from s.asks id a rising stands)
 
 pub finished_once : FinishedOnce
-finished_once s id given told logged s' given' told' logged' s'' k first room second =
-    told-gone s' id given' told' logged' s'' (closes s.names id told s' k.ids.rising (finishing s id given told logged s' first k) room) second
+finished_once s id given result logged s' given' result' logged' s'' k first room second =
+    answered-gone s' id given' result' logged' s'' (closes s.names id result s' k.ids.rising (finishing s id given result logged s' first k) room) second
 
 -- an id that is used, and not of an open ask, stays so
 
@@ -349,10 +349,10 @@ past-served id s s' h past = record {
   keeps = h.keeps;
 }
 
-past-finished : (id : ℕ) (s : NameService) (another : ℕ) (told : Result (Unit {0}) NameRefusal) (s' : NameService) → Finishing s.names another told s' → IsPast id s → IsPast id s'
-past-finished id s another told s' (Wanting wants h) past = past-served id s s' h past
-past-finished id s another told s' (Gone none h) past = past-served id s s' h past
-past-finished id s another told s' (Closed a stands gone rises keeps) past = record {
+past-finished : (id : ℕ) (s : NameService) (another : ℕ) (result : Result (Unit {0}) NameRefusal) (s' : NameService) → Finishing s.names another result s' → IsPast id s → IsPast id s'
+past-finished id s another result s' (Wanting wants h) past = past-served id s s' h past
+past-finished id s another result s' (Gone none h) past = past-served id s s' h past
+past-finished id s another result s' (Closed a stands gone rises keeps) past = record {
   gone = moved id (without s.names.asks a.id) s'.names.asks gone (none-left s.names.asks a.id id past.gone);
   low = let l = past.low in omega (arith, l, rises);
   keeps = keeps;
@@ -364,29 +364,29 @@ past-asked id s s' user a same (Opened free is) past =
     let n = ap next_id is in
     let l = past.low in
     record {
-      gone = moved id (s.names.asks ++ opened s.names a ∷ []) s'.names.asks (ap (λ (x : NameState). x.asks) is) (none-added s.names.asks (opened s.names a) id (higher (next_id s.names) id past.low) past.gone);
+      gone = moved id (s.names.asks ++ ask_opened s.names a ∷ []) s'.names.asks (ap (λ (x : NameState). x.asks) is) (none-added s.names.asks (ask_opened s.names a) id (higher (next_id s.names) id past.low) past.gone);
       low = omega (arith, n, l);
       keeps = asked-keeps s s' user a same (Opened free is) past.keeps;
     }
 
 past-step : (id : ℕ) (s s' : NameService) → IsStep s s' → IsPast id s → IsPast id s'
-past-step id s s' (Called user c told logged serves) past = past-served id s s' (served s user c told logged s' serves past.keeps) past
-past-step id s s' (Asked user a told asks same) past = past-asked id s s' user a same (asking s.names user a told s'.names asks) past
-past-step id s s' (Finished another given told logged serves) past = past-finished id s another told s' (finishing s another given told logged s' serves past.keeps) past
+past-step id s s' (Called user c result logged serves) past = past-served id s s' (served s user c result logged s' serves past.keeps) past
+past-step id s s' (Asked user a result asks same) past = past-asked id s s' user a same (asking s.names user a result s'.names asks) past
+past-step id s s' (Finished another given result logged serves) past = past-finished id s another result s' (finishing s another given result logged s' serves past.keeps) past
 
 past-steps : (id : ℕ) (s : NameService) (between : List NameService) (t : NameService) → Reaches s between t → IsPast id s → IsPast id t
 past-steps id s [] t is past = subst (IsPast id) (sym is) past
 past-steps id s (m ∷ ms) t steps past = past-steps id m ms t steps.1 (past-step id s m steps.0 past)
 
-past-end : (s : NameState) (id : ℕ) (told : Result (Unit {0}) NameRefusal) (s' : NameService) → IsRising s.asks → id < next_id s → Finishing s id told s' → (told ≡ Err refusal.NoMemory → ⊥) → IsPast id s'
-past-end s id told s' rising low (Wanting wants h) room = absurd (room wants)
-past-end s id told s' rising low (Gone none h) room = record { gone = moved id s.asks s'.names.asks h.onward.asks none; low = let r = h.onward.rises in omega (arith, low, r); keeps = h.keeps }
-past-end s id told s' rising low (Closed a stands gone rises keeps) room =
-    record { gone = closes s id told s' rising (Closed a stands gone rises keeps) room; low = omega (arith, low, rises); keeps = keeps }
+past-end : (s : NameState) (id : ℕ) (result : Result (Unit {0}) NameRefusal) (s' : NameService) → IsRising s.asks → id < next_id s → Finishing s id result s' → (result ≡ Err refusal.NoMemory → ⊥) → IsPast id s'
+past-end s id result s' rising low (Wanting wants h) room = absurd (room wants)
+past-end s id result s' rising low (Gone none h) room = record { gone = moved id s.asks s'.names.asks h.onward.asks none; low = let r = h.onward.rises in omega (arith, low, r); keeps = h.keeps }
+past-end s id result s' rising low (Closed a stands gone rises keeps) room =
+    record { gone = closes s id result s' rising (Closed a stands gone rises keeps) room; low = omega (arith, low, rises); keeps = keeps }
 
 pub finished_for_good : FinishedForGood
-finished_for_good s id a given told logged s' between t given' told' logged' t' k stands first room steps second =
+finished_for_good s id a given result logged s' between t given' result' logged' t' k stands first room steps second =
     let low : id < next_id s.names =
     subst (λ (i : ℕ). i < next_id s.names) (open-id s.names.asks id a stands) (open-holds (λ (q : OpenAsk). q.id < next_id s.names) s.names.asks id a k.ids.of_asks stands) in
-    let past = past-end s.names id told s' k.ids.rising low (finishing s id given told logged s' first k) room in
-    told-gone t id given' told' logged' t' (past-steps id s' between t steps past).gone second
+    let past = past-end s.names id result s' k.ids.rising low (finishing s id given result logged s' first k) room in
+    answered-gone t id given' result' logged' t' (past-steps id s' between t steps past).gone second

@@ -25,8 +25,8 @@ use Rattle.name_core.specs.State.{NameService, NameState, RunningNames, names_of
 use Rattle.name_core.specs.Calls.{Deed, NameActs, NoRoom, Plain, causes, deed, done_with, early_causes, first_cause, ids_used, only_answer, only_logs, takes_memory, unless_refused}
 use Rattle.name_core.specs.Reads.{answer_unless}
 use Rattle.name_core.specs.Asks.{Finishes, ask_gone, closed, finish_causes, finish_op, finished, open_ask, unless_stopped, without}
-use Rattle.name_core.specs.Service.{Acts, Changes, Concludes, FinishActs, FinishServesAt, Logs, OwnOf, OwnOfFinish, ServesUnless, ServesBy, acknowledged, is_change}
-use Rattle.name_core.specs.Steps.{ActsOn, ActsSettled, Answers, FinishesSettled, Growing, IsUnsettled, Leaving, Logging, OwnChange, OwnFinish, Settling, Writes, finish_told, told_of}
+use Rattle.name_core.specs.Service.{NameActsOnDisk, Changes, Concludes, FinishActs, FinishServesAt, Logs, OwnOf, OwnOfFinish, ServesUnless, ServesBy, acknowledged, is_change}
+use Rattle.name_core.specs.Steps.{ActsOn, ActsSettled, Answers, FinishesSettled, Growing, IsUnsettled, Leaving, Logging, OwnChange, OwnFinish, Settling, Writes, finish_answer, answer_of_store}
 use Rattle.name_core.proofs.AskLemmas.{open-id}
 use Rattle.name_core.proofs.LoggingLemmas.{behind-settling, closing, logging-growing, logging-leaving, rose_since, unchanged}
 
@@ -36,40 +36,40 @@ logs-of old new r t own logged l = record { stands = l.stands; moments = l.momen
 -- calls
 
 -- a call that is refused before anything is settled
-pub acts-early : (d : DiskState) (r : RunningNames) (user : List ℕ) (c : NameCall) (why : NameRefusal) → first_cause (early_causes user c) ≡ Some why → Acts d d r user c (reply.Refused why) r
+pub acts-early : (d : DiskState) (r : RunningNames) (user : List ℕ) (c : NameCall) (why : NameRefusal) → first_cause (early_causes user c) ≡ Some why → NameActsOnDisk d d r user c (reply.Refused why) r
 acts-early d r user c why is = record {
   logged = [];
   serves = subst (λ (o : Option NameRefusal). ServesUnless o (service_of r) c (Rose d.faults d.faults) (reply.Refused why) [] (service_of r)) (sym is)
-      (record { told_is = refl; none_logged = refl; same = refl });
+      (record { reply_is = refl; none_logged = refl; same = refl });
   disk = logs-of d d r r (OwnOf (service_of r) c (reply.Refused why) (service_of r)) [] (unchanged d r (Leaving r (OwnOf (service_of r) c (reply.Refused why) (service_of r))));
 }
 
 -- a call that changes nothing
-pub acts-reading : (d : DiskState) (r : RunningNames) (user : List ℕ) (c : NameCall) (told : NameReply) → first_cause (early_causes user c) ≡ None → is_change c ≡ false
-    → NameActs (names_of r) c told (names_of r) → Acts d d r user c told r
-acts-reading d r user c told early reads acts = record {
+pub acts-reading : (d : DiskState) (r : RunningNames) (user : List ℕ) (c : NameCall) (outcome : NameReply) → first_cause (early_causes user c) ≡ None → is_change c ≡ false
+    → NameActs (names_of r) c outcome (names_of r) → NameActsOnDisk d d r user c outcome r
+acts-reading d r user c outcome early reads acts = record {
   logged = [];
-  serves = subst (λ (o : Option NameRefusal). ServesUnless o (service_of r) c (Rose d.faults d.faults) told [] (service_of r)) (sym early)
-      (subst (λ (b : Bool). ServesBy b (service_of r) c (Rose d.faults d.faults) told [] (service_of r)) (sym reads) (record { acts = acts; none_logged = refl; same = refl }));
-  disk = logs-of d d r r (OwnOf (service_of r) c told (service_of r)) [] (unchanged d r (Leaving r (OwnOf (service_of r) c told (service_of r))));
+  serves = subst (λ (o : Option NameRefusal). ServesUnless o (service_of r) c (Rose d.faults d.faults) outcome [] (service_of r)) (sym early)
+      (subst (λ (b : Bool). ServesBy b (service_of r) c (Rose d.faults d.faults) outcome [] (service_of r)) (sym reads) (record { acts = acts; none_logged = refl; same = refl }));
+  disk = logs-of d d r r (OwnOf (service_of r) c outcome (service_of r)) [] (unchanged d r (Leaving r (OwnOf (service_of r) c outcome (service_of r))));
 }
 
 -- a change
-pub acts-changing : (old new : DiskState) (r t : RunningNames) (user : List ℕ) (c : NameCall) (told : NameReply) → first_cause (early_causes user c) ≡ None → is_change c ≡ true
-    → ActsOn old new r c told t → Acts old new r user c told t
-acts-changing old new r t user c told early change a = record {
+pub acts-changing : (old new : DiskState) (r t : RunningNames) (user : List ℕ) (c : NameCall) (outcome : NameReply) → first_cause (early_causes user c) ≡ None → is_change c ≡ true
+    → ActsOn old new r c outcome t → NameActsOnDisk old new r user c outcome t
+acts-changing old new r t user c outcome early change a = record {
   logged = a.logged;
-  serves = subst (λ (o : Option NameRefusal). ServesUnless o (service_of r) c (Rose old.faults new.faults) told a.logged (service_of t)) (sym early)
-      (subst (λ (b : Bool). ServesBy b (service_of r) c (Rose old.faults new.faults) told a.logged (service_of t)) (sym change) a.serves);
-  disk = logs-of old new r t (OwnOf (service_of r) c told (service_of t)) a.logged a.disk;
+  serves = subst (λ (o : Option NameRefusal). ServesUnless o (service_of r) c (Rose old.faults new.faults) outcome a.logged (service_of t)) (sym early)
+      (subst (λ (b : Bool). ServesBy b (service_of r) c (Rose old.faults new.faults) outcome a.logged (service_of t)) (sym change) a.serves);
+  disk = logs-of old new r t (OwnOf (service_of r) c outcome (service_of t)) a.logged a.disk;
 }
 
 -- a change whose pending operation was settled first
-pub acts-settled : (old mid new : DiskState) (r s t : RunningNames) (c : NameCall) (told : NameReply) → Settling old mid r s → ActsSettled mid new s c told t → ActsOn old new r c told t
-acts-settled old mid new r s t c told a b = record {
+pub acts-settled : (old mid new : DiskState) (r s t : RunningNames) (c : NameCall) (outcome : NameReply) → Settling old mid r s → ActsSettled mid new s c outcome t → ActsOn old new r c outcome t
+acts-settled old mid new r s t c outcome a b = record {
   logged = before ++ b.logged;
   serves = inr (a.kept, behind b.changes);
-  disk = behind-settling old mid new r s t a.kept (OwnOf (service_of r) c told (service_of t)) (OwnChange (names_of s) c told (service_of t)) b.logged own a.disk b.disk;
+  disk = behind-settling old mid new r s t a.kept (OwnOf (service_of r) c outcome (service_of t)) (OwnChange (names_of s) c outcome (service_of t)) b.logged own a.disk b.disk;
 }
   where
     before : List EditOp
@@ -78,25 +78,25 @@ acts-settled old mid new r s t c told a b = record {
     names_are : names_of s ≡ settled a.kept (service_of r)
     names_are = ap (λ (x : NameService). x.names) a.service
 
-    own : (o : EditOp) → OwnChange (names_of s) c told (service_of t) o → OwnOf (service_of r) c told (service_of t) a.kept o
+    own : (o : EditOp) → OwnChange (names_of s) c outcome (service_of t) o → OwnOf (service_of r) c outcome (service_of t) a.kept o
     own o h = record {
       free = ap (λ (n : NameState). first_cause (causes n c)) (sym names_are) ∙ h.0;
       is = ap (λ (n : NameState). (deed n c).logs) (sym names_are) ∙ h.1;
       was_written = h.2;
     }
 
-    behind : Changes (names_of s) [] c (Rose mid.faults new.faults) told b.logged (service_of t)
-        → Changes (settled a.kept (service_of r)) before c (Rose old.faults new.faults) told (before ++ b.logged) (service_of t)
+    behind : Changes (names_of s) [] c (Rose mid.faults new.faults) outcome b.logged (service_of t)
+        → Changes (settled a.kept (service_of r)) before c (Rose old.faults new.faults) outcome (before ++ b.logged) (service_of t)
     behind (inl w) = inl (record {
       changed = w.changed;
-      acts = subst (λ (n : NameState). NameActs n c told w.changed) names_are w.acts;
-      logged_is = ap (λ (l : List EditOp). before ++ l) (w.logged_is ∙ ap (λ (n : NameState). acknowledged told (deed n c).logs) names_are);
+      acts = subst (λ (n : NameState). NameActs n c outcome w.changed) names_are w.acts;
+      logged_is = ap (λ (l : List EditOp). before ++ l) (w.logged_is ∙ ap (λ (n : NameState). acknowledged outcome (deed n c).logs) names_are);
       left = w.left;
     })
     behind (inr u) = inr (record {
       failed = rose_since old.faults mid.faults new.faults a.disk.run.faults u.failed;
       free = ap (λ (n : NameState). first_cause (causes n c)) (sym names_are) ∙ u.free;
-      told_is = u.told_is;
+      reply_is = u.reply_is;
       logged_is = ap (λ (l : List EditOp). before ++ l) u.logged_is ∙ append-nil before;
       left = u.left ∙ ap (λ (n : NameState). record { names = (deed n c).state; pending = (deed n c).logs }) names_are;
     })
@@ -105,7 +105,7 @@ acts-settled old mid new r s t c told a b = record {
 pub acts-unsettled : (old new : DiskState) (r t : RunningNames) (c : NameCall) → IsUnsettled old new r t → ActsOn old new r c (reply.Refused refusal.StoreFault) t
 acts-unsettled old new r t c u = record {
   logged = [];
-  serves = inl (record { waits = u.waits; failed = u.failed; told_is = refl; none_logged = refl; same = ap service_of u.same });
+  serves = inl (record { waits = u.waits; failed = u.failed; reply_is = refl; none_logged = refl; same = ap service_of u.same });
   disk = logging-leaving old new r t NothingMore (OwnOf (service_of r) c (reply.Refused refusal.StoreFault) (service_of t)) [] (λ kept o never. absurd never) u.disk;
 }
 
@@ -129,7 +129,7 @@ done_deed o left = record { answer = reply.Done; logs = Some o; state = left }
 -- a change without a cause of refusal, whose operation had to be written
 pub settled-written : (old new : DiskState) (r t : RunningNames) (c : NameCall) (o : EditOp) (left : NameState) (result : Result (Unit {0}) StoreRefusal)
     → takes_memory (names_of r) c ≡ true → first_cause (causes (names_of r) c) ≡ None → deed (names_of r) c ≡ done_deed o left → Writes old new r left o result t
-    → ActsSettled old new r c (told_of result) t
+    → ActsSettled old new r c (answer_of_store result) t
 settled-written old new r t c o left result takes free is w = go result w
   where
     s : NameState
@@ -138,7 +138,7 @@ settled-written old new r t c o left result takes free is w = go result w
     logs : (x : EditOp) → x ≡ o → (deed s c).logs ≡ Some x
     logs x same = ap (λ (d : Deed). d.logs) is ∙ ap Some (sym same)
 
-    go : (result : Result (Unit {0}) StoreRefusal) → Writes old new r left o result t → ActsSettled old new r c (told_of result) t
+    go : (result : Result (Unit {0}) StoreRefusal) → Writes old new r left o result t → ActsSettled old new r c (answer_of_store result) t
     go (Ok done) w = record {
       logged = o ∷ [];
       changes = inl (record {
@@ -159,7 +159,7 @@ settled-written old new r t c o left result takes free is w = go result w
       changes = inr (record {
         failed = w.failed;
         free = free;
-        told_is = refl;
+        reply_is = refl;
         logged_is = refl;
         left = w.service ∙ ap (λ (d : Deed). record { names = d.state; pending = d.logs }) (sym is);
       });
@@ -198,15 +198,15 @@ takes-memory s call.Zones h = refl
 
 -- reads
 
-answered : (s : NameState) (o : Option NameRefusal) (answer : NameReply) → unless_refused o s (only_answer s answer) ≡ record { told = answer_unless o answer; state = s }
+answered : (s : NameState) (o : Option NameRefusal) (answer : NameReply) → unless_refused o s (only_answer s answer) ≡ record { reply = answer_unless o answer; state = s }
 answered s (Some why) answer = refl
 answered s None answer = refl
 
 -- a call that only answers
-pub read-acts : (s : NameState) (c : NameCall) (answer told : NameReply) → deed s c ≡ only_answer s answer → Answers (takes_memory s c) (causes s c) answer told → NameActs s c told s
-read-acts s c answer told is (inl said) =
-    (Plain, tt, ap (λ (t : NameReply). record { told = t; state = s }) said ∙ sym (answered s (first_cause (causes s c)) answer) ∙ ap (unless_refused (first_cause (causes s c)) s) (sym is))
-read-acts s c answer told is (inr wanting) = (NoRoom, (wanting.1, wanting.2), ap (λ (t : NameReply). record { told = t; state = s }) wanting.0)
+pub read-acts : (s : NameState) (c : NameCall) (answer outcome : NameReply) → deed s c ≡ only_answer s answer → Answers (takes_memory s c) (causes s c) answer outcome → NameActs s c outcome s
+read-acts s c answer outcome is (inl said) =
+    (Plain, tt, ap (λ (t : NameReply). record { reply = t; state = s }) said ∙ sym (answered s (first_cause (causes s c)) answer) ∙ ap (unless_refused (first_cause (causes s c)) s) (sym is))
+read-acts s c answer outcome is (inr wanting) = (NoRoom, (wanting.1, wanting.2), ap (λ (t : NameReply). record { reply = t; state = s }) wanting.0)
 
 -- finishes
 
@@ -215,7 +215,7 @@ pub finish-gone : (d : DiskState) (r : RunningNames) (id : ℕ) (given : KeyAnsw
 finish-gone d r id given none = record {
   logged = [];
   serves = subst (λ (o : Option OpenAsk). FinishServesAt (service_of r) o given (Rose d.faults d.faults) (Err (ask_gone (names_of r))) [] (service_of r)) (sym none)
-      (record { told_is = refl; none_logged = refl; left_is = refl });
+      (record { reply_is = refl; none_logged = refl; left_is = refl });
   disk = logs-of d d r r (OwnOfFinish (service_of r) id given (Err (ask_gone (names_of r))) (service_of r)) [] (unchanged d r (Leaving r (OwnOfFinish (service_of r) id given (Err (ask_gone (names_of r))) (service_of r))));
 }
 
@@ -230,7 +230,7 @@ pub finish-given-up : (d : DiskState) (r t : RunningNames) (id : ℕ) (a : OpenA
 finish-given-up d r t id a why stands is = record {
   logged = [];
   serves = subst (λ (o : Option OpenAsk). FinishServesAt (service_of r) o (answer.Refused why) (Rose d.faults d.faults) (Err (refusal.KeyRefused why)) [] (service_of t)) (sym stands)
-      (record { told_is = refl; none_logged = refl; left_is = closed-is r t id a stands is });
+      (record { reply_is = refl; none_logged = refl; left_is = closed-is r t id a stands is });
   disk = logs-of d d r t (OwnOfFinish (service_of r) id (answer.Refused why) (Err (refusal.KeyRefused why)) (service_of t)) []
       (closing d d r r t id (Leaving r (OwnOfFinish (service_of r) id (answer.Refused why) (Err (refusal.KeyRefused why)) (service_of t))) [] is (unchanged d r (Leaving r (OwnOfFinish (service_of r) id (answer.Refused why) (Err (refusal.KeyRefused why)) (service_of t)))));
 }
@@ -244,7 +244,7 @@ finish-unsettled old new r s t id a edek stands u is = record {
       (inl (record {
         waits = u.waits;
         failed = u.failed;
-        ends = record { told_is = refl; none_logged = refl; left_is = closed-is r t id a stands (is ∙ ap (λ (x : RunningNames). record x { asks = without x.asks id }) u.same) };
+        ends = record { reply_is = refl; none_logged = refl; left_is = closed-is r t id a stands (is ∙ ap (λ (x : RunningNames). record x { asks = without x.asks id }) u.same) };
       }));
   disk = logs-of old new r t (OwnOfFinish (service_of r) id (answer.Given edek) (Err refusal.StoreFault) (service_of t)) []
       (closing old new r s t id (Leaving r (OwnOfFinish (service_of r) id (answer.Given edek) (Err refusal.StoreFault) (service_of t))) [] is
@@ -252,14 +252,14 @@ finish-unsettled old new r s t id a edek stands u is = record {
 }
 
 -- the pending operation was settled first
-pub finish-behind : (old mid new : DiskState) (r s t : RunningNames) (id : ℕ) (a : OpenAsk) (edek : Option Edek) (told : Result (Unit {0}) NameRefusal) → open_ask r.asks id ≡ Some a
-    → Settling old mid r s → FinishesSettled mid new s a edek told t → FinishActs old new r id (answer.Given edek) told t
-finish-behind old mid new r s t id a edek told stands k b = record {
+pub finish-behind : (old mid new : DiskState) (r s t : RunningNames) (id : ℕ) (a : OpenAsk) (edek : Option Edek) (outcome : Result (Unit {0}) NameRefusal) → open_ask r.asks id ≡ Some a
+    → Settling old mid r s → FinishesSettled mid new s a edek outcome t → FinishActs old new r id (answer.Given edek) outcome t
+finish-behind old mid new r s t id a edek outcome stands k b = record {
   logged = before ++ b.logged;
-  serves = subst (λ (o : Option OpenAsk). FinishServesAt (service_of r) o (answer.Given edek) (Rose old.faults new.faults) told (before ++ b.logged) (service_of t)) (sym stands)
+  serves = subst (λ (o : Option OpenAsk). FinishServesAt (service_of r) o (answer.Given edek) (Rose old.faults new.faults) outcome (before ++ b.logged) (service_of t)) (sym stands)
       (inr (k.kept, behind b.concludes));
-  disk = logs-of old new r t (OwnOfFinish (service_of r) id (answer.Given edek) told (service_of t)) (before ++ b.logged)
-      (behind-settling old mid new r s t k.kept (OwnOfFinish (service_of r) id (answer.Given edek) told (service_of t)) (OwnFinish (names_of s) a edek told (service_of t)) b.logged own k.disk b.disk);
+  disk = logs-of old new r t (OwnOfFinish (service_of r) id (answer.Given edek) outcome (service_of t)) (before ++ b.logged)
+      (behind-settling old mid new r s t k.kept (OwnOfFinish (service_of r) id (answer.Given edek) outcome (service_of t)) (OwnFinish (names_of s) a edek outcome (service_of t)) b.logged own k.disk b.disk);
 }
   where
     before : List EditOp
@@ -268,7 +268,7 @@ finish-behind old mid new r s t id a edek told stands k b = record {
     names_are : names_of s ≡ settled k.kept (service_of r)
     names_are = ap (λ (x : NameService). x.names) k.service
 
-    own : (o : EditOp) → OwnFinish (names_of s) a edek told (service_of t) o → OwnOfFinish (service_of r) id (answer.Given edek) told (service_of t) k.kept o
+    own : (o : EditOp) → OwnFinish (names_of s) a edek outcome (service_of t) o → OwnOfFinish (service_of r) id (answer.Given edek) outcome (service_of t) k.kept o
     own o h = record {
       ask = a;
       edek = edek;
@@ -279,18 +279,18 @@ finish-behind old mid new r s t id a edek told stands k b = record {
       was_written = h.2;
     }
 
-    behind : Concludes (names_of s) [] a edek (Rose mid.faults new.faults) told b.logged (service_of t)
-        → Concludes (settled k.kept (service_of r)) before a edek (Rose old.faults new.faults) told (before ++ b.logged) (service_of t)
+    behind : Concludes (names_of s) [] a edek (Rose mid.faults new.faults) outcome b.logged (service_of t)
+        → Concludes (settled k.kept (service_of r)) before a edek (Rose old.faults new.faults) outcome (before ++ b.logged) (service_of t)
     behind (inl w) = inl (record {
       changed = w.changed;
-      finishes = subst (λ (n : NameState). Finishes n a edek told w.changed) names_are w.finishes;
+      finishes = subst (λ (n : NameState). Finishes n a edek outcome w.changed) names_are w.finishes;
       logged_is = ap (λ (l : List EditOp). before ++ l) w.logged_is;
       left = w.left;
     })
     behind (inr u) = inr (record {
       failed = rose_since old.faults mid.faults new.faults k.disk.run.faults u.failed;
       free = ap (λ (n : NameState). first_cause (finish_causes n.table.rows a edek a.ask)) (sym names_are) ∙ u.free;
-      told_is = u.told_is;
+      reply_is = u.reply_is;
       logged_is = ap (λ (l : List EditOp). before ++ l) u.logged_is ∙ append-nil before;
       left = u.left ∙ ap (λ (n : NameState). record { names = closed n a.id; pending = Some (finish_op a.id edek a.ask) }) names_are;
     })
@@ -321,7 +321,7 @@ finish-wanting d r a edek none free = record {
 -- a finish that nothing stops, whose operation had to be written
 pub finish-written : (old new : DiskState) (r t : RunningNames) (id : ℕ) (a : OpenAsk) (edek : Option Edek) (result : Result (Unit {0}) StoreRefusal) → open_ask r.asks id ≡ Some a
     → first_cause (finish_causes r.store.table.rows a edek a.ask) ≡ None → Writes old new r (closed (names_of r) id) (finish_op a.id edek a.ask) result t
-    → FinishesSettled old new r a edek (finish_told result) t
+    → FinishesSettled old new r a edek (finish_answer result) t
 finish-written old new r t id a edek result stands free w = go result w
   where
     s : NameState
@@ -333,7 +333,7 @@ finish-written old new r t id a edek result stands free w = go result w
     same : closed s id ≡ closed s a.id
     same = ap (closed s) (sym (open-id r.asks id a stands))
 
-    go : (result : Result (Unit {0}) StoreRefusal) → Writes old new r (closed s id) o result t → FinishesSettled old new r a edek (finish_told result) t
+    go : (result : Result (Unit {0}) StoreRefusal) → Writes old new r (closed s id) o result t → FinishesSettled old new r a edek (finish_answer result) t
     go (Ok done) w = record {
       logged = o ∷ [];
       concludes = inl (record {
@@ -351,7 +351,7 @@ finish-written old new r t id a edek result stands free w = go result w
     }
     go (Err store.StoreFault) w = record {
       logged = [];
-      concludes = inr (record { failed = w.failed; free = free; told_is = refl; logged_is = refl; left = w.service ∙ ap (λ (n : NameState). record { names = n; pending = Some o }) same });
+      concludes = inr (record { failed = w.failed; free = free; reply_is = refl; logged_is = refl; left = w.service ∙ ap (λ (n : NameState). record { names = n; pending = Some o }) same });
       disk = logging-growing old new r t (λ x. x ≡ o) (OwnFinish s a edek (Err refusal.StoreFault) (service_of t)) []
           (λ x is. (free, is, inr (ap (λ (y : NameService). y.pending) w.service ∙ ap Some (sym is)))) w.disk;
     }
@@ -379,12 +379,12 @@ pub finish-failed : (old new : DiskState) (r s t : RunningNames) (id : ℕ) (ede
     → t ≡ record s { asks = without s.asks id } → FinishActs old new r id (answer.Given edek) (Err refusal.StoreFault) t
 finish-failed old new r s t id edek found u is = let a = is-open r.asks id found in finish-unsettled old new r s t id a.0 edek a.1 u is
 
-pub finish-concluded : (old mid new : DiskState) (r s t : RunningNames) (id : ℕ) (edek : Option Edek) (told : Result (Unit {0}) NameRefusal) → is_some (open_ask r.asks id) ≡ true
-    → Settling old mid r s → ((a : OpenAsk) → open_ask s.asks id ≡ Some a → FinishesSettled mid new s a edek told t) → FinishActs old new r id (answer.Given edek) told t
-finish-concluded old mid new r s t id edek told found k b =
+pub finish-concluded : (old mid new : DiskState) (r s t : RunningNames) (id : ℕ) (edek : Option Edek) (outcome : Result (Unit {0}) NameRefusal) → is_some (open_ask r.asks id) ≡ true
+    → Settling old mid r s → ((a : OpenAsk) → open_ask s.asks id ≡ Some a → FinishesSettled mid new s a edek outcome t) → FinishActs old new r id (answer.Given edek) outcome t
+finish-concluded old mid new r s t id edek outcome found k b =
     let a = is-open r.asks id found in
     let asks : s.asks ≡ r.asks = ap (λ (x : NameService). x.names.asks) k.service in
-    finish-behind old mid new r s t id a.0 edek told a.1 k (b a.0 (ap (λ (l : List OpenAsk). open_ask l id) asks ∙ a.1))
+    finish-behind old mid new r s t id a.0 edek outcome a.1 k (b a.0 (ap (λ (l : List OpenAsk). open_ask l id) asks ∙ a.1))
 
 pub finish-refused-call : (d : DiskState) (r t : RunningNames) (id : ℕ) (why : KmsRefusal) → is_some (open_ask r.asks id) ≡ true → t ≡ record r { asks = without r.asks id }
     → FinishActs d d r id (answer.Refused why) (Err (refusal.KeyRefused why)) t

@@ -26,12 +26,12 @@ use Rattle.name_core.specs.Laws.{DeletedIsGone, ListTellsChildren, OthersStayByD
 use Rattle.name_core.proofs.LawLemmas.{answer-by}
 
 deleted-by : (s : NameState) (p : List (List ℕ)) (recursive : Bool) (s' : NameState) → NameActs s (call.Delete p recursive) reply.Done s' → s'.table.rows ≡ removed p s.table.rows
-deleted-by s p recursive s' (NoRoom, may, is) = let f : reply.Done ≡ reply.Refused refusal.NoMemory = ap (λ o. o.told) is in absurd cc
+deleted-by s p recursive s' (NoRoom, may, is) = let f : reply.Done ≡ reply.Refused refusal.NoMemory = ap (λ o. o.reply) is in absurd cc
 deleted-by s p recursive s' (Plain, may, is) = go (first_cause (delete_causes s.table.rows s.table.snaps p recursive)) is
   where
-    go : (o : Option NameRefusal) → (record { told = reply.Done; state = s' }) ≡ unless_refused o s (only_logs s (op.Remove p))
+    go : (o : Option NameRefusal) → (record { reply = reply.Done; state = s' }) ≡ unless_refused o s (only_logs s (op.Remove p))
         → s'.table.rows ≡ removed p s.table.rows
-    go (Some why) is = let f : reply.Done ≡ reply.Refused why = ap (λ o. o.told) is in absurd cc
+    go (Some why) is = let f : reply.Done ≡ reply.Refused why = ap (λ o. o.reply) is in absurd cc
     go None is = ap (λ o. o.state.table.rows) is
 
 -- the rows that remain
@@ -98,17 +98,17 @@ other-zone p q (e ∷ rows) out = go (is_prefix p e.path) refl (other-zone p q r
     go false stays rest = ap (λ (o : Option Entry). cond (is_zone_over q e) (Some (longer e o)) o) rest
 
 pub deleted_is_gone : DeletedIsGone
-deleted_is_gone s p recursive s' q told s'' did below info = go info
+deleted_is_gone s p recursive s' q answer s'' did below info = go info
   where
     absent : row_at s'.table.rows q ≡ None
     absent = ap (λ (rows : List Entry). row_at rows q) (deleted-by s p recursive s' did) ∙ gone-row p q s.table.rows below
 
-    go : NameActs s' (call.Info (as_it_is q)) told s'' → told ≡ reply.Refused refusal.NoSuchPath
+    go : NameActs s' (call.Info (as_it_is q)) answer s'' → answer ≡ reply.Refused refusal.NoSuchPath
     go (NoRoom, may, is) =
         let f : Some refusal.NoSuchPath ≡ None = ap (λ (o : Option Row). cond (is_none o) (Some refusal.NoSuchPath) None) (sym absent) ∙ may.1 in absurd cc
     go (Plain, may, is) =
-        ap (λ o. o.told) is
-        ∙ ap (λ (o : Option Row). (unless_refused (cond (is_none o) (Some refusal.NoSuchPath) None) s' (only_answer s' (shown_at (path_of_zone s'.table.rows q) o))).told) absent
+        ap (λ o. o.reply) is
+        ∙ ap (λ (o : Option Row). (unless_refused (cond (is_none o) (Some refusal.NoSuchPath) None) s' (only_answer s' (shown_at (path_of_zone s'.table.rows q) o))).reply) absent
 
 pub others_stay_by_delete : OthersStayByDelete
 others_stay_by_delete s p recursive s' q did out =

@@ -20,8 +20,8 @@ use Rattle.name_store.proofs.CauseLemmas.{makeable, none-of-both}
 use Rattle.name_core.specs.State.{NameState, is_full, next_id}
 use Rattle.name_core.specs.Calls.{NameActs, Plain, NoRoom, causes, deed, done_with, mkdir_causes, numbered, unless_refused}
 use Rattle.name_core.specs.Reads.{answer_unless, info_causes, info_reply, path_of_zone, shown_at}
-use Rattle.name_core.specs.Asks.{ask_causes, asked, note_of, opened, unless_not_asked}
-use Rattle.name_core.specs.Laws.{AskIdsRise, IdsRise, MadeIsTold, OthersStay}
+use Rattle.name_core.specs.Asks.{ask_causes, asked, note_of, ask_opened, unless_not_asked}
+use Rattle.name_core.specs.Laws.{AskIdsRise, IdsRise, MadeIsReported, OthersStay}
 use Rattle.name_calls.specs.declared.calls.AskNote.{AskNote}
 
 -- properties of a mkdir that was done
@@ -30,12 +30,12 @@ abbrev made : NameState → List (List ℕ) → NameState
 made s p = done_with (Some (op.Mkdir (next_id s) p)) (numbered s)
 
 done-by : (s : NameState) (p : List (List ℕ)) (s' : NameState) → NameActs s (call.Mkdir p) Done s' → (first_cause (mkdir_causes s p) ≡ None) × (s' ≡ made s p)
-done-by s p s' (NoRoom, may, is) = let f : Done ≡ Refused NoMemory = ap (λ o. o.told) is in absurd cc
+done-by s p s' (NoRoom, may, is) = let f : Done ≡ Refused NoMemory = ap (λ o. o.reply) is in absurd cc
 done-by s p s' (Plain, may, is) = go (first_cause (mkdir_causes s p)) is
   where
-    go : (o : Option NameRefusal) → (record { told = Done; state = s' }) ≡ unless_refused o s (record { answer = Done; logs = Some (op.Mkdir (next_id s) p); state = numbered s }) → (o ≡ None) × (s' ≡ made s p)
+    go : (o : Option NameRefusal) → (record { reply = Done; state = s' }) ≡ unless_refused o s (record { answer = Done; logs = Some (op.Mkdir (next_id s) p); state = numbered s }) → (o ≡ None) × (s' ≡ made s p)
     go None is = (refl, ap (λ o. o.state) is)
-    go (Some why) is = let f : Done ≡ Refused why = ap (λ o. o.told) is in absurd cc
+    go (Some why) is = let f : Done ≡ Refused why = ap (λ o. o.reply) is in absurd cc
 
 was-absent : (s : NameState) (p : List (List ℕ)) → first_cause (mkdir_causes s p) ≡ None → row_at s.table.rows p ≡ None
 was-absent s p h = (makeable s.table.rows p (none-of-both (to_be_made s.table.rows p) ((is_full s, TooManyInodes) ∷ []) h).0).absent
@@ -102,11 +102,11 @@ zone-above (x ∷ es) p h =
     λ i. cond (over i) (Some (longer x (rest i))) (rest i)
 
 -- the reply is that of the definition, unless memory ran out
-pub answer-by : (s : NameState) (c : NameCall) (told : NameReply) (s' : NameState) → NameActs s c told s' → (told ≡ Refused NoMemory) ⊎ (told ≡ answer_unless (first_cause (causes s c)) (deed s c).answer)
-answer-by s c told s' (NoRoom, may, is) = inl (ap (λ o. o.told) is)
-answer-by s c told s' (Plain, may, is) = inr (ap (λ o. o.told) is ∙ go (first_cause (causes s c)))
+pub answer-by : (s : NameState) (c : NameCall) (result : NameReply) (s' : NameState) → NameActs s c result s' → (result ≡ Refused NoMemory) ⊎ (result ≡ answer_unless (first_cause (causes s c)) (deed s c).answer)
+answer-by s c result s' (NoRoom, may, is) = inl (ap (λ o. o.reply) is)
+answer-by s c result s' (Plain, may, is) = inr (ap (λ o. o.reply) is ∙ go (first_cause (causes s c)))
   where
-    go : (o : Option NameRefusal) → (unless_refused o s (deed s c)).told ≡ answer_unless o (deed s c).answer
+    go : (o : Option NameRefusal) → (unless_refused o s (deed s c)).reply ≡ answer_unless o (deed s c).answer
     go (Some why) = refl
     go None = refl
 
@@ -115,15 +115,15 @@ pub shown-unless : (path : Option (List (List ℕ))) (o : Option Row) → answer
 shown-unless path None = refl
 shown-unless path (Some row) = refl
 
-pub told-by : (s : NameState) (p : List (List ℕ)) (told : NameReply) (s' : NameState) → NameActs s (call.Info (as_it_is p)) told s' → (told ≡ Refused NoMemory) ⊎ (told ≡ info_reply s.table (as_it_is p))
-told-by s p told s' acts = go (answer-by s (call.Info (as_it_is p)) told s' acts)
+pub info-by : (s : NameState) (p : List (List ℕ)) (result : NameReply) (s' : NameState) → NameActs s (call.Info (as_it_is p)) result s' → (result ≡ Refused NoMemory) ⊎ (result ≡ info_reply s.table (as_it_is p))
+info-by s p result s' acts = go (answer-by s (call.Info (as_it_is p)) result s' acts)
   where
-    go : (told ≡ Refused NoMemory) ⊎ (told ≡ answer_unless (first_cause (info_causes s.table (as_it_is p))) (info_reply s.table (as_it_is p))) → (told ≡ Refused NoMemory) ⊎ (told ≡ info_reply s.table (as_it_is p))
+    go : (result ≡ Refused NoMemory) ⊎ (result ≡ answer_unless (first_cause (info_causes s.table (as_it_is p))) (info_reply s.table (as_it_is p))) → (result ≡ Refused NoMemory) ⊎ (result ≡ info_reply s.table (as_it_is p))
     go (inl wanting) = inl wanting
     go (inr is) = inr (is ∙ shown-unless (path_of_zone s.table.rows p) (row_at s.table.rows p))
 
-pub made_is_told : MadeIsTold
-made_is_told s p s' told s'' did asked = go (told-by s' p told s'' asked)
+pub made_is_reported : MadeIsReported
+made_is_reported s p s' result s'' did asked = go (info-by s' p result s'' asked)
   where
     absent : row_at s.table.rows p ≡ None
     absent = was-absent s p (done-by s p s' did).0
@@ -131,7 +131,7 @@ made_is_told s p s' told s'' did asked = go (told-by s' p told s'' asked)
     zone_is : path_of_zone (put (new_directory (next_id s) p) s.table.rows) p ≡ path_of_zone s.table.rows (parent p)
     zone_is = ap (option_map (λ e. e.path)) (zone-same (new_directory (next_id s) p) s.table.rows p refl ∙ zone-above s.table.rows p absent)
 
-    go : (told ≡ Refused NoMemory) ⊎ (told ≡ info_reply s'.table (as_it_is p)) → (told ≡ Refused NoMemory) ⊎ (told ≡ shown_at (path_of_zone s.table.rows (parent p)) (Some (new_directory (next_id s) p).row))
+    go : (result ≡ Refused NoMemory) ⊎ (result ≡ info_reply s'.table (as_it_is p)) → (result ≡ Refused NoMemory) ⊎ (result ≡ shown_at (path_of_zone s.table.rows (parent p)) (Some (new_directory (next_id s) p).row))
     go (inl wanting) = inl wanting
     go (inr is) = inr (is ∙ ap (λ (t : NameState). info_reply t.table (as_it_is p)) (done-by s p s' did).1 ∙ (λ i. shown_at (zone_is i) (row-new (new_directory (next_id s) p) s.table.rows absent i)))
 
@@ -151,11 +151,11 @@ pub ids_rise : IdsRise
 ids_rise s p s' did = subst (λ (t : NameState). next_id s < next_id t) (sym (done-by s p s' did).1) (omega arith)
 
 pub ask_ids_rise : AskIdsRise
-ask_ids_rise s user a note s' (NoRoom, may, is) = let f : Ok note ≡ Err NoMemory = ap (λ o. o.told) is in absurd cc
+ask_ids_rise s user a note s' (NoRoom, may, is) = let f : Ok note ≡ Err NoMemory = ap (λ o. o.reply) is in absurd cc
 ask_ids_rise s user a note s' (Plain, may, is) = go (first_cause (ask_causes s user a)) is
   where
-    go : (o : Option NameRefusal) → (record { told = Ok note; state = s' }) ≡ unless_not_asked o s a → (note.id ≡ next_id s) × (next_id s < next_id s')
-    go (Some why) is = let f : Ok note ≡ Err why = ap (λ o. o.told) is in absurd cc
+    go : (o : Option NameRefusal) → (record { reply = Ok note; state = s' }) ≡ unless_not_asked o s a → (note.id ≡ next_id s) × (next_id s < next_id s')
+    go (Some why) is = let f : Ok note ≡ Err why = ap (λ o. o.reply) is in absurd cc
     go None is =
-        let same : note ≡ note_of (opened s a) = let f : Ok note ≡ Ok (note_of (opened s a)) = ap (λ o. o.told) is in cc in
+        let same : note ≡ note_of (ask_opened s a) = let f : Ok note ≡ Ok (note_of (ask_opened s a)) = ap (λ o. o.reply) is in cc in
         (ap (λ (n : AskNote). n.id) same, subst (λ (t : NameState). next_id s < next_id t) (sym (ap (λ o. o.state) is)) (omega arith))

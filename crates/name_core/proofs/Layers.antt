@@ -14,8 +14,8 @@ use Rattle.name_calls.specs.declared.calls.KeyAnswer.{KeyAnswer}
 use Rattle.name_calls.specs.declared.calls.NameCall.{NameCall}
 use Rattle.name_calls.specs.declared.calls.NameRefusal.{NameRefusal}
 use Rattle.name_calls.specs.declared.calls.NameReply.{NameReply}
-use Rattle.name_core.specs.State.{AreFree, IsNames, NameService, NameState, RunningNames, StandsFor, names_of, next_id, settled}
-use Rattle.name_core.specs.Asks.{Asks, ask_causes, asked, opened, unless_not_asked}
+use Rattle.name_core.specs.State.{AreFree, IsNames, NameService, NameState, RunningNames, IsNamesystemOf, names_of, next_id, settled}
+use Rattle.name_core.specs.Asks.{Asks, ask_causes, asked, ask_opened, unless_not_asked}
 use Rattle.name_core.specs.Calls.{NoRoom, Plain, first_cause}
 use Rattle.name_core.specs.Service.{OwnOf, OwnOfFinish}
 use Rattle.name_core.specs.Steps.{Keeps}
@@ -30,29 +30,29 @@ pub data Asking (s : NameState) (user : List ℕ) (a : Ask) (s' : NameState) : T
   Same : s' ≡ s → Asking s user a s'
   Opened : first_cause (ask_causes s user a) ≡ None → s' ≡ asked s a → Asking s user a s'
 
-pub asking : (s : NameState) (user : List ℕ) (a : Ask) (told : Result AskNote NameRefusal) (s' : NameState) → Asks s user a told s' → Asking s user a s'
-asking s user a told s' (NoRoom, may, is) = Same (ap (λ o. o.state) is)
-asking s user a told s' (Plain, may, is) = go (first_cause (ask_causes s user a)) refl is
+pub asking : (s : NameState) (user : List ℕ) (a : Ask) (answer : Result AskNote NameRefusal) (s' : NameState) → Asks s user a answer s' → Asking s user a s'
+asking s user a answer s' (NoRoom, may, is) = Same (ap (λ o. o.state) is)
+asking s user a answer s' (Plain, may, is) = go (first_cause (ask_causes s user a)) refl is
   where
-    go : (o : Option NameRefusal) → first_cause (ask_causes s user a) ≡ o → (record { told = told; state = s' }) ≡ unless_not_asked o s a → Asking s user a s'
+    go : (o : Option NameRefusal) → first_cause (ask_causes s user a) ≡ o → (record { reply = answer; state = s' }) ≡ unless_not_asked o s a → Asking s user a s'
     go (Some why) stops is = Same (ap (λ o. o.state) is)
     go None free is = Opened free (ap (λ o. o.state) is)
 
 moved : (d : DiskState) (r t : RunningNames) (ops : List EditOp) → next_id (names_of r) ≤ next_id (names_of t)
-    → ((used : List ℕ) → AllBelow (next_id (names_of r)) used → AreFree used r.asks → AreFree used t.asks) → t.store ≡ r.store → StandsFor d r ops → StandsFor d t ops
+    → ((used : List ℕ) → AllBelow (next_id (names_of r)) used → AreFree used r.asks → AreFree used t.asks) → t.store ≡ r.store → IsNamesystemOf d r ops → IsNamesystemOf d t ops
 moved d r t ops rises free same s = record {
   used = s.used;
-  store = subst (λ (x : StoreState). store.StandsFor d x s.used ops) (sym same) s.store;
+  store = subst (λ (x : StoreState). store.IsNameStoreOf d x s.used ops) (sym same) s.store;
   below = below-more (next_id (names_of r)) (next_id (names_of t)) rises s.used s.below;
   free = free s.used s.below s.free;
 }
 
 -- the log holds the same operations after an ask
-pub stands_after_ask : (d : DiskState) (r t : RunningNames) (user : List ℕ) (a : Ask) (told : Result AskNote NameRefusal) (ops : List EditOp) → Asks (names_of r) user a told (names_of t)
-    → t.store ≡ r.store → StandsFor d r ops → StandsFor d t ops
-stands_after_ask d r t user a told ops asks same s = go (asking (names_of r) user a told (names_of t) asks)
+pub stands_after_ask : (d : DiskState) (r t : RunningNames) (user : List ℕ) (a : Ask) (answer : Result AskNote NameRefusal) (ops : List EditOp) → Asks (names_of r) user a answer (names_of t)
+    → t.store ≡ r.store → IsNamesystemOf d r ops → IsNamesystemOf d t ops
+stands_after_ask d r t user a answer ops asks same s = go (asking (names_of r) user a answer (names_of t) asks)
   where
-    go : Asking (names_of r) user a (names_of t) → StandsFor d t ops
+    go : Asking (names_of r) user a (names_of t) → IsNamesystemOf d t ops
     go (Same is) =
         let n = ap next_id is in
         moved d r t ops (omega (arith, n)) (λ used below free. subst (λ (l : List OpenAsk). AreFree used l) (sym (ap (λ (x : NameState). x.asks) is)) free) same s
@@ -60,7 +60,7 @@ stands_after_ask d r t user a told ops asks same s = go (asking (names_of r) use
         let n = ap next_id is in
         moved d r t ops (omega (arith, n))
         (λ used below apart. subst (λ (l : List OpenAsk). AreFree used l) (sym (ap (λ (x : NameState). x.asks) is))
-        (each-append (λ (q : OpenAsk). is_among used q.id ≡ false) r.asks (opened (names_of r) a) apart (not-among used (next_id (names_of r)) below)))
+        (each-append (λ (q : OpenAsk). is_among used q.id ≡ false) r.asks (ask_opened (names_of r) a) apart (not-among used (next_id (names_of r)) below)))
         same s
 
 -- the rules of ids stay true after the pending operation is settled
@@ -72,15 +72,15 @@ pub settled_opened : (kept : Bool) (s : NameService) → IsNames s → 0 < (sett
 settled_opened kept s n = subst (λ (o : ℕ). 0 < o) (sym (settled-opening kept s.pending s.names s.names.table (keeps-of s n).waits)) n.opened
 
 -- the operation that a call may write is allowed, and is not an opening
-pub own_of_call : (s : NameService) (c : NameCall) (told : NameReply) (s' : NameService) (kept : Bool) (o : EditOp) → IsNames s → OwnOf s c told s' kept o
+pub own_of_call : (s : NameService) (c : NameCall) (answer : NameReply) (s' : NameService) (kept : Bool) (o : EditOp) → IsNames s → OwnOf s c answer s' kept o
     → (allows (settled kept s).table o ≡ true) × (is_opening o ≡ false)
-own_of_call s c told s' kept o n own =
+own_of_call s c answer s' kept o n own =
     (allowed-call (settled kept s) c o (settled_opened kept s n) (settled_keeps kept s n).ids own.free own.is, no-opening (settled kept s) c o own.is)
 
 -- the operation that a finish may write is allowed, and is not an opening
-pub own_of_finish : (s : NameService) (id : ℕ) (given : KeyAnswer) (told : Result (Unit {0}) NameRefusal) (s' : NameService) (kept : Bool) (o : EditOp) → IsNames s
-    → OwnOfFinish s id given told s' kept o → (allows (settled kept s).table o ≡ true) × (is_opening o ≡ false)
-own_of_finish s id given told s' kept o n own =
+pub own_of_finish : (s : NameService) (id : ℕ) (given : KeyAnswer) (answer : Result (Unit {0}) NameRefusal) (s' : NameService) (kept : Bool) (o : EditOp) → IsNames s
+    → OwnOfFinish s id given answer s' kept o → (allows (settled kept s).table o ≡ true) × (is_opening o ≡ false)
+own_of_finish s id given answer s' kept o n own =
     let k = settled_keeps kept s n in (
       subst (λ (x : EditOp). allows (settled kept s).table x ≡ true) (sym own.is) (allowed-finish (settled kept s) id own.ask own.edek (settled_opened kept s n) k.few k.ids k.recent own.was_open own.free),
       ap is_opening own.is ∙ no-opening-finish own.ask.id own.edek own.ask.ask,

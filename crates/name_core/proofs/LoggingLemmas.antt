@@ -8,11 +8,11 @@ use Rattle.hk_base.proofs.Runs.{begin, compose, weaker}
 use Rattle.frame_log.specs.declared.fault.StoreRefusal.{StoreRefusal}
 use Rattle.edit_ops.specs.declared.ops.EditOp.{EditOp}
 use Rattle.name_store.specs.Replay.{AllBelow, Applies, name_replay}
-use Rattle.name_store.specs.Store.{Commits, IsLeftOf, IsWritten, NothingMore, Settles, made_with}
+use Rattle.name_store.specs.Store.{Commits, IsLeftOf, IsWritten, NothingMore, SettlesNames, made_with}
 use Rattle.name_store.specs.Store as store
 use Rattle.name_store.specs.Table.{Replayed, after, applies, is_among, is_fresh, nothing_logged, settled_log, settled_ops, settled_used, uses}
 use Rattle.name_core.specs.declared.asks.OpenAsk.{OpenAsk}
-use Rattle.name_core.specs.State.{AreFree, NameService, NameState, RunningNames, StandsFor, names_of, next_id, service_of, settled}
+use Rattle.name_core.specs.State.{AreFree, NameService, NameState, RunningNames, IsNamesystemOf, names_of, next_id, service_of, settled}
 use Rattle.name_core.specs.Asks.{without}
 use Rattle.name_core.specs.Steps.{Grows, Growing, IsApart, IsUnsettled, Keeps, Leaving, Logging, MayWrite, Settling}
 use Rattle.name_core.proofs.AskLemmas.{each-without}
@@ -21,8 +21,8 @@ use Rattle.name_core.proofs.KeepLemmas.{below-more, ids-rise, keeps-settled, set
 -- nothing was done to the disk
 pub unchanged : (d : DiskState) (r : RunningNames) (P : List ℕ → List EditOp → List ℕ → Type 0) → Logging d d r r P []
 unchanged d r P = record {
-  stands = λ told ops s. subst (StandsFor d r) (sym (append-nil ops)) s;
-  moments = λ told ops s. (begin 1 d (P s.used ops)).moments;
+  stands = λ telling ops s. subst (IsNamesystemOf d r) (sym (append-nil ops)) s;
+  moments = λ telling ops s. (begin 1 d (P s.used ops)).moments;
   run = (begin 1 d (λ c. Unit {0})).run;
 }
 
@@ -31,7 +31,7 @@ pub rose_since : (a b c : ℕ) → a ≤ b → Rose b c → Rose a c
 rose_since a b c le rose = grind (arith, le, rose)
 
 pub tells_on : (old mid : DiskState) → RunOn 1 old mid → Tells old → Tells mid
-tells_on old mid run told = subst (λ b. IsTrue b) (sym run.tells) told
+tells_on old mid run telling = subst (λ b. IsTrue b) (sym run.tells) telling
 
 -- one run after another
 joined : (old mid new : DiskState) → RunOn 1 old mid → RunOn 1 mid new → RunOn 1 old new
@@ -39,7 +39,7 @@ joined old mid new a b = record {
   tells = b.tells ∙ a.tells;
   faults = omega (arith, a.faults, b.faults);
   later = omega (arith, a.later, b.later);
-  other_reads = λ told. b.other_reads (tells_on old mid a told) ∙ a.other_reads told;
+  other_reads = λ telling. b.other_reads (tells_on old mid a telling) ∙ a.other_reads telling;
   other_leaves = λ c. (λ h. (a.other_leaves c).0 ((b.other_leaves c).0 h), λ h. (b.other_leaves c).1 ((a.other_leaves c).1 h));
 }
 
@@ -67,7 +67,7 @@ pub logging-leaving : (old new : DiskState) (r t : RunningNames) (own own' : Boo
     → Logging old new r t (Leaving r own) logged → Logging old new r t (Leaving r own') logged
 logging-leaving old new r t own own' logged f l = record {
   stands = l.stands;
-  moments = λ told ops s. weaker (λ c left. leaving-more (made_with r.store s.used) r.store.log.pending own own' ops c f left) (l.moments told ops s);
+  moments = λ telling ops s. weaker (λ c left. leaving-more (made_with r.store s.used) r.store.log.pending own own' ops c f left) (l.moments telling ops s);
   run = l.run;
 }
 
@@ -78,7 +78,7 @@ pub logging-growing : (old new : DiskState) (r t : RunningNames) (own own' : Edi
     → Logging old new r t (Growing r own) logged → Logging old new r t (Growing r own') logged
 logging-growing old new r t own own' logged f l = record {
   stands = l.stands;
-  moments = λ told ops s. weaker (λ c left. growing-more (made_with r.store s.used) own own' ops c f left) (l.moments told ops s);
+  moments = λ telling ops s. weaker (λ c left. growing-more (made_with r.store s.used) own own' ops c f left) (l.moments telling ops s);
   run = l.run;
 }
 
@@ -99,7 +99,7 @@ replay-settled t made ops kept None is may = ap (name_replay t) (append-nil ops)
 replay-settled t made ops true (Some o) is may = replay-more t made ops o is may
 replay-settled t made ops false (Some o) is may = ap (name_replay t) (append-nil ops) ∙ is
 
-made-settled : (old mid : DiskState) (r s : RunningNames) (kept : Bool) (ops : List EditOp) (a : StandsFor old r ops) (b : StandsFor mid s (ops ++ settled_ops kept r.store.log.pending))
+made-settled : (old mid : DiskState) (r s : RunningNames) (kept : Bool) (ops : List EditOp) (a : IsNamesystemOf old r ops) (b : IsNamesystemOf mid s (ops ++ settled_ops kept r.store.log.pending))
     → made_with s.store b.used ≡ settled_log kept r.store.log.pending (made_with r.store a.used)
 made-settled old mid r s kept ops a b =
     let both : Some (made_with s.store b.used) ≡ Some (settled_log kept r.store.log.pending (made_with r.store a.used)) =
@@ -112,22 +112,22 @@ pub behind-settling : (old mid new : DiskState) (r s t : RunningNames) (kept : B
     → Logging old mid r s (Leaving r NothingMore) (settled_ops kept r.store.log.pending) → Logging mid new s t (Growing s own') logged
     → Logging old new r t (Leaving r own) (settled_ops kept r.store.log.pending ++ logged)
 behind-settling old mid new r s t kept own own' logged f a b = record {
-  stands = λ told ops x.
-      subst (StandsFor new t) (append_assoc ops (settled_ops kept r.store.log.pending) logged)
-      (b.stands (tells_on old mid a.run told) (ops ++ settled_ops kept r.store.log.pending) (a.stands told ops x));
-  moments = λ told ops x. (compose {file = 1} {P = Leaving r own x.used ops}
-      (record { run = a.run; moments = weaker (λ c left. leaving-more (made_with r.store x.used) r.store.log.pending NothingMore own ops c (λ k o never. absurd never) left) (a.moments told ops x) })
-      (record { run = b.run; moments = b.moments (tells_on old mid a.run told) (ops ++ settled_ops kept r.store.log.pending) (a.stands told ops x) })
-      (λ c g. left told ops x c g)).moments;
+  stands = λ telling ops x.
+      subst (IsNamesystemOf new t) (append_assoc ops (settled_ops kept r.store.log.pending) logged)
+      (b.stands (tells_on old mid a.run telling) (ops ++ settled_ops kept r.store.log.pending) (a.stands telling ops x));
+  moments = λ telling ops x. (compose {file = 1} {P = Leaving r own x.used ops}
+      (record { run = a.run; moments = weaker (λ c left. leaving-more (made_with r.store x.used) r.store.log.pending NothingMore own ops c (λ k o never. absurd never) left) (a.moments telling ops x) })
+      (record { run = b.run; moments = b.moments (tells_on old mid a.run telling) (ops ++ settled_ops kept r.store.log.pending) (a.stands telling ops x) })
+      (λ c g. left telling ops x c g)).moments;
   run = joined old mid new a.run b.run;
 }
   where
-    left : (told : Tells old) (ops : List EditOp) (x : StandsFor old r ops) (c : List ℕ) → Growing s own' (a.stands told ops x).used (ops ++ settled_ops kept r.store.log.pending) c → Leaving r own x.used ops c
-    left told ops x c g = record {
+    left : (telling : Tells old) (ops : List EditOp) (x : IsNamesystemOf old r ops) (c : List ℕ) → Growing s own' (a.stands telling ops x).used (ops ++ settled_ops kept r.store.log.pending) c → Leaving r own x.used ops c
+    left telling ops x c g = record {
       kept = kept;
       more = g.more;
       more_is = if-some own' (λ (o : EditOp). ((kept ≡ false) × (r.store.log.pending ≡ Some o)) ⊎ own kept o) (λ o h. inr (f o h)) g.more g.more_is;
-      fits = subst (λ (m : Replayed). Applies m g.more) (made-settled old mid r s kept ops x (a.stands told ops x)) g.fits;
+      fits = subst (λ (m : Replayed). Applies m g.more) (made-settled old mid r s kept ops x (a.stands telling ops x)) g.fits;
       spelled = g.spelled;
       log = g.log;
     }
@@ -163,19 +163,19 @@ free-settled false o used asks h k = k
 pub committed : (old new : DiskState) (r t : RunningNames) (left : NameState) (o : EditOp) (written : Bool) → MayWrite (names_of r) o left → next_id (names_of t) ≡ next_id left → t.asks ≡ left.asks
     → Commits old new r.store o written t.store → Logging old new r t (Growing r (λ own. own ≡ o)) (settled_ops written (Some o))
 committed old new r t left o written may next_is asks_are k = record {
-  stands = λ told ops s. record {
+  stands = λ telling ops s. record {
     used = settled_used written (Some o) s.used;
-    store = k.stands told s.used ops s.store (may.fresh s.used s.below s.free);
+    store = k.stands telling s.used ops s.store (may.fresh s.used s.below s.free);
     below =
         subst (λ (n : ℕ). AllBelow n (settled_used written (Some o) s.used)) (sym next_is)
         (below-settled (next_id left) written o s.used may.behind.below (below-more (next_id (names_of r)) (next_id left) (ids-rise (names_of r) left o may.behind) s.used s.below));
     free = subst (λ (asks : List OpenAsk). AreFree (settled_used written (Some o) s.used) asks) (sym asks_are) (free-settled written o s.used left.asks may.behind.free (may.fewer s.used s.free));
   };
-  moments = λ told ops s. weaker (λ c is. growing ops c s is) (k.moments told s.used ops s.store);
+  moments = λ telling ops s. weaker (λ c is. growing ops c s is) (k.moments telling s.used ops s.store);
   run = k.run;
 }
   where
-    growing : (ops : List EditOp) (c : List ℕ) (s : StandsFor old r ops) → IsWritten ops o c → Growing r (λ own. own ≡ o) s.used ops c
+    growing : (ops : List EditOp) (c : List ℕ) (s : IsNamesystemOf old r ops) → IsWritten ops o c → Growing r (λ own. own ≡ o) s.used ops c
     growing ops c s is = record {
       more = Some o;
       more_is = refl;
@@ -196,22 +196,22 @@ free-pending kept (Some o) s used h k = free-settled kept o used s.asks h.free k
 
 -- what a crash during its settling leaves of a store
 abbrev pub Moments : DiskState → DiskState → RunningNames → Type 0
-Moments old new r = Tells old → (used : List ℕ) (ops : List EditOp) → store.StandsFor old r.store used ops → LeavesOnly 1 old new (IsLeftOf (made_with r.store used) r.store.log.pending NothingMore ops)
+Moments old new r = Tells old → (used : List ℕ) (ops : List EditOp) → store.IsNameStoreOf old r.store used ops → LeavesOnly 1 old new (IsLeftOf (made_with r.store used) r.store.log.pending NothingMore ops)
 
-pub settles : (old new : DiskState) (r t : RunningNames) → Keeps (service_of r) → t.next ≡ r.next → t.asks ≡ r.asks → Moments old new r → RunOn 1 old new → Settles old new r.store t.store → Settling old new r t
+pub settles : (old new : DiskState) (r t : RunningNames) → Keeps (service_of r) → t.next ≡ r.next → t.asks ≡ r.asks → Moments old new r → RunOn 1 old new → SettlesNames old new r.store t.store → Settling old new r t
 settles old new r t keeps next asks moments run k = record {
   kept = k.kept;
   service = is;
   disk = record {
-    stands = λ told ops s. record {
+    stands = λ telling ops s. record {
       used = settled_used k.kept r.store.log.pending s.used;
-      store = k.stands told s.used ops s.store;
+      store = k.stands telling s.used ops s.store;
       below =
           subst (λ (n : ℕ). AllBelow n (settled_used k.kept r.store.log.pending s.used)) (sym (ap (λ (x : NameService). next_id x.names) is ∙ settled-next k.kept (service_of r) keeps))
           (below-pending k.kept r.store.log.pending (names_of r) s.used keeps.waits s.below);
       free = subst (λ (l : List OpenAsk). AreFree (settled_used k.kept r.store.log.pending s.used) l) (sym asks) (free-pending k.kept r.store.log.pending (names_of r) s.used keeps.waits s.free);
     };
-    moments = λ told ops s. moments told s.used ops s.store;
+    moments = λ telling ops s. moments telling s.used ops s.store;
     run = run;
   };
 }
@@ -225,13 +225,13 @@ unsettled old new r t same moments run k = record {
   failed = k.failed;
   same = same;
   disk = record {
-    stands = λ told ops s. subst (StandsFor new t) (sym (append-nil ops)) (record {
+    stands = λ telling ops s. subst (IsNamesystemOf new t) (sym (append-nil ops)) (record {
       used = s.used;
-      store = k.stands told s.used ops s.store;
+      store = k.stands telling s.used ops s.store;
       below = subst (λ (x : RunningNames). AllBelow (next_id (names_of x)) s.used) (sym same) s.below;
       free = subst (λ (x : RunningNames). AreFree s.used x.asks) (sym same) s.free;
     });
-    moments = λ told ops s. moments told s.used ops s.store;
+    moments = λ telling ops s. moments telling s.used ops s.store;
     run = run;
   };
 }
@@ -240,32 +240,32 @@ unsettled old new r t same moments run k = record {
 pub closing : (old new : DiskState) (r s t : RunningNames) (id : ℕ) (P : List ℕ → List EditOp → List ℕ → Type 0) (logged : List EditOp) → t ≡ record s { asks = without s.asks id }
     → Logging old new r s P logged → Logging old new r t P logged
 closing old new r s t id P logged is l = record {
-  stands = λ told ops x. subst (λ (y : RunningNames). StandsFor new y (ops ++ logged)) (sym is) (fewer (ops ++ logged) (l.stands told ops x));
+  stands = λ telling ops x. subst (λ (y : RunningNames). IsNamesystemOf new y (ops ++ logged)) (sym is) (fewer (ops ++ logged) (l.stands telling ops x));
   moments = l.moments;
   run = l.run;
 }
   where
-    fewer : (ops : List EditOp) → StandsFor new s ops → StandsFor new (record s { asks = without s.asks id }) ops
+    fewer : (ops : List EditOp) → IsNamesystemOf new s ops → IsNamesystemOf new (record s { asks = without s.asks id }) ops
     fewer ops x = record { used = x.used; store = x.store; below = x.below; free = each-without (λ (a : OpenAsk). is_among x.used a.id ≡ false) s.asks id x.free }
 
-pub store-stands : (d : DiskState) (r s : RunningNames) → r ≡ s → (Tells d → (ops : List EditOp) × StandsFor d s ops) → Tells d → (used : List ℕ) × (ops : List EditOp) × store.StandsFor d r.store used ops
-store-stands d r s is stands told =
-    let x = stands told in
-    let y : StandsFor d r x.0 = subst (λ (z : RunningNames). StandsFor d z x.0) (sym is) x.1 in
+pub store-stands : (d : DiskState) (r s : RunningNames) → r ≡ s → (Tells d → (ops : List EditOp) × IsNamesystemOf d s ops) → Tells d → (used : List ℕ) × (ops : List EditOp) × store.IsNameStoreOf d r.store used ops
+store-stands d r s is stands telling =
+    let x = stands telling in
+    let y : IsNamesystemOf d r x.0 = subst (λ (z : RunningNames). IsNamesystemOf d z x.0) (sym is) x.1 in
     (y.used, x.0, y.store)
 
 -- if the log holds some operations before a step, it holds some after it
 pub stands-on : (old new : DiskState) (r t : RunningNames) (P : List ℕ → List EditOp → List ℕ → Type 0) (logged : List EditOp) → Logging old new r t P logged
-    → (Tells old → (ops : List EditOp) × StandsFor old r ops) → Tells new → (ops : List EditOp) × StandsFor new t ops
-stands-on old new r t P logged l stands told =
-    let before : Tells old = subst (λ b. IsTrue b) l.run.tells told in
+    → (Tells old → (ops : List EditOp) × IsNamesystemOf old r ops) → Tells new → (ops : List EditOp) × IsNamesystemOf new t ops
+stands-on old new r t P logged l stands telling =
+    let before : Tells old = subst (λ b. IsTrue b) l.run.tells telling in
     let x = stands before in
     (x.0 ++ logged, l.stands before x.0 x.1)
 
 -- the result of settling
 
 pub settle-result : (old new : DiskState) (r t : RunningNames) (result : Result (Unit {0}) StoreRefusal) → Keeps (service_of r) → t.next ≡ r.next → t.asks ≡ r.asks → Moments old new r → RunOn 1 old new
-    → MatchResult result (λ _. Settles old new r.store t.store) (λ _. store.Unsettled old new r.store t.store) → MatchResult result (λ _. Settling old new r t) (λ _. IsUnsettled old new r t)
+    → MatchResult result (λ _. SettlesNames old new r.store t.store) (λ _. store.Unsettled old new r.store t.store) → MatchResult result (λ _. Settling old new r t) (λ _. IsUnsettled old new r t)
 settle-result old new r t (Ok done) keeps next asks moments run k = settles old new r t keeps next asks moments run k
 settle-result old new r t (Err why) keeps next asks moments run k = unsettled old new r t (λ i. record { store = k.same i; next = next i; asks = asks i }) moments run k
 

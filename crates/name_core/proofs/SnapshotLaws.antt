@@ -36,8 +36,8 @@ use Rattle.name_core.specs.State.{IdsFit, IsNames, IsWaiting, NameService, NameS
 use Rattle.name_core.specs.Asks.{Asks, Finishes, finish_causes, finish_op, open_ask, unless_stopped}
 use Rattle.name_core.specs.Calls.{Deed, NameActs, NoRoom, Plain, causes, deed, done_with, early_causes, only_logs, unless_refused}
 use Rattle.name_core.specs.Reads.{answer_unless, entry_causes, info_causes, info_reply, list_answer, list_reply, shown_at, snapshot_rows, zone_in_or_above, zone_read}
-use Rattle.name_core.specs.Service.{Changes, Concludes, FinishServes, FinishServesAt, FinishServesOpen, Serves, ServesBy, ServesUnless, is_change}
-use Rattle.name_core.specs.Laws.{AnyFault, Asked, Called, Finished, IsNotCalled, IsNotPending, SettlingKeepsSnapshots, SnapshotIsListed, SnapshotIsTold, SnapshotsStay, StepsKeepSnapshots, UnsnapIsGone, removes_snapshot}
+use Rattle.name_core.specs.Service.{Changes, Concludes, FinishServes, FinishServesAt, FinishServesOpen, NameServes, ServesBy, ServesUnless, is_change}
+use Rattle.name_core.specs.Laws.{AnyFault, Asked, Called, Finished, IsNotCalled, IsNotPending, SettlingKeepsSnapshots, SnapshotIsListed, SnapshotIsReported, SnapshotsStay, StepsKeepSnapshots, UnsnapIsGone, removes_snapshot}
 use Rattle.name_core.proofs.AllowedLemmas.{allowed-call}
 use Rattle.name_core.proofs.LawLemmas.{answer-by, shown-unless}
 use Rattle.name_core.proofs.Layers.{Asking, Opened, Same, asking, settled_keeps, settled_opened}
@@ -50,11 +50,11 @@ pub record DoneBy (s : NameState) (c : NameCall) (o : EditOp) (s' : NameState) :
   pub left : s' ≡ took s o
 
 pub done-by : (s : NameState) (c : NameCall) (o : EditOp) (s' : NameState) → deed s c ≡ only_logs s o → NameActs s c reply.Done s' → DoneBy s c o s'
-done-by s c o s' does (NoRoom, may, is) = let f : reply.Done ≡ reply.Refused refusal.NoMemory = ap (λ x. x.told) is in absurd cc
+done-by s c o s' does (NoRoom, may, is) = let f : reply.Done ≡ reply.Refused refusal.NoMemory = ap (λ x. x.reply) is in absurd cc
 done-by s c o s' does (Plain, may, is) = go (first_cause (causes s c)) refl is
   where
-    go : (why : Option NameRefusal) → first_cause (causes s c) ≡ why → (record { told = reply.Done; state = s' }) ≡ unless_refused why s (deed s c) → DoneBy s c o s'
-    go (Some why) stops is = let f : reply.Done ≡ reply.Refused why = ap (λ x. x.told) is in absurd cc
+    go : (why : Option NameRefusal) → first_cause (causes s c) ≡ why → (record { reply = reply.Done; state = s' }) ≡ unless_refused why s (deed s c) → DoneBy s c o s'
+    go (Some why) stops is = let f : reply.Done ≡ reply.Refused why = ap (λ x. x.reply) is in absurd cc
     go None free is = record { free = free; left = ap (λ x. x.state) is ∙ ap (λ (d : Deed). done_with d.logs d.state) does }
 
 -- the causes after some that don't apply
@@ -140,15 +140,15 @@ deed-table s (call.Snap p name) = refl
 deed-table s (call.Unsnap p name) = refl
 deed-table s call.Zones = refl
 
-acted : (n : NameState) (c : NameCall) (told : NameReply) (n' : NameState) → NameActs n c told n' → TableNext n c n'.table
-acted n c told n' (NoRoom, may, is) = Stays (ap (λ x. x.state.table) is)
-acted n c told n' (Plain, may, is) = go (first_cause (causes n c)) refl is
+acted : (n : NameState) (c : NameCall) (result : NameReply) (n' : NameState) → NameActs n c result n' → TableNext n c n'.table
+acted n c result n' (NoRoom, may, is) = Stays (ap (λ x. x.state.table) is)
+acted n c result n' (Plain, may, is) = go (first_cause (causes n c)) refl is
   where
     done : first_cause (causes n c) ≡ None → (logs : Option EditOp) → (deed n c).logs ≡ logs → n'.table ≡ (done_with logs (deed n c).state).table → TableNext n c n'.table
     done free None logs is = Stays (is ∙ deed-table n c)
     done free (Some o) logs is = Moves o free logs (is ∙ ap (λ (t : NameTable). after_table t o) (deed-table n c))
 
-    go : (why : Option NameRefusal) → first_cause (causes n c) ≡ why → (record { told = told; state = n' }) ≡ unless_refused why n (deed n c) → TableNext n c n'.table
+    go : (why : Option NameRefusal) → first_cause (causes n c) ≡ why → (record { reply = result; state = n' }) ≡ unless_refused why n (deed n c) → TableNext n c n'.table
     go (Some why) stops is = Stays (ap (λ x. x.state.table) is)
     go None free is = done free (deed n c).logs refl (ap (λ x. x.state.table) is)
 
@@ -171,31 +171,31 @@ module _ (s s' : NameService) (dir : ℕ) (name : List ℕ) (was : Snapshot) (go
   as-settled : (kept : Bool) → Stood (settled kept s).table.snaps.taken
   as-settled kept = settling_keeps_snapshots s kept dir name was good waits stood
 
-  kept-by-call : (user : List ℕ) (c : NameCall) (told : NameReply) (logged : List EditOp) → Serves s user c AnyFault told logged s' → IsNotCalled s c dir name → Stood s'.names.table.snaps.taken
-  kept-by-call user c told logged serves keeps = early (first_cause (early_causes user c)) serves
+  kept-by-call : (user : List ℕ) (c : NameCall) (result : NameReply) (logged : List EditOp) → NameServes s user c AnyFault result logged s' → IsNotCalled s c dir name → Stood s'.names.table.snaps.taken
+  kept-by-call user c result logged serves keeps = early (first_cause (early_causes user c)) serves
     where
       same : s' ≡ s → Stood s'.names.table.snaps.taken
       same is = as-before s'.names.table (ap (λ (x : NameService). x.names.table) is)
 
-      changes : (kept : Bool) → Changes (settled kept s) (settled_ops kept s.pending) c AnyFault told logged s' → Stood s'.names.table.snaps.taken
+      changes : (kept : Bool) → Changes (settled kept s) (settled_ops kept s.pending) c AnyFault result logged s' → Stood s'.names.table.snaps.taken
       changes kept (inl w) =
           ap (λ (x : NameService). snapshot_named x.names.table.snaps.taken dir name) w.left
-          ∙ kept-in-next (settled kept s) c w.changed.table dir name was (settled_opened kept s good) (settled_keeps kept s good).ids (acted (settled kept s) c told w.changed w.acts) (keeps kept) (as-settled kept)
+          ∙ kept-in-next (settled kept s) c w.changed.table dir name was (settled_opened kept s good) (settled_keeps kept s good).ids (acted (settled kept s) c result w.changed w.acts) (keeps kept) (as-settled kept)
       changes kept (inr u) =
           ap (λ (x : NameService). snapshot_named x.names.table.snaps.taken dir name) u.left
           ∙ ap (λ (x : NameTable). snapshot_named x.snaps.taken dir name) (deed-table (settled kept s) c) ∙ as-settled kept
 
-      by : (change : Bool) → ServesBy change s c AnyFault told logged s' → Stood s'.names.table.snaps.taken
+      by : (change : Bool) → ServesBy change s c AnyFault result logged s' → Stood s'.names.table.snaps.taken
       by false reads = same reads.same
       by true (inl unsettled) = same unsettled.same
       by true (inr (kept, did)) = changes kept did
 
-      early : (why : Option NameRefusal) → ServesUnless why s c AnyFault told logged s' → Stood s'.names.table.snaps.taken
+      early : (why : Option NameRefusal) → ServesUnless why s c AnyFault result logged s' → Stood s'.names.table.snaps.taken
       early (Some why) refused = same refused.same
       early None serves = by (is_change c) serves
 
-  kept-by-ask : (user : List ℕ) (a : Ask) (told : Result AskNote NameRefusal) → Asks s.names user a told s'.names → Stood s'.names.table.snaps.taken
-  kept-by-ask user a told asks = go (asking s.names user a told s'.names asks)
+  kept-by-ask : (user : List ℕ) (a : Ask) (result : Result AskNote NameRefusal) → Asks s.names user a result s'.names → Stood s'.names.table.snaps.taken
+  kept-by-ask user a result asks = go (asking s.names user a result s'.names asks)
     where
       go : Asking s.names user a s'.names → Stood s'.names.table.snaps.taken
       go (Same is) = as-before s'.names.table (ap (λ (x : NameState). x.table) is)
@@ -206,36 +206,36 @@ module _ (s s' : NameService) (dir : ℕ) (name : List ℕ) (was : Snapshot) (go
   finish-taken t id edek (ask.Create p) = refl
   finish-taken t id edek (ask.Zone p key) = refl
 
-  finishes-taken : (n : NameState) (a : OpenAsk) (edek : Option Edek) (told : Result (Unit {0}) NameRefusal) (n' : NameState) → Finishes n a edek told n' → n'.table.snaps.taken ≡ n.table.snaps.taken
-  finishes-taken n a edek told n' (NoRoom, may, is) = ap (λ x. x.state.table.snaps.taken) is
-  finishes-taken n a edek told n' (Plain, may, is) = go (first_cause (finish_causes n.table.rows a edek a.ask)) is
+  finishes-taken : (n : NameState) (a : OpenAsk) (edek : Option Edek) (result : Result (Unit {0}) NameRefusal) (n' : NameState) → Finishes n a edek result n' → n'.table.snaps.taken ≡ n.table.snaps.taken
+  finishes-taken n a edek result n' (NoRoom, may, is) = ap (λ x. x.state.table.snaps.taken) is
+  finishes-taken n a edek result n' (Plain, may, is) = go (first_cause (finish_causes n.table.rows a edek a.ask)) is
     where
-      go : (why : Option NameRefusal) → (record { told = told; state = n' }) ≡ unless_stopped why n a edek → n'.table.snaps.taken ≡ n.table.snaps.taken
+      go : (why : Option NameRefusal) → (record { reply = result; state = n' }) ≡ unless_stopped why n a edek → n'.table.snaps.taken ≡ n.table.snaps.taken
       go (Some why) is = ap (λ x. x.state.table.snaps.taken) is
       go None is = ap (λ x. x.state.table.snaps.taken) is ∙ finish-taken n.table a.id edek a.ask
 
-  kept-by-finish : (id : ℕ) (given : KeyAnswer) (told : Result (Unit {0}) NameRefusal) (logged : List EditOp) → FinishServes s id given AnyFault told logged s' → Stood s'.names.table.snaps.taken
-  kept-by-finish id given told logged serves = at (open_ask s.names.asks id) serves
+  kept-by-finish : (id : ℕ) (given : KeyAnswer) (result : Result (Unit {0}) NameRefusal) (logged : List EditOp) → FinishServes s id given AnyFault result logged s' → Stood s'.names.table.snaps.taken
+  kept-by-finish id given result logged serves = at (open_ask s.names.asks id) serves
     where
-      concluded : (a : OpenAsk) (edek : Option Edek) (kept : Bool) → Concludes (settled kept s) (settled_ops kept s.pending) a edek AnyFault told logged s' → Stood s'.names.table.snaps.taken
+      concluded : (a : OpenAsk) (edek : Option Edek) (kept : Bool) → Concludes (settled kept s) (settled_ops kept s.pending) a edek AnyFault result logged s' → Stood s'.names.table.snaps.taken
       concluded a edek kept (inl w) =
           ap (λ (x : NameService). snapshot_named x.names.table.snaps.taken dir name) w.left
-          ∙ ap (λ (taken : List Snapshot). snapshot_named taken dir name) (finishes-taken (settled kept s) a edek told w.changed w.finishes) ∙ as-settled kept
+          ∙ ap (λ (taken : List Snapshot). snapshot_named taken dir name) (finishes-taken (settled kept s) a edek result w.changed w.finishes) ∙ as-settled kept
       concluded a edek kept (inr u) = ap (λ (x : NameService). snapshot_named x.names.table.snaps.taken dir name) u.left ∙ as-settled kept
 
-      of-open : (a : OpenAsk) (given : KeyAnswer) → FinishServesOpen s a given AnyFault told logged s' → Stood s'.names.table.snaps.taken
+      of-open : (a : OpenAsk) (given : KeyAnswer) → FinishServesOpen s a given AnyFault result logged s' → Stood s'.names.table.snaps.taken
       of-open a (answer.Refused why) ends = as-before s'.names.table (ap (λ (x : NameService). x.names.table) ends.left_is)
       of-open a (answer.Given edek) (inl unsettled) = as-before s'.names.table (ap (λ (x : NameService). x.names.table) unsettled.ends.left_is)
       of-open a (answer.Given edek) (inr (kept, did)) = concluded a edek kept did
 
-      at : (o : Option OpenAsk) → FinishServesAt s o given AnyFault told logged s' → Stood s'.names.table.snaps.taken
+      at : (o : Option OpenAsk) → FinishServesAt s o given AnyFault result logged s' → Stood s'.names.table.snaps.taken
       at None ends = as-before s'.names.table (ap (λ (x : NameService). x.names.table) ends.left_is)
       at (Some a) serves = of-open a given serves
 
 pub steps_keep_snapshots : StepsKeepSnapshots
-steps_keep_snapshots s s' (Called user c told logged serves) dir name was good waits keeps stood = kept-by-call s s' dir name was good waits stood user c told logged serves keeps
-steps_keep_snapshots s s' (Asked user a told asks same) dir name was good waits keeps stood = kept-by-ask s s' dir name was good waits stood user a told asks
-steps_keep_snapshots s s' (Finished id given told logged serves) dir name was good waits keeps stood = kept-by-finish s s' dir name was good waits stood id given told logged serves
+steps_keep_snapshots s s' (Called user c result logged serves) dir name was good waits keeps stood = kept-by-call s s' dir name was good waits stood user c result logged serves keeps
+steps_keep_snapshots s s' (Asked user a result asks same) dir name was good waits keeps stood = kept-by-ask s s' dir name was good waits stood user a result asks
+steps_keep_snapshots s s' (Finished id given result logged serves) dir name was good waits keeps stood = kept-by-finish s s' dir name was good waits stood id given result logged serves
 
 -- a snapshot that was taken
 
@@ -301,25 +301,25 @@ module _ (t : NameTable) (p : List (List ℕ)) (name : List ℕ) (good : IsRows 
       ∙ ap (λ (rows : List Entry). answer_unless (first_cause (directory_causes rows below)) (reply.List (children rows below))) rows-new
       ∙ (λ i. answer_unless (first_cause ((is_none (row-below t.rows p below i), refusal.NoSuchPath) ∷ (not (is_dir_at (row-below t.rows p below i)), refusal.NotADirectory) ∷ [])) (reply.List (children-below t.rows p below i)))
 
-pub snapshot_is_told : SnapshotIsTold
-snapshot_is_told s p name s' below told s'' good did info = go (answer-by s' (call.Info (as_it_was p name below)) told s'' info)
+pub snapshot_is_reported : SnapshotIsReported
+snapshot_is_reported s p name s' below result s'' good did info = go (answer-by s' (call.Info (as_it_was p name below)) result s'' info)
   where
     done : DoneBy s (call.Snap p name) (op.Snap p name) s'
     done = done-by s (call.Snap p name) (op.Snap p name) s' refl did
 
-    go : (told ≡ reply.Refused refusal.NoMemory) ⊎ (told ≡ answer_unless (first_cause (info_causes s'.table (as_it_was p name below))) (info_reply s'.table (as_it_was p name below)))
-        → (told ≡ reply.Refused refusal.NoMemory) ⊎ (told ≡ info_reply s.table (as_it_is (p ++ below)))
+    go : (result ≡ reply.Refused refusal.NoMemory) ⊎ (result ≡ answer_unless (first_cause (info_causes s'.table (as_it_was p name below))) (info_reply s'.table (as_it_was p name below)))
+        → (result ≡ reply.Refused refusal.NoMemory) ⊎ (result ≡ info_reply s.table (as_it_is (p ++ below)))
     go (inl wanting) = inl wanting
     go (inr is) =
         inr (is ∙ ap (λ (n : NameState). answer_unless (first_cause (info_causes n.table (as_it_was p name below))) (info_reply n.table (as_it_was p name below))) done.left ∙ new-info s.table p name good done.free below)
 
 pub snapshot_is_listed : SnapshotIsListed
-snapshot_is_listed s p name s' below told s'' good did list = go (answer-by s' (call.List (as_it_was p name below)) told s'' list)
+snapshot_is_listed s p name s' below result s'' good did list = go (answer-by s' (call.List (as_it_was p name below)) result s'' list)
   where
     done : DoneBy s (call.Snap p name) (op.Snap p name) s'
     done = done-by s (call.Snap p name) (op.Snap p name) s' refl did
 
-    go : (told ≡ reply.Refused refusal.NoMemory) ⊎ (told ≡ list_answer s'.table (as_it_was p name below)) → (told ≡ reply.Refused refusal.NoMemory) ⊎ (told ≡ list_answer s.table (as_it_is (p ++ below)))
+    go : (result ≡ reply.Refused refusal.NoMemory) ⊎ (result ≡ list_answer s'.table (as_it_was p name below)) → (result ≡ reply.Refused refusal.NoMemory) ⊎ (result ≡ list_answer s.table (as_it_is (p ++ below)))
     go (inl wanting) = inl wanting
     go (inr is) = inr (is ∙ ap (λ (n : NameState). list_answer n.table (as_it_was p name below)) done.left ∙ new-list s.table p name good done.free below)
 
@@ -351,7 +351,7 @@ gone-causes t p name below free =
     may = none-of-both (allowed_causes t.rows t.snaps p) (missing t p name) dir.1
 
 pub unsnap_is_gone : UnsnapIsGone
-unsnap_is_gone s p name s' below told s'' did info = go info
+unsnap_is_gone s p name s' below result s'' did info = go info
   where
     done : DoneBy s (call.Unsnap p name) (op.Unsnap p name) s'
     done = done-by s (call.Unsnap p name) (op.Unsnap p name) s' refl did
@@ -359,6 +359,6 @@ unsnap_is_gone s p name s' below told s'' did info = go info
     stops : first_cause (info_causes s'.table (as_it_was p name below)) ≡ Some refusal.NoSuchSnapshot
     stops = ap (λ (n : NameState). first_cause (info_causes n.table (as_it_was p name below))) done.left ∙ gone-causes s.table p name below done.free
 
-    go : NameActs s' (call.Info (as_it_was p name below)) told s'' → told ≡ reply.Refused refusal.NoSuchSnapshot
+    go : NameActs s' (call.Info (as_it_was p name below)) result s'' → result ≡ reply.Refused refusal.NoSuchSnapshot
     go (NoRoom, may, is) = let f : Some refusal.NoSuchSnapshot ≡ None = sym stops ∙ may.1 in absurd cc
-    go (Plain, may, is) = ap (λ x. x.told) is ∙ ap (λ (o : Option NameRefusal). (unless_refused o s' (deed s' (call.Info (as_it_was p name below)))).told) stops
+    go (Plain, may, is) = ap (λ x. x.reply) is ∙ ap (λ (o : Option NameRefusal). (unless_refused o s' (deed s' (call.Info (as_it_was p name below)))).reply) stops

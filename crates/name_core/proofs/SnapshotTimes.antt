@@ -344,7 +344,7 @@ same-after t (op.Disallow q) p name good may r =
 same-after t (op.Snap q n) p name good may r = same-rows t (after_table t (op.Snap q n)) p r.dir refl refl r.allowed
 same-after t (op.Unsnap q n) p name good may r = same-rows t (after_table t (op.Unsnap q n)) p r.dir refl refl r.allowed
 
--- what is told
+-- what is answered
 
 dir-free : (o : Option Row) → is_dir_at o ≡ true → first_cause ((is_none o, refusal.NoSuchPath) ∷ (not (is_dir_at o), refusal.NotADirectory) ∷ []) ≡ None
 dir-free None h = absurd cc

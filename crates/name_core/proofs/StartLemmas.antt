@@ -9,8 +9,8 @@ pub starts : (old new : DiskState) (store : StoreState) → Started old new stor
 starts old new store s = record {
   found = s.found;
   opens = λ i. record { names = record { table = s.table i; next = 1; asks = [] }; pending = s.settled i };
-  log = λ told.
-      let l = s.log told in (
+  log = λ tells.
+      let l = s.log tells in (
         l.ops,
         l.used,
         l.is,

@@ -25,10 +25,10 @@ use Rattle.name_store.proofs.CauseLemmas.{IsMarkable, markable}
 use Rattle.name_core.specs.Asks.{finish_causes, finish_op, finished}
 use Rattle.name_core.specs.Calls.{first_cause}
 use Rattle.name_core.specs.Reads.{info_reply, path_of_zone, shown_at}
-use Rattle.name_core.specs.Laws.{ZoneIsTold}
+use Rattle.name_core.specs.Laws.{ZoneIsReported}
 use Rattle.name_core.proofs.AllowedLemmas.{may-make-zone}
 use Rattle.name_core.proofs.AskLaws.{finished-by}
-use Rattle.name_core.proofs.LawLemmas.{told-by}
+use Rattle.name_core.proofs.LawLemmas.{info-by}
 
 -- a row keeps its path
 
@@ -174,8 +174,8 @@ marked-reply rows p key (Some row) good stands may = λ i. shown_at (zone_is i) 
         (zones-at rows p row.id (Dir (Some key)) (only-there rows p row good stands) may.outside)
         (zone-made rows p row key stands)
 
-pub zone_is_told : ZoneIsTold
-zone_is_told s a p key edek s' told s'' good asks finishes info = reply (told-by s' p told s'' info)
+pub zone_is_reported : ZoneIsReported
+zone_is_reported s a p key edek s' answer s'' good asks finishes info = reply (info-by s' p answer s'' info)
   where
     id_there : ℕ
     id_there = id_at s.table.rows p
@@ -189,6 +189,6 @@ zone_is_told s a p key edek s' told s'' good asks finishes info = reply (told-by
     rows : s'.table.rows ≡ set_kind s.table.rows id_there (Dir (Some key))
     rows = ap (λ (t : NameState). t.table.rows) done.1 ∙ ap (λ (k : Ask). (after_table s.table (finish_op a.id edek k)).rows) asks
 
-    reply : (told ≡ Refused NoMemory) ⊎ (told ≡ info_reply s'.table (as_it_is p)) → (told ≡ Refused NoMemory) ⊎ (told ≡ shown_at (Some p) (Some (with_mark id_there (Dir (Some key)))))
+    reply : (answer ≡ Refused NoMemory) ⊎ (answer ≡ info_reply s'.table (as_it_is p)) → (answer ≡ Refused NoMemory) ⊎ (answer ≡ shown_at (Some p) (Some (with_mark id_there (Dir (Some key)))))
     reply (inl wanting) = inl wanting
     reply (inr is) = inr (is ∙ ap (λ (es : List Entry). shown_at (path_of_zone es p) (row_at es p)) rows ∙ marked-reply s.table.rows p key (row_at s.table.rows p) good refl may)

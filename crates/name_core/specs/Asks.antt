@@ -51,26 +51,26 @@ wanted rows (ask.Create p) = wanted_under (key_of_zone rows p)
 wanted rows (ask.Zone p key) = want.Metadata key
 
 -- an ask that is accepted takes the next id, and keeps the zone that its path lies in
-abbrev pub opened : NameState → Ask → OpenAsk
-opened s a = record { id = next_id s; ask = a; zone = zone_id s.table.rows (path_asked a); want = wanted s.table.rows a }
+abbrev pub ask_opened : NameState → Ask → OpenAsk
+ask_opened s a = record { id = next_id s; ask = a; zone = zone_id s.table.rows (path_asked a); want = wanted s.table.rows a }
 
 abbrev pub asked : NameState → Ask → NameState
-asked s a = record s { next = s.next + 1; asks = s.asks ++ opened s a ∷ [] }
+asked s a = record s { next = s.next + 1; asks = s.asks ++ ask_opened s a ∷ [] }
 
 abbrev pub note_of : OpenAsk → AskNote
 note_of a = record { id = a.id; want = a.want }
 
 -- the result of an ask: its note or its refusal, and the state after it
 pub record AskOutcome : Type 0 where
-  pub told : Result AskNote NameRefusal
+  pub reply : Result AskNote NameRefusal
   pub state : NameState
 
 abbrev pub ask_refused : NameRefusal → NameState → AskOutcome
-ask_refused why s = record { told = Err why; state = s }
+ask_refused why s = record { reply = Err why; state = s }
 
 abbrev pub unless_not_asked : Option NameRefusal → NameState → Ask → AskOutcome
 unless_not_asked (Some why) s a = ask_refused why s
-unless_not_asked None s a = record { told = Ok (note_of (opened s a)); state = asked s a }
+unless_not_asked None s a = record { reply = Ok (note_of (ask_opened s a)); state = asked s a }
 
 abbrev pub ask_outcome : NameState → Text → Ask → Ending → AskOutcome
 ask_outcome s user a Plain = unless_not_asked (first_cause (ask_causes s user a)) s a
@@ -83,7 +83,7 @@ AskMayEnd s user a NoRoom = first_cause (ask_causes s user a) ≡ None
 
 -- From s, an ask of the user may get this answer and leave s'.
 abbrev pub Asks : NameState → Text → Ask → Result AskNote NameRefusal → NameState → Type 0
-Asks s user a told s' = (e : Ending) × AskMayEnd s user a e × (record { told = told; state = s' } ≡ ask_outcome s user a e)
+Asks s user a outcome s' = (e : Ending) × AskMayEnd s user a e × (record { reply = outcome; state = s' } ≡ ask_outcome s user a e)
 
 -- finishing an ask
 
@@ -109,11 +109,11 @@ finish_op id edek (ask.Zone p key) = op.Zone p key
 
 -- the result of a finish: its refusal, if it was refused, and the state after it
 pub record FinishOutcome : Type 0 where
-  pub told : Result (Unit {0}) NameRefusal
+  pub reply : Result (Unit {0}) NameRefusal
   pub state : NameState
 
 abbrev pub finish_refused : NameRefusal → NameState → FinishOutcome
-finish_refused why s = record { told = Err why; state = s }
+finish_refused why s = record { reply = Err why; state = s }
 
 -- the ask is no longer open
 abbrev pub closed : NameState → ℕ → NameState
@@ -124,7 +124,7 @@ finished s a edek = took (closed s a.id) (finish_op a.id edek a.ask)
 
 abbrev pub unless_stopped : Option NameRefusal → NameState → OpenAsk → Option Edek → FinishOutcome
 unless_stopped (Some why) s a edek = finish_refused why (closed s a.id)
-unless_stopped None s a edek = record { told = Ok tt; state = finished s a edek }
+unless_stopped None s a edek = record { reply = Ok tt; state = finished s a edek }
 
 -- A finish closes its ask, whatever it answers, unless memory runs out, which it may only if nothing else stops the finish.
 abbrev pub finish_outcome : NameState → OpenAsk → Option Edek → Ending → FinishOutcome
@@ -137,7 +137,7 @@ FinishMayEnd s a edek NoRoom = first_cause (finish_causes s.table.rows a edek a.
 
 -- From s, while nothing is pending, a finish of an open ask with this encrypted key may get this answer and leave s'.
 abbrev pub Finishes : NameState → OpenAsk → Option Edek → Result (Unit {0}) NameRefusal → NameState → Type 0
-Finishes s a edek told s' = (e : Ending) × FinishMayEnd s a edek e × (record { told = told; state = s' } ≡ finish_outcome s a edek e)
+Finishes s a edek outcome s' = (e : Ending) × FinishMayEnd s a edek e × (record { reply = outcome; state = s' } ≡ finish_outcome s a edek e)
 
 abbrev pub ask_gone : NameState → NameRefusal
 ask_gone s = refusal.AskGone s.table.opening s.next

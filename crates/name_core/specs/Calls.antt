@@ -119,16 +119,16 @@ done_with (Some op) s = took s op
 
 -- the result of a call: its reply, and the state after it
 pub record Outcome : Type 0 where
-  pub told : NameReply
+  pub reply : NameReply
   pub state : NameState
 
 -- a refusal leaves the state unchanged
 abbrev pub refused : NameRefusal → NameState → Outcome
-refused why s = record { told = reply.Refused why; state = s }
+refused why s = record { reply = reply.Refused why; state = s }
 
 abbrev pub unless_refused : Option NameRefusal → NameState → Deed → Outcome
 unless_refused (Some why) s d = refused why s
-unless_refused None s d = record { told = d.answer; state = done_with d.logs d.state }
+unless_refused None s d = record { reply = d.answer; state = done_with d.logs d.state }
 
 -- what is left open in a call: memory may run out
 pub data Ending : Type 0 where
@@ -151,4 +151,4 @@ outcome s c NoRoom = refused refusal.NoMemory s
 
 -- From s, a call may get this reply and leave s'.
 abbrev pub NameActs : NameState → NameCall → NameReply → NameState → Type 0
-NameActs s c told s' = (e : Ending) × MayEnd s c e × (record { told = told; state = s' } ≡ outcome s c e)
+NameActs s c answered s' = (e : Ending) × MayEnd s c e × (record { reply = answered; state = s' } ≡ outcome s c e)

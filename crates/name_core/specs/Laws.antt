@@ -33,17 +33,17 @@ use Rattle.name_core.specs.State.{IsNames, NameService, NameState, next_id, sett
 use Rattle.name_core.specs.Asks.{Asks, Finishes, ask_gone, open_ask}
 use Rattle.name_core.specs.Calls.{NameActs, deed}
 use Rattle.name_core.specs.Reads.{info_answer, info_reply, list_answer, path_of_zone, path_read, rows_read}
-use Rattle.name_core.specs.Service.{FinishServes, Serves}
+use Rattle.name_core.specs.Service.{FinishServes, NameServes}
 use Rattle.name_core.specs.Steps.{Keeps}
 
 -- info of what was made
 
 -- info of a directory that was made returns the next id, the zone that its parent lies in, and no key, unless memory runs out
-abbrev pub MadeIsTold : Type 0
-MadeIsTold =
-    (s : NameState) (p : NPath) (s' : NameState) (told : NameReply) (s'' : NameState)
-    → NameActs s (call.Mkdir p) reply.Done s' → NameActs s' (call.Info (as_it_is p)) told s''
-    → (told ≡ reply.Refused refusal.NoMemory) ⊎ (told ≡ reply.Dir (next_id s) (path_of_zone s.table.rows (parent p)) None)
+abbrev pub MadeIsReported : Type 0
+MadeIsReported =
+    (s : NameState) (p : NPath) (s' : NameState) (answer : NameReply) (s'' : NameState)
+    → NameActs s (call.Mkdir p) reply.Done s' → NameActs s' (call.Info (as_it_is p)) answer s''
+    → (answer ≡ reply.Refused refusal.NoMemory) ⊎ (answer ≡ reply.Dir (next_id s) (path_of_zone s.table.rows (parent p)) None)
 
 -- info of another path is unchanged
 abbrev pub OthersStay : Type 0
@@ -52,11 +52,11 @@ OthersStay =
     → NameActs s (call.Mkdir p) reply.Done s' → (q ≡ p → ⊥) → info_reply s'.table (as_it_is q) ≡ info_reply s.table (as_it_is q)
 
 -- info of a file that was made returns the id of its ask, the zone of its parent, and the given encrypted key, unless memory runs out
-abbrev pub FileIsTold : Type 0
-FileIsTold =
-    (s : NameState) (a : OpenAsk) (p : NPath) (edek : Option Edek) (s' : NameState) (told : NameReply) (s'' : NameState)
-    → a.ask ≡ ask.Create p → Finishes s a edek (Ok tt) s' → NameActs s' (call.Info (as_it_is p)) told s''
-    → (told ≡ reply.Refused refusal.NoMemory) ⊎ (told ≡ reply.File a.id (path_of_zone s.table.rows (parent p)) edek)
+abbrev pub FileIsReported : Type 0
+FileIsReported =
+    (s : NameState) (a : OpenAsk) (p : NPath) (edek : Option Edek) (s' : NameState) (answer : NameReply) (s'' : NameState)
+    → a.ask ≡ ask.Create p → Finishes s a edek (Ok tt) s' → NameActs s' (call.Info (as_it_is p)) answer s''
+    → (answer ≡ reply.Refused refusal.NoMemory) ⊎ (answer ≡ reply.File a.id (path_of_zone s.table.rows (parent p)) edek)
 
 -- that zone is the one under which the file was asked for, or there was none and is none
 abbrev pub ZoneIsAsAsked : Type 0
@@ -71,19 +71,19 @@ OthersStayByFile =
     → a.ask ≡ ask.Create p → Finishes s a edek (Ok tt) s' → (q ≡ p → ⊥) → info_reply s'.table (as_it_is q) ≡ info_reply s.table (as_it_is q)
 
 -- info of a directory that was made a zone returns the id that it had, itself as its zone, and the key of the ask, unless memory runs out
-abbrev pub ZoneIsTold : Type 0
-ZoneIsTold =
-    (s : NameState) (a : OpenAsk) (p : NPath) (key : KeyName) (edek : Option Edek) (s' : NameState) (told : NameReply) (s'' : NameState)
-    → IsRows s.table.rows → a.ask ≡ ask.Zone p key → Finishes s a edek (Ok tt) s' → NameActs s' (call.Info (as_it_is p)) told s''
-    → (told ≡ reply.Refused refusal.NoMemory) ⊎ (told ≡ reply.Dir (id_at s.table.rows p) (Some p) (Some key))
+abbrev pub ZoneIsReported : Type 0
+ZoneIsReported =
+    (s : NameState) (a : OpenAsk) (p : NPath) (key : KeyName) (edek : Option Edek) (s' : NameState) (answer : NameReply) (s'' : NameState)
+    → IsRows s.table.rows → a.ask ≡ ask.Zone p key → Finishes s a edek (Ok tt) s' → NameActs s' (call.Info (as_it_is p)) answer s''
+    → (answer ≡ reply.Refused refusal.NoMemory) ⊎ (answer ≡ reply.Dir (id_at s.table.rows p) (Some p) (Some key))
 
 -- what was deleted is gone
 
 -- info of the path that was deleted, or of one below it, is refused with NoSuchPath
 abbrev pub DeletedIsGone : Type 0
 DeletedIsGone =
-    (s : NameState) (p : NPath) (recursive : Bool) (s' : NameState) (q : NPath) (told : NameReply) (s'' : NameState)
-    → NameActs s (call.Delete p recursive) reply.Done s' → is_prefix p q ≡ true → NameActs s' (call.Info (as_it_is q)) told s'' → told ≡ reply.Refused refusal.NoSuchPath
+    (s : NameState) (p : NPath) (recursive : Bool) (s' : NameState) (q : NPath) (answer : NameReply) (s'' : NameState)
+    → NameActs s (call.Delete p recursive) reply.Done s' → is_prefix p q ≡ true → NameActs s' (call.Info (as_it_is q)) answer s'' → answer ≡ reply.Refused refusal.NoSuchPath
 
 -- info of another path is unchanged
 abbrev pub OthersStayByDelete : Type 0
@@ -154,9 +154,9 @@ AnyFault = Unit {0}
 
 -- one step of the namesystem: a call, an ask or a finish, whatever it answers
 pub data IsStep (s s' : NameService) : Type 0 where
-  Called : (user : Text) (c : NameCall) (told : NameReply) (logged : List EditOp) → Serves s user c AnyFault told logged s' → IsStep s s'
-  Asked : (user : Text) (a : Ask) (told : Result AskNote NameRefusal) → Asks s.names user a told s'.names → s'.pending ≡ s.pending → IsStep s s'
-  Finished : (id : ℕ) (given : KeyAnswer) (told : Result (Unit {0}) NameRefusal) (logged : List EditOp) → FinishServes s id given AnyFault told logged s' → IsStep s s'
+  Called : (user : Text) (c : NameCall) (answer : NameReply) (logged : List EditOp) → NameServes s user c AnyFault answer logged s' → IsStep s s'
+  Asked : (user : Text) (a : Ask) (answer : Result AskNote NameRefusal) → Asks s.names user a answer s'.names → s'.pending ≡ s.pending → IsStep s s'
+  Finished : (id : ℕ) (given : KeyAnswer) (answer : Result (Unit {0}) NameRefusal) (logged : List EditOp) → FinishServes s id given AnyFault answer logged s' → IsStep s s'
 
 -- it stays true in each step
 abbrev pub IdsStayBelow : Type 0
@@ -167,10 +167,10 @@ IdsStayBelow = (s s' : NameService) → IsStep s s' → IdsBelowNext s → IdsBe
 -- a finish right after one of the same id finds no open ask, whatever the first one answered except NoMemory
 abbrev pub FinishedOnce : Type 0
 FinishedOnce =
-    (s : NameService) (id : ℕ) (given : KeyAnswer) (told : Result (Unit {0}) NameRefusal) (logged : List EditOp) (s' : NameService) (given' : KeyAnswer)
-    (told' : Result (Unit {0}) NameRefusal) (logged' : List EditOp) (s'' : NameService)
-    → IdsBelowNext s → FinishServes s id given AnyFault told logged s' → (told ≡ Err refusal.NoMemory → ⊥) → FinishServes s' id given' AnyFault told' logged' s''
-    → (told' ≡ Err (ask_gone s'.names)) × (s'' ≡ s')
+    (s : NameService) (id : ℕ) (given : KeyAnswer) (answer : Result (Unit {0}) NameRefusal) (logged : List EditOp) (s' : NameService) (given' : KeyAnswer)
+    (answer' : Result (Unit {0}) NameRefusal) (logged' : List EditOp) (s'' : NameService)
+    → IdsBelowNext s → FinishServes s id given AnyFault answer logged s' → (answer ≡ Err refusal.NoMemory → ⊥) → FinishServes s' id given' AnyFault answer' logged' s''
+    → (answer' ≡ Err (ask_gone s'.names)) × (s'' ≡ s')
 
 -- from s, steps through these states lead to t
 abbrev pub Reaches : NameService → List NameService → NameService → Type 0
@@ -180,10 +180,10 @@ Reaches s (m ∷ ms) t = IsStep s m × Reaches m ms t
 -- nor is an ask that was open found by its id after such a finish and any steps
 abbrev pub FinishedForGood : Type 0
 FinishedForGood =
-    (s : NameService) (id : ℕ) (a : OpenAsk) (given : KeyAnswer) (told : Result (Unit {0}) NameRefusal) (logged : List EditOp) (s' : NameService) (between : List NameService) (t : NameService)
-    (given' : KeyAnswer) (told' : Result (Unit {0}) NameRefusal) (logged' : List EditOp) (t' : NameService)
-    → IdsBelowNext s → open_ask s.names.asks id ≡ Some a → FinishServes s id given AnyFault told logged s' → (told ≡ Err refusal.NoMemory → ⊥)
-    → Reaches s' between t → FinishServes t id given' AnyFault told' logged' t' → (told' ≡ Err (ask_gone t.names)) × (t' ≡ t)
+    (s : NameService) (id : ℕ) (a : OpenAsk) (given : KeyAnswer) (answer : Result (Unit {0}) NameRefusal) (logged : List EditOp) (s' : NameService) (between : List NameService) (t : NameService)
+    (given' : KeyAnswer) (answer' : Result (Unit {0}) NameRefusal) (logged' : List EditOp) (t' : NameService)
+    → IdsBelowNext s → open_ask s.names.asks id ≡ Some a → FinishServes s id given AnyFault answer logged s' → (answer ≡ Err refusal.NoMemory → ⊥)
+    → Reaches s' between t → FinishServes t id given' AnyFault answer' logged' t' → (answer' ≡ Err (ask_gone t.names)) × (t' ≡ t)
 
 -- snapshots
 
@@ -222,9 +222,9 @@ abbrev pub IsNotCalled : NameService → NameCall → ℕ → List ℕ → Type 
 IsNotCalled s c dir name = (kept : Bool) → IfSome (deed (settled kept s) c).logs (λ o. removes_snapshot dir name (settled kept s).table.rows o ≡ false)
 
 abbrev pub DoesNotRemove : (s s' : NameService) → ℕ → List ℕ → IsStep s s' → Type 0
-DoesNotRemove s s' dir name (Called user c told logged serves) = IsNotCalled s c dir name
-DoesNotRemove s s' dir name (Asked user a told asks same) = Unit {0}
-DoesNotRemove s s' dir name (Finished id given told logged serves) = Unit {0}
+DoesNotRemove s s' dir name (Called user c answer logged serves) = IsNotCalled s c dir name
+DoesNotRemove s s' dir name (Asked user a answer asks same) = Unit {0}
+DoesNotRemove s s' dir name (Finished id given answer logged serves) = Unit {0}
 
 -- a call, an ask or a finish changes no snapshot that neither it nor the pending operation removes
 abbrev pub StepsKeepSnapshots : Type 0
@@ -236,20 +236,20 @@ StepsKeepSnapshots =
 -- Info of an entry of a snapshot that was taken returns what info of the entry itself returned, and a list of one of its directories what
 -- a list of the directory itself returned, unless memory runs out.
 
-abbrev pub SnapshotIsTold : Type 0
-SnapshotIsTold =
-    (s : NameState) (p : NPath) (name : Text) (s' : NameState) (below : NPath) (told : NameReply) (s'' : NameState)
-    → IsRows s.table.rows → NameActs s (call.Snap p name) reply.Done s' → NameActs s' (call.Info (as_it_was p name below)) told s''
-    → (told ≡ reply.Refused refusal.NoMemory) ⊎ (told ≡ info_reply s.table (as_it_is (p ++ below)))
+abbrev pub SnapshotIsReported : Type 0
+SnapshotIsReported =
+    (s : NameState) (p : NPath) (name : Text) (s' : NameState) (below : NPath) (answer : NameReply) (s'' : NameState)
+    → IsRows s.table.rows → NameActs s (call.Snap p name) reply.Done s' → NameActs s' (call.Info (as_it_was p name below)) answer s''
+    → (answer ≡ reply.Refused refusal.NoMemory) ⊎ (answer ≡ info_reply s.table (as_it_is (p ++ below)))
 
 abbrev pub SnapshotIsListed : Type 0
 SnapshotIsListed =
-    (s : NameState) (p : NPath) (name : Text) (s' : NameState) (below : NPath) (told : NameReply) (s'' : NameState)
-    → IsRows s.table.rows → NameActs s (call.Snap p name) reply.Done s' → NameActs s' (call.List (as_it_was p name below)) told s''
-    → (told ≡ reply.Refused refusal.NoMemory) ⊎ (told ≡ list_answer s.table (as_it_is (p ++ below)))
+    (s : NameState) (p : NPath) (name : Text) (s' : NameState) (below : NPath) (answer : NameReply) (s'' : NameState)
+    → IsRows s.table.rows → NameActs s (call.Snap p name) reply.Done s' → NameActs s' (call.List (as_it_was p name below)) answer s''
+    → (answer ≡ reply.Refused refusal.NoMemory) ⊎ (answer ≡ list_answer s.table (as_it_is (p ++ below)))
 
 -- after a snapshot was removed, info in it is refused with NoSuchSnapshot
 abbrev pub UnsnapIsGone : Type 0
 UnsnapIsGone =
-    (s : NameState) (p : NPath) (name : Text) (s' : NameState) (below : NPath) (told : NameReply) (s'' : NameState)
-    → NameActs s (call.Unsnap p name) reply.Done s' → NameActs s' (call.Info (as_it_was p name below)) told s'' → told ≡ reply.Refused refusal.NoSuchSnapshot
+    (s : NameState) (p : NPath) (name : Text) (s' : NameState) (below : NPath) (answer : NameReply) (s'' : NameState)
+    → NameActs s (call.Unsnap p name) reply.Done s' → NameActs s' (call.Info (as_it_was p name below)) answer s'' → answer ≡ reply.Refused refusal.NoSuchSnapshot

@@ -85,13 +85,13 @@ answer_unless (Some why) answer = reply.Refused why
 answer_unless None answer = answer
 
 -- the reply for a row: its id, the path of the zone that it lies in, and its own key
-abbrev pub shown : ℕ → Option NPath → Kind → NameReply
-shown id path (Dir key) = reply.Dir id path key
-shown id path (File edek) = reply.File id path edek
+abbrev pub info_of : ℕ → Option NPath → Kind → NameReply
+info_of id path (Dir key) = reply.Dir id path key
+info_of id path (File edek) = reply.File id path edek
 
 abbrev pub shown_at : Option NPath → Option Row → NameReply
 shown_at path None = reply.Refused refusal.NoSuchPath
-shown_at path (Some row) = shown row.id path row.kind
+shown_at path (Some row) = info_of row.id path row.kind
 
 abbrev pub info_reply : NameTable → ReadPath → NameReply
 info_reply t r = shown_at (zone_read t r) (row_at (rows_read t r) (path_read r))

@@ -96,8 +96,8 @@ pub record IsNames (s : NameService) : Type 0 where
   pub waits : IfSome s.pending (IsWaiting s.names)
 
 -- The log holds these acknowledged operations. The ids that they used are below the next one, and no open ask has one.
-pub record StandsFor (disk : DiskState) (r : RunningNames) (ops : List EditOp) : Type 0 where
+pub record IsNamesystemOf (disk : DiskState) (r : RunningNames) (ops : List EditOp) : Type 0 where
   pub used : List ℕ
-  pub store : store.StandsFor disk r.store used ops
+  pub store : store.IsNameStoreOf disk r.store used ops
   pub below : AllBelow (next_id (names_of r)) used
   pub free : AreFree used r.asks

@@ -18,7 +18,7 @@ use Rattle.name_calls.specs.declared.calls.NameReply.{NameReply}
 use Rattle.name_calls.specs.declared.calls.NameReply.TheVariants.{Done, Refused}
 use Rattle.name_calls.specs.declared.calls.NameRefusal.{NameRefusal}
 use Rattle.name_calls.specs.declared.calls.NameRefusal.TheVariants.{NoMemory, StoreFault}
-use Rattle.name_core.specs.State.{AreFree, AreRecent, IdsFit, NameService, NameState, RunningNames, StandsFor, names_of, next_id, service_of, settled}
+use Rattle.name_core.specs.State.{AreFree, AreRecent, IdsFit, NameService, NameState, RunningNames, IsNamesystemOf, names_of, next_id, service_of, settled}
 use Rattle.name_core.specs.Asks.{finish_causes, finish_op}
 use Rattle.name_core.specs.Calls.{causes, deed, done_with, early_causes, first_cause}
 use Rattle.name_core.specs.Reads.{answer_unless}
@@ -26,8 +26,8 @@ use Rattle.name_core.specs.Service.{Changes, Concludes, OwnOf, ServesBy, acknowl
 
 -- A read answers this, or is refused for the first of its causes. If it allocates and has no cause, memory may run out.
 abbrev pub Answers : Bool → List (Bool × NameRefusal) → NameReply → NameReply → Type 0
-Answers takes causes answer told =
-    (told ≡ answer_unless (first_cause causes) answer) ⊎ ((told ≡ Refused NoMemory) × (takes ≡ true) × (first_cause causes ≡ None))
+Answers takes causes answer reply =
+    (reply ≡ answer_unless (first_cause causes) answer) ⊎ ((reply ≡ Refused NoMemory) × (takes ≡ true) × (first_cause causes ≡ None))
 
 -- each ask is kept under its id
 abbrev pub AreKeyed : List (ℕ × OpenAsk) → Type 0
@@ -84,8 +84,8 @@ Leaving r own used ops bytes = IsLeftOf (made_with r.store used) r.store.log.pen
 -- What a step does to its disk: the acknowledged operations are in the log after the earlier ones, and a crash at any moment of the
 -- step leaves what P allows for the earlier ones and the ids that they used.
 pub record Logging (old new : DiskState) (r r' : RunningNames) (P : List ℕ → List EditOp → List ℕ → Type 0) (logged : List EditOp) : Type 0 where
-  pub stands : Tells old → (ops : List EditOp) → StandsFor old r ops → StandsFor new r' (ops ++ logged)
-  pub moments : Tells old → (ops : List EditOp) → (s : StandsFor old r ops) → LeavesOnly 1 old new (P s.used ops)
+  pub stands : Tells old → (ops : List EditOp) → IsNamesystemOf old r ops → IsNamesystemOf new r' (ops ++ logged)
+  pub moments : Tells old → (ops : List EditOp) → (s : IsNamesystemOf old r ops) → LeavesOnly 1 old new (P s.used ops)
   pub run : RunOn 1 old new
 
 -- the pending operation was settled: kept or dropped
@@ -128,42 +128,42 @@ abbrev pub refusal_of : StoreRefusal → NameRefusal
 refusal_of store.NoMemory = NoMemory
 refusal_of store.StoreFault = StoreFault
 
-abbrev pub told_of : Result (Unit {0}) StoreRefusal → NameReply
-told_of (Ok done) = Done
-told_of (Err why) = Refused (refusal_of why)
+abbrev pub answer_of_store : Result (Unit {0}) StoreRefusal → NameReply
+answer_of_store (Ok done) = Done
+answer_of_store (Err why) = Refused (refusal_of why)
 
-abbrev pub finish_told : Result (Unit {0}) StoreRefusal → Result (Unit {0}) NameRefusal
-finish_told (Ok done) = Ok done
-finish_told (Err why) = Err (refusal_of why)
+abbrev pub finish_answer : Result (Unit {0}) StoreRefusal → Result (Unit {0}) NameRefusal
+finish_answer (Ok done) = Ok done
+finish_answer (Err why) = Err (refusal_of why)
 
 -- some user may make the call
 abbrev pub MayBegin : NameCall → Type 0
 MayBegin c = (user : Text) × (first_cause (early_causes user c) ≡ None)
 
 -- a change that is not refused before anything is settled
-pub record ActsOn (old new : DiskState) (r : RunningNames) (c : NameCall) (told : NameReply) (r' : RunningNames) : Type 0 where
+pub record ActsOn (old new : DiskState) (r : RunningNames) (c : NameCall) (reply : NameReply) (r' : RunningNames) : Type 0 where
   pub logged : List EditOp
-  pub serves : ServesBy true (service_of r) c (Rose old.faults new.faults) told logged (service_of r')
-  pub disk : Logging old new r r' (Leaving r (OwnOf (service_of r) c told (service_of r'))) logged
+  pub serves : ServesBy true (service_of r) c (Rose old.faults new.faults) reply logged (service_of r')
+  pub disk : Logging old new r r' (Leaving r (OwnOf (service_of r) c reply (service_of r'))) logged
 
 -- the operation that a change with this answer and this state after it may write, while nothing is pending
 abbrev pub OwnChange : NameState → NameCall → NameReply → NameService → EditOp → Type 0
-OwnChange s c told s' op =
-    (first_cause (causes s c) ≡ None) × ((deed s c).logs ≡ Some op) × ((acknowledged told (Some op) ≡ op ∷ []) ⊎ (s'.pending ≡ Some op))
+OwnChange s c reply s' op =
+    (first_cause (causes s c) ≡ None) × ((deed s c).logs ≡ Some op) × ((acknowledged reply (Some op) ≡ op ∷ []) ⊎ (s'.pending ≡ Some op))
 
 -- a change while nothing is pending
-pub record ActsSettled (old new : DiskState) (r : RunningNames) (c : NameCall) (told : NameReply) (r' : RunningNames) : Type 0 where
+pub record ActsSettled (old new : DiskState) (r : RunningNames) (c : NameCall) (reply : NameReply) (r' : RunningNames) : Type 0 where
   pub logged : List EditOp
-  pub changes : Changes (names_of r) [] c (Rose old.faults new.faults) told logged (service_of r')
-  pub disk : Logging old new r r' (Growing r (OwnChange (names_of r) c told (service_of r'))) logged
+  pub changes : Changes (names_of r) [] c (Rose old.faults new.faults) reply logged (service_of r')
+  pub disk : Logging old new r r' (Growing r (OwnChange (names_of r) c reply (service_of r'))) logged
 
 -- the operation that a finish with this answer and this state after it may write, while nothing is pending
 abbrev pub OwnFinish : NameState → OpenAsk → Option Edek → Result (Unit {0}) NameRefusal → NameService → EditOp → Type 0
-OwnFinish s a edek told s' op =
-    (first_cause (finish_causes s.table.rows a edek a.ask) ≡ None) × (op ≡ finish_op a.id edek a.ask) × ((told ≡ Ok tt) ⊎ (s'.pending ≡ Some op))
+OwnFinish s a edek reply s' op =
+    (first_cause (finish_causes s.table.rows a edek a.ask) ≡ None) × (op ≡ finish_op a.id edek a.ask) × ((reply ≡ Ok tt) ⊎ (s'.pending ≡ Some op))
 
 -- a finish of an open ask while nothing is pending
-pub record FinishesSettled (old new : DiskState) (r : RunningNames) (a : OpenAsk) (edek : Option Edek) (told : Result (Unit {0}) NameRefusal) (r' : RunningNames) : Type 0 where
+pub record FinishesSettled (old new : DiskState) (r : RunningNames) (a : OpenAsk) (edek : Option Edek) (reply : Result (Unit {0}) NameRefusal) (r' : RunningNames) : Type 0 where
   pub logged : List EditOp
-  pub concludes : Concludes (names_of r) [] a edek (Rose old.faults new.faults) told logged (service_of r')
-  pub disk : Logging old new r r' (Growing r (OwnFinish (names_of r) a edek told (service_of r'))) logged
+  pub concludes : Concludes (names_of r) [] a edek (Rose old.faults new.faults) reply logged (service_of r')
+  pub disk : Logging old new r r' (Growing r (OwnFinish (names_of r) a edek reply (service_of r'))) logged

@@ -1,28 +1,28 @@
 //! Laws about directories, files and zones that were made, about deleted and renamed paths, about
 //! snapshots, about ids, and about finished asks. The functions do nothing: their contracts state the laws.
-ghost use Rattle.name_core.specs.Laws.{AskIdsRise, DeletedIsGone, FileIsTold, FinishedForGood, FinishedOnce, IdsRise, IdsStayBelow, ListTellsChildren, MadeIsTold, NamesKeepIds, OthersKeepZone, OthersStay, OthersStayByDelete, OthersStayByFile, RenamedHasMoved, RenamedKeepsRows, RenamedKeepsSnapshots, RenamedKeepsZone, SettlingKeepsSnapshots, SnapshotIsListed, SnapshotIsTold, SnapshotsStay, SnapshotsTellTheSame, StepsKeepSnapshots, UnsnapIsGone, ZoneIsAsAsked, ZoneIsTold};
+ghost use Rattle.name_core.specs.Laws.{AskIdsRise, DeletedIsGone, FileIsReported, FinishedForGood, FinishedOnce, IdsRise, IdsStayBelow, ListTellsChildren, MadeIsReported, NamesKeepIds, OthersKeepZone, OthersStay, OthersStayByDelete, OthersStayByFile, RenamedHasMoved, RenamedKeepsRows, RenamedKeepsSnapshots, RenamedKeepsZone, SettlingKeepsSnapshots, SnapshotIsListed, SnapshotIsReported, SnapshotsStay, SnapshotsTellTheSame, StepsKeepSnapshots, UnsnapIsGone, ZoneIsAsAsked, ZoneIsReported};
 
 /// After a directory was made, `Info` on its path returns the next id, the zone that its parent
 /// lies in, and no key, unless it returns `NoMemory`. The answer for each other path stays the
 /// same.
-pub fn made_directories_are_told()
-    ensures told { MadeIsTold }
+pub fn made_directories_are_reported()
+    ensures shown { MadeIsReported }
     ensures others { OthersStay }
 {}
 
 /// After a finish made a file, `Info` on its path returns the id of its ask, the zone that its
 /// parent lies in, and the encrypted key that was given, unless it returns `NoMemory`. The zone is
 /// the one under which the file was asked for. The answer for each other path stays the same.
-pub fn made_files_are_told()
-    ensures told { FileIsTold }
+pub fn made_files_are_reported()
+    ensures shown { FileIsReported }
     ensures zone { ZoneIsAsAsked }
     ensures others { OthersStayByFile }
 {}
 
 /// After a finish made a directory a zone, `Info` on its path returns the id that it had, itself as
 /// its zone, and the key that was asked for, unless it returns `NoMemory`.
-pub fn made_zones_are_told()
-    ensures { ZoneIsTold }
+pub fn made_zones_are_reported()
+    ensures { ZoneIsReported }
 {}
 
 /// After a path was deleted, `Info` on it and on each path below it returns `NoSuchPath`. The
@@ -63,8 +63,8 @@ pub fn snapshots_stay()
 /// After a snapshot was taken, `Info` of an entry of it returns the id, the zone, and the key or
 /// encrypted key that `Info` of the entry itself returned, and `List` the same entries, unless they
 /// return `NoMemory`.
-pub fn taken_snapshots_are_told()
-    ensures info { SnapshotIsTold }
+pub fn taken_snapshots_are_reported()
+    ensures info { SnapshotIsReported }
     ensures list { SnapshotIsListed }
 {}
 

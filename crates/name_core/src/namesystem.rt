@@ -4,13 +4,13 @@ ghost use Rattle.hk_base.specs.Disk.{Tells};
 ghost use Rattle.name_calls.specs.Paths.{starts_reserved};
 ghost use Rattle.edit_ops.specs.declared.ops.EditOp.{EditOp};
 ghost use Rattle.name_store.specs.Store.{OpensNames};
-ghost use Rattle.name_core.specs.State.{IsNames, StandsFor, is_full, is_spent, names_of, next_id, service_of};
+ghost use Rattle.name_core.specs.State.{IsNames, IsNamesystemOf, is_full, is_spent, names_of, next_id, service_of};
 ghost use Rattle.name_calls.specs.Answers.{answer_of};
-ghost use Rattle.name_core.specs.Asks.{Asks, ask_causes, ask_gone, closed, finish_causes, finish_op, open_ask, opened, without};
+ghost use Rattle.name_core.specs.Asks.{Asks, ask_causes, ask_gone, closed, finish_causes, finish_op, open_ask, ask_opened, without};
 ghost use Rattle.name_core.specs.Calls.{NameActs, causes, deed, first_cause, mkdir_causes};
-ghost use Rattle.name_core.specs.Service.{Acts, FinishActs, Starts, is_change};
+ghost use Rattle.name_core.specs.Service.{NameActsOnDisk, FinishActs, Starts, is_change};
 ghost use Rattle.name_core.specs.declared.asks.OpenAsk.{OpenAsk};
-ghost use Rattle.name_core.specs.Steps.{ActsOn, ActsSettled, FinishesSettled, IsUnsettled, MayBegin, MayWrite, Settling, Writes, finish_told, refusal_of, told_of};
+ghost use Rattle.name_core.specs.Steps.{ActsOn, ActsSettled, FinishesSettled, IsUnsettled, MayBegin, MayWrite, Settling, Writes, finish_answer, refusal_of, answer_of_store};
 
 use crate::asks::{OpenAsk, OpenAsks};
 use crate::reads::{info, list};
@@ -126,8 +126,8 @@ impl Name {
     /// operation may have taken effect, and that after `StoreFault` at its own record the change is
     /// pending.
     pub fn act<D: Disk>(&mut self, disk: &mut D, user: &Text, call: NameCall) -> NameReply
-        requires stands { Tells (D.state disk.old) → ((ops : List EditOp) × StandsFor (D.state disk.old) self.old ops) }
-        ensures { Acts (D.state disk.old) (D.state disk.new) self.old user.now call result self.new }
+        requires stands { Tells (D.state disk.old) → ((ops : List EditOp) × IsNamesystemOf (D.state disk.old) self.old ops) }
+        ensures { NameActsOnDisk (D.state disk.old) (D.state disk.new) self.old user.now call result self.new }
     {
         if let Some(why) = early_refusal(user, &call) {
             return NameReply::Refused(why);
@@ -162,7 +162,7 @@ impl Name {
 
     /// Settles the pending operation, if there is one. If the disk fails, it is still pending.
     fn settle<D: Disk>(&mut self, disk: &mut D) -> Result<(), StoreRefusal>
-        requires stands { Tells (D.state disk.old) → ((ops : List EditOp) × StandsFor (D.state disk.old) self.old ops) }
+        requires stands { Tells (D.state disk.old) → ((ops : List EditOp) × IsNamesystemOf (D.state disk.old) self.old ops) }
         ensures { MatchResult result (λ _. Settling (D.state disk.old) (D.state disk.new) self.old self.new) (λ _. IsUnsettled (D.state disk.old) (D.state disk.new) self.old self.new) }
     {
         // The invariant of the store.
@@ -174,7 +174,7 @@ impl Name {
     fn change<D: Disk>(&mut self, disk: &mut D, call: NameCall) -> NameReply
         requires change { is_change call ≡ true }
         requires begins { MayBegin call }
-        requires stands { Tells (D.state disk.old) → ((ops : List EditOp) × StandsFor (D.state disk.old) self.old ops) }
+        requires stands { Tells (D.state disk.old) → ((ops : List EditOp) × IsNamesystemOf (D.state disk.old) self.old ops) }
         ensures { ActsOn (D.state disk.old) (D.state disk.new) self.old call result self.new }
     {
         match self.settle(disk) {
@@ -188,7 +188,7 @@ impl Name {
         requires change { is_change call ≡ true }
         requires begins { MayBegin call }
         requires settled { self.old.store.log.pending ≡ None }
-        requires stands { Tells (D.state disk.old) → ((ops : List EditOp) × StandsFor (D.state disk.old) self.old ops) }
+        requires stands { Tells (D.state disk.old) → ((ops : List EditOp) × IsNamesystemOf (D.state disk.old) self.old ops) }
         ensures { ActsSettled (D.state disk.old) (D.state disk.new) self.old call result self.new }
     {
         self.invariants();
@@ -197,7 +197,7 @@ impl Name {
         }
         let ids = ids_used(&call);
         let op = self.op_of(call);
-        told(self.write(disk, &op, ids))
+        reply_of(self.write(disk, &op, ids))
     }
 
     /// Returns why a change is refused while nothing is pending.
@@ -276,7 +276,7 @@ impl Name {
     fn write<D: Disk>(&mut self, disk: &mut D, op: &EditOp, ids: u64) -> Result<(), StoreRefusal>
         requires may { MayWrite (names_of self.old) op.now (record (names_of self.old) { next = self.old.next + ids }) }
         requires settled { self.old.store.log.pending ≡ None }
-        requires stands { Tells (D.state disk.old) → ((ops : List EditOp) × StandsFor (D.state disk.old) self.old ops) }
+        requires stands { Tells (D.state disk.old) → ((ops : List EditOp) × IsNamesystemOf (D.state disk.old) self.old ops) }
         ensures { Writes (D.state disk.old) (D.state disk.new) self.old (record (names_of self.old) { next = self.old.next + ids }) op.now result self.new }
     {
         match self.store.commit(self.alloc, disk, op) {
@@ -319,7 +319,7 @@ impl Name {
     /// Returns an ask with the next id.
     fn opened(&self, ask: Ask) -> OpenAsk
         requires { is_spent (names_of self.now) ≡ false }
-        ensures { result ≡ opened (names_of self.now) ask }
+        ensures { result ≡ ask_opened (names_of self.now) ask }
     {
         let tree = self.store.tree();
         let zone = tree.zone_of(path_asked(&ask));
@@ -374,7 +374,7 @@ impl Name {
     /// under the id. Otherwise the ask is no longer open afterwards, unless the result is
     /// `NoMemory`.
     pub fn finish<D: Disk>(&mut self, disk: &mut D, answered: Answered) -> Result<(), NameRefusal>
-        requires stands { Tells (D.state disk.old) → ((ops : List EditOp) × StandsFor (D.state disk.old) self.old ops) }
+        requires stands { Tells (D.state disk.old) → ((ops : List EditOp) × IsNamesystemOf (D.state disk.old) self.old ops) }
         ensures { FinishActs (D.state disk.old) (D.state disk.new) self.old answered.id (answer_of answered.reply) result self.new }
     {
         let answer = answered.answer();
@@ -388,7 +388,7 @@ impl Name {
         id: u64,
         answer: KeyAnswer,
     ) -> Result<(), NameRefusal>
-        requires stands { Tells (D.state disk.old) → ((ops : List EditOp) × StandsFor (D.state disk.old) self.old ops) }
+        requires stands { Tells (D.state disk.old) → ((ops : List EditOp) × IsNamesystemOf (D.state disk.old) self.old ops) }
         ensures { FinishActs (D.state disk.old) (D.state disk.new) self.old id answer result self.new }
     {
         if !self.is_open(id) {
@@ -433,7 +433,7 @@ impl Name {
         edek: Option<Edek>,
     ) -> Result<(), NameRefusal>
         requires asked { is_some (open_ask self.old.asks id) ≡ true }
-        requires stands { Tells (D.state disk.old) → ((ops : List EditOp) × StandsFor (D.state disk.old) self.old ops) }
+        requires stands { Tells (D.state disk.old) → ((ops : List EditOp) × IsNamesystemOf (D.state disk.old) self.old ops) }
         ensures { FinishActs (D.state disk.old) (D.state disk.new) self.old id (KeyAnswer.Given edek) result self.new }
     {
         match self.settle(disk) {
@@ -454,7 +454,7 @@ impl Name {
     ) -> Result<(), NameRefusal>
         requires asked { is_some (open_ask self.old.asks id) ≡ true }
         requires settled { self.old.store.log.pending ≡ None }
-        requires stands { Tells (D.state disk.old) → ((ops : List EditOp) × StandsFor (D.state disk.old) self.old ops) }
+        requires stands { Tells (D.state disk.old) → ((ops : List EditOp) × IsNamesystemOf (D.state disk.old) self.old ops) }
         ensures { (ask : OpenAsk) → open_ask self.old.asks id ≡ Some ask → FinishesSettled (D.state disk.old) (D.state disk.new) self.old ask edek result self.new }
     {
         self.invariants();
@@ -503,7 +503,7 @@ impl Name {
     ) -> Result<(), StoreRefusal>
         requires may { MayWrite (names_of self.old) op.now (closed (names_of self.old) id) }
         requires settled { self.old.store.log.pending ≡ None }
-        requires stands { Tells (D.state disk.old) → ((ops : List EditOp) × StandsFor (D.state disk.old) self.old ops) }
+        requires stands { Tells (D.state disk.old) → ((ops : List EditOp) × IsNamesystemOf (D.state disk.old) self.old ops) }
         ensures { Writes (D.state disk.old) (D.state disk.new) self.old (closed (names_of self.old) id) op.now result self.new }
     {
         match self.store.commit(self.alloc, disk, op) {
@@ -531,8 +531,8 @@ fn refusal(why: StoreRefusal) -> NameRefusal
 }
 
 /// Returns the reply to a change, given the result of writing its operation.
-fn told(written: Result<(), StoreRefusal>) -> NameReply
-    ensures { result ≡ told_of written }
+fn reply_of(written: Result<(), StoreRefusal>) -> NameReply
+    ensures { result ≡ answer_of_store written }
 {
     match written {
         Ok(()) => NameReply::Done,
@@ -542,7 +542,7 @@ fn told(written: Result<(), StoreRefusal>) -> NameReply
 
 /// Returns the answer to a finish, given the result of writing its operation.
 fn finished(written: Result<(), StoreRefusal>) -> Result<(), NameRefusal>
-    ensures { result ≡ finish_told written }
+    ensures { result ≡ finish_answer written }
 {
     match written {
         Ok(()) => Ok(()),

@@ -4,7 +4,7 @@ ghost use Rattle.inode_tree.specs.Listing.{children};
 ghost use Rattle.inode_tree.specs.Rows.{is_dir_at, row_at, zone_of};
 ghost use Rattle.snap_store.specs.Snapshots.{zone_depth};
 ghost use Rattle.name_store.specs.Causes.{first_cause, id_at};
-ghost use Rattle.name_core.specs.Reads.{info_causes, info_reply, list_causes, list_reply, other_zone, path_of_zone, path_read, rows_read, shown, snapshot_causes, snapshot_rows, zone_in_snapshot, zone_read};
+ghost use Rattle.name_core.specs.Reads.{info_causes, info_reply, list_causes, list_reply, other_zone, path_of_zone, path_read, rows_read, info_of, snapshot_causes, snapshot_rows, zone_in_snapshot, zone_read};
 ghost use Rattle.name_core.specs.Steps.{Answers};
 
 use crate::copies::{copy_of, joined};
@@ -191,7 +191,7 @@ fn id_at(tree: &Tree, path: &NPath) -> u64
 
 /// Returns the reply that describes a row, with the path of its zone.
 fn shown(row: Row, zone: Option<NPath>) -> NameReply
-    ensures { result ≡ shown row.id zone row.kind }
+    ensures { result ≡ info_of row.id zone row.kind }
 {
     let id = row.id;
     match row.kind {

@@ -18,7 +18,7 @@ write-requires-clause-may g c =
 pub returns : goal.returns
 returns g c =
     let s = names_of c.args.self.now in
-    rw c.told.ensures
+    rw c.reply_of.ensures
     (settled-written (g.D.Disk.state c.args.disk.now) (g.D.Disk.state c.write.new.disk) c.args.self.now c.write.new.self c.args.call c.op_of-op.result
     (record s { next = s.next + c.ids_used-ids.result }) c.write.result (takes-memory s c.args.call c.requires.change) (sym c.change_refusal.ensures ∙ c.in_default.is)
     (deed-is s c.args.call c.op_of-op.result c.op_of-op.ensures ∙ ap (λ (n : ℕ). done_deed c.op_of-op.result (record s { next = s.next + n })) (sym c.ids_used-ids.ensures)) c.write.ensures)
