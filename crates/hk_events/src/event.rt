@@ -1,16 +1,26 @@
 //! The events of both services, and their answers.
-use hk_base::{ByteList, KeyName, Text};
+use eek_seal::Deposit;
+use hk_base::{ByteList, KeyName, Text, VersionName};
 use kms_calls::{KmsCall, KmsReply};
 use name_calls::{AskNote, NameRefusal, NameReply};
 
-/// An event: one call of one service. A path and the name of a snapshot are given by their bytes. Kept asks and kept replies are
-/// numbered from 1, each kind by itself, and stay: each may be used late, again or never.
+/// An event: one call of one service. A path and the name of a snapshot are given by their bytes.
+/// Kept tickets, kept asks and kept replies are numbered from 1, each kind by itself. They are never
+/// dropped: each may be used late, again or never.
 #[derive(Drop)]
 pub enum Event {
     /// A call of the key management service.
     Kms {
         user: Text,
         call: KmsCall,
+    },
+    /// Asks the key management service for a ticket to seal data encryption keys in advance. If one
+    /// is given, it is kept.
+    Ticket,
+    /// Draws an initialization vector and a data encryption key, seals the key with the kept ticket
+    /// of this number and deposits it as a ready key.
+    Deposit {
+        ticket: u32,
     },
     /// Drops the key management service and opens it again from its log.
     RestartKms,
@@ -97,6 +107,17 @@ pub enum Event {
 pub enum Line {
     /// The reply of the key management service.
     Kms(KmsReply),
+    /// A ticket is kept under this number. It is for this version of a key. `wanted` is the number of
+    /// ready keys that the queue of the key lacks.
+    Ticket {
+        number: u64,
+        version: VersionName,
+        wanted: u16,
+    },
+    /// No queue wants ready keys.
+    NoTicket,
+    /// The answer to a deposit.
+    Deposit(Deposit),
     /// A service was opened again; this is the number of the opening.
     Opened {
         opening: u32,
