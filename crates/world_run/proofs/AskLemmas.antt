@@ -15,7 +15,7 @@ use Rattle.name_calls.specs.declared.calls.AskNote.{AskNote}
 use Rattle.name_calls.specs.declared.calls.NameRefusal.{NameRefusal}
 use Rattle.name_core.specs.Calls.{NoRoom, Plain, first_cause}
 use Rattle.name_core.specs.Asks.{Asks, ask_causes, unless_not_asked}
-use Rattle.name_core.specs.State.{AreFree, NameState, RunningNames, StandsFor, names_of, next_id}
+use Rattle.name_core.specs.State.{AreFree, NameState, RunningNames, IsNamesystemOf, names_of, next_id}
 
 -- its id was never used
 
@@ -51,12 +51,12 @@ asks-keep s user a result s' (Plain, may, is) = subst (Keeps s) (sym (ap (λ o. 
     go None = record { below = omega arith; free = λ used below free. free-more used s.asks _ free (below-is-free (next_id s) used below) }
 
 pub ask-stands : (d : DiskState) (r r' : RunningNames) (user : Text) (a : Ask) (result : Result AskNote NameRefusal) (ops : List EditOp) → r'.store ≡ r.store → Asks (names_of r) user a result (names_of r')
-    → StandsFor d r ops → StandsFor d r' ops
+    → IsNamesystemOf d r ops → IsNamesystemOf d r' ops
 ask-stands d r r' user a result ops same asks s =
     let k = asks-keep (names_of r) user a result (names_of r') asks in
     record {
       used = s.used;
-      store = subst (λ (x : store.StoreState). store.StandsFor d x s.used ops) (sym same) s.store;
+      store = subst (λ (x : store.StoreState). store.IsNameStoreOf d x s.used ops) (sym same) s.store;
       below = below-more (next_id (names_of r)) (next_id (names_of r')) s.used k.below s.below;
       free = k.free s.used s.below s.free;
     }

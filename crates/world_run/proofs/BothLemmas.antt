@@ -7,9 +7,9 @@ use Rattle.key_rows.specs.Records.{spelling}
 use Rattle.key_rows.specs.declared.rows.KeyCommand.{KeyCommand}
 use Rattle.edit_ops.specs.Records.{spelling as op_spelling}
 use Rattle.edit_ops.specs.declared.ops.EditOp.{EditOp}
-use Rattle.kms_store.specs.Store.{IsLeftOf, NoCommand, StandsFor, StoreState}
+use Rattle.kms_store.specs.Store.{IsLeftOf, NoCommand, IsKeyStoreOf, StoreState}
 use Rattle.name_store.specs.Store.{IsLeftOf as IsLeftOfNames, NothingMore, made_with}
-use Rattle.name_core.specs.State.{RunningNames, StandsFor as NamesStandFor}
+use Rattle.name_core.specs.State.{RunningNames, IsNamesystemOf}
 use Rattle.world_run.specs.Acknowledged.{Acknowledged, HoldsLogs, LeavesBoth, RunBoth, also}
 use Rattle.world_run.specs.Does.{OnKeys, OnNames}
 use Rattle.world_run.specs.Linked.{ServicesFit}
@@ -22,22 +22,22 @@ use Rattle.name_store.proofs.Layers.{left_by_store as left_by_names}
 
 -- the records of the other log
 
-pub keys-beside : (old new : DiskState) (store : StoreState) (commands : List KeyCommand) → store.log.file ≡ 0 → RunOn 1 old new → Tells old → StandsFor old store commands → StandsFor new store commands
-keys-beside old new store commands of_file run told s = record {
+pub keys-beside : (old new : DiskState) (store : StoreState) (commands : List KeyCommand) → store.log.file ≡ 0 → RunOn 1 old new → Tells old → IsKeyStoreOf old store commands → IsKeyStoreOf new store commands
+keys-beside old new store commands of_file run telling s = record {
   spelled = s.spelled;
   makes = s.makes;
   waits = s.waits;
-  log = other_stands 1 old new store.log (map spelling commands) (option_map spelling store.pending) run of_file told s.log;
+  log = other_stands 1 old new store.log (map spelling commands) (option_map spelling store.pending) run of_file telling s.log;
 }
 
-pub names-beside : (old new : DiskState) (r : RunningNames) (ops : List EditOp) → r.store.log.log.file ≡ 1 → RunOn 0 old new → Tells old → NamesStandFor old r ops → NamesStandFor new r ops
-names-beside old new r ops of_file run told s = record {
+pub names-beside : (old new : DiskState) (r : RunningNames) (ops : List EditOp) → r.store.log.log.file ≡ 1 → RunOn 0 old new → Tells old → IsNamesystemOf old r ops → IsNamesystemOf new r ops
+names-beside old new r ops of_file run telling s = record {
   used = s.used;
   store = record {
     log = record {
       spelled = s.store.log.spelled;
       waits = s.store.log.waits;
-      log = other_stands 0 old new r.store.log.log (map op_spelling ops) (option_map op_spelling r.store.log.pending) run of_file told s.store.log.log;
+      log = other_stands 0 old new r.store.log.log (map op_spelling ops) (option_map op_spelling r.store.log.pending) run of_file telling s.store.log.log;
     };
     makes = s.store.makes;
     waits = s.store.waits;
@@ -81,21 +81,21 @@ pub names-now : (d : DiskState) (r : RunningWorld) (own : Bool → EditOp → Ty
 names-now d r own done of_file s bytes left = own-weaker NothingMore own r.names s.names.used done.names bytes (λ k op none. absurd none) (left_by_names d r.names.store s.names.used done.names of_file s.names.store bytes left)
 
 pub on-keys-leaves : (old new : DiskState) (r : RunningWorld) (own_keys : Bool → KeyCommand → Type 0) (own : Bool → EditOp → Type 0) → r.names.store.log.log.file ≡ 1
-    → ((commands : List KeyCommand) → StandsFor old r.keys.store commands → LeavesOnly 0 old new (IsLeftOf r.keys.store.table.keys r.keys.store.pending own_keys commands)) → LeavesLogs old new r own_keys own
+    → ((commands : List KeyCommand) → IsKeyStoreOf old r.keys.store commands → LeavesOnly 0 old new (IsLeftOf r.keys.store.table.keys r.keys.store.pending own_keys commands)) → LeavesLogs old new r own_keys own
 on-keys-leaves old new r own_keys own of_file moments done s =
     leaves-keys old new (IsLeftOf r.keys.store.table.keys r.keys.store.pending own_keys done.keys) (IsLeftOfBoth r own_keys own done s.names.used)
     (λ c here other. record { keys = here; names = names-now old r own done of_file s (c 1) other }) (moments done.keys s.keys)
 
 pub on-names-leaves : (old new : DiskState) (r : RunningWorld) (own_keys : Bool → KeyCommand → Type 0) (own : Bool → EditOp → Type 0) → r.keys.store.log.file ≡ 0 → ServicesFit (world_of r)
-    → ((ops : List EditOp) (s : NamesStandFor old r.names ops) → LeavesOnly 1 old new (IsLeftOfNames (made_with r.names.store s.used) r.names.store.log.pending own ops)) → LeavesLogs old new r own_keys own
+    → ((ops : List EditOp) (s : IsNamesystemOf old r.names ops) → LeavesOnly 1 old new (IsLeftOfNames (made_with r.names.store s.used) r.names.store.log.pending own ops)) → LeavesLogs old new r own_keys own
 on-names-leaves old new r own_keys own of_file fit moments done s =
     leaves-names old new (IsLeftOfNames (made_with r.names.store s.names.used) r.names.store.log.pending own done.names) (IsLeftOfBoth r own_keys own done s.names.used)
     (λ c here other. record { keys = keys-now old r own_keys done of_file fit s (c 0) other; names = here }) (moments done.names s.names)
 
 pub one-leaves : (old new : DiskState) (r r' : RunningWorld) (own_keys : Bool → KeyCommand → Type 0) (own : Bool → EditOp → Type 0) (logged : Acknowledged) → r.keys.store.log.file ≡ 0 → r.names.store.log.log.file ≡ 1 → ServicesFit (world_of r)
     → OnKeys old new r r' own_keys logged ⊎ OnNames old new r r' own logged → Tells old → LeavesLogs old new r own_keys own
-one-leaves old new r r' own_keys own logged keys_file names_file fit (inl k) told = on-keys-leaves old new r own_keys own names_file (k.log.moments told)
-one-leaves old new r r' own_keys own logged keys_file names_file fit (inr n) told = on-names-leaves old new r own_keys own keys_file fit (n.log.moments told)
+one-leaves old new r r' own_keys own logged keys_file names_file fit (inl k) telling = on-keys-leaves old new r own_keys own names_file (k.log.moments telling)
+one-leaves old new r r' own_keys own logged keys_file names_file fit (inr n) telling = on-names-leaves old new r own_keys own keys_file fit (n.log.moments telling)
 
 pub one-runs : (old new : DiskState) (r r' : RunningWorld) (own_keys : Bool → KeyCommand → Type 0) (own : Bool → EditOp → Type 0) (logged : Acknowledged) → OnKeys old new r r' own_keys logged ⊎ OnNames old new r r' own logged → RunBoth old new
 one-runs old new r r' own_keys own logged (inl k) = both-of 0 old new k.log.run
@@ -105,17 +105,17 @@ one-runs old new r r' own_keys own logged (inr n) = both-of 1 old new n.log.run
 
 pub one-holds : (old new : DiskState) (r r' : RunningWorld) (own_keys : Bool → KeyCommand → Type 0) (own : Bool → EditOp → Type 0) (logged : Acknowledged) → r.keys.store.log.file ≡ 0 → r.names.store.log.log.file ≡ 1
     → OnKeys old new r r' own_keys logged ⊎ OnNames old new r r' own logged → Tells old → (done : Acknowledged) → HoldsLogs old r done → HoldsLogs new r' (also done logged)
-one-holds old new r r' own_keys own logged keys_file names_file (inl k) told done s =
+one-holds old new r r' own_keys own logged keys_file names_file (inl k) telling done s =
     subst (λ (l : Acknowledged). HoldsLogs new r' (also done l)) (sym k.logged_is)
     (record {
-      keys = k.log.stands told done.keys s.keys;
-      names = subst (λ (q : RunningNames). NamesStandFor new q (done.names ++ [])) (sym k.names)
-          (subst (NamesStandFor new r.names) (sym (append-nil done.names)) (names-beside old new r.names done.names names_file k.log.run told s.names));
+      keys = k.log.stands telling done.keys s.keys;
+      names = subst (λ (q : RunningNames). IsNamesystemOf new q (done.names ++ [])) (sym k.names)
+          (subst (IsNamesystemOf new r.names) (sym (append-nil done.names)) (names-beside old new r.names done.names names_file k.log.run telling s.names));
     })
-one-holds old new r r' own_keys own logged keys_file names_file (inr n) told done s =
+one-holds old new r r' own_keys own logged keys_file names_file (inr n) telling done s =
     subst (λ (l : Acknowledged). HoldsLogs new r' (also done l)) (sym n.logged_is)
     (record {
-      keys = subst (λ (q : _). StandsFor new q.store (done.keys ++ [])) (sym n.keys)
-          (subst (StandsFor new r.keys.store) (sym (append-nil done.keys)) (keys-beside old new r.keys.store done.keys keys_file n.log.run told s.keys));
-      names = n.log.stands told done.names s.names;
+      keys = subst (λ (q : _). IsKeyStoreOf new q.store (done.keys ++ [])) (sym n.keys)
+          (subst (IsKeyStoreOf new r.keys.store) (sym (append-nil done.keys)) (keys-beside old new r.keys.store done.keys keys_file n.log.run telling s.keys));
+      names = n.log.stands telling done.names s.names;
     })

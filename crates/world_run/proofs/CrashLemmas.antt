@@ -9,7 +9,7 @@ use Rattle.name_calls.specs.Paths.{read_path}
 use Rattle.name_calls.specs.ReadPaths.{read_any_path}
 use Rattle.key_rows.specs.declared.rows.KeyCommand.{KeyCommand}
 use Rattle.prop_text.specs.declared.lines.PropLine.{PropLine}
-use Rattle.kms_acls.specs.StandsFor.{StandsFor as ListsFor}
+use Rattle.kms_acls.specs.Agreement.{AreListsOf}
 use Rattle.kms_core.specs.State.{settled}
 use Rattle.kms_store.specs.Replay.{HasRoomForBirths}
 use Rattle.kms_store.specs.Store.{IsSoundLog, NoCommand, settled_commands, settled_table}
@@ -100,9 +100,9 @@ left-sound d r after own_keys own fit files owns done s c left =
 pub survives-through : (old new : DiskState) (r : RunningWorld) (after : Hidden → Hidden) (own_keys : Bool → KeyCommand → Type 0) (own : Bool → EditOp → Type 0) → ServicesFit (world_of r)
     → ((h : Hidden) → LinkedWorld (world_of r) h → LinkedFiles (world_of r) (after h).ledger (after h).place) → ((h : Hidden) → LinkedWorld (world_of r) h → OwnLinks (world_of r) (after h).ledger own)
     → (Tells old → LeavesLogs old new r own_keys own) → SurvivesThrough old new r (λ done c. Survives (world_of r) done own_keys own c × SoundFrom (LinkedWorld (world_of r)) after c)
-survives-through old new r after own_keys own fit files owns moments told done s =
+survives-through old new r after own_keys own fit files owns moments telling done s =
     leaves-weaker old new (IsLeftOfBoth r own_keys own done s.names.used) (λ c. Survives (world_of r) done own_keys own c × SoundFrom (LinkedWorld (world_of r)) after c)
-    (λ c left. left-sound old r after own_keys own fit files owns done s c left) (moments told done s)
+    (λ c left. left-sound old r after own_keys own fit files owns done s c left) (moments telling done s)
 
 pub rests-now : (d : DiskState) (r : RunningWorld) → r.keys.store.log.file ≡ 0 → r.names.store.log.log.file ≡ 1 → ServicesFit (world_of r) → RestsNow d r
 rests-now d r keys_file names_file fit done s c image =
@@ -110,13 +110,13 @@ rests-now d r keys_file names_file fit done s c image =
 
 -- a record that an event may write keeps the files linked, with the ledger after it
 
-finish-owns : (w : WorldState) (h : Hidden) (words : ℕ → ℕ) (drawn number : ℕ) (reply : Option KeptReply) (fault : Type 0) (told : Line) (logged : Acknowledged) (w' : WorldState) → numbered w.kept.replies number ≡ reply
-    → FinishReply w reply fault told drawn logged w' → ServicesFit w → LinkedWorld w h → OwnLinks w (hidden_after w words (event.Finish number) told drawn w' h).ledger (OwnOfReply w.names reply told w'.names)
-finish-owns w h words drawn number None fault told logged w' at acts fit l = λ kept op own. absurd own
-finish-owns w h words drawn number (Some (ToAsk ask_id answer)) fault told logged w' at acts fit l = λ kept op own may.
-    subst (λ (v : WorldState). FilesLinked (hidden_after w words (event.Finish number) told drawn v h).ledger w.keys.keys.table.rows (after_table (settled_names kept w.names).table op)) (sym acts.left)
-    (subst (λ (x : Line). FilesLinked (hidden_after w words (event.Finish number) x drawn (record w { names = acts.names }) h).ledger w.keys.keys.table.rows (after_table (settled_names kept w.names).table op)) (sym acts.told_is)
-    (own-of-finish w h words drawn number ask_id answer fault acts.result acts.ops acts.names acts.finishes at fit l kept op (by-result own.result own.told_is own.own) may))
+finish-owns : (w : WorldState) (h : Hidden) (words : ℕ → ℕ) (drawn number : ℕ) (reply : Option KeptReply) (fault : Type 0) (outcome : Line) (logged : Acknowledged) (w' : WorldState) → numbered w.kept.replies number ≡ reply
+    → FinishReply w reply fault outcome drawn logged w' → ServicesFit w → LinkedWorld w h → OwnLinks w (hidden_after w words (event.Finish number) outcome drawn w' h).ledger (OwnOfReply w.names reply outcome w'.names)
+finish-owns w h words drawn number None fault outcome logged w' at acts fit l = λ kept op own. absurd own
+finish-owns w h words drawn number (Some (ToAsk ask_id answer)) fault outcome logged w' at acts fit l = λ kept op own may.
+    subst (λ (v : WorldState). FilesLinked (hidden_after w words (event.Finish number) outcome drawn v h).ledger w.keys.keys.table.rows (after_table (settled_names kept w.names).table op)) (sym acts.left)
+    (subst (λ (x : Line). FilesLinked (hidden_after w words (event.Finish number) x drawn (record w { names = acts.names }) h).ledger w.keys.keys.table.rows (after_table (settled_names kept w.names).table op)) (sym acts.reply_is)
+    (own-of-finish w h words drawn number ask_id answer fault acts.result acts.ops acts.names acts.finishes at fit l kept op (by-result own.result own.reply_is own.own) may))
   where
     one-result : (a b : Result (Unit {0}) NameRefusal) → finish_line a ≡ finish_line b → a ≡ b
     one-result (Ok u) (Ok v) is = refl
@@ -124,22 +124,24 @@ finish-owns w h words drawn number (Some (ToAsk ask_id answer)) fault told logge
     one-result (Ok u) (Err why) is = absurd (cc is)
     one-result (Err why) (Ok u) is = absurd (cc is)
 
-    by-result : (result : Result (Unit {0}) NameRefusal) → told ≡ finish_line result → {kept : Bool} {op : EditOp} → OwnOfFinish w.names ask_id answer result w'.names kept op
+    by-result : (result : Result (Unit {0}) NameRefusal) → outcome ≡ finish_line result → {kept : Bool} {op : EditOp} → OwnOfFinish w.names ask_id answer result w'.names kept op
         → OwnOfFinish w.names ask_id answer acts.result acts.names kept op
     by-result result is {kept} {op} o =
-        subst (λ (r : Result (Unit {0}) NameRefusal). OwnOfFinish w.names ask_id answer r acts.names kept op) (one-result result acts.result (sym is ∙ acts.told_is))
+        subst (λ (r : Result (Unit {0}) NameRefusal). OwnOfFinish w.names ask_id answer r acts.names kept op) (one-result result acts.result (sym is ∙ acts.reply_is))
         (subst (λ (v : WorldState). OwnOfFinish w.names ask_id answer result v.names kept op) acts.left o)
 
-event-owns : (lines : List PropLine) (w : WorldState) (words : ℕ → ℕ) (now : ℕ) (e : Event) (fault tells : Type 0) (told : Line) (drawn : ℕ) (logged : Acknowledged) (w' : WorldState) (h : Hidden) → ServicesFit w
-    → Step lines w words now e fault tells told drawn logged w' → LinkedWorld w h → OwnLinks w (hidden_after w words e told drawn w' h).ledger (OwnOfEvent w e told w')
-event-owns lines w words now e fault tells told drawn logged w' h fit step l = go e step
+event-owns : (lines : List PropLine) (w : WorldState) (words : ℕ → ℕ) (now : ℕ) (e : Event) (fault tells : Type 0) (outcome : Line) (drawn : ℕ) (logged : Acknowledged) (w' : WorldState) (h : Hidden) → ServicesFit w
+    → Step lines w words now e fault tells outcome drawn logged w' → LinkedWorld w h → OwnLinks w (hidden_after w words e outcome drawn w' h).ledger (OwnOfEvent w e outcome w')
+event-owns lines w words now e fault tells outcome drawn logged w' h fit step l = go e step
   where
-    by-path : {X : Type 0} (c : X → NameCall) (read : Option X) → OwnLinks w h.ledger (OwnOfPath w.names c read told w'.names)
+    by-path : {X : Type 0} (c : X → NameCall) (read : Option X) → OwnLinks w h.ledger (OwnOfPath w.names c read outcome w'.names)
     by-path c None = λ kept op own. absurd own
-    by-path c (Some read) = own-of-call w h (c read) told w'.names fit l
+    by-path c (Some read) = own-of-call w h (c read) outcome w'.names fit l
 
-    go : (x : Event) → Step lines w words now x fault tells told drawn logged w' → OwnLinks w (hidden_after w words x told drawn w' h).ledger (OwnOfEvent w x told w')
+    go : (x : Event) → Step lines w words now x fault tells outcome drawn logged w' → OwnLinks w (hidden_after w words x outcome drawn w' h).ledger (OwnOfEvent w x outcome w')
     go (event.Kms user c) s = own-of-nothing w h
+    go event.Ticket s = own-of-nothing w h
+    go (event.Deposit number) s = λ kept op own. absurd own
     go event.RestartKms s = own-of-nothing w h
     go event.RestartName s = own-of-opening w h fit l
     go (event.Mkdir user path) s = by-path call.Mkdir (read_path path)
@@ -151,51 +153,51 @@ event-owns lines w words now e fault tells told drawn logged w' h fit step l = g
     go (event.Disallow user path) s = by-path call.Disallow (read_path path)
     go (event.Snap user path name) s = by-path snap_at (read_snap_path path name)
     go (event.Unsnap user path name) s = by-path unsnap_at (read_snap_path path name)
-    go (event.Zones user) s = own-of-call w h call.Zones told w'.names fit l
+    go (event.Zones user) s = own-of-call w h call.Zones outcome w'.names fit l
     go (event.AskCreate user path) s = own-of-nothing w h
     go (event.AskZone user path key) s = own-of-nothing w h
     go (event.Draw number) s = λ kept op own. absurd own
-    go (event.Finish number) s = finish-owns w h words drawn number (numbered w.kept.replies number) fault told logged w' refl s fit l
+    go (event.Finish number) s = finish-owns w h words drawn number (numbered w.kept.replies number) fault outcome logged w' refl s fit l
 
 -- an event
 
-pub steps : (lines : List PropLine) (old new : DiskState) (r : RunningWorld) (words : ℕ → ℕ) (now : ℕ) (e : Event) (told : Line) (r' : RunningWorld) (words' : ℕ → ℕ) → r.keys.store.log.file ≡ 0 → r.names.store.log.log.file ≡ 1
-    → ServicesFit (world_of r) → r'.keys.store.log.file ≡ 0 → r'.names.store.log.log.file ≡ 1 → ServicesFit (world_of r') → Happens lines old new r words now e told r' words' → Steps lines old new r words now e told r' words'
-steps lines old new r words now e told r' words' keys_file names_file fit keys_file' names_file' fit' does = record {
+pub steps : (lines : List PropLine) (old new : DiskState) (r : RunningWorld) (words : ℕ → ℕ) (now : ℕ) (e : Event) (outcome : Line) (r' : RunningWorld) (words' : ℕ → ℕ) → r.keys.store.log.file ≡ 0 → r.names.store.log.log.file ≡ 1
+    → ServicesFit (world_of r) → r'.keys.store.log.file ≡ 0 → r'.names.store.log.log.file ≡ 1 → ServicesFit (world_of r') → Happens lines old new r words now e outcome r' words' → Steps lines old new r words now e outcome r' words'
+steps lines old new r words now e outcome r' words' keys_file names_file fit keys_file' names_file' fit' does = record {
   drawn = does.drawn;
   logged = does.logged;
   step = record {
     step = does.acts;
     linked = linked;
-    files_open = λ knows h l. linked-promise (world_of r') (hidden_after (world_of r) words e told does.drawn (world_of r') h) fit'.keys (linked knows h l);
-    draws_apart = λ knows h l. draws-stay lines (world_of r) words now e (Rose old.faults new.faults) (Tells old) told does.drawn does.logged (world_of r') h knows fit does.acts l;
+    files_open = λ knows h l. linked-promise (world_of r') (hidden_after (world_of r) words e outcome does.drawn (world_of r') h) fit'.keys (linked knows h l);
+    draws_apart = λ knows h l. draws-stay lines (world_of r) words now e (Rose old.faults new.faults) (Tells old) outcome does.drawn does.logged (world_of r') h knows fit does.acts l;
   };
   rest = does.rest;
   stands = one-holds old new r r' own_keys own does.logged keys_file names_file does.disk;
-  survives = survives-through old new r (hidden_after (world_of r) words e told does.drawn (world_of r')) own_keys own fit
-      (λ h l. event-files lines (world_of r) words now e (Rose old.faults new.faults) (Tells old) told does.drawn does.logged (world_of r') h fit does.acts l)
-      (λ h l. event-owns lines (world_of r) words now e (Rose old.faults new.faults) (Tells old) told does.drawn does.logged (world_of r') h fit does.acts l) moments;
+  survives = survives-through old new r (hidden_after (world_of r) words e outcome does.drawn (world_of r')) own_keys own fit
+      (λ h l. event-files lines (world_of r) words now e (Rose old.faults new.faults) (Tells old) outcome does.drawn does.logged (world_of r') h fit does.acts l)
+      (λ h l. event-owns lines (world_of r) words now e (Rose old.faults new.faults) (Tells old) outcome does.drawn does.logged (world_of r') h fit does.acts l) moments;
   rests = rests-now new r' keys_file' names_file' fit';
   run = one-runs old new r r' own_keys own does.logged does.disk;
   lists = does.lists;
 }
   where
     own_keys : Bool → KeyCommand → Type 0
-    own_keys = OwnKeysOfEvent (world_of r) words now e told (world_of r')
+    own_keys = OwnKeysOfEvent (world_of r) words now e outcome (world_of r')
 
     own : Bool → EditOp → Type 0
-    own = OwnOfEvent (world_of r) e told (world_of r')
+    own = OwnOfEvent (world_of r) e outcome (world_of r')
 
     moments : Tells old → LeavesLogs old new r own_keys own
     moments = one-leaves old new r r' own_keys own does.logged keys_file names_file fit does.disk
 
-    linked : KnowsWorld e (Tells old) → (h : Hidden) → LinkedWorld (world_of r) h → LinkedWorld (world_of r') (hidden_after (world_of r) words e told does.drawn (world_of r') h)
-    linked knows h l = keeps-linked lines (world_of r) words now e (Rose old.faults new.faults) (Tells old) told does.drawn does.logged (world_of r') h knows fit does.acts l
+    linked : KnowsWorld e (Tells old) → (h : Hidden) → LinkedWorld (world_of r) h → LinkedWorld (world_of r') (hidden_after (world_of r) words e outcome does.drawn (world_of r') h)
+    linked knows h l = keeps-linked lines (world_of r) words now e (Rose old.faults new.faults) (Tells old) outcome does.drawn does.logged (world_of r') h knows fit does.acts l
 
 -- the answer of step, by the event that happened
 pub step-result : (old new : DiskState) (r : RunningWorld) (words : ℕ → ℕ) (now : ℕ) (e : Event) (result : Result Line WorldFault) (r' : RunningWorld) (words' : ℕ → ℕ) → r.keys.store.log.file ≡ 0 → r.names.store.log.log.file ≡ 1
     → ServicesFit (world_of r) → r'.keys.store.log.file ≡ 0 → r'.names.store.log.log.file ≡ 1 → ServicesFit (world_of r')
-    → MatchResult result (λ told. (lines : List PropLine) → ListsFor r.keys.acls lines → Happens lines old new r words now e told r' words') (λ fault. Fails old new r words e fault.file fault.fault r' words')
-    → MatchResult result (λ told. (lines : List PropLine) → ListsFor r.keys.acls lines → Steps lines old new r words now e told r' words') (λ fault. Fails old new r words e fault.file fault.fault r' words')
-step-result old new r words now e (Ok told) r' words' keys_file names_file fit keys_file' names_file' fit' happens = λ lines lists. steps lines old new r words now e told r' words' keys_file names_file fit keys_file' names_file' fit' (happens lines lists)
+    → MatchResult result (λ outcome. (lines : List PropLine) → AreListsOf r.keys.acls lines → Happens lines old new r words now e outcome r' words') (λ fault. Fails old new r words e fault.file fault.fault r' words')
+    → MatchResult result (λ outcome. (lines : List PropLine) → AreListsOf r.keys.acls lines → Steps lines old new r words now e outcome r' words') (λ fault. Fails old new r words e fault.file fault.fault r' words')
+step-result old new r words now e (Ok outcome) r' words' keys_file names_file fit keys_file' names_file' fit' happens = λ lines lists. steps lines old new r words now e outcome r' words' keys_file names_file fit keys_file' names_file' fit' (happens lines lists)
 step-result old new r words now e (Err fault) r' words' keys_file names_file fit keys_file' names_file' fit' fails = fails

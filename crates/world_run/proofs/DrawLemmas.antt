@@ -1,7 +1,7 @@
 -- The answer of a draw for an ask, and the key that the drawn key opens to.
 use Rattle.std.proofs.Common.{◌≡◌, ◌⊎◌, inl, inr, ℕ, ◌+◌, ◌-◌, ◌^◌, ◌*◌, ◌/◌, ◌<◌, ◌≤◌, Bool, true, false, cond, List, [], ◌∷◌, ◌++◌, length, take, Option, Some, None, is_none, find, refl, sym, ap, subst, ◌∙◌, arith}
-use Rattle.std.specs.Prelude.{nat_lt, ◌≢◌, slice_get}
-use Rattle.std.specs.List.{AllByRecursion}
+use Rattle.std.specs.Prelude.{nat_lt, ◌≢◌, drop, slice_get}
+use Rattle.eek_queues.specs.Queues.{ready_in}
 use Rattle.std.specs.Option.{option_map, option_and_then}
 use Rattle.std.specs.Str.{bytes_eq}
 use Rattle.std.proofs.lemmas.Slice.Eq.{bytes_eq-Decides}
@@ -28,6 +28,8 @@ use Rattle.name_calls.specs.Answers.{answer_of}
 use Rattle.world_run.specs.Ledger.{draw_of}
 use Rattle.world_run.specs.Linked.{OpensTo, given}
 use Rattle.world_run.specs.Promise.{In}
+use Rattle.world_run.proofs.Members.{each-in, found-in}
+use Rattle.world_run.proofs.QueueLaters.{handed-ready}
 
 -- members of a table of keys
 
@@ -36,7 +38,7 @@ rising-above low top [] r x i = absurd i
 rising-above low top (y ∷ ys) r x (inl is) = subst (λ (z : KeyRow). low < z.birth) (sym is) r.0
 rising-above low top (y ∷ ys) r x (inr i) = let h = rising-above y.birth top ys r.1 x i in omega (arith, h, r.0)
 
-rising-once : (low top : ℕ) (rows : List KeyRow) → Rising low rows top → (x y : KeyRow) → In x rows → In y rows → x.birth ≡ y.birth → x ≡ y
+pub rising-once : (low top : ℕ) (rows : List KeyRow) → Rising low rows top → (x y : KeyRow) → In x rows → In y rows → x.birth ≡ y.birth → x ≡ y
 rising-once low top [] r x y i j same = absurd i
 rising-once low top (z ∷ zs) r x y (inl a) (inl b) same = a ∙ sym b
 rising-once low top (z ∷ zs) r x y (inl a) (inr j) same =
@@ -45,21 +47,8 @@ rising-once low top (z ∷ zs) r x y (inr i) (inl b) same =
     let h = rising-above z.birth top zs r.1 x i in absurd (omega (arith, h, same, ap (λ (k : KeyRow). k.birth) b))
 rising-once low top (z ∷ zs) r x y (inr i) (inr j) same = rising-once z.birth top zs r.1 x y i j same
 
-found-in : (k : List ℕ) (rows : List KeyRow) (row : KeyRow) → find (is_named k) rows ≡ Some row → In row rows
-found-in k [] row h = absurd cc
-found-in k (y ∷ ys) row h = go (is_named k y) (found-in k ys row) h
-  where
-    go : (b : Bool) → (find (is_named k) ys ≡ Some row → In row ys) → cond b (Some y) (find (is_named k) ys) ≡ Some row → In row (y ∷ ys)
-    go true ih h = let is : y ≡ row = cc in inl (sym is)
-    go false ih h = inr (ih h)
-
 same-bytes : (a b : List ℕ) → bytes_eq a b ≡ true → a ≡ b
 same-bytes a b h = (bytes_eq-Decides a b).0 h
-
-each-in : (P : KeyRow → Type 0) (rows : List KeyRow) (x : KeyRow) → AllByRecursion P rows → In x rows → P x
-each-in P [] x h i = absurd i
-each-in P (y ∷ ys) x h (inl is) = subst P (sym is) h.0
-each-in P (y ∷ ys) x h (inr i) = each-in P ys x h.1 i
 
 -- a row is found under its name
 only-named : (k : List ℕ) (rows : List KeyRow) (row : KeyRow) → NamesOnce rows → In row rows → is_named k row ≡ true → find_name rows k ≡ Some row
@@ -114,28 +103,38 @@ opens-alone rows row e dek found named h = alone _ rows row e.version dek found 
 -- a metadata that was wanted
 
 abbrev NoKeyGiven : KmsReply → Type 0
-NoKeyGiven told = given (answer_of (Some told)) ≡ None
+NoKeyGiven result = given (answer_of (Some result)) ≡ None
 
-pub meta-answers : (s : KmsState) (words : ℕ → ℕ) (now : ℕ) (name : List ℕ) (told : KmsReply) (drawn : ℕ) (s' : KmsState)
-    → KmsActs s words now (call.Metadata name) told drawn s' → given (answer_of (Some told)) ≡ None
-meta-answers s words now name told drawn s' (NoRoom some, may, is) = subst NoKeyGiven (sym (ap (λ o. o.told) is)) refl
-meta-answers s words now name told drawn s' (Plain, may, is) = subst NoKeyGiven (sym (ap (λ o. o.told) is)) (go (first_cause (causes s (call.Metadata name))))
+pub meta-answers : (s : KmsState) (words : ℕ → ℕ) (now : ℕ) (name : List ℕ) (result : KmsReply) (drawn : ℕ) (s' : KmsState)
+    → KmsActs s words now (call.Metadata name) result drawn s' → given (answer_of (Some result)) ≡ None
+meta-answers s words now name result drawn s' (NoRoom some, may, is) = subst NoKeyGiven (sym (ap (λ o. o.reply) is)) refl
+meta-answers s words now name result drawn s' (Plain, may, is) = subst NoKeyGiven (sym (ap (λ o. o.reply) is)) (go (first_cause (causes s (call.Metadata name))))
   where
-    go : (o : Option KmsRefusal) → NoKeyGiven (unless_refused o s (deed s words now (call.Metadata name))).told
+    go : (o : Option KmsRefusal) → NoKeyGiven (unless_refused o s (deed s words now (call.Metadata name))).reply
     go (Some why) = refl
     go None = refl
 
 -- a generate of one key that was wanted
 
+-- the first ready key of the queue
+pub record OneTaken (s : KmsState) (name : List ℕ) (e : Edek) (s' : KmsState) : Type 0 where
+  pub stands : is_none (row_of s name) ≡ false
+  pub rest : List Edek
+  pub first : ready_of s name ≡ e ∷ rest
+  pub left : ready_in s'.ready.queues (birth_of (row_of s name)) ≡ drop 1 (ready_of s name)
+  pub same : s'.table ≡ s.table
+
+-- or a key that is drawn
 pub record OneDrawn (s : KmsState) (words : ℕ → ℕ) (name : List ℕ) (e : Edek) (drawn : ℕ) (s' : KmsState) : Type 0 where
+  pub none : ready_of s name ≡ []
   pub stands : is_none (row_of s name) ≡ false
   pub drawn_is : e ≡ drawn_edek (current_version (row_of s name)) (current_material s name) words 0
   pub same : s'.table ≡ s.table
   pub took : drawn ≡ words_of_draw (length (current_material s name))
 
 abbrev pub Generated : KmsState → (ℕ → ℕ) → List ℕ → KmsReply → ℕ → KmsState → Type 0
-Generated s words name told drawn s' =
-    ((why : KmsRefusal) × (told ≡ reply.Refused why)) ⊎ ((e : Edek) × (told ≡ reply.Ready (e ∷ [])) × OneDrawn s words name e drawn s')
+Generated s words name result drawn s' =
+    ((why : KmsRefusal) × (result ≡ reply.Refused why)) ⊎ ((e : Edek) × (result ≡ reply.Ready (e ∷ [])) × (OneTaken s name e s' ⊎ OneDrawn s words name e drawn s'))
 
 stands-free : (b : Bool) (why : KmsRefusal) (rest : List (Bool × KmsRefusal)) → first_cause ((b, why) ∷ rest) ≡ None → b ≡ false
 stands-free true why rest h = absurd cc
@@ -147,25 +146,52 @@ first-place n = grind arith
 second-place : (n : ℕ) → place_of_draw n 1 ≡ words_of_draw n
 second-place n = grind arith
 
-pub generate-one : (s : KmsState) (words : ℕ → ℕ) (now : ℕ) (name : List ℕ) (told : KmsReply) (drawn : ℕ) (s' : KmsState) → ready_of s name ≡ []
-    → KmsActs s words now (call.Generate name 1) told drawn s' → Generated s words name told drawn s'
-generate-one s words now name told drawn s' none (NoRoom some, may, is) = inl (_, ap (λ o. o.told) is)
-generate-one s words now name told drawn s' none (Plain, may, is) = go (first_cause (generate_causes (row_of s name) 1)) refl is
+pub generate-one : (s : KmsState) (words : ℕ → ℕ) (now : ℕ) (name : List ℕ) (result : KmsReply) (drawn : ℕ) (s' : KmsState)
+    → KmsActs s words now (call.Generate name 1) result drawn s' → Generated s words name result drawn s'
+generate-one s words now name result drawn s' (NoRoom some, may, is) = inl (_, ap (λ o. o.reply) is)
+generate-one s words now name result drawn s' (Plain, may, is) = go (first_cause (generate_causes (row_of s name) 1)) refl is
   where
-    go : (o : Option KmsRefusal) → first_cause (generate_causes (row_of s name) 1) ≡ o
-        → (record { told = told; drawn = drawn; state = s' }) ≡ unless_refused o s (generated s words name 1) → Generated s words name told drawn s'
-    go (Some why) cause is = inl (why, ap (λ o. o.told) is)
-    go None cause is =
+    version : VersionName
+    version = current_version (row_of s name)
+
+    material : Dek
+    material = current_material s name
+
+    answer : List Edek → KmsReply
+    answer ready = reply.Ready (take 1 ready ++ drawn_edeks version material words (1 - length ready))
+
+    by-ready : (ready : List Edek) → ready_of s name ≡ ready → first_cause (generate_causes (row_of s name) 1) ≡ None
+        → (record { reply = result; drawn = drawn; state = s' }) ≡ unless_refused None s (generated s words name 1) → Generated s words name result drawn s'
+    by-ready [] none cause is =
         inr (
-          drawn_edek (current_version (row_of s name)) (current_material s name) words (place_of_draw (length (current_material s name)) 0),
-          ap (λ o. o.told) is ∙ ap (λ (waiting : List Edek). reply.Ready (take 1 waiting ++ drawn_edeks (current_version (row_of s name)) (current_material s name) words (1 - length waiting))) none,
-          record {
+          drawn_edek version material words (place_of_draw (length material) 0),
+          ap (λ o. o.reply) is ∙ ap answer none,
+          inr (record {
+            none = none;
             stands = stands-free (is_none (row_of s name)) NoSuchKey ((nat_lt 1000 1, TooManyAsked) ∷ []) cause;
-            drawn_is = ap (drawn_edek (current_version (row_of s name)) (current_material s name) words) (first-place (length (current_material s name)));
+            drawn_is = ap (drawn_edek version material words) (first-place (length material));
             same = ap (λ o. o.state.table) is;
-            took = ap (λ o. o.drawn) is ∙ ap (λ (waiting : List Edek). place_of_draw (length (current_material s name)) (1 - length waiting)) none ∙ second-place (length (current_material s name));
-          },
+            took = ap (λ o. o.drawn) is ∙ ap (λ (ready : List Edek). place_of_draw (length material) (1 - length ready)) none ∙ second-place (length material);
+          }),
         )
+    by-ready (e ∷ rest) first cause is =
+        let none : 1 - length (e ∷ rest) ≡ 0 = omega arith in
+        inr (
+          e,
+          ap (λ o. o.reply) is ∙ ap answer first ∙ ap (λ (n : ℕ). reply.Ready (e ∷ drawn_edeks version material words n)) none,
+          inl (record {
+            stands = stands-free (is_none (row_of s name)) NoSuchKey ((nat_lt 1000 1, TooManyAsked) ∷ []) cause;
+            rest = rest;
+            first = first;
+            left = ap (λ o. ready_in o.state.ready.queues (birth_of (row_of s name))) is ∙ handed-ready s.ready (birth_of (row_of s name)) 1;
+            same = ap (λ o. o.state.table) is;
+          }),
+        )
+
+    go : (o : Option KmsRefusal) → first_cause (generate_causes (row_of s name) 1) ≡ o
+        → (record { reply = result; drawn = drawn; state = s' }) ≡ unless_refused o s (generated s words name 1) → Generated s words name result drawn s'
+    go (Some why) cause is = inl (why, ap (λ o. o.reply) is)
+    go None cause is = by-ready (ready_of s name) refl cause is
 
 -- the key that was drawn
 
@@ -179,7 +205,7 @@ pub record FreshKey (s : KmsState) (words : ℕ → ℕ) (place : ℕ) (name : L
   pub born : (draw_of s words place name).birth ≤ s.table.greatest
   pub recent : 2 ^ 32 ≤ (draw_of s words place name).birth
 
-rising-most : (low top : ℕ) (rows : List KeyRow) → Rising low rows top → (x : KeyRow) → In x rows → x.birth ≤ top
+pub rising-most : (low top : ℕ) (rows : List KeyRow) → Rising low rows top → (x : KeyRow) → In x rows → x.birth ≤ top
 rising-most low top [] r x i = absurd i
 rising-most low top (y ∷ ys) r x (inl is) = subst (λ (z : KeyRow). z.birth ≤ top) (sym is) (least y.birth top ys r.1)
   where
@@ -188,9 +214,9 @@ rising-most low top (y ∷ ys) r x (inl is) = subst (λ (z : KeyRow). z.birth �
     least b t (z ∷ zs) r = let h = least z.birth t zs r.1 in omega (arith, h, r.0)
 rising-most low top (y ∷ ys) r x (inr i) = rising-most y.birth top ys r.1 x i
 
-pub fresh-key : (s : KmsState) (words : ℕ → ℕ) (place now : ℕ) (name : List ℕ) (e : Edek) (drawn : ℕ) (s' : KmsState) → IsTable s.table → ready_of s name ≡ []
+pub fresh-key : (s : KmsState) (words : ℕ → ℕ) (place now : ℕ) (name : List ℕ) (e : Edek) (drawn : ℕ) (s' : KmsState) → IsTable s.table
     → KmsActs s words now (call.Generate name 1) (reply.Ready (e ∷ [])) drawn s' → OneDrawn s words name e drawn s' → FreshKey s words place name e
-fresh-key s words place now name e drawn s' table none acts one =
+fresh-key s words place now name e drawn s' table acts one =
     let row = row-stands (row_of s name) one.stands in
     let named : is_named name row.0 ≡ true = found_passes (is_named name) s.table.rows row.0 row.1 in
     let version : e.version ≡ current_of row.0 = ap (λ (k : Edek). k.version) one.drawn_is ∙ ap current_version row.1 in
@@ -198,22 +224,21 @@ fresh-key s words place now name e drawn s' table none acts one =
     let found : find_name s.table.rows e.version.key ≡ Some row.0 = ap (find_name s.table.rows) (key ∙ same-bytes row.0.name name named) ∙ row.1 in
     let opened : unseals s.table.rows e ≡ Some (draw_of s words place name).dek =
     subst (λ (t : Table). unseals t.rows e ≡ Some (dek_of_draw s words name 0)) one.same
-    (generated_opens s words now name 1 (e ∷ []) s' (λ k. words (drawn + k)) table (record { drawn = drawn; acts = acts; rest = λ k. refl }) 0 e (ap (λ (waiting : List Edek). slice_get (e ∷ []) (length waiting + 0)) none))
+    (generated_opens s words now name 1 (e ∷ []) s' (λ k. words (drawn + k)) table (record { drawn = drawn; acts = acts; rest = λ k. refl }) 0 e (ap (λ (ready : List Edek). slice_get (e ∷ []) (length ready + 0)) one.none))
     ∙ ap (λ (n : ℕ). Some (drawn_dek words n (length (current_material s name)))) (first-place (length (current_material s name))) in
     record {
       of_draw = ap (λ (k : Edek). k.version) one.drawn_is;
       opens = λ other i birth.
-          let is : other ≡ row.0 = rising-once 0 s.table.greatest s.table.rows table.births other row.0 i (found-in name s.table.rows row.0 row.1) (birth ∙ ap birth_of row.1) in
+          let is : other ≡ row.0 = rising-once 0 s.table.greatest s.table.rows table.births other row.0 i (found-in (is_named name) s.table.rows row.0 row.1) (birth ∙ ap birth_of row.1) in
           subst (λ (r : KeyRow). unseals (r ∷ []) e ≡ Some (draw_of s words place name).dek) (sym is)
           (opens-alone s.table.rows row.0 e (draw_of s words place name).dek found (ap (λ (k : List ℕ). is_named k row.0) (key ∙ same-bytes row.0.name name named) ∙ named) opened);
-      born = subst (λ (b : ℕ). b ≤ s.table.greatest) (sym (ap birth_of row.1)) (rising-most 0 s.table.greatest s.table.rows table.births row.0 (found-in name s.table.rows row.0 row.1));
-      recent = subst (λ (b : ℕ). 2 ^ 32 ≤ b) (sym (ap birth_of row.1)) (each-in IsRow s.table.rows row.0 table.rows (found-in name s.table.rows row.0 row.1)).born;
+      born = subst (λ (b : ℕ). b ≤ s.table.greatest) (sym (ap birth_of row.1)) (rising-most 0 s.table.greatest s.table.rows table.births row.0 (found-in (is_named name) s.table.rows row.0 row.1));
+      recent = subst (λ (b : ℕ). 2 ^ 32 ≤ b) (sym (ap birth_of row.1)) (each-in IsRow s.table.rows row.0 table.rows (found-in (is_named name) s.table.rows row.0 row.1)).born;
     }
 
 -- its words
-pub words-of-draw : (s : KmsState) (words : ℕ → ℕ) (place : ℕ) (name : List ℕ) → words_of_draw (length (draw_of s words place name).dek) ≡ words_of_draw (length (current_material s name))
-words-of-draw s words place name =
-    let n : ℕ = length (current_material s name) in
+pub words-of-dek : (words : ℕ → ℕ) (n : ℕ) → words_of_draw (length (drawn_dek words 0 n)) ≡ words_of_draw n
+words-of-dek words n =
     let long : length (drawn_bytes words 4 (n / 4)) ≡ 4 * (n / 4) = length-drawn words 4 (n / 4) in
     ap (λ (k : ℕ). 4 + k / 4) long ∙ ap (λ (k : ℕ). 4 + k) (quarter (n / 4))
   where

@@ -1,11 +1,11 @@
 -- The ledger of draws, and the files, after a finish.
 use Rattle.std.proofs.Common.{◌≡◌, ◌⊎◌, inl, inr, ℕ, ◌≤◌, ◌^◌, ◌*◌, ◌<◌, Bool, true, false, cond, not, List, [], ◌∷◌, ◌++◌, Option, Some, None, refl, sym, ap, subst, ◌∙◌, arith}
 use Rattle.std.specs.Prelude.{◌==◌}
-use Rattle.std.specs.List.{AllByRecursion}
 use Rattle.std.proofs.lemmas.Bool.Decides.{nat_tests}
 use Rattle.std.proofs.lemmas.List.{append-nil}
 use Rattle.hk_base.specs.declared.names.Edek.{Edek}
 use Rattle.hk_base.specs.declared.names.VersionName.{VersionName}
+use Rattle.eek_queues.specs.Queues.{Queue}
 use Rattle.key_rows.specs.declared.rows.KeyRow.{KeyRow}
 use Rattle.inode_tree.specs.Rows.{Entry}
 use Rattle.name_store.specs.Table.{NameTable, fits_zone, key_of_zone}
@@ -26,9 +26,10 @@ use Rattle.world_run.specs.declared.kept.KeptReply.TheVariants.{ToAsk}
 use Rattle.world_run.specs.World.{WorldState, numbered}
 use Rattle.world_run.specs.Ledger.{Draw, Hidden, Ledger, entered, entry_under, makes_file}
 use Rattle.world_run.specs.Promise.{In}
-use Rattle.world_run.specs.Linked.{DrawsFit, FilesLinked, HasDraw, IsDrawn, IsOldBirth, IsReplyTo, KeyLinked, LedgerFits, LinkedWorld, Replied, RepliesLinked}
-use Rattle.world_run.proofs.Members.{in-append, in-left, in-right, numbered-in, some-is}
+use Rattle.world_run.specs.Linked.{DrawsFit, FilesLinked, HasDraw, IsDrawn, IsOldBirth, IsReplyTo, KeyLinked, LedgerFits, LinkedWorld, QueuesLinked, Replied, RepliesLinked}
+use Rattle.world_run.proofs.Members.{each-in, in-append, in-left, in-right, numbered-in, some-is}
 use Rattle.world_run.proofs.RowsAfter.{OpFits, OpHasDraw}
+use Rattle.world_run.proofs.WorldLemmas.{draws-fewer}
 
 -- open asks
 
@@ -46,11 +47,6 @@ in-without (b ∷ asks) id a i = go (b.id == id) (in-without asks id a) i
     go true ih i = inr i
     go false ih (inl is) = inl is
     go false ih (inr i) = inr (ih i)
-
-each-in : (P : OpenAsk → Type 0) (asks : List OpenAsk) (a : OpenAsk) → AllByRecursion P asks → In a asks → P a
-each-in P [] a h i = absurd i
-each-in P (b ∷ asks) a h (inl is) = subst P (sym is) h.0
-each-in P (b ∷ asks) a h (inr i) = each-in P asks a h.1 i
 
 -- the open ask of an id is a member, and has that id
 pub open-in : (asks : List OpenAsk) (id : ℕ) (a : OpenAsk) → open_ask asks id ≡ Some a → In a asks × (a.id ≡ id)
@@ -136,17 +132,29 @@ entered-ledger enter ledger keys replies replied asks a ask_id answer o next mem
     replied-as : {d : Draw} → o ≡ Some d → Replied replies replied (ToAsk ask_id answer) (Some d)
     replied-as {d = d} is = subst (λ (x : Option Draw). Replied replies replied (ToAsk ask_id answer) x) is at
 
-entered-draws : (enter : Bool) (ledger : Ledger) (replies : List KeptReply) (replied : List (Option Draw)) (ask_id : ℕ) (answer : KeyAnswer) (o : Option Draw) (place : ℕ) (IsBirth : ℕ → Type 0) → Replied replies replied (ToAsk ask_id answer) o
-    → DrawsFit ledger replied place IsBirth → DrawsFit (with_entry enter ask_id o ledger) replied place IsBirth
-entered-draws enter ledger replies replied ask_id answer o place IsBirth at f =
-    record { below = λ d i. f.below d (was d i); one_place = λ d g i j. f.one_place d g (was d i) (was g j); born = λ d i. f.born d (was d i); recent = λ d i. f.recent d (was d i) }
-  where
-    was : (d : Draw) → IsDrawn (with_entry enter ask_id o ledger) replied d → IsDrawn ledger replied d
-    was d (inl (id, i)) = elim (in-entry enter ledger ask_id o id d i) [
-      | inl old ↦ inl (id, old)
-      | inr new ↦ inr (subst (λ (x : Option Draw). In x replied) new.1 (numbered-in replied at.0 o at.2))
-    ]
-    was d (inr i) = inr i
+abbrev pub entered_in : Bool → ℕ → Option Draw → Hidden → Hidden
+entered_in enter ask_id o h = record h { ledger = with_entry enter ask_id o h.ledger }
+
+-- the draw of an entry was drawn before
+module _ (enter : Bool) (h : Hidden) (replies : List KeptReply) (ask_id : ℕ) (answer : KeyAnswer) (o : Option Draw) (at : Replied replies h.replied (ToAsk ask_id answer) o) where
+  replied-so : (d : Draw) → o ≡ Some d → In (Some d) h.replied
+  replied-so d is = subst (λ (x : Option Draw). In x h.replied) is (numbered-in h.replied at.0 o at.2)
+
+  entered-draws : (IsBirth : ℕ → Type 0) → DrawsFit h IsBirth → DrawsFit (entered_in enter ask_id o h) IsBirth
+  entered-draws IsBirth f = draws-fewer h (entered_in enter ask_id o h) IsBirth IsBirth was (omega arith) (λ b old. old) f
+    where
+      was : (d : Draw) → IsDrawn (entered_in enter ask_id o h) d → IsDrawn h d
+      was d (inl (id, i)) = elim (in-entry enter h.ledger ask_id o id d i) [ inl old ↦ inl (id, old) | inr new ↦ inr (inl (replied-so d new.1)) ]
+      was d (inr i) = inr i
+
+  entered-queues : (rows : List KeyRow) (queues : List Queue) → QueuesLinked rows queues h → QueuesLinked rows queues (entered_in enter ask_id o h)
+  entered-queues rows queues q =
+      record {
+        opens = q.opens;
+        rising = q.rising;
+        not_replied = q.not_replied;
+        not_entered = λ birth id d i j. elim (in-entry enter h.ledger ask_id o id d j) [ inl old ↦ q.not_entered birth id d i old | inr new ↦ q.not_replied birth d i (replied-so d new.1) ];
+      }
 
 -- files are linked with more entries too
 pub entered-files : (ledger entries : Ledger) (keys : List KeyRow) (names : NameTable) → FilesLinked ledger keys names → FilesLinked (ledger ++ entries) keys names
@@ -197,9 +205,6 @@ pub record Answered (w : WorldState) (h : Hidden) (a : OpenAsk) (ask_id : ℕ) (
   pub opened : open_ask w.names.names.asks ask_id ≡ Some a
   pub at : Replied w.kept.replies h.replied (ToAsk ask_id answer) o
 
-abbrev pub entered_in : Bool → ℕ → Option Draw → Hidden → Hidden
-entered_in enter ask_id o h = record h { ledger = with_entry enter ask_id o h.ledger }
-
 -- an id of an opening from 1 on
 from-one : (opening id : ℕ) → 0 < opening → opening * 2 ^ 32 ≤ id → 2 ^ 32 ≤ id
 from-one opening id opened here = omega (arith, opened, here)
@@ -216,11 +221,12 @@ linked-finished w h enter a ask_id answer o names fit answered asks next files l
     record {
       files = files;
       replies = l.replies;
-      draws = entered-draws enter h.ledger w.kept.replies h.replied ask_id answer o h.place (IsOldBirth w.keys.keys.table) answered.at l.draws;
+      draws = entered-draws enter h w.kept.replies ask_id answer o answered.at (IsOldBirth w.keys.keys.table) l.draws;
       ledger = subst (λ (open_asks : List OpenAsk). LedgerFits (with_entry enter ask_id o h.ledger) w.kept.replies h.replied open_asks (next_id names.names)) (sym asks)
           (subst (λ (n : ℕ). LedgerFits (with_entry enter ask_id o h.ledger) w.kept.replies h.replied (without w.names.names.asks a.id) n) (sym next)
           (entered-ledger enter h.ledger w.keys.keys.table.rows w.kept.replies h.replied w.names.names.asks a ask_id answer o (next_id w.names.names) member.0 member.1 low recent fit.ids.rising answered.at l.replies l.ledger));
-      ready = l.ready;
+      queues = entered-queues enter h w.kept.replies ask_id answer o answered.at w.keys.keys.table.rows w.keys.keys.ready.queues l.queues;
+      tickets = l.tickets;
     }
 
 -- nothing is entered

@@ -1,9 +1,11 @@
 -- Each event keeps the world linked, and a linked world keeps the promise on zone files.
-use Rattle.std.proofs.Common.{◌≡◌, inl, inr, ℕ, ◌+◌, ◌*◌, ◌^◌, ◌≤◌, Bool, true, false, List, [], ◌∷◌, ◌++◌, length, Option, Some, None, Ok, Err, refl, sym, ap, subst, ◌∙◌, arith}
+use Rattle.std.proofs.Common.{◌≡◌, inl, inr, ℕ, ◌+◌, ◌-◌, ◌*◌, ◌^◌, ◌≤◌, Bool, true, false, List, [], ◌∷◌, ◌++◌, length, Option, Some, None, Ok, Err, refl, sym, ap, subst, ◌∙◌, arith}
+use Rattle.std.specs.Prelude.{drop}
 use Rattle.std.specs.declared.result.Result.{Result}
 use Rattle.hk_base.specs.declared.names.Edek.{Edek}
 use Rattle.hk_base.specs.declared.names.KeyName.{KeyName}
 use Rattle.hk_base.specs.declared.texts.Text.{Text}
+use Rattle.eek_queues.specs.Queues.{Queue, ready_in}
 use Rattle.key_rows.specs.declared.rows.KeyCommand.{KeyCommand}
 use Rattle.key_rows.specs.declared.rows.KeyRow.{KeyRow}
 use Rattle.kms_calls.specs.declared.calls.KmsCall.TheVariants as key_call
@@ -21,8 +23,7 @@ use Rattle.edit_ops.specs.declared.ops.EditOp.TheVariants as op
 use Rattle.kms_acls.specs.declared.answers.Denied.{Denied}
 use Rattle.kms_acls.specs.declared.answers.Shown.{Shown}
 use Rattle.kms_acls.specs.Verdict.{verdict}
-use Rattle.kms_core.specs.Calls.{KmsActs, birth_of, ready_of, row_of}
-use Rattle.kms_core.specs.Draws.{words_of_draw}
+use Rattle.kms_core.specs.Calls.{KmsActs, birth_of, current_material, row_of}
 use Rattle.kms_core.specs.State.{IsService, KmsState, ServiceState, settled as settled_keys}
 use Rattle.kms_core.specs.Users.{ServesUnder}
 use Rattle.name_store.specs.Store.{is_opening}
@@ -42,10 +43,10 @@ use Rattle.name_calls.specs.declared.calls.NameReply.{NameReply}
 use Rattle.name_calls.specs.declared.calls.Want.{Want}
 use Rattle.name_calls.specs.declared.calls.Want.TheVariants as want
 use Rattle.name_calls.specs.Answers.{answer_of}
-use Rattle.name_core.specs.Asks.{AskOutcome, Asks, FinishOutcome, Finishes, ask_causes, ask_gone, asked, closed, finish_causes, finish_op, finished, open_ask, opened, unless_not_asked, unless_stopped}
+use Rattle.name_core.specs.Asks.{AskOutcome, Asks, FinishOutcome, Finishes, ask_causes, ask_gone, asked, closed, finish_causes, finish_op, finished, open_ask, ask_opened, unless_not_asked, unless_stopped}
 use Rattle.name_core.specs.Calls.{NameActs, NoRoom, Plain, causes, deed, done_with, early_causes, first_cause, superuser, unless_refused}
-use Rattle.name_core.specs.Service.{FinishServes, FinishServesAt, FinishServesOpen, Serves, ServesBy, ServesUnless, closed_service, is_change}
-use Rattle.name_core.specs.State.{IsNames, NameService, NameState, next_id, settled, took}
+use Rattle.name_core.specs.Service.{FinishServes, FinishServesAt, FinishServesOpen, NameServes, ServesBy, ServesUnless, closed_service, is_change}
+use Rattle.name_core.specs.State.{IsNames, NameService, NameState, next_id, settled, started, took}
 use Rattle.hk_events.specs.declared.event.Event.{Event}
 use Rattle.hk_events.specs.declared.event.Event.TheVariants as event
 use Rattle.hk_events.specs.declared.event.Line.{Line}
@@ -58,17 +59,19 @@ use Rattle.world_run.specs.RenamePaths.{read_rename_paths, rename_along}
 use Rattle.world_run.specs.SnapPaths.{read_snap_path, snap_at, unsnap_at}
 use Rattle.world_run.specs.Step.{AskAt, DrawActs, FinishReply, PathActs, Step, WantActs, after_ask, delete_with, finish_line, kept_reply, zone_with}
 use Rattle.world_run.specs.Keeps.{KnowsWorld}
-use Rattle.world_run.specs.Ledger.{Draw, Hidden, Ledger, Past, behind_words, draw_noted, draw_of, draw_told, entered, enters, entry_of, entry_under, hidden_after, id_of_reply, makes_file}
+use Rattle.world_run.specs.Ledger.{Draw, Hidden, Ledger, Past, draw_noted, draw_of, draw_answered, entered, enters, entry_of, entry_under, first_of, hidden_after, id_of_reply, left_in, makes_file, moved_on}
 use Rattle.world_run.specs.Promise.{FilesOpen, In, ZoneFilesOpen}
-use Rattle.world_run.specs.Linked.{DrawsApart, DrawsFit, FilesLinked, IsDrawn, IsOldBirth, IsRecordedBirth, KeyLinked, LedgerFits, LinkedTables, LinkedWorld, NoneReady, ServicesFit, WordsApart, given}
-use Rattle.world_run.proofs.DrawLemmas.{OneDrawn, fresh-key, generate-one, meta-answers, opens-among, opens-named, words-of-draw}
-use Rattle.world_run.proofs.EmptyQueues.{none-acts, none-in, none-user}
+use Rattle.world_run.specs.Linked.{DrawsApart, FilesLinked, IsDrawn, IsOldBirth, KeyLinked, LedgerFits, LinkedTables, LinkedWorld, OpensTo, ReadyLinked, ServicesFit, WordsApart, given}
+use Rattle.world_run.proofs.DrawLemmas.{OneDrawn, OneTaken, fresh-key, generate-one, meta-answers, opens-among, opens-named, words-of-dek}
 use Rattle.world_run.proofs.FinishLemmas.{Answered, entered-files, entered_in, finish-drawn, finish-fits, linked-finished, linked-unentered, open-in, with_entry}
-use Rattle.world_run.proofs.Laters.{KeysLater, acts-later, later-settled, may-wait, names-with, same-later, user-later}
-use Rattle.world_run.proofs.Members.{in-append, numbered-beside, numbered-in}
+use Rattle.world_run.proofs.Laters.{later-settled, may-wait, names-with}
+use Rattle.world_run.proofs.Members.{in-append, numbered-beside, numbered-in, some-is}
+use Rattle.world_run.proofs.PairLemmas.{in-drop, pairs-first, pairs-none}
 use Rattle.world_run.proofs.RowLemmas.{InPlace}
 use Rattle.world_run.proofs.RowsAfter.{OpFits, OpHasDraw, files-after}
-use Rattle.world_run.proofs.WorldLemmas.{NewReply, apart-reply, apart-words, files-later, ledger-more, linked-ask, linked-keys, linked-names, linked-reopened, linked-reply, linked-restart, linked-words, new-same, next-after, next-settled, rows-settled}
+use Rattle.world_run.proofs.ServiceLaters.{ServiceLater, acts-state, same-service, user-state}
+use Rattle.world_run.proofs.TicketLemmas.{deposit-keeps, ticket-keeps}
+use Rattle.world_run.proofs.WorldLemmas.{AfterReply, IsFree, NewReply, StaysLinked, StillLinked, apart-fewer, apart-moved, apart-reply, drawn-moved, files-later, first-free, left-is, ledger-more, linked-ask, linked-keys, linked-names, linked-reopened, linked-reply, linked-restart, linked-still, new-free, next-after, next-settled, rows-settled}
 
 -- calls of the namesystem
 
@@ -102,15 +105,16 @@ logs-keeps w h s o changes fits has good l =
         replies = l.replies;
         draws = l.draws;
         ledger = subst (λ (n : ℕ). LedgerFits h.ledger w.kept.replies h.replied s.asks n) (sym (next-after s o changes)) l.ledger;
-        ready = l.ready;
+        queues = l.queues;
+        tickets = l.tickets;
       },
-      record { files = with-pending h.ledger w.keys.keys.table.rows s.table o (l.files true) made; replies = l.replies; draws = l.draws; ledger = l.ledger; ready = l.ready },
+      record { files = with-pending h.ledger w.keys.keys.table.rows s.table o (l.files true) made; replies = l.replies; draws = l.draws; ledger = l.ledger; queues = l.queues; tickets = l.tickets },
     )
 
 deed-keeps : (w : WorldState) (h : Hidden) (s : NameState) (c : NameCall) → InPlace s.table.rows → first_cause (causes s c) ≡ None → KeepsNames w h (record { names = s; pending = None }) → DoneAndPending w h s c
 deed-keeps w h s (call.Mkdir p) good free l =
     logs-keeps w h (record s { next = s.next + 1 }) (op.Mkdir (next_id s) p) refl tt tt good
-    (record { files = l.files; replies = l.replies; draws = l.draws; ledger = ledger-more h.ledger w.kept.replies h.replied s.asks (next_id s) (next_id (record s { next = s.next + 1 })) (omega arith) l.ledger; ready = l.ready })
+    (record { files = l.files; replies = l.replies; draws = l.draws; ledger = ledger-more h.ledger w.kept.replies h.replied s.asks (next_id s) (next_id (record s { next = s.next + 1 })) (omega arith) l.ledger; queues = l.queues; tickets = l.tickets })
 deed-keeps w h s (call.Delete p recursive) good free l = logs-keeps w h s (op.Remove p) refl tt tt good l
 deed-keeps w h s (call.Rename p q) good free l = let m = renamable s.table.rows s.table.snaps p q free in logs-keeps w h s (op.Rename p q) refl (m.can, m.zone) tt good l
 deed-keeps w h s (call.Info r) good free l = (l, l)
@@ -121,134 +125,163 @@ deed-keeps w h s (call.Snap p name) good free l = logs-keeps w h s (op.Snap p na
 deed-keeps w h s (call.Unsnap p name) good free l = logs-keeps w h s (op.Unsnap p name) refl tt tt good l
 deed-keeps w h s call.Zones good free l = (l, l)
 
-acts-keeps : (w : WorldState) (h : Hidden) (s : NameState) (c : NameCall) (told : NameReply) (changed : NameState) → InPlace s.table.rows → KeepsNames w h (record { names = s; pending = None })
-    → NameActs s c told changed → KeepsNames w h (record { names = changed; pending = None })
-acts-keeps w h s c told changed good l (NoRoom, may, is) = subst (λ (x : NameState). KeepsNames w h (record { names = x; pending = None })) (sym (ap (λ o. o.state) is)) l
-acts-keeps w h s c told changed good l (Plain, may, is) =
+acts-keeps : (w : WorldState) (h : Hidden) (s : NameState) (c : NameCall) (outcome : NameReply) (changed : NameState) → InPlace s.table.rows → KeepsNames w h (record { names = s; pending = None })
+    → NameActs s c outcome changed → KeepsNames w h (record { names = changed; pending = None })
+acts-keeps w h s c outcome changed good l (NoRoom, may, is) = subst (λ (x : NameState). KeepsNames w h (record { names = x; pending = None })) (sym (ap (λ o. o.state) is)) l
+acts-keeps w h s c outcome changed good l (Plain, may, is) =
     subst (λ (x : NameState). KeepsNames w h (record { names = x; pending = None })) (sym (ap (λ o. o.state) is)) (go (first_cause (causes s c)) refl)
   where
     go : (o : Option NameRefusal) → first_cause (causes s c) ≡ o → KeepsNames w h (record { names = (unless_refused o s (deed s c)).state; pending = None })
     go (Some why) refused = l
     go None free = (deed-keeps w h s c good free l).0
 
-serves-keeps : (w : WorldState) (h : Hidden) (c : NameCall) (fault : Type 0) (told : NameReply) (ops : List EditOp) (names : NameService) (b : Bool) → IsNames w.names → LinkedWorld w h
-    → ServesBy b w.names c fault told ops names → KeepsNames w h names
-serves-keeps w h c fault told ops names false fit l r = subst (KeepsNames w h) (sym r.same) l
-serves-keeps w h c fault told ops names true fit l (inl u) = subst (KeepsNames w h) (sym u.same) l
-serves-keeps w h c fault told ops names true fit l (inr (k, inl d)) =
-    subst (KeepsNames w h) (sym d.left) (acts-keeps w h (settled k w.names) c told d.changed (rows-settled k w.names fit) (settled-keeps w h k fit l) d.acts)
-serves-keeps w h c fault told ops names true fit l (inr (k, inr u)) =
+serves-keeps : (w : WorldState) (h : Hidden) (c : NameCall) (fault : Type 0) (outcome : NameReply) (ops : List EditOp) (names : NameService) (b : Bool) → IsNames w.names → LinkedWorld w h
+    → ServesBy b w.names c fault outcome ops names → KeepsNames w h names
+serves-keeps w h c fault outcome ops names false fit l r = subst (KeepsNames w h) (sym r.same) l
+serves-keeps w h c fault outcome ops names true fit l (inl u) = subst (KeepsNames w h) (sym u.same) l
+serves-keeps w h c fault outcome ops names true fit l (inr (k, inl d)) =
+    subst (KeepsNames w h) (sym d.left) (acts-keeps w h (settled k w.names) c outcome d.changed (rows-settled k w.names fit) (settled-keeps w h k fit l) d.acts)
+serves-keeps w h c fault outcome ops names true fit l (inr (k, inr u)) =
     subst (KeepsNames w h) (sym u.left) (deed-keeps w h (settled k w.names) c (rows-settled k w.names fit) u.free (settled-keeps w h k fit l)).1
 
-call-keeps : (w : WorldState) (h : Hidden) (user : Text) (c : NameCall) (fault : Type 0) (told : NameReply) (ops : List EditOp) (names : NameService) → IsNames w.names → LinkedWorld w h
-    → Serves w.names user c fault told ops names → KeepsNames w h names
-call-keeps w h user c fault told ops names fit l serves = go (first_cause (early_causes user c)) serves
+call-keeps : (w : WorldState) (h : Hidden) (user : Text) (c : NameCall) (fault : Type 0) (outcome : NameReply) (ops : List EditOp) (names : NameService) → IsNames w.names → LinkedWorld w h
+    → NameServes w.names user c fault outcome ops names → KeepsNames w h names
+call-keeps w h user c fault outcome ops names fit l serves = go (first_cause (early_causes user c)) serves
   where
-    go : (o : Option NameRefusal) → ServesUnless o w.names c fault told ops names → KeepsNames w h names
+    go : (o : Option NameRefusal) → ServesUnless o w.names c fault outcome ops names → KeepsNames w h names
     go (Some why) r = subst (KeepsNames w h) (sym r.same) l
-    go None s = serves-keeps w h c fault told ops names (is_change c) fit l s
+    go None s = serves-keeps w h c fault outcome ops names (is_change c) fit l s
 
-path-keeps : {X : Type 0} (w : WorldState) (h : Hidden) (user : Text) (c : X → NameCall) (o : Option X) (fault : Type 0) (told : Line) (drawn : ℕ) (logged : Acknowledged) (w' : WorldState) → IsNames w.names → LinkedWorld w h
-    → PathActs w user c o fault told drawn logged w' → LinkedWorld w' h
-path-keeps w h user c None fault told drawn logged w' fit l u = subst (λ (v : WorldState). LinkedWorld v h) (sym u.same) l
-path-keeps w h user c (Some read) fault told drawn logged w' fit l (inl a) = subst (λ (v : WorldState). LinkedWorld v h) (sym a.left) (call-keeps w h user (c read) fault a.reply a.ops a.names fit l a.serves)
-path-keeps w h user c (Some read) fault told drawn logged w' fit l (inr u) = subst (λ (v : WorldState). LinkedWorld v h) (sym u.same) l
+path-keeps : {X : Type 0} (w : WorldState) (h : Hidden) (user : Text) (c : X → NameCall) (o : Option X) (fault : Type 0) (outcome : Line) (drawn : ℕ) (logged : Acknowledged) (w' : WorldState) → IsNames w.names → LinkedWorld w h
+    → PathActs w user c o fault outcome drawn logged w' → StillLinked w h drawn w'
+path-keeps w h user c None fault outcome drawn logged w' fit l u = subst (StillLinked w h drawn) (sym u.same) (linked-still w h drawn l)
+path-keeps w h user c (Some read) fault outcome drawn logged w' fit l (inl a) =
+    subst (StillLinked w h drawn) (sym a.left) (linked-still (record w { names = a.names }) h drawn (call-keeps w h user (c read) fault a.reply a.ops a.names fit l a.serves))
+path-keeps w h user c (Some read) fault outcome drawn logged w' fit l (inr u) = subst (StillLinked w h drawn) (sym u.same) (linked-still w h drawn l)
 
 -- asks
 
 ask-keeps : (w : WorldState) (h : Hidden) (user : Text) (a : Ask) (result : Result AskNote NameRefusal) (names : NameState) → LinkedWorld w h → Asks w.names.names user a result names
     → LinkedWorld (after_ask result (with_names names w)) h
-ask-keeps w h user a result names l (NoRoom, may, is) = subst (λ (o : AskOutcome). LinkedWorld (after_ask o.told (with_names o.state w)) h) (sym is) l
-ask-keeps w h user a result names l (Plain, may, is) = subst (λ (o : AskOutcome). LinkedWorld (after_ask o.told (with_names o.state w)) h) (sym is) (go (first_cause (ask_causes w.names.names user a)))
+ask-keeps w h user a result names l (NoRoom, may, is) = subst (λ (o : AskOutcome). LinkedWorld (after_ask o.reply (with_names o.state w)) h) (sym is) l
+ask-keeps w h user a result names l (Plain, may, is) = subst (λ (o : AskOutcome). LinkedWorld (after_ask o.reply (with_names o.state w)) h) (sym is) (go (first_cause (ask_causes w.names.names user a)))
   where
-    go : (o : Option NameRefusal) → LinkedWorld (after_ask (unless_not_asked o w.names.names a).told (with_names (unless_not_asked o w.names.names a).state w)) h
+    go : (o : Option NameRefusal) → LinkedWorld (after_ask (unless_not_asked o w.names.names a).reply (with_names (unless_not_asked o w.names.names a).state w)) h
     go (Some why) = l
-    go None = linked-ask w h (opened w.names.names a) (asked w.names.names a) refl refl (omega arith) refl l
+    go None = linked-ask w h (ask_opened w.names.names a) (asked w.names.names a) refl refl (omega arith) refl l
 
-ask-at-keeps : (w : WorldState) (h : Hidden) (user : Text) (a : NPath → Ask) (o : Option NPath) (told : Line) (w' : WorldState) → LinkedWorld w h → AskAt w user a o told w' → LinkedWorld w' h
-ask-at-keeps w h user a None told w' l r = subst (λ (v : WorldState). LinkedWorld v h) (sym r.same) l
-ask-at-keeps w h user a (Some p) told w' l (inl acts) = subst (λ (v : WorldState). LinkedWorld v h) (sym acts.left) (ask-keeps w h user (a p) acts.result acts.names l acts.asks)
-ask-at-keeps w h user a (Some p) told w' l (inr r) = subst (λ (v : WorldState). LinkedWorld v h) (sym r.same) l
+ask-at-keeps : (w : WorldState) (h : Hidden) (user : Text) (a : NPath → Ask) (o : Option NPath) (outcome : Line) (drawn : ℕ) (w' : WorldState) → LinkedWorld w h → AskAt w user a o outcome w' → StillLinked w h drawn w'
+ask-at-keeps w h user a None outcome drawn w' l r = subst (StillLinked w h drawn) (sym r.same) (linked-still w h drawn l)
+ask-at-keeps w h user a (Some p) outcome drawn w' l (inl acts) =
+    subst (StillLinked w h drawn) (sym acts.left) (answered acts.result (ask-keeps w h user (a p) acts.result acts.names l acts.asks))
+  where
+    answered : (result : Result AskNote NameRefusal) → LinkedWorld (after_ask result (with_names acts.names w)) h → StillLinked w h drawn (after_ask result (with_names acts.names w))
+    answered (Ok note) m = linked-still (after_ask (Ok note) (with_names acts.names w)) h drawn m
+    answered (Err why) m = linked-still (after_ask (Err why) (with_names acts.names w)) h drawn m
+ask-at-keeps w h user a (Some p) outcome drawn w' l (inr r) = subst (StillLinked w h drawn) (sym r.same) (linked-still w h drawn l)
 
 -- draws
 
--- the world is linked again, and draws that were apart still are
-abbrev StaysLinked : Hidden → WorldState → Hidden → Type 0
-StaysLinked h w h' = LinkedWorld w h' × (WordsApart h → WordsApart h')
-
 abbrev AfterDraw : WorldState → (ℕ → ℕ) → Hidden → AskNote → ℕ → ServiceState → Want → Option KmsReply → Type 0
 AfterDraw w words h note drawn keys wanted reply =
-    StaysLinked h (with_reply (kept_reply note reply) (record w { keys = keys })) (record (behind_words drawn h) { replied = h.replied ++ draw_told w.keys.keys words h.place wanted reply ∷ [] })
+    StaysLinked h (with_reply (kept_reply note reply) (record w { keys = keys })) (AfterReply h w.keys.keys.ready.queues keys.keys.ready.queues drawn (draw_answered w.keys.keys words h wanted reply))
 
--- for a reply with its draw
-reply-stays : (w : WorldState) (h : Hidden) (keys : ServiceState) (drawn : ℕ) (r : KeptReply) (o : Option Draw) → KeysLater w.keys.keys.table keys.keys.table → NoneReady keys.keys.ready.queues
-    → NewReply h keys drawn r o → LinkedWorld w h → StaysLinked h (with_reply r (record w { keys = keys })) (record (behind_words drawn h) { replied = h.replied ++ o ∷ [] })
-reply-stays w h keys drawn r o later none new l = (linked-reply w h keys drawn r o later none new l, apart-reply h keys drawn r o new)
+-- a new reply with its draw
+abbrev Answers : WorldState → Hidden → ServiceState → ℕ → KeptReply → Option Draw → Type 0
+Answers w h keys drawn r o = NewReply h (left_in w.keys.keys.ready.queues keys.keys.ready.queues h.queued) (h.place + drawn) keys.keys.table r o
+
+reply-stays : (w : WorldState) (h : Hidden) (keys : ServiceState) (drawn : ℕ) (r : KeptReply) (o : Option Draw) → ServiceLater w.keys keys → Answers w h keys drawn r o → LinkedWorld w h
+    → StaysLinked h (with_reply r (record w { keys = keys })) (AfterReply h w.keys.keys.ready.queues keys.keys.ready.queues drawn o)
+reply-stays w h keys drawn r o later new l = (linked-reply w h keys drawn r o later new l, apart-reply w h keys drawn r o later new)
 
 -- a reply without a key
 unkeyed-keeps : (w : WorldState) (h : Hidden) (words : ℕ → ℕ) (note : AskNote) (wanted : Want) (reply : Option KmsReply) (drawn : ℕ) (keys : ServiceState) → LinkedWorld w h → given (answer_of reply) ≡ None
-    → draw_told w.keys.keys words h.place wanted reply ≡ None → KeysLater w.keys.keys.table keys.keys.table → NoneReady keys.keys.ready.queues → AfterDraw w words h note drawn keys wanted reply
-unkeyed-keeps w h words note wanted reply drawn keys l none undrawn later empty =
-    subst (λ (d : Option Draw). StaysLinked h (with_reply (kept_reply note reply) (record w { keys = keys })) (record (behind_words drawn h) { replied = h.replied ++ d ∷ [] })) (sym undrawn)
-    (reply-stays w h keys drawn (kept_reply note reply) None later empty (
+    → draw_answered w.keys.keys words h wanted reply ≡ None → ServiceLater w.keys keys → AfterDraw w words h note drawn keys wanted reply
+unkeyed-keeps w h words note wanted reply drawn keys l none undrawn later =
+    subst (λ (d : Option Draw). StaysLinked h (with_reply (kept_reply note reply) (record w { keys = keys })) (AfterReply h w.keys.keys.ready.queues keys.keys.ready.queues drawn d)) (sym undrawn)
+    (reply-stays w h keys drawn (kept_reply note reply) None later (
     record {
       opens = subst (λ (x : Option Edek). KeyLinked keys.keys.table.rows x None) (sym none) tt;
-      begins = λ d is. absurd cc;
-      ends = λ d is. absurd cc;
+      free = λ d is. absurd cc;
       born = λ d is. absurd cc;
       recent = λ d is. absurd cc;
     }) l)
 
 -- and with the keys unchanged
 unkeyed-same : (w : WorldState) (h : Hidden) (words : ℕ → ℕ) (note : AskNote) (wanted : Want) (reply : Option KmsReply) (drawn : ℕ) → LinkedWorld w h → given (answer_of reply) ≡ None
-    → draw_told w.keys.keys words h.place wanted reply ≡ None → AfterDraw w words h note drawn w.keys wanted reply
-unkeyed-same w h words note wanted reply drawn l none undrawn = unkeyed-keeps w h words note wanted reply drawn w.keys l none undrawn (same-later w.keys.keys.table) l.ready
+    → draw_answered w.keys.keys words h wanted reply ≡ None → AfterDraw w words h note drawn w.keys wanted reply
+unkeyed-same w h words note wanted reply drawn l none undrawn = unkeyed-keeps w h words note wanted reply drawn w.keys l none undrawn (same-service w.keys)
 
-generated-new : (w : WorldState) (h : Hidden) (words : ℕ → ℕ) (now : ℕ) (note : AskNote) (name : KeyName) (e : Edek) (drawn : ℕ) (changed : KmsState) → ServicesFit w → ready_of w.keys.keys name ≡ []
-    → KmsActs w.keys.keys words now (key_call.Generate name 1) (key_reply.Ready (e ∷ [])) drawn changed → OneDrawn w.keys.keys words name e drawn changed
-    → NewReply h w.keys drawn (kept_reply note (Some (key_reply.Ready (e ∷ [])))) (Some (draw_of w.keys.keys words h.place name))
-generated-new w h words now note name e drawn changed fit none acts one =
-    let fresh = fresh-key w.keys.keys words h.place now name e drawn changed fit.keys.table none acts one in
+-- the facts of one draw as those of the draw of a reply
+keyed-answers : (w : WorldState) (h : Hidden) (keys : ServiceState) (drawn : ℕ) (note : AskNote) (e : Edek) (d : Draw) → keys.keys.table ≡ w.keys.keys.table → e.version ≡ d.version → OpensTo w.keys.keys.table.rows d e
+    → IsFree h (left_in w.keys.keys.ready.queues keys.keys.ready.queues h.queued) (h.place + drawn) d → IsOldBirth w.keys.keys.table d.birth → 2 ^ 32 ≤ d.birth
+    → Answers w h keys drawn (kept_reply note (Some (key_reply.Ready (e ∷ [])))) (Some d)
+keyed-answers w h keys drawn note e d same version opens free born recent =
     record {
-      opens = (fresh.of_draw, fresh.opens);
-      begins = λ d is. let same : draw_of w.keys.keys words h.place name ≡ d = cc in omega (arith, ap (λ (x : Draw). x.place) same);
-      ends = λ d is.
-          let same : draw_of w.keys.keys words h.place name ≡ d = cc in
-          subst (λ (x : Draw). x.place + words_of_draw (length x.dek) ≤ h.place + drawn) same
-          (omega (arith, words-of-draw w.keys.keys words h.place name, one.took));
-      born = λ d is.
-          let same : draw_of w.keys.keys words h.place name ≡ d = cc in
-          subst (λ (x : Draw). x.birth ≤ w.keys.keys.table.greatest) same fresh.born;
-      recent = λ d is.
-          let same : draw_of w.keys.keys words h.place name ≡ d = cc in
-          subst (λ (x : Draw). 2 ^ 32 ≤ x.birth) same fresh.recent;
+      opens = (version, subst (λ (t : Table). OpensTo t.rows d e) (sym same) opens);
+      free = λ f is. subst (IsFree h (left_in w.keys.keys.ready.queues keys.keys.ready.queues h.queued) (h.place + drawn)) (some-is d f is) free;
+      born = λ f is. subst (λ (x : Draw). IsOldBirth keys.keys.table x.birth) (some-is d f is) (subst (λ (t : Table). IsOldBirth t d.birth) (sym same) born);
+      recent = λ f is. subst (λ (x : Draw). 2 ^ 32 ≤ x.birth) (some-is d f is) recent;
     }
 
-made-keeps : (w : WorldState) (h : Hidden) (words : ℕ → ℕ) (now : ℕ) (note : AskNote) (name : KeyName) (reply : KmsReply) (drawn : ℕ) (changed : KmsState) → ServicesFit w → LinkedWorld w h
-    → KmsActs w.keys.keys words now (key_call.Generate name 1) reply drawn changed → AfterDraw w words h note drawn (record w.keys { keys = changed }) (want.Generate name) (Some reply)
-made-keeps w h words now note name reply drawn changed fit l acts = elim (generate-one w.keys.keys words now name reply drawn changed none acts) [
-  | inl refused ↦
-      subst (λ (r : KmsReply). AfterDraw w words h note drawn keys (want.Generate name) (Some r)) (sym refused.1)
-      (unkeyed-keeps w h words note (want.Generate name) (Some (key_reply.Refused refused.0)) drawn keys l refl refl later empty)
-  | inr ready ↦
-      subst (λ (r : KmsReply). AfterDraw w words h note drawn keys (want.Generate name) (Some r)) (sym ready.1)
-      (reply-stays w h keys drawn (kept_reply note (Some (key_reply.Ready (ready.0 ∷ [])))) (Some (draw_of w.keys.keys words h.place name)) later empty
-      (new-same h w.keys keys drawn (kept_reply note (Some (key_reply.Ready (ready.0 ∷ [])))) (Some (draw_of w.keys.keys words h.place name)) ready.2.same
-      (generated-new w h words now note name ready.0 drawn changed fit none
-      (subst (λ (r : KmsReply). KmsActs w.keys.keys words now (key_call.Generate name 1) r drawn changed) ready.1 acts) ready.2)) l)
-]
-  where
-    keys : ServiceState
-    keys = record w.keys { keys = changed }
+module _ (w : WorldState) (h : Hidden) (words : ℕ → ℕ) (now : ℕ) (note : AskNote) (name : KeyName) (reply : KmsReply) (drawn : ℕ) (changed : KmsState) (fit : ServicesFit w) (l : LinkedWorld w h)
+    (acts : KmsActs w.keys.keys words now (key_call.Generate name 1) reply drawn changed) where
+  abbrev changed_keys : ServiceState
+  changed_keys = record w.keys { keys = changed }
 
-    none : ready_of w.keys.keys name ≡ []
-    none = none-in w.keys.keys.ready.queues (birth_of (row_of w.keys.keys name)) l.ready
+  abbrev key_birth : ℕ
+  key_birth = birth_of (row_of w.keys.keys name)
 
-    later : KeysLater w.keys.keys.table changed.table
-    later = acts-later w.keys.keys words now (key_call.Generate name 1) reply drawn changed fit.keys.births acts
+  abbrev old_queues : List Queue
+  old_queues = w.keys.keys.ready.queues
 
-    empty : NoneReady changed.ready.queues
-    empty = none-acts w.keys.keys words now (key_call.Generate name 1) reply drawn changed acts l.ready
+  abbrev still_queued : ℕ → List Draw
+  still_queued = left_in old_queues changed.ready.queues h.queued
+
+  abbrev old_rows : List KeyRow
+  old_rows = w.keys.keys.table.rows
+
+  keys-later : ServiceLater w.keys changed_keys
+  keys-later = acts-state w.keys.keys words now (key_call.Generate name 1) reply drawn changed fit.keys.births acts
+
+  was-queued : (b : ℕ) (f : Draw) → In f (still_queued b) → In f (h.queued b)
+  was-queued b f i = in-drop (length (ready_in old_queues b) - length (ready_in changed.ready.queues b)) f (h.queued b) i
+
+  -- the reply has the key, and this draw
+  replied-with : (e : Edek) (d : Draw) → reply ≡ key_reply.Ready (e ∷ []) → first_of (h.queued key_birth) (draw_of w.keys.keys words h.place name) ≡ d
+      → Answers w h changed_keys drawn (kept_reply note (Some (key_reply.Ready (e ∷ [])))) (Some d) → AfterDraw w words h note drawn changed_keys (want.Generate name) (Some reply)
+  replied-with e d is first new =
+      subst (λ (r : KmsReply). AfterDraw w words h note drawn changed_keys (want.Generate name) (Some r)) (sym is)
+      (subst (λ (x : Draw). StaysLinked h (with_reply (kept_reply note (Some (key_reply.Ready (e ∷ [])))) (record w { keys = changed_keys })) (AfterReply h old_queues changed.ready.queues drawn (Some x))) (sym first)
+      (reply-stays w h changed_keys drawn (kept_reply note (Some (key_reply.Ready (e ∷ [])))) (Some d) keys-later new l))
+
+  taken-keeps : (e : Edek) → reply ≡ key_reply.Ready (e ∷ []) → OneTaken w.keys.keys name e changed → AfterDraw w words h note drawn changed_keys (want.Generate name) (Some reply)
+  taken-keeps e is one =
+      let begun = pairs-first (ReadyLinked old_rows key_birth) e one.rest (ready_in old_queues key_birth) (h.queued key_birth) one.first (l.queues.opens key_birth) in
+      let d : Draw = begun.first in
+      let member : In d (h.queued key_birth) = subst (λ (ds : List Draw). In d ds) (sym begun.is) (inl refl) in
+      let drew : IsDrawn h d = inr (inr (key_birth, member)) in
+      let loses : still_queued key_birth ≡ begun.rest = left-is (ReadyLinked old_rows key_birth) old_queues changed.ready.queues h.queued key_birth 1 one.left (l.queues.opens key_birth) ∙ ap (drop 1) begun.is in
+      replied-with e d is (ap (λ (ds : List Draw). first_of ds (draw_of w.keys.keys words h.place name)) begun.is)
+      (keyed-answers w h changed_keys drawn note e d one.same begun.linked.of_version begun.linked.opens
+      (first-free h (IsOldBirth w.keys.keys.table) old_rows old_queues still_queued (h.place + drawn) key_birth d begun.rest l.draws l.queues was-queued begun.is loses (omega arith)) (l.draws.born d drew) (l.draws.recent d drew))
+
+  drawn-keeps : (e : Edek) → reply ≡ key_reply.Ready (e ∷ []) → OneDrawn w.keys.keys words name e drawn changed → AfterDraw w words h note drawn changed_keys (want.Generate name) (Some reply)
+  drawn-keeps e is one =
+      let d : Draw = draw_of w.keys.keys words h.place name in
+      let none : h.queued key_birth ≡ [] = pairs-none (ReadyLinked old_rows key_birth) (ready_in old_queues key_birth) (h.queued key_birth) one.none (l.queues.opens key_birth) in
+      let fresh = fresh-key w.keys.keys words h.place now name e drawn changed fit.keys.table (subst (λ (r : KmsReply). KmsActs w.keys.keys words now (key_call.Generate name 1) r drawn changed) is acts) one in
+      replied-with e d is (ap (λ (ds : List Draw). first_of ds d) none)
+      (keyed-answers w h changed_keys drawn note e d one.same fresh.of_draw fresh.opens
+      (new-free h (IsOldBirth w.keys.keys.table) still_queued (h.place + drawn) d l.draws was-queued (omega arith) (omega (arith, words-of-dek words (length (current_material w.keys.keys name)), one.took))) (inr fresh.born) fresh.recent)
+
+  made-keeps : AfterDraw w words h note drawn changed_keys (want.Generate name) (Some reply)
+  made-keeps = elim (generate-one w.keys.keys words now name reply drawn changed acts) [
+    | inl refused ↦
+        subst (λ (r : KmsReply). AfterDraw w words h note drawn changed_keys (want.Generate name) (Some r)) (sym refused.1)
+        (unkeyed-keeps w h words note (want.Generate name) (Some (key_reply.Refused refused.0)) drawn changed_keys l refl refl keys-later)
+    | inr ready ↦ elim ready.2 [ inl one ↦ taken-keeps ready.0 ready.1 one | inr one ↦ drawn-keeps ready.0 ready.1 one ]
+  ]
 
 -- the reply to the call that was wanted, by the verdict on the superuser
 
@@ -256,46 +289,48 @@ generate-keeps : (w : WorldState) (h : Hidden) (words : ℕ → ℕ) (now : ℕ)
     → ServicesFit w → LinkedWorld w h → ServesUnder v w.keys words now (key_call.Generate name 1) fault reply drawn logged keys → AfterDraw w words h note drawn keys (want.Generate name) (Some reply)
 generate-keeps w h words now note name fault reply drawn logged keys (Ok shown) fit l p =
     subst (λ (s : ServiceState). AfterDraw w words h note drawn s (want.Generate name) (Some reply)) (sym p.serves.left)
-    (subst (λ (r : KmsReply). AfterDraw w words h note drawn (record w.keys { keys = p.serves.changed }) (want.Generate name) (Some r)) (sym p.told_is)
+    (subst (λ (r : KmsReply). AfterDraw w words h note drawn (record w.keys { keys = p.serves.changed }) (want.Generate name) (Some r)) (sym p.reply_is)
     (made-keeps w h words now note name p.reply drawn p.serves.changed fit l p.serves.acts))
 generate-keeps w h words now note name fault reply drawn logged keys (Err denied) fit l d =
     subst (λ (s : ServiceState). AfterDraw w words h note drawn s (want.Generate name) (Some reply)) (sym d.same)
-    (subst (λ (r : KmsReply). AfterDraw w words h note drawn w.keys (want.Generate name) (Some r)) (sym d.told_is)
+    (subst (λ (r : KmsReply). AfterDraw w words h note drawn w.keys (want.Generate name) (Some r)) (sym d.reply_is)
     (unkeyed-same w h words note (want.Generate name) (Some (key_reply.Refused (key_refusal.Denied denied.table denied.op))) drawn l refl refl))
 
 metadata-keeps : (w : WorldState) (h : Hidden) (words : ℕ → ℕ) (now : ℕ) (note : AskNote) (name : KeyName) (fault : Type 0) (reply : KmsReply) (drawn : ℕ) (logged : List KeyCommand) (keys : ServiceState) (v : Result Shown Denied)
     → LinkedWorld w h → ServesUnder v w.keys words now (key_call.Metadata name) fault reply drawn logged keys → AfterDraw w words h note drawn keys (want.Metadata name) (Some reply)
 metadata-keeps w h words now note name fault reply drawn logged keys (Ok shown) l p =
     subst (λ (s : ServiceState). AfterDraw w words h note drawn s (want.Metadata name) (Some reply)) (sym p.serves.same)
-    (subst (λ (r : KmsReply). AfterDraw w words h note drawn w.keys (want.Metadata name) (Some r)) (sym p.told_is)
+    (subst (λ (r : KmsReply). AfterDraw w words h note drawn w.keys (want.Metadata name) (Some r)) (sym p.reply_is)
     (unkeyed-same w h words note (want.Metadata name) (Some p.reply) drawn l (meta-answers w.keys.keys words now name p.reply drawn w.keys.keys p.serves.acts) refl))
 metadata-keeps w h words now note name fault reply drawn logged keys (Err denied) l d =
     subst (λ (s : ServiceState). AfterDraw w words h note drawn s (want.Metadata name) (Some reply)) (sym d.same)
-    (subst (λ (r : KmsReply). AfterDraw w words h note drawn w.keys (want.Metadata name) (Some r)) (sym d.told_is)
+    (subst (λ (r : KmsReply). AfterDraw w words h note drawn w.keys (want.Metadata name) (Some r)) (sym d.reply_is)
     (unkeyed-same w h words note (want.Metadata name) (Some (key_reply.Refused (key_refusal.Denied denied.table denied.op))) drawn l refl refl))
 
 want-keeps : (lines : List PropLine) (w : WorldState) (h : Hidden) (words : ℕ → ℕ) (now : ℕ) (note : AskNote) (fault : Type 0) (reply : Option KmsReply) (drawn : ℕ) (logged : List KeyCommand) (keys : ServiceState) (wanted : Want)
     → ServicesFit w → LinkedWorld w h → WantActs lines w.keys words now wanted fault reply drawn logged keys → AfterDraw w words h note drawn keys wanted reply
 want-keeps lines w h words now note fault reply drawn logged keys want.Nothing fit l a =
     subst (λ (s : ServiceState). AfterDraw w words h note drawn s want.Nothing reply) (sym a.same)
-    (subst (λ (r : Option KmsReply). AfterDraw w words h note drawn w.keys want.Nothing r) (sym a.told_is) (unkeyed-same w h words note want.Nothing None drawn l refl refl))
+    (subst (λ (r : Option KmsReply). AfterDraw w words h note drawn w.keys want.Nothing r) (sym a.reply_is) (unkeyed-same w h words note want.Nothing None drawn l refl refl))
 want-keeps lines w h words now note fault reply drawn logged keys (want.Generate name) fit l a =
-    subst (λ (r : Option KmsReply). AfterDraw w words h note drawn keys (want.Generate name) r) (sym a.told_is)
+    subst (λ (r : Option KmsReply). AfterDraw w words h note drawn keys (want.Generate name) r) (sym a.reply_is)
     (generate-keeps w h words now note name fault a.reply drawn logged keys (verdict lines superuser (key_call.Generate name 1)) fit l a.serves)
 want-keeps lines w h words now note fault reply drawn logged keys (want.Metadata name) fit l a =
-    subst (λ (r : Option KmsReply). AfterDraw w words h note drawn keys (want.Metadata name) r) (sym a.told_is)
+    subst (λ (r : Option KmsReply). AfterDraw w words h note drawn keys (want.Metadata name) r) (sym a.reply_is)
     (metadata-keeps w h words now note name fault a.reply drawn logged keys (verdict lines superuser (key_call.Metadata name)) l a.serves)
 
-draw-keeps : (lines : List PropLine) (w : WorldState) (h : Hidden) (words : ℕ → ℕ) (now number : ℕ) (fault : Type 0) (told : Line) (drawn : ℕ) (logged : Acknowledged) (w' : WorldState) (o : Option AskNote) → ServicesFit w → LinkedWorld w h
-    → numbered w.kept.notes number ≡ o → DrawActs lines w words now o fault told drawn logged w' → StaysLinked h w' (hidden_after w words (event.Draw number) told drawn w' h)
-draw-keeps lines w h words now number fault told drawn logged w' None fit l is u =
-    subst (λ (t : Line). StaysLinked h w' (hidden_after w words (event.Draw number) t drawn w' h)) (sym u.told_is) (subst (λ (v : WorldState). StaysLinked h v (behind_words drawn h)) (sym u.same) (linked-words w h drawn l, apart-words h drawn))
-draw-keeps lines w h words now number fault told drawn logged w' (Some note) fit l is (inr u) =
-    subst (λ (t : Line). StaysLinked h w' (hidden_after w words (event.Draw number) t drawn w' h)) (sym u.told_is) (subst (λ (v : WorldState). StaysLinked h v (behind_words drawn h)) (sym u.same) (linked-words w h drawn l, apart-words h drawn))
-draw-keeps lines w h words now number fault told drawn logged w' (Some note) fit l is (inl a) =
-    subst (λ (t : Line). StaysLinked h w' (hidden_after w words (event.Draw number) t drawn w' h)) (sym a.told_is)
-    (subst (λ (q : Option AskNote). StaysLinked h w' (record (behind_words drawn h) { replied = h.replied ++ draw_noted w.keys.keys words h.place q a.reply ∷ [] })) (sym is)
-    (subst (λ (v : WorldState). StaysLinked h v (record (behind_words drawn h) { replied = h.replied ++ draw_told w.keys.keys words h.place note.want a.reply ∷ [] })) (sym a.left)
+draw-keeps : (lines : List PropLine) (w : WorldState) (h : Hidden) (words : ℕ → ℕ) (now number : ℕ) (fault : Type 0) (outcome : Line) (drawn : ℕ) (logged : Acknowledged) (w' : WorldState) (o : Option AskNote) → ServicesFit w → LinkedWorld w h
+    → numbered w.kept.notes number ≡ o → DrawActs lines w words now o fault outcome drawn logged w' → StaysLinked h w' (hidden_after w words (event.Draw number) outcome drawn w' h)
+draw-keeps lines w h words now number fault outcome drawn logged w' None fit l is u =
+    subst (λ (t : Line). StaysLinked h w' (hidden_after w words (event.Draw number) t drawn w' h)) (sym u.reply_is)
+    (subst (λ (v : WorldState). StaysLinked h v (moved_on w.keys.keys.ready.queues v.keys.keys.ready.queues drawn h)) (sym u.same) (linked-still w h drawn l, apart-moved w.keys.keys.ready.queues w.keys.keys.ready.queues drawn h))
+draw-keeps lines w h words now number fault outcome drawn logged w' (Some note) fit l is (inr u) =
+    subst (λ (t : Line). StaysLinked h w' (hidden_after w words (event.Draw number) t drawn w' h)) (sym u.reply_is)
+    (subst (λ (v : WorldState). StaysLinked h v (moved_on w.keys.keys.ready.queues v.keys.keys.ready.queues drawn h)) (sym u.same) (linked-still w h drawn l, apart-moved w.keys.keys.ready.queues w.keys.keys.ready.queues drawn h))
+draw-keeps lines w h words now number fault outcome drawn logged w' (Some note) fit l is (inl a) =
+    subst (λ (t : Line). StaysLinked h w' (hidden_after w words (event.Draw number) t drawn w' h)) (sym a.reply_is)
+    (subst (λ (q : Option AskNote). StaysLinked h w' (AfterReply h w.keys.keys.ready.queues w'.keys.keys.ready.queues drawn (draw_noted w.keys.keys words h q a.reply))) (sym is)
+    (subst (λ (v : WorldState). StaysLinked h v (AfterReply h w.keys.keys.ready.queues v.keys.keys.ready.queues drawn (draw_answered w.keys.keys words h note.want a.reply))) (sym a.left)
     (want-keeps lines w h words now note fault a.reply drawn a.commands a.keys note.want fit l a.acts)))
 
 -- finishes
@@ -328,9 +363,9 @@ no-opening id edek (ask.Create p) = refl
 no-opening id edek (ask.Zone p key) = refl
 
 -- the state after it is replaced by an equal one
-ends-keeps : (w : WorldState) (h : Hidden) (ask_id : ℕ) (o : Option Draw) (result told : Result (Unit {0}) NameRefusal) (left names : NameService) → told ≡ result → names ≡ left
-    → FinishKeeps w h ask_id o result left → FinishKeeps w h ask_id o told names
-ends-keeps w h ask_id o result told left names same is l = subst (λ (r : Result (Unit {0}) NameRefusal). FinishKeeps w h ask_id o r names) (sym same) (subst (λ (n : NameService). FinishKeeps w h ask_id o result n) (sym is) l)
+ends-keeps : (w : WorldState) (h : Hidden) (ask_id : ℕ) (o : Option Draw) (result outcome : Result (Unit {0}) NameRefusal) (left names : NameService) → outcome ≡ result → names ≡ left
+    → FinishKeeps w h ask_id o result left → FinishKeeps w h ask_id o outcome names
+ends-keeps w h ask_id o result outcome left names same is l = subst (λ (r : Result (Unit {0}) NameRefusal). FinishKeeps w h ask_id o r names) (sym same) (subst (λ (n : NameService). FinishKeeps w h ask_id o result n) (sym is) l)
 
 module _ (w : WorldState) (h : Hidden) (ask_id : ℕ) (answer : KeyAnswer) (o : Option Draw) (a : OpenAsk) (fit : IsNames w.names) (l : LinkedWorld w h) (answered : Answered w h a ask_id answer o) where
   -- the ask is closed, and the pending operation is still pending
@@ -348,12 +383,12 @@ module _ (w : WorldState) (h : Hidden) (ask_id : ℕ) (answer : KeyAnswer) (o : 
   written-keeps : (k : Bool) (edek : Option Edek) (result : Result (Unit {0}) NameRefusal) (changed : NameState) → answer ≡ Given edek → Finishes (settled k w.names) a edek result changed
       → FinishKeeps w h ask_id o result (record { names = changed; pending = None })
   written-keeps k edek result changed said (NoRoom, may, is) =
-      subst (λ (x : FinishOutcome). FinishKeeps w h ask_id o x.told (record { names = x.state; pending = None })) (sym is) (linked-unentered _ h (settled-keeps w h k fit l))
+      subst (λ (x : FinishOutcome). FinishKeeps w h ask_id o x.reply (record { names = x.state; pending = None })) (sym is) (linked-unentered _ h (settled-keeps w h k fit l))
   written-keeps k edek result changed said (Plain, may, is) =
-      subst (λ (x : FinishOutcome). FinishKeeps w h ask_id o x.told (record { names = x.state; pending = None })) (sym is) (go (first_cause (finish_causes (settled k w.names).table.rows a edek a.ask)) refl)
+      subst (λ (x : FinishOutcome). FinishKeeps w h ask_id o x.reply (record { names = x.state; pending = None })) (sym is) (go (first_cause (finish_causes (settled k w.names).table.rows a edek a.ask)) refl)
     where
       go : (c : Option NameRefusal) → first_cause (finish_causes (settled k w.names).table.rows a edek a.ask) ≡ c
-          → FinishKeeps w h ask_id o (unless_stopped c (settled k w.names) a edek).told (record { names = (unless_stopped c (settled k w.names) a edek).state; pending = None })
+          → FinishKeeps w h ask_id o (unless_stopped c (settled k w.names) a edek).reply (record { names = (unless_stopped c (settled k w.names) a edek).state; pending = None })
       go (Some why) cause = settled-closed (enters ask_id (line.Refused why) (record { names = closed (settled k w.names) a.id; pending = None })) k
       go None free =
           linked-finished w h true a ask_id answer o (record { names = finished (settled k w.names) a edek; pending = None }) fit answered refl
@@ -372,13 +407,13 @@ module _ (w : WorldState) (h : Hidden) (ask_id : ℕ) (answer : KeyAnswer) (o : 
 
   open-keeps : (gave : KeyAnswer) (fault : Type 0) (result : Result (Unit {0}) NameRefusal) (ops : List EditOp) (names : NameService) → answer ≡ gave
       → FinishServesOpen w.names a gave fault result ops names → FinishKeeps w h ask_id o result names
-  open-keeps (Refused why) fault result ops names said e = ends-keeps w h ask_id o (Err (refusal.KeyRefused why)) result (closed_service w.names a) names e.told_is e.left_is (closed-keeps false)
+  open-keeps (Refused why) fault result ops names said e = ends-keeps w h ask_id o (Err (refusal.KeyRefused why)) result (closed_service w.names a) names e.reply_is e.left_is (closed-keeps false)
   open-keeps (Given edek) fault result ops names said (inl u) =
-      ends-keeps w h ask_id o (Err refusal.StoreFault) result (closed_service w.names a) names u.ends.told_is u.ends.left_is (closed-keeps (makes_file ask_id w.names.pending))
+      ends-keeps w h ask_id o (Err refusal.StoreFault) result (closed_service w.names a) names u.ends.reply_is u.ends.left_is (closed-keeps (makes_file ask_id w.names.pending))
   open-keeps (Given edek) fault result ops names said (inr (k, inl d)) =
       ends-keeps w h ask_id o result result (record { names = d.changed; pending = None }) names refl d.left (written-keeps k edek result d.changed said d.finishes)
   open-keeps (Given edek) fault result ops names said (inr (k, inr u)) =
-      ends-keeps w h ask_id o (Err refusal.StoreFault) result (record { names = closed (settled k w.names) a.id; pending = Some (finish_op a.id edek a.ask) }) names u.told_is u.left
+      ends-keeps w h ask_id o (Err refusal.StoreFault) result (record { names = closed (settled k w.names) a.id; pending = Some (finish_op a.id edek a.ask) }) names u.reply_is u.left
       (unwritten-keeps k edek said u.free)
 
 finish-keeps : (w : WorldState) (words : ℕ → ℕ) (h : Hidden) (number drawn : ℕ) (ask_id : ℕ) (answer : KeyAnswer) (fault : Type 0) (result : Result (Unit {0}) NameRefusal) (ops : List EditOp) (names : NameService) → IsNames w.names → LinkedWorld w h
@@ -386,66 +421,60 @@ finish-keeps : (w : WorldState) (words : ℕ → ℕ) (h : Hidden) (number drawn
     → LinkedWorld (record w { names = names }) (hidden_after w words (event.Finish number) (finish_line result) drawn (record w { names = names }) h)
 finish-keeps w words h number drawn ask_id answer fault result ops names fit l at serves =
     let drew = numbered-beside w.kept.replies h.replied number (ToAsk ask_id answer) l.replies.as_many at in
-    subst (λ (ledger : Ledger). LinkedWorld (record w { names = names }) (record (behind_words drawn h) { ledger = ledger })) (sym (finish-ledger w words h number drawn ask_id answer drew.0 result names at drew.1))
-    (linked-words (record w { names = names }) (entered_in (enters ask_id (finish_line result) names) ask_id drew.0 h) drawn (go drew.0 drew.1 (open_ask w.names.names.asks ask_id) refl serves))
+    subst (λ (ledger : Ledger). LinkedWorld (record w { names = names }) (record (moved_on w.keys.keys.ready.queues w.keys.keys.ready.queues drawn h) { ledger = ledger })) (sym (finish-ledger w words h number drawn ask_id answer drew.0 result names at drew.1))
+    (linked-still (record w { names = names }) (entered_in (enters ask_id (finish_line result) names) ask_id drew.0 h) drawn (go drew.0 drew.1 (open_ask w.names.names.asks ask_id) refl serves))
   where
     go : (o : Option Draw) → numbered h.replied number ≡ Some o → (q : Option OpenAsk) → open_ask w.names.names.asks ask_id ≡ q → FinishServesAt w.names q answer fault result ops names → FinishKeeps w h ask_id o result names
-    go o drew None gone e = ends-keeps w h ask_id o (Err (ask_gone w.names.names)) result w.names names e.told_is e.left_is (linked-unentered w h l)
+    go o drew None gone e = ends-keeps w h ask_id o (Err (ask_gone w.names.names)) result w.names names e.reply_is e.left_is (linked-unentered w h l)
     go o drew (Some a) found s = open-keeps w h ask_id answer o a fit l (record { opened = found; at = (number, at, drew) }) answer fault result ops names refl s
 
-finish-reply-keeps : (w : WorldState) (words : ℕ → ℕ) (h : Hidden) (number : ℕ) (fault : Type 0) (told : Line) (drawn : ℕ) (logged : Acknowledged) (w' : WorldState) (o : Option KeptReply) → IsNames w.names → LinkedWorld w h
-    → numbered w.kept.replies number ≡ o → FinishReply w o fault told drawn logged w' → LinkedWorld w' (hidden_after w words (event.Finish number) told drawn w' h)
-finish-reply-keeps w words h number fault told drawn logged w' None fit l at u =
-    subst (λ (t : Line). LinkedWorld w' (hidden_after w words (event.Finish number) t drawn w' h)) (sym u.told_is)
-    (subst (λ (v : WorldState). LinkedWorld v (record (behind_words drawn h) { ledger = h.ledger ++ [] })) (sym u.same) (linked-words w (record h { ledger = h.ledger ++ [] }) drawn (linked-unentered w h l)))
-finish-reply-keeps w words h number fault told drawn logged w' (Some (ToAsk ask_id answer)) fit l at f =
-    subst (λ (t : Line). LinkedWorld w' (hidden_after w words (event.Finish number) t drawn w' h)) (sym f.told_is)
+finish-reply-keeps : (w : WorldState) (words : ℕ → ℕ) (h : Hidden) (number : ℕ) (fault : Type 0) (outcome : Line) (drawn : ℕ) (logged : Acknowledged) (w' : WorldState) (o : Option KeptReply) → IsNames w.names → LinkedWorld w h
+    → numbered w.kept.replies number ≡ o → FinishReply w o fault outcome drawn logged w' → LinkedWorld w' (hidden_after w words (event.Finish number) outcome drawn w' h)
+finish-reply-keeps w words h number fault outcome drawn logged w' None fit l at u =
+    subst (λ (t : Line). LinkedWorld w' (hidden_after w words (event.Finish number) t drawn w' h)) (sym u.reply_is)
+    (subst (λ (v : WorldState). LinkedWorld v (record (moved_on w.keys.keys.ready.queues v.keys.keys.ready.queues drawn h) { ledger = h.ledger ++ [] })) (sym u.same) (linked-still w (record h { ledger = h.ledger ++ [] }) drawn (linked-unentered w h l)))
+finish-reply-keeps w words h number fault outcome drawn logged w' (Some (ToAsk ask_id answer)) fit l at f =
+    subst (λ (t : Line). LinkedWorld w' (hidden_after w words (event.Finish number) t drawn w' h)) (sym f.reply_is)
     (subst (λ (v : WorldState). LinkedWorld v (hidden_after w words (event.Finish number) (finish_line f.result) drawn v h)) (sym f.left)
     (finish-keeps w words h number drawn ask_id answer fault f.result f.ops f.names fit l at f.finishes))
 
 -- each event
 
-pub keeps-linked : (lines : List PropLine) (w : WorldState) (words : ℕ → ℕ) (now : ℕ) (e : Event) (fault tells : Type 0) (told : Line) (drawn : ℕ) (logged : Acknowledged) (w' : WorldState) (h : Hidden) → KnowsWorld e tells → ServicesFit w
-    → Step lines w words now e fault tells told drawn logged w' → LinkedWorld w h → LinkedWorld w' (hidden_after w words e told drawn w' h)
-keeps-linked lines w words now (event.Kms user c) fault tells told drawn logged w' h knows fit s l =
-    subst (λ (v : WorldState). LinkedWorld v (behind_words drawn h)) (sym s.left)
-    (linked-words _ h drawn (linked-keys w h s.keys (user-later lines user w.keys words now c fault s.reply drawn s.commands s.keys fit.keys s.serves)
-    (none-user lines user w.keys words now c fault s.reply drawn s.commands s.keys s.serves l.ready) l))
-keeps-linked lines w words now event.RestartKms fault tells told drawn logged w' h knows fit s l =
-    subst (λ (v : WorldState). LinkedWorld v (behind_words drawn h)) (sym s.left) (linked-words _ h drawn (linked-restart w h (s.found knows).kept s.table (s.found knows).table_is fit.keys l))
-keeps-linked lines w words now event.RestartName fault tells told drawn logged w' h knows fit s l =
-    subst (λ (v : WorldState). LinkedWorld v (behind_words drawn h)) (sym s.left) (linked-words _ h drawn (linked-reopened w h (s.found knows).kept s.table (s.found knows).table_is fit.names l))
-keeps-linked lines w words now (event.Mkdir user p) fault tells told drawn logged w' h knows fit s l =
-    linked-words w' h drawn (path-keeps w h user call.Mkdir (read_path p) fault told drawn logged w' fit.names l s)
-keeps-linked lines w words now (event.Delete user p recursive) fault tells told drawn logged w' h knows fit s l =
-    linked-words w' h drawn (path-keeps w h user (delete_with recursive) (read_path p) fault told drawn logged w' fit.names l s)
-keeps-linked lines w words now (event.Rename user p q) fault tells told drawn logged w' h knows fit s l =
-    linked-words w' h drawn (path-keeps w h user rename_along (read_rename_paths p q) fault told drawn logged w' fit.names l s)
-keeps-linked lines w words now (event.Info user p) fault tells told drawn logged w' h knows fit s l =
-    linked-words w' h drawn (path-keeps w h user call.Info (read_any_path p) fault told drawn logged w' fit.names l s)
-keeps-linked lines w words now (event.List user p) fault tells told drawn logged w' h knows fit s l =
-    linked-words w' h drawn (path-keeps w h user call.List (read_any_path p) fault told drawn logged w' fit.names l s)
-keeps-linked lines w words now (event.Allow user p) fault tells told drawn logged w' h knows fit s l =
-    linked-words w' h drawn (path-keeps w h user call.Allow (read_path p) fault told drawn logged w' fit.names l s)
-keeps-linked lines w words now (event.Disallow user p) fault tells told drawn logged w' h knows fit s l =
-    linked-words w' h drawn (path-keeps w h user call.Disallow (read_path p) fault told drawn logged w' fit.names l s)
-keeps-linked lines w words now (event.Snap user p name) fault tells told drawn logged w' h knows fit s l =
-    linked-words w' h drawn (path-keeps w h user snap_at (read_snap_path p name) fault told drawn logged w' fit.names l s)
-keeps-linked lines w words now (event.Unsnap user p name) fault tells told drawn logged w' h knows fit s l =
-    linked-words w' h drawn (path-keeps w h user unsnap_at (read_snap_path p name) fault told drawn logged w' fit.names l s)
-keeps-linked lines w words now (event.Zones user) fault tells told drawn logged w' h knows fit s l =
-    linked-words w' h drawn (subst (λ (v : WorldState). LinkedWorld v h) (sym s.left) (call-keeps w h user call.Zones fault s.reply s.ops s.names fit.names l s.serves))
-keeps-linked lines w words now (event.AskCreate user p) fault tells told drawn logged w' h knows fit s l = linked-words w' h drawn (ask-at-keeps w h user ask.Create (read_path p) told w' l s.1)
-keeps-linked lines w words now (event.AskZone user p key) fault tells told drawn logged w' h knows fit s l = linked-words w' h drawn (ask-at-keeps w h user (zone_with key) (read_path p) told w' l s.1)
-keeps-linked lines w words now (event.Draw number) fault tells told drawn logged w' h knows fit s l = (draw-keeps lines w h words now number fault told drawn logged w' (numbered w.kept.notes number) fit l refl s).0
-keeps-linked lines w words now (event.Finish number) fault tells told drawn logged w' h knows fit s l = finish-reply-keeps w words h number fault told drawn logged w' (numbered w.kept.replies number) fit.names l refl s
+pub keeps-linked : (lines : List PropLine) (w : WorldState) (words : ℕ → ℕ) (now : ℕ) (e : Event) (fault tells : Type 0) (outcome : Line) (drawn : ℕ) (logged : Acknowledged) (w' : WorldState) (h : Hidden) → KnowsWorld e tells → ServicesFit w
+    → Step lines w words now e fault tells outcome drawn logged w' → LinkedWorld w h → LinkedWorld w' (hidden_after w words e outcome drawn w' h)
+keeps-linked lines w words now (event.Kms user c) fault tells outcome drawn logged w' h knows fit s l =
+    subst (StillLinked w h drawn) (sym s.left) (linked-keys w h s.keys drawn (user-state lines user w.keys words now c fault s.reply drawn s.commands s.keys fit.keys s.serves) l)
+keeps-linked lines w words now event.Ticket fault tells outcome drawn logged w' h knows fit s l = ticket-keeps w h outcome drawn logged w' fit.keys l s
+keeps-linked lines w words now (event.Deposit number) fault tells outcome drawn logged w' h knows fit s l = (deposit-keeps w h words number outcome drawn logged w' (numbered w.kept.tickets number) l refl s).0
+keeps-linked lines w words now event.RestartKms fault tells outcome drawn logged w' h knows fit s l =
+    subst (StillLinked w h drawn) (sym s.left) (linked-restart w h drawn (s.found knows).kept s.table (s.found knows).table_is fit.keys l)
+keeps-linked lines w words now event.RestartName fault tells outcome drawn logged w' h knows fit s l =
+    subst (StillLinked w h drawn) (sym s.left) (linked-still (record w { names = started s.table }) h drawn (linked-reopened w h (s.found knows).kept s.table (s.found knows).table_is fit.names l))
+keeps-linked lines w words now (event.Mkdir user p) fault tells outcome drawn logged w' h knows fit s l = path-keeps w h user call.Mkdir (read_path p) fault outcome drawn logged w' fit.names l s
+keeps-linked lines w words now (event.Delete user p recursive) fault tells outcome drawn logged w' h knows fit s l = path-keeps w h user (delete_with recursive) (read_path p) fault outcome drawn logged w' fit.names l s
+keeps-linked lines w words now (event.Rename user p q) fault tells outcome drawn logged w' h knows fit s l = path-keeps w h user rename_along (read_rename_paths p q) fault outcome drawn logged w' fit.names l s
+keeps-linked lines w words now (event.Info user p) fault tells outcome drawn logged w' h knows fit s l = path-keeps w h user call.Info (read_any_path p) fault outcome drawn logged w' fit.names l s
+keeps-linked lines w words now (event.List user p) fault tells outcome drawn logged w' h knows fit s l = path-keeps w h user call.List (read_any_path p) fault outcome drawn logged w' fit.names l s
+keeps-linked lines w words now (event.Allow user p) fault tells outcome drawn logged w' h knows fit s l = path-keeps w h user call.Allow (read_path p) fault outcome drawn logged w' fit.names l s
+keeps-linked lines w words now (event.Disallow user p) fault tells outcome drawn logged w' h knows fit s l = path-keeps w h user call.Disallow (read_path p) fault outcome drawn logged w' fit.names l s
+keeps-linked lines w words now (event.Snap user p name) fault tells outcome drawn logged w' h knows fit s l = path-keeps w h user snap_at (read_snap_path p name) fault outcome drawn logged w' fit.names l s
+keeps-linked lines w words now (event.Unsnap user p name) fault tells outcome drawn logged w' h knows fit s l = path-keeps w h user unsnap_at (read_snap_path p name) fault outcome drawn logged w' fit.names l s
+keeps-linked lines w words now (event.Zones user) fault tells outcome drawn logged w' h knows fit s l =
+    subst (StillLinked w h drawn) (sym s.left) (linked-still (record w { names = s.names }) h drawn (call-keeps w h user call.Zones fault s.reply s.ops s.names fit.names l s.serves))
+keeps-linked lines w words now (event.AskCreate user p) fault tells outcome drawn logged w' h knows fit s l = ask-at-keeps w h user ask.Create (read_path p) outcome drawn w' l s.1
+keeps-linked lines w words now (event.AskZone user p key) fault tells outcome drawn logged w' h knows fit s l = ask-at-keeps w h user (zone_with key) (read_path p) outcome drawn w' l s.1
+keeps-linked lines w words now (event.Draw number) fault tells outcome drawn logged w' h knows fit s l = (draw-keeps lines w h words now number fault outcome drawn logged w' (numbered w.kept.notes number) fit l refl s).0
+keeps-linked lines w words now (event.Finish number) fault tells outcome drawn logged w' h knows fit s l = finish-reply-keeps w words h number fault outcome drawn logged w' (numbered w.kept.replies number) fit.names l refl s
 
 -- draws that were apart
 
-apart-finish : (h : Hidden) (drawn : ℕ) (enter : Bool) (kept : Option KeptReply) (o : Option (Option Draw)) → ((x : Option Draw) → o ≡ Some x → In x h.replied) → WordsApart h
-    → WordsApart (record (behind_words drawn h) { ledger = h.ledger ++ entered enter (entry_of kept o) })
-apart-finish h drawn enter kept o is_kept f = record { taken = λ d i. let t = f.taken d (was d i) in omega (arith, t); apart = λ d g i j. f.apart d g (was d i) (was g j) }
+apart-finish : (before after : List Queue) (h : Hidden) (drawn : ℕ) (enter : Bool) (kept : Option KeptReply) (o : Option (Option Draw)) → ((x : Option Draw) → o ≡ Some x → In x h.replied) → WordsApart h
+    → WordsApart (record (moved_on before after drawn h) { ledger = h.ledger ++ entered enter (entry_of kept o) })
+apart-finish before after h drawn enter kept o is_kept f = apart-fewer h then was (omega arith) f
   where
+    then : Hidden
+    then = record (moved_on before after drawn h) { ledger = h.ledger ++ entered enter (entry_of kept o) }
+
     drew : (d : Draw) (id : ℕ) (b : Bool) (k : Option KeptReply) (q : Option (Option Draw)) → ((x : Option Draw) → q ≡ Some x → In x h.replied) → In (id, d) (entered b (entry_of k q)) → In (Some d) h.replied
     drew d id false k q has i = absurd i
     drew d id true None q has i = absurd i
@@ -454,33 +483,44 @@ apart-finish h drawn enter kept o is_kept f = record { taken = λ d i. let t = f
     drew d id true (Some (ToAsk ask_id answer)) (Some (Some g)) has (inl is) = subst (λ (x : Draw). In (Some x) h.replied) (sym (ap (λ (e : ℕ × Draw). e.1) is)) (has (Some g) refl)
     drew d id true (Some (ToAsk ask_id answer)) (Some (Some g)) has (inr none) = absurd none
 
-    was : (d : Draw) → IsDrawn (h.ledger ++ entered enter (entry_of kept o)) h.replied d → IsDrawn h.ledger h.replied d
-    was d (inl (id, i)) = elim (in-append (id, d) h.ledger (entered enter (entry_of kept o)) i) [ inl old ↦ inl (id, old) | inr new ↦ inr (drew d id enter kept o is_kept new) ]
-    was d (inr i) = inr i
+    was : (d : Draw) → IsDrawn then d → IsDrawn h d
+    was d (inl (id, i)) = elim (in-append (id, d) h.ledger (entered enter (entry_of kept o)) i) [ inl old ↦ inl (id, old) | inr new ↦ inr (inl (drew d id enter kept o is_kept new)) ]
+    was d (inr i) = drawn-moved before after drawn h d (inr i)
 
-words-stay : (lines : List PropLine) (w : WorldState) (words : ℕ → ℕ) (now : ℕ) (e : Event) (fault tells : Type 0) (told : Line) (drawn : ℕ) (logged : Acknowledged) (w' : WorldState) (h : Hidden) → ServicesFit w
-    → Step lines w words now e fault tells told drawn logged w' → LinkedWorld w h → WordsApart h → WordsApart (hidden_after w words e told drawn w' h)
-words-stay lines w words now e fault tells told drawn logged w' h fit s l f = go e s
+words-stay : (lines : List PropLine) (w : WorldState) (words : ℕ → ℕ) (now : ℕ) (e : Event) (fault tells : Type 0) (outcome : Line) (drawn : ℕ) (logged : Acknowledged) (w' : WorldState) (h : Hidden) → ServicesFit w
+    → Step lines w words now e fault tells outcome drawn logged w' → LinkedWorld w h → WordsApart h → WordsApart (hidden_after w words e outcome drawn w' h)
+words-stay lines w words now e fault tells outcome drawn logged w' h fit s l f = go e s
   where
-    go : (e : Event) → Step lines w words now e fault tells told drawn logged w' → WordsApart (hidden_after w words e told drawn w' h)
-    go (event.Kms user c) s = apart-words h drawn f
-    go event.RestartKms s = apart-words h drawn f
-    go event.RestartName s = apart-words h drawn f
-    go (event.Mkdir user p) s = apart-words h drawn f
-    go (event.Delete user p recursive) s = apart-words h drawn f
-    go (event.Rename user p q) s = apart-words h drawn f
-    go (event.Info user p) s = apart-words h drawn f
-    go (event.List user p) s = apart-words h drawn f
-    go (event.Allow user p) s = apart-words h drawn f
-    go (event.Disallow user p) s = apart-words h drawn f
-    go (event.Snap user p name) s = apart-words h drawn f
-    go (event.Unsnap user p name) s = apart-words h drawn f
-    go (event.Zones user) s = apart-words h drawn f
-    go (event.AskCreate user p) s = apart-words h drawn f
-    go (event.AskZone user p key) s = apart-words h drawn f
-    go (event.Draw number) s = (draw-keeps lines w h words now number fault told drawn logged w' (numbered w.kept.notes number) fit l refl s).1 f
+    before : List Queue
+    before = w.keys.keys.ready.queues
+
+    after : List Queue
+    after = w'.keys.keys.ready.queues
+
+    moved : WordsApart (moved_on before after drawn h)
+    moved = apart-moved before after drawn h f
+
+    go : (e : Event) → Step lines w words now e fault tells outcome drawn logged w' → WordsApart (hidden_after w words e outcome drawn w' h)
+    go (event.Kms user c) s = moved
+    go event.Ticket s = moved
+    go (event.Deposit number) s = (deposit-keeps w h words number outcome drawn logged w' (numbered w.kept.tickets number) l refl s).1 f
+    go event.RestartKms s = moved
+    go event.RestartName s = moved
+    go (event.Mkdir user p) s = moved
+    go (event.Delete user p recursive) s = moved
+    go (event.Rename user p q) s = moved
+    go (event.Info user p) s = moved
+    go (event.List user p) s = moved
+    go (event.Allow user p) s = moved
+    go (event.Disallow user p) s = moved
+    go (event.Snap user p name) s = moved
+    go (event.Unsnap user p name) s = moved
+    go (event.Zones user) s = moved
+    go (event.AskCreate user p) s = moved
+    go (event.AskZone user p key) s = moved
+    go (event.Draw number) s = (draw-keeps lines w h words now number fault outcome drawn logged w' (numbered w.kept.notes number) fit l refl s).1 f
     go (event.Finish number) s =
-        apart-finish h drawn (enters (id_of_reply (numbered w.kept.replies number)) told w'.names) (numbered w.kept.replies number) (numbered h.replied number) (λ x at. numbered-in h.replied number x at) f
+        apart-finish before after h drawn (enters (id_of_reply (numbered w.kept.replies number)) outcome w'.names) (numbered w.kept.replies number) (numbered h.replied number) (λ x at. numbered-in h.replied number x at) f
 
 -- and the draws of two files are apart, if each file has a draw of its own
 pub files-apart : (h : Hidden) (replies : List KeptReply) (asks : List OpenAsk) (next : ℕ) → LedgerFits h.ledger replies h.replied asks next → WordsApart h → DrawsApart h
@@ -497,17 +537,17 @@ files-apart h replies asks next fits f = record {
 pub world-apart : (w : WorldState) (h : Hidden) → LinkedWorld w h → WordsApart h → DrawsApart h
 world-apart w h l f = files-apart h w.kept.replies w.names.names.asks (next_id w.names.names) l.ledger f
 
-pub draws-stay : (lines : List PropLine) (w : WorldState) (words : ℕ → ℕ) (now : ℕ) (e : Event) (fault tells : Type 0) (told : Line) (drawn : ℕ) (logged : Acknowledged) (w' : WorldState) (h : Hidden) → KnowsWorld e tells → ServicesFit w
-    → Step lines w words now e fault tells told drawn logged w' → LinkedWorld w h → WordsApart h → DrawsApart (hidden_after w words e told drawn w' h)
-draws-stay lines w words now e fault tells told drawn logged w' h knows fit s l f =
-    world-apart w' (hidden_after w words e told drawn w' h) (keeps-linked lines w words now e fault tells told drawn logged w' h knows fit s l)
-    (words-stay lines w words now e fault tells told drawn logged w' h fit s l f)
+pub draws-stay : (lines : List PropLine) (w : WorldState) (words : ℕ → ℕ) (now : ℕ) (e : Event) (fault tells : Type 0) (outcome : Line) (drawn : ℕ) (logged : Acknowledged) (w' : WorldState) (h : Hidden) → KnowsWorld e tells → ServicesFit w
+    → Step lines w words now e fault tells outcome drawn logged w' → LinkedWorld w h → WordsApart h → DrawsApart (hidden_after w words e outcome drawn w' h)
+draws-stay lines w words now e fault tells outcome drawn logged w' h knows fit s l f =
+    world-apart w' (hidden_after w words e outcome drawn w' h) (keeps-linked lines w words now e fault tells outcome drawn logged w' h knows fit s l)
+    (words-stay lines w words now e fault tells outcome drawn logged w' h fit s l f)
 
 -- the promise
 
-files-open : (ledger : Ledger) (replied : List (Option Draw)) (place : ℕ) (IsBirth : ℕ → Type 0) (keys : List KeyRow) (names : NameTable) (replies : List KeptReply) (asks : List OpenAsk) (next : ℕ) → NamesOnce keys → FilesLinked ledger keys names
-    → DrawsFit ledger replied place IsBirth → LedgerFits ledger replies replied asks next → FilesOpen ledger keys names
-files-open ledger replied place IsBirth keys names replies asks next once f draws fits =
+files-open : (ledger : Ledger) (replied : List (Option Draw)) (keys : List KeyRow) (names : NameTable) (replies : List KeptReply) (asks : List OpenAsk) (next : ℕ) → NamesOnce keys → FilesLinked ledger keys names
+    → LedgerFits ledger replies replied asks next → FilesOpen ledger keys names
+files-open ledger replied keys names replies asks next once f fits =
     record {
       open_up = λ row e i is.
           let d = f.files row e i is in
@@ -524,10 +564,10 @@ files-open ledger replied place IsBirth keys names replies asks next once f draw
 pub linked-promise : (w : WorldState) (h : Hidden) → IsService w.keys → LinkedWorld w h → ZoneFilesOpen w h
 linked-promise w h fit l kept_keys kept_names =
     let later = later-settled kept_keys w.keys fit in
-    files-open h.ledger h.replied h.place (IsOldBirth w.keys.keys.table) (settled_keys kept_keys w.keys).table.rows (settled kept_names w.names).table w.kept.replies w.names.names.asks (next_id w.names.names)
+    files-open h.ledger h.replied (settled_keys kept_keys w.keys).table.rows (settled kept_names w.names).table w.kept.replies w.names.names.asks (next_id w.names.names)
     (names-with kept_keys w.keys.pending w.keys.keys.table fit.table (may-wait w.keys.pending w.keys.keys fit.waits))
-    (files-later h.ledger h.replied h.place (IsOldBirth w.keys.keys.table) w.keys.keys.table.rows (settled_keys kept_keys w.keys).table.rows (settled kept_names w.names).table l.draws later.rows (l.files kept_names))
-    l.draws l.ledger
+    (files-later h (IsOldBirth w.keys.keys.table) w.keys.keys.table.rows (settled_keys kept_keys w.keys).table.rows (settled kept_names w.names).table l.draws later.rows (l.files kept_names))
+    l.ledger
 
 pub tables-open : (past : Past) (keys : Table) (names : NameTable) → NamesOnce keys.rows → LinkedTables past keys names → FilesOpen past.ledger keys.rows names
-tables-open past keys names once l = files-open past.ledger [] past.place (IsRecordedBirth keys) keys.rows names [] [] ((names.opening + 1) * 2 ^ 32) once l.files l.draws l.fits
+tables-open past keys names once l = files-open past.ledger [] keys.rows names [] [] ((names.opening + 1) * 2 ^ 32) once l.files l.fits

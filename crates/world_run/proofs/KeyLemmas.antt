@@ -21,19 +21,19 @@ keys-weaker own other table pending commands bytes f l = leaving_more table pend
 
 -- the calls that asks want change no key, and write nothing
 
-pub generate-logs : (old new : DiskState) (store store' : StoreState) (s : ServiceState) (words : ℕ → ℕ) (now : ℕ) (name : KeyName) (told : KmsReply) (s' : ServiceState) (logged : List KeyCommand)
-    → Logs old new store store' (IsLeftOf store.table.keys store.pending (OwnOf s words now (call.Generate name 1) told s')) logged → Logs old new store store' (IsLeftOf store.table.keys store.pending NoCommand) logged
-generate-logs old new store store' s words now name told s' logged l =
-    logs_leaving old new store store' (OwnOf s words now (call.Generate name 1) told s') NoCommand logged (λ kept command own. let writes : None ≡ Some command = own.is in absurd (cc writes)) l
+pub generate-logs : (old new : DiskState) (store store' : StoreState) (s : ServiceState) (words : ℕ → ℕ) (now : ℕ) (name : KeyName) (answer : KmsReply) (s' : ServiceState) (logged : List KeyCommand)
+    → Logs old new store store' (IsLeftOf store.table.keys store.pending (OwnOf s words now (call.Generate name 1) answer s')) logged → Logs old new store store' (IsLeftOf store.table.keys store.pending NoCommand) logged
+generate-logs old new store store' s words now name answer s' logged l =
+    logs_leaving old new store store' (OwnOf s words now (call.Generate name 1) answer s') NoCommand logged (λ kept command own. let writes : None ≡ Some command = own.is in absurd (cc writes)) l
 
-pub metadata-logs : (old new : DiskState) (store store' : StoreState) (s : ServiceState) (words : ℕ → ℕ) (now : ℕ) (name : KeyName) (told : KmsReply) (s' : ServiceState) (logged : List KeyCommand)
-    → Logs old new store store' (IsLeftOf store.table.keys store.pending (OwnOf s words now (call.Metadata name) told s')) logged → Logs old new store store' (IsLeftOf store.table.keys store.pending NoCommand) logged
-metadata-logs old new store store' s words now name told s' logged l =
-    logs_leaving old new store store' (OwnOf s words now (call.Metadata name) told s') NoCommand logged (λ kept command own. let writes : None ≡ Some command = own.is in absurd (cc writes)) l
+pub metadata-logs : (old new : DiskState) (store store' : StoreState) (s : ServiceState) (words : ℕ → ℕ) (now : ℕ) (name : KeyName) (answer : KmsReply) (s' : ServiceState) (logged : List KeyCommand)
+    → Logs old new store store' (IsLeftOf store.table.keys store.pending (OwnOf s words now (call.Metadata name) answer s')) logged → Logs old new store store' (IsLeftOf store.table.keys store.pending NoCommand) logged
+metadata-logs old new store store' s words now name answer s' logged l =
+    logs_leaving old new store store' (OwnOf s words now (call.Metadata name) answer s') NoCommand logged (λ kept command own. let writes : None ≡ Some command = own.is in absurd (cc writes)) l
 
 -- the command that a call of a user may write, with the line of its reply
-pub call-logs : (old new : DiskState) (store store' : StoreState) (s : ServiceState) (words : ℕ → ℕ) (now : ℕ) (c : KmsCall) (told : KmsReply) (s' : ServiceState) (logged : List KeyCommand)
-    → Logs old new store store' (IsLeftOf store.table.keys store.pending (OwnOf s words now c told s')) logged
-    → Logs old new store store' (IsLeftOf store.table.keys store.pending (OwnOfKeysCall s words now c (line.Kms told) s')) logged
-call-logs old new store store' s words now c told s' logged l =
-    logs_leaving old new store store' (OwnOf s words now c told s') (OwnOfKeysCall s words now c (line.Kms told) s') logged (λ kept command own. record { reply = told; told_is = refl; own = own }) l
+pub call-logs : (old new : DiskState) (store store' : StoreState) (s : ServiceState) (words : ℕ → ℕ) (now : ℕ) (c : KmsCall) (answer : KmsReply) (s' : ServiceState) (logged : List KeyCommand)
+    → Logs old new store store' (IsLeftOf store.table.keys store.pending (OwnOf s words now c answer s')) logged
+    → Logs old new store store' (IsLeftOf store.table.keys store.pending (OwnOfKeysCall s words now c (line.Kms answer) s')) logged
+call-logs old new store store' s words now c answer s' logged l =
+    logs_leaving old new store store' (OwnOf s words now c answer s') (OwnOfKeysCall s words now c (line.Kms answer) s') logged (λ kept command own. record { reply = answer; reply_is = refl; own = own }) l

@@ -1,54 +1,47 @@
 -- A key that opens under a table of keys opens under a later one.
 use Rattle.std.proofs.Common.{◌≡◌, ◌⊎◌, inl, inr, ℕ, zero, suc, ◌+◌, ◌*◌, ◌^◌, ◌<◌, ◌≤◌, ◌/◌, ◌==◌, Bool, true, false, cond, List, [], ◌∷◌, ◌++◌, length, Option, Some, None, is_none, slice_get, refl, sym, ap, subst, ◌∙◌, arith}
-use Rattle.std.specs.Prelude.{⊤, not, ◌&&◌, nat_lt, IfSome, Result, Ok, Err}
+use Rattle.std.specs.Prelude.{⊤, not, ◌&&◌, nat_lt, IfSome}
 use Rattle.std.specs.List.{filter}
 use Rattle.std.specs.Option.{option_map, option_and_then}
 use Rattle.std.specs.Str.{bytes_eq}
 use Rattle.std.proofs.lemmas.Bool.Decides.{Decides-eqb, nat_tests}
 use Rattle.hk_base.specs.declared.names.Dek.{Dek}
 use Rattle.hk_base.specs.declared.names.Edek.{Edek}
-use Rattle.hk_base.specs.declared.texts.Text.{Text}
 use Rattle.key_rows.specs.declared.rows.KeyRow.{KeyRow}
 use Rattle.key_rows.specs.declared.rows.KeyCommand.{KeyCommand}
 use Rattle.key_rows.specs.declared.rows.KeyCommand.TheVariants.{Opened, Create, Roll, Delete}
-use Rattle.kms_calls.specs.declared.calls.KmsCall.{KmsCall}
-use Rattle.kms_calls.specs.declared.calls.KmsCall.TheVariants as call
-use Rattle.kms_calls.specs.declared.calls.KmsRefusal.{KmsRefusal}
-use Rattle.kms_calls.specs.declared.calls.KmsReply.{KmsReply}
 use Rattle.key_rows.specs.Sound.{IsTable, NamesOnce}
 use Rattle.key_rows.specs.Table.{Table, after, applies, find_name, is_born, is_length, material_of, no_keys, opening_of, rolled, with_material}
 use Rattle.key_rows.proofs.Births.{both}
 use Rattle.key_rows.proofs.TableLemmas.{sound_create, sound_delete, sound_roll}
-use Rattle.prop_text.specs.declared.lines.PropLine.{PropLine}
-use Rattle.kms_acls.specs.declared.answers.Denied.{Denied}
-use Rattle.kms_acls.specs.declared.answers.Shown.{Shown}
-use Rattle.kms_acls.specs.Verdict.{verdict}
 use Rattle.kms_store.specs.Replay.{HasRoomForBirths, key_replay}
 use Rattle.kms_store.specs.Store.{Applies, next_opening, settled_table}
 use Rattle.kms_store.proofs.Replays.{births_after}
-use Rattle.kms_core.specs.Draws.{material_for}
-use Rattle.kms_core.specs.Calls.{KmsActs, NoRoom, Plain, birth_of, bits_of, causes, deed, done_with, first_cause, row_of, unless_refused, versions_of}
 use Rattle.kms_core.specs.Opening.{unseals}
-use Rattle.kms_core.specs.Users.{ServesUnder, ServesUser}
-use Rattle.kms_core.specs.Service.{Committing, Kind, Reading, Serves, ServesBy, Working, kind}
 use Rattle.eek_queues.specs.Queues.{AllQueues}
-use Rattle.kms_core.specs.State.{IsPending, IsService, KmsState, ServiceState, next_birth, opened, settled}
-use Rattle.kms_core.proofs.BirthLemmas.{below_settled, deed_keeps}
+use Rattle.kms_core.specs.State.{IsPending, IsService, KmsState, ServiceState, service_after_opening, settled}
 use Rattle.world_run.specs.Ledger.{Draw}
 use Rattle.world_run.specs.Linked.{IsOldBirth, IsRecordedBirth, KeyLinked, OpensTo}
 use Rattle.world_run.specs.Promise.{In}
 use Rattle.world_run.proofs.Members.{in-map, in-more}
 
--- each key that one row opens, the other opens alike
-abbrev pub Grew : KeyRow → KeyRow → Type 0
-Grew old row = (e : Edek) (dek : Dek) → unseals (old ∷ []) e ≡ Some dek → unseals (row ∷ []) e ≡ Some dek
+-- a later row of a key: it has the name, and each material under its number
+pub record Grew (old row : KeyRow) : Type 0 where
+  pub named : row.name ≡ old.name
+  pub has : (n : ℕ) (m : Dek) → slice_get old.materials n ≡ Some m → slice_get row.materials n ≡ Some m
+
+grew-same : (row : KeyRow) → Grew row row
+grew-same row = record { named = refl; has = λ n m got. got }
+
+grew-then : (old mid row : KeyRow) → Grew old mid → Grew mid row → Grew old row
+grew-then old mid row a z = record { named = z.named ∙ a.named; has = λ n m got. z.has n m (a.has n m got) }
 
 -- a row of the birth in the later table grew from one in the earlier
 abbrev pub LaterAt : List KeyRow → List KeyRow → ℕ → Type 0
 LaterAt olds rows b = (row : KeyRow) → In row rows → row.birth ≡ b → (old : KeyRow) × In old olds × (old.birth ≡ b) × Grew old row
 
 pub later-same : (rows : List KeyRow) (b : ℕ) → LaterAt rows rows b
-later-same rows b row p h = (row, p, h, λ e dek o. o)
+later-same rows b row p h = (row, p, h, grew-same row)
 
 got-front : (ms : List Dek) (m : Dek) (n : ℕ) (x : Dek) → slice_get ms n ≡ Some x → slice_get (ms ++ m ∷ []) n ≡ Some x
 got-front [] m n x h = absurd cc
@@ -59,23 +52,32 @@ opens-more : (open_by : Dek → Dek) (o q : Option Dek) (dek : Dek) → ((x : De
 opens-more open_by None q dek f h = absurd cc
 opens-more open_by (Some x) q dek f h = ap (option_map open_by) (f x refl) ∙ h
 
-longer : (m : Dek) (row : KeyRow) → Grew row (with_material m row)
-longer m row e dek h = opens-more _ (material_of (row ∷ []) e.version) (material_of (with_material m row ∷ []) e.version) dek (more (bytes_eq row.name e.version.key)) h
+-- each key that a row opens, a later one opens alike
+grew-opens : (old row : KeyRow) (e : Edek) (dek : Dek) → Grew old row → unseals (old ∷ []) e ≡ Some dek → unseals (row ∷ []) e ≡ Some dek
+grew-opens old row e dek g h = opens-more _ (material_of (old ∷ []) e.version) (material_of (row ∷ []) e.version) dek found h
   where
     more : (t : Bool) (x : Dek)
+        → option_and_then (λ (r : KeyRow). slice_get r.materials e.version.number) (cond t (Some old) None) ≡ Some x
         → option_and_then (λ (r : KeyRow). slice_get r.materials e.version.number) (cond t (Some row) None) ≡ Some x
-        → option_and_then (λ (r : KeyRow). slice_get r.materials e.version.number) (cond t (Some (with_material m row)) None) ≡ Some x
-    more true x g = got-front row.materials m e.version.number x g
-    more false x g = absurd cc
+    more true x got = g.has e.version.number x got
+    more false x got = absurd cc
+
+    found : (x : Dek) → material_of (old ∷ []) e.version ≡ Some x → material_of (row ∷ []) e.version ≡ Some x
+    found x got =
+        ap (λ (name : List ℕ). option_and_then (λ (r : KeyRow). slice_get r.materials e.version.number) (cond (bytes_eq name e.version.key) (Some row) None)) g.named
+        ∙ more (bytes_eq old.name e.version.key) x got
+
+longer : (m : Dek) (row : KeyRow) → Grew row (with_material m row)
+longer m row = record { named = refl; has = λ n x got. got-front row.materials m n x got }
 
 rolled-row : (birth : ℕ) (m : Dek) (row : KeyRow) → Grew row (rolled birth m row) × ((rolled birth m row).birth ≡ row.birth)
 rolled-row birth m row = go (is_born birth row)
   where
     go : (b : Bool) → Grew row (cond b (with_material m row) row) × ((cond b (with_material m row) row).birth ≡ row.birth)
     go true = (longer m row, refl)
-    go false = (λ e dek h. h, refl)
+    go false = (grew-same row, refl)
 
-in-filter : (test : KeyRow → Bool) (x : KeyRow) (xs : List KeyRow) → In x (filter test xs) → In x xs
+pub in-filter : (test : KeyRow → Bool) (x : KeyRow) (xs : List KeyRow) → In x (filter test xs) → In x xs
 in-filter test x [] p = absurd p
 in-filter test x (z ∷ xs) p = go (test z) (in-filter test x xs) p
   where
@@ -90,20 +92,20 @@ Spares b (Create birth name bits description created material) = birth ≡ b →
 Spares b _ = ⊤
 
 pub later-after : (t : Table) (c : KeyCommand) (b : ℕ) → Spares b c → LaterAt t.rows (after t c).rows b
-later-after t (Opened opening) b n row p h = (row, p, h, λ e dek o. o)
+later-after t (Opened opening) b n row p h = (row, p, h, grew-same row)
 later-after t (Create birth name bits description created material) b n row p h =
     elim (in-more row (record { name = name; birth = birth; bits = bits; materials = material ∷ []; description = description; created = created }) t.rows p) [
-      | inl q ↦ (row, q, h, λ e dek o. o)
+      | inl q ↦ (row, q, h, grew-same row)
       | inr is ↦ absurd (n (ap (λ (r : KeyRow). r.birth) (sym is) ∙ h))
     ]
 later-after t (Roll birth number material) b n row p h =
     let q = in-map (rolled birth material) row t.rows p in
     let grew = rolled-row birth material q.0 in
     (q.0, q.1, sym grew.1 ∙ sym (ap (λ (r : KeyRow). r.birth) q.2) ∙ h, subst (Grew q.0) (sym q.2) grew.0)
-later-after t (Delete birth) b n row p h = (row, in-filter (λ r. not (is_born birth r)) row t.rows p, h, λ e dek o. o)
+later-after t (Delete birth) b n row p h = (row, in-filter (λ r. not (is_born birth r)) row t.rows p, h, grew-same row)
 
 pub opens-later : (olds rows : List KeyRow) (d : Draw) (e : Edek) → LaterAt olds rows d.birth → OpensTo olds d e → OpensTo rows d e
-opens-later olds rows d e later h row p is = let q = later row p is in q.3 e d.dek (h q.0 q.1 q.2)
+opens-later olds rows d e later h row p is = let q = later row p is in grew-opens q.0 row e d.dek q.3 (h q.0 q.1 q.2)
 
 -- tables that grew
 
@@ -111,24 +113,26 @@ later-still : (olds mids rows : List KeyRow) (b : ℕ) → LaterAt olds mids b �
 later-still olds mids rows b first next row p h =
     let q = next row p h in
     let r = first q.0 q.1 q.2 in
-    (r.0, r.1, r.2, λ e dek o. q.3 e dek (r.3 e dek o))
+    (r.0, r.1, r.2, grew-then r.0 q.0 row r.3 q.3)
 
--- a key that opens under keys of old births opens alike under a later table, and the births are old there too
+-- a later table: keys of old births grew from those with the births, which are old there too, and the opening is no earlier
 pub record KeysLater (t u : Table) : Type 0 where
+  pub opening : t.opening ≤ u.opening
   pub rows : (b : ℕ) → IsOldBirth t b → LaterAt t.rows u.rows b
   pub births : (b : ℕ) → IsOldBirth t b → IsOldBirth u b
 
 pub same-later : (t : Table) → KeysLater t t
-same-later t = record { rows = λ b h. later-same t.rows b; births = λ b h. h }
+same-later t = record { opening = omega arith; rows = λ b h. later-same t.rows b; births = λ b h. h }
 
 pub then-later : (t u v : Table) → KeysLater t u → KeysLater u v → KeysLater t v
 then-later t u v a z = record {
+  opening = omega (arith, a.opening, z.opening);
   rows = λ b h. later-still t.rows u.rows v.rows b (a.rows b h) (z.rows b (a.births b h));
   births = λ b h. z.births b (a.births b h);
 }
 
 -- a later opening, a key of a new birth of this opening, or a command that makes neither
-abbrev MakesNew : Table → KeyCommand → Type 0
+abbrev pub MakesNew : Table → KeyCommand → Type 0
 MakesNew t (Opened opening) = t.opening ≤ opening
 MakesNew t (Create birth name bits description created material) = (t.opening * 2 ^ 32 ≤ birth) × (t.greatest < birth)
 MakesNew t _ = ⊤
@@ -148,20 +152,21 @@ old-after t (Create birth name bits description created material) new b (inr use
 old-after t (Roll birth number material) new b old = old
 old-after t (Delete birth) new b old = old
 
-later-by : (t : Table) (c : KeyCommand) → MakesNew t c → KeysLater t (after t c)
-later-by t (Opened opening) new = record { rows = λ b h. later-after t (Opened opening) b tt; births = old-after t (Opened opening) new }
+pub later-by : (t : Table) (c : KeyCommand) → MakesNew t c → KeysLater t (after t c)
+later-by t (Opened opening) new = record { opening = new; rows = λ b h. later-after t (Opened opening) b tt; births = old-after t (Opened opening) new }
 later-by t (Create birth name bits description created material) new = record {
+  opening = omega arith;
   rows = λ b h. later-after t (Create birth name bits description created material) b (unlike t.opening t.greatest birth b new.0 new.1 h);
   births = old-after t (Create birth name bits description created material) new;
 }
-later-by t (Roll birth number material) new = record { rows = λ b h. later-after t (Roll birth number material) b tt; births = λ b h. h }
-later-by t (Delete birth) new = record { rows = λ b h. later-after t (Delete birth) b tt; births = λ b h. h }
+later-by t (Roll birth number material) new = record { opening = omega arith; rows = λ b h. later-after t (Roll birth number material) b tt; births = λ b h. h }
+later-by t (Delete birth) new = record { opening = omega arith; rows = λ b h. later-after t (Delete birth) b tt; births = λ b h. h }
 
 -- an opening that applies is later
 pub next-rises : (old opening : ℕ) → (opening == old + 1) ≡ true → old ≤ opening
 next-rises old opening h = grind (arith, nat_tests)
 
-makes-new : (t : Table) (c : KeyCommand) → applies t c ≡ true → MakesNew t c
+pub makes-new : (t : Table) (c : KeyCommand) → applies t c ≡ true → MakesNew t c
 makes-new t (Opened opening) may = next-rises t.opening opening may
 makes-new t (Create birth name bits description created material) may =
     let sized = both (nat_lt 0 t.opening && is_none (find_name t.rows name) && opening_of birth == t.opening && nat_lt t.greatest birth && nat_lt (length t.rows) 10000 && is_length bits) (length material == bits / 8) may in
@@ -219,60 +224,8 @@ old-recorded t room b (inl before) = omega (arith, before)
 old-recorded t room b (inr used) = omega (arith, room, used)
 
 -- those that a start finds
-pub later-opened : (all : AllQueues) (t : Table) → KeysLater t (opened all t).keys.table
+pub later-opened : (all : AllQueues) (t : Table) → KeysLater t (service_after_opening all t).keys.table
 later-opened all t = later-by t (next_opening t) (omega arith)
-
--- the keys after a call of the key management service
-
-deed-later : (s : KmsState) (words : ℕ → ℕ) (now : ℕ) (c : KmsCall) → s.table.greatest < next_birth s → KeysLater s.table (done_with (deed s words now c).logs (deed s words now c).state).table
-deed-later s words now (call.Create name bits material description) below = later-by s.table (Create (next_birth s) name bits description now _) (omega arith, below)
-deed-later s words now (call.Roll name material) below = later-by s.table (Roll (birth_of (row_of s name)) (versions_of (row_of s name)) (material_for words (bits_of (row_of s name)) material)) tt
-deed-later s words now (call.Delete name) below = later-by s.table (Delete (birth_of (row_of s name))) tt
-deed-later s words now (call.Invalidate name) below = same-later s.table
-deed-later s words now (call.Metadata name) below = same-later s.table
-deed-later s words now (call.Metadatas names) below = same-later s.table
-deed-later s words now call.Names below = same-later s.table
-deed-later s words now (call.Current name) below = same-later s.table
-deed-later s words now (call.Versions name) below = same-later s.table
-deed-later s words now (call.Version version) below = same-later s.table
-deed-later s words now (call.Generate name count) below = same-later s.table
-deed-later s words now (call.Decrypt name sent) below = same-later s.table
-deed-later s words now (call.Reencrypt name sent) below = same-later s.table
-deed-later s words now (call.Batch name sent) below = same-later s.table
-
-pub acts-later : (s : KmsState) (words : ℕ → ℕ) (now : ℕ) (c : KmsCall) (told : KmsReply) (drawn : ℕ) (s' : KmsState) → s.table.greatest < next_birth s → KmsActs s words now c told drawn s' → KeysLater s.table s'.table
-acts-later s words now c told drawn s' below (NoRoom some, may, is) = subst (λ (t : KmsState). KeysLater s.table t.table) (sym (ap (λ o. o.state) is)) (same-later s.table)
-acts-later s words now c told drawn s' below (Plain, may, is) = subst (λ (t : KmsState). KeysLater s.table t.table) (sym (ap (λ o. o.state) is)) (go (first_cause (causes s c)))
-  where
-    go : (o : Option KmsRefusal) → KeysLater s.table (unless_refused o s (deed s words now c)).state.table
-    go (Some why) = same-later s.table
-    go None = deed-later s words now c below
-
-serves-later : (s : ServiceState) (words : ℕ → ℕ) (now : ℕ) (c : KmsCall) (fault : Type 0) (told : KmsReply) (drawn : ℕ) (logged : List KeyCommand) (s' : ServiceState) → IsService s
-    → Serves s words now c fault told drawn logged s' → KeysLater s.keys.table s'.keys.table
-serves-later s words now c fault told drawn logged s' is serves = go (kind c) serves
-  where
-    go : (k : Kind) → ServesBy k s words now c fault told drawn logged s' → KeysLater s.keys.table s'.keys.table
-    go Reading r = subst (λ (t : ServiceState). KeysLater s.keys.table t.keys.table) (sym r.same) (same-later s.keys.table)
-    go Working w =
-        subst (λ (t : ServiceState). KeysLater s.keys.table t.keys.table) (sym w.left) (acts-later s.keys words now c told drawn w.changed is.births w.acts)
-    go Committing (inl u) = subst (λ (t : ServiceState). KeysLater s.keys.table t.keys.table) (sym u.same) (same-later s.keys.table)
-    go Committing (inr (kept, inl w)) =
-        subst (λ (t : ServiceState). KeysLater s.keys.table t.keys.table) (sym w.left)
-        (then-later s.keys.table (settled kept s).table w.changed.table (later-settled kept s is)
-        (acts-later (settled kept s) words now c told drawn w.changed (below_settled kept s is) w.acts))
-    go Committing (inr (kept, inr u)) =
-        subst (λ (t : ServiceState). KeysLater s.keys.table t.keys.table) (sym u.left)
-        (subst (λ (t : Table). KeysLater s.keys.table t) (sym (deed_keeps (settled kept s) words now c)) (later-settled kept s is))
-
--- the keys after a call of a user: unchanged if it is denied
-pub user-later : (lines : List PropLine) (user : Text) (s : ServiceState) (words : ℕ → ℕ) (now : ℕ) (c : KmsCall) (fault : Type 0) (told : KmsReply) (drawn : ℕ) (logged : List KeyCommand) (s' : ServiceState) → IsService s
-    → ServesUser lines user s words now c fault told drawn logged s' → KeysLater s.keys.table s'.keys.table
-user-later lines user s words now c fault told drawn logged s' is serves = by-verdict (verdict lines user c) serves
-  where
-    by-verdict : (v : Result Shown Denied) → ServesUnder v s words now c fault told drawn logged s' → KeysLater s.keys.table s'.keys.table
-    by-verdict (Ok shown) p = serves-later s words now c fault p.reply drawn logged s' is p.serves
-    by-verdict (Err denied) d = subst (λ (t : ServiceState). KeysLater s.keys.table t.keys.table) (sym d.same) (same-later s.keys.table)
 
 -- tables in which no two keys have one name
 

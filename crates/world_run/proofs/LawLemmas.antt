@@ -17,7 +17,7 @@ use Rattle.kms_store.proofs.Layers.{not_damaged}
 use Rattle.name_store.specs.Table.{key_of_zone, nothing_logged, settled_log}
 use Rattle.kms_store.specs.Store.{settled_table}
 use Rattle.world_run.specs.Laws.{EmptyFilesAreSound, SoundFilesAreWhole, SoundFilesOpen}
-use Rattle.world_run.specs.Ledger.{Draw}
+use Rattle.world_run.specs.Ledger.{Draw, drawn_before}
 use Rattle.world_run.specs.Linked.{IsDrawn, LinkedTables}
 use Rattle.world_run.specs.Promise.{FitsZone, edek_of}
 use Rattle.world_run.proofs.KeepLemmas.{tables-open}
@@ -29,9 +29,10 @@ use Rattle.name_store.proofs.Layers.{not_damaged as names_not_damaged}
 at-rest : (file : ℕ) (bytes : List ℕ) → length bytes ≤ 9 → IsAtRest file [] bytes
 at-rest file bytes short = ap (λ (b : Bool). if b then Found [] 0 else (if starts_with (magic file) bytes then frames_at (length bytes) 8 (drop 8 bytes) else NoLog 0)) (le-leb (length bytes) 9 short)
 
-pub none-drawn : (d : Draw) → IsDrawn [] [] d → ⊥
-none-drawn d (inl (id, i)) = absurd i
-none-drawn d (inr i) = absurd i
+pub none-drawn : (d : Draw) → IsDrawn (drawn_before (record { ledger = []; place = 0 })) d → ⊥
+none-drawn d (inl (id, none)) = absurd none
+none-drawn d (inr (inl none)) = absurd none
+none-drawn d (inr (inr (birth, none))) = absurd none
 
 nothing-linked : LinkedTables (record { ledger = []; place = 0 }) no_keys nothing_logged.table
 nothing-linked = record {

@@ -3,7 +3,6 @@ pub mod AskLemmas
 pub mod BothLemmas
 pub mod CrashLemmas
 pub mod DrawLemmas
-pub mod EmptyQueues
 pub mod FinishLemmas
 pub mod KeepLemmas
 pub mod KeptRows
@@ -11,11 +10,15 @@ pub mod KeyLemmas
 pub mod Laters
 pub mod LawLemmas
 pub mod Members
+pub mod PairLemmas
+pub mod QueueLaters
 pub mod RenameLemmas
 pub mod RestartLemmas
 pub mod RowLemmas
 pub mod RowsAfter
+pub mod ServiceLaters
 pub mod SoundLemmas
 pub mod StartLemmas
 pub mod StepLemmas
+pub mod TicketLemmas
 pub mod WorldLemmas

@@ -1,5 +1,6 @@
 -- Members of lists, and values kept under numbers.
-use Rattle.std.proofs.Common.{◌≡◌, ◌⊎◌, inl, inr, ℕ, zero, suc, List, [], ◌∷◌, ◌++◌, length, map, Some, slice_get, refl, sym, ap, arith}
+use Rattle.std.proofs.Common.{◌≡◌, ◌⊎◌, inl, inr, ℕ, zero, suc, Bool, true, false, cond, List, [], ◌∷◌, ◌++◌, length, map, find, Some, slice_get, refl, sym, ap, subst, arith}
+use Rattle.std.specs.List.{AllByRecursion}
 use Rattle.world_run.specs.Promise.{In}
 use Rattle.world_run.specs.World.{numbered}
 
@@ -20,6 +21,21 @@ in-right x (z ∷ xs) ys p = inr (in-right x xs ys p)
 -- a member of a list with one more
 pub in-more : {X : Type 0} (x y : X) (xs : List X) → In x (xs ++ y ∷ []) → In x xs ⊎ (x ≡ y)
 in-more x y xs p = elim (in-append x xs (y ∷ []) p) [ inl q ↦ inl q | inr q ↦ elim q [ inl e ↦ inr e | inr n ↦ absurd n ] ]
+
+-- what is true of each element is true of a member
+pub each-in : {X : Type 0} (P : X → Type 0) (xs : List X) (x : X) → AllByRecursion P xs → In x xs → P x
+each-in P [] x each i = absurd i
+each-in P (y ∷ xs) x each (inl is) = subst P (sym is) each.0
+each-in P (y ∷ xs) x each (inr i) = each-in P xs x each.1 i
+
+-- what is found is a member
+pub found-in : {X : Type 0} (p : X → Bool) (xs : List X) (x : X) → find p xs ≡ Some x → In x xs
+found-in p [] x h = absurd cc
+found-in {X = X} p (y ∷ xs) x h = go (p y) (found-in p xs x) h
+  where
+    go : (b : Bool) → (find p xs ≡ Some x → In x xs) → cond b (Some y) (find p xs) ≡ Some x → In x (y ∷ xs)
+    go true ih h = let is : y ≡ x = cc in inl (sym is)
+    go false ih h = inr (ih h)
 
 pub in-map : {X Y : Type 0} (f : X → Y) (y : Y) (xs : List X) → In y (map f xs) → (x : X) × In x xs × (y ≡ f x)
 in-map f y [] p = absurd p

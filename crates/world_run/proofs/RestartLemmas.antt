@@ -8,15 +8,15 @@ use Rattle.edit_ops.specs.declared.ops.EditOp.{EditOp}
 use Rattle.key_rows.specs.declared.rows.KeyCommand.{KeyCommand}
 use Rattle.key_rows.specs.Table.{Table}
 use Rattle.prop_text.specs.declared.lines.PropLine.{PropLine}
-use Rattle.kms_store.specs.Store.{AKeyOpening, Applies, IsLeftByStart, IsLeftOf, IsSoundLog, NoCommand, OpensKeys, StandsFor, next_opening, settled_commands}
+use Rattle.kms_store.specs.Store.{AKeyOpening, Applies, IsLeftByStart, IsLeftOf, IsSoundLog, NoCommand, OpensKeys, IsKeyStoreOf, next_opening, settled_commands}
 use Rattle.kms_store.proofs.Layers.{finds, left_by_start, left_by_store, not_damaged, sound_store, stands_once}
 use Rattle.kms_core.specs.Service.{Starts}
-use Rattle.kms_core.specs.State.{opened}
+use Rattle.kms_core.specs.State.{service_after_opening}
 use Rattle.kms_core.specs.Users.{RunningKms, running}
 use Rattle.name_store.specs.Store.{AnOpening, IsLeftByStart as IsLeftByNameStart, IsLeftOf as IsLeftOfNames, IsSoundLog as IsSoundNames, NothingMore, OpensNames, made_with}
 use Rattle.name_store.specs.Table.{NameTable, Replayed, next_opening as next_opening_of_names, settled_ops}
 use Rattle.name_core.specs.Service.{Starts as NamesStart}
-use Rattle.name_core.specs.State.{StandsFor as NamesStandFor}
+use Rattle.name_core.specs.State.{IsNamesystemOf}
 use Rattle.hk_events.specs.declared.event.Event.TheVariants as event
 use Rattle.hk_events.specs.declared.event.Line.TheVariants as line
 use Rattle.world_run.specs.Acknowledged.{Acknowledged, HoldsLogs, LeavesBoth, Survives, of_keys, of_names}
@@ -53,18 +53,18 @@ may-be-kept w fit = may-wait w.keys.store.pending (world_of w).keys.keys fit.key
 
 -- each image that a start leaves of the log of a service is one that a crash may leave
 keys-left-by-restart : (old new : DiskState) (w : RunningWorld) → w.keys.store.log.file ≡ 0 → ServicesFit (world_of w) → (Tells old → LeavesOnly 0 old new (λ c. old.leaves 0 c ⊎ IsLeftByStart (old.reads 0) c))
-    → Tells old → (commands : List KeyCommand) → StandsFor old w.keys.store commands → LeavesOnly 0 old new (IsLeftOf w.keys.store.table.keys w.keys.store.pending AKeyOpening commands)
-keys-left-by-restart old new w of_file fit moments told commands s =
+    → Tells old → (commands : List KeyCommand) → IsKeyStoreOf old w.keys.store commands → LeavesOnly 0 old new (IsLeftOf w.keys.store.table.keys w.keys.store.pending AKeyOpening commands)
+keys-left-by-restart old new w of_file fit moments tells commands s =
     let sound = sound_store old w.keys.store commands of_file (may-be-kept w fit) s in
     weaker (λ c left. ⊎_elim
     (λ before. keys-weaker NoCommand AKeyOpening w.keys.store.table.keys w.keys.store.pending commands c (λ k command none. absurd none) (left_by_store old w.keys.store commands of_file (may-be-kept w fit) s c before))
-    (λ found. left_by_start (old.reads 0) commands w.keys.store.pending w.keys.store.table.keys sound c found) left) (moments told)
+    (λ found. left_by_start (old.reads 0) commands w.keys.store.pending w.keys.store.table.keys sound c found) left) (moments tells)
 
 -- what a start found in the log of a service
 record KeysReopened (old new : DiskState) (w w' : RunningWorld) (table : Table) : Type 0 where
   logged : List KeyCommand
   found : Tells old → Recovers (world_of w).keys table logged
-  stands : Tells old → (commands : List KeyCommand) → StandsFor old w.keys.store commands → StandsFor new w'.keys.store (commands ++ logged)
+  stands : Tells old → (commands : List KeyCommand) → IsKeyStoreOf old w.keys.store commands → IsKeyStoreOf new w'.keys.store (commands ++ logged)
 
 keys-reopened : (old new : DiskState) (w w' : RunningWorld) → w.keys.store.log.file ≡ 0 → ServicesFit (world_of w) → Held old w → (s : Starts old new (running w'.keys)) → KeysReopened old new w w' s.table
 keys-reopened old new w w' of_file fit held s = go old.tells refl
@@ -72,12 +72,12 @@ keys-reopened old new w w' of_file fit held s = go old.tells refl
     go : (b : Bool) → old.tells ≡ b → KeysReopened old new w w' s.table
     go false silent = record {
       logged = [];
-      found = λ told. absurd (cc (told, silent));
-      stands = λ told. absurd (cc (told, silent));
+      found = λ tells. absurd (cc (tells, silent));
+      stands = λ tells. absurd (cc (tells, silent));
     }
-    go true told =
-        let log = s.log told in
-        let before = held told in
+    go true tells =
+        let log = s.log tells in
+        let before = held tells in
         let may = may-be-kept w fit in
         let f = finds (old.reads 0) before.0.keys w.keys.store.pending w.keys.store.table.keys log.0 s.table (sound_store old w.keys.store before.0.keys of_file may before.1.keys) log.1 in
         let logged : List KeyCommand = settled_commands f.kept w.keys.store.pending ++ next_opening s.table ∷ [] in
@@ -88,7 +88,7 @@ keys-reopened old new w w' of_file fit held s = go old.tells refl
           found = λ again. record { kept = f.kept; table_is = f.table_is; commands_are = refl };
           stands = λ again commands other.
               let one : commands ≡ before.0.keys = stands_once old w.keys.store before.0.keys commands log.0 s.table of_file may before.1.keys other log.1 in
-              subst (StandsFor new w'.keys.store) (all ∙ ap (λ (l : List KeyCommand). l ++ logged) (sym one)) log.2;
+              subst (IsKeyStoreOf new w'.keys.store) (all ∙ ap (λ (l : List KeyCommand). l ++ logged) (sym one)) log.2;
         }
 
 -- the new keys replace the old ones, and the lists are the same
@@ -105,9 +105,9 @@ keys-restarted old new w w' opening lists sizes of_file fit held s o number rest
         commands = found.logged;
         found = found.found;
         logged_is = refl;
-        told_is = ap (λ (n : ℕ). line.Opened n) (number ∙ ap (λ t. t.keys.table.opening) s.opens);
+        reply_is = ap (λ (n : ℕ). line.Opened n) (number ∙ ap (λ t. t.keys.table.opening) s.opens);
         none_drawn = refl;
-        left = ap world_of rest ∙ ap (λ t. record (world_of w) { keys = t }) (s.opens ∙ ap (λ (all : AllQueues). opened all s.table) sizes);
+        left = ap world_of rest ∙ ap (λ t. record (world_of w) { keys = t }) (s.opens ∙ ap (λ (all : AllQueues). service_after_opening all s.table) sizes);
       };
       rest = λ k. ap words (omega arith);
       disk = inl (record {
@@ -126,22 +126,22 @@ keys-fail old new w w' words fault m n same keys_file names_file fit held o = re
   restart = refl;
   same = same;
   same_words = refl;
-  never_damaged = λ told at is. not_damaged (old.reads 0) (held told).0.keys w.keys.store.pending w.keys.store.table.keys at (sound told) (o.why.damaged at is told);
-  spent = λ is told.
-      let k = o.why.spent is told in
-      let f = finds (old.reads 0) (held told).0.keys w.keys.store.pending w.keys.store.table.keys k.commands k.table (sound told) k.log in
+  never_damaged = λ tells at is. not_damaged (old.reads 0) (held tells).0.keys w.keys.store.pending w.keys.store.table.keys at (sound tells) (o.why.damaged at is tells);
+  spent = λ is tells.
+      let k = o.why.spent is tells in
+      let f = finds (old.reads 0) (held tells).0.keys w.keys.store.pending w.keys.store.table.keys k.commands k.table (sound tells) k.log in
       (f.kept, ap (λ (t : Table). t.opening) (sym f.table_is) ∙ k.last);
   cause = o.why.cause;
   survives = survives;
-  survives_then = λ told done s c image. left-then old new w AKeyOpening NothingMore m n o.run.later done (survives told done s) (now done s) c image;
+  survives_then = λ tells done s c image. left-then old new w AKeyOpening NothingMore m n o.run.later done (survives tells done s) (now done s) c image;
   run = both-of 0 old new o.run;
 }
   where
-    sound : (told : Tells old) → IsSoundLog (old.reads 0) (held told).0.keys w.keys.store.pending w.keys.store.table.keys
-    sound told = sound_store old w.keys.store (held told).0.keys keys_file (may-be-kept w fit) (held told).1.keys
+    sound : (tells : Tells old) → IsSoundLog (old.reads 0) (held tells).0.keys w.keys.store.pending w.keys.store.table.keys
+    sound tells = sound_store old w.keys.store (held tells).0.keys keys_file (may-be-kept w fit) (held tells).1.keys
 
     left : Tells old → LeavesLogs old new w AKeyOpening NothingMore
-    left told = on-keys-leaves old new w AKeyOpening NothingMore names_file (keys-left-by-restart old new w keys_file fit o.any_moment told)
+    left tells = on-keys-leaves old new w AKeyOpening NothingMore names_file (keys-left-by-restart old new w keys_file fit o.any_moment tells)
 
     files : (h : Hidden) → LinkedWorld (world_of w) h → LinkedFiles (world_of w) h.ledger h.place
     files = world-files (world_of w)
@@ -155,16 +155,16 @@ keys-fail old new w w' words fault m n same keys_file names_file fit held o = re
 -- the namesystem
 
 names-left-by-restart : (old new : DiskState) (w : RunningWorld) → w.names.store.log.log.file ≡ 1 → (Tells old → LeavesOnly 1 old new (λ c. old.leaves 1 c ⊎ IsLeftByNameStart (old.reads 1) c))
-    → Tells old → (ops : List EditOp) (s : NamesStandFor old w.names ops) → LeavesOnly 1 old new (IsLeftOfNames (made_with w.names.store s.used) w.names.store.log.pending AnOpening ops)
-names-left-by-restart old new w of_file moments told ops s =
+    → Tells old → (ops : List EditOp) (s : IsNamesystemOf old w.names ops) → LeavesOnly 1 old new (IsLeftOfNames (made_with w.names.store s.used) w.names.store.log.pending AnOpening ops)
+names-left-by-restart old new w of_file moments tells ops s =
     let sound = sound_names old w.names.store s.used ops of_file s.store in
     weaker (λ c left. ⊎_elim (λ before. own-weaker NothingMore AnOpening w.names s.used ops c (λ k op none. absurd none) (names_left_by_store old w.names.store s.used ops of_file s.store c before))
-    (λ found. names_left_by_start (old.reads 1) ops w.names.store.log.pending (made_with w.names.store s.used) sound c found) left) (moments told)
+    (λ found. names_left_by_start (old.reads 1) ops w.names.store.log.pending (made_with w.names.store s.used) sound c found) left) (moments tells)
 
 record NamesReopened (old new : DiskState) (w w' : RunningWorld) (table : NameTable) : Type 0 where
   logged : List EditOp
   found : Tells old → RecoversNames (world_of w).names table logged
-  stands : Tells old → (ops : List EditOp) → NamesStandFor old w.names ops → NamesStandFor new w'.names (ops ++ logged)
+  stands : Tells old → (ops : List EditOp) → IsNamesystemOf old w.names ops → IsNamesystemOf new w'.names (ops ++ logged)
 
 names-reopened : (old new : DiskState) (w w' : RunningWorld) → w.names.store.log.log.file ≡ 1 → Held old w → (s : NamesStart old new w'.names) → NamesReopened old new w w' s.found
 names-reopened old new w w' of_file held s = go old.tells refl
@@ -172,12 +172,12 @@ names-reopened old new w w' of_file held s = go old.tells refl
     go : (b : Bool) → old.tells ≡ b → NamesReopened old new w w' s.found
     go false silent = record {
       logged = [];
-      found = λ told. absurd (cc (told, silent));
-      stands = λ told. absurd (cc (told, silent));
+      found = λ tells. absurd (cc (tells, silent));
+      stands = λ tells. absurd (cc (tells, silent));
     }
-    go true told =
-        let log = s.log told in
-        let before = held told in
+    go true tells =
+        let log = s.log tells in
+        let before = held tells in
         let n = before.1.names in
         let f = finds_names (old.reads 1) before.0.names w.names.store.log.pending (made_with w.names.store n.used) log.0 _ (sound_names old w.names.store n.used before.0.names of_file n.store) log.2 in
         let logged : List EditOp = settled_ops f.kept w.names.store.log.pending ++ next_opening_of_names s.found ∷ [] in
@@ -188,7 +188,7 @@ names-reopened old new w w' of_file held s = go old.tells refl
           found = λ again. record { kept = f.kept; table_is = ap (λ (m : Replayed). m.table) f.made_is; ops_are = refl };
           stands = λ again ops other.
               let one : ops ≡ before.0.names = (names_stand_once old w.names.store n.used other.used before.0.names ops of_file n.store other.store).0 in
-              subst (NamesStandFor new w'.names) (all ∙ ap (λ (l : List EditOp). l ++ logged) (sym one)) log.3;
+              subst (IsNamesystemOf new w'.names) (all ∙ ap (λ (l : List EditOp). l ++ logged) (sym one)) log.3;
         }
 
 -- the new rows replace the old ones
@@ -205,7 +205,7 @@ names-restarted old new w w' opening keys of_file held s o number rest lines wor
         ops = found.logged;
         found = found.found;
         logged_is = refl;
-        told_is = ap (λ (n : ℕ). line.Opened n) (number ∙ ap (λ t. t.names.table.opening) s.opens);
+        reply_is = ap (λ (n : ℕ). line.Opened n) (number ∙ ap (λ t. t.names.table.opening) s.opens);
         none_drawn = refl;
         left = ap world_of rest ∙ ap (λ t. record (world_of w) { names = t }) s.opens;
       };
@@ -226,22 +226,22 @@ names-fail old new w w' words fault m n same keys_file names_file fit held o = r
   restart = refl;
   same = same;
   same_words = refl;
-  never_damaged = λ told at is. names_not_damaged (old.reads 1) (held told).0.names w.names.store.log.pending (made_with w.names.store (held told).1.names.used) at (sound told) (o.why.damaged at is told);
-  spent = λ is told.
-      let k = o.why.spent is told in
-      let f = finds_names (old.reads 1) (held told).0.names w.names.store.log.pending (made_with w.names.store (held told).1.names.used) k.ops k.made (sound told) k.log in
+  never_damaged = λ tells at is. names_not_damaged (old.reads 1) (held tells).0.names w.names.store.log.pending (made_with w.names.store (held tells).1.names.used) at (sound tells) (o.why.damaged at is tells);
+  spent = λ is tells.
+      let k = o.why.spent is tells in
+      let f = finds_names (old.reads 1) (held tells).0.names w.names.store.log.pending (made_with w.names.store (held tells).1.names.used) k.ops k.made (sound tells) k.log in
       (f.kept, ap (λ (m : Replayed). m.table.opening) (sym f.made_is) ∙ k.last);
   cause = o.why.cause;
   survives = survives;
-  survives_then = λ told done s c image. left-then old new w NoCommand AnOpening m n o.run.later done (survives told done s) (now done s) c image;
+  survives_then = λ tells done s c image. left-then old new w NoCommand AnOpening m n o.run.later done (survives tells done s) (now done s) c image;
   run = both-of 1 old new o.run;
 }
   where
-    sound : (told : Tells old) → IsSoundNames (old.reads 1) (held told).0.names w.names.store.log.pending (made_with w.names.store (held told).1.names.used)
-    sound told = sound_names old w.names.store (held told).1.names.used (held told).0.names names_file (held told).1.names.store
+    sound : (tells : Tells old) → IsSoundNames (old.reads 1) (held tells).0.names w.names.store.log.pending (made_with w.names.store (held tells).1.names.used)
+    sound tells = sound_names old w.names.store (held tells).1.names.used (held tells).0.names names_file (held tells).1.names.store
 
     left : Tells old → LeavesLogs old new w NoCommand AnOpening
-    left told = on-names-leaves old new w NoCommand AnOpening keys_file fit (names-left-by-restart old new w names_file o.any_moment told)
+    left tells = on-names-leaves old new w NoCommand AnOpening keys_file fit (names-left-by-restart old new w names_file o.any_moment tells)
 
     files : (h : Hidden) → LinkedWorld (world_of w) h → LinkedFiles (world_of w) h.ledger h.place
     files = world-files (world_of w)

@@ -4,6 +4,7 @@ use Rattle.std.specs.Prelude.{IfSome, ◌==◌}
 use Rattle.std.specs.declared.result.Result.{Result}
 use Rattle.std.proofs.lemmas.Bool.Decides.{nat_tests}
 use Rattle.hk_base.specs.declared.names.Edek.{Edek}
+use Rattle.eek_seal.specs.declared.deposit.Deposit.TheVariants.{Full, Kept, Stale}
 use Rattle.key_rows.specs.declared.rows.KeyCommand.{KeyCommand}
 use Rattle.key_rows.specs.Table.{Table}
 use Rattle.key_rows.proofs.Births.{both}
@@ -38,19 +39,19 @@ use Rattle.world_run.specs.Acknowledged.{Acknowledged}
 use Rattle.world_run.specs.Own.{OwnOfNamesCall}
 use Rattle.world_run.specs.World.{WorldState, numbered}
 use Rattle.world_run.specs.Step.{FinishReply, Step, finish_line}
-use Rattle.world_run.specs.Ledger.{Draw, Hidden, Ledger, enters, hidden_after, makes_file}
-use Rattle.world_run.specs.Linked.{DrawsFit, FilesLinked, IsDrawn, IsOldBirth, IsRecordedBirth, LedgerFits, LinkedTables, LinkedWorld, Replied, ServicesFit}
+use Rattle.world_run.specs.Ledger.{Draw, Hidden, Ledger, drawn_before, enters, hidden_after, makes_file, past_of}
+use Rattle.world_run.specs.Linked.{DrawsFit, FilesLinked, IsOldBirth, IsRecordedBirth, LedgerFits, LinkedTables, LinkedWorld, Replied, ServicesFit}
 use Rattle.world_run.proofs.FinishLemmas.{linked-unentered, with_entry}
 use Rattle.world_run.proofs.KeepLemmas.{closed-keeps, finish-files, finish-ledger}
 use Rattle.world_run.proofs.Laters.{KeysLater, later-settled, later-with, old-recorded, then-later}
 use Rattle.world_run.proofs.Members.{numbered-beside, some-is}
 use Rattle.world_run.proofs.RowsAfter.{OpFits, OpHasDraw, files-after, files-opened}
-use Rattle.world_run.proofs.WorldLemmas.{draws-later, files-later, opening-settled, rows-settled}
+use Rattle.world_run.proofs.WorldLemmas.{draws-fewer, draws-later, drawn-past, files-later, opening-settled, rows-settled}
 
 -- linked with a ledger, whatever is kept: the files with and without the pending operation, and the ledger itself
 pub record LinkedFiles (w : WorldState) (ledger : Ledger) (place : ℕ) : Type 0 where
   pub files : (kept : Bool) → FilesLinked ledger w.keys.keys.table.rows (settled_names kept w.names).table
-  pub draws : DrawsFit ledger [] place (IsOldBirth w.keys.keys.table)
+  pub draws : DrawsFit (drawn_before (record { ledger = ledger; place = place })) (IsOldBirth w.keys.keys.table)
   pub fits : LedgerFits ledger [] [] [] (next_id w.names.names)
 
 pub none-replied : (r : KeptReply) (o : Option Draw) → Replied [] [] r o → ⊥
@@ -64,7 +65,7 @@ pub world-files : (w : WorldState) (h : Hidden) → LinkedWorld w h → LinkedFi
 world-files w h l =
     record {
       files = l.files;
-      draws = record { below = λ d i. l.draws.below d (was d i); one_place = λ d f i j. l.draws.one_place d f (was d i) (was f j); born = λ d i. l.draws.born d (was d i); recent = λ d i. l.draws.recent d (was d i) };
+      draws = draws-fewer h (drawn_before (past_of h)) (IsOldBirth w.keys.keys.table) (IsOldBirth w.keys.keys.table) (drawn-past h) (omega arith) (λ b old. old) l.draws;
       fits = record {
         one_draw = l.ledger.one_draw;
         one_file = l.ledger.one_file;
@@ -74,10 +75,6 @@ world-files w h l =
         its_ask = λ id r d i at. absurd (none-replied r (Some d) at);
       };
     }
-  where
-    was : (d : Draw) → IsDrawn h.ledger [] d → IsDrawn h.ledger h.replied d
-    was d (inl i) = inl i
-    was d (inr none) = absurd none
 
 -- the world before an event, with the ledger after it
 
@@ -92,19 +89,19 @@ finish-through w words h number drawn ask_id answer fault result ops names fit l
     go : (o : Option Draw) → numbered h.replied number ≡ Some o → (q : Option OpenAsk) → open_ask w.names.names.asks ask_id ≡ q → FinishServesAt w.names q answer fault result ops names
         → LinkedFiles w (with_entry (enters ask_id (finish_line result) names) ask_id o h.ledger) h.place
     go o drew None gone e =
-        subst (λ (r : Result (Unit {0}) NameRefusal). LinkedFiles w (with_entry (enters ask_id (finish_line r) names) ask_id o h.ledger) h.place) (sym e.told_is)
+        subst (λ (r : Result (Unit {0}) NameRefusal). LinkedFiles w (with_entry (enters ask_id (finish_line r) names) ask_id o h.ledger) h.place) (sym e.reply_is)
         (world-files w (record h { ledger = h.ledger ++ [] }) (linked-unentered w h l))
     go o drew (Some a) found s =
         let f = world-files _ _ (closed-keeps w h ask_id answer o a fit.names l (record { opened = found; at = (number, at, drew) }) (enters ask_id (finish_line result) names)) in
         record { files = f.files; draws = f.draws; fits = f.fits }
 
-finish-reply-through : (w : WorldState) (words : ℕ → ℕ) (h : Hidden) (number : ℕ) (fault : Type 0) (told : Line) (drawn : ℕ) (logged : Acknowledged) (w' : WorldState) (o : Option KeptReply) → ServicesFit w → LinkedWorld w h
-    → numbered w.kept.replies number ≡ o → FinishReply w o fault told drawn logged w' → LinkedFiles w (hidden_after w words (event.Finish number) told drawn w' h).ledger h.place
-finish-reply-through w words h number fault told drawn logged w' None fit l at u =
-    subst (λ (t : Line). LinkedFiles w (hidden_after w words (event.Finish number) t drawn w' h).ledger h.place) (sym u.told_is)
+finish-reply-through : (w : WorldState) (words : ℕ → ℕ) (h : Hidden) (number : ℕ) (fault : Type 0) (outcome : Line) (drawn : ℕ) (logged : Acknowledged) (w' : WorldState) (o : Option KeptReply) → ServicesFit w → LinkedWorld w h
+    → numbered w.kept.replies number ≡ o → FinishReply w o fault outcome drawn logged w' → LinkedFiles w (hidden_after w words (event.Finish number) outcome drawn w' h).ledger h.place
+finish-reply-through w words h number fault outcome drawn logged w' None fit l at u =
+    subst (λ (t : Line). LinkedFiles w (hidden_after w words (event.Finish number) t drawn w' h).ledger h.place) (sym u.reply_is)
     (world-files w (record h { ledger = h.ledger ++ [] }) (linked-unentered w h l))
-finish-reply-through w words h number fault told drawn logged w' (Some (ToAsk ask_id answer)) fit l at f =
-    subst (λ (t : Line). LinkedFiles w (hidden_after w words (event.Finish number) t drawn w' h).ledger h.place) (sym f.told_is)
+finish-reply-through w words h number fault outcome drawn logged w' (Some (ToAsk ask_id answer)) fit l at f =
+    subst (λ (t : Line). LinkedFiles w (hidden_after w words (event.Finish number) t drawn w' h).ledger h.place) (sym f.reply_is)
     (subst (λ (v : WorldState). LinkedFiles w (hidden_after w words (event.Finish number) (finish_line f.result) drawn v h).ledger h.place) (sym f.left)
     (finish-through w words h number drawn ask_id answer fault f.result f.ops f.names fit l at f.finishes))
 
@@ -113,9 +110,12 @@ more-words w ledger place drawn f =
     record { files = f.files; draws = record { below = λ d i. let t = f.draws.below d i in omega (arith, t); one_place = f.draws.one_place; born = f.draws.born; recent = f.draws.recent }; fits = f.fits }
 
 -- a draw enters nothing
-draw-through : (w : WorldState) (words : ℕ → ℕ) (h : Hidden) (number drawn : ℕ) (told : Line) (w' : WorldState) → LinkedFiles w h.ledger (h.place + drawn)
-    → LinkedFiles w (hidden_after w words (event.Draw number) told drawn w' h).ledger (hidden_after w words (event.Draw number) told drawn w' h).place
+draw-through : (w : WorldState) (words : ℕ → ℕ) (h : Hidden) (number drawn : ℕ) (outcome : Line) (w' : WorldState) → LinkedFiles w h.ledger (h.place + drawn)
+    → LinkedFiles w (hidden_after w words (event.Draw number) outcome drawn w' h).ledger (hidden_after w words (event.Draw number) outcome drawn w' h).place
 draw-through w words h number drawn (line.Kms reply) w' f = f
+draw-through w words h number drawn (line.Ticket n version wanted) w' f = f
+draw-through w words h number drawn line.NoTicket w' f = f
+draw-through w words h number drawn (line.Deposit answer) w' f = f
 draw-through w words h number drawn (line.Opened opening) w' f = f
 draw-through w words h number drawn (line.Name reply) w' f = f
 draw-through w words h number drawn (line.Asked n note) w' f = f
@@ -123,15 +123,33 @@ draw-through w words h number drawn (line.Replied n reply) w' f = f
 draw-through w words h number drawn (line.Refused why) w' f = f
 draw-through w words h number drawn line.Unknown w' f = f
 
-pub event-files : (lines : List PropLine) (w : WorldState) (words : ℕ → ℕ) (now : ℕ) (e : Event) (fault tells : Type 0) (told : Line) (drawn : ℕ) (logged : Acknowledged) (w' : WorldState) (h : Hidden) → ServicesFit w
-    → Step lines w words now e fault tells told drawn logged w' → LinkedWorld w h → LinkedFiles w (hidden_after w words e told drawn w' h).ledger (hidden_after w words e told drawn w' h).place
-event-files lines w words now e fault tells told drawn logged w' h fit s l = go e s
+-- and so does a deposit
+deposit-through : (w : WorldState) (words : ℕ → ℕ) (h : Hidden) (number drawn : ℕ) (outcome : Line) (w' : WorldState) → LinkedFiles w h.ledger (h.place + drawn)
+    → LinkedFiles w (hidden_after w words (event.Deposit number) outcome drawn w' h).ledger (hidden_after w words (event.Deposit number) outcome drawn w' h).place
+deposit-through w words h number drawn (line.Kms reply) w' f = f
+deposit-through w words h number drawn (line.Ticket n version wanted) w' f = f
+deposit-through w words h number drawn line.NoTicket w' f = f
+deposit-through w words h number drawn (line.Deposit Kept) w' f = f
+deposit-through w words h number drawn (line.Deposit Full) w' f = f
+deposit-through w words h number drawn (line.Deposit (Stale opening birth version)) w' f = f
+deposit-through w words h number drawn (line.Opened opening) w' f = f
+deposit-through w words h number drawn (line.Name reply) w' f = f
+deposit-through w words h number drawn (line.Asked n note) w' f = f
+deposit-through w words h number drawn (line.Replied n reply) w' f = f
+deposit-through w words h number drawn (line.Refused why) w' f = f
+deposit-through w words h number drawn line.Unknown w' f = f
+
+pub event-files : (lines : List PropLine) (w : WorldState) (words : ℕ → ℕ) (now : ℕ) (e : Event) (fault tells : Type 0) (outcome : Line) (drawn : ℕ) (logged : Acknowledged) (w' : WorldState) (h : Hidden) → ServicesFit w
+    → Step lines w words now e fault tells outcome drawn logged w' → LinkedWorld w h → LinkedFiles w (hidden_after w words e outcome drawn w' h).ledger (hidden_after w words e outcome drawn w' h).place
+event-files lines w words now e fault tells outcome drawn logged w' h fit s l = go e s
   where
     before : LinkedFiles w h.ledger (h.place + drawn)
     before = more-words w h.ledger h.place drawn (world-files w h l)
 
-    go : (e : Event) → Step lines w words now e fault tells told drawn logged w' → LinkedFiles w (hidden_after w words e told drawn w' h).ledger (hidden_after w words e told drawn w' h).place
+    go : (e : Event) → Step lines w words now e fault tells outcome drawn logged w' → LinkedFiles w (hidden_after w words e outcome drawn w' h).ledger (hidden_after w words e outcome drawn w' h).place
     go (event.Kms user c) s = before
+    go event.Ticket s = before
+    go (event.Deposit number) s = deposit-through w words h number drawn outcome w' before
     go event.RestartKms s = before
     go event.RestartName s = before
     go (event.Mkdir user p) s = before
@@ -146,10 +164,10 @@ event-files lines w words now e fault tells told drawn logged w' h fit s l = go 
     go (event.Zones user) s = before
     go (event.AskCreate user p) s = before
     go (event.AskZone user p key) s = before
-    go (event.Draw number) s = draw-through w words h number drawn told w' before
+    go (event.Draw number) s = draw-through w words h number drawn outcome w' before
     go (event.Finish number) s =
-        more-words w (hidden_after w words (event.Finish number) told drawn w' h).ledger h.place drawn
-        (finish-reply-through w words h number fault told drawn logged w' (numbered w.kept.replies number) fit l refl s)
+        more-words w (hidden_after w words (event.Finish number) outcome drawn w' h).ledger h.place drawn
+        (finish-reply-through w words h number fault outcome drawn logged w' (numbered w.kept.replies number) fit l refl s)
 
 -- an operation that an event may write after the settled edit log keeps the files linked
 
@@ -171,8 +189,8 @@ own-of-opening w h fit l kept (op.Disallow p) own may = absurd cc
 own-of-opening w h fit l kept (op.Snap p name) own may = absurd cc
 own-of-opening w h fit l kept (op.Unsnap p name) own may = absurd cc
 
-pub own-of-call : (w : WorldState) (h : Hidden) (c : NameCall) (told : Line) (names : NameService) → ServicesFit w → LinkedWorld w h → OwnLinks w h.ledger (OwnOfNamesCall w.names c told names)
-own-of-call w h c told names fit l kept written own may = go c own.own.free own.own.is
+pub own-of-call : (w : WorldState) (h : Hidden) (c : NameCall) (outcome : Line) (names : NameService) → ServicesFit w → LinkedWorld w h → OwnLinks w h.ledger (OwnOfNamesCall w.names c outcome names)
+own-of-call w h c outcome names fit l kept written own may = go c own.own.free own.own.is
   where
     linked : (o : EditOp) → OpFits (settled_names kept w.names).table.rows o → OpHasDraw h.ledger w.keys.keys.table.rows o → Some o ≡ Some written
         → FilesLinked h.ledger w.keys.keys.table.rows (after_table (settled_names kept w.names).table written)
@@ -195,14 +213,14 @@ own-of-call w h c told names fit l kept written own may = go c own.own.free own.
     go call.Zones free is = absurd cc
 
 -- the answer of a finish that leaves an operation pending
-pending-told : (s : NameService) (a : OpenAsk) (given : KeyAnswer) (edek : Option Edek) (fault : Type 0) (result : Result (Unit {0}) NameRefusal) (ops : List EditOp) (names : NameService) (waiting : EditOp) → given ≡ Given edek
+pending-answered : (s : NameService) (a : OpenAsk) (given : KeyAnswer) (edek : Option Edek) (fault : Type 0) (result : Result (Unit {0}) NameRefusal) (ops : List EditOp) (names : NameService) (waiting : EditOp) → given ≡ Given edek
     → FinishServesOpen s a given fault result ops names → names.pending ≡ Some waiting → result ≡ Err refusal.StoreFault
-pending-told s a given edek fault result ops names waiting said serves waits = go (subst (λ (x : KeyAnswer). FinishServesOpen s a x fault result ops names) said serves)
+pending-answered s a given edek fault result ops names waiting said serves waits = go (subst (λ (x : KeyAnswer). FinishServesOpen s a x fault result ops names) said serves)
   where
     go : FinishServesOpen s a (Given edek) fault result ops names → result ≡ Err refusal.StoreFault
-    go (inl u) = u.ends.told_is
+    go (inl u) = u.ends.reply_is
     go (inr (k, inl d)) = let none : None ≡ Some waiting = sym (ap (λ (n : NameService). n.pending) d.left) ∙ waits in absurd cc
-    go (inr (k, inr u)) = u.told_is
+    go (inr (k, inr u)) = u.reply_is
 
 -- an operation that a finish wrote, or left pending, is entered if it makes a file
 written-enters : (s : NameService) (ask_id : ℕ) (answer : KeyAnswer) (fault : Type 0) (result : Result (Unit {0}) NameRefusal) (ops : List EditOp) (names : NameService) (k : Bool) (written : EditOp) (own : OwnOfFinish s ask_id answer result names k written)
@@ -210,9 +228,9 @@ written-enters : (s : NameService) (ask_id : ℕ) (answer : KeyAnswer) (fault : 
 written-enters s ask_id answer fault result ops names k written own serves file = elim own.was_written [
   | inl done ↦ ap (λ (r : Result (Unit {0}) NameRefusal). enters ask_id (finish_line r) names) done
   | inr waits ↦
-      let told : result ≡ Err refusal.StoreFault = pending-told s own.ask answer own.edek fault result ops names written own.gave
+      let refused : result ≡ Err refusal.StoreFault = pending-answered s own.ask answer own.edek fault result ops names written own.gave
       (subst (λ (o : Option OpenAsk). FinishServesAt s o answer fault result ops names) own.was_open serves) waits in
-      ap (λ (r : Result (Unit {0}) NameRefusal). enters ask_id (finish_line r) names) told ∙ ap (makes_file ask_id) (waits ∙ ap Some own.is) ∙ file
+      ap (λ (r : Result (Unit {0}) NameRefusal). enters ask_id (finish_line r) names) refused ∙ ap (makes_file ask_id) (waits ∙ ap Some own.is) ∙ file
 ]
 
 pub own-of-finish : (w : WorldState) (h : Hidden) (words : ℕ → ℕ) (drawn : ℕ) (number : ℕ) (ask_id : ℕ) (answer : KeyAnswer) (fault : Type 0) (result : Result (Unit {0}) NameRefusal) (ops : List EditOp) (names : NameService)
@@ -284,8 +302,8 @@ tables-of-files : (w : WorldState) (ledger : Ledger) (place : ℕ) (keys : Table
     → LinkedFiles w ledger place → w.names.names.table.opening ≤ names.opening → FilesLinked ledger w.keys.keys.table.rows names → LinkedTables (record { ledger = ledger; place = place }) keys names
 tables-of-files w ledger place keys names fit grew room f rises files =
     record {
-      files = files-later ledger [] place (IsOldBirth w.keys.keys.table) w.keys.keys.table.rows keys.rows names f.draws grew.rows files;
-      draws = draws-later ledger [] place (IsOldBirth w.keys.keys.table) (IsRecordedBirth keys) (λ b old. old-recorded keys room b (grew.births b old)) f.draws;
+      files = files-later hidden (IsOldBirth w.keys.keys.table) w.keys.keys.table.rows keys.rows names f.draws grew.rows files;
+      draws = draws-later hidden (IsOldBirth w.keys.keys.table) (IsRecordedBirth keys) (λ b old. old-recorded keys room b (grew.births b old)) f.draws;
       fits = record {
         one_draw = f.fits.one_draw;
         one_file = f.fits.one_file;
@@ -296,6 +314,9 @@ tables-of-files w ledger place keys names fit grew room f rises files =
       };
     }
   where
+    hidden : Hidden
+    hidden = drawn_before (record { ledger = ledger; place = place })
+
     higher : (id old new next : ℕ) → id < old * 2 ^ 32 + next → next ≤ 2 ^ 32 → old ≤ new → id < (new + 1) * 2 ^ 32
     higher id old new next low few over = omega (arith, low, few, over)
 

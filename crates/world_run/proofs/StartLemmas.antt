@@ -26,7 +26,7 @@ use Rattle.prop_text.specs.SizeValues.{SizeValues}
 use Rattle.kms_store.specs.Store.{AKeyOpening, Applies, IsKeyLog, IsLeftByStart, IsLogOf, Opening, OpensKeys, is_key_opening, next_opening, settled_commands, settled_table}
 use Rattle.kms_store.proofs.Layers.{finds, left_by_start, log_of_store, sound_left}
 use Rattle.kms_core.specs.Service.{Starts}
-use Rattle.kms_core.specs.State.{Running, ServiceState, no_queues, opened}
+use Rattle.kms_core.specs.State.{Running, ServiceState, no_queues, service_after_opening}
 use Rattle.kms_core.specs.Users.{running}
 use Rattle.name_store.specs.Store.{AnOpening, IsDamagedAt as IsDamagedName, IsLeftByStart as IsLeftByNameStart, IsNameLog, OpensNames, SpentNames, is_opening}
 use Rattle.name_store.specs.Table.{NameTable, Replayed, after_table, allows, is_fresh, next_opening as next_opening_of_names, settled_log, settled_ops}
@@ -74,7 +74,7 @@ last-has (x ∷ xs) command all = last-has xs command all.1
 key-opened-linked : (past : Past) (t : Table) (names : NameTable) (opening : ℕ) → t.opening ≤ opening → LinkedTables past t names → LinkedTables past (record t { opening = opening }) names
 key-opened-linked past t names opening le l = record {
   files = l.files;
-  draws = draws-later past.ledger [] past.place (IsRecordedBirth t) (IsRecordedBirth (record t { opening = opening })) (λ b h. recorded-more t.opening opening b le h) l.draws;
+  draws = draws-later (drawn_before past) (IsRecordedBirth t) (IsRecordedBirth (record t { opening = opening })) (λ b h. recorded-more t.opening opening b le h) l.draws;
   fits = l.fits;
 }
 
@@ -179,13 +179,13 @@ by-start found bytes o =
     (last-has o.commands command o.sound.spelled, inr (inl (subst (λ (payloads : List (List ℕ)). IsAtRest 0 payloads bytes) (map-append spelling o.commands (command ∷ [])) o.sound.log)))
 
 left-sound : (old : DiskState) (past : Past) → Moment old → Tells old → StartsSound old past → (c : Image) → LeftByFirst old c ⊎ LeftBySecond old c → SoundFiles past c
-left-sound old past m told sound c left = pair-sound past c (go left)
+left-sound old past m telling sound c left = pair-sound past c (go left)
   where
     keys-one : old.leaves 0 (old.reads 0)
-    keys-one = m.is_one told 0 (omega arith)
+    keys-one = m.is_one telling 0 (omega arith)
 
     names-one : old.leaves 1 (old.reads 1)
-    names-one = m.is_one told 1 (omega arith)
+    names-one = m.is_one telling 1 (omega arith)
 
     second : IsLeftByStart (old.reads 0) (c 0) → old.leaves 1 (c 1) ⊎ IsLeftByNameStart (old.reads 1) (c 1) → SoundFiles past (pair (c 0) (c 1))
     second a (inl b) = keys-started past (old.reads 0) (c 1) (c 0) (sound (pair (old.reads 0) (c 1)) (pair-image old (old.reads 0) (c 1) keys-one b)) a
@@ -201,7 +201,7 @@ left-sound old past m told sound c left = pair-sound past c (go left)
     go (inr s) = second (by-start (old.reads 0) (c 0) s.keys) s.names
 
 left-by : (old : DiskState) → Moment old → Tells old → (c : Image) → LeftByFirst old c ⊎ LeftBySecond old c → LeftByStarts old c
-left-by old m told c left = record { left = left; sound = λ past sound. left-sound old past m told sound c left }
+left-by old m telling c left = record { left = left; sound = λ past sound. left-sound old past m telling sound c left }
 
 -- what a crash leaves while both logs are opened
 
@@ -212,11 +212,11 @@ abbrev NamesMoments : DiskState → DiskState → Type 0
 NamesMoments mid new = LeavesOnly 1 mid new (λ c. mid.leaves 1 c ⊎ IsLeftByNameStart (mid.reads 1) c)
 
 tells-on : (file : ℕ) (old mid : DiskState) → RunOn file old mid → Tells old → Tells mid
-tells-on file old mid run told = run.tells ∙ told
+tells-on file old mid run telling = run.tells ∙ telling
 
 keys-opened : (old new : DiskState) → Moment old → Tells old → KeysMoments old new → LeavesBoth old new (LeftByStarts old)
-keys-opened old new m told moments =
-    leaves-keys old new (λ c. old.leaves 0 c ⊎ IsLeftByStart (old.reads 0) c) (LeftByStarts old) (λ c keys names. left-by old m told c (inl (record { keys = keys; names = names }))) moments
+keys-opened old new m telling moments =
+    leaves-keys old new (λ c. old.leaves 0 c ⊎ IsLeftByStart (old.reads 0) c) (LeftByStarts old) (λ c keys names. left-by old m telling c (inl (record { keys = keys; names = names }))) moments
 
 -- each image of an opened key log
 opened-log : (old new : DiskState) → KeysOpened old new → (bytes : List ℕ) → new.leaves 0 bytes → IsOpenedLog (old.reads 0) bytes
@@ -227,16 +227,16 @@ keys-still-opened : (old mid new : DiskState) → KeysOpened old mid → RunOn 1
 keys-still-opened old mid new o run = record { commands = o.commands; table = o.table; log = o.log; room = o.room; left = λ bytes left. o.left bytes ((run.other_leaves bytes).0 left) }
 
 both-opened : (old mid new : DiskState) → Moment old → RunOn 0 old mid → Tells old → KeysOpened old mid → KeysMoments old mid → NamesMoments mid new → LeavesBoth old new (LeftByStarts old)
-both-opened old mid new m run told opened first second = record {
+both-opened old mid new m run telling opened first second = record {
   before = λ t c le left. ⊎_elim
-      (λ past. ⊎_elim (λ before. inl before) (λ now. inr (left-by old m told c (inl (record { keys = now.0; names = now.1 })))) (first.before t c le past))
-      (λ now. inr (left-by old m told c (inr (record { keys = opened-log old mid opened (c 0) now.1; names = names-then (c 1) now.0 }))))
+      (λ past. ⊎_elim (λ before. inl before) (λ now. inr (left-by old m telling c (inl (record { keys = now.0; names = now.1 })))) (first.before t c le past))
+      (λ now. inr (left-by old m telling c (inr (record { keys = opened-log old mid opened (c 0) now.1; names = names-then (c 1) now.0 }))))
       (second.before t c (let later = run.later in omega (arith, le, later)) left);
 }
   where
     names-then : (bytes : List ℕ) → mid.leaves 1 bytes ⊎ IsLeftByNameStart (mid.reads 1) bytes → old.leaves 1 bytes ⊎ IsLeftByNameStart (old.reads 1) bytes
     names-then bytes (inl before) = inl ((run.other_leaves bytes).0 before)
-    names-then bytes (inr found) = inr (subst (λ (b : List ℕ). IsLeftByNameStart b bytes) (run.other_reads told) found)
+    names-then bytes (inr found) = inr (subst (λ (b : List ℕ). IsLeftByNameStart b bytes) (run.other_reads telling) found)
 
 -- an opening that was done
 
@@ -249,32 +249,32 @@ NamesDone mid new = OpensNames mid new (λ fault. ⊥)
 -- since the first sync of its opening it leaves of each file what the opening leaves
 
 keys-synced : (old mid : DiskState) → KeysDone old mid → Tells old → LeavesFrom 0 old mid (IsLeftByStart (old.reads 0))
-keys-synced old mid o told = ⊎_elim (λ failed. absurd failed.0) (λ since. since) (o.since_sync told)
+keys-synced old mid o telling = ⊎_elim (λ failed. absurd failed.0) (λ since. since) (o.since_sync telling)
 
 names-synced : (mid new : DiskState) → NamesDone mid new → Tells mid → LeavesFrom 1 mid new (IsLeftByNameStart (mid.reads 1))
-names-synced mid new o told = ⊎_elim (λ failed. absurd failed.0) (λ since. since) (o.since_sync told)
+names-synced mid new o telling = ⊎_elim (λ failed. absurd failed.0) (λ since. since) (o.since_sync telling)
 
 -- the second opening leaves file 0 alone
 keys-since : (old mid new : DiskState) → Moment mid → RunOn 0 old mid → Tells old → LeavesFrom 0 old mid (IsLeftByStart (old.reads 0)) → NamesMoments mid new → RunOn 1 mid new → LeavesFrom 0 old new (IsLeftByStart (old.reads 0))
-keys-since old mid new n run told since second other_run = record {
+keys-since old mid new n run telling since second other_run = record {
   moment = since.moment;
   begun = since.begun;
   reached = omega (arith, since.reached, other_run.later);
   only = λ c left. ⊎_elim (λ past. since.only c past)
       (λ now.
       let d = pair (c 0) (mid.reads 1) in
-      since.only d (n.counts since.moment d since.reached (pair-image mid (c 0) (mid.reads 1) now.1 (n.is_one (tells-on 0 old mid run told) 1 (omega arith)))))
+      since.only d (n.counts since.moment d since.reached (pair-image mid (c 0) (mid.reads 1) now.1 (n.is_one (tells-on 0 old mid run telling) 1 (omega arith)))))
       (second.before since.moment c since.reached left);
 }
 
 -- and the first opening leaves file 1 alone
 
 names-since : (old mid new : DiskState) → RunOn 0 old mid → Tells old → LeavesFrom 1 mid new (IsLeftByNameStart (mid.reads 1)) → LeavesFrom 1 old new (IsLeftByNameStart (old.reads 1))
-names-since old mid new run told since = record {
+names-since old mid new run telling since = record {
   moment = since.moment;
   begun = omega (arith, run.later, since.begun);
   reached = since.reached;
-  only = λ c left. subst (λ (b : List ℕ). IsLeftByNameStart b (c 1)) (run.other_reads told) (since.only c left);
+  only = λ c left. subst (λ (b : List ℕ). IsLeftByNameStart b (c 1)) (run.other_reads telling) (since.only c left);
 }
 
 names-beside-keys : (old new : DiskState) → KeysMoments old new → LeavesBoth old new (λ c. old.leaves 1 (c 1))
@@ -295,13 +295,13 @@ last-name [] o all = all.0
 last-name (x ∷ xs) o all = last-name xs o all.1
 
 keys-room : (old new : DiskState) (r : Running) → (s : Starts old new r) → Tells old → s.table.opening < 4294967295
-keys-room old new r s told =
-    let k = s.log told in
+keys-room old new r s telling =
+    let k = s.log telling in
     let fits : s.table.opening + 1 < 2 ^ 32 = last-has k.0 (next_opening s.table) k.2.spelled in omega (arith, fits)
 
 names-room : (old new : DiskState) (r : RunningNames) → (s : NamesStart old new r) → Tells old → s.found.opening < 4294967295
-names-room old new r s told =
-    let n = s.log told in
+names-room old new r s telling =
+    let n = s.log telling in
     let fits : s.found.opening + 1 < 2 ^ 32 = last-name n.0 (next_opening_of_names s.found) n.3.store.log.spelled in omega (arith, fits)
 
 -- the first world
@@ -310,9 +310,10 @@ first-linked : (past : Past) (sizes : SizeValues) (table : Table) (names : NameT
 first-linked past sizes table names l = record {
   files = λ kept. files-opened past.ledger table.rows names (names.opening + 1) l.files;
   replies = record { as_many = refl; keys_open = λ r o at. absurd (none-replied r o at); one_reply = λ n m d at other. absurd (numbered-in [] n (Some d) at) };
-  draws = draws-later past.ledger [] past.place (IsRecordedBirth table) (IsOldBirth (first_world sizes table names).keys.keys.table) (λ b h. inl h) l.draws;
+  draws = draws-later (drawn_before past) (IsRecordedBirth table) (IsOldBirth (first_world sizes table names).keys.keys.table) (λ b h. inl h) l.draws;
   ledger = ledger-more past.ledger [] [] [] ((names.opening + 1) * 2 ^ 32) ((names.opening + 1) * 2 ^ 32 + 1) (omega arith) l.fits;
-  ready = tt;
+  queues = record { opens = λ birth. tt; rising = λ birth. tt; not_replied = λ birth d i. absurd i; not_entered = λ birth id d i. absurd i };
+  tickets = λ ticket i. absurd i;
 }
 
 -- the two tables that are found in sound files are linked
@@ -324,43 +325,43 @@ found-linked past a b commands table ops made s keys names =
     subst (λ (t : Table). LinkedTables past t made.table) (sym f.table_is)
     (subst (λ (m : Replayed). LinkedTables past (settled_table f.kept s.more s.table) m.table) (sym g.made_is) (s.linked f.kept g.kept))
 
-pub begins : (sizes : SizeValues) (old mid new : DiskState) (r : RunningWorld) → r.keys.ready ≡ no_queues sizes → Moment old → r.keys.store.log.file ≡ 0 → r.names.store.log.log.file ≡ 1 → ServicesFit (world_of r) → r.kept ≡ record { notes = []; replies = [] }
+pub begins : (sizes : SizeValues) (old mid new : DiskState) (r : RunningWorld) → r.keys.ready ≡ no_queues sizes → Moment old → r.keys.store.log.file ≡ 0 → r.names.store.log.log.file ≡ 1 → ServicesFit (world_of r) → r.kept ≡ record { tickets = []; notes = []; replies = [] }
     → RunOn 0 old mid → RunOn 1 mid new → Starts old mid (running r.keys) → NamesStart mid new r.names → Begins sizes old new r
 begins sizes old mid new r same_sizes m keys_file names_file fit nothing run other_run ks ns = record {
   table = ks.table;
   names = ns.found;
   first = first;
-  log = λ told.
-      let k = ks.log told in
-      let n = ns.log (tells-on 0 old mid run told) in
+  log = λ telling.
+      let k = ks.log telling in
+      let n = ns.log (tells-on 0 old mid run telling) in
       record {
         commands = k.0;
         ops = n.0;
         used = n.1;
         keys = k.1;
-        edits = edits told;
-        keys_room = keys-room old mid (running r.keys) ks told;
-        names_room = names-room mid new r.names ns (tells-on 0 old mid run told);
-        holds = record { keys = keys-beside mid new r.keys.store _ keys_file other_run (tells-on 0 old mid run told) k.2; names = n.3 };
+        edits = edits telling;
+        keys_room = keys-room old mid (running r.keys) ks telling;
+        names_room = names-room mid new r.names ns (tells-on 0 old mid run telling);
+        holds = record { keys = keys-beside mid new r.keys.store _ keys_file other_run (tells-on 0 old mid run telling) k.2; names = n.3 };
       };
   linked = linked;
-  files_open = λ told past sound. linked-promise (world_of r) (drawn_before past) fit.keys (linked told past sound);
-  draws_apart = λ told past sound apart. world-apart (world_of r) (drawn_before past) (linked told past sound) apart;
+  files_open = λ telling past sound. linked-promise (world_of r) (drawn_before past) fit.keys (linked telling past sound);
+  draws_apart = λ telling past sound apart. world-apart (world_of r) (drawn_before past) (linked telling past sound) apart;
   rests = rests-now new r keys_file names_file fit;
 }
   where
     first : world_of r ≡ first_world sizes ks.table ns.found
-    first = λ i. record { keys = (ks.opens ∙ ap (λ (all : AllQueues). opened all ks.table) same_sizes) i; names = ns.opens i; kept = nothing i }
+    first = λ i. record { keys = (ks.opens ∙ ap (λ (all : AllQueues). service_after_opening all ks.table) same_sizes) i; names = ns.opens i; kept = nothing i }
 
-    edits : (told : Tells old) → IsNameLog (old.reads 1) (ns.log (tells-on 0 old mid run told)).0 (record { table = ns.found; used = (ns.log (tells-on 0 old mid run told)).1 })
-    edits told = subst (λ (b : List ℕ). IsNameLog b (ns.log (tells-on 0 old mid run told)).0 (record { table = ns.found; used = (ns.log (tells-on 0 old mid run told)).1 })) (run.other_reads told) (ns.log (tells-on 0 old mid run told)).2
+    edits : (telling : Tells old) → IsNameLog (old.reads 1) (ns.log (tells-on 0 old mid run telling)).0 (record { table = ns.found; used = (ns.log (tells-on 0 old mid run telling)).1 })
+    edits telling = subst (λ (b : List ℕ). IsNameLog b (ns.log (tells-on 0 old mid run telling)).0 (record { table = ns.found; used = (ns.log (tells-on 0 old mid run telling)).1 })) (run.other_reads telling) (ns.log (tells-on 0 old mid run telling)).2
 
     linked : Tells old → (past : Past) → StartsSound old past → LinkedWorld (world_of r) (drawn_before past)
-    linked told past sound =
+    linked telling past sound =
         subst (λ (w : WorldState). LinkedWorld w (drawn_before past)) (sym first)
         (first-linked past sizes ks.table ns.found
-        (found-linked past (old.reads 0) (old.reads 1) (ks.log told).0 ks.table (ns.log (tells-on 0 old mid run told)).0 _
-        (sound (pair (old.reads 0) (old.reads 1)) (pair-image old (old.reads 0) (old.reads 1) (m.is_one told 0 (omega arith)) (m.is_one told 1 (omega arith)))) (ks.log told).1 (edits told)))
+        (found-linked past (old.reads 0) (old.reads 1) (ks.log telling).0 ks.table (ns.log (tells-on 0 old mid run telling)).0 _
+        (sound (pair (old.reads 0) (old.reads 1)) (pair-image old (old.reads 0) (old.reads 1) (m.is_one telling 0 (omega arith)) (m.is_one telling 1 (omega arith)))) (ks.log telling).1 (edits telling)))
 
 both-runs : (old mid new : DiskState) → RunOn 0 old mid → RunOn 1 mid new → RunBoth old new
 both-runs old mid new a b = record {
@@ -371,8 +372,8 @@ both-runs old mid new a b = record {
 
 -- a key log that was opened has its new opening, and no record is pending
 pub keys-are-opened : (old new : DiskState) (r : Running) → r.store.log.file ≡ 0 → Starts old new r → Tells old → KeysOpened old new
-keys-are-opened old new r of_file s told =
-    let k = s.log told in
+keys-are-opened old new r of_file s telling =
+    let k = s.log telling in
     let commands : List KeyCommand = k.0 ++ next_opening s.table ∷ [] in
     let none : r.store.pending ≡ None = ap (λ (v : ServiceState). v.pending) s.opens in
     let made : r.store.table.keys ≡ after s.table (next_opening s.table) = ap (λ (v : ServiceState). v.keys.table) s.opens in
@@ -380,7 +381,7 @@ keys-are-opened old new r of_file s told =
       commands = k.0;
       table = s.table;
       log = k.1;
-      room = keys-room old new r s told;
+      room = keys-room old new r s telling;
       left = λ bytes left.
           record {
             spelled = k.2.spelled;
@@ -408,9 +409,9 @@ no-start old = record {
   names = record { damaged = λ at is. absurd (cc is.1); spent = λ is. absurd (cc is.1); cause = λ is. absurd (cc is.1) };
   first_keys = λ fault is. absurd (not-second is.0);
   first_names = λ fault is. (begin 0 old (λ c. ⊤)).run;
-  any_moment = λ told. record { before = λ t c le left. inl left };
-  since_sync_keys = λ told. inl (inr (refl, refl), (begin 0 old (old.leaves 0)).moments);
-  since_sync_names = λ told. inl (inl (start.NoMemory, (refl, refl)), record { before = λ t c le left. inl left });
+  any_moment = λ telling. record { before = λ t c le left. inl left };
+  since_sync_keys = λ telling. inl (inr (refl, refl), (begin 0 old (old.leaves 0)).moments);
+  since_sync_names = λ telling. inl (inl (start.NoMemory, (refl, refl)), record { before = λ t c le left. inl left });
   run = both-of 0 old old (begin 0 old (λ c. ⊤)).run;
 }
 
@@ -421,34 +422,34 @@ keys-not-started old new fault m o = record {
   names = record { damaged = λ at is. absurd (not-second is.0); spent = λ is. absurd (not-second is.0); cause = λ is. absurd (not-second is.0) };
   first_keys = λ other is. absurd (not-second is.0);
   first_names = λ other is. o.run;
-  any_moment = λ told. keys-opened old new m told (o.any_moment told);
-  since_sync_keys = λ told. ⊎_elim (λ failed. inl (inl (refl, failed.0), failed.1)) (λ since. inr since) (o.since_sync told);
-  since_sync_names = λ told. inl (inl (fault, (refl, refl)), names-beside-keys old new (o.any_moment told));
+  any_moment = λ telling. keys-opened old new m telling (o.any_moment telling);
+  since_sync_keys = λ telling. ⊎_elim (λ failed. inl (inl (refl, failed.0), failed.1)) (λ since. inr since) (o.since_sync telling);
+  since_sync_names = λ telling. inl (inl (fault, (refl, refl)), names-beside-keys old new (o.any_moment telling));
   run = both-of 0 old new o.run;
 }
 
 -- the key log was opened, and then the edit log, or not
 module _ (old mid new : DiskState) (m : Moment old) (n : Moment mid) (opened : Tells old → KeysOpened old mid) (o : KeysDone old mid) where
   both-moments : {fails : StartFault → Type 0} → OpensNames mid new fails → Tells old → LeavesBoth old new (LeftByStarts old)
-  both-moments then told = both-opened old mid new m o.run told (opened told) (o.any_moment told) (then.any_moment (tells-on 0 old mid o.run told))
+  both-moments then telling = both-opened old mid new m o.run telling (opened telling) (o.any_moment telling) (then.any_moment (tells-on 0 old mid o.run telling))
 
   keys-still-synced : {fails : StartFault → Type 0} → OpensNames mid new fails → Tells old → LeavesFrom 0 old new (IsLeftByStart (old.reads 0))
-  keys-still-synced then told = keys-since old mid new n o.run told (keys-synced old mid o told) (then.any_moment (tells-on 0 old mid o.run told)) then.run
+  keys-still-synced then telling = keys-since old mid new n o.run telling (keys-synced old mid o telling) (then.any_moment (tells-on 0 old mid o.run telling)) then.run
 
   pub names-not-started : (fault : StartFault) → OpensNames mid new (λ other. fault ≡ other) → OpensBoth old new (FailsAt 1 fault)
   names-not-started fault then = record {
     file = λ file other is. inr (sym is.0);
     keys = record { damaged = λ at is. absurd (not-first is.0); spent = λ is. absurd (not-first is.0); cause = λ is. absurd (not-first is.0) };
     names = record {
-      damaged = λ at is told. subst (λ (b : List ℕ). IsDamagedName b at) (o.run.other_reads told) (then.why.damaged at is.1 (tells-on 0 old mid o.run told));
-      spent = λ is told. subst SpentNames (o.run.other_reads told) (then.why.spent is.1 (tells-on 0 old mid o.run told));
+      damaged = λ at is telling. subst (λ (b : List ℕ). IsDamagedName b at) (o.run.other_reads telling) (then.why.damaged at is.1 (tells-on 0 old mid o.run telling));
+      spent = λ is telling. subst SpentNames (o.run.other_reads telling) (then.why.spent is.1 (tells-on 0 old mid o.run telling));
       cause = λ is. rose_since o.run.faults (then.why.cause is.1);
     };
-    first_keys = λ other is told. keys-still-opened old mid new (opened told) then.run;
+    first_keys = λ other is telling. keys-still-opened old mid new (opened telling) then.run;
     first_names = λ other is. absurd (not-first is.0);
     any_moment = both-moments then;
-    since_sync_keys = λ told. inr (keys-still-synced then told);
-    since_sync_names = λ told. ⊎_elim (λ failed. inl (inr (refl, failed.0), names-as-before old mid new o.run (o.any_moment told) failed.1)) (λ since. inr (names-since old mid new o.run told since)) (then.since_sync (tells-on 0 old mid o.run told));
+    since_sync_keys = λ telling. inr (keys-still-synced then telling);
+    since_sync_names = λ telling. ⊎_elim (λ failed. inl (inr (refl, failed.0), names-as-before old mid new o.run (o.any_moment telling) failed.1)) (λ since. inr (names-since old mid new o.run telling since)) (then.since_sync (tells-on 0 old mid o.run telling));
     run = both-runs old mid new o.run then.run;
   }
 
@@ -460,8 +461,8 @@ module _ (old mid new : DiskState) (m : Moment old) (n : Moment mid) (opened : T
     first_keys = λ fault is. absurd (never 1 fault is);
     first_names = λ fault is. absurd (never 0 fault is);
     any_moment = both-moments then;
-    since_sync_keys = λ told. inr (keys-still-synced then told);
-    since_sync_names = λ told. inr (names-since old mid new o.run told (names-synced mid new then (tells-on 0 old mid o.run told)));
+    since_sync_keys = λ telling. inr (keys-still-synced then telling);
+    since_sync_names = λ telling. inr (names-since old mid new o.run telling (names-synced mid new then (tells-on 0 old mid o.run telling)));
     run = both-runs old mid new o.run then.run;
   }
 
@@ -485,8 +486,8 @@ both-for f g o = record {
   first_keys = λ fault is. o.first_keys fault (f 1 fault is);
   first_names = λ fault is. o.first_names fault (f 0 fault is);
   any_moment = o.any_moment;
-  since_sync_keys = λ told. ⊎_elim (λ no. inl (⊎_elim (λ is. inl (g 0 start.StoreFault is)) (λ is. inr (g 0 start.NoMemory is)) no.0, no.1)) (λ since. inr since) (o.since_sync_keys told);
-  since_sync_names = λ told. ⊎_elim (λ no. inl (⊎_elim (λ is. inl (is.0, g 0 is.0 is.1)) (λ is. inr (g 1 start.StoreFault is)) no.0, no.1)) (λ since. inr since) (o.since_sync_names told);
+  since_sync_keys = λ telling. ⊎_elim (λ no. inl (⊎_elim (λ is. inl (g 0 start.StoreFault is)) (λ is. inr (g 0 start.NoMemory is)) no.0, no.1)) (λ since. inr since) (o.since_sync_keys telling);
+  since_sync_names = λ telling. ⊎_elim (λ no. inl (⊎_elim (λ is. inl (is.0, g 0 is.0 is.1)) (λ is. inr (g 1 start.StoreFault is)) no.0, no.1)) (λ since. inr since) (o.since_sync_names telling);
   run = o.run;
 }
 

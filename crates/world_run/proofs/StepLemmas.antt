@@ -6,6 +6,7 @@ use Rattle.std.proofs.lemmas.List.{append-nil}
 use Rattle.hk_base.specs.Disk.{DiskState, Tells}
 use Rattle.hk_base.specs.Faults.{Rose}
 use Rattle.hk_base.specs.declared.names.KeyName.{KeyName}
+use Rattle.hk_base.specs.declared.names.VersionName.{VersionName}
 use Rattle.hk_base.specs.declared.texts.Text.{Text}
 use Rattle.hk_base.proofs.Runs.{begin, weaker}
 use Rattle.name_calls.specs.declared.paths.NPath.{NPath}
@@ -20,10 +21,16 @@ use Rattle.kms_calls.specs.declared.calls.KmsReply.{KmsReply}
 use Rattle.kms_calls.specs.declared.calls.KmsReply.TheVariants as key_reply
 use Rattle.prop_text.specs.declared.lines.PropLine.{PropLine}
 use Rattle.key_rows.specs.declared.rows.KeyCommand.{KeyCommand}
-use Rattle.kms_store.specs.Store.{IsLeftOf, NoCommand, StandsFor}
-use Rattle.kms_acls.specs.StandsFor.{StandsFor as ListsFor}
+use Rattle.kms_store.specs.Store.{IsLeftOf, NoCommand, IsKeyStoreOf}
+use Rattle.kms_acls.specs.Agreement.{AreListsOf}
 use Rattle.kms_core.specs.Service.{Logs}
-use Rattle.kms_core.specs.State.{service_of}
+use Rattle.eek_seal.specs.Tickets.{SealedKey}
+use Rattle.eek_seal.specs.declared.deposit.Deposit.{Deposit}
+use Rattle.eek_seal.specs.declared.tickets.Ticket.{Ticket}
+use Rattle.kms_core.specs.Draws.{sealed_with, words_of_draw}
+use Rattle.kms_core.specs.Ready.{deposit_answer, queues_with, ticket_of}
+use Rattle.kms_core.specs.State.{keys_of, service_of}
+use Rattle.kms_core.specs.Steps.{Drew}
 use Rattle.kms_core.specs.Users.{ActsFor, RunningKms, running}
 use Rattle.name_store.specs.Store.{IsLeftOf as IsLeftOfNames, NothingMore, made_with}
 use Rattle.name_calls.specs.declared.calls.Ask.{Ask}
@@ -37,8 +44,8 @@ use Rattle.name_calls.specs.declared.calls.Want.{Want}
 use Rattle.name_calls.specs.declared.calls.Want.TheVariants as want
 use Rattle.name_core.specs.Asks.{Asks}
 use Rattle.name_core.specs.Calls.{superuser}
-use Rattle.name_core.specs.Service.{Acts, FinishActs, Logs as NameLogs, OwnOf}
-use Rattle.name_core.specs.State.{NameState, RunningNames, StandsFor as NamesStandFor, names_of, service_of as names_service}
+use Rattle.name_core.specs.Service.{NameActsOnDisk, FinishActs, Logs as NameLogs, OwnOf}
+use Rattle.name_core.specs.State.{NameState, RunningNames, IsNamesystemOf, names_of, service_of as names_service}
 use Rattle.hk_events.specs.declared.event.Event.{Event}
 use Rattle.hk_events.specs.declared.event.Event.TheVariants as event
 use Rattle.hk_events.specs.declared.event.Line.{Line}
@@ -47,23 +54,23 @@ use Rattle.world_run.specs.declared.fault.WorldFault.{WorldFault}
 use Rattle.world_run.specs.declared.kept.KeptReply.{KeptReply}
 use Rattle.world_run.specs.declared.kept.KeptReply.TheVariants.{ToAsk}
 use Rattle.world_run.specs.Acknowledged.{Acknowledged, nothing_acknowledged, of_keys, of_names}
-use Rattle.world_run.specs.Does.{CallHappens, Does, DrawHappens, FinishHappens, Happens, PathHappens, WantHappens}
+use Rattle.world_run.specs.Does.{CallHappens, DepositHappens, Does, DrawHappens, FinishHappens, Happens, PathHappens, WantHappens}
 use Rattle.world_run.specs.Own.{OwnOfNamesCall, OwnOfReply}
 use Rattle.world_run.specs.Keeps.{Fails}
-use Rattle.world_run.specs.Step.{AskAt, PathActs, Step, after_ask, finish_line, kept_reply, unread_reply, zone_with}
-use Rattle.world_run.specs.World.{RunningWorld, WorldState, numbered, with_names, world_of}
+use Rattle.world_run.specs.Step.{AskAt, GivesTicket, LacksRoom, PathActs, Step, after_ask, after_ticket, finish_line, kept_reply, ticket_line, unread_reply, zone_with}
+use Rattle.world_run.specs.World.{RunningWorld, WorldState, next_ticket, numbered, with_names, world_of}
 use Rattle.world_run.proofs.AskLemmas.{ask-stands}
 use Rattle.world_run.proofs.KeyLemmas.{call-logs, generate-logs, metadata-logs}
 
-abbrev pub parts : RunningKms → RunningNames → List AskNote → List KeptReply → RunningWorld
-parts keys names notes replies = record { keys = keys; names = names; kept = record { notes = notes; replies = replies } }
+abbrev pub parts : RunningKms → RunningNames → List Ticket → List AskNote → List KeptReply → RunningWorld
+parts keys names tickets notes replies = record { keys = keys; names = names; kept = record { tickets = tickets; notes = notes; replies = replies } }
 
 -- nothing is done to the disk
 
 no-log : (d : DiskState) (r : RunningKms) (P : List KeyCommand → List ℕ → Type 0) → Logs d d r.store r.store P []
 no-log d r P = record {
-  stands = λ told commands s. subst (StandsFor d r.store) (sym (append-nil commands)) s;
-  moments = λ told commands s. (begin 0 d (P commands)).moments;
+  stands = λ telling commands s. subst (IsKeyStoreOf d r.store) (sym (append-nil commands)) s;
+  moments = λ telling commands s. (begin 0 d (P commands)).moments;
   run = (begin 0 d (P [])).run;
 }
 
@@ -86,10 +93,10 @@ does-nothing d r r' words own_keys own P same p = record {
 
 -- the same for the namesystem, of which an ask leaves another state with the same store
 
-names-no-log : (d : DiskState) (r r' : RunningNames) (own : Bool → EditOp → Type 0) → ((ops : List EditOp) → NamesStandFor d r ops → NamesStandFor d r' ops) → NameLogs d d r r' own []
+names-no-log : (d : DiskState) (r r' : RunningNames) (own : Bool → EditOp → Type 0) → ((ops : List EditOp) → IsNamesystemOf d r ops → IsNamesystemOf d r' ops) → NameLogs d d r r' own []
 names-no-log d r r' own stands = record {
-  stands = λ told ops s. subst (NamesStandFor d r') (sym (append-nil ops)) (stands ops s);
-  moments = λ told ops s. (begin 1 d (IsLeftOfNames (made_with r.store s.used) r.store.log.pending own ops)).moments;
+  stands = λ telling ops s. subst (IsNamesystemOf d r') (sym (append-nil ops)) (stands ops s);
+  moments = λ telling ops s. (begin 1 d (IsLeftOfNames (made_with r.store s.used) r.store.log.pending own ops)).moments;
   run = (begin 1 d (IsLeftOfNames (made_with r.store []) r.store.log.pending own [])).run;
 }
 
@@ -112,7 +119,7 @@ still-does d r r' words P keys store names p = record {
   logged = nothing_acknowledged;
   acts = p;
   rest = λ k. ap words (omega arith);
-  disk = inr (record { ops = []; logged_is = refl; log = names-no-log d r.names r'.names NothingMore (λ ops s. subst (λ (q : RunningNames). NamesStandFor d q ops) (sym same) s); keys = keys });
+  disk = inr (record { ops = []; logged_is = refl; log = names-no-log d r.names r'.names NothingMore (λ ops s. subst (λ (q : RunningNames). IsNamesystemOf d q ops) (sym same) s); keys = keys });
   lists = ap (λ (k : RunningKms). k.acls) keys;
 }
   where
@@ -124,24 +131,24 @@ names-left : (result : Result AskNote NameRefusal) (w : WorldState) (names : Nam
 names-left (Ok note) w names = refl
 names-left (Err why) w names = refl
 
-ask-at : (d : DiskState) (r r' : RunningWorld) (user : Text) (c : NPath → Ask) (path : Option NPath) (told : Line) (words : ℕ → ℕ) (P : ℕ → Acknowledged → Type 0) → r'.keys ≡ r.keys → r'.names.store ≡ r.names.store
-    → AskAt (world_of r) user c path told (world_of r') → P 0 nothing_acknowledged → Does d d r r' words words NoCommand NothingMore P
-ask-at d r r' user c None told words P keys store refused p = still-does d r r' words P keys store (ap (λ (w : WorldState). w.names.names) refused.same) p
-ask-at d r r' user c (Some path) told words P keys store (inr refused) p = still-does d r r' words P keys store (ap (λ (w : WorldState). w.names.names) refused.same) p
-ask-at d r r' user c (Some path) told words P keys store (inl a) p =
+ask-at : (d : DiskState) (r r' : RunningWorld) (user : Text) (c : NPath → Ask) (path : Option NPath) (outcome : Line) (words : ℕ → ℕ) (P : ℕ → Acknowledged → Type 0) → r'.keys ≡ r.keys → r'.names.store ≡ r.names.store
+    → AskAt (world_of r) user c path outcome (world_of r') → P 0 nothing_acknowledged → Does d d r r' words words NoCommand NothingMore P
+ask-at d r r' user c None outcome words P keys store refused p = still-does d r r' words P keys store (ap (λ (w : WorldState). w.names.names) refused.same) p
+ask-at d r r' user c (Some path) outcome words P keys store (inr refused) p = still-does d r r' words P keys store (ap (λ (w : WorldState). w.names.names) refused.same) p
+ask-at d r r' user c (Some path) outcome words P keys store (inl a) p =
     ask-does d r r' user (c path) a.result words P keys store (subst (Asks (names_of r.names) user (c path) a.result) (sym (ap (λ (w : WorldState). w.names.names) a.left ∙ names-left a.result (world_of r) a.names)) a.asks) p
 
-pub ask-happens : (lines : List PropLine) (d : DiskState) (w w' : RunningWorld) (words : ℕ → ℕ) (now : ℕ) (e : Event) (user : Text) (path : List ℕ) (told : Line) → e ≡ event.AskCreate user path
-    → w'.keys ≡ w.keys → w'.names.store ≡ w.names.store → AskAt (world_of w) user ask.Create (read_path path) told (world_of w') → Happens lines d d w words now e told w' words
-ask-happens lines d w w' words now e user path told is keys store at =
-    subst (λ (x : Event). Happens lines d d w words now x told w' words) (sym is)
-    (ask-at d w w' user ask.Create (read_path path) told words (λ drawn logged. Step lines (world_of w) words now (event.AskCreate user path) (Rose d.faults d.faults) (Tells d) told drawn logged (world_of w')) keys store at ((refl, refl), at))
+pub ask-happens : (lines : List PropLine) (d : DiskState) (w w' : RunningWorld) (words : ℕ → ℕ) (now : ℕ) (e : Event) (user : Text) (path : List ℕ) (outcome : Line) → e ≡ event.AskCreate user path
+    → w'.keys ≡ w.keys → w'.names.store ≡ w.names.store → AskAt (world_of w) user ask.Create (read_path path) outcome (world_of w') → Happens lines d d w words now e outcome w' words
+ask-happens lines d w w' words now e user path outcome is keys store at =
+    subst (λ (x : Event). Happens lines d d w words now x outcome w' words) (sym is)
+    (ask-at d w w' user ask.Create (read_path path) outcome words (λ drawn logged. Step lines (world_of w) words now (event.AskCreate user path) (Rose d.faults d.faults) (Tells d) outcome drawn logged (world_of w')) keys store at ((refl, refl), at))
 
-pub zone-happens : (lines : List PropLine) (d : DiskState) (w w' : RunningWorld) (words : ℕ → ℕ) (now : ℕ) (e : Event) (user : Text) (path : List ℕ) (key : KeyName) (told : Line) → e ≡ event.AskZone user path key
-    → w'.keys ≡ w.keys → w'.names.store ≡ w.names.store → AskAt (world_of w) user (zone_with key) (read_path path) told (world_of w') → Happens lines d d w words now e told w' words
-zone-happens lines d w w' words now e user path key told is keys store at =
-    subst (λ (x : Event). Happens lines d d w words now x told w' words) (sym is)
-    (ask-at d w w' user (zone_with key) (read_path path) told words (λ drawn logged. Step lines (world_of w) words now (event.AskZone user path key) (Rose d.faults d.faults) (Tells d) told drawn logged (world_of w')) keys store at ((refl, refl), at))
+pub zone-happens : (lines : List PropLine) (d : DiskState) (w w' : RunningWorld) (words : ℕ → ℕ) (now : ℕ) (e : Event) (user : Text) (path : List ℕ) (key : KeyName) (outcome : Line) → e ≡ event.AskZone user path key
+    → w'.keys ≡ w.keys → w'.names.store ≡ w.names.store → AskAt (world_of w) user (zone_with key) (read_path path) outcome (world_of w') → Happens lines d d w words now e outcome w' words
+zone-happens lines d w w' words now e user path key outcome is keys store at =
+    subst (λ (x : Event). Happens lines d d w words now x outcome w' words) (sym is)
+    (ask-at d w w' user (zone_with key) (read_path path) outcome words (λ drawn logged. Step lines (world_of w) words now (event.AskZone user path key) (Rose d.faults d.faults) (Tells d) outcome drawn logged (world_of w')) keys store at ((refl, refl), at))
 
 more-by-one : {X : Type 0} (xs ys : List X) (x : X) → ys ≡ xs ++ x ∷ [] → length ys ≡ length xs + 1
 more-by-one xs ys x is = ap length is ∙ length-append xs (x ∷ [])
@@ -168,56 +175,56 @@ own-weaker own other r used ops bytes f left = record {
 -- calls of the namesystem
 
 -- the operation that may be written, with the line of the reply
-own-told : (old new : DiskState) (names names' : RunningNames) (c : NameCall) (told : NameReply) (logged : List EditOp) → NameLogs old new names names' (OwnOf (names_service names) c told (names_service names')) logged
-    → NameLogs old new names names' (OwnOfNamesCall (names_service names) c (line.Name told) (names_service names')) logged
-own-told old new names names' c told logged l = record {
+own-answered : (old new : DiskState) (names names' : RunningNames) (c : NameCall) (outcome : NameReply) (logged : List EditOp) → NameLogs old new names names' (OwnOf (names_service names) c outcome (names_service names')) logged
+    → NameLogs old new names names' (OwnOfNamesCall (names_service names) c (line.Name outcome) (names_service names')) logged
+own-answered old new names names' c outcome logged l = record {
   stands = l.stands;
-  moments = λ tells ops s. weaker (λ c left. own-weaker _ _ names s.used ops c (λ k op own. record { reply = told; told_is = refl; own = own }) left) (l.moments tells ops s);
+  moments = λ tells ops s. weaker (λ c left. own-weaker _ _ names s.used ops c (λ k op own. record { reply = outcome; reply_is = refl; own = own }) left) (l.moments tells ops s);
   run = l.run;
 }
 
-pub called : (old new : DiskState) (w : RunningWorld) (keys : RunningKms) (names names' : RunningNames) (notes : List AskNote) (replies : List KeptReply) (user : Text) (c : NameCall) (told : NameReply)
-    → parts keys names notes replies ≡ w → Acts old new names user c told names' → CallHappens old new w user c (line.Name told) (parts keys names' notes replies)
-called old new w keys names names' notes replies user c told view acts =
-    subst (λ (v : RunningWorld). CallHappens old new v user c (line.Name told) (parts keys names' notes replies)) view
+pub called : (old new : DiskState) (w : RunningWorld) (keys : RunningKms) (names names' : RunningNames) (tickets : List Ticket) (notes : List AskNote) (replies : List KeptReply) (user : Text) (c : NameCall) (outcome : NameReply)
+    → parts keys names tickets notes replies ≡ w → NameActsOnDisk old new names user c outcome names' → CallHappens old new w user c (line.Name outcome) (parts keys names' tickets notes replies)
+called old new w keys names names' tickets notes replies user c outcome view acts =
+    subst (λ (v : RunningWorld). CallHappens old new v user c (line.Name outcome) (parts keys names' tickets notes replies)) view
     (λ words. record {
       drawn = 0;
       logged = of_names acts.logged;
-      acts = record { reply = told; names = names_service names'; ops = acts.logged; serves = acts.serves; logged_is = refl; told_is = refl; none_drawn = refl; left = refl };
+      acts = record { reply = outcome; names = names_service names'; ops = acts.logged; serves = acts.serves; logged_is = refl; reply_is = refl; none_drawn = refl; left = refl };
       rest = λ k. ap words (omega arith);
-      disk = inr (record { ops = acts.logged; logged_is = refl; log = own-told old new names names' c told acts.logged acts.disk; keys = refl });
+      disk = inr (record { ops = acts.logged; logged_is = refl; log = own-answered old new names names' c outcome acts.logged acts.disk; keys = refl });
       lists = refl;
     })
 
 -- about what was read
-pub path-called : {X : Type 0} (old new : DiskState) (w w' : RunningWorld) (user : Text) (c : X → NameCall) (o : Option X) (read : X) (told : Line) → o ≡ Some read → CallHappens old new w user (c read) told w'
-    → PathHappens old new w user c o told w'
-path-called {X = X} old new w w' user c o read told is happens =
-    subst (λ (x : Option X). PathHappens old new w user c x told w') (sym is)
+pub path-called : {X : Type 0} (old new : DiskState) (w w' : RunningWorld) (user : Text) (c : X → NameCall) (o : Option X) (read : X) (outcome : Line) → o ≡ Some read → CallHappens old new w user (c read) outcome w'
+    → PathHappens old new w user c o outcome w'
+path-called {X = X} old new w w' user c o read outcome is happens =
+    subst (λ (x : Option X). PathHappens old new w user c x outcome w') (sym is)
     (λ words. let h = happens words in record { drawn = h.drawn; logged = h.logged; acts = inl h.acts; rest = h.rest; disk = h.disk; lists = h.lists })
 
 -- and about what could not be read
-pub path-unread : {X : Type 0} (d : DiskState) (w w' : RunningWorld) (user : Text) (c : X → NameCall) (o : Option X) (fault : PathFault) (told : NameReply) → w' ≡ w → told ≡ unread_reply fault
-    → (fault ≡ BadPath → o ≡ None) → (o ≡ None → fault ≡ BadPath) → PathHappens d d w user c o (line.Name told) w'
-path-unread {X = X} d w w' user c o fault told same is bad only = λ words. does-nothing d w w' words _ _ _ same (go o fault bad only is)
+pub path-unread : {X : Type 0} (d : DiskState) (w w' : RunningWorld) (user : Text) (c : X → NameCall) (o : Option X) (fault : PathFault) (outcome : NameReply) → w' ≡ w → outcome ≡ unread_reply fault
+    → (fault ≡ BadPath → o ≡ None) → (o ≡ None → fault ≡ BadPath) → PathHappens d d w user c o (line.Name outcome) w'
+path-unread {X = X} d w w' user c o fault outcome same is bad only = λ words. does-nothing d w w' words _ _ _ same (go o fault bad only is)
   where
-    go : (x : Option X) (f : PathFault) → (f ≡ BadPath → x ≡ None) → (x ≡ None → f ≡ BadPath) → told ≡ unread_reply f
-        → PathActs (world_of w) user c x (Rose d.faults d.faults) (line.Name told) 0 nothing_acknowledged (world_of w')
-    go None f b o t = record { told_is = ap (λ (r : NameReply). line.Name r) (t ∙ ap unread_reply (o refl)); quiet = (refl, refl); same = ap world_of same }
+    go : (x : Option X) (f : PathFault) → (f ≡ BadPath → x ≡ None) → (x ≡ None → f ≡ BadPath) → outcome ≡ unread_reply f
+        → PathActs (world_of w) user c x (Rose d.faults d.faults) (line.Name outcome) 0 nothing_acknowledged (world_of w')
+    go None f b o t = record { reply_is = ap (λ (r : NameReply). line.Name r) (t ∙ ap unread_reply (o refl)); quiet = (refl, refl); same = ap world_of same }
     go (Some read) BadPath b o t = absurd (cc (b refl))
-    go (Some read) NoMemory b o t = inr (record { told_is = ap (λ (r : NameReply). line.Name r) t; quiet = (refl, refl); same = ap world_of same })
+    go (Some read) NoMemory b o t = inr (record { reply_is = ap (λ (r : NameReply). line.Name r) t; quiet = (refl, refl); same = ap world_of same })
 
 -- a finish by a kept reply, and by none
 
-pub finished : (old new : DiskState) (w : RunningWorld) (keys : RunningKms) (names names' : RunningNames) (notes : List AskNote) (replies : List KeptReply) (id : ℕ) (answer : KeyAnswer) (result : Result (Unit {0}) NameRefusal) (told : Line)
-    → parts keys names notes replies ≡ w → FinishActs old new names id answer result names' → told ≡ finish_line result → FinishHappens old new w (Some (ToAsk id answer)) told (parts keys names' notes replies)
-finished old new w keys names names' notes replies id answer result told view acts is =
-    subst (λ (l : Line). FinishHappens old new w (Some (ToAsk id answer)) l (parts keys names' notes replies)) (sym is)
-    (subst (λ (v : RunningWorld). FinishHappens old new v (Some (ToAsk id answer)) (finish_line result) (parts keys names' notes replies)) view
+pub finished : (old new : DiskState) (w : RunningWorld) (keys : RunningKms) (names names' : RunningNames) (tickets : List Ticket) (notes : List AskNote) (replies : List KeptReply) (id : ℕ) (answer : KeyAnswer) (result : Result (Unit {0}) NameRefusal) (outcome : Line)
+    → parts keys names tickets notes replies ≡ w → FinishActs old new names id answer result names' → outcome ≡ finish_line result → FinishHappens old new w (Some (ToAsk id answer)) outcome (parts keys names' tickets notes replies)
+finished old new w keys names names' tickets notes replies id answer result outcome view acts is =
+    subst (λ (l : Line). FinishHappens old new w (Some (ToAsk id answer)) l (parts keys names' tickets notes replies)) (sym is)
+    (subst (λ (v : RunningWorld). FinishHappens old new v (Some (ToAsk id answer)) (finish_line result) (parts keys names' tickets notes replies)) view
     (λ words. record {
       drawn = 0;
       logged = of_names acts.logged;
-      acts = record { result = result; names = names_service names'; ops = acts.logged; finishes = acts.serves; logged_is = refl; told_is = refl; none_drawn = refl; left = refl };
+      acts = record { result = result; names = names_service names'; ops = acts.logged; finishes = acts.serves; logged_is = refl; reply_is = refl; none_drawn = refl; left = refl };
       rest = λ k. ap words (omega arith);
       disk = inr (record { ops = acts.logged; logged_is = refl; log = own-by; keys = refl });
       lists = refl;
@@ -227,52 +234,52 @@ finished old new w keys names names' notes replies id answer result told view ac
     own-by : NameLogs old new names names' (OwnOfReply (names_service names) (Some (ToAsk id answer)) (finish_line result) (names_service names')) acts.logged
     own-by = record {
       stands = acts.disk.stands;
-      moments = λ told ops s. weaker (λ c left. own-weaker _ _ names s.used ops c (λ k op own. record { result = result; told_is = refl; own = own }) left) (acts.disk.moments told ops s);
+      moments = λ outcome ops s. weaker (λ c left. own-weaker _ _ names s.used ops c (λ k op own. record { result = result; reply_is = refl; own = own }) left) (acts.disk.moments outcome ops s);
       run = acts.disk.run;
     }
 
 -- a finish by the reply that is kept under a number
-pub so-finished : (old new : DiskState) (w w' : RunningWorld) (kept made : KeptReply) (read : Option KeptReply) (told : Line) → made ≡ kept → Some kept ≡ read → FinishHappens old new w (Some made) told w' → FinishHappens old new w read told w'
-so-finished old new w w' kept made read told same is happens = subst (λ (o : Option KeptReply). FinishHappens old new w o told w') (ap (λ (k : KeptReply). Some k) same ∙ is) happens
+pub so-finished : (old new : DiskState) (w w' : RunningWorld) (kept made : KeptReply) (read : Option KeptReply) (outcome : Line) → made ≡ kept → Some kept ≡ read → FinishHappens old new w (Some made) outcome w' → FinishHappens old new w read outcome w'
+so-finished old new w w' kept made read outcome same is happens = subst (λ (o : Option KeptReply). FinishHappens old new w o outcome w') (ap (λ (k : KeptReply). Some k) same ∙ is) happens
 
 pub finish-unknown : (d : DiskState) (w w' : RunningWorld) (read : Option KeptReply) → None ≡ read → w' ≡ w → FinishHappens d d w read line.Unknown w'
 finish-unknown d w w' read none same =
     subst (λ (o : Option KeptReply). FinishHappens d d w o line.Unknown w') none
-    (λ words. does-nothing d w w' words _ _ _ same (record { told_is = refl; quiet = (refl, refl); same = ap world_of same }))
+    (λ words. does-nothing d w w' words _ _ _ same (record { reply_is = refl; quiet = (refl, refl); same = ap world_of same }))
 
 -- a draw
 
 pub draw-unknown : (lines : List PropLine) (d : DiskState) (w w' : RunningWorld) (words : ℕ → ℕ) (now : ℕ) (o : Option AskNote) → None ≡ o → w' ≡ w → DrawHappens lines d d w words now o line.Unknown w' words
 draw-unknown lines d w w' words now o none same =
     subst (λ (x : Option AskNote). DrawHappens lines d d w words now x line.Unknown w' words) none
-    (does-nothing d w w' words _ _ _ same (record { told_is = refl; quiet = (refl, refl); same = ap world_of same }))
+    (does-nothing d w w' words _ _ _ same (record { reply_is = refl; quiet = (refl, refl); same = ap world_of same }))
 
 pub draw-no-room : (lines : List PropLine) (d : DiskState) (w w' : RunningWorld) (words : ℕ → ℕ) (now : ℕ) (o : Option AskNote) (note : AskNote) → Some note ≡ o → w' ≡ w
     → DrawHappens lines d d w words now o (line.Kms (key_reply.Refused key_refusal.NoMemory)) w' words
 draw-no-room lines d w w' words now o note is same =
     subst (λ (x : Option AskNote). DrawHappens lines d d w words now x (line.Kms (key_reply.Refused key_refusal.NoMemory)) w' words) is
-    (does-nothing d w w' words _ _ _ same (inr (record { told_is = refl; quiet = (refl, refl); same = ap world_of same })))
+    (does-nothing d w w' words _ _ _ same (inr (record { reply_is = refl; quiet = (refl, refl); same = ap world_of same })))
 
 -- a call that was wanted, and its reply
-pub drew-note : (lines : List PropLine) (old new : DiskState) (w : RunningWorld) (words : ℕ → ℕ) (now : ℕ) (note : AskNote) (keys keys' : RunningKms) (names : RunningNames) (notes : List AskNote) (replies replies' : List KeptReply)
-    (told : Option KmsReply) (n number : ℕ) (words' : ℕ → ℕ)
-    → parts keys names notes replies ≡ w → Some note ≡ numbered w.kept.notes n → (ListsFor keys.acls lines → WantHappens lines old new keys words now note.want told keys' words')
-    → replies' ≡ replies ++ (kept_reply note told) ∷ [] → number ≡ length replies'
-    → ListsFor w.keys.acls lines → DrawHappens lines old new w words now (numbered w.kept.notes n) (line.Replied number told) (parts keys' names notes replies') words'
-drew-note lines old new w words now note keys keys' names notes replies replies' told n number words' view at wants more count =
-    subst (λ (o : Option AskNote). ListsFor w.keys.acls lines → DrawHappens lines old new w words now o (line.Replied number told) (parts keys' names notes replies') words') at
-    (subst (λ (v : RunningWorld). ListsFor v.keys.acls lines → DrawHappens lines old new v words now (Some note) (line.Replied number told) (parts keys' names notes replies') words') view
+pub drew-note : (lines : List PropLine) (old new : DiskState) (w : RunningWorld) (words : ℕ → ℕ) (now : ℕ) (note : AskNote) (keys keys' : RunningKms) (names : RunningNames) (tickets : List Ticket) (notes : List AskNote) (replies replies' : List KeptReply)
+    (outcome : Option KmsReply) (n number : ℕ) (words' : ℕ → ℕ)
+    → parts keys names tickets notes replies ≡ w → Some note ≡ numbered w.kept.notes n → (AreListsOf keys.acls lines → WantHappens lines old new keys words now note.want outcome keys' words')
+    → replies' ≡ replies ++ (kept_reply note outcome) ∷ [] → number ≡ length replies'
+    → AreListsOf w.keys.acls lines → DrawHappens lines old new w words now (numbered w.kept.notes n) (line.Replied number outcome) (parts keys' names tickets notes replies') words'
+drew-note lines old new w words now note keys keys' names tickets notes replies replies' outcome n number words' view at wants more count =
+    subst (λ (o : Option AskNote). AreListsOf w.keys.acls lines → DrawHappens lines old new w words now o (line.Replied number outcome) (parts keys' names tickets notes replies') words') at
+    (subst (λ (v : RunningWorld). AreListsOf v.keys.acls lines → DrawHappens lines old new v words now (Some note) (line.Replied number outcome) (parts keys' names tickets notes replies') words') view
     (λ lists. let does = wants lists in record {
       drawn = does.drawn;
       logged = of_keys does.commands;
       acts = inl (record {
-        reply = told;
+        reply = outcome;
         keys = service_of (running keys');
         commands = does.commands;
         acts = does.acts;
         logged_is = refl;
-        told_is = ap (λ (k : ℕ). line.Replied k told) (count ∙ more-by-one replies replies' (kept_reply note told) more);
-        left = ap (λ (l : List KeptReply). world_of (parts keys' names notes l)) more;
+        reply_is = ap (λ (k : ℕ). line.Replied k outcome) (count ∙ more-by-one replies replies' (kept_reply note outcome) more);
+        left = ap (λ (l : List KeptReply). world_of (parts keys' names tickets notes l)) more;
       });
       rest = does.rest;
       disk = inl (record { commands = does.commands; logged_is = refl; log = does.log; names = refl });
@@ -284,50 +291,135 @@ drew-note lines old new w words now note keys keys' names notes replies replies'
 pub nothing-wanted : (lines : List PropLine) (d : DiskState) (r : RunningKms) (words : ℕ → ℕ) (now : ℕ) (wanted : Want) → wanted ≡ want.Nothing → WantHappens lines d d r words now wanted None r words
 nothing-wanted lines d r words now wanted is =
     subst (λ (x : Want). WantHappens lines d d r words now x None r words) (sym is)
-    (record { drawn = 0; commands = []; acts = record { told_is = refl; none_drawn = refl; none_logged = refl; same = refl }; rest = λ k. ap words (omega arith); log = no-log d r (IsLeftOf r.store.table.keys r.store.pending NoCommand); lists = refl })
+    (record { drawn = 0; commands = []; acts = record { reply_is = refl; none_drawn = refl; none_logged = refl; same = refl }; rest = λ k. ap words (omega arith); log = no-log d r (IsLeftOf r.store.table.keys r.store.pending NoCommand); lists = refl })
 
-pub generate-wanted : (lines : List PropLine) (old new : DiskState) (r r' : RunningKms) (words words' : ℕ → ℕ) (now : ℕ) (user : Text) (wanted : Want) (name : KeyName) (told : KmsReply) → user ≡ superuser → wanted ≡ want.Generate name
-    → ActsFor lines user old new r words now (call.Generate name 1) told r' words' → WantHappens lines old new r words now wanted (Some told) r' words'
-generate-wanted lines old new r r' words words' now user wanted name told as_superuser is acts =
-    subst (λ (x : Want). WantHappens lines old new r words now x (Some told) r' words') (sym is)
-    (made (subst (λ (u : Text). ActsFor lines u old new r words now (call.Generate name 1) told r' words') as_superuser acts))
+pub generate-wanted : (lines : List PropLine) (old new : DiskState) (r r' : RunningKms) (words words' : ℕ → ℕ) (now : ℕ) (user : Text) (wanted : Want) (name : KeyName) (outcome : KmsReply) → user ≡ superuser → wanted ≡ want.Generate name
+    → ActsFor lines user old new r words now (call.Generate name 1) outcome r' words' → WantHappens lines old new r words now wanted (Some outcome) r' words'
+generate-wanted lines old new r r' words words' now user wanted name outcome as_superuser is acts =
+    subst (λ (x : Want). WantHappens lines old new r words now x (Some outcome) r' words') (sym is)
+    (made (subst (λ (u : Text). ActsFor lines u old new r words now (call.Generate name 1) outcome r' words') as_superuser acts))
   where
-    made : ActsFor lines superuser old new r words now (call.Generate name 1) told r' words' → WantHappens lines old new r words now (want.Generate name) (Some told) r' words'
-    made a = record { drawn = a.drawn; commands = a.logged; acts = record { reply = told; serves = a.serves; told_is = refl }; rest = a.rest; log = generate-logs old new r.store r'.store (service_of (running r)) words now name told (service_of (running r')) a.logged a.disk; lists = a.lists }
+    made : ActsFor lines superuser old new r words now (call.Generate name 1) outcome r' words' → WantHappens lines old new r words now (want.Generate name) (Some outcome) r' words'
+    made a = record { drawn = a.drawn; commands = a.logged; acts = record { reply = outcome; serves = a.serves; reply_is = refl }; rest = a.rest; log = generate-logs old new r.store r'.store (service_of (running r)) words now name outcome (service_of (running r')) a.logged a.disk; lists = a.lists }
 
-pub metadata-wanted : (lines : List PropLine) (old new : DiskState) (r r' : RunningKms) (words words' : ℕ → ℕ) (now : ℕ) (user : Text) (wanted : Want) (name : KeyName) (told : KmsReply) → user ≡ superuser → wanted ≡ want.Metadata name
-    → ActsFor lines user old new r words now (call.Metadata name) told r' words' → WantHappens lines old new r words now wanted (Some told) r' words'
-metadata-wanted lines old new r r' words words' now user wanted name told as_superuser is acts =
-    subst (λ (x : Want). WantHappens lines old new r words now x (Some told) r' words') (sym is)
-    (made (subst (λ (u : Text). ActsFor lines u old new r words now (call.Metadata name) told r' words') as_superuser acts))
+pub metadata-wanted : (lines : List PropLine) (old new : DiskState) (r r' : RunningKms) (words words' : ℕ → ℕ) (now : ℕ) (user : Text) (wanted : Want) (name : KeyName) (outcome : KmsReply) → user ≡ superuser → wanted ≡ want.Metadata name
+    → ActsFor lines user old new r words now (call.Metadata name) outcome r' words' → WantHappens lines old new r words now wanted (Some outcome) r' words'
+metadata-wanted lines old new r r' words words' now user wanted name outcome as_superuser is acts =
+    subst (λ (x : Want). WantHappens lines old new r words now x (Some outcome) r' words') (sym is)
+    (made (subst (λ (u : Text). ActsFor lines u old new r words now (call.Metadata name) outcome r' words') as_superuser acts))
   where
-    made : ActsFor lines superuser old new r words now (call.Metadata name) told r' words' → WantHappens lines old new r words now (want.Metadata name) (Some told) r' words'
-    made a = record { drawn = a.drawn; commands = a.logged; acts = record { reply = told; serves = a.serves; told_is = refl }; rest = a.rest; log = metadata-logs old new r.store r'.store (service_of (running r)) words now name told (service_of (running r')) a.logged a.disk; lists = a.lists }
+    made : ActsFor lines superuser old new r words now (call.Metadata name) outcome r' words' → WantHappens lines old new r words now (want.Metadata name) (Some outcome) r' words'
+    made a = record { drawn = a.drawn; commands = a.logged; acts = record { reply = outcome; serves = a.serves; reply_is = refl }; rest = a.rest; log = metadata-logs old new r.store r'.store (service_of (running r)) words now name outcome (service_of (running r')) a.logged a.disk; lists = a.lists }
+
+-- a ticket
+
+pub lacks-room : (w w' : RunningWorld) → w' ≡ w → LacksRoom (world_of w) (line.Kms (key_reply.Refused key_refusal.NoMemory)) 0 nothing_acknowledged (world_of w')
+lacks-room w w' same = record { reply_is = refl; quiet = (refl, refl); same = ap world_of same }
+
+pub no-ticket : (w w' : RunningWorld) → None ≡ ticket_of (keys_of (running w.keys)) → w' ≡ w → GivesTicket (world_of w) line.NoTicket 0 nothing_acknowledged (world_of w')
+no-ticket w w' none same = record {
+  reply_is = ap (λ (o : Option Ticket). ticket_line o (next_ticket (world_of w))) none;
+  quiet = (refl, refl);
+  left = ap world_of same ∙ ap (λ (o : Option Ticket). after_ticket o (world_of w)) none;
+}
+
+pub gives-ticket : (w : RunningWorld) (keys : RunningKms) (names : RunningNames) (tickets tickets' : List Ticket) (notes : List AskNote) (replies : List KeptReply) (ticket : Ticket) (number : ℕ) (version : VersionName)
+    → parts keys names tickets notes replies ≡ w → Some ticket ≡ ticket_of (keys_of (running keys)) → tickets' ≡ tickets ++ ticket ∷ [] → number ≡ length tickets' → version ≡ ticket.version
+    → GivesTicket (world_of w) (line.Ticket number version ticket.wanted) 0 nothing_acknowledged (world_of (parts keys names tickets' notes replies))
+gives-ticket w keys names tickets tickets' notes replies ticket number version view given more count is =
+    subst (λ (v : RunningWorld). GivesTicket (world_of v) (line.Ticket number version ticket.wanted) 0 nothing_acknowledged (world_of (parts keys names tickets' notes replies))) view
+    (record {
+      reply_is = (λ i. line.Ticket ((count ∙ more-by-one tickets tickets' ticket more) i) (is i) ticket.wanted) ∙ ap (λ (o : Option Ticket). ticket_line o (length tickets + 1)) given;
+      quiet = (refl, refl);
+      left = ap (λ (l : List Ticket). world_of (parts keys names l notes replies)) more ∙ ap (λ (o : Option Ticket). after_ticket o (world_of (parts keys names tickets notes replies))) given;
+    })
+
+pub ticket-happens : (lines : List PropLine) (d : DiskState) (w w' : RunningWorld) (words : ℕ → ℕ) (now : ℕ) (e : Event) (outcome : Line) → e ≡ event.Ticket → w'.keys ≡ w.keys → w'.names ≡ w.names
+    → GivesTicket (world_of w) outcome 0 nothing_acknowledged (world_of w') ⊎ LacksRoom (world_of w) outcome 0 nothing_acknowledged (world_of w') → Happens lines d d w words now e outcome w' words
+ticket-happens lines d w w' words now e outcome is keys names acts =
+    subst (λ (x : Event). Happens lines d d w words now x outcome w' words) (sym is)
+    (record {
+      drawn = 0;
+      logged = nothing_acknowledged;
+      acts = acts;
+      rest = λ k. ap words (omega arith);
+      disk = inl (record { commands = []; logged_is = refl; log = no-log-to d w.keys w'.keys (IsLeftOf w.keys.store.table.keys w.keys.store.pending NoCommand) keys; names = names });
+      lists = ap (λ (k : RunningKms). k.acls) keys;
+    })
+
+-- a deposit
+
+pub deposit-unknown : (w w' : RunningWorld) (words : ℕ → ℕ) (o : Option Ticket) → None ≡ o → w' ≡ w → DepositHappens w words o line.Unknown w' words
+deposit-unknown w w' words o none same =
+    subst (λ (x : Option Ticket). DepositHappens w words x line.Unknown w' words) none
+    (subst (λ (v : RunningWorld). DepositHappens w words None line.Unknown v words) (sym same)
+    (record { drawn = 0; acts = record { reply_is = refl; quiet = (refl, refl); same = refl }; rest = λ k. ap words (omega arith); keys = refl; names = refl }))
+
+pub deposited-key : (w : RunningWorld) (words words' : ℕ → ℕ) (keys keys' : RunningKms) (names : RunningNames) (tickets : List Ticket) (notes : List AskNote) (replies : List KeptReply) (ticket : Ticket) (sealed : SealedKey) (answer : Deposit) (n : ℕ)
+    → parts keys names tickets notes replies ≡ w → Some ticket ≡ numbered w.kept.tickets n → sealed ≡ sealed_with ticket words → Drew words words' (words_of_draw (length ticket.material))
+    → answer ≡ deposit_answer (keys_of (running keys)) sealed → keys' ≡ record keys { ready = queues_with keys.ready sealed answer }
+    → DepositHappens w words (numbered w.kept.tickets n) (line.Deposit answer) (parts keys' names tickets notes replies) words'
+deposited-key w words words' keys keys' names tickets notes replies ticket sealed answer n view at sealed_is rest is then_is =
+    subst (λ (o : Option Ticket). DepositHappens w words o (line.Deposit answer) (parts keys' names tickets notes replies) words') at
+    (subst (λ (v : RunningWorld). DepositHappens v words (Some ticket) (line.Deposit answer) (parts keys' names tickets notes replies) words') view
+    (record {
+      drawn = words_of_draw (length ticket.material);
+      acts = record {
+        reply_is = ap (λ (d : Deposit). line.Deposit d) (is ∙ ap (λ (x : SealedKey). deposit_answer (keys_of (running keys)) x) sealed_is);
+        drawn_is = refl;
+        none_logged = refl;
+        left = ap (λ (k : RunningKms). world_of (parts k names tickets notes replies)) then_is ∙ ap (λ (d : Deposit). left sealed d) is ∙ ap (λ (x : SealedKey). left x (deposit_answer (keys_of (running keys)) x)) sealed_is;
+      };
+      rest = rest;
+      keys = then_is ∙ (λ i. record keys { ready = (sym (ap (λ (k : RunningKms). k.ready) then_is)) i });
+      names = refl;
+    }))
+  where
+    left : SealedKey → Deposit → WorldState
+    left x d = world_of (parts (record keys { ready = queues_with keys.ready x d }) names tickets notes replies)
+
+pub deposit-happens : (lines : List PropLine) (d : DiskState) (w w' : RunningWorld) (words words' : ℕ → ℕ) (now : ℕ) (e : Event) (number : ℕ) (outcome : Line) → e ≡ event.Deposit number
+    → DepositHappens w words (numbered w.kept.tickets number) outcome w' words' → Happens lines d d w words now e outcome w' words'
+deposit-happens lines d w w' words words' now e number outcome is happens =
+    subst (λ (x : Event). Happens lines d d w words now x outcome w' words') (sym is)
+    (record {
+      drawn = happens.drawn;
+      logged = nothing_acknowledged;
+      acts = happens.acts;
+      rest = happens.rest;
+      disk = inl (record {
+        commands = [];
+        logged_is = refl;
+        log = subst (λ (k : RunningKms). Logs d d w.keys.store k.store (IsLeftOf w.keys.store.table.keys w.keys.store.pending NoCommand) []) (sym happens.keys) (no-log d w.keys (IsLeftOf w.keys.store.table.keys w.keys.store.pending NoCommand));
+        names = happens.names;
+      });
+      lists = ap (λ (k : RunningKms). k.acls) happens.keys;
+    })
 
 -- each event
 
-pub kms-happens : (lines : List PropLine) (old new : DiskState) (w : RunningWorld) (keys keys' : RunningKms) (names : RunningNames) (notes : List AskNote) (replies : List KeptReply) (words words' : ℕ → ℕ) (now : ℕ) (e : Event) (user : Text) (c : KmsCall) (reply : KmsReply)
-    → parts keys names notes replies ≡ w → e ≡ event.Kms user c → (ListsFor keys.acls lines → ActsFor lines user old new keys words now c reply keys' words')
-    → ListsFor w.keys.acls lines → Happens lines old new w words now e (line.Kms reply) (parts keys' names notes replies) words'
-kms-happens lines old new w keys keys' names notes replies words words' now e user c reply view is served =
-    subst (λ (x : Event). ListsFor w.keys.acls lines → Happens lines old new w words now x (line.Kms reply) (parts keys' names notes replies) words') (sym is)
-    (subst (λ (v : RunningWorld). ListsFor v.keys.acls lines → Happens lines old new v words now (event.Kms user c) (line.Kms reply) (parts keys' names notes replies) words') view
+pub kms-happens : (lines : List PropLine) (old new : DiskState) (w : RunningWorld) (keys keys' : RunningKms) (names : RunningNames) (tickets : List Ticket) (notes : List AskNote) (replies : List KeptReply) (words words' : ℕ → ℕ) (now : ℕ) (e : Event) (user : Text) (c : KmsCall) (reply : KmsReply)
+    → parts keys names tickets notes replies ≡ w → e ≡ event.Kms user c → (AreListsOf keys.acls lines → ActsFor lines user old new keys words now c reply keys' words')
+    → AreListsOf w.keys.acls lines → Happens lines old new w words now e (line.Kms reply) (parts keys' names tickets notes replies) words'
+kms-happens lines old new w keys keys' names tickets notes replies words words' now e user c reply view is served =
+    subst (λ (x : Event). AreListsOf w.keys.acls lines → Happens lines old new w words now x (line.Kms reply) (parts keys' names tickets notes replies) words') (sym is)
+    (subst (λ (v : RunningWorld). AreListsOf v.keys.acls lines → Happens lines old new v words now (event.Kms user c) (line.Kms reply) (parts keys' names tickets notes replies) words') view
     (λ lists. let acts = served lists in record {
       drawn = acts.drawn;
       logged = of_keys acts.logged;
-      acts = record { reply = reply; keys = service_of (running keys'); commands = acts.logged; serves = acts.serves; logged_is = refl; told_is = refl; left = refl };
+      acts = record { reply = reply; keys = service_of (running keys'); commands = acts.logged; serves = acts.serves; logged_is = refl; reply_is = refl; left = refl };
       rest = acts.rest;
       disk = inl (record { commands = acts.logged; logged_is = refl; log = call-logs old new keys.store keys'.store (service_of (running keys)) words now c reply (service_of (running keys')) acts.logged acts.disk; names = refl });
       lists = acts.lists;
     }))
 
 -- one that was shown to happen under its own name
-pub so-happens : (lines : List PropLine) (old new : DiskState) (w w' : RunningWorld) (words words' : ℕ → ℕ) (now : ℕ) (e f : Event) (told : Line) → e ≡ f → Happens lines old new w words now f told w' words' → Happens lines old new w words now e told w' words'
-so-happens lines old new w w' words words' now e f told is happens = subst (λ (x : Event). Happens lines old new w words now x told w' words') (sym is) happens
+pub so-happens : (lines : List PropLine) (old new : DiskState) (w w' : RunningWorld) (words words' : ℕ → ℕ) (now : ℕ) (e f : Event) (outcome : Line) → e ≡ f → Happens lines old new w words now f outcome w' words' → Happens lines old new w words now e outcome w' words'
+so-happens lines old new w w' words words' now e f outcome is happens = subst (λ (x : Event). Happens lines old new w words now x outcome w' words') (sym is) happens
 
 -- a restart, done or not
 pub restart-happens : (old new : DiskState) (w w' : RunningWorld) (words : ℕ → ℕ) (now : ℕ) (e f : Event) (result : Result Line WorldFault) → e ≡ f
     → MatchResult result (λ line. (lines : List PropLine) (words : ℕ → ℕ) (now : ℕ) → Happens lines old new w words now f line w' words) (λ fault. (words : ℕ → ℕ) → Fails old new w words f fault.file fault.fault w' words)
-    → MatchResult result (λ line. (lines : List PropLine) → ListsFor w.keys.acls lines → Happens lines old new w words now e line w' words) (λ fault. Fails old new w words e fault.file fault.fault w' words)
-restart-happens old new w w' words now e f (Ok told) is happens = λ lines lists. subst (λ (x : Event). Happens lines old new w words now x told w' words) (sym is) (happens lines words now)
+    → MatchResult result (λ line. (lines : List PropLine) → AreListsOf w.keys.acls lines → Happens lines old new w words now e line w' words) (λ fault. Fails old new w words e fault.file fault.fault w' words)
+restart-happens old new w w' words now e f (Ok outcome) is happens = λ lines lists. subst (λ (x : Event). Happens lines old new w words now x outcome w' words) (sym is) (happens lines words now)
 restart-happens old new w w' words now e f (Err fault) is fails = subst (λ (x : Event). Fails old new w words x fault.file fault.fault w' words) (sym is) (fails words)

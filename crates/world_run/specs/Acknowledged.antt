@@ -4,8 +4,8 @@ use Rattle.hk_base.specs.Disk.{DiskState, Image}
 use Rattle.edit_ops.specs.declared.ops.EditOp.{EditOp}
 use Rattle.key_rows.specs.declared.rows.KeyCommand.{KeyCommand}
 use Rattle.kms_core.specs.State.{ServiceState, settled}
-use Rattle.kms_store.specs.Store.{IsSoundLog, StandsFor, settled_commands}
-use Rattle.name_core.specs.State.{NameService, settled as settled_names, StandsFor as NamesStandFor}
+use Rattle.kms_store.specs.Store.{IsSoundLog, IsKeyStoreOf, settled_commands}
+use Rattle.name_core.specs.State.{NameService, settled as settled_names, IsNamesystemOf}
 use Rattle.name_store.specs.Table.{settled_ops}
 use Rattle.name_store.specs.Store.{IsSoundLog as IsSoundNames}
 use Rattle.world_run.specs.World.{RunningWorld, WorldState}
@@ -30,8 +30,8 @@ also a b = record { keys = a.keys ++ b.keys; names = a.names ++ b.names }
 
 -- the disk holds both logs of a running world, each of these acknowledged records
 pub record HoldsLogs (disk : DiskState) (r : RunningWorld) (done : Acknowledged) : Type 0 where
-  pub keys : StandsFor disk r.keys.store done.keys
-  pub names : NamesStandFor disk r.names done.names
+  pub keys : IsKeyStoreOf disk r.keys.store done.keys
+  pub names : IsNamesystemOf disk r.names done.names
 
 -- What a crash may leave of the key log of a service: its acknowledged commands, none left out, then the pending one if it was
 -- kept, and at most one more, which applies. That one is the pending command itself, or one of `own`, which says what is being written.

@@ -12,6 +12,7 @@ use Rattle.kms_core.specs.Service.{Logs}
 use Rattle.kms_core.specs.State.{service_of}
 use Rattle.kms_core.specs.Users.{RunningKms, running}
 use Rattle.name_store.specs.Store.{NothingMore}
+use Rattle.eek_seal.specs.declared.tickets.Ticket.{Ticket}
 use Rattle.name_calls.specs.declared.calls.AskNote.{AskNote}
 use Rattle.name_calls.specs.declared.calls.NameCall.{NameCall}
 use Rattle.name_calls.specs.declared.calls.Want.{Want}
@@ -19,8 +20,8 @@ use Rattle.name_core.specs.Service.{Logs as NameLogs}
 use Rattle.hk_events.specs.declared.event.Event.{Event}
 use Rattle.hk_events.specs.declared.event.Line.{Line}
 use Rattle.world_run.specs.declared.kept.KeptReply.{KeptReply}
-use Rattle.world_run.specs.Acknowledged.{Acknowledged, of_keys, of_names}
-use Rattle.world_run.specs.Step.{DrawActs, FinishReply, NamesAct, PathActs, Step, WantActs}
+use Rattle.world_run.specs.Acknowledged.{Acknowledged, nothing_acknowledged, of_keys, of_names}
+use Rattle.world_run.specs.Step.{DepositActs, DrawActs, FinishReply, NamesAct, PathActs, Step, WantActs}
 use Rattle.world_run.specs.Own.{OwnKeysOfEvent, OwnOfEvent, OwnOfNamesCall, OwnOfPath, OwnOfReply}
 use Rattle.world_run.specs.World.{RunningWorld, world_of}
 
@@ -50,38 +51,46 @@ pub record Does (old new : DiskState) (r r' : RunningWorld) (words words' : ℕ 
 
 -- an event happens, with this answer and this world after it
 abbrev pub Happens : List PropLine → DiskState → DiskState → RunningWorld → (ℕ → ℕ) → ℕ → Event → Line → RunningWorld → (ℕ → ℕ) → Type 0
-Happens lines old new r words now e told r' words' =
-    Does old new r r' words words' (OwnKeysOfEvent (world_of r) words now e told (world_of r')) (OwnOfEvent (world_of r) e told (world_of r'))
-    (λ drawn logged. Step lines (world_of r) words now e (Rose old.faults new.faults) (Tells old) told drawn logged (world_of r'))
+Happens lines old new r words now e result r' words' =
+    Does old new r r' words words' (OwnKeysOfEvent (world_of r) words now e result (world_of r')) (OwnOfEvent (world_of r) e result (world_of r'))
+    (λ drawn logged. Step lines (world_of r) words now e (Rose old.faults new.faults) (Tells old) result drawn logged (world_of r'))
 
 -- calls of the namesystem
 
 abbrev pub CallHappens : DiskState → DiskState → RunningWorld → Text → NameCall → Line → RunningWorld → Type 0
-CallHappens old new r user c told r' =
-    (words : ℕ → ℕ) → Does old new r r' words words NoCommand (OwnOfNamesCall (world_of r).names c told (world_of r').names)
-    (λ drawn logged. NamesAct (world_of r) user c (Rose old.faults new.faults) told drawn logged (world_of r'))
+CallHappens old new r user c result r' =
+    (words : ℕ → ℕ) → Does old new r r' words words NoCommand (OwnOfNamesCall (world_of r).names c result (world_of r').names)
+    (λ drawn logged. NamesAct (world_of r) user c (Rose old.faults new.faults) result drawn logged (world_of r'))
 
 abbrev pub PathHappens : {X : Type 0} → DiskState → DiskState → RunningWorld → Text → (X → NameCall) → Option X → Line → RunningWorld → Type 0
-PathHappens old new r user c read told r' =
-    (words : ℕ → ℕ) → Does old new r r' words words NoCommand (OwnOfPath (world_of r).names c read told (world_of r').names)
-    (λ drawn logged. PathActs (world_of r) user c read (Rose old.faults new.faults) told drawn logged (world_of r'))
+PathHappens old new r user c read result r' =
+    (words : ℕ → ℕ) → Does old new r r' words words NoCommand (OwnOfPath (world_of r).names c read result (world_of r').names)
+    (λ drawn logged. PathActs (world_of r) user c read (Rose old.faults new.faults) result drawn logged (world_of r'))
 
 abbrev pub FinishHappens : DiskState → DiskState → RunningWorld → Option KeptReply → Line → RunningWorld → Type 0
-FinishHappens old new r reply told r' =
-    (words : ℕ → ℕ) → Does old new r r' words words NoCommand (OwnOfReply (world_of r).names reply told (world_of r').names)
-    (λ drawn logged. FinishReply (world_of r) reply (Rose old.faults new.faults) told drawn logged (world_of r'))
+FinishHappens old new r reply result r' =
+    (words : ℕ → ℕ) → Does old new r r' words words NoCommand (OwnOfReply (world_of r).names reply result (world_of r').names)
+    (λ drawn logged. FinishReply (world_of r) reply (Rose old.faults new.faults) result drawn logged (world_of r'))
 
 -- the parts of a draw
 
 abbrev pub DrawHappens : List PropLine → DiskState → DiskState → RunningWorld → (ℕ → ℕ) → ℕ → Option AskNote → Line → RunningWorld → (ℕ → ℕ) → Type 0
-DrawHappens lines old new r words now note told r' words' =
-    Does old new r r' words words' NoCommand NothingMore (λ drawn logged. DrawActs lines (world_of r) words now note (Rose old.faults new.faults) told drawn logged (world_of r'))
+DrawHappens lines old new r words now note result r' words' =
+    Does old new r r' words words' NoCommand NothingMore (λ drawn logged. DrawActs lines (world_of r) words now note (Rose old.faults new.faults) result drawn logged (world_of r'))
+
+-- A deposit draws words, and changes the queues alone.
+pub record DepositHappens (r : RunningWorld) (words : ℕ → ℕ) (ticket : Option Ticket) (result : Line) (r' : RunningWorld) (words' : ℕ → ℕ) : Type 0 where
+  pub drawn : ℕ
+  pub acts : DepositActs (world_of r) words ticket result drawn nothing_acknowledged (world_of r')
+  pub rest : (n : ℕ) → words' n ≡ words (drawn + n)
+  pub keys : r'.keys ≡ record r.keys { ready = r'.keys.ready }
+  pub names : r'.names ≡ r.names
 
 -- the call that an ask wants is made on the key management service; it writes nothing of its own
-pub record WantHappens (lines : List PropLine) (old new : DiskState) (k : RunningKms) (words : ℕ → ℕ) (now : ℕ) (wanted : Want) (told : Option KmsReply) (k' : RunningKms) (words' : ℕ → ℕ) : Type 0 where
+pub record WantHappens (lines : List PropLine) (old new : DiskState) (k : RunningKms) (words : ℕ → ℕ) (now : ℕ) (wanted : Want) (result : Option KmsReply) (k' : RunningKms) (words' : ℕ → ℕ) : Type 0 where
   pub drawn : ℕ
   pub commands : List KeyCommand
-  pub acts : WantActs lines (service_of (running k)) words now wanted (Rose old.faults new.faults) told drawn commands (service_of (running k'))
+  pub acts : WantActs lines (service_of (running k)) words now wanted (Rose old.faults new.faults) result drawn commands (service_of (running k'))
   pub rest : (n : ℕ) → words' n ≡ words (drawn + n)
   pub log : Logs old new k.store k'.store (IsLeftOf k.store.table.keys k.store.pending NoCommand) commands
   pub lists : k'.acls ≡ k.acls

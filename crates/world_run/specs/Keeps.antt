@@ -33,12 +33,12 @@ KnowsWorld _ tells = Unit {0}
 
 -- An event under the properties of these lines. If the world is linked with what is hidden, so is the world after the event, and
 -- its zone files open.
-pub record LinkedStep (lines : List PropLine) (w : WorldState) (words : ℕ → ℕ) (now : ℕ) (e : Event) (fault tells : Type 0) (told : Line) (drawn : ℕ) (logged : Acknowledged) (w' : WorldState) : Type 0 where
-  pub step : Step lines w words now e fault tells told drawn logged w'
-  pub linked : KnowsWorld e tells → (h : Hidden) → LinkedWorld w h → LinkedWorld w' (hidden_after w words e told drawn w' h)
-  pub files_open : KnowsWorld e tells → (h : Hidden) → LinkedWorld w h → ZoneFilesOpen w' (hidden_after w words e told drawn w' h)
+pub record LinkedStep (lines : List PropLine) (w : WorldState) (words : ℕ → ℕ) (now : ℕ) (e : Event) (fault tells : Type 0) (reply : Line) (drawn : ℕ) (logged : Acknowledged) (w' : WorldState) : Type 0 where
+  pub step : Step lines w words now e fault tells reply drawn logged w'
+  pub linked : KnowsWorld e tells → (h : Hidden) → LinkedWorld w h → LinkedWorld w' (hidden_after w words e reply drawn w' h)
+  pub files_open : KnowsWorld e tells → (h : Hidden) → LinkedWorld w h → ZoneFilesOpen w' (hidden_after w words e reply drawn w' h)
   -- if draws were apart, they are apart after it
-  pub draws_apart : KnowsWorld e tells → (h : Hidden) → LinkedWorld w h → WordsApart h → DrawsApart (hidden_after w words e told drawn w' h)
+  pub draws_apart : KnowsWorld e tells → (h : Hidden) → LinkedWorld w h → WordsApart h → DrawsApart (hidden_after w words e reply drawn w' h)
 
 -- files that a run may start from, with what is hidden afterwards, whatever was hidden before
 abbrev pub SoundFrom : (Hidden → Type 0) → (Hidden → Hidden) → Image → Type 0
@@ -55,15 +55,15 @@ RestsNow disk r =
 
 -- An event of a world over its disk, under the properties of these lines. The acknowledged records are in the logs after the
 -- earlier ones, the next event begins with the words that are left, and the access control lists stay as they are.
-pub record Steps (lines : List PropLine) (old new : DiskState) (r : RunningWorld) (words : ℕ → ℕ) (now : ℕ) (e : Event) (told : Line) (r' : RunningWorld) (words' : ℕ → ℕ) : Type 0 where
+pub record Steps (lines : List PropLine) (old new : DiskState) (r : RunningWorld) (words : ℕ → ℕ) (now : ℕ) (e : Event) (reply : Line) (r' : RunningWorld) (words' : ℕ → ℕ) : Type 0 where
   pub drawn : ℕ
   pub logged : Acknowledged
-  pub step : LinkedStep lines (world_of r) words now e (Rose old.faults new.faults) (Tells old) told drawn logged (world_of r')
+  pub step : LinkedStep lines (world_of r) words now e (Rose old.faults new.faults) (Tells old) reply drawn logged (world_of r')
   pub rest : (k : ℕ) → words' k ≡ words (drawn + k)
   pub stands : Tells old → (done : Acknowledged) → HoldsLogs old r done → HoldsLogs new r' (also done logged)
   -- a crash in the event leaves both logs, with what was acknowledged before it, and at most one record more: its own, or the pending
   -- one; and these files are sound, with what is hidden after the event
-  pub survives : SurvivesThrough old new r (λ done c. SurvivesEvent (world_of r) words now e told (world_of r') done c × SoundFrom (LinkedWorld (world_of r)) (hidden_after (world_of r) words e told drawn (world_of r')) c)
+  pub survives : SurvivesThrough old new r (λ done c. SurvivesEvent (world_of r) words now e reply (world_of r') done c × SoundFrom (LinkedWorld (world_of r)) (hidden_after (world_of r) words e reply drawn (world_of r')) c)
   pub rests : RestsNow new r'
   pub run : RunBoth old new
   pub lists : r'.keys.acls ≡ r.keys.acls

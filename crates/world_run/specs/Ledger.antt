@@ -1,11 +1,14 @@
 -- What is stored nowhere: which data encryption key was drawn for which file.
-use Rattle.std.specs.Prelude.{ℕ, ◌+◌, ◌==◌, Bool, true, false, List, [], ◌∷◌, ◌++◌, length, Option, None, Some}
+use Rattle.std.specs.Prelude.{ℕ, ◌+◌, ◌-◌, ◌==◌, if◌then◌else◌, drop, Bool, true, false, List, [], ◌∷◌, ◌++◌, length, Option, None, Some}
 use Rattle.hk_base.specs.declared.names.Dek.{Dek}
 use Rattle.hk_base.specs.declared.names.Iv.{Iv}
 use Rattle.hk_base.specs.declared.names.KeyName.{KeyName}
 use Rattle.hk_base.specs.declared.names.VersionName.{VersionName}
 use Rattle.kms_calls.specs.declared.calls.KmsReply.{KmsReply}
 use Rattle.kms_calls.specs.declared.calls.KmsReply.TheVariants.{Ready}
+use Rattle.eek_seal.specs.declared.tickets.Ticket.{Ticket}
+use Rattle.eek_seal.specs.declared.deposit.Deposit.TheVariants.{Kept}
+use Rattle.eek_queues.specs.Queues.{Queue, ready_in}
 use Rattle.kms_core.specs.Draws.{drawn_dek, drawn_iv}
 use Rattle.kms_core.specs.State.{KmsState}
 use Rattle.kms_core.specs.Calls.{birth_of, current_material, current_version, row_of}
@@ -37,10 +40,11 @@ pub record Draw : Type 0 where
 abbrev pub Ledger : Type 0
 Ledger = List (ℕ × Draw)
 
--- the number of words drawn so far; for each kept reply the draw of its key, if it has one; and which draw the file of
--- each id got
+-- the number of words drawn so far; for each birth the draws of the ready keys in its queue, in order; for each kept reply the draw
+-- of its key, if it has one; and which draw the file of each id got
 pub record Hidden : Type 0 where
   pub place : ℕ
+  pub queued : ℕ → List Draw
   pub replied : List (Option Draw)
   pub ledger : Ledger
 
@@ -49,13 +53,13 @@ pub record Past : Type 0 where
   pub ledger : Ledger
   pub place : ℕ
 
--- the rest of what is hidden, after the kept replies are lost
+-- the rest of what is hidden, after the queues and the kept replies are lost
 abbrev pub past_of : Hidden → Past
 past_of h = record { ledger = h.ledger; place = h.place }
 
 -- before the first event
 abbrev pub drawn_before : Past → Hidden
-drawn_before past = record { place = past.place; replied = []; ledger = past.ledger }
+drawn_before past = record { place = past.place; queued = λ birth. []; replied = []; ledger = past.ledger }
 
 -- the draw of a generate of one key
 abbrev pub draw_of : KmsState → (ℕ → ℕ) → ℕ → KeyName → Draw
@@ -68,14 +72,43 @@ draw_of s words place name =
       dek = drawn_dek words 0 (length (current_material s name));
     }
 
--- the draw of the reply to the call that an ask wanted
-abbrev pub draw_told : KmsState → (ℕ → ℕ) → ℕ → Want → Option KmsReply → Option Draw
-draw_told s words place (Generate name) (Some (Ready (edek ∷ []))) = Some (draw_of s words place name)
-draw_told s words place _ _ = None
+-- the draw of a deposit with this ticket
+abbrev pub draw_under : Ticket → (ℕ → ℕ) → ℕ → Draw
+draw_under ticket words place =
+    record {
+      place = place;
+      birth = ticket.birth;
+      version = ticket.version;
+      iv = drawn_iv words 0;
+      dek = drawn_dek words 0 (length ticket.material);
+    }
 
-abbrev pub draw_noted : KmsState → (ℕ → ℕ) → ℕ → Option AskNote → Option KmsReply → Option Draw
-draw_noted s words place None told = None
-draw_noted s words place (Some note) told = draw_told s words place note.want told
+-- the first of these draws, or else this one
+abbrev pub first_of : List Draw → Draw → Draw
+first_of [] draw = draw
+first_of (first ∷ more) draw = first
+
+-- The draw of the reply to the call that an ask wanted: that of the first ready key of the queue, or else a new one.
+abbrev pub draw_answered : KmsState → (ℕ → ℕ) → Hidden → Want → Option KmsReply → Option Draw
+draw_answered s words h (Generate name) (Some (Ready (edek ∷ []))) = Some (first_of (h.queued (birth_of (row_of s name))) (draw_of s words h.place name))
+draw_answered s words h _ _ = None
+
+abbrev pub draw_noted : KmsState → (ℕ → ℕ) → Hidden → Option AskNote → Option KmsReply → Option Draw
+draw_noted s words h None result = None
+draw_noted s words h (Some note) result = draw_answered s words h note.want result
+
+-- The draws that are left in the queues, if these queues become those: as many fall from the front as a queue has ready keys less.
+abbrev pub left_in : List Queue → List Queue → (ℕ → List Draw) → ℕ → List Draw
+left_in before after queued birth = drop (length (ready_in before birth) - length (ready_in after birth)) (queued birth)
+
+-- the draws in the queues with one more at the end of the queue of its birth
+abbrev pub with_queued : Draw → (ℕ → List Draw) → ℕ → List Draw
+with_queued draw queued birth = if birth == draw.birth then queued birth ++ draw ∷ [] else queued birth
+
+-- the draws in the queues after a deposit that was kept
+abbrev pub deposited_under : Option Ticket → (ℕ → ℕ) → ℕ → (ℕ → List Draw) → ℕ → List Draw
+deposited_under None words place queued = queued
+deposited_under (Some ticket) words place queued = with_queued (draw_under ticket words place) queued
 
 -- the entry of a draw under the id of its ask, if there is a draw
 abbrev pub entry_under : ℕ → Option Draw → Ledger
@@ -110,12 +143,20 @@ entered false entry = []
 abbrev pub behind_words : ℕ → Hidden → Hidden
 behind_words drawn h = record h { place = h.place + drawn }
 
--- What is hidden after an event with this answer, and this world after it: a draw keeps what was drawn for its reply, and a finish
--- enters the draw of the reply that it used, if it enters one.
+-- these queues became those, and `drawn` more words were drawn
+abbrev pub moved_on : List Queue → List Queue → ℕ → Hidden → Hidden
+moved_on before after drawn h = record (behind_words drawn h) { queued = left_in before after h.queued }
+
+-- What is hidden after an event with this answer, and this world after it: a draw keeps what was drawn for its reply, a finish
+-- enters the draw of the reply that it used, if it enters one, and a deposit that is kept queues its draw.
 abbrev pub hidden_after : WorldState → (ℕ → ℕ) → Event → Line → ℕ → WorldState → Hidden → Hidden
-hidden_after w words (event.Draw number) (line.Replied n told) drawn w' h =
-    record (behind_words drawn h) { replied = h.replied ++ draw_noted w.keys.keys words h.place (numbered w.kept.notes number) told ∷ [] }
-hidden_after w words (event.Finish number) told drawn w' h =
+hidden_after w words (event.Draw number) (line.Replied n result) drawn w' h =
+    record (moved_on w.keys.keys.ready.queues w'.keys.keys.ready.queues drawn h) { replied = h.replied ++ draw_noted w.keys.keys words h (numbered w.kept.notes number) result ∷ [] }
+hidden_after w words (event.Deposit number) (line.Deposit Kept) drawn w' h =
+    record (behind_words drawn h) { queued = deposited_under (numbered w.kept.tickets number) words h.place h.queued }
+hidden_after w words (event.Finish number) result drawn w' h =
     let kept = numbered w.kept.replies number in
-    record (behind_words drawn h) { ledger = h.ledger ++ entered (enters (id_of_reply kept) told w'.names) (entry_of kept (numbered h.replied number)) }
-hidden_after w words _ _ drawn w' h = behind_words drawn h
+    record (moved_on w.keys.keys.ready.queues w'.keys.keys.ready.queues drawn h) {
+      ledger = h.ledger ++ entered (enters (id_of_reply kept) result w'.names) (entry_of kept (numbered h.replied number));
+    }
+hidden_after w words _ _ drawn w' h = moved_on w.keys.keys.ready.queues w'.keys.keys.ready.queues drawn h

@@ -1,9 +1,10 @@
 -- What stays true from event to event, and gives the promise on zone files.
-use Rattle.std.specs.Prelude.{◌≡◌, ◌⊎◌, ◌+◌, ◌*◌, ◌^◌, ◌<◌, ◌≤◌, ℕ, ⊤, Bool, List, [], ◌∷◌, length, Option, None, Some}
+use Rattle.std.specs.Prelude.{◌≡◌, ◌⊎◌, ◌+◌, ◌*◌, ◌^◌, ◌<◌, ◌≤◌, ℕ, ⊤, Bool, List, [], ◌∷◌, length, true, slice_get, Option, None, Some}
 use Rattle.std.specs.List.{AllByRecursion}
 use Rattle.hk_base.specs.Disk.{DiskState, Image, IsImage}
 use Rattle.hk_base.specs.declared.names.Edek.{Edek}
-use Rattle.eek_queues.specs.Queues.{Queue}
+use Rattle.eek_queues.specs.Queues.{Queue, has_queue, ready_in}
+use Rattle.eek_seal.specs.declared.tickets.Ticket.{Ticket}
 use Rattle.inode_tree.specs.declared.rows.Row.{Row}
 use Rattle.inode_tree.specs.Rows.{Entry}
 use Rattle.edit_ops.specs.declared.ops.EditOp.{EditOp}
@@ -23,7 +24,7 @@ use Rattle.name_core.specs.State.{IsNames, next_id, settled as settled_names}
 use Rattle.world_run.specs.declared.kept.KeptReply.{KeptReply}
 use Rattle.world_run.specs.declared.kept.KeptReply.TheVariants.{ToAsk}
 use Rattle.world_run.specs.World.{WorldState, numbered}
-use Rattle.world_run.specs.Ledger.{Draw, Hidden, Ledger, Past}
+use Rattle.world_run.specs.Ledger.{Draw, Hidden, Ledger, Past, drawn_before}
 use Rattle.world_run.specs.Promise.{Apart, FilesApart, FitsZone, In, edek_of}
 
 -- what is true of each service by itself
@@ -76,9 +77,9 @@ pub record RepliesLinked (keys : List KeyRow) (replies : List KeptReply) (replie
   -- no two replies have one draw
   pub one_reply : (n m : ℕ) (d : Draw) → numbered replied n ≡ Some (Some d) → numbered replied m ≡ Some (Some d) → n ≡ m
 
--- a draw that a kept reply or an entry of the ledger has
-abbrev pub IsDrawn : Ledger → List (Option Draw) → Draw → Type 0
-IsDrawn ledger replied d = ((id : ℕ) × In (id, d) ledger) ⊎ In (Some d) replied
+-- a draw that an entry of the ledger, a kept reply or a ready key has
+abbrev pub IsDrawn : Hidden → Draw → Type 0
+IsDrawn h d = ((id : ℕ) × In (id, d) h.ledger) ⊎ (In (Some d) h.replied ⊎ ((birth : ℕ) × In d (h.queued birth)))
 
 -- the birth is of an opening before the table's, or none above its greatest
 abbrev pub IsOldBirth : Table → ℕ → Type 0
@@ -89,16 +90,16 @@ abbrev pub IsRecordedBirth : Table → ℕ → Type 0
 IsRecordedBirth t birth = birth < (t.opening + 1) * 2 ^ 32
 
 -- draws: each has a place below the next one, which no other draw has, and a key of such a birth, which is of an opening from 1 on
-pub record DrawsFit (ledger : Ledger) (replied : List (Option Draw)) (place : ℕ) (IsBirth : ℕ → Type 0) : Type 0 where
-  pub below : (d : Draw) → IsDrawn ledger replied d → d.place < place
-  pub one_place : (d f : Draw) → IsDrawn ledger replied d → IsDrawn ledger replied f → d.place ≡ f.place → d ≡ f
-  pub born : (d : Draw) → IsDrawn ledger replied d → IsBirth d.birth
-  pub recent : (d : Draw) → IsDrawn ledger replied d → 2 ^ 32 ≤ d.birth
+pub record DrawsFit (h : Hidden) (IsBirth : ℕ → Type 0) : Type 0 where
+  pub below : (d : Draw) → IsDrawn h d → d.place < h.place
+  pub one_place : (d f : Draw) → IsDrawn h d → IsDrawn h f → d.place ≡ f.place → d ≡ f
+  pub born : (d : Draw) → IsDrawn h d → IsBirth d.birth
+  pub recent : (d : Draw) → IsDrawn h d → 2 ^ 32 ≤ d.birth
 
 -- draws are of words that were drawn, and no two have a word in common
 pub record WordsApart (h : Hidden) : Type 0 where
-  pub taken : (d : Draw) → IsDrawn h.ledger h.replied d → d.place + words_of_draw (length d.dek) ≤ h.place
-  pub apart : (d f : Draw) → IsDrawn h.ledger h.replied d → IsDrawn h.ledger h.replied f → (d ≡ f) ⊎ Apart d f
+  pub taken : (d : Draw) → IsDrawn h d → d.place + words_of_draw (length d.dek) ≤ h.place
+  pub apart : (d f : Draw) → IsDrawn h d → IsDrawn h f → (d ≡ f) ⊎ Apart d f
 
 -- and so the draws of two files
 pub record DrawsApart (h : Hidden) : Type 0 where
@@ -116,23 +117,58 @@ pub record LedgerFits (ledger : Ledger) (replies : List KeptReply) (replied : Li
   -- the draw of an entry is of no other ask's reply
   pub its_ask : (id : ℕ) (r : KeptReply) (d : Draw) → In (id, d) ledger → Replied replies replied r (Some d) → IsReplyTo id r
 
--- no queue has a ready key
-abbrev pub NoneReady : List Queue → Type 0
-NoneReady queues = AllByRecursion (λ (q : Queue). q.ready ≡ []) queues
+-- P is true of each element of a list and the one at its place in another, which is as long
+abbrev pub Pairs : {X Y : Type 0} → (X → Y → Type 0) → List X → List Y → Type 0
+Pairs P [] [] = ⊤
+Pairs P [] (y ∷ ys) = ⊥
+Pairs P (x ∷ xs) [] = ⊥
+Pairs P (x ∷ xs) (y ∷ ys) = P x y × Pairs P xs ys
 
--- From event to event, with and without the pending operation of the namesystem. No event makes keys ready.
+-- a ready key in the queue of this birth, and its draw
+pub record ReadyLinked (keys : List KeyRow) (birth : ℕ) (e : Edek) (d : Draw) : Type 0 where
+  pub of_birth : d.birth ≡ birth
+  pub of_version : e.version ≡ d.version
+  pub opens : OpensTo keys d e
+
+-- the places of draws rise
+abbrev pub IsRising : List Draw → Type 0
+IsRising [] = ⊤
+IsRising (d ∷ ds) = AllByRecursion (λ (f : Draw). d.place < f.place) ds × IsRising ds
+
+-- Each ready key opens to the data key of its draw, while its key exists. The draw is queued once, and no kept reply and no entry of
+-- the ledger has it.
+pub record QueuesLinked (keys : List KeyRow) (queues : List Queue) (h : Hidden) : Type 0 where
+  pub opens : (birth : ℕ) → Pairs (ReadyLinked keys birth) (ready_in queues birth) (h.queued birth)
+  pub rising : (birth : ℕ) → IsRising (h.queued birth)
+  pub not_replied : (birth : ℕ) (d : Draw) → In d (h.queued birth) → In (Some d) h.replied → ⊥
+  pub not_entered : (birth id : ℕ) (d : Draw) → In d (h.queued birth) → In (id, d) h.ledger → ⊥
+
+-- A kept ticket, whenever it is used: its birth is of a key of such an opening, and while the key exists, it has the name and the
+-- version of the ticket, whose material is that of the ticket. Until the next restart the key has a queue.
+pub record TicketLinked (keys : Table) (queues : List Queue) (t : Ticket) : Type 0 where
+  pub opened : t.opening ≤ keys.opening
+  pub born : IsOldBirth keys t.birth
+  pub recent : 2 ^ 32 ≤ t.birth
+  pub of_key : (row : KeyRow) → In row keys.rows → row.birth ≡ t.birth → (row.name ≡ t.version.key) × (slice_get row.materials t.version.number ≡ Some t.material)
+  pub waits : (row : KeyRow) → In row keys.rows → row.birth ≡ t.birth → t.opening ≡ keys.opening → has_queue queues t.birth ≡ true
+
+abbrev pub TicketsLinked : Table → List Queue → List Ticket → Type 0
+TicketsLinked keys queues tickets = (t : Ticket) → In t tickets → TicketLinked keys queues t
+
+-- From event to event, with and without the pending operation of the namesystem.
 pub record LinkedWorld (w : WorldState) (h : Hidden) : Type 0 where
   pub files : (kept : Bool) → FilesLinked h.ledger w.keys.keys.table.rows (settled_names kept w.names).table
   pub replies : RepliesLinked w.keys.keys.table.rows w.kept.replies h.replied
-  pub draws : DrawsFit h.ledger h.replied h.place (IsOldBirth w.keys.keys.table)
+  pub draws : DrawsFit h (IsOldBirth w.keys.keys.table)
   pub ledger : LedgerFits h.ledger w.kept.replies h.replied w.names.names.asks (next_id w.names.names)
-  pub ready : NoneReady w.keys.keys.ready.queues
+  pub queues : QueuesLinked w.keys.keys.table.rows w.keys.keys.ready.queues h
+  pub tickets : TicketsLinked w.keys.keys.table w.keys.keys.ready.queues w.kept.tickets
 
 -- What is true of two tables that are found in the files, while nothing is kept: files are linked, the births of the ledger are of
 -- openings that the key log records, and its ids of openings that the edit log records.
 pub record LinkedTables (past : Past) (keys : Table) (names : NameTable) : Type 0 where
   pub files : FilesLinked past.ledger keys.rows names
-  pub draws : DrawsFit past.ledger [] past.place (IsRecordedBirth keys)
+  pub draws : DrawsFit (drawn_before past) (IsRecordedBirth keys)
   pub fits : LedgerFits past.ledger [] [] [] ((names.opening + 1) * 2 ^ 32)
 
 -- Files that a run may start from, with what is hidden of earlier runs: two logs, and after each there may be one more record,

@@ -33,18 +33,18 @@ use Rattle.world_run.specs.World.{WorldState, numbered}
 -- the key log
 
 -- the command that a call with this answer, and this state after it, may write there
-pub record OwnOfKeysCall (s : ServiceState) (words : ℕ → ℕ) (now : ℕ) (c : KmsCall) (told : Line) (s' : ServiceState) (kept : Bool) (command : KeyCommand) : Type 0 where
+pub record OwnOfKeysCall (s : ServiceState) (words : ℕ → ℕ) (now : ℕ) (c : KmsCall) (outcome : Line) (s' : ServiceState) (kept : Bool) (command : KeyCommand) : Type 0 where
   pub reply : KmsReply
-  pub told_is : told ≡ line.Kms reply
+  pub reply_is : outcome ≡ line.Kms reply
   pub own : OwnOfKeys s words now c reply s' kept command
 
 -- What an event with this answer, and this world after it, may write there: an opening, if it restarts the key management service,
 -- and the command of its own call, if that is acknowledged, or is pending afterwards. The call that a draw makes changes no key,
 -- and writes nothing.
 abbrev pub OwnKeysOfEvent : WorldState → (ℕ → ℕ) → ℕ → Event → Line → WorldState → Bool → KeyCommand → Type 0
-OwnKeysOfEvent w words now (event.Kms user c) told w' kept command = OwnOfKeysCall w.keys words now c told w'.keys kept command
-OwnKeysOfEvent w words now event.RestartKms told w' kept command = AKeyOpening kept command
-OwnKeysOfEvent w words now _ told w' kept command = NoCommand kept command
+OwnKeysOfEvent w words now (event.Kms user c) outcome w' kept command = OwnOfKeysCall w.keys words now c outcome w'.keys kept command
+OwnKeysOfEvent w words now event.RestartKms outcome w' kept command = AKeyOpening kept command
+OwnKeysOfEvent w words now _ outcome w' kept command = NoCommand kept command
 
 -- and a restart that failed
 abbrev pub OwnKeysOfRestart : Event → Bool → KeyCommand → Type 0
@@ -54,45 +54,47 @@ OwnKeysOfRestart _ kept command = NoCommand kept command
 -- the edit log
 
 -- the operation that a call with this answer, and this state after it, may write after the settled edit log
-pub record OwnOfNamesCall (s : NameService) (c : NameCall) (told : Line) (s' : NameService) (kept : Bool) (op : EditOp) : Type 0 where
+pub record OwnOfNamesCall (s : NameService) (c : NameCall) (outcome : Line) (s' : NameService) (kept : Bool) (op : EditOp) : Type 0 where
   pub reply : NameReply
-  pub told_is : told ≡ line.Name reply
+  pub reply_is : outcome ≡ line.Name reply
   pub own : OwnOf s c reply s' kept op
 
 -- the same for a call about what is read from the bytes of an event
 abbrev pub OwnOfPath : {X : Type 0} → NameService → (X → NameCall) → Option X → Line → NameService → Bool → EditOp → Type 0
-OwnOfPath s c None told s' kept op = ⊥
-OwnOfPath s c (Some read) told s' kept op = OwnOfNamesCall s (c read) told s' kept op
+OwnOfPath s c None outcome s' kept op = ⊥
+OwnOfPath s c (Some read) outcome s' kept op = OwnOfNamesCall s (c read) outcome s' kept op
 
 -- the operation that a finish of an ask, by the meaning of its reply, may write there with this answer
-pub record OwnOfFinishedAsk (s : NameService) (id : ℕ) (answer : KeyAnswer) (told : Line) (s' : NameService) (kept : Bool) (op : EditOp) : Type 0 where
+pub record OwnOfFinishedAsk (s : NameService) (id : ℕ) (answer : KeyAnswer) (outcome : Line) (s' : NameService) (kept : Bool) (op : EditOp) : Type 0 where
   pub result : Result (Unit {0}) NameRefusal
-  pub told_is : told ≡ finish_line result
+  pub reply_is : outcome ≡ finish_line result
   pub own : OwnOfFinish s id answer result s' kept op
 
 abbrev pub OwnOfReply : NameService → Option KeptReply → Line → NameService → Bool → EditOp → Type 0
-OwnOfReply s None told s' kept op = ⊥
-OwnOfReply s (Some (ToAsk id answer)) told s' kept op = OwnOfFinishedAsk s id answer told s' kept op
+OwnOfReply s None outcome s' kept op = ⊥
+OwnOfReply s (Some (ToAsk id answer)) outcome s' kept op = OwnOfFinishedAsk s id answer outcome s' kept op
 
 -- the operation that an event with this answer, and this world after it, may write there
 abbrev pub OwnOfEvent : WorldState → Event → Line → WorldState → Bool → EditOp → Type 0
-OwnOfEvent w (event.Kms user c) told w' kept op = NothingMore kept op
-OwnOfEvent w event.RestartKms told w' kept op = NothingMore kept op
-OwnOfEvent w event.RestartName told w' kept op = AnOpening kept op
-OwnOfEvent w (event.Mkdir user path) told w' kept op = OwnOfPath w.names call.Mkdir (read_path path) told w'.names kept op
-OwnOfEvent w (event.Delete user path recursive) told w' kept op = OwnOfPath w.names (delete_with recursive) (read_path path) told w'.names kept op
-OwnOfEvent w (event.Rename user path to) told w' kept op = OwnOfPath w.names rename_along (read_rename_paths path to) told w'.names kept op
-OwnOfEvent w (event.Info user path) told w' kept op = OwnOfPath w.names call.Info (read_any_path path) told w'.names kept op
-OwnOfEvent w (event.List user path) told w' kept op = OwnOfPath w.names call.List (read_any_path path) told w'.names kept op
-OwnOfEvent w (event.Allow user path) told w' kept op = OwnOfPath w.names call.Allow (read_path path) told w'.names kept op
-OwnOfEvent w (event.Disallow user path) told w' kept op = OwnOfPath w.names call.Disallow (read_path path) told w'.names kept op
-OwnOfEvent w (event.Snap user path name) told w' kept op = OwnOfPath w.names snap_at (read_snap_path path name) told w'.names kept op
-OwnOfEvent w (event.Unsnap user path name) told w' kept op = OwnOfPath w.names unsnap_at (read_snap_path path name) told w'.names kept op
-OwnOfEvent w (event.Zones user) told w' kept op = OwnOfNamesCall w.names call.Zones told w'.names kept op
-OwnOfEvent w (event.AskCreate user path) told w' kept op = NothingMore kept op
-OwnOfEvent w (event.AskZone user path key) told w' kept op = NothingMore kept op
-OwnOfEvent w (event.Draw number) told w' kept op = NothingMore kept op
-OwnOfEvent w (event.Finish number) told w' kept op = OwnOfReply w.names (numbered w.kept.replies number) told w'.names kept op
+OwnOfEvent w (event.Kms user c) outcome w' kept op = NothingMore kept op
+OwnOfEvent w event.Ticket outcome w' kept op = NothingMore kept op
+OwnOfEvent w (event.Deposit number) outcome w' kept op = NothingMore kept op
+OwnOfEvent w event.RestartKms outcome w' kept op = NothingMore kept op
+OwnOfEvent w event.RestartName outcome w' kept op = AnOpening kept op
+OwnOfEvent w (event.Mkdir user path) outcome w' kept op = OwnOfPath w.names call.Mkdir (read_path path) outcome w'.names kept op
+OwnOfEvent w (event.Delete user path recursive) outcome w' kept op = OwnOfPath w.names (delete_with recursive) (read_path path) outcome w'.names kept op
+OwnOfEvent w (event.Rename user path to) outcome w' kept op = OwnOfPath w.names rename_along (read_rename_paths path to) outcome w'.names kept op
+OwnOfEvent w (event.Info user path) outcome w' kept op = OwnOfPath w.names call.Info (read_any_path path) outcome w'.names kept op
+OwnOfEvent w (event.List user path) outcome w' kept op = OwnOfPath w.names call.List (read_any_path path) outcome w'.names kept op
+OwnOfEvent w (event.Allow user path) outcome w' kept op = OwnOfPath w.names call.Allow (read_path path) outcome w'.names kept op
+OwnOfEvent w (event.Disallow user path) outcome w' kept op = OwnOfPath w.names call.Disallow (read_path path) outcome w'.names kept op
+OwnOfEvent w (event.Snap user path name) outcome w' kept op = OwnOfPath w.names snap_at (read_snap_path path name) outcome w'.names kept op
+OwnOfEvent w (event.Unsnap user path name) outcome w' kept op = OwnOfPath w.names unsnap_at (read_snap_path path name) outcome w'.names kept op
+OwnOfEvent w (event.Zones user) outcome w' kept op = OwnOfNamesCall w.names call.Zones outcome w'.names kept op
+OwnOfEvent w (event.AskCreate user path) outcome w' kept op = NothingMore kept op
+OwnOfEvent w (event.AskZone user path key) outcome w' kept op = NothingMore kept op
+OwnOfEvent w (event.Draw number) outcome w' kept op = NothingMore kept op
+OwnOfEvent w (event.Finish number) outcome w' kept op = OwnOfReply w.names (numbered w.kept.replies number) outcome w'.names kept op
 
 -- and a restart that failed
 abbrev pub OwnOfRestart : Event → Bool → EditOp → Type 0
@@ -107,7 +109,7 @@ SurvivesAtRest w done image = Survives w done NoCommand NothingMore image
 
 -- during an event that begins in this world at this moment, with these words to come, and gets this answer and that world after it
 abbrev pub SurvivesEvent : WorldState → (ℕ → ℕ) → ℕ → Event → Line → WorldState → Acknowledged → Image → Type 0
-SurvivesEvent w words now e told w' done image = Survives w done (OwnKeysOfEvent w words now e told w') (OwnOfEvent w e told w') image
+SurvivesEvent w words now e outcome w' done image = Survives w done (OwnKeysOfEvent w words now e outcome w') (OwnOfEvent w e outcome w') image
 
 -- during a restart that fails
 abbrev pub SurvivesRestart : WorldState → Event → Acknowledged → Image → Type 0

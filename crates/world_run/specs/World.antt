@@ -1,20 +1,22 @@
--- Both services, and the notes and replies that are kept.
+-- Both services, and the tickets, notes and replies that are kept.
 use Rattle.std.specs.Prelude.{ℕ, zero, suc, ◌+◌, List, [], ◌∷◌, ◌++◌, length, Option, None, slice_get}
 use Rattle.key_rows.specs.Table.{Table}
 use Rattle.prop_text.specs.SizeValues.{SizeValues}
-use Rattle.kms_core.specs.State.{ServiceState, no_queues, opened, service_of}
+use Rattle.eek_seal.specs.declared.tickets.Ticket.{Ticket}
+use Rattle.kms_core.specs.State.{ServiceState, no_queues, service_after_opening, service_of}
 use Rattle.kms_core.specs.Users.{RunningKms, running}
 use Rattle.name_store.specs.Table.{NameTable}
 use Rattle.name_core.specs.State.{NameService, NameState, RunningNames, started, service_of as names_service}
 use Rattle.name_calls.specs.declared.calls.AskNote.{AskNote}
 use Rattle.world_run.specs.declared.kept.KeptReply.{KeptReply}
 
--- the notes of asks and the replies that are kept: nothing is ever taken away
+-- the tickets, the notes of asks and the replies that are kept: nothing is ever taken away
 pub record Kept : Type 0 where
+  pub tickets : List Ticket
   pub notes : List AskNote
   pub replies : List KeptReply
 
--- the key management service, the namesystem, and the kept notes and replies
+-- the key management service, the namesystem, and what is kept
 pub record WorldState : Type 0 where
   pub keys : ServiceState
   pub names : NameService
@@ -22,15 +24,7 @@ pub record WorldState : Type 0 where
 
 -- after a start with these sizes that found these two tables: nothing is kept, and no key is ready
 abbrev pub first_world : SizeValues → Table → NameTable → WorldState
-first_world sizes table names = record { keys = opened (no_queues sizes) table; names = started names; kept = record { notes = []; replies = [] } }
-
--- the same world with the keys of another table and with the rows of another, and nothing pending
-abbrev pub found_in : Table → NameTable → WorldState → WorldState
-found_in table names w =
-    record w {
-      keys = record { keys = record w.keys.keys { table = table }; pending = None };
-      names = record { names = record w.names.names { table = names }; pending = None };
-    }
+first_world sizes table names = record { keys = service_after_opening (no_queues sizes) table; names = started names; kept = record { tickets = []; notes = []; replies = [] } }
 
 -- A running world: its key management service has access control lists and a store, and its namesystem has a store.
 pub record RunningWorld : Type 0 where
@@ -51,7 +45,10 @@ abbrev pub numbered : {X : Type 0} → List X → ℕ → Option X
 numbered xs zero = None
 numbered xs (suc n) = slice_get xs n
 
--- the world with one more note, and with one more reply
+-- the world with one more ticket, with one more note, and with one more reply
+abbrev pub with_ticket : Ticket → WorldState → WorldState
+with_ticket ticket w = record w { kept = record w.kept { tickets = w.kept.tickets ++ ticket ∷ [] } }
+
 abbrev pub with_note : AskNote → WorldState → WorldState
 with_note note w = record w { kept = record w.kept { notes = w.kept.notes ++ note ∷ [] } }
 
@@ -59,6 +56,9 @@ abbrev pub with_reply : KeptReply → WorldState → WorldState
 with_reply reply w = record w { kept = record w.kept { replies = w.kept.replies ++ reply ∷ [] } }
 
 -- the numbers under which the next ones are kept
+abbrev pub next_ticket : WorldState → ℕ
+next_ticket w = length w.kept.tickets + 1
+
 abbrev pub next_note : WorldState → ℕ
 next_note w = length w.kept.notes + 1
 

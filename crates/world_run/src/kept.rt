@@ -1,7 +1,8 @@
-//! Notes and replies that are kept between the steps of a call on both services.
+//! Tickets, notes and replies that are kept between events.
 ghost use Rattle.std.specs.Prelude.{◌≡◌, option_map};
 ghost use Rattle.world_run.specs.World.{numbered};
 
+use kms_core::Ticket;
 use name_calls::{AskNote, KeyAnswer};
 
 /// A reply of the key management service, as far as a later event needs it.
@@ -9,6 +10,16 @@ use name_calls::{AskNote, KeyAnswer};
 pub enum KeptReply {
     /// The reply to the call that an ask wanted: the id of the ask, and what the reply means for it.
     ToAsk { id: u64, answer: KeyAnswer },
+}
+
+/// Returns the ticket with a number, from 1, or `None` if there is none.
+pub fn ticket_numbered(tickets: &Vec<Ticket>, number: u32) -> Option<&Ticket>
+    ensures { option_map (λ ticket. ticket.now) result ≡ numbered tickets.now.items number }
+{
+    if number == 0 {
+        return None;
+    }
+    tickets.get(number as usize - 1)
 }
 
 /// Returns the note with a number, from 1, or `None` if there is none.

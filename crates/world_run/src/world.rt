@@ -4,33 +4,33 @@ ghost use Rattle.hk_base.specs.Disk.{Tells};
 ghost use Rattle.name_calls.specs.Paths.{read_path};
 ghost use Rattle.name_calls.specs.ReadPaths.{read_any_path};
 ghost use Rattle.key_rows.specs.declared.rows.KeyCommand.{KeyCommand};
-ghost use Rattle.kms_acls.specs.StandsFor.{StandsFor as ListsFor};
-ghost use Rattle.kms_store.specs.Store.{StandsFor};
+ghost use Rattle.kms_acls.specs.Agreement.{AreListsOf};
+ghost use Rattle.kms_store.specs.Store.{IsKeyStoreOf};
 ghost use Rattle.name_calls.specs.declared.calls.Ask.TheVariants as ask;
 ghost use Rattle.name_calls.specs.declared.calls.NameCall.TheVariants as call;
 ghost use Rattle.name_core.specs.Calls.{superuser};
 ghost use Rattle.prop_text.specs.declared.lines.PropLine.{PropLine};
 ghost use Rattle.hk_events.specs.declared.event.Event.TheVariants as event;
-ghost use Rattle.world_run.specs.Acknowledged.{Acknowledged, HoldsLogs};
-ghost use Rattle.world_run.specs.Does.{CallHappens, DrawHappens, FinishHappens, Happens, PathHappens, WantHappens};
+ghost use Rattle.world_run.specs.Acknowledged.{Acknowledged, HoldsLogs, nothing_acknowledged};
+ghost use Rattle.world_run.specs.Does.{CallHappens, DepositHappens, DrawHappens, FinishHappens, Happens, PathHappens, WantHappens};
 ghost use Rattle.world_run.specs.Keeps.{Begins, Fails, Steps};
 ghost use Rattle.world_run.specs.Linked.{ServicesFit};
 ghost use Rattle.world_run.specs.Starts.{OpensBoth};
 ghost use Rattle.world_run.specs.RenamePaths.{read_rename_paths, rename_along};
 ghost use Rattle.world_run.specs.SnapPaths.{read_snap_path, snap_at, unsnap_at};
-ghost use Rattle.world_run.specs.Step.{AskActs, AskAt, Refuses, delete_with, finish_line, unread_refusal, unread_reply, zone_with};
+ghost use Rattle.world_run.specs.Step.{AskActs, AskAt, GivesTicket, LacksRoom, Refuses, delete_with, finish_line, unread_refusal, unread_reply, zone_with};
 ghost use Rattle.world_run.specs.World.{numbered, world_of};
 
 use crate::fault::WorldFault;
-use crate::kept::{KeptReply, again, note_numbered, reply_numbered};
+use crate::kept::{KeptReply, again, note_numbered, reply_numbered, ticket_numbered};
 use crate::rename_paths::RenamePaths;
 use crate::snap_path::SnapPath;
 use frame_log::StartFault;
-use hk_base::{ByteList, Disk, KeyName, NoMemory, Text, Words};
+use hk_base::{ByteList, Disk, KeyName, NoMemory, Text, VersionName, Words};
 use hk_events::{Event, Line};
 use kms_acls::Acls;
 use kms_calls::{KmsCall, KmsRefusal, KmsReply};
-use kms_core::Kms;
+use kms_core::{Kms, Ticket, draw_sealed};
 use name_calls::{
     Answered, Ask, AskNote, KeyAnswer, NPath, NameCall, NameRefusal, NameReply, PathFault,
     ReadPath, Want,
@@ -46,9 +46,9 @@ const KEYS: u8 = 0;
 /// The number of the file that has the edit log.
 const NAMES: u8 = 1;
 
-/// Both services, and the notes and replies kept between the steps of a call on both. Contracts see
-/// the access control lists and the store of the key management service, the store and the open asks
-/// of the namesystem, and the notes and replies as lists.
+/// Both services, and the tickets, notes and replies that are kept between events. Contracts see the
+/// access control lists, the store and the queues of the key management service, the store and the
+/// open asks of the namesystem, and the tickets, notes and replies as lists.
 ///
 /// Always pass the disk that the world was started on. docs/glossary.md explains the words of its
 /// contracts: ledger, draw, linked, sound.
@@ -57,6 +57,7 @@ pub struct World {
     alloc: Global,
     keys: Kms,
     names: Name,
+    tickets: Vec<Ticket>,
     notes: Vec<AskNote>,
     replies: Vec<KeptReply>,
     superuser: Text,
@@ -69,7 +70,7 @@ impl Model for World {
 
     ghost Value = { RunningWorld };
 
-    ghost view = { λ a. record { keys = a.keys; names = a.names; kept = record { notes = a.notes.items; replies = a.replies.items } } };
+    ghost view = { λ a. record { keys = a.keys; names = a.names; kept = record { tickets = a.tickets.items; notes = a.notes.items; replies = a.replies.items } } };
 
     ghost invariant = { λ a. a.superuser ≡ calls.superuser };
 }
@@ -104,6 +105,13 @@ fn finish_line(finished: Result<(), NameRefusal>) -> Line
     }
 }
 
+/// Returns the key version that a ticket is for.
+fn version_of(ticket: &Ticket) -> VersionName
+    ensures { result ≡ ticket.now.version }
+{
+    ticket.version
+}
+
 /// Returns the user who makes the calls that asks want.
 fn superuser(alloc: Global) -> Result<Text, NoMemory>
     ensures { IfOk result (λ user. user ≡ superuser) }
@@ -114,7 +122,7 @@ fn superuser(alloc: Global) -> Result<Text, NoMemory>
 /// Makes what a world needs beside its logs: the user who makes the calls that asks want, and the
 /// lists of the properties.
 fn beside_logs(alloc: Global, props: &Props) -> Result<(Text, Acls), NoMemory>
-    ensures { IfOk result (λ made. (made.0 ≡ superuser) × ListsFor made.1 props.now.lines) }
+    ensures { IfOk result (λ made. (made.0 ≡ superuser) × AreListsOf made.1 props.now.lines) }
 {
     let user = superuser(alloc)?;
     let acls = Acls::from_props(alloc, props)?;
@@ -132,7 +140,7 @@ impl World {
     /// was opened; if it is file 0, file 1 was not touched.
     pub fn start<D: Disk>(alloc: Global, disk: &mut D, props: &Props) -> Result<World, WorldFault>
         ensures began { IfOk result (Begins props.now.sizes (D.state disk.old) (D.state disk.new)) }
-        ensures lists { IfOk result (λ world. ListsFor world.keys.acls props.now.lines) }
+        ensures lists { IfOk result (λ world. AreListsOf world.keys.acls props.now.lines) }
         ensures opens { OpensBoth (D.state disk.old) (D.state disk.new) (λ file fault. IsErrOf result (record { file = file; fault = fault })) }
     {
         let (user, acls) = match beside_logs(alloc, props) {
@@ -159,6 +167,7 @@ impl World {
             alloc,
             keys,
             names,
+            tickets: Vec::new(alloc),
             notes: Vec::new(alloc),
             replies: Vec::new(alloc),
             superuser: user,
@@ -184,13 +193,13 @@ impl World {
     ) -> Result<Line, WorldFault>
         requires stands { Tells (D.state disk.old) → ((done : Acknowledged) × HoldsLogs (D.state disk.old) self.old done) }
         ensures { MatchResult result
-            (λ line. (lines : List PropLine) → ListsFor self.old.keys.acls lines → Steps lines (D.state disk.old) (D.state disk.new) self.old (W.to_come words.old) now event line self.new (W.to_come words.new))
+            (λ line. (lines : List PropLine) → AreListsOf self.old.keys.acls lines → Steps lines (D.state disk.old) (D.state disk.new) self.old (W.to_come words.old) now event line self.new (W.to_come words.new))
             (λ fault. Fails (D.state disk.old) (D.state disk.new) self.old (W.to_come words.old) event fault.file fault.fault self.new (W.to_come words.new)) }
     {
         self.fits();
-        let told = self.happen(disk, words, now, event);
+        let line = self.happen(disk, words, now, event);
         self.fits();
-        told
+        line
     }
 
     /// Recalls what both services keep by themselves.
@@ -214,11 +223,13 @@ impl World {
     ) -> Result<Line, WorldFault>
         requires stands { Tells (D.state disk.old) → ((done : Acknowledged) × HoldsLogs (D.state disk.old) self.old done) }
         ensures { MatchResult result
-            (λ line. (lines : List PropLine) → ListsFor self.old.keys.acls lines → Happens lines (D.state disk.old) (D.state disk.new) self.old (W.to_come words.old) now event line self.new (W.to_come words.new))
+            (λ line. (lines : List PropLine) → AreListsOf self.old.keys.acls lines → Happens lines (D.state disk.old) (D.state disk.new) self.old (W.to_come words.old) now event line self.new (W.to_come words.new))
             (λ fault. Fails (D.state disk.old) (D.state disk.new) self.old (W.to_come words.old) event fault.file fault.fault self.new (W.to_come words.new)) }
     {
         match event {
             Event::Kms { user, call } => Ok(self.call_keys(disk, words, now, user, call)),
+            Event::Ticket => Ok(self.ticket()),
+            Event::Deposit { ticket } => Ok(self.deposit(words, ticket)),
             Event::RestartKms => self.restart_keys(disk),
             Event::RestartName => self.restart_names(disk),
             Event::Mkdir { user, path } => Ok(self.mkdir(disk, &user, &path)),
@@ -286,10 +297,47 @@ impl World {
         call: KmsCall,
     ) -> Line
         requires stands { Tells (D.state disk.old) → ((done : Acknowledged) × HoldsLogs (D.state disk.old) self.old done) }
-        ensures { (lines : List PropLine) → ListsFor self.old.keys.acls lines → Happens lines (D.state disk.old) (D.state disk.new) self.old (W.to_come words.old) now (event.Kms user call) result self.new (W.to_come words.new) }
+        ensures { (lines : List PropLine) → AreListsOf self.old.keys.acls lines → Happens lines (D.state disk.old) (D.state disk.new) self.old (W.to_come words.old) now (event.Kms user call) result self.new (W.to_come words.new) }
     {
         let reply = self.keys.act(disk, words, now, &user, call);
         Line::Kms(reply)
+    }
+
+    /// Asks for a ticket, and keeps it if one is given. Its room is taken first.
+    fn ticket(&mut self) -> Line
+        ensures acts { GivesTicket (world_of self.old) result 0 nothing_acknowledged (world_of self.new) ⊎ LacksRoom (world_of self.old) result 0 nothing_acknowledged (world_of self.new) }
+        ensures keys { self.new.keys ≡ self.old.keys }
+        ensures names { self.new.names ≡ self.old.names }
+    {
+        match self.tickets.reserve(1) {
+            Err(_) => return Line::Kms(KmsReply::Refused(KmsRefusal::NoMemory)),
+            Ok(()) => {}
+        }
+        match self.keys.ticket() {
+            None => Line::NoTicket,
+            Some(ticket) => {
+                let version = version_of(&ticket);
+                let wanted = ticket.wanted;
+                self.tickets.push_reserved(ticket);
+                let number = self.tickets.as_slice().len() as u64;
+                Line::Ticket {
+                    number,
+                    version,
+                    wanted,
+                }
+            }
+        }
+    }
+
+    /// Draws a data encryption key, seals it with a kept ticket and deposits it.
+    fn deposit<W: Words>(&mut self, words: &mut W, number: u32) -> Line
+        ensures { DepositHappens self.old (W.to_come words.old) (numbered self.old.kept.tickets number) result self.new (W.to_come words.new) }
+    {
+        let sealed = match ticket_numbered(&self.tickets, number) {
+            None => return Line::Unknown,
+            Some(ticket) => draw_sealed(words, ticket),
+        };
+        Line::Deposit(self.keys.deposit(sealed))
     }
 
     /// Makes a call of the namesystem.
@@ -471,7 +519,7 @@ impl World {
         number: u32,
     ) -> Line
         requires stands { Tells (D.state disk.old) → ((done : Acknowledged) × HoldsLogs (D.state disk.old) self.old done) }
-        ensures { (lines : List PropLine) → ListsFor self.old.keys.acls lines → DrawHappens lines (D.state disk.old) (D.state disk.new) self.old (W.to_come words.old) now (numbered self.old.kept.notes number) result self.new (W.to_come words.new) }
+        ensures { (lines : List PropLine) → AreListsOf self.old.keys.acls lines → DrawHappens lines (D.state disk.old) (D.state disk.new) self.old (W.to_come words.old) now (numbered self.old.kept.notes number) result self.new (W.to_come words.new) }
     {
         let note = match note_numbered(&self.notes, number) {
             None => return Line::Unknown,
@@ -527,9 +575,9 @@ fn call_wanted<D: Disk, W: Words>(
     now: u64,
     note: &AskNote,
 ) -> Option<KmsReply>
-    requires stands { Tells (D.state disk.old) → ((commands : List KeyCommand) × StandsFor (D.state disk.old) keys.old.store commands) }
+    requires stands { Tells (D.state disk.old) → ((commands : List KeyCommand) × IsKeyStoreOf (D.state disk.old) keys.old.store commands) }
     requires user { user.now ≡ superuser }
-    ensures { (lines : List PropLine) → ListsFor keys.old.acls lines → WantHappens lines (D.state disk.old) (D.state disk.new) keys.old (W.to_come words.old) now note.now.want result keys.new (W.to_come words.new) }
+    ensures { (lines : List PropLine) → AreListsOf keys.old.acls lines → WantHappens lines (D.state disk.old) (D.state disk.new) keys.old (W.to_come words.old) now note.now.want result keys.new (W.to_come words.new) }
 {
     match note.want {
         Want::Nothing => None,

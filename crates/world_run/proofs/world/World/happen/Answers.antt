@@ -1,11 +1,21 @@
 use Rattle.hk_events.specs.declared.event.Event.TheVariants as event
-use Rattle.world_run.proofs.StepLemmas.{ask-happens, restart-happens, so-happens, zone-happens}
+use Rattle.world_run.proofs.StepLemmas.{ask-happens, deposit-happens, restart-happens, so-happens, ticket-happens, zone-happens}
 use Rattle.world_run.proofs.world.World.happen.Goals as goal
 
 pub returns-in-Kms : goal.returns-in-Kms
 returns-in-Kms g c lines lists =
     so-happens lines (g.D.Disk.state c.args.disk.now) (g.D.Disk.state c.call_keys.new.disk) c.args.self.now c.call_keys.new.self (g.W.Words.to_come c.args.words.now) (g.W.Words.to_come c.call_keys.new.words) c.args.now c.args.event (event.Kms c.in-Kms.user c.in-Kms.call) c.call_keys.result c.in-Kms.is
     (c.call_keys.ensures lines lists)
+
+pub returns-in-Ticket : goal.returns-in-Ticket
+returns-in-Ticket g c lines lists =
+    ticket-happens lines (g.D.Disk.state c.args.disk.now) c.args.self.now c.ticket.new.self (g.W.Words.to_come c.args.words.now) c.args.now c.args.event c.ticket.result c.in-Ticket.is
+    c.ticket.ensures.keys c.ticket.ensures.names c.ticket.ensures.acts
+
+pub returns-in-Deposit : goal.returns-in-Deposit
+returns-in-Deposit g c lines lists =
+    deposit-happens lines (g.D.Disk.state c.args.disk.now) c.args.self.now c.deposit.new.self (g.W.Words.to_come c.args.words.now) (g.W.Words.to_come c.deposit.new.words) c.args.now c.args.event c.in-Deposit.ticket c.deposit.result c.in-Deposit.is
+    c.deposit.ensures
 
 pub returns-in-RestartKms : goal.returns-in-RestartKms
 returns-in-RestartKms g c =

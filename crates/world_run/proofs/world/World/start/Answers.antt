@@ -12,7 +12,7 @@ returns-in-Err-start-clause-opens g c =
     let fault = c.in-Err-start.fault in
     failed-at 0 fault
     (keys-not-started (g.D.Disk.state c.args.disk.now) (g.D.Disk.state c.start.new.disk) fault
-    (record { counts = g.met.D.Disk.counts_now c.args.disk.now; only = g.met.D.Disk.only_now c.args.disk.now; is_one = λ told file lt. g.met.D.Disk.is_one c.args.disk.now file told lt })
+    (record { counts = g.met.D.Disk.counts_now c.args.disk.now; only = g.met.D.Disk.only_now c.args.disk.now; is_one = λ tells file lt. g.met.D.Disk.is_one c.args.disk.now file tells lt })
     (failed fault c.in-Err-start.ensures.opens))
 
 pub returns-in-Err-start-2-clause-opens : goal.returns-in-Err-start-2-clause-opens
@@ -22,8 +22,8 @@ returns-in-Err-start-2-clause-opens g c =
     let fault = c.in-Err-start-2.fault in
     failed-at 1 fault
     (names-not-started D0 D1 (g.D.Disk.state c.start-2.new.disk)
-    (record { counts = g.met.D.Disk.counts_now c.args.disk.now; only = g.met.D.Disk.only_now c.args.disk.now; is_one = λ told file lt. g.met.D.Disk.is_one c.args.disk.now file told lt })
-    (record { counts = g.met.D.Disk.counts_now c.start.new.disk; only = g.met.D.Disk.only_now c.start.new.disk; is_one = λ told file lt. g.met.D.Disk.is_one c.start.new.disk file told lt })
+    (record { counts = g.met.D.Disk.counts_now c.args.disk.now; only = g.met.D.Disk.only_now c.args.disk.now; is_one = λ tells file lt. g.met.D.Disk.is_one c.args.disk.now file tells lt })
+    (record { counts = g.met.D.Disk.counts_now c.start.new.disk; only = g.met.D.Disk.only_now c.start.new.disk; is_one = λ tells file lt. g.met.D.Disk.is_one c.start.new.disk file tells lt })
     (keys-are-opened D0 D1 (running c.in-Ok-start.keys) c.count.ensures.file c.in-Ok-start.ensures.started) (done c.in-Ok-start.keys c.in-Ok-start.ensures.opens)
     fault (failed fault c.in-Err-start-2.ensures.opens))
 
@@ -32,15 +32,15 @@ returns-clause-opens g c =
     let D0 = g.D.Disk.state c.args.disk.now in
     let D1 = g.D.Disk.state c.start.new.disk in
     both-started D0 D1 (g.D.Disk.state c.start-2.new.disk)
-    (record { counts = g.met.D.Disk.counts_now c.args.disk.now; only = g.met.D.Disk.only_now c.args.disk.now; is_one = λ told file lt. g.met.D.Disk.is_one c.args.disk.now file told lt })
-    (record { counts = g.met.D.Disk.counts_now c.start.new.disk; only = g.met.D.Disk.only_now c.start.new.disk; is_one = λ told file lt. g.met.D.Disk.is_one c.start.new.disk file told lt })
+    (record { counts = g.met.D.Disk.counts_now c.args.disk.now; only = g.met.D.Disk.only_now c.args.disk.now; is_one = λ tells file lt. g.met.D.Disk.is_one c.args.disk.now file tells lt })
+    (record { counts = g.met.D.Disk.counts_now c.start.new.disk; only = g.met.D.Disk.only_now c.start.new.disk; is_one = λ tells file lt. g.met.D.Disk.is_one c.start.new.disk file tells lt })
     (keys-are-opened D0 D1 (running c.in-Ok-start.keys) c.count.ensures.file c.in-Ok-start.ensures.started) (done c.in-Ok-start.keys c.in-Ok-start.ensures.opens)
     (λ file fault is. absurd (cc is)) (done c.in-Ok-start-2.names c.in-Ok-start-2.ensures.opens)
 
 pub returns-clause-began : goal.returns-clause-began
 returns-clause-began g c =
     begins c.args.props.now.sizes (g.D.Disk.state c.args.disk.now) (g.D.Disk.state c.start.new.disk) (g.D.Disk.state c.start-2.new.disk)
-    (parts c.in-Ok-start.keys c.in-Ok-start-2.names c.new.result.items c.new-2.result.items) c.in-Ok-start.ensures.queues
-    (record { counts = g.met.D.Disk.counts_now c.args.disk.now; only = g.met.D.Disk.only_now c.args.disk.now; is_one = λ told file lt. g.met.D.Disk.is_one c.args.disk.now file told lt })
-    c.count.ensures.file c.invariants.ensures.file (record { keys = c.count.ensures.rules; names = c.invariants.ensures.names }) (λ i. record { notes = c.new.ensures.items i; replies = c.new-2.ensures.items i })
+    (parts c.in-Ok-start.keys c.in-Ok-start-2.names c.new.result.items c.new-2.result.items c.new-3.result.items) c.in-Ok-start.ensures.queues
+    (record { counts = g.met.D.Disk.counts_now c.args.disk.now; only = g.met.D.Disk.only_now c.args.disk.now; is_one = λ tells file lt. g.met.D.Disk.is_one c.args.disk.now file tells lt })
+    c.count.ensures.file c.invariants.ensures.file (record { keys = c.count.ensures.rules; names = c.invariants.ensures.names }) (λ i. record { tickets = c.new.ensures.items i; notes = c.new-2.ensures.items i; replies = c.new-3.ensures.items i })
     c.in-Ok-start.ensures.opens.run c.start-2.ensures.opens.run c.in-Ok-start.ensures.started c.in-Ok-start-2.ensures.started
