@@ -16,9 +16,9 @@ use Rattle.name_calls.specs.declared.calls.NameCall.TheVariants as call
 use Rattle.name_calls.specs.declared.calls.NameRefusal.{NameRefusal}
 use Rattle.name_calls.specs.declared.calls.NameReply.{NameReply}
 use Rattle.name_core.specs.State.{NameService, NameState, next_id, settled, started}
-use Rattle.name_core.specs.Asks.{Finishes, closed, finish_causes, finish_op, open_ask, opened, unless_stopped}
+use Rattle.name_core.specs.Asks.{Finishes, closed, finish_causes, finish_op, open_ask, ask_opened, unless_stopped}
 use Rattle.name_core.specs.Calls.{NameActs, NoRoom, Plain, causes, deed, done_with, early_causes, first_cause, numbered, unless_refused}
-use Rattle.name_core.specs.Service.{FinishServes, FinishServesAt, FinishServesOpen, Serves, ServesBy, ServesUnless, is_change}
+use Rattle.name_core.specs.Service.{FinishServes, FinishServesAt, FinishServesOpen, NameServes, ServesBy, ServesUnless, is_change}
 use Rattle.name_core.specs.Steps.{Keeps}
 use Rattle.name_core.specs.Laws.{AnyFault, IsStep, Called, Asked, Finished, Reaches}
 use Rattle.name_core.proofs.AllowedLemmas.{no-opening-finish}
@@ -45,9 +45,9 @@ pub record Stays (Holds : NameTable → Type 0) (P : OpenAsk → Type 0) (n : �
 
 -- a step whose call, if it is one, may be made on the state that is settled
 abbrev pub SparesStep : (NameState → NameCall → Type 0) → (s s' : NameService) → IsStep s s' → Type 0
-SparesStep Spares s s' (Called user c told logged did) = (kept : Bool) → Spares (settled kept s) c
-SparesStep Spares s s' (Asked user a told asks same) = ⊤
-SparesStep Spares s s' (Finished id given told logged did) = ⊤
+SparesStep Spares s s' (Called user c result logged did) = (kept : Bool) → Spares (settled kept s) c
+SparesStep Spares s s' (Asked user a result asks same) = ⊤
+SparesStep Spares s s' (Finished id given result logged did) = ⊤
 
 module _ (Holds : NameTable → Type 0) (P : OpenAsk → Type 0) (Spares : NameState → NameCall → Type 0) (n : ℕ) (inv : Invariant Holds P Spares n) where
   abbrev Still : NameService → Type 0
@@ -92,25 +92,25 @@ module _ (Holds : NameTable → Type 0) (P : OpenAsk → Type 0) (Spares : NameS
   does s (call.Unsnap p name) k spares free h = takes s (op.Unsnap p name) (inv.called s (call.Unsnap p name) (op.Unsnap p name) k h.later spares free refl (h.table true)) refl h
   does s call.Zones k spares free h = (h, h)
 
-  acts : (s : NameState) (c : NameCall) (told : NameReply) (s' : NameState) → Keeps (Alone s) → Spares s c → NameActs s c told s' → Still (Alone s) → Still (Alone s')
-  acts s c told s' k spares (NoRoom, may, is) h = at (Alone s') (Alone s) (ap Alone (ap (λ o. o.state) is)) h
-  acts s c told s' k spares (Plain, may, is) h = go (first_cause (causes s c)) refl is
+  acts : (s : NameState) (c : NameCall) (result : NameReply) (s' : NameState) → Keeps (Alone s) → Spares s c → NameActs s c result s' → Still (Alone s) → Still (Alone s')
+  acts s c result s' k spares (NoRoom, may, is) h = at (Alone s') (Alone s) (ap Alone (ap (λ o. o.state) is)) h
+  acts s c result s' k spares (Plain, may, is) h = go (first_cause (causes s c)) refl is
     where
-      go : (o : Option NameRefusal) → first_cause (causes s c) ≡ o → (record { told = told; state = s' }) ≡ unless_refused o s (deed s c) → Still (Alone s')
+      go : (o : Option NameRefusal) → first_cause (causes s c) ≡ o → (record { reply = result; state = s' }) ≡ unless_refused o s (deed s c) → Still (Alone s')
       go (Some why) stops is = at (Alone s') (Alone s) (ap Alone (ap (λ o. o.state) is)) h
       go None free is = at (Alone s') (Alone (done_with (deed s c).logs (deed s c).state)) (ap Alone (ap (λ o. o.state) is)) (does s c k spares free h).0
 
-  serves : (s : NameService) (user : List ℕ) (c : NameCall) (told : NameReply) (logged : List EditOp) (s' : NameService) → ((kept : Bool) → Spares (settled kept s) c) → Serves s user c AnyFault told logged s' → Keeps s → Still s → Still s'
-  serves s user c told logged s' spares did k h = early (first_cause (early_causes user c)) did
+  serves : (s : NameService) (user : List ℕ) (c : NameCall) (result : NameReply) (logged : List EditOp) (s' : NameService) → ((kept : Bool) → Spares (settled kept s) c) → NameServes s user c AnyFault result logged s' → Keeps s → Still s → Still s'
+  serves s user c result logged s' spares did k h = early (first_cause (early_causes user c)) did
     where
-      by : (change : Bool) → ServesBy change s c AnyFault told logged s' → Still s'
+      by : (change : Bool) → ServesBy change s c AnyFault result logged s' → Still s'
       by false reads = at s' s reads.same h
       by true (inl waits) = at s' s waits.same h
-      by true (inr (kept, inl w)) = at s' (Alone w.changed) w.left (acts (settled kept s) c told w.changed (keeps-settled kept s k) (spares kept) w.acts (settles kept s k h))
+      by true (inr (kept, inl w)) = at s' (Alone w.changed) w.left (acts (settled kept s) c result w.changed (keeps-settled kept s k) (spares kept) w.acts (settles kept s k h))
       by true (inr (kept, inr u)) =
           at s' (record { names = (deed (settled kept s) c).state; pending = (deed (settled kept s) c).logs }) u.left (does (settled kept s) c (keeps-settled kept s k) (spares kept) u.free (settles kept s k h)).1
 
-      early : (o : Option NameRefusal) → ServesUnless o s c AnyFault told logged s' → Still s'
+      early : (o : Option NameRefusal) → ServesUnless o s c AnyFault result logged s' → Still s'
       early (Some why) refused = at s' s refused.same h
       early None did = by (is_change c) did
 
@@ -123,25 +123,25 @@ module _ (Holds : NameTable → Type 0) (P : OpenAsk → Type 0) (Spares : NameS
       → Still (Alone (done_with (Some (finish_op q.id edek q.ask)) (closed s q.id))) × Still (record { names = closed s q.id; pending = Some (finish_op q.id edek q.ask) })
   finishes s q edek only free h = takes (closed s q.id) (finish_op q.id edek q.ask) (inv.finished s.table q edek only free (h.table true)) (no-opening-finish q.id edek q.ask) (closes (Alone s) q.id h)
 
-  writes : (s : NameState) (q : OpenAsk) (edek : Option Edek) (told : Result (Unit {0}) NameRefusal) (s' : NameState) → P q → Finishes s q edek told s' → Still (Alone s) → Still (Alone s')
-  writes s q edek told s' only (NoRoom, may, is) h = at (Alone s') (Alone s) (ap Alone (ap (λ o. o.state) is)) h
-  writes s q edek told s' only (Plain, may, is) h = go (first_cause (finish_causes s.table.rows q edek q.ask)) refl is
+  writes : (s : NameState) (q : OpenAsk) (edek : Option Edek) (result : Result (Unit {0}) NameRefusal) (s' : NameState) → P q → Finishes s q edek result s' → Still (Alone s) → Still (Alone s')
+  writes s q edek result s' only (NoRoom, may, is) h = at (Alone s') (Alone s) (ap Alone (ap (λ o. o.state) is)) h
+  writes s q edek result s' only (Plain, may, is) h = go (first_cause (finish_causes s.table.rows q edek q.ask)) refl is
     where
-      go : (o : Option NameRefusal) → first_cause (finish_causes s.table.rows q edek q.ask) ≡ o → (record { told = told; state = s' }) ≡ unless_stopped o s q edek → Still (Alone s')
+      go : (o : Option NameRefusal) → first_cause (finish_causes s.table.rows q edek q.ask) ≡ o → (record { reply = result; state = s' }) ≡ unless_stopped o s q edek → Still (Alone s')
       go (Some why) stops is = at (Alone s') (Alone (closed s q.id)) (ap Alone (ap (λ o. o.state) is)) (closes (Alone s) q.id h)
       go None free is = at (Alone s') (Alone (done_with (Some (finish_op q.id edek q.ask)) (closed s q.id))) (ap Alone (ap (λ o. o.state) is)) (finishes s q edek only free h).0
 
-  ends : (s : NameService) (id : ℕ) (given : KeyAnswer) (told : Result (Unit {0}) NameRefusal) (logged : List EditOp) (s' : NameService) → FinishServes s id given AnyFault told logged s' → Keeps s → Still s → Still s'
-  ends s id given told logged s' did k h = found (open_ask s.names.asks id) refl did
+  ends : (s : NameService) (id : ℕ) (given : KeyAnswer) (result : Result (Unit {0}) NameRefusal) (logged : List EditOp) (s' : NameService) → FinishServes s id given AnyFault result logged s' → Keeps s → Still s → Still s'
+  ends s id given result logged s' did k h = found (open_ask s.names.asks id) refl did
     where
-      of : (q : OpenAsk) → P q → (given : KeyAnswer) → FinishServesOpen s q given AnyFault told logged s' → Still s'
+      of : (q : OpenAsk) → P q → (given : KeyAnswer) → FinishServesOpen s q given AnyFault result logged s' → Still s'
       of q only (answer.Refused why) e = at s' (record { names = closed s.names q.id; pending = s.pending }) e.left_is (closes s q.id h)
       of q only (answer.Given edek) (inl waits) = at s' (record { names = closed s.names q.id; pending = s.pending }) waits.ends.left_is (closes s q.id h)
-      of q only (answer.Given edek) (inr (kept, inl w)) = at s' (Alone w.changed) w.left (writes (settled kept s) q edek told w.changed only w.finishes (settles kept s k h))
+      of q only (answer.Given edek) (inr (kept, inl w)) = at s' (Alone w.changed) w.left (writes (settled kept s) q edek result w.changed only w.finishes (settles kept s k h))
       of q only (answer.Given edek) (inr (kept, inr u)) =
           at s' (record { names = closed (settled kept s) q.id; pending = Some (finish_op q.id edek q.ask) }) u.left (finishes (settled kept s) q edek only u.free (settles kept s k h)).1
 
-      found : (o : Option OpenAsk) → open_ask s.names.asks id ≡ o → FinishServesAt s o given AnyFault told logged s' → Still s'
+      found : (o : Option OpenAsk) → open_ask s.names.asks id ≡ o → FinishServesAt s o given AnyFault result logged s' → Still s'
       found None is e = at s' s e.left_is h
       found (Some q) is e = of q (open-holds P s.names.asks id q h.asks is) given e
 
@@ -150,16 +150,16 @@ module _ (Holds : NameTable → Type 0) (P : OpenAsk → Type 0) (Spares : NameS
   asks : (s s' : NameService) (user : List ℕ) (k : Ask) → s'.pending ≡ s.pending → Asking s.names user k s'.names → Still s → Still s'
   asks s s' user k same (Same is) h = at s' s (λ i. record { names = is i; pending = same i }) h
   asks s s' user k same (Opened free is) h =
-      at s' (record { names = with_ask s.names (opened s.names k); pending = s.pending }) (λ i. record { names = is i; pending = same i }) (record {
+      at s' (record { names = with_ask s.names (ask_opened s.names k); pending = s.pending }) (λ i. record { names = is i; pending = same i }) (record {
         later = let l = h.later in omega (arith, l);
-        asks = each-append P s.names.asks (opened s.names k) h.asks (inv.later_asks (opened s.names k) h.later);
+        asks = each-append P s.names.asks (ask_opened s.names k) h.asks (inv.later_asks (ask_opened s.names k) h.later);
         table = h.table;
       })
 
   pub step : (s s' : NameService) (did : IsStep s s') → SparesStep Spares s s' did → Keeps s → Still s → Still s'
-  step s s' (Called user c told logged did) spares k h = serves s user c told logged s' spares did k h
-  step s s' (Asked user q told did same) spares k h = asks s s' user q same (asking s.names user q told s'.names did) h
-  step s s' (Finished id given told logged did) spares k h = ends s id given told logged s' did k h
+  step s s' (Called user c result logged did) spares k h = serves s user c result logged s' spares did k h
+  step s s' (Asked user q result did same) spares k h = asks s s' user q same (asking s.names user q result s'.names did) h
+  step s s' (Finished id given result logged did) spares k h = ends s id given result logged s' did k h
 
   -- if all steps may be made
   pub steps : ((s s' : NameService) (did : IsStep s s') → SparesStep Spares s s' did) → (s : NameService) (between : List NameService) (t : NameService) → Reaches s between t → Keeps s → Still s → Still t
@@ -179,9 +179,9 @@ any-asks [] = tt
 any-asks (a ∷ asks) = (tt, any-asks asks)
 
 pub any-step : (s s' : NameService) (did : IsStep s s') → SparesStep AnyCall s s' did
-any-step s s' (Called user c told logged did) = λ kept. tt
-any-step s s' (Asked user a told asks same) = tt
-any-step s s' (Finished id given told logged did) = tt
+any-step s s' (Called user c result logged did) = λ kept. tt
+any-step s s' (Asked user a result asks same) = tt
+any-step s s' (Finished id given result logged did) = tt
 
 -- a property of open asks, and of each ask with an id that is not used yet, stays true of open asks; used ids stay used
 pub asks-keep : (P : OpenAsk → Type 0) (n : ℕ) → ((q : OpenAsk) → n ≤ q.id → P q) → (s s' : NameService) → IsStep s s' → Keeps s → n ≤ next_id s.names → AllByRecursion P s.names.asks

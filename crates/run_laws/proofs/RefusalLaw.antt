@@ -22,7 +22,7 @@ use Rattle.name_calls.specs.declared.calls.KeyAnswer.TheVariants as answer
 use Rattle.name_calls.specs.declared.calls.NameRefusal.{NameRefusal}
 use Rattle.name_calls.specs.declared.calls.NameRefusal.TheVariants as refusal
 use Rattle.name_core.specs.State.{IsNames, IsWaiting, NameService, NameState, next_id, settled}
-use Rattle.name_core.specs.Asks.{Asks, Finishes, ask_causes, asked, finish_causes, is_other_key, is_other_zone, note_of, open_ask, opened, path_asked, unless_not_asked, unless_stopped, wanted, wanted_under}
+use Rattle.name_core.specs.Asks.{Asks, Finishes, ask_causes, asked, finish_causes, is_other_key, is_other_zone, note_of, open_ask, ask_opened, path_asked, unless_not_asked, unless_stopped, wanted, wanted_under}
 use Rattle.name_core.specs.Calls.{NoRoom, Plain, first_cause}
 use Rattle.name_core.specs.Service.{FinishServes, FinishServesAt, FinishServesOpen}
 use Rattle.name_core.specs.Laws.{AnyFault, Asked}
@@ -52,7 +52,7 @@ module _ (s : NameService) (k : Ask) (names : IsNames s) where
   key = key_of_zone rows (path_asked k)
 
   abbrev its : OpenAsk
-  its = opened s.names k
+  its = ask_opened s.names k
 
   marked : (i : ℕ) → under ≡ Some i → is_some key ≡ true
   marked i is = go (zone_of rows (path_asked k)) (zone-holds (λ (e : Entry). is_some (mark_of e.row.kind) ≡ true) (path_asked k) rows (λ i d b mark. mark)) is
@@ -114,13 +114,13 @@ module _ (s : NameService) (k : Ask) (names : IsNames s) where
       settles true (Some o) w = keys-stay under key marked s.names.table o (leaves o w) has-key
       settles false (Some o) w = has-key
 
-accepted : (s : NameState) (user : List ℕ) (k : Ask) (note : AskNote) (s' : NameState) → Asks s user k (Ok note) s' → (note ≡ note_of (opened s k)) × (s' ≡ asked s k)
-accepted s user k note s' (NoRoom, may, is) = let f : Ok note ≡ Err refusal.NoMemory = ap (λ o. o.told) is in absurd cc
+accepted : (s : NameState) (user : List ℕ) (k : Ask) (note : AskNote) (s' : NameState) → Asks s user k (Ok note) s' → (note ≡ note_of (ask_opened s k)) × (s' ≡ asked s k)
+accepted s user k note s' (NoRoom, may, is) = let f : Ok note ≡ Err refusal.NoMemory = ap (λ o. o.reply) is in absurd cc
 accepted s user k note s' (Plain, may, is) = go (first_cause (ask_causes s user k)) is
   where
-    go : (o : Option NameRefusal) → (record { told = Ok note; state = s' }) ≡ unless_not_asked o s k → (note ≡ note_of (opened s k)) × (s' ≡ asked s k)
-    go (Some why) is = let f : Ok note ≡ Err why = ap (λ o. o.told) is in absurd cc
-    go None is = let f : Ok note ≡ Ok (note_of (opened s k)) = ap (λ o. o.told) is in (cc, ap (λ o. o.state) is)
+    go : (o : Option NameRefusal) → (record { reply = Ok note; state = s' }) ≡ unless_not_asked o s k → (note ≡ note_of (ask_opened s k)) × (s' ≡ asked s k)
+    go (Some why) is = let f : Ok note ≡ Err why = ap (λ o. o.reply) is in absurd cc
+    go None is = let f : Ok note ≡ Ok (note_of (ask_opened s k)) = ap (λ o. o.reply) is in (cc, ap (λ o. o.state) is)
 
 -- its finish was refused
 
@@ -132,26 +132,26 @@ record IsStopped (t : NameService) (a : OpenAsk) (edek : Option Edek) (t' : Name
 
 stopped : (s : NameState) (a : OpenAsk) (edek : Option Edek) (s' : NameState) → Finishes s a edek (Err refusal.ZoneChanged) s'
     → (first_cause (finish_causes s.table.rows a edek a.ask) ≡ Some refusal.ZoneChanged) × (s'.table.rows ≡ s.table.rows)
-stopped s a edek s' (NoRoom, may, is) = let f : Err refusal.ZoneChanged ≡ Err refusal.NoMemory = ap (λ o. o.told) is in absurd cc
+stopped s a edek s' (NoRoom, may, is) = let f : Err refusal.ZoneChanged ≡ Err refusal.NoMemory = ap (λ o. o.reply) is in absurd cc
 stopped s a edek s' (Plain, may, is) = go (first_cause (finish_causes s.table.rows a edek a.ask)) is
   where
-    go : (o : Option NameRefusal) → (record { told = Err refusal.ZoneChanged; state = s' }) ≡ unless_stopped o s a edek → (o ≡ Some refusal.ZoneChanged) × (s'.table.rows ≡ s.table.rows)
-    go (Some why) is = let f : Err refusal.ZoneChanged ≡ Err why = ap (λ o. o.told) is in (cc, ap (λ o. o.state.table.rows) is)
-    go None is = let f : Err refusal.ZoneChanged ≡ Ok tt = ap (λ o. o.told) is in absurd cc
+    go : (o : Option NameRefusal) → (record { reply = Err refusal.ZoneChanged; state = s' }) ≡ unless_stopped o s a edek → (o ≡ Some refusal.ZoneChanged) × (s'.table.rows ≡ s.table.rows)
+    go (Some why) is = let f : Err refusal.ZoneChanged ≡ Err why = ap (λ o. o.reply) is in (cc, ap (λ o. o.state.table.rows) is)
+    go None is = let f : Err refusal.ZoneChanged ≡ Ok tt = ap (λ o. o.reply) is in absurd cc
 
 is-stopped : (under : Option ℕ) (t : NameService) (a : OpenAsk) (edek : Option Edek) (logged : List EditOp) (t' : NameService) → AllByRecursion (IsOnly under a) t.names.asks
     → FinishServes t a.id (answer.Given edek) AnyFault (Err refusal.ZoneChanged) logged t' → IsStopped t a edek t'
 is-stopped under t a edek logged t' only finish = found (open_ask t.names.asks a.id) refl finish
   where
     of : FinishServesOpen t a (answer.Given edek) AnyFault (Err refusal.ZoneChanged) logged t' → IsStopped t a edek t'
-    of (inl waits) = let f = waits.ends.told_is in absurd cc
+    of (inl waits) = let f = waits.ends.reply_is in absurd cc
     of (inr (kept, inl w)) =
         let did = stopped (settled kept t) a edek w.changed w.finishes in
         record { kept = kept; stops = did.0; left = ap (λ (x : NameService). x.names.table.rows) w.left ∙ did.1 }
-    of (inr (kept, inr u)) = let f = u.told_is in absurd cc
+    of (inr (kept, inr u)) = let f = u.reply_is in absurd cc
 
     found : (o : Option OpenAsk) → open_ask t.names.asks a.id ≡ o → FinishServesAt t o (answer.Given edek) AnyFault (Err refusal.ZoneChanged) logged t' → IsStopped t a edek t'
-    found None is e = let f = e.told_is in absurd cc
+    found None is e = let f = e.reply_is in absurd cc
     found (Some q) is e =
         of (subst (λ (x : OpenAsk). FinishServesOpen t x (answer.Given edek) AnyFault (Err refusal.ZoneChanged) logged t')
         ((open-holds (IsOnly under a) t.names.asks a.id q only is).1 (open-id t.names.asks a.id q is)) e)
@@ -195,15 +195,15 @@ first true rest never h = refl
 first false rest never h = absurd (never refl h)
 
 for-its-zone : (s : NameState) (k : Ask) (rows : List Entry) (edek : Option Edek) → All (HasKey (zone_id s.table.rows (path_asked k)) (key_of_zone s.table.rows (path_asked k))) rows
-    → Answers (wanted s.table.rows k) edek → first_cause (finish_causes rows (opened s k) edek k) ≡ Some refusal.ZoneChanged → is_other_zone rows (opened s k) ≡ true
+    → Answers (wanted s.table.rows k) edek → first_cause (finish_causes rows (ask_opened s k) edek k) ≡ Some refusal.ZoneChanged → is_other_zone rows (ask_opened s k) ≡ true
 for-its-zone s (ask.Create p) rows edek have answers stops =
     let c1 = past (starts_reserved p) refusal.BadPath _ (λ e. cc) stops in
     let c2 = past (is_none (row_at rows (parent p))) refusal.NoSuchPath _ (λ e. cc) c1 in
     let c3 = past (not (is_dir_at (row_at rows (parent p)))) refusal.NotADirectory _ (λ e. cc) c2 in
     let c4 = past (is_some (row_at rows p)) refusal.Exists _ (λ e. cc) c3 in
-    first (is_other_zone rows (opened s (ask.Create p))) _ (λ same. fitting (is_other_key rows p edek) (nat_le 1000000 (length rows)) (fit same)) c4
+    first (is_other_zone rows (ask_opened s (ask.Create p))) _ (λ same. fitting (is_other_key rows p edek) (nat_le 1000000 (length rows)) (fit same)) c4
   where
-    fit : is_other_zone rows (opened s (ask.Create p)) ≡ false → is_other_key rows p edek ≡ false
+    fit : is_other_zone rows (ask_opened s (ask.Create p)) ≡ false → is_other_key rows p edek ≡ false
     fit same =
         ap (λ (key : Option KeyName). not (fits_zone key edek))
         (same-key (zone_id s.table.rows p) (key_of_zone s.table.rows p) rows p (no-key s.table.rows p) have (same-id-is (zone_id rows p) (zone_id s.table.rows p) same))
@@ -219,7 +219,7 @@ for-its-zone s (ask.Zone p key) rows edek have answers stops =
     let c3 = past (not (is_dir_at (row_at rows p))) refusal.NotADirectory _ (λ e. cc) c2 in
     let c4 = past (has_children rows p) refusal.NotEmpty _ (λ e. cc) c3 in
     let c5 = past (is_some (zone_of rows p)) refusal.AlreadyInZone _ (λ e. cc) c4 in
-    first (is_other_zone rows (opened s (ask.Zone p key))) None (λ same h. absurd cc) c5
+    first (is_other_zone rows (ask_opened s (ask.Zone p key))) None (λ same h. absurd cc) c5
 
 pub refused_for_its_zone : RefusedForItsZone
 refused_for_its_zone s user k note s' between t edek logged t' names asks same reaches answers finish =
@@ -227,7 +227,7 @@ refused_for_its_zone s user k note s' between t edek logged t' names asks same r
     (for-its-zone s.names k (settled stop.kept t).table.rows edek (now.table stop.kept) (subst (λ (x : AskNote). Answers x.want edek) did.0 answers) stop.stops)
   where
     a : OpenAsk
-    a = opened s.names k
+    a = ask_opened s.names k
 
     did : (note ≡ note_of a) × (s'.names ≡ asked s.names k)
     did = accepted s.names user k note s'.names asks

@@ -32,7 +32,7 @@ use Rattle.hk_events.specs.declared.event.Line.{Line}
 use Rattle.hk_events.specs.declared.event.Line.TheVariants as line
 use Rattle.world_run.specs.declared.kept.KeptReply.{KeptReply}
 use Rattle.world_run.specs.declared.kept.KeptReply.TheVariants.{ToAsk}
-use Rattle.world_run.specs.Linked.{NoneReady}
+use Rattle.kms_core.proofs.ReadyLemmas.{KeepsReady, service_keeps_ready}
 use Rattle.world_run.specs.Step.{AskAt, DrawActs, FinishReply, after_ask, ask_line, finish_line, kept_reply, zone_with}
 use Rattle.world_run.specs.World.{WorldState, next_note, next_reply, numbered, with_names}
 use Rattle.run_laws.specs.Runs.{Happens, Leads, RunsRefuseForTheZone, ask_of}
@@ -73,12 +73,12 @@ since-turn id e s t u (Reopened kept is) h =
       how = inr tt;
     })
 
-since-event : (id : ℕ) (s : NameService) (w : WorldState) (e : Event) (told : Line) (w' : WorldState) → Happens w e told w' → Since id s w.names → Since id s w'.names
-since-event id s w e told w' happens h = since-turn id e s w.names w'.names (moves w e told w' happens).names h
+since-event : (id : ℕ) (s : NameService) (w : WorldState) (e : Event) (outcome : Line) (w' : WorldState) → Happens w e outcome w' → Since id s w.names → Since id s w'.names
+since-event id s w e outcome w' happens h = since-turn id e s w.names w'.names (moves w e outcome w' happens).names h
 
 since-run : (id : ℕ) (s : NameService) (w : WorldState) (between : List WorldState) (v : WorldState) → Leads w between v → Since id s w.names → Since id s v.names
 since-run id s w [] v is h = subst (λ (x : WorldState). Since id s x.names) (sym is) h
-since-run id s w (m ∷ ms) v leads h = since-run id s m ms v leads.1 (since-event id s w leads.0.event leads.0.told m leads.0.happens h)
+since-run id s w (m ∷ ms) v leads h = since-run id s m ms v leads.1 (since-event id s w leads.0.event leads.0.reply m leads.0.happens h)
 
 -- the ask, which is accepted and whose note is kept
 record Accepts (w : WorldState) (k : Ask) (number : ℕ) (note : AskNote) (w' : WorldState) : Type 0 where
@@ -91,12 +91,12 @@ record Accepts (w : WorldState) (k : Ask) (number : ℕ) (note : AskNote) (w' : 
 accepts : (w : WorldState) (user : Text) (k : NPath → Ask) (o : Option NPath) (a : Ask) (number : ℕ) (note : AskNote) (w' : WorldState) → option_map k o ≡ Some a → AskAt w user k o (line.Asked number note) w'
     → Accepts w a number note w'
 accepts w user k None a number note w' is acts = absurd cc
-accepts w user k (Some p) a number note w' is (inr r) = let f = r.told_is in absurd cc
-accepts w user k (Some p) a number note w' is (inl acts) = go acts.result acts.asks acts.told_is acts.left
+accepts w user k (Some p) a number note w' is (inr r) = let f = r.reply_is in absurd cc
+accepts w user k (Some p) a number note w' is (inl acts) = go acts.result acts.asks acts.reply_is acts.left
   where
     go : (result : Result AskNote NameRefusal) → Asks w.names.names user (k p) result acts.names → line.Asked number note ≡ ask_line result (next_note w) → w' ≡ after_ask result (with_names acts.names w) → Accepts w a number note w'
-    go (Err why) asks told left = absurd cc
-    go (Ok kept) asks told left =
+    go (Err why) asks tells left = absurd cc
+    go (Ok kept) asks tells left =
         let same : kept ≡ note = cc in
         let its : k p ≡ a = cc in
         let at : next_note w ≡ number = cc in
@@ -112,6 +112,8 @@ asks-so : (w : WorldState) (e : Event) (a : Ask) (number : ℕ) (note : AskNote)
 asks-so w (event.AskCreate user p) a number note w' is h = accepts w user ask.Create (read_path p) a number note w' is h.step.1
 asks-so w (event.AskZone user p key) a number note w' is h = accepts w user (zone_with key) (read_path p) a number note w' is h.step.1
 asks-so w (event.Kms user c) a number note w' is h = absurd cc
+asks-so w event.Ticket a number note w' is h = absurd cc
+asks-so w (event.Deposit n) a number note w' is h = absurd cc
 asks-so w event.RestartKms a number note w' is h = absurd cc
 asks-so w event.RestartName a number note w' is h = absurd cc
 asks-so w (event.Mkdir user p) a number note w' is h = absurd cc
@@ -144,20 +146,20 @@ record Gives (note : AskNote) (number : ℕ) (w : WorldState) : Type 0 where
   fits : Fits note.want given
 
 gives : (w : WorldState) (number : ℕ) (note : AskNote) (reply_number : ℕ) (reply : Option KmsReply) (w' : WorldState) → numbered w.kept.notes number ≡ Some note
-    → NoneReady w.keys.keys.ready.queues → Happens w (event.Draw number) (line.Replied reply_number reply) w' → Gives note reply_number w'
-gives w number note reply_number reply w' noted none h =
+    → KeepsReady w.keys → Happens w (event.Draw number) (line.Replied reply_number reply) w' → Gives note reply_number w'
+gives w number note reply_number reply w' noted keeps h =
     go (subst (λ (o : Option AskNote). DrawActs h.lines w h.words h.now o AnyFault (line.Replied reply_number reply) h.drawn h.logged w') noted h.step)
   where
     go : DrawActs h.lines w h.words h.now (Some note) AnyFault (line.Replied reply_number reply) h.drawn h.logged w' → Gives note reply_number w'
-    go (inr full) = let f = full.told_is in absurd cc
+    go (inr full) = let f = full.reply_is in absurd cc
     go (inl d) =
-        let told = d.told_is in
+        let tells = d.reply_is in
         let at : next_reply w ≡ reply_number = cc in
         record {
           given = answer_of d.reply;
           replied = subst (λ (n : ℕ). numbered w'.kept.replies n ≡ Some (kept_reply note d.reply)) at
               (ap (λ (x : WorldState). numbered x.kept.replies (next_reply w)) d.left ∙ numbered-last w.kept.replies (kept_reply note d.reply));
-          fits = drawn-fits h.lines w.keys h.words h.now note.want AnyFault d.reply h.drawn d.commands d.keys none d.acts;
+          fits = drawn-fits h.lines w.keys h.words h.now note.want AnyFault d.reply h.drawn d.commands d.keys keeps d.acts;
         }
 
 -- the finish, which is refused with ZoneChanged
@@ -176,7 +178,7 @@ ends w number id given w' replied h = go (subst (λ (o : Option KeptReply). Fini
     go f = record {
       ops = f.ops;
       serves = subst (λ (s : NameService). FinishServes w.names id given AnyFault (Err refusal.ZoneChanged) f.ops s) (sym (ap (λ (x : WorldState). x.names) f.left))
-          (subst (λ (r : Result (Unit {0}) NameRefusal). FinishServes w.names id given AnyFault r f.ops f.names) (refused f.result f.told_is) f.finishes);
+          (subst (λ (r : Result (Unit {0}) NameRefusal). FinishServes w.names id given AnyFault r f.ops f.names) (refused f.result f.reply_is) f.finishes);
     }
 
 -- it is refused so only if its ask is open and it was given no refusal
@@ -185,7 +187,7 @@ was-open : (s : NameService) (id : ℕ) (given : KeyAnswer) (logged : List EditO
 was-open s id given logged s' finish gone = go (open_ask s.names.asks id) refl finish
   where
     go : (o : Option OpenAsk) → open_ask s.names.asks id ≡ o → FinishServesAt s o given AnyFault (Err refusal.ZoneChanged) logged s' → ⊥
-    go None is e = let f = e.told_is in absurd cc
+    go None is e = let f = e.reply_is in absurd cc
     go (Some q) is e = open-holds (IsNot id) s.names.asks id q gone is (open-id s.names.asks id q is)
 
 was-given : (s : NameService) (id : ℕ) (given : KeyAnswer) (logged : List EditOp) (s' : NameService) → FinishServes s id given AnyFault (Err refusal.ZoneChanged) logged s' → (edek : Option Edek) × (given ≡ answer.Given edek)
@@ -193,13 +195,13 @@ was-given s id (answer.Given edek) logged s' finish = (edek, refl)
 was-given s id (answer.Refused why) logged s' finish = go (open_ask s.names.asks id) finish
   where
     go : (o : Option OpenAsk) → FinishServesAt s o (answer.Refused why) AnyFault (Err refusal.ZoneChanged) logged s' → (edek : Option Edek) × (answer.Refused why ≡ answer.Given edek)
-    go None e = let f = e.told_is in absurd cc
-    go (Some q) e = let f = e.told_is in absurd cc
+    go None e = let f = e.reply_is in absurd cc
+    go (Some q) e = let f = e.reply_is in absurd cc
 
 -- the law
 
 pub runs_refuse_for_the_zone : RunsRefuseForTheZone
-runs_refuse_for_the_zone w e a number note asked before_draw ready reply_number reply drawn before_finish last refused names none its asks leads draws leads' finishes = elim since.how [
+runs_refuse_for_the_zone w e a number note asked before_draw ready reply_number reply drawn before_finish last refused names keys its asks leads draws leads' finishes = elim since.how [
   | inl steps ↦
       refused_for_its_zone w.names acc.user a note s steps.0 last.names given.0 finish.ops refused.names names acc.asks refl steps.1 (gave.fits given.0 given.1)
       (subst (λ (x : KeyAnswer). FinishServes last.names note.id x AnyFault (Err refusal.ZoneChanged) finish.ops refused.names) given.1 finish.serves)
@@ -214,7 +216,7 @@ runs_refuse_for_the_zone w e a number note asked before_draw ready reply_number 
 
     gave : Gives note reply_number drawn
     gave = gives ready number note reply_number reply drawn ((leads-keep asked before_draw ready leads).notes number note acc.noted)
-        (leads-ready asked before_draw ready leads ((moves w e (line.Asked number note) asked asks).ready none)) draws
+        (leads-ready asked before_draw ready leads ((moves w e (line.Asked number note) asked asks).ready (service_keeps_ready w.keys keys))) draws
 
     finish : Ends last note.id gave.given refused
     finish = ends last reply_number note.id gave.given refused ((leads-keep drawn before_finish last leads').replies reply_number _ gave.replied) finishes

@@ -62,9 +62,9 @@ module _ (dir : ℕ) (name : List ℕ) (was : Snapshot) where
 
   -- a call of an event that does not remove it
   spares-step : (e : Event) (s s' : NameService) (did : IsStep s s') → IsOf e did → IfSome (call_of e) (λ c. IsNotCalled s c dir name) → SparesStep Spares s s' did
-  spares-step e s s' (Called user c told logged did) its spares = subst (λ (o : Option NameCall). IfSome o (λ c. IsNotCalled s c dir name)) its spares
-  spares-step e s s' (Asked user a told asks same) its spares = tt
-  spares-step e s s' (Finished id given told logged did) its spares = tt
+  spares-step e s s' (Called user c reply logged did) its spares = subst (λ (o : Option NameCall). IfSome o (λ c. IsNotCalled s c dir name)) its spares
+  spares-step e s s' (Asked user a reply asks same) its spares = tt
+  spares-step e s s' (Finished id given reply logged did) its spares = tt
 
   still-turn : (e : Event) (s s' : NameService) → Turns e s s' → IfSome (call_of e) (λ c. IsNotCalled s c dir name) → Still s → Still s'
   still-turn e s s' (Rests is) spares h = subst Still (sym is) h
@@ -82,7 +82,7 @@ module _ (dir : ℕ) (name : List ℕ) (was : Snapshot) where
   still-run w [] v is h = subst (λ (x : WorldState). Still x.names) (sym is) h
   still-run w (m ∷ ms) v leads h =
       let first = leads.0.0 in
-      still-run m ms v leads.1 (still-turn first.event w.names m.names (moves w first.event first.told m first.happens).names leads.0.1 h)
+      still-run m ms v leads.1 (still-turn first.event w.names m.names (moves w first.event first.reply m first.happens).names leads.0.1 h)
 
   -- before the first event
   still-first : (s : NameService) → IsNames s → HasSnapshot dir name was s → Still s

@@ -10,7 +10,7 @@ use Rattle.name_calls.specs.declared.calls.NameRefusal.TheVariants as refusal
 use Rattle.name_calls.specs.declared.calls.Want.{Want}
 use Rattle.name_calls.specs.declared.calls.Want.TheVariants as want
 use Rattle.name_core.specs.State.{IsNames, NameService}
-use Rattle.name_core.specs.Asks.{Asks, is_other_zone, opened}
+use Rattle.name_core.specs.Asks.{Asks, is_other_zone, ask_opened}
 use Rattle.name_core.specs.Service.{FinishServes}
 use Rattle.name_core.specs.Laws.{AnyFault, Reaches}
 
@@ -31,4 +31,4 @@ RefusedForItsZone =
     (edek : Option Edek) (logged : List EditOp) (t' : NameService)
     → IsNames s → Asks s.names user ask (Ok note) s'.names → s'.pending ≡ s.pending → Reaches s' between t
     → Answers note.want edek → FinishServes t note.id (answer.Given edek) AnyFault (Err refusal.ZoneChanged) logged t'
-    → is_other_zone t'.names.table.rows (opened s.names ask) ≡ true
+    → is_other_zone t'.names.table.rows (ask_opened s.names ask) ≡ true

@@ -6,6 +6,7 @@ use Rattle.name_calls.specs.ReadPaths.{read_any_path}
 use Rattle.snap_store.specs.Snapshots.{Snapshot, snapshot_named}
 use Rattle.kms_calls.specs.declared.calls.KmsReply.{KmsReply}
 use Rattle.prop_text.specs.declared.lines.PropLine.{PropLine}
+use Rattle.kms_core.specs.State.{IsService}
 use Rattle.name_calls.specs.declared.calls.Ask.{Ask}
 use Rattle.name_calls.specs.declared.calls.Ask.TheVariants as ask
 use Rattle.name_calls.specs.declared.calls.AskNote.{AskNote}
@@ -13,14 +14,13 @@ use Rattle.name_calls.specs.declared.calls.NameCall.{NameCall}
 use Rattle.name_calls.specs.declared.calls.NameCall.TheVariants as call
 use Rattle.name_calls.specs.declared.calls.NameRefusal.TheVariants as refusal
 use Rattle.name_core.specs.State.{IsNames, NameService, settled}
-use Rattle.name_core.specs.Asks.{is_other_zone, opened}
+use Rattle.name_core.specs.Asks.{is_other_zone, ask_opened}
 use Rattle.name_core.specs.Laws.{AnyFault, IsNotCalled}
 use Rattle.hk_events.specs.declared.event.Event.{Event}
 use Rattle.hk_events.specs.declared.event.Event.TheVariants as event
 use Rattle.hk_events.specs.declared.event.Line.{Line}
 use Rattle.hk_events.specs.declared.event.Line.TheVariants as line
 use Rattle.world_run.specs.Acknowledged.{Acknowledged}
-use Rattle.world_run.specs.Linked.{NoneReady}
 use Rattle.world_run.specs.RenamePaths.{read_rename_paths, rename_along}
 use Rattle.world_run.specs.SnapPaths.{read_snap_path, snap_at, unsnap_at}
 use Rattle.world_run.specs.Step.{Step, delete_with, zone_with}
@@ -32,19 +32,19 @@ DiskTells = Unit {0}
 
 -- From w, an event may get this answer and leave w': under the properties of some lines, with some words to come, at some moment. A
 -- store fault may come at any time.
-pub record Happens (w : WorldState) (e : Event) (told : Line) (w' : WorldState) : Type 0 where
+pub record Happens (w : WorldState) (e : Event) (result : Line) (w' : WorldState) : Type 0 where
   pub lines : List PropLine
   pub words : ℕ → ℕ
   pub now : ℕ
   pub drawn : ℕ
   pub logged : Acknowledged
-  pub step : Step lines w words now e AnyFault DiskTells told drawn logged w'
+  pub step : Step lines w words now e AnyFault DiskTells result drawn logged w'
 
 -- from w, some event may leave w'
 pub record SomeHappens (w w' : WorldState) : Type 0 where
   pub event : Event
-  pub told : Line
-  pub happens : Happens w event told w'
+  pub reply : Line
+  pub happens : Happens w event reply w'
 
 -- from w, events that leave these worlds one after another lead to v
 abbrev pub Leads : WorldState → List WorldState → WorldState → Type 0
@@ -90,13 +90,13 @@ RunsKeepSnapshots =
     (w : WorldState) (dir : ℕ) (name : List ℕ) (was : Snapshot) (between : List WorldState) (v : WorldState)
     → IsNames w.names → HasSnapshot dir name was w.names → LeadsKeeping dir name w between v → HasSnapshot dir name was v.names
 
--- While no key is ready, an ask is accepted; after any events its draw is made, by the number of its note, and the reply is kept; after any events its finish
+-- An ask is accepted; after any events its draw is made, by the number of its note, and the reply is kept; after any events its finish
 -- takes that reply. If it is refused with ZoneChanged, the zone that the path lies in is another one than when the ask was made.
 abbrev pub RunsRefuseForTheZone : Type 0
 RunsRefuseForTheZone =
     (w : WorldState) (e : Event) (ask : Ask) (number : ℕ) (note : AskNote) (asked : WorldState) (before_draw : List WorldState) (ready : WorldState)
     (reply_number : ℕ) (reply : Option KmsReply) (drawn : WorldState) (before_finish : List WorldState) (last refused : WorldState)
-    → IsNames w.names → NoneReady w.keys.keys.ready.queues → ask_of e ≡ Some ask → Happens w e (line.Asked number note) asked → Leads asked before_draw ready
+    → IsNames w.names → IsService w.keys → ask_of e ≡ Some ask → Happens w e (line.Asked number note) asked → Leads asked before_draw ready
     → Happens ready (event.Draw number) (line.Replied reply_number reply) drawn → Leads drawn before_finish last
     → Happens last (event.Finish reply_number) (line.Refused refusal.ZoneChanged) refused
-    → is_other_zone refused.names.names.table.rows (opened w.names.names ask) ≡ true
+    → is_other_zone refused.names.names.table.rows (ask_opened w.names.names ask) ≡ true

@@ -13,9 +13,9 @@ pub fn refused_files_changed_their_zone()
     ensures { RefusedForItsZone }
 {}
 
-/// In a run in which no key was ready at the ask, a finish is refused as `ZoneChanged` only if the
-/// zone of its path is not the one at the ask, whatever events came between. A draw keeps the reply
-/// to the call that its ask wanted, so a finish gives the key that was wanted.
+/// In a run, a finish is refused as `ZoneChanged` only if the zone of its path is not the one at the
+/// ask, whatever events came between. A draw keeps the reply to the call that its ask wanted, so a
+/// finish gives the key that was wanted.
 pub fn runs_refuse_for_the_zone()
     ensures { RunsRefuseForTheZone }
 {}
