@@ -16,7 +16,7 @@ use Rattle.hk_serve.specs.Ends.{Ends}
 use Rattle.hk_serve.specs.Exchanges.{AsksInOrder, Exchange, Leaves, ReadsInOrder, Stand, WentOn, bytes_in, response_of, responses_of}
 use Rattle.hk_serve.specs.Served.{Served}
 use Rattle.hk_serve.specs.Turns.{Answered, GoesOn, Turns}
-use Rattle.hk_serve.proofs.RequestLemmas.{requests_told}
+use Rattle.hk_serve.proofs.RequestLemmas.{requests_answered}
 
 abbrev Answers : Type 0 → Type 1
 Answers D = D → List ℕ → KmsCall → KmsReply → D → Type 0
@@ -82,7 +82,7 @@ served answers old now new bytes how so_far ends =
       here = now;
       went_on = so_far.went_on;
       ends = here;
-      requests = requests_told answers (bytes_in so_far.exchanges) so_far.exchanges old now new how here so_far.went_on.read so_far.went_on.kept;
+      requests = requests_answered answers (bytes_in so_far.exchanges) so_far.exchanges old now new how here so_far.went_on.read so_far.went_on.kept;
     }
 
 -- a request was read and answered
@@ -93,15 +93,15 @@ turned answers bytes bytes' old new request None takes answered = record {
   takes = takes;
   comes = answered.comes;
   leaves = answered.leaves;
-  goes_on = answered.told.0;
-  wrote = answered.told.1;
+  goes_on = answered.response.0;
+  wrote = answered.response.1;
 }
 turned answers bytes bytes' old new request (Some how) takes answered = inl (record {
   last = record { request = request; outcome = answered.outcome };
   takes = takes;
   comes = answered.comes;
   leaves = answered.leaves;
-  ends = answered.told;
+  ends = answered.response;
 })
 
 nothing_ahead : (scratch : List ℕ) (left : Option (List ℕ)) → scratch ≡ [] → ahead scratch left ≡ left

@@ -41,7 +41,7 @@ pub record Answered {D : Type 0} (answers : D → List ℕ → KmsCall → KmsRe
   pub outcome : Outcome
   pub comes : ComesOf request outcome
   pub leaves : Leaves answers desk outcome desk'
-  pub told : AnswersSo (record { request = request; outcome = outcome }) bytes bytes' written now result
+  pub response : AnswersSo (record { request = request; outcome = outcome }) bytes bytes' written now result
 
 -- A request was read and answered, and the connection goes on.
 pub record GoesOn {D : Type 0} (answers : D → List ℕ → KmsCall → KmsReply → D → Type 0) (bytes bytes' : ℕ) (old new : Stand D) : Type 0 where

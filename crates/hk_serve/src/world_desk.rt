@@ -25,11 +25,11 @@ pub struct WorldDesk<'a, D, W, C> {
 }
 
 /// Returns the reply in the answer to a call.
-fn reply_in(told: Result<Line, WorldFault>) -> KmsReply
-    requires { (reply : KmsReply) × (told ≡ Ok (Line.Kms reply)) }
-    ensures { told ≡ Ok (Line.Kms result) }
+fn reply_in(answer: Result<Line, WorldFault>) -> KmsReply
+    requires { (reply : KmsReply) × (answer ≡ Ok (Line.Kms reply)) }
+    ensures { answer ≡ Ok (Line.Kms result) }
 {
-    match told {
+    match answer {
         Ok(Line::Kms(reply)) => reply,
         _ => unreachable!(),
     }
@@ -65,10 +65,10 @@ impl<'a, D: Disk, W: Words, C: Clock> Desk for WorldDesk<'a, D, W, C> {
 
     fn kms(&mut self, user: Text, call: KmsCall) -> KmsReply {
         let now = self.clock.now_ms();
-        let told = self
+        let answer = self
             .world
             .step(self.disk, self.words, now, Event::Kms { user, call });
-        reply_in(told)
+        reply_in(answer)
     }
 }
 
