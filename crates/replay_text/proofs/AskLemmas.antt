@@ -24,28 +24,28 @@ zone_is_not_create user more who path x =
 create_tells : (user : List ℕ) (more : List (List ℕ)) (result : Result (Option Event) NoMemory)
     → IfOk result (λ found. MatchOption found ((who path : List ℕ) → ¬ SpellsAskCreate (codes "ask" ∷ user ∷ codes "create" ∷ more) who path) (SpellsEvent (codes "ask" ∷ user ∷ codes "create" ∷ more)))
     → IfOk result (λ found. MatchOption found (NoAsk (codes "ask" ∷ user ∷ codes "create" ∷ more)) (SpellsEvent (codes "ask" ∷ user ∷ codes "create" ∷ more)))
-create_tells user more (Ok None) told = (told, create_is_not_zone user more)
-create_tells user more (Ok (Some event)) told = told
-create_tells user more (Err wanting) told = told
+create_tells user more (Ok None) outcome = (outcome, create_is_not_zone user more)
+create_tells user more (Ok (Some event)) outcome = outcome
+create_tells user more (Err wanting) outcome = outcome
 
 zone_tells : (user : List ℕ) (more : List (List ℕ)) (result : Result (Option Event) NoMemory)
     → IfOk result (λ found. MatchOption found ((who path key : List ℕ) → ¬ SpellsAskZone (codes "ask" ∷ user ∷ codes "zone" ∷ more) who path key) (SpellsEvent (codes "ask" ∷ user ∷ codes "zone" ∷ more)))
     → IfOk result (λ found. MatchOption found (NoAsk (codes "ask" ∷ user ∷ codes "zone" ∷ more)) (SpellsEvent (codes "ask" ∷ user ∷ codes "zone" ∷ more)))
-zone_tells user more (Ok None) told = (zone_is_not_create user more, told)
-zone_tells user more (Ok (Some event)) told = told
-zone_tells user more (Err wanting) told = told
+zone_tells user more (Ok None) outcome = (zone_is_not_create user more, outcome)
+zone_tells user more (Ok (Some event)) outcome = outcome
+zone_tells user more (Err wanting) outcome = outcome
 
 -- the same for fields that are equal to these
-pub create_told : (fields rest more : List (List ℕ)) (user verb : List ℕ) (result : Result (Option Event) NoMemory) → fields ≡ user ∷ rest → rest ≡ verb ∷ more → verb ≡ codes "create"
+pub create_answered : (fields rest more : List (List ℕ)) (user verb : List ℕ) (result : Result (Option Event) NoMemory) → fields ≡ user ∷ rest → rest ≡ verb ∷ more → verb ≡ codes "create"
     → IfOk result (λ found. MatchOption found ((who path : List ℕ) → ¬ SpellsAskCreate (codes "ask" ∷ user ∷ codes "create" ∷ more) who path) (SpellsEvent (codes "ask" ∷ user ∷ codes "create" ∷ more)))
     → IfOk result (λ found. MatchOption found (NoAsk (codes "ask" ∷ fields)) (SpellsEvent (codes "ask" ∷ fields)))
-create_told fields rest more user verb result first second is told =
+create_answered fields rest more user verb result first second is outcome =
     let same : user ∷ codes "create" ∷ more ≡ fields = cc in
-    subst (λ (fs : List (List ℕ)). IfOk result (λ found. MatchOption found (NoAsk (codes "ask" ∷ fs)) (SpellsEvent (codes "ask" ∷ fs)))) same (create_tells user more result told)
+    subst (λ (fs : List (List ℕ)). IfOk result (λ found. MatchOption found (NoAsk (codes "ask" ∷ fs)) (SpellsEvent (codes "ask" ∷ fs)))) same (create_tells user more result outcome)
 
-pub zone_told : (fields rest more : List (List ℕ)) (user verb : List ℕ) (result : Result (Option Event) NoMemory) → fields ≡ user ∷ rest → rest ≡ verb ∷ more → verb ≡ codes "zone"
+pub zone_answered : (fields rest more : List (List ℕ)) (user verb : List ℕ) (result : Result (Option Event) NoMemory) → fields ≡ user ∷ rest → rest ≡ verb ∷ more → verb ≡ codes "zone"
     → IfOk result (λ found. MatchOption found ((who path key : List ℕ) → ¬ SpellsAskZone (codes "ask" ∷ user ∷ codes "zone" ∷ more) who path key) (SpellsEvent (codes "ask" ∷ user ∷ codes "zone" ∷ more)))
     → IfOk result (λ found. MatchOption found (NoAsk (codes "ask" ∷ fields)) (SpellsEvent (codes "ask" ∷ fields)))
-zone_told fields rest more user verb result first second is told =
+zone_answered fields rest more user verb result first second is outcome =
     let same : user ∷ codes "zone" ∷ more ≡ fields = cc in
-    subst (λ (fs : List (List ℕ)). IfOk result (λ found. MatchOption found (NoAsk (codes "ask" ∷ fs)) (SpellsEvent (codes "ask" ∷ fs)))) same (zone_tells user more result told)
+    subst (λ (fs : List (List ℕ)). IfOk result (λ found. MatchOption found (NoAsk (codes "ask" ∷ fs)) (SpellsEvent (codes "ask" ∷ fs)))) same (zone_tells user more result outcome)

@@ -270,74 +270,74 @@ none_batch rest none (call.Batch name sent) = none name sent
 -- what reading the fields after a verb says about the fields with it
 turn : (guard : Bool) (rest : List (List ℕ)) (verb word : List ℕ) (N : Type 0) (result : Result (Option KmsCall) NoMemory) → verb ≡ word → (N → (c : KmsCall) → ¬ SpellsCall (word ∷ rest) c)
     → IfOk result (λ found. MatchOption found N (SpellsCall (word ∷ rest))) → IfOk result (λ found. MatchOption found ((c : KmsCall) → takes_edeks c ≡ guard → ¬ SpellsCall (verb ∷ rest) c) (SpellsCall (verb ∷ rest)))
-turn guard rest verb word N (Ok None) is none told = λ c here x. none told c (subst (λ (w : List ℕ). SpellsCall (w ∷ rest) c) is x)
-turn guard rest verb word N (Ok (Some c)) is none told = subst (λ (w : List ℕ). SpellsCall (w ∷ rest) c) (sym is) told
-turn guard rest verb word N (Err wanting) is none told = told
+turn guard rest verb word N (Ok None) is none outcome = λ c here x. none outcome c (subst (λ (w : List ℕ). SpellsCall (w ∷ rest) c) is x)
+turn guard rest verb word N (Ok (Some c)) is none outcome = subst (λ (w : List ℕ). SpellsCall (w ∷ rest) c) (sym is) outcome
+turn guard rest verb word N (Err wanting) is none outcome = outcome
 
-pub told_create : (guard : Bool) (rest : List (List ℕ)) (verb : List ℕ) (result : Result (Option KmsCall) NoMemory) → verb ≡ codes "create"
+pub answers_create : (guard : Bool) (rest : List (List ℕ)) (verb : List ℕ) (result : Result (Option KmsCall) NoMemory) → verb ≡ codes "create"
     → IfOk result (λ found. MatchOption found ((name : List ℕ) (bits : ℕ) (material : Option (List ℕ)) (description : List ℕ) → ¬ SpellsCreate (codes "create" ∷ rest) name bits material description) (SpellsCall (codes "create" ∷ rest)))
     → IfOk result (λ found. MatchOption found ((c : KmsCall) → takes_edeks c ≡ guard → ¬ SpellsCall (verb ∷ rest) c) (SpellsCall (verb ∷ rest)))
-told_create guard rest verb result is told = turn guard rest verb (codes "create") _ result is (none_create rest) told
+answers_create guard rest verb result is outcome = turn guard rest verb (codes "create") _ result is (none_create rest) outcome
 
-pub told_roll : (guard : Bool) (rest : List (List ℕ)) (verb : List ℕ) (result : Result (Option KmsCall) NoMemory) → verb ≡ codes "roll"
+pub answers_roll : (guard : Bool) (rest : List (List ℕ)) (verb : List ℕ) (result : Result (Option KmsCall) NoMemory) → verb ≡ codes "roll"
     → IfOk result (λ found. MatchOption found ((name : List ℕ) (material : Option (List ℕ)) → ¬ SpellsRoll (codes "roll" ∷ rest) name material) (SpellsCall (codes "roll" ∷ rest)))
     → IfOk result (λ found. MatchOption found ((c : KmsCall) → takes_edeks c ≡ guard → ¬ SpellsCall (verb ∷ rest) c) (SpellsCall (verb ∷ rest)))
-told_roll guard rest verb result is told = turn guard rest verb (codes "roll") _ result is (none_roll rest) told
+answers_roll guard rest verb result is outcome = turn guard rest verb (codes "roll") _ result is (none_roll rest) outcome
 
-pub told_delete : (guard : Bool) (rest : List (List ℕ)) (verb : List ℕ) (result : Result (Option KmsCall) NoMemory) → verb ≡ codes "delete"
+pub answers_delete : (guard : Bool) (rest : List (List ℕ)) (verb : List ℕ) (result : Result (Option KmsCall) NoMemory) → verb ≡ codes "delete"
     → IfOk result (λ found. MatchOption found ((name : List ℕ) → ¬ SpellsNamed (codes "delete") (codes "delete" ∷ rest) name) (SpellsCall (codes "delete" ∷ rest)))
     → IfOk result (λ found. MatchOption found ((c : KmsCall) → takes_edeks c ≡ guard → ¬ SpellsCall (verb ∷ rest) c) (SpellsCall (verb ∷ rest)))
-told_delete guard rest verb result is told = turn guard rest verb (codes "delete") _ result is (none_delete rest) told
+answers_delete guard rest verb result is outcome = turn guard rest verb (codes "delete") _ result is (none_delete rest) outcome
 
-pub told_invalidate : (guard : Bool) (rest : List (List ℕ)) (verb : List ℕ) (result : Result (Option KmsCall) NoMemory) → verb ≡ codes "invalidate"
+pub answers_invalidate : (guard : Bool) (rest : List (List ℕ)) (verb : List ℕ) (result : Result (Option KmsCall) NoMemory) → verb ≡ codes "invalidate"
     → IfOk result (λ found. MatchOption found ((name : List ℕ) → ¬ SpellsNamed (codes "invalidate") (codes "invalidate" ∷ rest) name) (SpellsCall (codes "invalidate" ∷ rest)))
     → IfOk result (λ found. MatchOption found ((c : KmsCall) → takes_edeks c ≡ guard → ¬ SpellsCall (verb ∷ rest) c) (SpellsCall (verb ∷ rest)))
-told_invalidate guard rest verb result is told = turn guard rest verb (codes "invalidate") _ result is (none_invalidate rest) told
+answers_invalidate guard rest verb result is outcome = turn guard rest verb (codes "invalidate") _ result is (none_invalidate rest) outcome
 
-pub told_metadata : (guard : Bool) (rest : List (List ℕ)) (verb : List ℕ) (result : Result (Option KmsCall) NoMemory) → verb ≡ codes "metadata"
+pub answers_metadata : (guard : Bool) (rest : List (List ℕ)) (verb : List ℕ) (result : Result (Option KmsCall) NoMemory) → verb ≡ codes "metadata"
     → IfOk result (λ found. MatchOption found ((name : List ℕ) → ¬ SpellsNamed (codes "metadata") (codes "metadata" ∷ rest) name) (SpellsCall (codes "metadata" ∷ rest)))
     → IfOk result (λ found. MatchOption found ((c : KmsCall) → takes_edeks c ≡ guard → ¬ SpellsCall (verb ∷ rest) c) (SpellsCall (verb ∷ rest)))
-told_metadata guard rest verb result is told = turn guard rest verb (codes "metadata") _ result is (none_metadata rest) told
+answers_metadata guard rest verb result is outcome = turn guard rest verb (codes "metadata") _ result is (none_metadata rest) outcome
 
-pub told_metadatas : (guard : Bool) (rest : List (List ℕ)) (verb : List ℕ) (result : Result (Option KmsCall) NoMemory) → verb ≡ codes "metadatas"
+pub answers_metadatas : (guard : Bool) (rest : List (List ℕ)) (verb : List ℕ) (result : Result (Option KmsCall) NoMemory) → verb ≡ codes "metadatas"
     → IfOk result (λ found. MatchOption found ((names : List (List ℕ)) → ¬ SpellsMetadatas (codes "metadatas" ∷ rest) names) (SpellsCall (codes "metadatas" ∷ rest)))
     → IfOk result (λ found. MatchOption found ((c : KmsCall) → takes_edeks c ≡ guard → ¬ SpellsCall (verb ∷ rest) c) (SpellsCall (verb ∷ rest)))
-told_metadatas guard rest verb result is told = turn guard rest verb (codes "metadatas") _ result is (none_metadatas rest) told
+answers_metadatas guard rest verb result is outcome = turn guard rest verb (codes "metadatas") _ result is (none_metadatas rest) outcome
 
-pub told_current : (guard : Bool) (rest : List (List ℕ)) (verb : List ℕ) (result : Result (Option KmsCall) NoMemory) → verb ≡ codes "current"
+pub answers_current : (guard : Bool) (rest : List (List ℕ)) (verb : List ℕ) (result : Result (Option KmsCall) NoMemory) → verb ≡ codes "current"
     → IfOk result (λ found. MatchOption found ((name : List ℕ) → ¬ SpellsNamed (codes "current") (codes "current" ∷ rest) name) (SpellsCall (codes "current" ∷ rest)))
     → IfOk result (λ found. MatchOption found ((c : KmsCall) → takes_edeks c ≡ guard → ¬ SpellsCall (verb ∷ rest) c) (SpellsCall (verb ∷ rest)))
-told_current guard rest verb result is told = turn guard rest verb (codes "current") _ result is (none_current rest) told
+answers_current guard rest verb result is outcome = turn guard rest verb (codes "current") _ result is (none_current rest) outcome
 
-pub told_versions : (guard : Bool) (rest : List (List ℕ)) (verb : List ℕ) (result : Result (Option KmsCall) NoMemory) → verb ≡ codes "versions"
+pub answers_versions : (guard : Bool) (rest : List (List ℕ)) (verb : List ℕ) (result : Result (Option KmsCall) NoMemory) → verb ≡ codes "versions"
     → IfOk result (λ found. MatchOption found ((name : List ℕ) → ¬ SpellsNamed (codes "versions") (codes "versions" ∷ rest) name) (SpellsCall (codes "versions" ∷ rest)))
     → IfOk result (λ found. MatchOption found ((c : KmsCall) → takes_edeks c ≡ guard → ¬ SpellsCall (verb ∷ rest) c) (SpellsCall (verb ∷ rest)))
-told_versions guard rest verb result is told = turn guard rest verb (codes "versions") _ result is (none_versions rest) told
+answers_versions guard rest verb result is outcome = turn guard rest verb (codes "versions") _ result is (none_versions rest) outcome
 
-pub told_version : (guard : Bool) (rest : List (List ℕ)) (verb : List ℕ) (result : Result (Option KmsCall) NoMemory) → verb ≡ codes "version"
+pub answers_version : (guard : Bool) (rest : List (List ℕ)) (verb : List ℕ) (result : Result (Option KmsCall) NoMemory) → verb ≡ codes "version"
     → IfOk result (λ found. MatchOption found ((version : Version) → ¬ SpellsVersion (codes "version" ∷ rest) version) (SpellsCall (codes "version" ∷ rest)))
     → IfOk result (λ found. MatchOption found ((c : KmsCall) → takes_edeks c ≡ guard → ¬ SpellsCall (verb ∷ rest) c) (SpellsCall (verb ∷ rest)))
-told_version guard rest verb result is told = turn guard rest verb (codes "version") _ result is (none_version rest) told
+answers_version guard rest verb result is outcome = turn guard rest verb (codes "version") _ result is (none_version rest) outcome
 
-pub told_generate : (guard : Bool) (rest : List (List ℕ)) (verb : List ℕ) (result : Result (Option KmsCall) NoMemory) → verb ≡ codes "generate"
+pub answers_generate : (guard : Bool) (rest : List (List ℕ)) (verb : List ℕ) (result : Result (Option KmsCall) NoMemory) → verb ≡ codes "generate"
     → IfOk result (λ found. MatchOption found ((name : List ℕ) (count : ℕ) → ¬ SpellsGenerate (codes "generate" ∷ rest) name count) (SpellsCall (codes "generate" ∷ rest)))
     → IfOk result (λ found. MatchOption found ((c : KmsCall) → takes_edeks c ≡ guard → ¬ SpellsCall (verb ∷ rest) c) (SpellsCall (verb ∷ rest)))
-told_generate guard rest verb result is told = turn guard rest verb (codes "generate") _ result is (none_generate rest) told
+answers_generate guard rest verb result is outcome = turn guard rest verb (codes "generate") _ result is (none_generate rest) outcome
 
-pub told_decrypt : (guard : Bool) (rest : List (List ℕ)) (verb : List ℕ) (result : Result (Option KmsCall) NoMemory) → verb ≡ codes "decrypt"
+pub answers_decrypt : (guard : Bool) (rest : List (List ℕ)) (verb : List ℕ) (result : Result (Option KmsCall) NoMemory) → verb ≡ codes "decrypt"
     → IfOk result (λ found. MatchOption found ((name : List ℕ) (sent : RawEdek) → ¬ SpellsSent (codes "decrypt") (codes "decrypt" ∷ rest) name sent) (SpellsCall (codes "decrypt" ∷ rest)))
     → IfOk result (λ found. MatchOption found ((c : KmsCall) → takes_edeks c ≡ guard → ¬ SpellsCall (verb ∷ rest) c) (SpellsCall (verb ∷ rest)))
-told_decrypt guard rest verb result is told = turn guard rest verb (codes "decrypt") _ result is (none_decrypt rest) told
+answers_decrypt guard rest verb result is outcome = turn guard rest verb (codes "decrypt") _ result is (none_decrypt rest) outcome
 
-pub told_reencrypt : (guard : Bool) (rest : List (List ℕ)) (verb : List ℕ) (result : Result (Option KmsCall) NoMemory) → verb ≡ codes "reencrypt"
+pub answers_reencrypt : (guard : Bool) (rest : List (List ℕ)) (verb : List ℕ) (result : Result (Option KmsCall) NoMemory) → verb ≡ codes "reencrypt"
     → IfOk result (λ found. MatchOption found ((name : List ℕ) (sent : RawEdek) → ¬ SpellsSent (codes "reencrypt") (codes "reencrypt" ∷ rest) name sent) (SpellsCall (codes "reencrypt" ∷ rest)))
     → IfOk result (λ found. MatchOption found ((c : KmsCall) → takes_edeks c ≡ guard → ¬ SpellsCall (verb ∷ rest) c) (SpellsCall (verb ∷ rest)))
-told_reencrypt guard rest verb result is told = turn guard rest verb (codes "reencrypt") _ result is (none_reencrypt rest) told
+answers_reencrypt guard rest verb result is outcome = turn guard rest verb (codes "reencrypt") _ result is (none_reencrypt rest) outcome
 
-pub told_batch : (guard : Bool) (rest : List (List ℕ)) (verb : List ℕ) (result : Result (Option KmsCall) NoMemory) → verb ≡ codes "batch"
+pub answers_batch : (guard : Bool) (rest : List (List ℕ)) (verb : List ℕ) (result : Result (Option KmsCall) NoMemory) → verb ≡ codes "batch"
     → IfOk result (λ found. MatchOption found ((name : List ℕ) (sent : List RawEdek) → ¬ SpellsBatch (codes "batch" ∷ rest) name sent) (SpellsCall (codes "batch" ∷ rest)))
     → IfOk result (λ found. MatchOption found ((c : KmsCall) → takes_edeks c ≡ guard → ¬ SpellsCall (verb ∷ rest) c) (SpellsCall (verb ∷ rest)))
-told_batch guard rest verb result is told = turn guard rest verb (codes "batch") _ result is (none_batch rest) told
+answers_batch guard rest verb result is outcome = turn guard rest verb (codes "batch") _ result is (none_batch rest) outcome
 
 -- the verb belongs to none of the calls on keys, and something follows it
 pub no_key_verb : (verb bytes : List ℕ) → (verb ≡ codes "create" → ⊥) → (verb ≡ codes "roll" → ⊥) → (verb ≡ codes "delete" → ⊥) → (verb ≡ codes "invalidate" → ⊥) → (verb ≡ codes "metadata" → ⊥) → (verb ≡ codes "metadatas" → ⊥) → (verb ≡ codes "current" → ⊥) → (verb ≡ codes "versions" → ⊥) → (verb ≡ codes "version" → ⊥)

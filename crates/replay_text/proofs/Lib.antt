@@ -4,3 +4,4 @@ mod FieldLemmas
 mod ListLemmas
 mod NameLemmas
 mod OnceLemmas
+mod WordLemmas

@@ -26,6 +26,8 @@ Reads fields result = IfOk result (λ found. MatchOption found ((e : Event) → 
 -- a line of the namesystem has a path, or a path and a second field, or asks for the zones
 no_name_line : (more : List (List ℕ)) → NoPath (codes "nn" ∷ more) → NoTwoFields (codes "nn" ∷ more) → NoZones (codes "nn" ∷ more) → (e : Event) → ¬ SpellsEvent (codes "nn" ∷ more) e
 no_name_line more no_path no_two no_zones (event.Kms user call) x = two_verbs _ _ _ (codes "nn") (codes "kms") (apart _ _ refl) refl x.fields_are
+no_name_line more no_path no_two no_zones event.Ticket x = two_verbs _ _ _ (codes "nn") (codes "ticket") (apart _ _ refl) refl x
+no_name_line more no_path no_two no_zones (event.Deposit number) x = two_verbs _ _ _ (codes "nn") (codes "deposit") (apart _ _ refl) refl x.fields_are
 no_name_line more no_path no_two no_zones event.RestartKms x = two_verbs _ _ _ (codes "nn") (codes "restart") (apart _ _ refl) refl x
 no_name_line more no_path no_two no_zones event.RestartName x = two_verbs _ _ _ (codes "nn") (codes "restart") (apart _ _ refl) refl x
 no_name_line more no_path no_two no_zones (event.Mkdir user path) x = no_path (codes "mkdir") user path (inl refl) x
@@ -67,41 +69,41 @@ reads_same fields more result same = subst (λ (fs : List (List ℕ)). Reads fs 
 
 zones_tell : (user verb : List ℕ) (result : Result (Option Event) NoMemory)
     → IfOk result (λ found. MatchOption found (NoZones (codes "nn" ∷ user ∷ verb ∷ [])) (SpellsEvent (codes "nn" ∷ user ∷ verb ∷ []))) → Reads (codes "nn" ∷ user ∷ verb ∷ []) result
-zones_tell user verb (Ok None) told = two_fields user verb told
-zones_tell user verb (Ok (Some event)) told = told
-zones_tell user verb (Err wanting) told = told
+zones_tell user verb (Ok None) outcome = two_fields user verb outcome
+zones_tell user verb (Ok (Some event)) outcome = outcome
+zones_tell user verb (Err wanting) outcome = outcome
 
 path_tells : (user verb path : List ℕ) (result : Result (Option Event) NoMemory)
     → IfOk result (λ found. MatchOption found (NoPath (codes "nn" ∷ user ∷ verb ∷ path ∷ [])) (SpellsEvent (codes "nn" ∷ user ∷ verb ∷ path ∷ []))) → Reads (codes "nn" ∷ user ∷ verb ∷ path ∷ []) result
-path_tells user verb path (Ok None) told = three_fields user verb path told
-path_tells user verb path (Ok (Some event)) told = told
-path_tells user verb path (Err wanting) told = told
+path_tells user verb path (Ok None) outcome = three_fields user verb path outcome
+path_tells user verb path (Ok (Some event)) outcome = outcome
+path_tells user verb path (Err wanting) outcome = outcome
 
 two_fields_tell : (user verb path bytes : List ℕ) (result : Result (Option Event) NoMemory)
     → IfOk result (λ found. MatchOption found (NoTwoFields (codes "nn" ∷ user ∷ verb ∷ path ∷ fields_of bytes)) (SpellsEvent (codes "nn" ∷ user ∷ verb ∷ path ∷ fields_of bytes)))
     → Reads (codes "nn" ∷ user ∷ verb ∷ path ∷ fields_of bytes) result
-two_fields_tell user verb path bytes (Ok None) told = more_fields user verb path bytes told
-two_fields_tell user verb path bytes (Ok (Some event)) told = told
-two_fields_tell user verb path bytes (Err wanting) told = told
+two_fields_tell user verb path bytes (Ok None) outcome = more_fields user verb path bytes outcome
+two_fields_tell user verb path bytes (Ok (Some event)) outcome = outcome
+two_fields_tell user verb path bytes (Err wanting) outcome = outcome
 
 -- the same for fields that are equal to these
-pub zones_told : (fields rest : List (List ℕ)) (user verb : List ℕ) (result : Result (Option Event) NoMemory) → fields ≡ user ∷ rest → rest ≡ verb ∷ []
+pub zones_answered : (fields rest : List (List ℕ)) (user verb : List ℕ) (result : Result (Option Event) NoMemory) → fields ≡ user ∷ rest → rest ≡ verb ∷ []
     → IfOk result (λ found. MatchOption found (NoZones (codes "nn" ∷ user ∷ verb ∷ [])) (SpellsEvent (codes "nn" ∷ user ∷ verb ∷ []))) → Reads (codes "nn" ∷ fields) result
-zones_told fields rest user verb result first second told =
-    reads_same (codes "nn" ∷ fields) (codes "nn" ∷ user ∷ verb ∷ []) result (ap (λ fs. codes "nn" ∷ fs) (sym (first ∙ ap (λ fs. user ∷ fs) second))) (zones_tell user verb result told)
+zones_answered fields rest user verb result first second outcome =
+    reads_same (codes "nn" ∷ fields) (codes "nn" ∷ user ∷ verb ∷ []) result (ap (λ fs. codes "nn" ∷ fs) (sym (first ∙ ap (λ fs. user ∷ fs) second))) (zones_tell user verb result outcome)
 
-pub event_told : (fields rest more : List (List ℕ)) (user verb : List ℕ) (result : Result (Option Event) NoMemory) → fields ≡ user ∷ rest → rest ≡ verb ∷ more
+pub event_answered : (fields rest more : List (List ℕ)) (user verb : List ℕ) (result : Result (Option Event) NoMemory) → fields ≡ user ∷ rest → rest ≡ verb ∷ more
     → Reads (codes "nn" ∷ user ∷ verb ∷ more) result → Reads (codes "nn" ∷ fields) result
-event_told fields rest more user verb result first second =
+event_answered fields rest more user verb result first second =
     reads_same (codes "nn" ∷ fields) (codes "nn" ∷ user ∷ verb ∷ more) result (ap (λ fs. codes "nn" ∷ fs) (sym (first ∙ ap (λ fs. user ∷ fs) second)))
 
-pub path_told : (fields : List (List ℕ)) (user verb path : List ℕ) (result : Result (Option Event) NoMemory) → fields ≡ path ∷ []
+pub path_answered : (fields : List (List ℕ)) (user verb path : List ℕ) (result : Result (Option Event) NoMemory) → fields ≡ path ∷ []
     → IfOk result (λ found. MatchOption found (NoPath (codes "nn" ∷ user ∷ verb ∷ path ∷ [])) (SpellsEvent (codes "nn" ∷ user ∷ verb ∷ path ∷ []))) → Reads (codes "nn" ∷ user ∷ verb ∷ fields) result
-path_told fields user verb path result is told =
-    reads_same (codes "nn" ∷ user ∷ verb ∷ fields) (codes "nn" ∷ user ∷ verb ∷ path ∷ []) result (ap (λ fs. codes "nn" ∷ user ∷ verb ∷ fs) (sym is)) (path_tells user verb path result told)
+path_answered fields user verb path result is outcome =
+    reads_same (codes "nn" ∷ user ∷ verb ∷ fields) (codes "nn" ∷ user ∷ verb ∷ path ∷ []) result (ap (λ fs. codes "nn" ∷ user ∷ verb ∷ fs) (sym is)) (path_tells user verb path result outcome)
 
-pub two_fields_told : (fields : List (List ℕ)) (user verb path bytes : List ℕ) (result : Result (Option Event) NoMemory) → fields ≡ path ∷ fields_of bytes
+pub two_fields_answered : (fields : List (List ℕ)) (user verb path bytes : List ℕ) (result : Result (Option Event) NoMemory) → fields ≡ path ∷ fields_of bytes
     → IfOk result (λ found. MatchOption found (NoTwoFields (codes "nn" ∷ user ∷ verb ∷ path ∷ fields_of bytes)) (SpellsEvent (codes "nn" ∷ user ∷ verb ∷ path ∷ fields_of bytes)))
     → Reads (codes "nn" ∷ user ∷ verb ∷ fields) result
-two_fields_told fields user verb path bytes result is told =
-    reads_same (codes "nn" ∷ user ∷ verb ∷ fields) (codes "nn" ∷ user ∷ verb ∷ path ∷ fields_of bytes) result (ap (λ fs. codes "nn" ∷ user ∷ verb ∷ fs) (sym is)) (two_fields_tell user verb path bytes result told)
+two_fields_answered fields user verb path bytes result is outcome =
+    reads_same (codes "nn" ∷ user ∷ verb ∷ fields) (codes "nn" ∷ user ∷ verb ∷ path ∷ fields_of bytes) result (ap (λ fs. codes "nn" ∷ user ∷ verb ∷ fs) (sym is)) (two_fields_tell user verb path bytes result outcome)

@@ -426,6 +426,7 @@ data Kind : Type 0 where
   NewFile : Kind
   NewZone : Kind
   OfNumber : (verb : List ℕ) → Kind
+  Alone : Kind
 
 abbrev restart_kind : List (List ℕ) → Kind
 restart_kind [] = Call
@@ -445,6 +446,11 @@ ask_kind (verb ∷ []) = Call
 ask_kind (verb ∷ path ∷ []) = NewFile
 ask_kind (verb ∷ path ∷ key ∷ more) = NewZone
 
+-- a line that begins with another word: that word alone, or with a number after it
+abbrev number_kind : List ℕ → List (List ℕ) → Kind
+number_kind verb [] = Alone
+number_kind verb (number ∷ more) = OfNumber verb
+
 abbrev kind_of : List (List ℕ) → Kind
 kind_of [] = Call
 kind_of (first ∷ rest) =
@@ -456,10 +462,12 @@ kind_of (first ∷ rest) =
     then name_kind (drop 1 rest)
     else if bytes_eq first (codes "ask")
     then ask_kind (drop 1 rest)
-    else OfNumber first
+    else number_kind first rest
 
 abbrev kind : Event → Kind
 kind (event.Kms user c) = Call
+kind event.Ticket = Alone
+kind (event.Deposit n) = OfNumber (codes "deposit")
 kind event.RestartKms = Restart (codes "kms")
 kind event.RestartName = Restart (codes "nn")
 kind (event.Mkdir user path) = OnPath (codes "mkdir")
@@ -480,6 +488,8 @@ kind (event.Finish n) = OfNumber (codes "finish")
 
 kind_is : (fields : List (List ℕ)) (e : Event) → SpellsEvent fields e → kind_of fields ≡ kind e
 kind_is fields (event.Kms user c) x = ap kind_of x.fields_are
+kind_is fields event.Ticket x = ap kind_of x
+kind_is fields (event.Deposit n) x = ap kind_of x.fields_are
 kind_is fields event.RestartKms x = ap kind_of x
 kind_is fields event.RestartName x = ap kind_of x
 kind_is fields (event.Mkdir user path) x = ap kind_of x.fields_are
@@ -527,7 +537,12 @@ two_field_event verb user path second =
     else event.Unsnap user path second
 
 abbrev number_event : List ℕ → ℕ → Event
-number_event verb n = if bytes_eq verb (codes "draw") then event.Draw n else event.Finish n
+number_event verb n =
+    if bytes_eq verb (codes "draw")
+    then event.Draw n
+    else if bytes_eq verb (codes "finish")
+    then event.Finish n
+    else event.Deposit n
 
 -- the event of the fields of a line of this kind
 abbrev Says : Kind → List (List ℕ) → Event → Type 0
@@ -539,9 +554,12 @@ Says OnZones fields e = (user : List ℕ) × (SpellsZones fields user × (e ≡ 
 Says NewFile fields e = (user : List ℕ) × ((path : List ℕ) × (SpellsAskCreate fields user path × (e ≡ event.AskCreate user path)))
 Says NewZone fields e = (user : List ℕ) × ((path : List ℕ) × ((key : List ℕ) × (SpellsAskZone fields user path key × (e ≡ event.AskZone user path key))))
 Says (OfNumber verb) fields e = (n : ℕ) × (SpellsKept verb fields n × (e ≡ number_event verb n))
+Says Alone fields e = e ≡ event.Ticket
 
 says : (fields : List (List ℕ)) (e : Event) → SpellsEvent fields e → Says (kind e) fields e
 says fields (event.Kms user c) x = (user, (c, (x, refl)))
+says fields event.Ticket x = refl
+says fields (event.Deposit n) x = (n, (x, refl))
 says fields event.RestartKms x = refl
 says fields event.RestartName x = refl
 says fields (event.Mkdir user path) x = (user, (path, (x, refl)))
@@ -573,6 +591,7 @@ says_once OnZones fields a b (user, (x, is)) (other, (y, also)) = is ∙ ap even
 says_once NewFile fields a b (user, (path, (x, is))) (other, (second, (y, also))) = is ∙ ask_create_once fields user other path second x y ∙ sym also
 says_once NewZone fields a b (user, (path, (key, (x, is)))) (other, (second, (word, (y, also)))) = is ∙ ask_zone_once fields user other path second key word x y ∙ sym also
 says_once (OfNumber verb) fields a b (m, (x, is)) (n, (y, also)) = is ∙ ap (number_event verb) (kept_once verb fields m n x y) ∙ sym also
+says_once Alone fields a b is also = is ∙ sym also
 
 -- the event of the kind that the fields tell
 says_so : (fields : List (List ℕ)) (e : Event) → SpellsEvent fields e → Says (kind_of fields) fields e
@@ -594,6 +613,8 @@ pub record Begins (fields : List (List ℕ)) : Type 0 where
 
 begins : (fields : List (List ℕ)) (event : Event) → SpellsEvent fields event → Begins fields
 begins fields (event.Kms user call) x = record { first = 107; front = codes "ms"; more = x.user_field ∷ x.call_fields; begin = x.fields_are; no_comment = λ e. omega (arith, e) }
+begins fields event.Ticket x = record { first = 116; front = codes "icket"; more = []; begin = x; no_comment = λ e. omega (arith, e) }
+begins fields (event.Deposit number) x = record { first = 100; front = codes "eposit"; more = decimal number ∷ []; begin = x.fields_are; no_comment = λ e. omega (arith, e) }
 begins fields event.RestartKms x = record { first = 114; front = codes "estart"; more = codes "kms" ∷ []; begin = x; no_comment = λ e. omega (arith, e) }
 begins fields event.RestartName x = record { first = 114; front = codes "estart"; more = codes "nn" ∷ []; begin = x; no_comment = λ e. omega (arith, e) }
 begins fields (event.Mkdir user path) x = record { first = 110; front = codes "n"; more = x.user_field ∷ codes "mkdir" ∷ x.path_field ∷ []; begin = x.fields_are; no_comment = λ e. omega (arith, e) }

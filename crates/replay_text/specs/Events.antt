@@ -231,10 +231,14 @@ pub record SpellsAskZone (fields : List (List ℕ)) (user path key : List ℕ) :
   pub path_is : IsEscaped path_field path
   pub key_is : IsKeyName key
 
--- this verb and the number of a note or reply, below 2^32
+-- this verb and the number of a ticket, note or reply, below 2^32
 pub record SpellsKept (verb : List ℕ) (fields : List (List ℕ)) (number : ℕ) : Type 0 where
   pub fields_are : fields ≡ verb ∷ decimal number ∷ []
   pub small : number < 2 ^ 32
+
+-- `ticket` alone
+abbrev pub SpellsTicket : List (List ℕ) → Type 0
+SpellsTicket fields = fields ≡ codes "ticket" ∷ []
 
 -- `restart kms` and `restart nn`
 abbrev pub SpellsRestart : List ℕ → List (List ℕ) → Type 0
@@ -243,6 +247,8 @@ SpellsRestart service fields = fields ≡ codes "restart" ∷ service ∷ []
 -- the fields of a line are the text of the event
 abbrev pub SpellsEvent : List (List ℕ) → Event → Type 0
 SpellsEvent fields (event.Kms user call) = SpellsKms fields user call
+SpellsEvent fields event.Ticket = SpellsTicket fields
+SpellsEvent fields (event.Deposit ticket) = SpellsKept (codes "deposit") fields ticket
 SpellsEvent fields event.RestartKms = SpellsRestart (codes "kms") fields
 SpellsEvent fields event.RestartName = SpellsRestart (codes "nn") fields
 SpellsEvent fields (event.Mkdir user path) = SpellsPath (codes "mkdir") fields user path

@@ -6,7 +6,7 @@ use Rattle.hex.specs.Hex.{encode_lower}
 use Rattle.hk_base.specs.declared.names.Edek.{Edek}
 use Rattle.percent_encoding.specs.Percent.{percent_encode}
 use Rattle.hk_base.specs.declared.names.KeyName.{KeyName}
-use Rattle.hk_base.specs.Names.{version_text}
+use Rattle.hk_base.specs.Names.{Version, version_text}
 use Rattle.name_calls.specs.declared.listing.Child.{Child}
 use Rattle.name_calls.specs.declared.paths.NPath.{NPath}
 use Rattle.name_calls.specs.declared.zone_list.ZonePath.{ZonePath}
@@ -17,6 +17,8 @@ use Rattle.name_calls.specs.declared.calls.NameRefusal.{NameRefusal}
 use Rattle.name_calls.specs.declared.calls.NameRefusal.TheVariants as why
 use Rattle.name_calls.specs.declared.calls.Want.{Want}
 use Rattle.name_calls.specs.declared.calls.Want.TheVariants as want
+use Rattle.eek_seal.specs.declared.deposit.Deposit.{Deposit}
+use Rattle.eek_seal.specs.declared.deposit.Deposit.TheVariants as deposit
 use Rattle.hk_events.specs.declared.event.Line.{Line}
 use Rattle.hk_events.specs.declared.event.Line.TheVariants as line
 use Rattle.replay_text.specs.declared.transcript.TheConstants.{ESCAPED}
@@ -148,20 +150,33 @@ abbrev pub kept_text : Option KmsReply → List ℕ
 kept_text None = codes "nothing"
 kept_text (Some reply) = answer_text reply
 
-abbrev pub told_text : Line → List ℕ
-told_text (line.Kms reply) = answer_text reply
-told_text (line.Opened opening) = codes "opened " ++ decimal opening
-told_text (line.Name reply) = name_text reply
-told_text (line.Asked number note) = codes "ask " ++ decimal number ++ codes " " ++ decimal note.id ++ codes " " ++ want_text note.want
-told_text (line.Replied number reply) = codes "reply " ++ decimal number ++ codes " " ++ kept_text reply
-told_text (line.Refused why) = codes "refused " ++ name_refusal_text why
-told_text line.Unknown = codes "unknown"
+-- a ticket: its number, the version and how many ready keys are wanted
+abbrev pub ticket_text : ℕ → Version → ℕ → List ℕ
+ticket_text number version wanted = codes "ticket " ++ decimal number ++ codes " " ++ version_text version.key version.number ++ codes " " ++ decimal wanted
+
+-- what became of a ready key; if it is stale, the current opening, birth and number of the version are written
+abbrev pub deposit_text : Deposit → List ℕ
+deposit_text deposit.Kept = codes "kept"
+deposit_text (deposit.Stale opening birth number) = codes "stale " ++ decimal opening ++ codes " " ++ decimal birth ++ codes " " ++ decimal number
+deposit_text deposit.Full = codes "full"
+
+abbrev pub outcome_text : Line → List ℕ
+outcome_text (line.Kms reply) = answer_text reply
+outcome_text (line.Ticket number version wanted) = ticket_text number version wanted
+outcome_text line.NoTicket = codes "none"
+outcome_text (line.Deposit outcome) = deposit_text outcome
+outcome_text (line.Opened opening) = codes "opened " ++ decimal opening
+outcome_text (line.Name reply) = name_text reply
+outcome_text (line.Asked number note) = codes "ask " ++ decimal number ++ codes " " ++ decimal note.id ++ codes " " ++ want_text note.want
+outcome_text (line.Replied number reply) = codes "reply " ++ decimal number ++ codes " " ++ kept_text reply
+outcome_text (line.Refused why) = codes "refused " ++ name_refusal_text why
+outcome_text line.Unknown = codes "unknown"
 
 -- the number of the event and its answer
 abbrev pub line_text : ℕ → Line → List ℕ
-line_text number told = decimal number ++ codes " " ++ told_text told ++ codes "\n"
+line_text number outcome = decimal number ++ codes " " ++ outcome_text outcome ++ codes "\n"
 
 -- the answers of events from this number on
 abbrev pub transcript : ℕ → List Line → List ℕ
 transcript number [] = []
-transcript number (told ∷ more) = line_text number told ++ transcript (number + 1) more
+transcript number (outcome ∷ more) = line_text number outcome ++ transcript (number + 1) more

@@ -1,4 +1,4 @@
-//! Lines of asks, draws and finishes.
+//! Lines of deposits, asks, draws and finishes.
 ghost use Rattle.std.specs.Prelude.{◌≡◌, ◌<◌, ◌^◌, ◌∷◌, [], ℕ, List, IfOk, MatchOption, codes};
 ghost use Rattle.std.specs.Fmt.{decimal};
 ghost use Rattle.replay_text.specs.Events.{SpellsAskCreate, SpellsAskZone, SpellsEvent, SpellsKept, fields_of};
@@ -66,6 +66,16 @@ fn read_zone(alloc: Global, user: &[u8], fields: &[u8]) -> Result<Option<Event>,
         return Ok(None);
     };
     Ok(Some(Event::AskZone { user, path, key }))
+}
+
+/// Reads `deposit T`, from after `deposit`.
+pub fn read_deposit(fields: &[u8]) -> Option<Event>
+    ensures { MatchOption result ((ticket : ℕ) → ¬ SpellsKept (codes "deposit") (codes "deposit" ∷ fields_of fields.now) ticket) (SpellsEvent (codes "deposit" ∷ fields_of fields.now)) }
+{
+    let Some(ticket) = only_number(fields) else {
+        return None;
+    };
+    Some(Event::Deposit { ticket })
 }
 
 /// Reads `draw A`, from after `draw`.

@@ -1,11 +1,11 @@
 //! Event lines.
 ghost use Rattle.std.specs.Prelude.{◌≡◌, ◌≢◌, ◌≤◌, ◌⊎◌, ◌∷◌, [], ℕ, List, length, codes, IfOk, MatchOption, MatchResult};
 ghost use Rattle.kms_calls.specs.declared.calls.KmsCall.{KmsCall};
-ghost use Rattle.replay_text.specs.Events.{IsBad, IsPathEvent, IsPathVerb, IsQuiet, IsTwoFieldEvent, IsTwoFieldVerb, Spells, SpellsEvent, SpellsKms, SpellsPath, SpellsRestart, SpellsTwoFields, SpellsZones, fields_of};
+ghost use Rattle.replay_text.specs.Events.{IsBad, IsPathEvent, IsPathVerb, IsQuiet, IsTwoFieldEvent, IsTwoFieldVerb, Spells, SpellsEvent, SpellsKms, SpellsPath, SpellsRestart, SpellsTicket, SpellsTwoFields, SpellsZones, fields_of};
 ghost use Rattle.hk_events.specs.declared.event.Event.{Event};
 ghost use Rattle.hk_events.specs.declared.event.Event.TheVariants as event;
 
-use crate::asks::{read_ask, read_draw, read_finish};
+use crate::asks::{read_ask, read_deposit, read_draw, read_finish};
 use crate::calls::read_call;
 use crate::fields::{cut, only_field, read_escaped, read_user};
 use hk_base::{ByteList, NoMemory, Text};
@@ -45,10 +45,13 @@ fn read_spelled(alloc: Global, line: &[u8]) -> Result<Option<Event>, NoMemory>
 {
     let (first, rest) = cut(line);
     let Some(rest) = rest else {
-        return Ok(None);
+        return Ok(read_bare_event(first));
     };
     if first == b"kms".as_slice() {
         return read_kms_event(alloc, rest);
+    }
+    if first == b"deposit".as_slice() {
+        return Ok(read_deposit(rest));
     }
     if first == b"restart".as_slice() {
         return Ok(read_restart(rest));
@@ -66,6 +69,16 @@ fn read_spelled(alloc: Global, line: &[u8]) -> Result<Option<Event>, NoMemory>
         return Ok(read_finish(rest));
     }
     Ok(None)
+}
+
+/// Returns the event of a line that is one field.
+fn read_bare_event(field: &[u8]) -> Option<Event>
+    ensures { MatchOption result (¬ SpellsTicket (field.now ∷ [])) (SpellsEvent (field.now ∷ [])) }
+{
+    if field == b"ticket".as_slice() {
+        return Some(Event::Ticket);
+    }
+    None
 }
 
 /// Reads `kms U` and a call, from after `kms`.

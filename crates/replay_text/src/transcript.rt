@@ -7,8 +7,9 @@ ghost use Rattle.percent_encoding.specs.Percent.{percent_encode};
 ghost use Rattle.hk_base.specs.Names.{version_text};
 ghost use Rattle.replay_text.specs.declared.transcript.TheConstants.{ESCAPED};
 ghost use Rattle.kms_calls.specs.Refusals.{refusal_text};
-ghost use Rattle.replay_text.specs.Transcript.{answer_text, child_part, edek_field, edek_part, edek_text, escaped_path, kept_text, key_text, line_text, material_text, meta_part, meta_text, name_part, name_refusal_text, name_text, refusal_name, row_front, shown_part, told_text, want_text, zone_part, zone_text};
+ghost use Rattle.replay_text.specs.Transcript.{answer_text, child_part, deposit_text, edek_field, edek_part, edek_text, escaped_path, kept_text, key_text, line_text, material_text, meta_part, meta_text, name_part, name_refusal_text, name_text, refusal_name, row_front, shown_part, outcome_text, ticket_text, want_text, zone_part, zone_text};
 
+use eek_seal::Deposit;
 use hk_base::{ByteList, Dek, Edek, KeyName, NoMemory, VersionName};
 use hk_events::Line;
 use itoa::Buffer;
@@ -31,26 +32,31 @@ pub const ESCAPED: AsciiSet = percent_encoding::ascii_set!(
 pub fn write_line(
     alloc: Global,
     number: u64,
-    told: &Line,
+    outcome: &Line,
     out: &mut ByteList,
 ) -> Result<(), NoMemory>
-    ensures ok { OnOk result (out.new ≡ out.old ++ line_text number told.now) }
+    ensures ok { OnOk result (out.new ≡ out.old ++ line_text number outcome.now) }
     ensures err { OnErr result (out.new ≡ out.old) }
 {
     // The line is appended as a whole, so that no prefix of it is left in `out`.
     let mut line = ByteList::new(alloc);
-    write_parts(alloc, number, told, &mut line)?;
+    write_parts(alloc, number, outcome, &mut line)?;
     out.append(line.as_slice())
 }
 
 /// Appends the line of an event's number and answer. If allocation fails, a prefix of the line may
 /// have been appended.
-fn write_parts(alloc: Global, number: u64, told: &Line, out: &mut ByteList) -> Result<(), NoMemory>
-    ensures { OnOk result (out.new ≡ out.old ++ line_text number told.now) }
+fn write_parts(
+    alloc: Global,
+    number: u64,
+    outcome: &Line,
+    out: &mut ByteList,
+) -> Result<(), NoMemory>
+    ensures { OnOk result (out.new ≡ out.old ++ line_text number outcome.now) }
 {
     write_number(number, out)?;
     out.push(b' ')?;
-    write_told(alloc, told, out)?;
+    write_outcome(alloc, outcome, out)?;
     out.push(b'\n')
 }
 
@@ -61,11 +67,18 @@ fn write_number(number: u64, out: &mut ByteList) -> Result<(), NoMemory>
     out.append(digits.format(number).as_bytes())
 }
 
-fn write_told(alloc: Global, told: &Line, out: &mut ByteList) -> Result<(), NoMemory>
-    ensures { OnOk result (out.new ≡ out.old ++ told_text told.now) }
+fn write_outcome(alloc: Global, outcome: &Line, out: &mut ByteList) -> Result<(), NoMemory>
+    ensures { OnOk result (out.new ≡ out.old ++ outcome_text outcome.now) }
 {
-    match told {
+    match outcome {
         Line::Kms(reply) => write_answer(alloc, reply, out),
+        Line::Ticket {
+            number,
+            version,
+            wanted,
+        } => write_ticket(*number, version, *wanted, out),
+        Line::NoTicket => out.append(b"none"),
+        Line::Deposit(deposit) => write_deposit(deposit, out),
         Line::Opened { opening } => write_opened(*opening, out),
         Line::Name(reply) => write_name_reply(alloc, reply, out),
         Line::Asked { number, note } => write_asked(*number, note, out),
@@ -73,6 +86,50 @@ fn write_told(alloc: Global, told: &Line, out: &mut ByteList) -> Result<(), NoMe
         Line::Refused(why) => write_refused(why, out),
         Line::Unknown => out.append(b"unknown"),
     }
+}
+
+/// Appends a ticket that is kept.
+fn write_ticket(
+    number: u64,
+    version: &VersionName,
+    wanted: u16,
+    out: &mut ByteList,
+) -> Result<(), NoMemory>
+    ensures { OnOk result (out.new ≡ out.old ++ ticket_text number version.now wanted) }
+{
+    out.append(b"ticket ")?;
+    write_number(number, out)?;
+    out.push(b' ')?;
+    version.write(out)?;
+    out.push(b' ')?;
+    write_number(wanted as u64, out)
+}
+
+/// Appends the answer to a deposit.
+fn write_deposit(deposit: &Deposit, out: &mut ByteList) -> Result<(), NoMemory>
+    ensures { OnOk result (out.new ≡ out.old ++ deposit_text deposit.now) }
+{
+    match deposit {
+        Deposit::Kept => out.append(b"kept"),
+        Deposit::Stale {
+            opening,
+            birth,
+            number,
+        } => write_stale(*opening, *birth, *number, out),
+        Deposit::Full => out.append(b"full"),
+    }
+}
+
+/// Appends the answer to a deposit that is stale: the current opening, birth and number of the version.
+fn write_stale(opening: u32, birth: u64, number: u16, out: &mut ByteList) -> Result<(), NoMemory>
+    ensures { OnOk result (out.new ≡ out.old ++ codes "stale " ++ decimal opening ++ codes " " ++ decimal birth ++ codes " " ++ decimal number) }
+{
+    out.append(b"stale ")?;
+    write_number(opening as u64, out)?;
+    out.push(b' ')?;
+    write_number(birth, out)?;
+    out.push(b' ')?;
+    write_number(number as u64, out)
 }
 
 /// Appends the answer to a restart.
