@@ -24,8 +24,8 @@ use Rattle.hkms_commands.proofs.LivedLemmas.{leaves_on, weaker}
 
 -- what may be hidden before a run is hidden beside the first world, which is linked, and whose zone files open
 first_hidden : (sizes : SizeValues) (old new : DiskState) (r : RunningWorld) → Begins sizes old new r → Tells old → (h : Hidden) → HiddenBefore old h → IsHidden (world_of r) h
-first_hidden sizes old new r b told h before =
-    subst (IsHidden (world_of r)) (sym before.is) (record { linked = b.linked told before.past before.sound; files_open = b.files_open told before.past before.sound })
+first_hidden sizes old new r b tells h before =
+    subst (IsHidden (world_of r)) (sym before.is) (record { linked = b.linked tells before.past before.sound; files_open = b.files_open tells before.past before.sound })
 
 -- fewer may have been hidden before
 
@@ -42,9 +42,9 @@ in_weaker A B f done first words (x ∷ earlier) image (inl left) = inl (rests_w
 in_weaker A B f done first words (x ∷ earlier) image (inr (inl left)) = inr (inl (left.0, λ h is. left.1 h (f h is)))
 in_weaker A B f done first words (x ∷ earlier) image (inr (inr left)) = inr (inr (in_weaker A B f done first words earlier image left))
 
-module _ (sizes : SizeValues) (old mid new : DiskState) (r : RunningWorld) (b : Begins sizes old mid r) (told : Tells old) (words : ℕ → ℕ) (h : History) (Cut : Event → Type 0) (done : Acknowledged) where
+module _ (sizes : SizeValues) (old mid new : DiskState) (r : RunningWorld) (b : Begins sizes old mid r) (tells : Tells old) (words : ℕ → ℕ) (h : History) (Cut : Event → Type 0) (done : Acknowledged) where
   linked : (x : Hidden) → HiddenBefore old x → LinkedWorld (world_of r) x
-  linked x before = (first_hidden sizes old mid r b told x before).linked
+  linked x before = (first_hidden sizes old mid r b tells x before).linked
 
   until_kept : (image : Image) → SurvivesUntil Cut done (LinkedWorld (world_of r)) (world_of r) words h image → SurvivesUntil Cut done (HiddenBefore old) (first_world sizes b.table b.names) words h image
   until_kept image left = subst (λ (w : WorldState). SurvivesUntil Cut done (HiddenBefore old) w words h image) b.first (go left)
@@ -68,13 +68,13 @@ module _ (sizes : SizeValues) (old mid new : DiskState) (r : RunningWorld) (b : 
 
   -- the promise on zone files, with a ledger that the files at the start allow
   pub promise_kept : ((x : Hidden) → IsHidden (world_of r) x → FilesOpen x (world_of r) words h) → (x : Hidden) → HiddenBefore old x → FilesOpen x (first_world sizes b.table b.names) words h
-  promise_kept opens x before = subst (λ (w : WorldState). FilesOpen x w words h) b.first (opens x (first_hidden sizes old mid r b told x before))
+  promise_kept opens x before = subst (λ (w : WorldState). FilesOpen x w words h) b.first (opens x (first_hidden sizes old mid r b tells x before))
 
   -- and its draws stay apart
   pub apart_kept : ((x : Hidden) → LinkedWorld (world_of r) x → DrawsApart x → StayApart x (world_of r) words h) → (x : Hidden) → HiddenBefore old x → WordsApart x → StayApart x (first_world sizes b.table b.names) words h
   apart_kept stay x before apart =
       subst (λ (w : WorldState). StayApart x w words h) b.first
-      (stay x (linked x before) (subst DrawsApart (sym before.is) (b.draws_apart told before.past before.sound (subst WordsApart before.is apart))))
+      (stay x (linked x before) (subst DrawsApart (sym before.is) (b.draws_apart tells before.past before.sound (subst WordsApart before.is apart))))
 
 -- why a start failed
 pub not_opened : (old new : DiskState) (result : Result RunningWorld WorldFault) (why : WorldFault) → IsErrOf result why → OpensBoth old new (λ file fault. IsErrOf result (record { file = file; fault = fault }))

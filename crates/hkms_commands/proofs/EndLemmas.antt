@@ -30,7 +30,7 @@ use Rattle.hkms_commands.specs.Lines.{is_line, is_lf, lines_of, text_of}
 use Rattle.hkms_commands.specs.Logs.{LeftByStop, ReadsAs, SurvivesStop}
 use Rattle.hkms_commands.specs.PlayedLines.{PlayedLine, events_of_lines, lines_in, transcript}
 use Rattle.hkms_commands.specs.Run.{History, hidden_in, logged_in, world_after}
-use Rattle.hkms_commands.specs.Replay.{BadNext, ComesNext, CutAt, HasProperties, IsCut, IsSpent, IsTold, NextSpells, ReadsAt, RestartStops, Starts, Stops, ended_by, longest_input}
+use Rattle.hkms_commands.specs.Replay.{BadNext, ComesNext, CutAt, HasProperties, IsCut, IsSpent, IsPrinted, NextSpells, ReadsAt, RestartStops, Starts, Stops, ended_by, longest_input}
 use Rattle.hkms_commands.specs.Steps.{Caused, HasLists, LinePlayed, Next, NextSo, PlaysEvent, PlaysSo, Ran, Read, Stand, StaysQuiet, StopsAtRestart, StopsReading, Untouched, View, counts, end_of_play}
 use Rattle.hkms_commands.proofs.HistoryLemmas.{Begin, Course, SoFar, count_more, course_event, course_quiet, course_untouched, event_line, quiet_line, so_far_event, so_far_quiet}
 use Rattle.hkms_commands.proofs.LivedLemmas.{Lived, has_lists, leaves_on, rests_after, run_on, tells_now, weaker}
@@ -57,8 +57,8 @@ starts left ahead lines so all is =
 -- the next line is this one, and is ended
 next_is : (left before ahead : Option (List ℕ)) (lines : List (List ℕ)) (line : List ℕ) → IsAhead left before lines → is_line line ≡ true → Consumes before ahead (line ++ 10 ∷ [])
     → (all : List ℕ) → left ≡ Some all → (more : List (List ℕ)) × (lines_of all ≡ lines ++ line ∷ more)
-next_is left before ahead lines line so is consumed all told =
-    let rest = after_text left ahead _ (Consumes-trans left before ahead _ _ so.consumed consumed) all told in (
+next_is left before ahead lines line so is consumed all telling =
+    let rest = after_text left ahead _ (Consumes-trans left before ahead _ _ so.consumed consumed) all telling in (
       lines_of rest.0,
       ap lines_of (rest.2 ∙ append_assoc (text_of lines) (line ++ 10 ∷ []) rest.0) ∙ split_text lines ((line ++ 10 ∷ []) ++ rest.0) so.whole
           ∙ ap (λ l. lines ++ l) (ap lines_of (append_assoc line (10 ∷ []) rest.0) ∙ split_ended line rest.0 is),
@@ -67,8 +67,8 @@ next_is left before ahead lines line so is consumed all told =
 -- the same of the last line
 last_is : (left before ahead : Option (List ℕ)) (lines : List (List ℕ)) (line : List ℕ) → IsAhead left before lines → is_line line ≡ true → Consumes before ahead line → IsAtEnd ahead
     → (all : List ℕ) → left ≡ Some all → lines_of all ≡ lines ++ line ∷ []
-last_is left before ahead lines line so is consumed end all told =
-    let rest = after_text left ahead _ (Consumes-trans left before ahead _ _ so.consumed consumed) all told in
+last_is left before ahead lines line so is consumed end all telling =
+    let rest = after_text left ahead _ (Consumes-trans left before ahead _ _ so.consumed consumed) all telling in
     let none : rest.0 ≡ [] = subst IsAtEnd rest.1 end in
     ap lines_of (rest.2 ∙ ap (λ r. (text_of lines ++ line) ++ r) none ∙ append-nil (text_of lines ++ line)) ∙ split_text lines line so.whole ∙ ap (λ l. lines ++ l) (split_last line is)
 
@@ -77,7 +77,7 @@ record IsNext (left : Option (List ℕ)) (lines : List (List ℕ)) (line : List 
   next : (all : List ℕ) → left ≡ Some all → (more : List (List ℕ)) × (lines_of all ≡ lines ++ line ∷ more)
 
 begins : (left : Option (List ℕ)) (lines : List (List ℕ)) (line : List ℕ) → IsNext left lines line → (all : List ℕ) → left ≡ Some all → Starts all (lines ++ line ∷ [])
-begins left lines line n all told = let next = n.next all told in (next.0, next.1 ∙ sym (append_assoc lines (line ∷ []) next.0))
+begins left lines line n all telling = let next = n.next all telling in (next.0, next.1 ∙ sym (append_assoc lines (line ∷ []) next.0))
 
 too_long_is_bad : (line : List ℕ) → longest_line < length line → IsBad line
 too_long_is_bad [] long = absurd (omega arith)
@@ -88,8 +88,8 @@ too_long_is_bad (b ∷ bs) long = record {
 
 too_long : (left before ahead : Option (List ℕ)) (lines : List (List ℕ)) (line : List ℕ) → IsAhead left before lines → is_line line ≡ true → Consumes before ahead line → length line ≡ 1048577
     → (all : List ℕ) → left ≡ Some all → BadNext all lines
-too_long left before ahead lines line so is consumed long all told =
-    let rest = after_text left ahead _ (Consumes-trans left before ahead _ _ so.consumed consumed) all told in
+too_long left before ahead lines line so is consumed long all telling =
+    let rest = after_text left ahead _ (Consumes-trans left before ahead _ _ so.consumed consumed) all telling in
     let more = parts rest.0 in
     let split : lines_of all ≡ lines ++ (line ++ more.0) ∷ more.1 =
     ap lines_of (rest.2 ∙ append_assoc (text_of lines) line rest.0) ∙ split_text lines (line ++ rest.0) so.whole ∙ ap (λ l. lines ++ l) (split_on line rest.0 more.0 more.1 is more.2) in
@@ -97,13 +97,13 @@ too_long left before ahead lines line so is consumed long all told =
 
 past : (left before ahead : Option (List ℕ)) (lines : List (List ℕ)) (line : List ℕ) (used0 used : ℕ) → IsAhead left before lines → is_line line ≡ true → Consumes before ahead line → used0 ≡ length (text_of lines)
     → used ≡ used0 + length line → used ≡ 2 ^ 40 → IsMore ahead → (all : List ℕ) → left ≡ Some all → BadNext all lines
-past left before ahead lines line used0 used so is consumed used0_is used_is long more all told =
-    let rest = after_text left ahead _ (Consumes-trans left before ahead _ _ so.consumed consumed) all told in
+past left before ahead lines line used0 used so is consumed used0_is used_is long more all telling =
+    let rest = after_text left ahead _ (Consumes-trans left before ahead _ _ so.consumed consumed) all telling in
     let front = text_of lines ++ line in
     let some : 0 < length rest.0 = subst IsMore rest.1 more in
     let whole : length front ≡ longest_input = omega (arith, length-append (text_of lines) line, used0_is, used_is, long) in
     inr (
-      starts left before lines so all told,
+      starts left before lines so all telling,
       record {
         long = omega (arith, ap length rest.2, length-append front rest.0, some, whole);
         place = ap (count_by is_lf) (ap (take longest_input) rest.2 ∙ ap (λ n. take n (front ++ rest.0)) (sym whole) ∙ take-append_seam front rest.0) ∙ count_lf lines line so.whole is;
@@ -128,30 +128,30 @@ reads_at ended.WriteFault left lines d done w r = r
 reads_at ended.Spent left lines d done w r = tt
 
 -- a prefix of the transcript that is all of it
-all_told : (stop : ReplayEnd) (text told : List ℕ) → text ≡ told → IsTold stop text told
-all_told ended.Done text told is = is
-all_told (ended.AclRefused number) text told is = is
-all_told (ended.AclRepeated number) text told is = is
-all_told (ended.AclUnknown number) text told is = is
-all_told ended.AclTooLong text told is = is
-all_told ended.BadLine text told is = is
-all_told (ended.DamagedKeys at) text told is = is
-all_told (ended.DamagedNames at) text told is = is
-all_told ended.StoreFault text told is = is
-all_told ended.NoMemory text told is = ([], append-nil text ∙ is)
-all_told ended.ReadFault text told is = is
-all_told ended.WriteFault text told is = ([], append-nil text ∙ is)
-all_told ended.Spent text told is = is
+all_printed : (stop : ReplayEnd) (text printed : List ℕ) → text ≡ printed → IsPrinted stop text printed
+all_printed ended.Done text printed is = is
+all_printed (ended.AclRefused number) text printed is = is
+all_printed (ended.AclRepeated number) text printed is = is
+all_printed (ended.AclUnknown number) text printed is = is
+all_printed ended.AclTooLong text printed is = is
+all_printed ended.BadLine text printed is = is
+all_printed (ended.DamagedKeys at) text printed is = is
+all_printed (ended.DamagedNames at) text printed is = is
+all_printed ended.StoreFault text printed is = is
+all_printed ended.NoMemory text printed is = ([], append-nil text ∙ is)
+all_printed ended.ReadFault text printed is = is
+all_printed ended.WriteFault text printed is = ([], append-nil text ∙ is)
+all_printed ended.Spent text printed is = is
 
 -- an end that neither a restart nor the properties bring about
 IsPlain : ReplayEnd → Type 0
 IsPlain stop = ((left : Option (List ℕ)) (lines : List (List ℕ)) (w : WorldState) → RestartStops stop left lines w) × HasProperties stop
 
 ran : (props : List PropLine) (old new : DiskState) (b : Begin) (v : View) (count : ℕ) (stop : ReplayEnd) (played : List PlayedLine) → Course props old new b v played → count ≡ length (lines_in played) → (text : List ℕ) (now : Option (List ℕ)) → IsPlain stop
-    → Appends b.written now text → IsTold stop text (transcript (events_of_lines played)) → ((all : List ℕ) → b.left ≡ Some all → Stops stop all (lines_in played))
+    → Appends b.written now text → IsPrinted stop text (transcript (events_of_lines played)) → ((all : List ℕ) → b.left ≡ Some all → Stops stop all (lines_in played))
     → Ran props old new b.world b.words v.words b.left b.written now stop count
 unfolding IsPlain
-ran props old new b v count stop played so counted text now plain wrote told here = record {
+ran props old new b v count stop played so counted text now plain wrote printed here = record {
   played = played;
   spelled = so.spelled;
   runs = so.lived.runs;
@@ -170,7 +170,7 @@ ran props old new b v count stop played so counted text now plain wrote told her
   stops = here;
   text = text;
   wrote = wrote;
-  told = told;
+  printed = printed;
   counted = counted;
 }
   where
@@ -181,34 +181,36 @@ ran props old new b v count stop played so counted text now plain wrote told her
 stops_before : (props : List PropLine) (old mid new : DiskState) (b : Begin) (s : Stand) (stop : ReplayEnd) (v : View) (so : SoFar props old mid b s) → Untouched mid new s.view v → IsPlain stop
     → ((all : List ℕ) → b.left ≡ Some all → Stops stop all (lines_in so.played)) → Ran props old new b.world b.words v.words b.left b.written v.written stop s.count
 stops_before props old mid new b s stop v so u plain here =
-    let told : List ℕ = transcript (events_of_lines so.played) in
-    ran props old new b v s.count stop so.played (course_untouched props old mid new b s.view v so.played so.course u) so.counted told v.written plain
-    (subst (λ (x : View). Appends b.written x.written told) (sym u.same) so.wrote) (all_told stop told told refl) here
+    let printed : List ℕ = transcript (events_of_lines so.played) in
+    ran props old new b v s.count stop so.played (course_untouched props old mid new b s.view v so.played so.course u) so.counted printed v.written plain
+    (subst (λ (x : View). Appends b.written x.written printed) (sym u.same) so.wrote) (all_printed stop printed printed refl) here
 
 -- after a quiet line
 stops_quiet : (props : List PropLine) (old mid new : DiskState) (b : Begin) (s : Stand) (stop : ReplayEnd) (line : List ℕ) (v : View) (so : SoFar props old mid b s) → StaysQuiet mid new s.view line v → is_line line ≡ true → IsPlain stop
     → ((all : List ℕ) → b.left ≡ Some all → Stops stop all (lines_in so.played ++ line ∷ [])) → Ran props old new b.world b.words v.words b.left b.written v.written stop (s.count + 1)
 stops_quiet props old mid new b s stop line v so stays is plain here =
-    let told : List ℕ = transcript (events_of_lines so.played) in
-    ran props old new b v (s.count + 1) stop (quiet_line line ∷ so.played) (course_quiet props old mid new b s.view v line so.played so.course stays is) (count_more s.count (lines_in so.played) line so.counted) told v.written plain
-    (subst (λ (x : View). Appends b.written x.written told) (sym stays.untouched.same) so.wrote) (all_told stop told told refl) here
+    let printed : List ℕ = transcript (events_of_lines so.played) in
+    ran props old new b v (s.count + 1) stop (quiet_line line ∷ so.played) (course_quiet props old mid new b s.view v line so.played so.course stays is) (count_more s.count (lines_in so.played) line so.counted) printed v.written plain
+    (subst (λ (x : View). Appends b.written x.written printed) (sym stays.untouched.same) so.wrote) (all_printed stop printed printed refl) here
 
 -- after a line whose event happened, of whose answer this much was written
 stops_behind : (props : List PropLine) (old mid new : DiskState) (b : Begin) (s : Stand) (stop : ReplayEnd) (line : List ℕ) (v : View) (text : List ℕ) (so : SoFar props old mid b s) → (plays : PlaysEvent props mid new s.view line v)
     → is_line line ≡ true → IsPlain stop → Appends s.view.written v.written text
-    → IsTold stop (transcript (events_of_lines so.played) ++ text) (transcript (events_of_lines so.played) ++ line_text (s.view.events + 1) plays.reply)
+    → IsPrinted stop (transcript (events_of_lines so.played) ++ text) (transcript (events_of_lines so.played) ++ line_text (s.view.events + 1) plays.reply)
     → ((all : List ℕ) → b.left ≡ Some all → Stops stop all (lines_in so.played ++ line ∷ []))
     → Ran props old new b.world b.words v.words b.left b.written v.written stop (s.count + 1)
-stops_behind props old mid new b s stop line v text so plays is plain wrote told here =
+stops_behind props old mid new b s stop line v text so plays is plain wrote printed here =
     let before : List ℕ = transcript (events_of_lines so.played) in
     ran props old new b v (s.count + 1) stop (event_line plays ∷ so.played) (course_event props old mid new b s.view v line so.played so.course plays is) (count_more s.count (lines_in so.played) line so.counted) (before ++ text) v.written plain
-    (Appends-trans b.written s.view.written v.written _ _ so.wrote wrote) (subst (λ (n : ℕ). IsTold stop (before ++ text) (before ++ line_text (n + 1) plays.reply)) so.course.numbered told) here
+    (Appends-trans b.written s.view.written v.written _ _ so.wrote wrote) (subst (λ (n : ℕ). IsPrinted stop (before ++ text) (before ++ line_text (n + 1) plays.reply)) so.course.numbered printed) here
 
 -- at a restart that could not open its log
 
 -- which restart it was
 which_restart : (e : Event) (file : ℕ) → is_restart e file → ((e ≡ event.RestartKms) × (file ≡ 0)) ⊎ ((e ≡ event.RestartName) × (file ≡ 1))
 which_restart (event.Kms user c) file r = absurd r
+which_restart event.Ticket file r = absurd r
+which_restart (event.Deposit n) file r = absurd r
 which_restart event.RestartKms file r = inl (refl, r)
 which_restart event.RestartName file r = inr (refl, r)
 which_restart (event.Mkdir user path) file r = absurd r
@@ -295,7 +297,7 @@ restart_next e file f all lines r next =
 
 -- the line that comes next spells this event
 spelled_next : (left : Option (List ℕ)) (lines : List (List ℕ)) (line : List ℕ) (e : Event) → IsNext left lines line → Spells line e → ComesNext left lines e
-spelled_next left lines line e next spells = λ all told. let n = next.next all told in (line, n.0, n.1, spells)
+spelled_next left lines line e next spells = λ all telling. let n = next.next all telling in (line, n.0, n.1, spells)
 
 -- it is a restart of either service
 cut_next : (left : Option (List ℕ)) (lines : List (List ℕ)) (e : Event) (file : ℕ) → is_restart e file → ComesNext left lines e → IsCut left lines
@@ -323,10 +325,10 @@ stops_at_restart props old mid new b s line fault v so at wrote next = record {
       let last = at.fails.spent is (tells_now old mid lived.run tells) in
       subst (IsSpent b.left lines) lived.world_is (spent_is b.left lines at.restart fault.file (world_of s.view.world) last.0 at.fails.restart comes last.1));
   has_properties = has fault.file fault.fault;
-  stops = λ all told. restart_next at.restart fault.file fault.fault all lines at.fails.restart (comes all told);
+  stops = λ all telling. restart_next at.restart fault.file fault.fault all lines at.fails.restart (comes all telling);
   text = transcript h;
   wrote = subst (Appends b.written v.written) (append-nil (transcript h)) (Appends-trans b.written s.view.written v.written _ _ so.wrote wrote);
-  told = all_told (ended_by fault.file fault.fault) (transcript h) (transcript h) refl;
+  printed = all_printed (ended_by fault.file fault.fault) (transcript h) (transcript h) refl;
   counted = so.counted;
 }
   where
@@ -389,14 +391,14 @@ line_stops props old mid new b s line last v count stop so p is next whole = go 
     go Played true p is_end n whole = subst (λ (e : ReplayEnd). Goal count e) (sym (the_end stop ended.Done is_end)) (subst (λ (k : ℕ). Goal k ended.Done) (sym n) (played p (whole refl)))
     go BadLine last (bad, u) is_end n whole =
         subst (λ (e : ReplayEnd). Goal count e) (sym (the_end stop ended.BadLine (is_end ∙ bad_end last))) (subst (λ (k : ℕ). Goal k ended.BadLine) (sym (n ∙ omega arith))
-        (stops_before props old mid new b s ended.BadLine v so u ((λ left lines w. tt), tt) (λ all told. let at = next.next all told in inl (line, at.0, at.1, bad))))
+        (stops_before props old mid new b s ended.BadLine v so u ((λ left lines w. tt), tt) (λ all reply. let at = next.next all reply in inl (line, at.0, at.1, bad))))
       where
         bad_end : (l : Bool) → end_of_play l BadLine ≡ Some ended.BadLine
         bad_end true = refl
         bad_end false = refl
     go Unread last u is_end n whole =
         subst (λ (e : ReplayEnd). Goal count e) (sym (the_end stop ended.NoMemory (is_end ∙ no_end last))) (subst (λ (k : ℕ). Goal k ended.NoMemory) (sym (n ∙ omega arith))
-        (stops_before props old mid new b s ended.NoMemory v so u ((λ left lines w. tt), tt) (λ all told. let at = next.next all told in (line ∷ at.0, at.1))))
+        (stops_before props old mid new b s ended.NoMemory v so u ((λ left lines w. tt), tt) (λ all reply. let at = next.next all reply in (line ∷ at.0, at.1))))
       where
         no_end : (l : Bool) → end_of_play l Unread ≡ Some ended.NoMemory
         no_end true = refl
@@ -404,7 +406,7 @@ line_stops props old mid new b s line last v count stop so p is next whole = go 
     go Untold last (plays, wrote) is_end n whole =
         subst (λ (e : ReplayEnd). Goal count e) (sym (the_end stop ended.NoMemory (is_end ∙ no_end last))) (subst (λ (k : ℕ). Goal k ended.NoMemory) (sym n)
         (stops_behind props old mid new b s ended.NoMemory line v [] so plays is ((λ left lines w. tt), tt) wrote
-        (line_text (s.view.events + 1) plays.reply, ap (λ (t : List ℕ). t ++ line_text (s.view.events + 1) plays.reply) (append-nil before)) (λ all told. begins b.left lines line next all told)))
+        (line_text (s.view.events + 1) plays.reply, ap (λ (t : List ℕ). t ++ line_text (s.view.events + 1) plays.reply) (append-nil before)) (λ all reply. begins b.left lines line next all reply)))
       where
         no_end : (l : Bool) → end_of_play l Untold ≡ Some ended.NoMemory
         no_end true = refl
@@ -412,7 +414,7 @@ line_stops props old mid new b s line last v count stop so p is next whole = go 
     go Unwritten last (plays, wrote) is_end n whole =
         subst (λ (e : ReplayEnd). Goal count e) (sym (the_end stop ended.WriteFault (is_end ∙ no_end last))) (subst (λ (k : ℕ). Goal k ended.WriteFault) (sym n)
         (stops_behind props old mid new b s ended.WriteFault line v wrote.front so plays is ((λ left lines w. tt), tt) wrote.wrote
-        (wrote.more, append_assoc before wrote.front wrote.more ∙ ap (λ (t : List ℕ). before ++ t) wrote.whole) (λ all told. begins b.left lines line next all told)))
+        (wrote.more, append_assoc before wrote.front wrote.more ∙ ap (λ (t : List ℕ). before ++ t) wrote.whole) (λ all reply. begins b.left lines line next all reply)))
       where
         no_end : (l : Bool) → end_of_play l Unwritten ≡ Some ended.WriteFault
         no_end true = refl
@@ -452,15 +454,15 @@ next_stops props old mid new b s s' stop so n = go n.how n.read n.next
     go : (how : LineEnd) → Read s how n.line s' → NextSo props mid new s how n.line (Some stop) s' → Ran props old new b.world b.words s'.view.words b.left b.written s'.view.written stop s'.count
     go line_end.Line read played =
         line_stops props old mid new b s n.line false s'.view s'.count stop so played read.is_line
-        (record { next = λ all told. next_is b.left s.ahead s'.ahead lines n.line ahead read.is_line (read.consumed (λ e. cc)) all told }) (λ e. absurd cc)
+        (record { next = λ all telling. next_is b.left s.ahead s'.ahead lines n.line ahead read.is_line (read.consumed (λ e. cc)) all telling }) (λ e. absurd cc)
     go line_end.End read played =
-        let whole = λ (all : List ℕ) (told : b.left ≡ Some all). last_is b.left s.ahead s'.ahead lines n.line ahead read.is_line (read.consumed (λ e. cc)) (read.end refl) all told in
-        line_stops props old mid new b s n.line true s'.view s'.count stop so played read.is_line (record { next = λ all told. ([], whole all told) }) (λ e. whole)
-    go line_end.TooLong read r = ends ended.BadLine ((λ left lines w. tt), tt) r (λ all told. too_long b.left s.ahead s'.ahead lines n.line ahead read.is_line (read.consumed (λ e. cc)) (read.long refl) all told)
+        let whole = λ (all : List ℕ) (telling : b.left ≡ Some all). last_is b.left s.ahead s'.ahead lines n.line ahead read.is_line (read.consumed (λ e. cc)) (read.end refl) all telling in
+        line_stops props old mid new b s n.line true s'.view s'.count stop so played read.is_line (record { next = λ all telling. ([], whole all telling) }) (λ e. whole)
+    go line_end.TooLong read r = ends ended.BadLine ((λ left lines w. tt), tt) r (λ all telling. too_long b.left s.ahead s'.ahead lines n.line ahead read.is_line (read.consumed (λ e. cc)) (read.long refl) all telling)
     go line_end.Past read r =
-        ends ended.BadLine ((λ left lines w. tt), tt) r (λ all told. past b.left s.ahead s'.ahead lines n.line s.used s'.used ahead read.is_line (read.consumed (λ e. cc)) so.used_is (read.used (λ e. cc)) (read.past refl).0 (read.past refl).1 all told)
-    go line_end.Fault read r = ends ended.ReadFault ((λ left lines w. tt), tt) r (λ all told. starts b.left s.ahead lines ahead all told)
-    go line_end.NoMemory read r = ends ended.NoMemory ((λ left lines w. tt), tt) r (λ all told. starts b.left s.ahead lines ahead all told)
+        ends ended.BadLine ((λ left lines w. tt), tt) r (λ all telling. past b.left s.ahead s'.ahead lines n.line s.used s'.used ahead read.is_line (read.consumed (λ e. cc)) so.used_is (read.used (λ e. cc)) (read.past refl).0 (read.past refl).1 all telling)
+    go line_end.Fault read r = ends ended.ReadFault ((λ left lines w. tt), tt) r (λ all telling. starts b.left s.ahead lines ahead all telling)
+    go line_end.NoMemory read r = ends ended.NoMemory ((λ left lines w. tt), tt) r (λ all telling. starts b.left s.ahead lines ahead all telling)
 
 -- the next line was played, and the replay goes on
 pub record GoesFurther (props : List PropLine) (old new : DiskState) (b : Begin) (s s' : Stand) : Type 0 where
@@ -517,9 +519,9 @@ pub stands_under : (old mid : DiskState) (b : Begin) (s : Stand) → SoFarUnder 
 stands_under old mid b s so some stands tells =
     let here = so some.0 some.1 in
     let lived = here.course.lived in
-    let told : Tells old = subst (λ (t : Bool). IsTrue t) lived.run.tells tells in
-    let before = stands told in
-    (also before.0 (logged_in (events_of_lines here.played)), lived.stands told before.0 before.1)
+    let telling : Tells old = subst (λ (t : Bool). IsTrue t) lived.run.tells tells in
+    let before = stands telling in
+    (also before.0 (logged_in (events_of_lines here.played)), lived.stands telling before.0 before.1)
 
 pub lists_under : (old mid : DiskState) (b : Begin) (s : Stand) → SoFarUnder old mid b s → (props : List PropLine) × HasLists b.world props → (props : List PropLine) × HasLists s.view.world props
 lists_under old mid b s so some = (some.0, has_lists b.world s.view.world some.0 (so some.0 some.1).course.lived.lists some.1)

@@ -24,7 +24,7 @@ use Rattle.hkms_commands.specs.Properties.{HasPropsFault, ReadsProperties}
 use Rattle.hkms_commands.specs.Logs.{OnDisk, opened_logs}
 use Rattle.hkms_commands.specs.PlayedLines.{events_of_lines, lines_in, transcript}
 use Rattle.hkms_commands.specs.Run.{History, Runs, logged_in, world_after}
-use Rattle.hkms_commands.specs.Replay.{CutAt, IsTold, Played, ReadsAt, Replay, ReplayUnder, RestartStops, Says, ended_by, ended_by_props, ended_by_text, last_line, status_of}
+use Rattle.hkms_commands.specs.Replay.{CutAt, IsPrinted, Played, ReadsAt, Replay, ReplayUnder, RestartStops, Says, ended_by, ended_by_props, ended_by_text, last_line, status_of}
 use Rattle.hkms_commands.specs.Steps.{Caused, Closes, Ran}
 use Rattle.hkms_commands.proofs.BeganLemmas.{apart_kept, last_kept, promise_kept, survives_kept}
 use Rattle.hkms_commands.proofs.LivedLemmas.{tells_now}
@@ -32,26 +32,26 @@ use Rattle.hkms_commands.proofs.LivedLemmas.{tells_now}
 -- the text written after a body
 
 -- all that is written in a replay
-record Wrote (stop how : ReplayEnd) (lines : ℕ) (told : List ℕ) (written now : Option (List ℕ)) : Type 0 where
+record Wrote (stop how : ReplayEnd) (lines : ℕ) (printed : List ℕ) (written now : Option (List ℕ)) : Type 0 where
   text : List ℕ
   wrote : Appends written now text
-  says : Says stop how lines told text
+  says : Says stop how lines printed text
 
-closed : (stop how : ReplayEnd) (lines : ℕ) (told body : List ℕ) (written mid now : Option (List ℕ)) → IsTold stop body told → Appends written mid body → Closes stop lines mid now how → Wrote stop how lines told written now
-closed stop how lines told body written mid now is wrote c = go c.writes
+closed : (stop how : ReplayEnd) (lines : ℕ) (printed body : List ℕ) (written mid now : Option (List ℕ)) → IsPrinted stop body printed → Appends written mid body → Closes stop lines mid now how → Wrote stop how lines printed written now
+closed stop how lines printed body written mid now is wrote c = go c.writes
   where
-    go : ((how ≡ c.last) × Appends mid now (last_line c.last lines)) ⊎ ((how ≡ ended.WriteFault) × WroteFront mid now (last_line c.last lines)) → Wrote stop how lines told written now
+    go : ((how ≡ c.last) × Appends mid now (last_line c.last lines)) ⊎ ((how ≡ ended.WriteFault) × WroteFront mid now (last_line c.last lines)) → Wrote stop how lines printed written now
     go (inl (end, more)) = record {
       text = body ++ last_line c.last lines;
       wrote = Appends-trans written mid now _ _ wrote more;
-      says = record { body = body; is_told = is; last = c.last; last_is = c.last_is; closes = inl (end, refl) };
+      says = record { body = body; is_printed = is; last = c.last; last_is = c.last_is; closes = inl (end, refl) };
     }
     go (inr (end, front)) = record {
       text = body ++ front.front;
       wrote = Appends-trans written mid now _ _ wrote front.wrote;
       says = record {
         body = body;
-        is_told = is;
+        is_printed = is;
         last = c.last;
         last_is = c.last_is;
         closes = inr (end, (front.more, append_assoc body front.front front.more ∙ ap (λ (l : List ℕ). body ++ l) front.whole));
@@ -72,36 +72,36 @@ stopped_by stop lines written now how fault c no_memory no_write is = go c.write
 
 -- a log could not be opened
 
-nothing_told : (file : ℕ) (f : StartFault) → IsTold (ended_by file f) [] []
-nothing_told zero (start.Damaged at) = refl
-nothing_told (suc n) (start.Damaged at) = refl
-nothing_told file start.StoreFault = refl
-nothing_told file start.NoMemory = ([], refl)
-nothing_told file start.Spent = refl
+nothing_printed : (file : ℕ) (f : StartFault) → IsPrinted (ended_by file f) [] []
+nothing_printed zero (start.Damaged at) = refl
+nothing_printed (suc n) (start.Damaged at) = refl
+nothing_printed file start.StoreFault = refl
+nothing_printed file start.NoMemory = ([], refl)
+nothing_printed file start.Spent = refl
 
 pub unopened : (props : Props) (same : Type 0) (old new : DiskState) (words words' : ℕ → ℕ) (left written now : Option (List ℕ)) (file : ℕ) (fault : StartFault) (how : ReplayEnd) → OpensBoth old new (FailsAt file fault) → same
     → Closes (ended_by file fault) 0 written now how → ReplayUnder props same old new words words' left written now how
 unopened props same old new words words' left written now file fault how not untouched c =
-    let w = closed (ended_by file fault) how 0 [] [] written written now (nothing_told file fault) (Appends-nil written) c in
+    let w = closed (ended_by file fault) how 0 [] [] written written now (nothing_printed file fault) (Appends-nil written) c in
     inl (record { file = file; fault = fault; not_opened = not; untouched = untouched; text = w.text; wrote = w.wrote; says = w.says })
 
 -- the properties could not be read
 
-nothing_told_of_text : (f : PropFault) → IsTold (ended_by_text f) [] []
-nothing_told_of_text (prop_fault.BadLine number) = refl
-nothing_told_of_text (prop_fault.Repeated number) = refl
-nothing_told_of_text (prop_fault.UnknownName number) = refl
-nothing_told_of_text prop_fault.TooLong = refl
-nothing_told_of_text prop_fault.NoMemory = ([], refl)
+nothing_printed_of_text : (f : PropFault) → IsPrinted (ended_by_text f) [] []
+nothing_printed_of_text (prop_fault.BadLine number) = refl
+nothing_printed_of_text (prop_fault.Repeated number) = refl
+nothing_printed_of_text (prop_fault.UnknownName number) = refl
+nothing_printed_of_text prop_fault.TooLong = refl
+nothing_printed_of_text prop_fault.NoMemory = ([], refl)
 
-nothing_told_of_props : (f : PropsFault) → IsTold (ended_by_props f) [] []
-nothing_told_of_props props_fault.ReadFault = refl
-nothing_told_of_props (props_fault.TextFault f) = nothing_told_of_text f
+nothing_printed_of_props : (f : PropsFault) → IsPrinted (ended_by_props f) [] []
+nothing_printed_of_props props_fault.ReadFault = refl
+nothing_printed_of_props (props_fault.TextFault f) = nothing_printed_of_text f
 
 pub bad_properties : (same_disk same : Type 0) (old new : DiskState) (acls acls' : Option (List ℕ)) (words words' : ℕ → ℕ) (left written now : Option (List ℕ)) (fault : PropsFault) (how : ReplayEnd)
     → HasPropsFault acls fault → same_disk × same → Closes (ended_by_props fault) 0 written now how → Replay same_disk same old new acls acls' words words' left written now how
 bad_properties same_disk same old new acls acls' words words' left written now fault how has untouched c =
-    let w = closed (ended_by_props fault) how 0 [] [] written written now (nothing_told_of_props fault) (Appends-nil written) c in
+    let w = closed (ended_by_props fault) how 0 [] [] written written now (nothing_printed_of_props fault) (Appends-nil written) c in
     inl (record { fault = fault; has_fault = has; untouched = untouched; text = w.text; wrote = w.wrote; says = w.says })
 
 pub has_read : (same_disk same : Type 0) (old new : DiskState) (acls acls' : Option (List ℕ)) (words words' : ℕ → ℕ) (left written now : Option (List ℕ)) (how : ReplayEnd) (props : Props)
@@ -110,10 +110,10 @@ has_read same_disk same old new acls acls' words words' left written now how pro
 
 -- lines were played
 
-pub played : (props : Props) (same : Type 0) (old mid new : DiskState) (r : RunningWorld) (words words' : ℕ → ℕ) (left written told now : Option (List ℕ)) (stop how : ReplayEnd) (count : ℕ) → Begins props.sizes old mid r
+pub played : (props : Props) (same : Type 0) (old mid new : DiskState) (r : RunningWorld) (words words' : ℕ → ℕ) (left written between now : Option (List ℕ)) (stop how : ReplayEnd) (count : ℕ) → Begins props.sizes old mid r
     → (Tells old → LeavesBoth old mid (LeftByStarts old)) → RunBoth old mid
-    → Ran props.lines mid new r words words' left written told stop count → Closes stop count told now how → ReplayUnder props same old new words words' left written now how
-played props same old mid new r words words' left written told now stop how count b moments run ran c =
+    → Ran props.lines mid new r words words' left written between stop count → Closes stop count between now how → ReplayUnder props same old new words words' left written now how
+played props same old mid new r words words' left written between now stop how count b moments run ran c =
     inr (record { played_lines = ran.played; stop = stop; played = whole; rest = ran.rest; text = w.text; wrote = w.wrote; says = w.says })
   where
     h : History
@@ -129,7 +129,7 @@ played props same old mid new r words words' left written told now stop how coun
     first = first_world props.sizes b.table b.names
 
     w : Wrote stop how (length lines_played) (transcript h) written now
-    w = subst (λ (n : ℕ). Wrote stop how n (transcript h) written now) ran.counted (closed stop how count (transcript h) ran.text written told now ran.told ran.wrote c)
+    w = subst (λ (n : ℕ). Wrote stop how n (transcript h) written now) ran.counted (closed stop how count (transcript h) ran.text written between now ran.printed ran.wrote c)
 
     same_tells : Tells mid ≡ Tells old
     same_tells = ap (λ (t : Bool). IsTrue t) run.tells

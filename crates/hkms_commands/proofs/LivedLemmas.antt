@@ -3,7 +3,7 @@ use Rattle.std.proofs.Common.{◌≡◌, ◌≤◌, inl, inr, ℕ, ◌+◌, List
 use Rattle.hk_base.specs.Disk.{DiskState, Image, IsImage, Tells}
 use Rattle.hk_base.specs.Faults.{Rose}
 use Rattle.kms_acls.specs.Lists.{Lists}
-use Rattle.kms_acls.specs.StandsFor.{StandsFor as ListsFor}
+use Rattle.kms_acls.specs.Agreement.{AreListsOf}
 use Rattle.prop_text.specs.declared.lines.PropLine.{PropLine}
 use Rattle.hk_events.specs.declared.event.Event.{Event}
 use Rattle.hk_events.specs.declared.event.Event.TheVariants as event
@@ -21,7 +21,7 @@ use Rattle.hkms_commands.specs.Steps.{HasLists, SameLists, Untouched, View}
 -- runs of calls on both files
 
 pub tells_now : (old new : DiskState) → RunBoth old new → Tells old → Tells new
-tells_now old new run told = subst (λ b. IsTrue b) (sym run.tells) told
+tells_now old new run telling = subst (λ b. IsTrue b) (sym run.tells) telling
 
 pub run_on : (old mid new : DiskState) → RunBoth old mid → RunBoth mid new → RunBoth old new
 run_on old mid new a b = record {
@@ -60,7 +60,7 @@ pub lists_on : (r r' r'' : RunningWorld) → SameLists r r' → SameLists r' r''
 lists_on r r' r'' before now = now ∙ before
 
 pub has_lists : (r r' : RunningWorld) (props : List PropLine) → SameLists r r' → HasLists r props → HasLists r' props
-has_lists r r' props same has = subst (λ (l : Lists). ListsFor l props) (sym same) has
+has_lists r r' props same has = subst (λ (l : Lists). AreListsOf l props) (sym same) has
 
 -- the draws by the end of a history are apart
 apart_last : (before : Hidden) (first : WorldState) (words : ℕ → ℕ) (history : History) → StayApart before first words history → DrawsApart (hidden_in before first words history)
@@ -86,11 +86,11 @@ pub record Lived (props : List PropLine) (old new : DiskState) (first : RunningW
 pub lived_nothing : (props : List PropLine) (d : DiskState) (r : RunningWorld) (words words' : ℕ → ℕ) → ((k : ℕ) → words' k ≡ words k) → Lived props d d r words r words' []
 lived_nothing props d r words words' same = record {
   runs = tt;
-  linked = λ told h linked. linked;
-  files_open = λ told h hidden. hidden;
-  draws_apart = λ told h linked apart. apart;
-  stands = λ told done holds. subst (λ (a : Acknowledged). HoldsLogs d r a) (sym (also_nothing done)) holds;
-  survives = λ told done holds. nothing_left d (SurvivesIn done (LinkedWorld (world_of r)) (world_of r) words []);
+  linked = λ telling h linked. linked;
+  files_open = λ telling h hidden. hidden;
+  draws_apart = λ telling h linked apart. apart;
+  stands = λ telling done holds. subst (λ (a : Acknowledged). HoldsLogs d r a) (sym (also_nothing done)) holds;
+  survives = λ telling done holds. nothing_left d (SurvivesIn done (LinkedWorld (world_of r)) (world_of r) words []);
   rests = λ now. now;
   run = no_run d;
   world_is = refl;
@@ -107,8 +107,8 @@ lived_untouched props old mid new first words v v' history so u = record {
   linked = so.linked;
   files_open = so.files_open;
   draws_apart = so.draws_apart;
-  stands = λ told done holds. u.stands (also done (logged_in history)) (so.stands told done holds);
-  survives = λ told done holds. leaves_on so.run (so.survives told done holds) (weaker (λ image left. absurd left) u.survives);
+  stands = λ telling done holds. u.stands (also done (logged_in history)) (so.stands telling done holds);
+  survives = λ telling done holds. leaves_on so.run (so.survives telling done holds) (weaker (λ image left. absurd left) u.survives);
   rests = λ now. u.rests (so.rests now);
   run = run_on old mid new so.run u.run;
   world_is = so.world_is;
@@ -120,21 +120,23 @@ lived_untouched props old mid new first words v v' history so u = record {
 -- files that are left in the end
 pub rests_after : (props : List PropLine) (old new : DiskState) (first r : RunningWorld) (words words' : ℕ → ℕ) (history : History) → Lived props old new first words r words' history → Tells old → RestsNow old first
     → (done : Acknowledged) → HoldsLogs old first done → (image : Image) → IsImage new image → RestsAfter done (LinkedWorld (world_of first)) (world_of first) words history image
-rests_after props old new first r words words' history so told now done holds image is =
-    let left = so.rests now (also done (logged_in history)) (so.stands told done holds) image is in (
+rests_after props old new first r words words' history so telling now done holds image is =
+    let left = so.rests now (also done (logged_in history)) (so.stands telling done holds) image is in (
       subst (λ (w : WorldState). SurvivesAtRest w (also done (logged_in history)) image) so.world_is left.0,
-      λ h linked. left.1 (hidden_in h (world_of first) words history) (so.linked told h linked),
+      λ h linked. left.1 (hidden_in h (world_of first) words history) (so.linked telling h linked),
     )
 
 -- one event more
 
 -- what happened in an event over a disk
-abbrev pub happened_in : {props : List PropLine} {old new : DiskState} {r r' : RunningWorld} {words words' : ℕ → ℕ} {now : ℕ} {e : Event} {told : Line} → Steps props old new r words now e told r' words' → Happened
-happened_in {props} {old} {new} {r} {r'} {words} {words'} {now} {e} {told} s =
-    record { event = e; now = now; reply = told; drawn = s.drawn; logged = s.logged; world = world_of r'; faults = new.faults }
+abbrev pub happened_in : {props : List PropLine} {old new : DiskState} {r r' : RunningWorld} {words words' : ℕ → ℕ} {now : ℕ} {e : Event} {answer : Line} → Steps props old new r words now e answer r' words' → Happened
+happened_in {props} {old} {new} {r} {r'} {words} {words'} {now} {e} {answer} s =
+    record { event = e; now = now; reply = answer; drawn = s.drawn; logged = s.logged; world = world_of r'; faults = new.faults }
 
 knows : (e : Event) (T : Type 0) → T → KnowsWorld e T
 knows (event.Kms user c) T t = tt
+knows event.Ticket T t = tt
+knows (event.Deposit n) T t = tt
 knows event.RestartKms T t = t
 knows event.RestartName T t = t
 knows (event.Mkdir user path) T t = tt
@@ -153,14 +155,14 @@ knows (event.Draw n) T t = tt
 knows (event.Finish n) T t = tt
 
 -- a step is alike beside the same values
-same_step : (props : List PropLine) (T U : Type 0) (w v : WorldState) (words others : ℕ → ℕ) (f g after now drawn : ℕ) (e : Event) (told : Line) (logged : Acknowledged) (w' : WorldState)
+same_step : (props : List PropLine) (T U : Type 0) (w v : WorldState) (words others : ℕ → ℕ) (f g after now drawn : ℕ) (e : Event) (answer : Line) (logged : Acknowledged) (w' : WorldState)
     → T ≡ U → w ≡ v → words ≡ others → f ≡ g
-    → LinkedStep props w words now e (Rose f after) T told drawn logged w' → LinkedStep props v others now e (Rose g after) U told drawn logged w'
-same_step props T U w v words others f g after now drawn e told logged w' t p q r step =
-    subst (λ (X : Type 0). LinkedStep props v others now e (Rose g after) X told drawn logged w') t
-    (subst (λ (x : ℕ). LinkedStep props v others now e (Rose x after) T told drawn logged w') r
-    (subst (λ (x : ℕ → ℕ). LinkedStep props v x now e (Rose f after) T told drawn logged w') q
-    (subst (λ (x : WorldState). LinkedStep props x words now e (Rose f after) T told drawn logged w') p step)))
+    → LinkedStep props w words now e (Rose f after) T answer drawn logged w' → LinkedStep props v others now e (Rose g after) U answer drawn logged w'
+same_step props T U w v words others f g after now drawn e answer logged w' t p q r step =
+    subst (λ (X : Type 0). LinkedStep props v others now e (Rose g after) X answer drawn logged w') t
+    (subst (λ (x : ℕ). LinkedStep props v others now e (Rose x after) T answer drawn logged w') r
+    (subst (λ (x : ℕ → ℕ). LinkedStep props v x now e (Rose f after) T answer drawn logged w') q
+    (subst (λ (x : WorldState). LinkedStep props x words now e (Rose f after) T answer drawn logged w') p step)))
 
 pub lived_more : (props : List PropLine) (old mid new : DiskState) (first r r' : RunningWorld) (words words' words'' : ℕ → ℕ) (earlier : History) (now : ℕ) (e : Event) (reply : Line) → Lived props old mid first words r words' earlier
     → (s : Steps props mid new r words' now e reply r' words'') → Lived props old new first words r' words'' (happened_in s ∷ earlier)
@@ -173,24 +175,24 @@ lived_more props old mid new first r r' words words' words'' earlier now e reply
     },
     so.runs,
   );
-  linked = λ told h linked. linked_there told h linked;
-  files_open = λ told h hidden. (
+  linked = λ telling h linked. linked_there telling h linked;
+  files_open = λ telling h hidden. (
     record {
-      linked = linked_there told h hidden.linked;
-      files_open = subst (λ (x : Hidden). ZoneFilesOpen (world_of r') x) (same_hidden (then h)) (s.step.files_open (knows e (Tells mid) (tells_now old mid so.run told)) (then h) (so.linked told h hidden.linked));
+      linked = linked_there telling h hidden.linked;
+      files_open = subst (λ (x : Hidden). ZoneFilesOpen (world_of r') x) (same_hidden (then h)) (s.step.files_open (knows e (Tells mid) (tells_now old mid so.run telling)) (then h) (so.linked telling h hidden.linked));
     },
-    so.files_open told h hidden,
+    so.files_open telling h hidden,
   );
-  draws_apart = λ told h linked apart. (
+  draws_apart = λ telling h linked apart. (
     subst DrawsApart (same_hidden (then h))
-        (s.step.draws_apart (knows e (Tells mid) (tells_now old mid so.run told)) (then h) (so.linked told h linked) (apart_last h one words earlier (so.draws_apart told h linked apart)).words),
-    so.draws_apart told h linked apart,
+        (s.step.draws_apart (knows e (Tells mid) (tells_now old mid so.run telling)) (then h) (so.linked telling h linked) (apart_last h one words earlier (so.draws_apart telling h linked apart)).words),
+    so.draws_apart telling h linked apart,
   );
-  stands = λ told done holds. subst (λ (l : Acknowledged). HoldsLogs new r' l) (also_also done (logged_in earlier) s.logged)
-      (s.stands (tells_now old mid so.run told) (also done (logged_in earlier)) (so.stands told done holds));
-  survives = λ told done holds. leaves_on so.run (weaker (λ image left. inr (inr left)) (so.survives told done holds))
-      (weaker (λ image left. inr (inl (same_left (also done (logged_in earlier)) image left.0, λ h linked. same_sound image (then h) (left.1 (then h) (so.linked told h linked)))))
-      (s.survives (tells_now old mid so.run told) (also done (logged_in earlier)) (so.stands told done holds)));
+  stands = λ telling done holds. subst (λ (l : Acknowledged). HoldsLogs new r' l) (also_also done (logged_in earlier) s.logged)
+      (s.stands (tells_now old mid so.run telling) (also done (logged_in earlier)) (so.stands telling done holds));
+  survives = λ telling done holds. leaves_on so.run (weaker (λ image left. inr (inr left)) (so.survives telling done holds))
+      (weaker (λ image left. inr (inl (same_left (also done (logged_in earlier)) image left.0, λ h linked. same_sound image (then h) (left.1 (then h) (so.linked telling h linked)))))
+      (s.survives (tells_now old mid so.run telling) (also done (logged_in earlier)) (so.stands telling done holds)));
   rests = λ rests. s.rests;
   run = run_on old mid new so.run s.run;
   world_is = refl;
@@ -228,5 +230,5 @@ lived_more props old mid new first r r' words words' words'' earlier now e reply
         (subst (λ (w : WorldState). SurvivesEvent w words' now e reply (world_of r') logs image) so.world_is left)
 
     linked_there : Tells old → (h : Hidden) → LinkedWorld one h → LinkedWorld (world_of r') (hidden_after there here e reply s.drawn (world_of r') (then h))
-    linked_there told h linked =
-        subst (λ (x : Hidden). LinkedWorld (world_of r') x) (same_hidden (then h)) (s.step.linked (knows e (Tells mid) (tells_now old mid so.run told)) (then h) (so.linked told h linked))
+    linked_there telling h linked =
+        subst (λ (x : Hidden). LinkedWorld (world_of r') x) (same_hidden (then h)) (s.step.linked (knows e (Tells mid) (tells_now old mid so.run telling)) (then h) (so.linked telling h linked))

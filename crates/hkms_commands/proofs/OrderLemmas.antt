@@ -10,10 +10,10 @@ use Rattle.command_line.specs.declared.order.OrderFault.{OrderFault}
 use Rattle.command_line.specs.declared.order.OrderFault.TheVariants.{Usage, NoMemory}
 use Rattle.hkms_commands.specs.Orders.{Obeys, Shows, ShowsText, WantsMemory}
 
-abbrev Told : Type 0
-Told = Result Order OrderFault
+abbrev OrderRead : Type 0
+OrderRead = Result Order OrderFault
 
-pub helps_so : (told : Told) (replays pipes same : Type 0) (written now : Option (List ℕ)) (status : ℕ) → ShownAs IsHelp told → Obeys told replays pipes same written now status
+pub helps_so : (order : OrderRead) (replays pipes same : Type 0) (written now : Option (List ℕ)) (status : ℕ) → ShownAs IsHelp order → Obeys order replays pipes same written now status
     → ShowsText same written now status ⊎ WantsMemory same written now status
 helps_so (Ok Replay) replays pipes same written now status is obeys = absurd is
 helps_so (Ok Pipe) replays pipes same written now status is obeys = absurd is
@@ -22,7 +22,7 @@ helps_so (Ok (Version text)) replays pipes same written now status is obeys = ab
 helps_so (Err Usage) replays pipes same written now status is obeys = absurd cc
 helps_so (Err NoMemory) replays pipes same written now status is obeys = inr obeys
 
-pub versions_so : (told : Told) (replays pipes same : Type 0) (written now : Option (List ℕ)) (status : ℕ) → ShownAs IsVersion told → Obeys told replays pipes same written now status
+pub versions_so : (order : OrderRead) (replays pipes same : Type 0) (written now : Option (List ℕ)) (status : ℕ) → ShownAs IsVersion order → Obeys order replays pipes same written now status
     → ShowsText same written now status ⊎ WantsMemory same written now status
 versions_so (Ok Replay) replays pipes same written now status is obeys = absurd is
 versions_so (Ok Pipe) replays pipes same written now status is obeys = absurd is
@@ -39,8 +39,8 @@ not_shown : (text : List ℕ) (own : ℕ) (written now : Option (List ℕ)) (sta
 not_shown text own written now status other (inl shown) two = other (sym shown.0 ∙ two)
 not_shown text own written now status other (inr failed) two = not_both status failed.0 two
 
-pub usage_only : (told : Told) (words : List Text) (replays pipes same : Type 0) (written now : Option (List ℕ)) (status : ℕ) → IfErr told (λ fault. fault ≡ Usage → IsMistake (fault_of line.hkms words))
-    → Obeys told replays pipes same written now status → (replays → status ≢ 2) → (pipes → status ≢ 2) → status ≡ 2 → IsMistake (fault_of line.hkms words)
+pub usage_only : (order : OrderRead) (words : List Text) (replays pipes same : Type 0) (written now : Option (List ℕ)) (status : ℕ) → IfErr order (λ fault. fault ≡ Usage → IsMistake (fault_of line.hkms words))
+    → Obeys order replays pipes same written now status → (replays → status ≢ 2) → (pipes → status ≢ 2) → status ≡ 2 → IsMistake (fault_of line.hkms words)
 usage_only (Ok Replay) words replays pipes same written now status usage obeys no_replay no_pipe two = absurd (no_replay obeys two)
 usage_only (Ok Pipe) words replays pipes same written now status usage obeys no_replay no_pipe two = absurd (no_pipe obeys two)
 usage_only (Ok (Help text)) words replays pipes same written now status usage obeys no_replay no_pipe two = absurd (not_shown _ 0 written now status (λ h. absurd cc) obeys.1 two)

@@ -71,9 +71,9 @@ converses {D} {W} state to_come props old v v' left left' written now unused how
   rest = talked.rest;
   began = run.faults;
   ended = omega (arith, talked.faults_are);
-  on_disk = λ told.
-      let log = b.log told in
-      let tells = tells_now old mid run told in
+  on_disk = λ telling.
+      let log = b.log telling in
+      let tells = tells_now old mid run telling in
       record {
         commands = log.commands;
         ops = log.ops;
@@ -82,17 +82,17 @@ converses {D} {W} state to_come props old v v' left left' written now unused how
         edits = log.edits;
         keys_room = log.keys_room;
         names_room = log.names_room;
-        moments = survives_kept props.sizes old mid (state v'.disk) v.world b told words h NoRestart (found told) (moments told) run (weaker (λ image left. inl left) (talked.survives tells (found told) log.holds));
-        last = λ image is. last_kept props.sizes old mid (state v'.disk) v.world b told words h NoRestart (found told) image
-            (inl (rests_after props.lines mid (state v'.disk) v.world v'.world words (to_come v'.words) h talked tells b.rests (found told) log.holds image is));
+        moments = survives_kept props.sizes old mid (state v'.disk) v.world b telling words h NoRestart (found telling) (moments telling) run (weaker (λ image left. inl left) (talked.survives tells (found telling) log.holds));
+        last = λ image is. last_kept props.sizes old mid (state v'.disk) v.world b telling words h NoRestart (found telling) image
+            (inl (rests_after props.lines mid (state v'.disk) v.world v'.world words (to_come v'.words) h talked tells b.rests (found telling) log.holds image is));
       };
-  promise = λ told. promise_kept props.sizes old mid (state v'.disk) v.world b told words h NoRestart (found told) (talked.files_open (tells_now old mid run told));
-  apart = λ told. apart_kept props.sizes old mid (state v'.disk) v.world b told words h NoRestart (found told) (talked.draws_apart (tells_now old mid run told));
-  reads = λ told.
-      let log = b.log told in (
+  promise = λ telling. promise_kept props.sizes old mid (state v'.disk) v.world b telling words h NoRestart (found telling) (talked.files_open (tells_now old mid run telling));
+  apart = λ telling. apart_kept props.sizes old mid (state v'.disk) v.world b telling words h NoRestart (found telling) (talked.draws_apart (tells_now old mid run telling));
+  reads = λ telling.
+      let log = b.log telling in (
         v'.world,
         subst (λ (w : WorldState). world_of v'.world ≡ world_after w h) b.first talked.world_is,
-        talked.stands (tells_now old mid run told) (found told) log.holds,
+        talked.stands (tells_now old mid run telling) (found telling) log.holds,
       );
 }
   where
@@ -120,7 +120,7 @@ converses {D} {W} state to_come props old v v' left left' written now unused how
     talked = so.follows
 
     found : Tells old → Acknowledged
-    found told = let log = b.log told in opened_logs log.commands b.table log.ops b.names
+    found telling = let log = b.log telling in opened_logs log.commands b.table log.ops b.names
 
 -- no replay and no connection has the status of refused words
 

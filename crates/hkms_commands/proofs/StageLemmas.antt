@@ -18,29 +18,29 @@ use Rattle.hkms_commands.specs.Replay.{last_line}
 use Rattle.hkms_commands.specs.Steps.{Closes, PlaysEvent, PlaysSo, TellsSo, Untouched, View, WritesLast}
 use Rattle.hkms_commands.proofs.LivedLemmas.{no_run, nothing_left}
 
-event_played : (props : List PropLine) (old new : DiskState) (r r' : RunningWorld) (words words' : ℕ → ℕ) (events : ℕ) (written now : Option (List ℕ)) (event : Event) (told : Line) (line : List ℕ)
-    → Steps props old new r words (events + 1) event told r' words' → Spells line event
+event_played : (props : List PropLine) (old new : DiskState) (r r' : RunningWorld) (words words' : ℕ → ℕ) (events : ℕ) (written now : Option (List ℕ)) (event : Event) (answer : Line) (line : List ℕ)
+    → Steps props old new r words (events + 1) event answer r' words' → Spells line event
     → PlaysEvent props old new (record { world = r; words = words; events = events; written = written }) line (record { world = r'; words = words'; events = events + 1; written = now })
-event_played props old new r r' words words' events written now event told line s spells = record { event = event; reply = told; spells = spells; steps = s; counted = refl }
+event_played props old new r r' words words' events written now event answer line s spells = record { event = event; reply = answer; spells = spells; steps = s; counted = refl }
 
-told_so : (props : List PropLine) (old new : DiskState) (r r' : RunningWorld) (words words' : ℕ → ℕ) (events : ℕ) (written now : Option (List ℕ)) (event : Event) (told : Line) (play : LineOutcome)
-    → Steps props old new r words (events + 1) event told r' words' → TellsSo (events + 1) told written now play → (line : List ℕ) → Spells line event
+line_played : (props : List PropLine) (old new : DiskState) (r r' : RunningWorld) (words words' : ℕ → ℕ) (events : ℕ) (written now : Option (List ℕ)) (event : Event) (answer : Line) (play : LineOutcome)
+    → Steps props old new r words (events + 1) event answer r' words' → TellsSo (events + 1) answer written now play → (line : List ℕ) → Spells line event
     → PlaysSo props old new (record { world = r; words = words; events = events; written = written }) line play (record { world = r'; words = words'; events = events + 1; written = now })
 unfolding event_played
-told_so props old new r r' words words' events written now event told Played s wrote line spells = inr (event_played props old new r r' words words' events written now event told line s spells, wrote)
-told_so props old new r r' words words' events written now event told BadLine s wrote line spells = absurd wrote
-told_so props old new r r' words words' events written now event told Unread s wrote line spells = absurd wrote
-told_so props old new r r' words words' events written now event told Untold s wrote line spells = (event_played props old new r r' words words' events written now event told line s spells, wrote)
-told_so props old new r r' words words' events written now event told Unwritten s wrote line spells = (event_played props old new r r' words words' events written now event told line s spells, wrote)
-told_so props old new r r' words words' events written now event told (Unopened fault) s wrote line spells = absurd wrote
+line_played props old new r r' words words' events written now event answer Played s wrote line spells = inr (event_played props old new r r' words words' events written now event answer line s spells, wrote)
+line_played props old new r r' words words' events written now event answer BadLine s wrote line spells = absurd wrote
+line_played props old new r r' words words' events written now event answer Unread s wrote line spells = absurd wrote
+line_played props old new r r' words words' events written now event answer Untold s wrote line spells = (event_played props old new r r' words words' events written now event answer line s spells, wrote)
+line_played props old new r r' words words' events written now event answer Unwritten s wrote line spells = (event_played props old new r r' words words' events written now event answer line s spells, wrote)
+line_played props old new r r' words words' events written now event answer (Unopened fault) s wrote line spells = absurd wrote
 
-pub event_plays : (props : List PropLine) (old new : DiskState) (r r' r'' : RunningWorld) (words words' : ℕ → ℕ) (events count : ℕ) (written now : Option (List ℕ)) (event : Event) (told : Line) (play : LineOutcome)
-    → Steps props old new r words (events + 1) event told r' words' → TellsSo (events + 1) told written now play → r'' ≡ r' → count ≡ events + 1 → (line : List ℕ) → Spells line event
+pub event_plays : (props : List PropLine) (old new : DiskState) (r r' r'' : RunningWorld) (words words' : ℕ → ℕ) (events count : ℕ) (written now : Option (List ℕ)) (event : Event) (answer : Line) (play : LineOutcome)
+    → Steps props old new r words (events + 1) event answer r' words' → TellsSo (events + 1) answer written now play → r'' ≡ r' → count ≡ events + 1 → (line : List ℕ) → Spells line event
     → PlaysSo props old new (record { world = r; words = words; events = events; written = written }) line play (record { world = r''; words = words'; events = count; written = now })
-event_plays props old new r r' r'' words words' events count written now event told play s wrote same counted line spells =
+event_plays props old new r r' r'' words words' events count written now event answer play s wrote same counted line spells =
     subst (λ (w : RunningWorld). PlaysSo props old new (record { world = r; words = words; events = events; written = written }) line play (record { world = w; words = words'; events = count; written = now })) (sym same)
     (subst (λ (n : ℕ). PlaysSo props old new (record { world = r; words = words; events = events; written = written }) line play (record { world = r'; words = words'; events = n; written = now })) (sym counted)
-    (told_so props old new r r' words words' events written now event told play s wrote line spells))
+    (line_played props old new r r' words words' events written now event answer play s wrote line spells))
 
 -- nothing was done
 pub untouched : (d : DiskState) (v : View) → Untouched d d v v

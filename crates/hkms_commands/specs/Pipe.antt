@@ -50,7 +50,7 @@ pub record Converses (props : Props) (old new : DiskState) (words words' : ℕ �
   pub on_disk : Tells old → OnDisk old new words props.sizes table names history NoRestart
   pub promise : Tells old → (h : Hidden) → HiddenBefore old h → FilesOpen h (first_world props.sizes table names) words history
   pub apart : Tells old → (h : Hidden) → HiddenBefore old h → WordsApart h → StayApart h (first_world props.sizes table names) words history
-  pub reads : (told : Tells old) → let found = on_disk told in ReadsAs new (also (opened_logs found.commands table found.ops names) (logged_in history)) (world_after (first_world props.sizes table names) history)
+  pub reads : (tells : Tells old) → let found = on_disk tells in ReadsAs new (also (opened_logs found.commands table found.ops names) (logged_in history)) (world_after (first_world props.sizes table names) history)
 
 -- the status of a connection
 abbrev pub connection_status : Ended → ℕ

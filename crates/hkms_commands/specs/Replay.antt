@@ -102,16 +102,16 @@ abbrev pub IsFront : List ℕ → List ℕ → Type 0
 IsFront text whole = (more : List ℕ) × (text ++ more ≡ whole)
 
 -- What is written of a transcript at an end: all of it, or a prefix if there was no memory for an answer or the output failed.
-abbrev pub IsTold : ReplayEnd → List ℕ → List ℕ → Type 0
-IsTold NoMemory text told = IsFront text told
-IsTold WriteFault text told = IsFront text told
-IsTold _ text told = text ≡ told
+abbrev pub IsPrinted : ReplayEnd → List ℕ → List ℕ → Type 0
+IsPrinted NoMemory text printed = IsFront text printed
+IsPrinted WriteFault text printed = IsFront text printed
+IsPrinted _ text printed = text ≡ printed
 
 -- The replay stopped for the one cause, after `lines` lines, and ended with the other. The answers are followed by the last line of
 -- that cause, or by the one for lack of memory, if there was none for it; or by a prefix of this, and the output failed.
-pub record Says (stop how : ReplayEnd) (lines : ℕ) (told text : List ℕ) : Type 0 where
+pub record Says (stop how : ReplayEnd) (lines : ℕ) (printed text : List ℕ) : Type 0 where
   pub body : List ℕ
-  pub is_told : IsTold stop body told
+  pub is_printed : IsPrinted stop body printed
   pub last : ReplayEnd
   pub last_is : (last ≡ stop) ⊎ (last ≡ NoMemory)
   pub closes : ((how ≡ last) × (text ≡ body ++ last_line last lines)) ⊎ ((how ≡ WriteFault) × IsFront text (body ++ last_line last lines))
@@ -229,7 +229,7 @@ pub record Played (props : Props) (old new : DiskState) (words : ℕ → ℕ) (l
   pub promise : Tells old → (h : Hidden) → HiddenBefore old h → FilesOpen h (first_world props.sizes table names) words (events_of_lines played)
   -- and if the draws before are apart, they stay so
   pub apart : Tells old → (h : Hidden) → HiddenBefore old h → WordsApart h → StayApart h (first_world props.sizes table names) words (events_of_lines played)
-  pub reads : (told : Tells old) → let found = on_disk told in
+  pub reads : (telling : Tells old) → let found = on_disk telling in
       let history = events_of_lines played in
       ReadsAt stop left (lines_in played) new (also (opened_logs found.commands table found.ops names) (logged_in history)) (world_after (first_world props.sizes table names) history)
   pub restart : Tells old → RestartStops stop left (lines_in played) (world_after (first_world props.sizes table names) (events_of_lines played))

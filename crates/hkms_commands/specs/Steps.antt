@@ -5,7 +5,7 @@ use Rattle.hk_base.specs.Disk.{DiskState, Image, IsImage, Tells}
 use Rattle.hk_base.specs.Faults.{Rose}
 use Rattle.hk_base.specs.Reading.{IsMore}
 use Rattle.hk_base.specs.Writing.{WroteFront}
-use Rattle.kms_acls.specs.StandsFor.{StandsFor as ListsFor}
+use Rattle.kms_acls.specs.Agreement.{AreListsOf}
 use Rattle.prop_text.specs.declared.lines.PropLine.{PropLine}
 use Rattle.replay_text.specs.Events.{IsBad, IsQuiet, Spells}
 use Rattle.replay_text.specs.Transcript.{line_text}
@@ -26,12 +26,12 @@ use Rattle.hkms_commands.specs.declared.stage.LineOutcome.TheVariants.{Played, B
 use Rattle.hkms_commands.specs.Lines.{is_line, line_used}
 use Rattle.hkms_commands.specs.Logs.{SurvivesLast, SurvivesUntil}
 use Rattle.hkms_commands.specs.PlayedLines.{AreSpelled, PlayedLine, events_of_lines, lines_in, transcript}
-use Rattle.hkms_commands.specs.Replay.{CutAt, HasProperties, IsTold, ReadsAt, RestartStops, Stops, ended_by, last_line}
+use Rattle.hkms_commands.specs.Replay.{CutAt, HasProperties, IsPrinted, ReadsAt, RestartStops, Stops, ended_by, last_line}
 use Rattle.hkms_commands.specs.Run.{FilesOpen, IsHidden, Runs, StayApart, behind, drawn_in, faults_after, logged_in, world_after}
 
 -- the access control lists of the world stand for these lines
 abbrev pub HasLists : RunningWorld → List PropLine → Type 0
-HasLists r lines = ListsFor r.keys.acls lines
+HasLists r lines = AreListsOf r.keys.acls lines
 
 -- the access control lists stay as they are
 abbrev pub SameLists : RunningWorld → RunningWorld → Type 0
@@ -148,12 +148,12 @@ pub record Next (lines : List PropLine) (old new : DiskState) (s : Stand) (resul
 
 -- the answer of an event was written, or there was no memory for it, or a prefix of it was written and the output failed
 abbrev pub TellsSo : ℕ → Line → Option (List ℕ) → Option (List ℕ) → LineOutcome → Type 0
-TellsSo number told written now Played = Appends written now (line_text number told)
-TellsSo number told written now Untold = Appends written now []
-TellsSo number told written now Unwritten = WroteFront written now (line_text number told)
-TellsSo number told written now BadLine = ⊥
-TellsSo number told written now Unread = ⊥
-TellsSo number told written now (Unopened fault) = ⊥
+TellsSo number tells written now Played = Appends written now (line_text number tells)
+TellsSo number tells written now Untold = Appends written now []
+TellsSo number tells written now Unwritten = WroteFront written now (line_text number tells)
+TellsSo number tells written now BadLine = ⊥
+TellsSo number tells written now Unread = ⊥
+TellsSo number tells written now (Unopened fault) = ⊥
 
 -- Faults come only if the count of the object rose in the call: that of the input, of the output, of the disk.
 pub record Caused (input input' out out' disk disk' : ℕ) (how : Option ReplayEnd) : Type 0 where
@@ -198,7 +198,7 @@ pub record Ran (lines : List PropLine) (old new : DiskState) (r : RunningWorld) 
   pub stops : (all : List ℕ) → left ≡ Some all → Stops stop all (lines_in played)
   pub text : List ℕ
   pub wrote : Appends written now text
-  pub told : IsTold stop text (transcript (events_of_lines played))
+  pub printed : IsPrinted stop text (transcript (events_of_lines played))
   pub counted : count ≡ length (lines_in played)
 
 -- Lines were played, until one of them ended the replay, and its last line was written after their answers.

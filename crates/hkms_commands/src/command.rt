@@ -32,7 +32,7 @@ fn show<K: Sink>(out: &mut K, text: &[u8], status: u8) -> u8
 /// Carries out an order, with the contract of `hkms`.
 fn obey<A: Source, S: Source, K: Sink, D: Disk, W: Words, C: Clock>(
     alloc: Global,
-    told: Result<Order, OrderFault>,
+    order: Result<Order, OrderFault>,
     acls: &mut A,
     input: &mut S,
     out: &mut K,
@@ -40,7 +40,7 @@ fn obey<A: Source, S: Source, K: Sink, D: Disk, W: Words, C: Clock>(
     rand: &mut W,
     clock: &mut C,
 ) -> u8
-    ensures obeys { Obeys told
+    ensures obeys { Obeys order
         ((how : ReplayEnd) × (result ≡ status_of how) × Replay (disk.new ≡ disk.old) ((input.new ≡ input.old) × (rand.new ≡ rand.old)) (D.state disk.old) (D.state disk.new) (A.left acls.old) (A.left acls.new) (W.to_come rand.old) (W.to_come rand.new) (S.left input.old) (K.written out.old) (K.written out.new) how × (result ≡ 0 → IsAtEnd (S.left input.new)))
         (Pipe (disk.new ≡ disk.old) ((input.new ≡ input.old) × (out.new ≡ out.old) × (rand.new ≡ rand.old) × (clock.new ≡ clock.old)) (D.state disk.old) (D.state disk.new) (A.left acls.old) (A.left acls.new) (W.to_come rand.old) (W.to_come rand.new) (S.left input.old) (S.left input.new) (K.written out.old) (K.written out.new) result)
         ((disk.new ≡ disk.old) × (acls.new ≡ acls.old) × (input.new ≡ input.old) × (rand.new ≡ rand.old) × (clock.new ≡ clock.old))
@@ -49,7 +49,7 @@ fn obey<A: Source, S: Source, K: Sink, D: Disk, W: Words, C: Clock>(
     ensures write { result ≡ 8 → Rose (K.faults out.old) (K.faults out.new) }
     ensures store { result ≡ 5 → Rose (D.state disk.old).faults (D.state disk.new).faults }
 {
-    match told {
+    match order {
         Ok(Order::Replay) => run_replay(alloc, acls, input, out, disk, rand),
         Ok(Order::Pipe) => run_pipe(alloc, acls, input, out, disk, rand, clock),
         Ok(Order::Help(text)) => show(out, text.as_bytes(), 0),
@@ -93,6 +93,6 @@ pub fn hkms<A: Source, S: Source, K: Sink, D: Disk, W: Words, C: Clock>(
     ensures write { result ≡ 8 → Rose (K.faults out.old) (K.faults out.new) }
     ensures store { result ≡ 5 → Rose (D.state disk.old).faults (D.state disk.new).faults }
 {
-    let told = read_order(alloc, words);
-    obey(alloc, told, acls, input, out, disk, rand, clock)
+    let order = read_order(alloc, words);
+    obey(alloc, order, acls, input, out, disk, rand, clock)
 }

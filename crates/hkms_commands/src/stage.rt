@@ -81,29 +81,29 @@ impl Session {
     {
         match self.world.step(disk, words, self.events + 1, event) {
             Err(why) => LineOutcome::Unopened(why),
-            Ok(told) => self.tell_line(told, out),
+            Ok(reply) => self.tell_line(reply, out),
         }
     }
 
     /// Counts an event, and writes and drops its answer.
-    fn tell_line<K: Sink>(&mut self, told: Line, out: &mut K) -> LineOutcome
+    fn tell_line<K: Sink>(&mut self, reply: Line, out: &mut K) -> LineOutcome
         requires few { self.old.events ≤ 2 ^ 40 }
-        ensures tells { TellsSo (self.old.events + 1) told (K.written out.old) (K.written out.new) result }
+        ensures tells { TellsSo (self.old.events + 1) reply (K.written out.old) (K.written out.new) result }
         ensures world { self.new.world ≡ self.old.world }
         ensures counted { self.new.events ≡ self.old.events + 1 }
         ensures counts { counts result ≡ 1 }
         ensures later { K.faults out.old ≤ K.faults out.new }
         ensures fault { result ≡ LineOutcome.Unwritten → Rose (K.faults out.old) (K.faults out.new) }
     {
-        let play = self.tell(&told, out);
-        drop(told);
+        let play = self.tell(&reply, out);
+        drop(reply);
         play
     }
 
     /// Counts an event, and writes its answer.
-    fn tell<K: Sink>(&mut self, told: &Line, out: &mut K) -> LineOutcome
+    fn tell<K: Sink>(&mut self, reply: &Line, out: &mut K) -> LineOutcome
         requires few { self.old.events ≤ 2 ^ 40 }
-        ensures tells { TellsSo (self.old.events + 1) told.now (K.written out.old) (K.written out.new) result }
+        ensures tells { TellsSo (self.old.events + 1) reply.now (K.written out.old) (K.written out.new) result }
         ensures world { self.new.world ≡ self.old.world }
         ensures counted { self.new.events ≡ self.old.events + 1 }
         ensures counts { counts result ≡ 1 }
@@ -112,7 +112,7 @@ impl Session {
     {
         self.events += 1;
         self.answer.clear();
-        match write_line(self.alloc, self.events, told, &mut self.answer) {
+        match write_line(self.alloc, self.events, reply, &mut self.answer) {
             Err(_) => LineOutcome::Untold,
             Ok(()) => match write_all(out, self.answer.as_slice()) {
                 Ok(()) => LineOutcome::Played,

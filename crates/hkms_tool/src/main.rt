@@ -46,7 +46,7 @@ const PERMITTING: &[u8] = b"default.key.acl.MANAGEMENT=*\n\
 
 /// Tells of a fault that comes before the input is read, and answers the status: by a last line, but
 /// for a connection, whose output has responses alone.
-fn fault_told(rt: &HostRuntime, order: &Order, line: &[u8], status: u8) -> u8
+fn report_fault(rt: &HostRuntime, order: &Order, line: &[u8], status: u8) -> u8
     ensures { EndsWith status result }
 {
     if matches!(order, Order::Pipe) {
@@ -59,15 +59,15 @@ fn fault_told(rt: &HostRuntime, order: &Order, line: &[u8], status: u8) -> u8
     }
 }
 
-/// Tells of an error that comes before the input is read, as `fault_told` does. A failed allocation
+/// Tells of an error that comes before the input is read, as `report_fault` does. A failed allocation
 /// has a line and a status of its own.
-fn error_told(rt: &HostRuntime, order: &Order, error: &io::Error, line: &[u8], status: u8) -> u8
+fn report_error(rt: &HostRuntime, order: &Order, error: &io::Error, line: &[u8], status: u8) -> u8
     ensures { EndsBy status error.now result }
 {
     if error.kind() == ErrorKind::OutOfMemory {
-        return fault_told(rt, order, b"no memory\n", 6);
+        return report_fault(rt, order, b"no memory\n", 6);
     }
-    fault_told(rt, order, line, status)
+    report_fault(rt, order, line, status)
 }
 
 /// Does what the words of the command line say, over a disk.
@@ -112,7 +112,7 @@ fn run_on<A: Source>(
         Ok(mut disk) => run_over(rt, words, seed, acls, &mut disk),
         Err(error) => {
             let _ = eprintln!(rt; "hkms: keys.log and names.log cannot be opened here: {error}");
-            error_told(rt, order, &error, b"store fault\n", 5)
+            report_error(rt, order, &error, b"store fault\n", 5)
         }
     }
 }
@@ -150,7 +150,7 @@ fn run_under<A: Source + Drop>(
                 return run_here(rt, words, order, seed, &mut Reading::new(PERMITTING));
             }
             let _ = eprintln!(rt; "hkms: {PROPERTIES} cannot be opened here: {error}");
-            error_told(rt, order, &error, b"read fault\n", 7)
+            report_error(rt, order, &error, b"read fault\n", 7)
         }
     }
 }
@@ -179,7 +179,7 @@ fn run(rt: &HostRuntime, words: &[Text], seed: [u8; 32]) -> u8
     match read_order(rt.alloc(), words) {
         Ok(Order::Replay) => run_with_files(rt, words, &Order::Replay, seed),
         Ok(Order::Pipe) => run_with_files(rt, words, &Order::Pipe, seed),
-        Err(OrderFault::NoMemory) => fault_told(rt, &Order::Replay, b"no memory\n", 6),
+        Err(OrderFault::NoMemory) => report_fault(rt, &Order::Replay, b"no memory\n", 6),
         _ => run_without_files(rt, words, seed),
     }
 }
@@ -193,7 +193,7 @@ fn run_words(rt: &HostRuntime, words: io::Result<Vec<Text>>, seed: [u8; 32]) -> 
 {
     match words {
         Ok(words) => run(rt, words.as_slice(), seed),
-        Err(error) => error_told(rt, &Order::Replay, &error, b"usage refused\n", 2),
+        Err(error) => report_error(rt, &Order::Replay, &error, b"usage refused\n", 2),
     }
 }
 

@@ -140,9 +140,9 @@ impl Disk for TrialDisk {
 
     ghost only_now = { λ d c left f lt. tt };
 
-    ghost is_one = { λ d f told lt. Prim.cc told };
+    ghost is_one = { λ d f tells lt. Prim.cc tells };
 
-    ghost bounded = { λ d f told lt. Prim.cc told };
+    ghost bounded = { λ d f tells lt. Prim.cc tells };
 
     ghost later_leaves_less = { λ d s t c le left. left };
 
