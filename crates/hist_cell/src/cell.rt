@@ -1,0 +1,67 @@
+//! Cells.
+ghost use Rattle.std.specs.Prelude.{◌≡◌, cond, ltb};
+ghost use Rattle.hist_cell.specs.History.{Closes, LegalOf, MakesEntry, Meets, Splits};
+
+use crate::cores::Core;
+use crate::locked::Locked;
+use crate::naming::Naming;
+use crate::pass::Pass;
+use crate::rule::HistoryRule;
+use crate::seats::{ViewOf, learn, unite};
+use atomic_table::Table;
+use std::alloc::Global;
+use std::snapshot::Snapshot;
+use std::sync::{Mutex, Wait};
+
+/// A core that threads share. Its calls are one legal history.
+#[derive(Drop)]
+pub struct Cell<C: Core, N: Naming> {
+    pub(crate) table: Table<(), ViewOf<C>, Snapshot<C>, HistoryRule<C>, Global>,
+    pub(crate) lock: Mutex<Locked<C, N>>,
+    ghost named: { table.shared.table_id ≡ N.table },
+    ghost word: { table.shared.table_id.words ≡ 1 },
+}
+
+fn larger(a: u64, b: u64) -> u64
+    ensures { result ≡ cond (ltb a b) b a }
+{
+    if a < b { b } else { a }
+}
+
+impl<C: Core, N: Naming> Cell<C, N> {
+    /// Makes a call, which is one entry of the history. What the pass has seen must allow it. It may wait
+    /// for the lock. If the history has 2^64 - 1 entries, it never returns.
+    pub fn act<R: Wait>(&self, rt: &R, pass: &mut Pass<C, N>, call: C::Call) -> C::Reply
+        requires allowed { C.allows pass.old.seen call }
+        ensures { MakesEntry C.step C.allows pass.old call result pass.new }
+    {
+        self.lock.lock(rt).act(rt, &self.table.shared, pass, call)
+    }
+
+    /// Creates a pass with a new number, which has seen what the old one has. It may wait.
+    pub fn split<R: Wait>(&self, rt: &R, pass: &mut Pass<C, N>) -> Pass<C, N>
+        ensures same { pass.new ≡ pass.old }
+        ensures new { Splits pass.old result }
+    {
+        self.lock.lock(rt).split(&self.table.shared, pass)
+    }
+
+    /// Joins a pass to another, which has then seen what both had.
+    pub fn meet<R: Wait>(&self, _rt: &R, into: &mut Pass<C, N>, from: Pass<C, N>)
+        ensures both { Meets into.old from into.new }
+        ensures legal { LegalOf C.step C.allows into.new.start into.new.seen }
+    {
+        let Pass { seat, count, of: _ } = from;
+        unite(&self.table.shared, &mut into.seat, seat);
+        learn(&self.table.shared, &mut into.seat);
+        into.count = larger(into.count, count);
+    }
+
+    /// Returns the core after the whole history. Other passes may have been dropped.
+    pub fn close(self, pass: Pass<C, N>) -> C
+        ensures { Closes C.step C.allows pass result }
+    {
+        let Cell { table, lock } = self;
+        lock.into_inner().close(&table.shared, pass)
+    }
+}

@@ -1,0 +1,94 @@
+//! What is under the lock of a cell.
+ghost use Rattle.std.specs.Prelude.{◌≡◌, ◌<◌};
+ghost use Rattle.hist_cell.specs.History.{Closes, MakesEntryOn, Splits};
+
+use crate::cores::Core;
+use crate::naming::Naming;
+use crate::pass::Pass;
+use crate::seats::{
+    Place, ViewOf, Word, commit, give_turn, has_room, learn, new_seat, return_turn, take_turn,
+};
+use atomic_table::Badge;
+use std::marker::{Brand, Model, PhantomData};
+use std::mem;
+use std::snapshot::Snapshot;
+use std::sync::Wait;
+
+/// The core and the turn. Contracts see the core.
+#[derive(Drop)]
+pub struct Locked<C: Core, N: Naming> {
+    pub(crate) core: C,
+    pub(crate) turn: Badge<ViewOf<C>>,
+    pub(crate) of: PhantomData<N>,
+}
+
+impl<C: Core, N: Naming> Model for Locked<C, N> {
+    ghost use Rattle.hist_cell.specs.Turn.{IsTurn};
+
+    ghost Value = { C };
+
+    ghost view = { λ l. l.core };
+
+    ghost invariant = { λ l. IsTurn C.sound N.table l.turn l.core };
+}
+
+impl<C: Core, N: Naming> Locked<C, N> {
+    /// Makes a call: takes the turn, lets the core answer, adds the entry, and gives the turn back.
+    pub fn act<R: Wait>(
+        &mut self,
+        rt: &R,
+        word: &Word<C>,
+        pass: &mut Pass<C, N>,
+        call: C::Call,
+    ) -> C::Reply
+        requires word { (word.now.table_id ≡ N.table) × (0 < word.now.table_id.words) }
+        requires allowed { C.allows pass.old.seen call }
+        ensures { MakesEntryOn C.step C.allows self.old pass.old call result pass.new self.new }
+    {
+        let turn: Place<C> = mem::replace(&mut self.turn, Badge::blank()).into_seat();
+        take_turn(word, &mut pass.seat, turn);
+        let count = has_room(rt, word, &mut pass.seat);
+        let was = Snapshot::of(&call);
+        let reply = self.core.act(call);
+        commit::<C, Brand>(word, &mut pass.seat, &was, &reply, &self.core);
+        let turn = give_turn(word, &mut pass.seat);
+        self.turn = turn.into_badge();
+        pass.count = count + 1;
+        reply
+    }
+
+    /// Creates a pass with the next number.
+    pub fn split(&mut self, word: &Word<C>, pass: &mut Pass<C, N>) -> Pass<C, N>
+        requires word { (word.now.table_id ≡ N.table) × (0 < word.now.table_id.words) }
+        ensures same { pass.new ≡ pass.old }
+        ensures new { Splits pass.old result }
+    {
+        let turn: Place<C> = mem::replace(&mut self.turn, Badge::blank()).into_seat();
+        take_turn(word, &mut pass.seat, turn);
+        learn(word, &mut pass.seat);
+        let seat = new_seat(word, &mut pass.seat);
+        let turn = return_turn(word, &mut pass.seat);
+        self.turn = turn.into_badge();
+        Pass {
+            seat,
+            count: pass.count,
+            of: PhantomData,
+        }
+    }
+
+    /// Returns the core after the whole history.
+    pub fn close(self, word: &Word<C>, pass: Pass<C, N>) -> C
+        requires word { (word.now.table_id ≡ N.table) × (0 < word.now.table_id.words) }
+        ensures { Closes C.step C.allows pass result }
+    {
+        let Locked { core, turn, of: _ } = self;
+        let Pass {
+            mut seat,
+            count: _,
+            of: _,
+        } = pass;
+        take_turn(word, &mut seat, turn.into_seat());
+        learn(word, &mut seat);
+        core
+    }
+}
