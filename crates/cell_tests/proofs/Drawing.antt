@@ -1,0 +1,19 @@
+-- What a call adds to the numbers that were issued.
+use Rattle.std.proofs.Common.{◌≡◌, ℕ, List, [], ◌∷◌, ◌++◌, Option, Some, sym, ◌∙◌, subst, inl, inr, append_assoc}
+use Rattle.hist_cell.specs.declared.views.Entry.{Entry}
+use Rattle.hist_cell.specs.declared.views.Known.{Known}
+use Rattle.hist_cell.specs.History.{MakesEntry}
+use Rattle.cell_tests.specs.declared.issuer.Issuer.{Issuer}
+use Rattle.cell_tests.specs.declared.issuer.IssuerCall.{IssuerCall}
+use Rattle.cell_tests.specs.declared.issuer.IssuerCall.TheVariants.{Issue, Redeem}
+use Rattle.cell_tests.specs.Issuing.{Steps, Allows, Issued, Allows-grows}
+
+issued_end : (n : ℕ) (es : List (Entry IssuerCall (Option ℕ) Issuer)) (e : Entry IssuerCall (Option ℕ) Issuer) → e.call ≡ Issue → e.reply ≡ Some n → Issued n (es ++ e ∷ [])
+issued_end n [] e c r = inl (c, r)
+issued_end n (x ∷ es) e c r = inr (issued_end n es e c r)
+
+pub issues : (v w : Known IssuerCall (Option ℕ) Issuer) (n : ℕ) (r : Option ℕ) → r ≡ Some n → MakesEntry Steps Allows v Issue r w → Issued n w.seen
+issues v w n r is a = subst (Issued n) (sym a.seen) (issued_end n (v.seen ++ a.between) a.entry a.call_is (a.reply_is ∙ is))
+
+pub still : (v w : Known IssuerCall (Option ℕ) Issuer) (n : ℕ) (q : IssuerCall) (r : Option ℕ) → MakesEntry Steps Allows v q r w → Issued n v.seen → Issued n w.seen
+still v w n q r a i = Allows-grows v.seen w.seen (Redeem n) (a.between ++ a.entry ∷ [], sym (append_assoc v.seen a.between (a.entry ∷ [])) ∙ sym a.seen) i
