@@ -77,6 +77,50 @@ k@1:$vector:$sealed
 5 refused K8 BadMaterial
 7 refused K12 TooManyAsked"
 
+# ---- queues of ready keys
+
+# What is ready comes first in a generate of more, and no key comes twice.
+{
+    echo "kms a create k 128 $material"
+    echo 'kms a generate k 1'
+    echo ticket
+    printf 'deposit 1\ndeposit 1\ndeposit 1\n'
+    echo ticket
+    echo 'kms a generate k 1000'
+    echo ticket
+} >"$folder/ready"
+run <"$folder/ready"
+keys=$(awk '$1 == 8' <<<"$output" | tr ' ' '\n' | grep '^k@0:')
+output="$(sed -n 7p <<<"$output"), $(wc -l <<<"$keys"), $(cut -d : -f 2 <<<"$keys" | sort -u | wc -l), $(tail -n 1 <<<"$output")"
+expect 'a thousand keys, three of them ready' 0 '7 ticket 2 k@0 497, 1000, 1000, 9 ticket 3 k@0 500'
+
+# The largest queues take 1.2 MB each. In 64 MB there is memory for some of a hundred; the others are refused, and nothing changes.
+# Once two keys are deleted, there is memory for another queue.
+{
+    seq -f "kms a create key-%.0f 128 $material" 1 100
+    seq -f 'kms a generate key-%.0f 0' 1 100
+    printf '%s\n' 'kms a generate key-100 1' ticket 'deposit 1' 'kms a generate key-1 1' 'kms a delete key-1' 'kms a delete key-2' \
+        'kms a generate key-100 0' ticket
+} >"$folder/queues"
+rm -rf "$room"
+mkdir "$room" || exit 1
+printf '%s\n' default.key.acl.{MANAGEMENT,GENERATE_EEK,DECRYPT_EEK,READ}='*' hkms.queue.size=10000 >"$room/kms-acls.properties"
+output=$(ulimit -v 65536; run_here <"$folder/queues"; echo "$output"; exit "$status")
+status=$?
+made=$(awk '101 <= $1 && $1 <= 200 && $2 == "ready"' <<<"$output" | wc -l)
+refused=$(awk '101 <= $1 && $1 <= 200 && $0 ~ / refused K13 NoMemory$/' <<<"$output" | wc -l)
+output=$(tail -n 8 <<<"$output" | sed -E 's/[0-9a-f]{32}/H/g')
+expect 'queues for which there is no memory' 0 '201 refused K13 NoMemory
+202 ticket 1 key-1@0 10000
+203 kept
+204 ready key-1@0:H:H
+205 done
+206 done
+207 ready
+208 ticket 2 key-3@0 10000'
+output=$((made + refused)) status=$((made >= 10 && refused >= 10))
+expect 'some queues and some refusals' 1 100
+
 # ---- properties of 10,000 lines
 
 # 5,000 keys, each with a group of its own that may read it.

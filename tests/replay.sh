@@ -175,6 +175,31 @@ expect 'a zone that is renamed' 0 '1 version k@0 H
 18 done
 19 list archive/ vault/'
 
+run_masked examples/ready-keys.events
+expect 'ready keys' 0 '1 version k@0 H
+2 ready k@0:H:H
+3 ticket 1 k@0 500
+4 kept
+5 kept
+6 ready k@0:H:H
+7 done
+8 ask 1 4294967298 metadata k
+9 reply 1 meta k 128 1 1
+10 done
+11 ask 2 4294967299 generate k
+12 reply 2 ready k@0:H:H
+13 done
+14 file 4294967299 /vault k@0:H:H
+15 ticket 2 k@0 500
+16 kept
+17 version k@1 H
+18 stale 1 4294967297 1
+19 stale 1 4294967297 1
+20 ticket 3 k@1 500
+21 kept
+22 ready k@1:H:H
+23 unknown'
+
 run_masked examples/create.events
 expect 'created keys' 0 '1 version payroll@0 H
 2 version archive@0 H

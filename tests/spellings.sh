@@ -55,13 +55,19 @@ numbers=(
     'draw 4294967296' 'draw 01' 'draw +1' 'draw' 'draw ' 'draw  1' 'draw 1 '
     'finish 4294967296' 'finish 00' 'finish 1 2' 'finish x' 'Finish 1'
 )
+fills=(
+    'ticket ' ' ticket' 'ticket k' 'ticket 1' 'Ticket' 'tickets' 'ticke' 'kms a ticket' 'nn a ticket' 'ask a ticket' 'tick%65t'
+    'deposit' 'deposit ' 'deposit 4294967296' 'deposit 01' 'deposit 00' 'deposit +1' 'deposit -1' 'deposit x' 'deposit  1' 'deposit 1 '
+    'deposit 1 2' 'deposit 1 k' 'Deposit 1' 'deposits 1' ' deposit 1' 'kms a deposit 1' 'nn a deposit 1'
+)
 restarts=(
     'restart' 'restart ' 'restart kms ' 'restart  kms' 'restart kms k' 'restart km%73' 'restart nn ' 'restart nn x'
     'restart kms nn' 'restart Nn' 'restart n' 'restartkms' 'Restart kms' ' restart kms'
 )
 
 # The line before it is answered, and the line after it is not.
-for line in "${calls_on_keys[@]}" "${users[@]}" "${paths[@]}" "${snapshots[@]}" "${renames[@]}" "${asks[@]}" "${numbers[@]}" "${restarts[@]}"; do
+for line in "${calls_on_keys[@]}" "${users[@]}" "${paths[@]}" "${snapshots[@]}" "${renames[@]}" "${asks[@]}" "${numbers[@]}" \
+    "${fills[@]}" "${restarts[@]}"; do
     room=$(mktemp -d -p "$quick") || exit 1
     output=$(cd "$room" && printf 'nn a info /\n%s\nnn a info /\n' "$line" | "$program" replay)
     status=$?
