@@ -1,0 +1,7 @@
+pub mod Alike
+pub mod Collects
+pub mod NamesUpto
+pub mod Retires
+pub mod Starts
+pub mod Takes
+pub mod Zoned

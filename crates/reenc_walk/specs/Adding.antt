@@ -1,0 +1,19 @@
+-- A batch that is added to a walk.
+use Rattle.std.specs.Prelude.{◌≡◌, ℕ, true, ◌∷◌, ◌++◌, [], Some}
+use Rattle.reenc_walk.specs.declared.files.Files.{Files}
+use Rattle.reenc_walk.specs.declared.sent.BatchNote.{BatchNote}
+use Rattle.reenc_walk.specs.declared.walker.Walk.{Walk}
+use Rattle.reenc_walk.specs.declared.walker.Walk.TheVariants as walk
+use Rattle.reenc_walk.specs.Walks.{WalkState}
+
+abbrev pub with_files : Files → WalkState → WalkState
+with_files files w = record w { cursor = Some files.cursor; batches = w.batches ++ record { sent = files.kept; last = files.last; outstanding = true } ∷ [] }
+
+abbrev pub note_with : ℕ → Files → WalkState → BatchNote
+note_with zone files w = record { zone = zone; session = w.session; sent = files.sent }
+
+-- what is answered, and the state after it
+abbrev pub Adds : WalkState → ℕ → Files → Walk → WalkState → Type 0
+Adds w zone files (walk.Batch note) w' = (note ≡ note_with zone files w) × (w' ≡ with_files files w)
+Adds w zone files walk.NoneLeft w' = ⊥
+Adds w zone files walk.NoMemory w' = w' ≡ w

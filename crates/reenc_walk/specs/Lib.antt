@@ -1,0 +1,5 @@
+pub mod Adding
+pub mod Files
+pub mod Retiring
+pub mod Steps
+pub mod Walks
