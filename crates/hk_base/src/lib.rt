@@ -4,6 +4,7 @@
 
 mod disk;
 mod ended;
+mod gate;
 mod listing;
 mod names;
 mod numbers;
@@ -15,6 +16,7 @@ mod writing;
 
 pub use disk::{Disk, LONGEST_FILE};
 pub use ended::Ended;
+pub use gate::{Gate, Point};
 pub use listing::Listing;
 pub use names::{Dek, Edek, Iv, KeyName, VersionName};
 pub use numbers::read_number;
