@@ -5,7 +5,7 @@ use kms_calls::{KmsCall, KmsReply};
 use name_calls::{AskNote, NameRefusal, NameReply};
 
 /// An event: one call of one service. A path and the name of a snapshot are given by their bytes.
-/// Kept tickets, kept asks and kept replies are numbered from 1, each kind by itself. They are never
+/// Kept tickets, asks, batches and replies are numbered from 1, each kind by itself. They are never
 /// dropped: each may be used late, again or never.
 #[derive(Drop)]
 pub enum Event {
@@ -75,6 +75,16 @@ pub enum Event {
         path: ByteList,
         name: ByteList,
     },
+    /// Cancels the re-encryption of a zone.
+    Cancel {
+        user: Text,
+        path: ByteList,
+    },
+    /// Asks how far the re-encryption of a zone is.
+    Status {
+        user: Text,
+        path: ByteList,
+    },
     /// Asks for the encryption zones.
     Zones {
         user: Text,
@@ -91,14 +101,30 @@ pub enum Event {
         path: ByteList,
         key: KeyName,
     },
+    /// Asks the namesystem to re-encrypt the files of a zone. If the ask is accepted, its note is
+    /// kept.
+    AskSubmit {
+        user: Text,
+        path: ByteList,
+    },
     /// Makes the call of the key management service that the kept ask with this number wants, as
     /// the user `hdfs`, and keeps the reply.
     Draw {
         ask: u32,
     },
-    /// Finishes the ask that the kept reply with this number answers.
+    /// Finishes the ask that the kept reply with this number answers, if it answers one.
     Finish {
         reply: u32,
+    },
+    /// Takes the next batch of files of a zone that is being re-encrypted, and keeps it. If no file
+    /// is left and no batch is outstanding, the re-encryption is completed.
+    Walk {
+        path: ByteList,
+    },
+    /// Has the key management service re-encrypt the encrypted keys of the kept batch with this
+    /// number, as the user `hdfs`, and keeps the reply.
+    Serve {
+        batch: u32,
     },
 }
 
@@ -134,7 +160,18 @@ pub enum Line {
         number: u64,
         reply: Option<KmsReply>,
     },
-    /// An ask or a finish was refused.
+    /// A batch of so many files is kept under this number.
+    Batch {
+        number: u64,
+        files: u32,
+    },
+    /// No file is left to walk, and so many batches are outstanding.
+    NoneLeft {
+        outstanding: u32,
+    },
+    /// No file is left and no batch is outstanding: the re-encryption is completed.
+    Completed,
+    /// An ask, a finish or a walk was refused.
     Refused(NameRefusal),
     /// Nothing is kept under the given number.
     Unknown,

@@ -5,6 +5,7 @@ ghost use Rattle.name_calls.specs.Answers.{answer_of};
 use crate::listing::ChildList;
 use crate::paths::NPath;
 use crate::read_paths::ReadPath;
+use crate::status::ZoneStatus;
 use crate::zone_list::ZoneList;
 use hk_base::{Edek, KeyName, Text};
 use kms_calls::{KmsRefusal, KmsReply};
@@ -34,6 +35,12 @@ pub enum NameCall {
     Snap { path: NPath, name: Text },
     /// Removes the snapshot of a directory with a name (`hdfs dfs -deleteSnapshot`).
     Unsnap { path: NPath, name: Text },
+    /// Cancels the re-encryption of a zone (`hdfs crypto -reencryptZone -cancel`). Its path must be
+    /// that of the directory of the zone. Only the superuser `hdfs` may.
+    Cancel { path: NPath },
+    /// Asks how far the re-encryption of a zone is (`hdfs crypto -listReencryptionStatus`). The path
+    /// must be that of the directory of the zone. Only the superuser `hdfs` may.
+    Status { path: NPath },
     /// Asks for the encryption zones (`hdfs crypto -listZones`). Only the superuser `hdfs` may.
     Zones,
 }
@@ -53,12 +60,17 @@ pub enum NameRefusal {
     NotADirectory,
     /// A directory that is to become a zone, or is to be deleted alone, is not empty.
     NotEmpty,
-    /// Only the user `hdfs` makes zones and asks for them, and allows and disallows snapshots.
+    /// Only the user `hdfs` makes zones and asks for them, has them re-encrypted, and allows and
+    /// disallows snapshots.
     NotSuperuser,
     /// A directory that is to become a zone is one already, or lies in one.
     AlreadyInZone,
+    /// The directory is not an encryption zone: it is not marked with a key.
+    NotAZoneRoot,
     /// A rename would take the entry into or out of an encryption zone.
     CrossZone,
+    /// The entry lies below the directory of a zone that is being re-encrypted.
+    UnderReencryption,
     /// There is a snapshot of the directory, or of one below it. It is neither deleted nor renamed,
     /// nor are snapshots of it disallowed.
     HasSnapshots,
@@ -74,8 +86,12 @@ pub enum NameRefusal {
     /// are the number of the opening and the counter of its next id.
     AskGone { opening: u32, next: u64 },
     /// The zone of the path is not the one under which the ask was made, or the given encrypted key
-    /// was not made with the key of the zone.
+    /// is not one of the key of the zone.
     ZoneChanged,
+    /// The zone is being re-encrypted.
+    AlreadySubmitted,
+    /// The zone is not being re-encrypted.
+    NotSubmitted,
     /// There are 1,000,000 directories and files, or the ids of this start are used up.
     TooManyInodes,
     /// The key management service refused the call that the ask wanted.
@@ -103,6 +119,10 @@ pub enum Ask {
     /// Makes an empty directory a zone with this key (`hdfs crypto -createZone`). Only the
     /// superuser `hdfs` may.
     Zone { path: NPath, key: KeyName },
+    /// Has a zone re-encrypted: each of its files shall get an encrypted key of the present version of
+    /// the zone's key, or of a later one (`hdfs crypto -reencryptZone -start`). The path must be that
+    /// of the directory of the zone. Only the superuser `hdfs` may.
+    Submit { path: NPath },
 }
 
 /// The call of the key management service that an ask wants made, as the user `hdfs`, before it is
@@ -111,7 +131,8 @@ pub enum Ask {
 pub enum Want {
     /// No call: a file outside all zones has no key.
     Nothing,
-    /// One new data encryption key under the key of the zone.
+    /// One new data encryption key under the key of the zone. For a re-encryption it shows which
+    /// version is the present one.
     Generate(KeyName),
     /// The metadata of the key of a new zone, so that the key is known to exist.
     Metadata(KeyName),
@@ -132,8 +153,8 @@ pub struct Answered {
     pub reply: Option<KmsReply>,
 }
 
-/// The reply to a call: Refused if the call is refused, else Dir or File to Info, List and Zones to
-/// calls of those names, and Done to the others. `zone` is the path of the encryption zone that the
+/// The reply to a call: Refused if the call is refused, else Dir or File to Info, List, Status and
+/// Zones to calls of those names, and Done to the others. `zone` is the path of the encryption zone that the
 /// path lies in, or `None`; in a snapshot it is the zone that the path lay in.
 #[derive(Drop)]
 pub enum NameReply {
@@ -152,6 +173,8 @@ pub enum NameReply {
     },
     /// The entries of a directory, ordered by the bytes of their names.
     List(ChildList),
+    /// How far the last re-encryption of a zone is, or `None` if there was none.
+    Status(Option<ZoneStatus>),
     /// The encryption zones, in path order.
     Zones(ZoneList),
     Refused(NameRefusal),

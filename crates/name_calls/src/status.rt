@@ -1,0 +1,32 @@
+//! How far the re-encryption of a zone is.
+use crate::paths::NPath;
+use hk_base::VersionName;
+
+/// The state of a re-encryption.
+#[derive(Clone, Copy, Debug, PartialEq, Eq)]
+pub enum State {
+    /// It was submitted, and no batch of files was taken from the zone since.
+    Submitted,
+    /// A batch of files was taken.
+    Processing,
+    /// No file is left, or it was cancelled.
+    Completed,
+}
+
+/// The status of the last re-encryption of a zone.
+#[derive(Drop)]
+pub struct ZoneStatus {
+    /// The id of the re-encryption: that of the ask by which it was submitted.
+    pub session: u64,
+    /// The version of the zone's key that was the present one at the submission.
+    pub noted: VersionName,
+    pub state: State,
+    /// Whether it was cancelled.
+    pub cancelled: bool,
+    /// The number of files that got another encrypted key. It stays at 2^64 - 1.
+    pub reencrypted: u64,
+    /// The number of files that failed. It stays at 2^64 - 1.
+    pub failed: u64,
+    /// The path in the zone of the last file up to which all are done, or `None` before the first.
+    pub mark: Option<NPath>,
+}
