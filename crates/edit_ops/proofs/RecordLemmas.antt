@@ -6,7 +6,7 @@ use Rattle.std.specs.Int.{w16, w32, w64, to_be_bytes}
 use Rattle.std.proofs.lemmas.Bool.{eqb-true}
 use Rattle.std.proofs.lemmas.Bool.Decides.{nat_tests}
 use Rattle.std.proofs.lemmas.Option.{same_Some}
-use Rattle.hk_base.specs.Names.{Encrypted, IsKeyName, is_key_name, is_name_byte, is_key_length}
+use Rattle.hk_base.specs.Names.{Encrypted, Version, IsKeyName, is_key_name, is_name_byte, is_key_length}
 use Rattle.hk_base.specs.declared.records.RecordFault.{RecordFault}
 use Rattle.hk_base.specs.declared.records.RecordFault.TheVariants.{NoRecord, NoMemory}
 use Rattle.name_calls.specs.Paths.{is_absolute, is_component, is_relative, path_text, read_path, starts_reserved}
@@ -15,10 +15,10 @@ use Rattle.key_rows.specs.Records.{name_field, text_field}
 use Rattle.key_rows.specs.Reading.{Gives, number_at}
 use Rattle.key_rows.proofs.FieldLemmas.{IsBytes, IsBytes-rest, bind_some, bind_is, wide16, wide32, wide64}
 use Rattle.edit_ops.specs.declared.ops.EditOp.{EditOp}
-use Rattle.edit_ops.specs.declared.ops.EditOp.TheVariants.{Opened, Mkdir, File, Remove, Rename, Zone, Allow, Disallow, Snap, Unsnap}
+use Rattle.edit_ops.specs.declared.ops.EditOp.TheVariants.{Opened, Mkdir, File, Remove, Rename, Zone, Allow, Disallow, Snap, Unsnap, Submit, Cancel, Complete}
 use Rattle.edit_ops.specs.Laws.{longest_record}
-use Rattle.edit_ops.specs.Records.{path_field, edek_field, opt_field, spelling, fits, IsEdek, IsOpt, HasSpelling}
-use Rattle.edit_ops.specs.Reading.{Whole, last, then_of, as_of, name_at, path_at, component_at, iv_at, sealed_at, path_and_name_of, encrypted, edek_of, opt_edek_of, opened_of, mkdir_of, file_of, remove_of, rename_of, zone_of, allow_of, disallow_of, snap_of, unsnap_of, op_of}
+use Rattle.edit_ops.specs.Records.{path_field, version_field, edek_field, opt_field, spelling, fits, IsVersion, IsEdek, IsOpt, HasSpelling}
+use Rattle.edit_ops.specs.Reading.{Whole, last, then_of, as_of, name_at, path_at, component_at, iv_at, sealed_at, path_and_name_of, as_version, version_of, encrypted, edek_of, opt_edek_of, opened_of, mkdir_of, file_of, remove_of, rename_of, zone_of, allow_of, disallow_of, snap_of, unsnap_of, submit_of, cancel_of, complete_of, op_of}
 use Rattle.edit_ops.proofs.PathText.{path_takes, path_again, absolute_length, component_length}
 use Rattle.edit_ops.proofs.Parts.{IsFront, IsWhole, IsText, number_front, bytes_front, short_front, long_front, tested, front_whole, last_whole, then_whole, as_whole, opt_whole}
 
@@ -51,6 +51,17 @@ sealed_front = front_whole short_front (tested is_sealed) (λ sealed is. tt)
 
 same_number : (a b : ℕ) → a ≡ b → (a == b) ≡ true
 same_number a b e = grind (arith, nat_tests)
+
+version_whole : IsWhole version_of version_field IsVersion
+unfolding version_of
+version_whole =
+    as_whole as_version (λ v. (v.key, v.number)) version_field IsVersion
+    (then_whole name_front (last_whole (number_front w16 (2 ^ 16) wide16)))
+    (λ v. refl)
+    (λ v is. (is.key, is.number))
+    (λ v. refl)
+    (λ x is. record { key = is.0; number = is.1 })
+    (λ x. refl)
 
 edek_whole : IsWhole edek_of edek_field IsEdek
 unfolding edek_of
@@ -135,6 +146,19 @@ snap_is = record { parts = path_and_name_whole; has = λ x is. is; spells = λ x
 unsnap_is : IsOp path_and_name_of snapshot_text IsSnapshot 10 (λ x. Unsnap x.0 x.1)
 unsnap_is = record { parts = path_and_name_whole; has = λ x is. is; spells = λ x. refl }
 
+submit_is : IsOp (then_of (number_at w64) (then_of path_at version_of)) (λ x. to_be_bytes w64 x.0 ++ (path_field x.1.0 ++ version_field x.1.1)) (λ x. (x.0 < 2 ^ 64) × (IsAbsolute x.1.0 × IsVersion x.1.1)) 11 (λ x. Submit x.0 x.1.0 x.1.1)
+submit_is = record {
+  parts = then_whole (number_front w64 (2 ^ 64) wide64) (then_whole path_front version_whole);
+  has = λ x is. (is.0, is.1.0, is.1.1);
+  spells = λ x. refl;
+}
+
+cancel_is : IsOp (last (number_at w64)) (to_be_bytes w64) (λ n. n < 2 ^ 64) 13 Cancel
+cancel_is = record { parts = last_whole (number_front w64 (2 ^ 64) wide64); has = λ n is. is; spells = λ n. refl }
+
+complete_is : IsOp (last (number_at w64)) (to_be_bytes w64) (λ n. n < 2 ^ 64) 14 Complete
+complete_is = record { parts = last_whole (number_front w64 (2 ^ 64) wide64); has = λ n is. is; spells = λ n. refl }
+
 -- a first byte that was compared with one more record's
 by_tag : {op : EditOp} {bytes : List ℕ} (tag n : ℕ) (this others : Option EditOp) → (this ≡ Some op → HasSpelling op × (n ∷ bytes ≡ spelling op))
     → (others ≡ Some op → HasSpelling op × (tag ∷ bytes ≡ spelling op)) → cond (eqb tag n) this others ≡ Some op → HasSpelling op × (tag ∷ bytes ≡ spelling op)
@@ -146,7 +170,7 @@ by_tag {op} {bytes} tag n this others held other e = go (eqb tag n) (eqb-true ta
 
 -- an operation read from bytes has a spelling, which is these bytes
 op_read : (bytes : List ℕ) (op : EditOp) → IsBytes bytes → op_of bytes ≡ Some op → HasSpelling op × (bytes ≡ spelling op)
-unfolding op_of opened_of mkdir_of file_of remove_of rename_of zone_of allow_of disallow_of snap_of unsnap_of
+unfolding op_of opened_of mkdir_of file_of remove_of rename_of zone_of allow_of disallow_of snap_of unsnap_of submit_of cancel_of complete_of
 op_read [] op fits e = absurd cc
 op_read (tag ∷ bytes) op fits e =
     let rest = IsBytes-rest tag bytes fits in
@@ -159,11 +183,14 @@ op_read (tag ∷ bytes) op fits e =
     (by_tag tag 7 _ _ (op_takes allow_is bytes op rest)
     (by_tag tag 8 _ _ (op_takes disallow_is bytes op rest)
     (by_tag tag 9 _ _ (op_takes snap_is bytes op rest)
-    (by_tag tag 10 _ None (op_takes unsnap_is bytes op rest) (λ none. absurd cc)))))))))) e
+    (by_tag tag 10 _ _ (op_takes unsnap_is bytes op rest)
+    (by_tag tag 11 _ _ (op_takes submit_is bytes op rest)
+    (by_tag tag 13 _ _ (op_takes cancel_is bytes op rest)
+    (by_tag tag 14 _ None (op_takes complete_is bytes op rest) (λ none. absurd cc))))))))))))) e
 
 -- each spelling is read back as its operation
 spelling_read : (op : EditOp) → HasSpelling op → op_of (spelling op) ≡ Some op
-unfolding op_of opened_of mkdir_of file_of remove_of rename_of zone_of allow_of disallow_of snap_of unsnap_of
+unfolding op_of opened_of mkdir_of file_of remove_of rename_of zone_of allow_of disallow_of snap_of unsnap_of submit_of cancel_of complete_of
 spelling_read (Opened opening) has = op_again opened_is opening has
 spelling_read (Mkdir id path) has = op_again mkdir_is (id, path) has
 spelling_read (File id path edek) has = op_again file_is (id, (path, edek)) (has.0, (has.1, has.2))
@@ -174,6 +201,9 @@ spelling_read (Allow path) has = op_again allow_is path has
 spelling_read (Disallow path) has = op_again disallow_is path has
 spelling_read (Snap path name) has = op_again snap_is (path, name) has
 spelling_read (Unsnap path name) has = op_again unsnap_is (path, name) has
+spelling_read (Submit session path noted) has = op_again submit_is (session, (path, noted)) (has.0, (has.1, has.2))
+spelling_read (Cancel session) has = op_again cancel_is session has
+spelling_read (Complete session) has = op_again complete_is session has
 
 -- two operations with the same spelling are the same
 pub one_spelling : (a b : EditOp) → HasSpelling a → HasSpelling b → spelling a ≡ spelling b → a ≡ b
@@ -208,6 +238,9 @@ spelled_fits (Allow path) has = not_reserved path has
 spelled_fits (Disallow path) has = not_reserved path has
 spelled_fits (Snap path name) has = both_true (not (starts_reserved path)) (is_component name) (not_reserved path has.0) has.1
 spelled_fits (Unsnap path name) has = both_true (not (starts_reserved path)) (is_component name) (not_reserved path has.0) has.1
+spelled_fits (Submit session path noted) has = not_reserved path has.1
+spelled_fits (Cancel session) has = refl
+spelled_fits (Complete session) has = refl
 
 -- the length of records
 
@@ -222,6 +255,9 @@ key_length n is = grind (arith, nat_tests)
 
 path_length : (path : List (List ℕ)) → is_absolute path ≡ true → length (path_field path) ≤ 8002
 path_length path is = omega (arith, length-append (to_be_bytes w16 (length (path_text path))) (path_text path), absolute_length path is)
+
+version_length : (version : Version) → IsVersion version → length (version_field version) ≤ 67
+version_length version is = omega (arith, name_length version.key is.key, length-append (name_field version.key) (to_be_bytes w16 version.number))
 
 edek_length : (edek : Encrypted) → IsEdek edek → length (edek_field edek) ≤ 116
 edek_length edek is =
@@ -261,3 +297,10 @@ records_are_short (Allow path) has = let l = path_length path has in (omega arit
 records_are_short (Disallow path) has = let l = path_length path has in (omega arith, omega arith)
 records_are_short (Snap path name) has = let l = snapshot_length path name has.0 has.1 in (omega arith, omega arith)
 records_are_short (Unsnap path name) has = let l = snapshot_length path name has.0 has.1 in (omega arith, omega arith)
+records_are_short (Submit session path noted) has =
+    let l = path_length path has.1 in
+    let m = version_length noted has.2 in
+    let e = length-append (to_be_bytes w64 session) (path_field path ++ version_field noted) in
+    let f = length-append (path_field path) (version_field noted) in (omega arith, omega arith)
+records_are_short (Cancel session) has = (omega arith, omega arith)
+records_are_short (Complete session) has = (omega arith, omega arith)

@@ -1,11 +1,11 @@
 -- Records read from left to right: each field, and the bytes after it.
 use Rattle.std.specs.Prelude.{ℕ, List, [], ◌∷◌, length, Option, Some, None, ◌==◌, if◌then◌else◌}
 use Rattle.std.specs.Int.{w16, w32, w64}
-use Rattle.hk_base.specs.Names.{Encrypted}
+use Rattle.hk_base.specs.Names.{Encrypted, Version}
 use Rattle.name_calls.specs.Paths.{is_component, read_path}
 use Rattle.key_rows.specs.Reading.{◌>>=◌, number_at, bytes_at, short_at, long_at, name_of, material_of}
 use Rattle.edit_ops.specs.declared.ops.EditOp.{EditOp}
-use Rattle.edit_ops.specs.declared.ops.EditOp.TheVariants.{Opened, Mkdir, File, Remove, Rename, Zone, Allow, Disallow, Snap, Unsnap}
+use Rattle.edit_ops.specs.declared.ops.EditOp.TheVariants.{Opened, Mkdir, File, Remove, Rename, Zone, Allow, Disallow, Snap, Unsnap, Submit, Cancel, Complete}
 
 -- reads a value from the start of the bytes, if they begin with one: the value, and the bytes after it
 abbrev pub Front : Type 0 → Type 0
@@ -48,6 +48,13 @@ opt_of whole (tag ∷ bytes) =
 
 abbrev pub name_at : Front (List ℕ)
 name_at = front_of short_at name_of
+
+abbrev pub as_version : List ℕ × ℕ → Version
+as_version x = record { key = x.0; number = x.1 }
+
+-- all of the bytes, if they are a version of a key
+unfoldable pub version_of : Whole Version
+version_of bytes = as_of as_version (then_of name_at (last (number_at w16))) bytes
 
 unfoldable pub path_at : Front (List (List ℕ))
 path_at bytes = front_of long_at read_path bytes
@@ -110,6 +117,15 @@ snap_of bytes = as_of (λ x. Snap x.0 x.1) path_and_name_of bytes
 unfoldable pub unsnap_of : Whole EditOp
 unsnap_of bytes = as_of (λ x. Unsnap x.0 x.1) path_and_name_of bytes
 
+unfoldable pub submit_of : Whole EditOp
+submit_of bytes = as_of (λ x. Submit x.0 x.1.0 x.1.1) (then_of (number_at w64) (then_of path_at version_of)) bytes
+
+unfoldable pub cancel_of : Whole EditOp
+cancel_of bytes = as_of Cancel (last (number_at w64)) bytes
+
+unfoldable pub complete_of : Whole EditOp
+complete_of bytes = as_of Complete (last (number_at w64)) bytes
+
 -- the operation of a record, by the record's first byte
 unfoldable pub op_of : Whole EditOp
 op_of [] = None
@@ -123,4 +139,7 @@ op_of (tag ∷ bytes) =
     else (if tag == 7 then allow_of bytes
     else (if tag == 8 then disallow_of bytes
     else (if tag == 9 then snap_of bytes
-    else (if tag == 10 then unsnap_of bytes else None)))))))))
+    else (if tag == 10 then unsnap_of bytes
+    else (if tag == 11 then submit_of bytes
+    else (if tag == 13 then cancel_of bytes
+    else (if tag == 14 then complete_of bytes else None))))))))))))

@@ -1,15 +1,19 @@
 -- The records of the edit log: the one spelling of each operation. Numbers are big-endian.
 use Rattle.std.specs.Prelude.{◌≡◌, ℕ, ◌<◌, ◌^◌, Bool, true, not, ◌&&◌, List, [], ◌∷◌, ◌++◌, length, Option, Some, None, IsTrue}
 use Rattle.std.specs.Int.{w16, w32, w64, to_be_bytes}
-use Rattle.hk_base.specs.Names.{Encrypted, IsKeyName, is_key_length}
+use Rattle.hk_base.specs.Names.{Encrypted, Version, IsKeyName, is_key_length}
 use Rattle.name_calls.specs.Paths.{is_absolute, is_component, path_text, starts_reserved}
 use Rattle.key_rows.specs.Records.{name_field, text_field}
 use Rattle.edit_ops.specs.declared.ops.EditOp.{EditOp}
-use Rattle.edit_ops.specs.declared.ops.EditOp.TheVariants.{Opened, Mkdir, File, Remove, Rename, Zone, Allow, Disallow, Snap, Unsnap}
+use Rattle.edit_ops.specs.declared.ops.EditOp.TheVariants.{Opened, Mkdir, File, Remove, Rename, Zone, Allow, Disallow, Snap, Unsnap, Submit, Cancel, Complete}
 
 -- a path: two bytes of length and the text of the path
 abbrev pub path_field : List (List ℕ) → List ℕ
 path_field path = text_field (path_text path)
+
+-- a version of a key: the name of the key with one byte of length, and the version's number
+abbrev pub version_field : Version → List ℕ
+version_field version = name_field version.key ++ to_be_bytes w16 version.number
 
 -- an encrypted data encryption key: the name of its key with one byte of length, the version's number, the
 -- initialization vector, and the sealed bytes with one byte of length
@@ -33,6 +37,9 @@ spelling (Allow path) = 7 ∷ path_field path
 spelling (Disallow path) = 8 ∷ path_field path
 spelling (Snap path name) = 9 ∷ (path_field path ++ text_field name)
 spelling (Unsnap path name) = 10 ∷ (path_field path ++ text_field name)
+spelling (Submit session path noted) = 11 ∷ (to_be_bytes w64 session ++ (path_field path ++ version_field noted))
+spelling (Cancel session) = 13 ∷ to_be_bytes w64 session
+spelling (Complete session) = 14 ∷ to_be_bytes w64 session
 
 -- no path of an operation begins with `.reserved`, and a snapshot's name can be a name of a path
 abbrev pub fits : EditOp → Bool
@@ -46,6 +53,14 @@ fits (Allow path) = not (starts_reserved path)
 fits (Disallow path) = not (starts_reserved path)
 fits (Snap path name) = not (starts_reserved path) && is_component name
 fits (Unsnap path name) = not (starts_reserved path) && is_component name
+fits (Submit session path noted) = not (starts_reserved path)
+fits (Cancel session) = true
+fits (Complete session) = true
+
+-- a key's name, and a number below 65,536
+pub record IsVersion (version : Version) : Type 0 where
+  pub key : IsKeyName version.key
+  pub number : version.number < 2 ^ 16
 
 -- a key's name, a number below 65,536, 16 bytes, and 16, 24 or 32 bytes
 pub record IsEdek (edek : Encrypted) : Type 0 where
@@ -70,3 +85,6 @@ HasSpelling (Allow path) = IsTrue (is_absolute path)
 HasSpelling (Disallow path) = IsTrue (is_absolute path)
 HasSpelling (Snap path name) = IsTrue (is_absolute path) × IsTrue (is_component name)
 HasSpelling (Unsnap path name) = IsTrue (is_absolute path) × IsTrue (is_component name)
+HasSpelling (Submit session path noted) = (session < 2 ^ 64) × IsTrue (is_absolute path) × IsVersion noted
+HasSpelling (Cancel session) = session < 2 ^ 64
+HasSpelling (Complete session) = session < 2 ^ 64

@@ -4,7 +4,7 @@ ghost use Rattle.std.specs.Str.{bytes_eq};
 ghost use Rattle.name_calls.specs.Paths.{is_component, is_relative, starts_reserved};
 ghost use Rattle.edit_ops.specs.Records.{fits};
 
-use hk_base::{Edek, KeyName, Text};
+use hk_base::{Edek, KeyName, Text, VersionName};
 use name_calls::{NPath, is_component};
 
 /// An operation that changes the namesystem. An id is a number that no other operation uses.
@@ -57,6 +57,21 @@ pub enum EditOp {
         path: NPath,
         name: Text,
     },
+    /// The zone at the path was submitted for re-encryption, under the id `session`. Its files are
+    /// to get keys of the noted version, or of a later one.
+    Submit {
+        session: u64,
+        path: NPath,
+        noted: VersionName,
+    },
+    /// A re-encryption was cancelled.
+    Cancel {
+        session: u64,
+    },
+    /// A re-encryption was completed: each file of the zone was handed out, and each batch came back.
+    Complete {
+        session: u64,
+    },
 }
 
 /// Returns whether the first name of a path is `.reserved`.
@@ -105,6 +120,9 @@ impl EditOp {
             EditOp::Disallow { path } => !is_reserved(path),
             EditOp::Snap { path, name } => can_be_a_snapshot(path, name),
             EditOp::Unsnap { path, name } => can_be_a_snapshot(path, name),
+            EditOp::Submit { path, .. } => !is_reserved(path),
+            EditOp::Cancel { .. } => true,
+            EditOp::Complete { .. } => true,
         }
     }
 }

@@ -1,10 +1,11 @@
 //! Reading the records of the edit log.
 ghost use Rattle.std.specs.Prelude.{◌≡◌, true, IfOk, IsErrOf};
+ghost use Rattle.std.specs.Int.{w64};
 ghost use Rattle.hk_base.specs.declared.records.RecordFault.TheVariants as fault;
 ghost use Rattle.name_calls.specs.Paths.{is_component, read_path};
-ghost use Rattle.key_rows.specs.Reading.{Gives};
+ghost use Rattle.key_rows.specs.Reading.{Gives, number_at};
 ghost use Rattle.edit_ops.specs.Records.{HasSpelling, spelling};
-ghost use Rattle.edit_ops.specs.Reading.{allow_of, component_of, disallow_of, edek_of, file_of, iv_of, last, mkdir_of, op_of, opened_of, opt_edek_of, path_and_name_of, path_at, remove_of, rename_of, snap_of, unsnap_of, zone_of};
+ghost use Rattle.edit_ops.specs.Reading.{allow_of, cancel_of, complete_of, component_of, disallow_of, edek_of, file_of, iv_of, last, mkdir_of, op_of, opened_of, opt_edek_of, path_and_name_of, path_at, remove_of, rename_of, snap_of, submit_of, unsnap_of, version_of, zone_of};
 
 use crate::ops::EditOp;
 use hk_base::{Edek, Iv, NoMemory, RecordFault, Text, VersionName};
@@ -40,6 +41,17 @@ fn path_at(alloc: Global, bytes: &[u8]) -> Result<(NPath, &[u8]), RecordFault>
     let (text, rest) = cut_long(bytes)?;
     let path = path_of(alloc, text)?;
     Ok((path, rest))
+}
+
+/// Reads all of the bytes as the id of a re-encryption.
+fn last_session(bytes: &[u8]) -> Result<u64, RecordFault>
+    ensures { Gives (λ x. x) result (last (number_at w64) bytes.now) }
+{
+    let (session, rest) = u64_at(bytes)?;
+    if !rest.is_empty() {
+        return Err(RecordFault::NoRecord);
+    }
+    Ok(session)
 }
 
 /// Reads all of the bytes as a path.
@@ -87,6 +99,20 @@ fn path_and_name_of(alloc: Global, bytes: &[u8]) -> Result<(NPath, Text), Record
         return Err(RecordFault::NoRecord);
     }
     Ok((path, name))
+}
+
+/// Reads all of the bytes as a version of a key.
+#[tactic(auto, unfolding(crate::specs::Reading::version_of))]
+fn version_of(bytes: &[u8]) -> Result<VersionName, RecordFault>
+    ensures { Gives (λ x. x) result (version_of bytes.now) }
+{
+    let (key, rest) = cut_short(bytes)?;
+    let key = name_of(key)?;
+    let (number, rest) = u16_at(rest)?;
+    if !rest.is_empty() {
+        return Err(RecordFault::NoRecord);
+    }
+    Ok(VersionName { key, number })
 }
 
 /// Reads all of the bytes as an encrypted data encryption key.
@@ -222,6 +248,36 @@ fn unsnap_of(alloc: Global, bytes: &[u8]) -> Result<EditOp, RecordFault>
     Ok(EditOp::Unsnap { path, name })
 }
 
+#[tactic(auto, unfolding(crate::specs::Reading::submit_of))]
+fn submit_of(alloc: Global, bytes: &[u8]) -> Result<EditOp, RecordFault>
+    ensures { Gives (λ x. x) result (submit_of bytes.now) }
+{
+    let (session, rest) = u64_at(bytes)?;
+    let (path, rest) = path_at(alloc, rest)?;
+    let noted = version_of(rest)?;
+    Ok(EditOp::Submit {
+        session,
+        path,
+        noted,
+    })
+}
+
+#[tactic(auto, unfolding(crate::specs::Reading::cancel_of))]
+fn cancel_of(bytes: &[u8]) -> Result<EditOp, RecordFault>
+    ensures { Gives (λ x. x) result (cancel_of bytes.now) }
+{
+    let session = last_session(bytes)?;
+    Ok(EditOp::Cancel { session })
+}
+
+#[tactic(auto, unfolding(crate::specs::Reading::complete_of))]
+fn complete_of(bytes: &[u8]) -> Result<EditOp, RecordFault>
+    ensures { Gives (λ x. x) result (complete_of bytes.now) }
+{
+    let session = last_session(bytes)?;
+    Ok(EditOp::Complete { session })
+}
+
 #[tactic(auto, unfolding(crate::specs::Reading::op_of))]
 fn op_of(alloc: Global, bytes: &[u8]) -> Result<EditOp, RecordFault>
     ensures { Gives (λ x. x) result (op_of bytes.now) }
@@ -237,6 +293,9 @@ fn op_of(alloc: Global, bytes: &[u8]) -> Result<EditOp, RecordFault>
         [8, rest @ ..] => disallow_of(alloc, rest),
         [9, rest @ ..] => snap_of(alloc, rest),
         [10, rest @ ..] => unsnap_of(alloc, rest),
+        [11, rest @ ..] => submit_of(alloc, rest),
+        [13, rest @ ..] => cancel_of(rest),
+        [14, rest @ ..] => complete_of(rest),
         _ => Err(RecordFault::NoRecord),
     }
 }

@@ -4,10 +4,10 @@ ghost use Rattle.std.specs.Int.{w16, w32, w64, to_be_bytes};
 ghost use Rattle.hk_base.specs.Names.{IsKeyName};
 ghost use Rattle.name_calls.specs.Paths.{is_component, is_relative, names_text, path_text};
 ghost use Rattle.key_rows.specs.Records.{name_field, text_field};
-ghost use Rattle.edit_ops.specs.Records.{HasSpelling, IsEdek, IsOpt, edek_field, fits, opt_field, path_field, spelling};
+ghost use Rattle.edit_ops.specs.Records.{HasSpelling, IsEdek, IsOpt, IsVersion, edek_field, fits, opt_field, path_field, spelling, version_field};
 
 use crate::ops::EditOp;
-use hk_base::{ByteList, Edek, KeyName, NoMemory, Text};
+use hk_base::{ByteList, Edek, KeyName, NoMemory, Text, VersionName};
 use key_rows::fields::{append_head, append_name};
 use name_calls::NPath;
 
@@ -37,6 +37,16 @@ fn append_path(out: &mut ByteList, path: &NPath) -> Result<(), NoMemory>
     let len = text_len(path);
     out.append(&(len as u16).to_be_bytes())?;
     path.write(out)
+}
+
+/// Appends a version of a key. If allocation fails, a prefix may have been appended.
+fn append_version(out: &mut ByteList, version: &VersionName) -> Result<(), NoMemory>
+    ensures ok { OnOk result (out.new ≡ out.old ++ version_field version.now) }
+    ensures is_version { OnOk result (IsVersion version.now) }
+    ensures err { OnErr result (take (length out.old) out.new ≡ out.old) }
+{
+    append_name(out, &version.key)?;
+    out.append(&version.number.to_be_bytes())
 }
 
 /// Appends an encrypted data encryption key. If allocation fails, a prefix may have been appended.
@@ -155,6 +165,23 @@ fn append_zone(out: &mut ByteList, path: &NPath, key: &KeyName) -> Result<(), No
     append_name(out, key)
 }
 
+/// Appends the record of a zone that was submitted. If allocation fails, a prefix may have been
+/// appended.
+fn append_submit(
+    out: &mut ByteList,
+    session: u64,
+    path: &NPath,
+    noted: &VersionName,
+) -> Result<(), NoMemory>
+    ensures ok { OnOk result (out.new ≡ out.old ++ 11 ∷ (to_be_bytes w64 session ++ (path_field path.now ++ version_field noted.now))) }
+    ensures rule { OnOk result (is_relative path.now ≡ true) }
+    ensures is_version { OnOk result (IsVersion noted.now) }
+    ensures err { OnErr result (take (length out.old) out.new ≡ out.old) }
+{
+    append_front(out, 11, session, path)?;
+    append_version(out, noted)
+}
+
 impl EditOp {
     /// Appends the record of the operation in the edit log. Returns `NoMemory` if allocation fails;
     /// `out` is then unchanged.
@@ -195,6 +222,13 @@ impl EditOp {
             EditOp::Disallow { path } => append_tagged_path(out, 8, path),
             EditOp::Snap { path, name } => append_snapshot(out, 9, path, name),
             EditOp::Unsnap { path, name } => append_snapshot(out, 10, path, name),
+            EditOp::Submit {
+                session,
+                path,
+                noted,
+            } => append_submit(out, *session, path, noted),
+            EditOp::Cancel { session } => append_head(out, 13, *session),
+            EditOp::Complete { session } => append_head(out, 14, *session),
         }
     }
 }
