@@ -1,3 +1,4 @@
 pub mod Laws
 pub mod Listings
+pub mod Statuses
 pub mod Zones
