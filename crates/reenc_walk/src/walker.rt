@@ -1,5 +1,5 @@
 //! The walk of a session.
-ghost use Rattle.std.specs.Prelude.{◌≡◌, ◌≤◌, ◌<◌, [], length, IfOk, IsTrue};
+ghost use Rattle.std.specs.Prelude.{◌≡◌, ◌≤◌, ◌<◌, [], length, is_some, IfOk, IsTrue};
 ghost use Rattle.reenc_walk.specs.Adding.{Adds};
 ghost use Rattle.reenc_walk.specs.Walks.{Walks, has_batch, mark_after, outstanding, retire};
 
@@ -67,6 +67,13 @@ impl Walker {
         ensures { result ≡ self.now.session }
     {
         self.session
+    }
+
+    /// Returns whether a file has been walked, or the walk starts after a mark.
+    pub fn has_begun(&self) -> bool
+        ensures { result ≡ is_some self.now.cursor }
+    {
+        self.cursor.is_some()
     }
 
     /// Returns the next batch: the first files of the zone after those that have been walked, at most
