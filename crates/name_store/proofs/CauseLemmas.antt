@@ -2,6 +2,7 @@
 use Rattle.std.proofs.Common.{◌≡◌, ℕ, ◌<◌, Bool, true, false, cond, not, ◌&&◌, ◌||◌, nat_lt, nat_le, List, [], ◌∷◌, ◌++◌, length, Option, Some, None, is_none, is_some, refl, ap, ◌∙◌, arith}
 use Rattle.std.specs.Prelude.{◌==◌}
 use Rattle.std.proofs.lemmas.Bool.Decides.{nat_tests}
+use Rattle.hk_base.specs.declared.names.KeyName.{KeyName}
 use Rattle.name_calls.specs.declared.calls.NameRefusal.{NameRefusal}
 use Rattle.name_calls.specs.declared.calls.NameRefusal.TheVariants as refusal
 use Rattle.name_calls.specs.Paths.{is_prefix, parent}
@@ -9,8 +10,10 @@ use Rattle.inode_tree.specs.Moves.{CanMove, move_fits}
 use Rattle.inode_tree.specs.Rows.{Entry, entry_of, has_children, is_dir_at, move_allowed, row_at, zone_of}
 use Rattle.edit_ops.specs.declared.ops.EditOp.{EditOp}
 use Rattle.edit_ops.specs.declared.ops.EditOp.TheVariants as op
+use Rattle.zone_table.specs.declared.statuses.StatusRow.{StatusRow}
+use Rattle.zone_table.specs.Statuses.{zone_goes_on}
 use Rattle.snap_store.specs.Snapshots.{SnapTable, allowed_above, allowed_below, count_of, holds_snapshot, is_among, snapshot_named}
-use Rattle.name_store.specs.Causes.{allow_causes, allowed_causes, directory_causes, disallow_causes, first_cause, has_most_rows, has_most_snapshots, id_at, is_root, kept_causes, move_causes, nests_allowed, removal_causes, rename_causes, row_causes, snap_causes, to_be_made, zone_causes}
+use Rattle.name_store.specs.Causes.{allow_causes, allowed_causes, directory_causes, disallow_causes, first_cause, has_most_rows, has_most_snapshots, id_at, is_root, is_under_reencryption, kept_causes, mark_at, move_causes, nests_allowed, removal_causes, rename_causes, row_causes, snap_causes, submit_causes, to_be_made, zone_causes, zone_root_causes}
 use Rattle.name_store.specs.Store.{is_opening}
 use Rattle.name_store.specs.Table.{NameTable, allows, allows_change, fits_key, is_of_opening, may_use, may_use_all, op_causes, uses}
 
@@ -156,9 +159,10 @@ pub record IsRenamable (rows : List Entry) (snaps : SnapTable) (p q : List (List
   pub outside : nests_allowed rows snaps p q ≡ false
   pub zone : move_allowed rows p q ≡ true
 
-pub renamable : (rows : List Entry) (snaps : SnapTable) (p q : List (List ℕ)) → first_cause (rename_causes rows snaps p q) ≡ None → IsRenamable rows snaps p q
-renamable rows snaps p q h =
-    let last = (nests_allowed rows snaps p q, refusal.NestedSnapshottable) ∷ (not (move_allowed rows p q), refusal.CrossZone) ∷ [] in
+pub renamable : (rows : List Entry) (snaps : SnapTable) (statuses : List StatusRow) (p q : List (List ℕ)) → first_cause (rename_causes rows snaps statuses p q) ≡ None → IsRenamable rows snaps p q
+renamable rows snaps statuses p q h =
+    let last =
+    (nests_allowed rows snaps p q, refusal.NestedSnapshottable) ∷ (not (move_allowed rows p q), refusal.CrossZone) ∷ (is_under_reencryption rows statuses p, refusal.UnderReencryption) ∷ [] in
     let parts = none-of-both (move_causes rows p q) (kept_causes rows snaps p ++ last) h in
     let a = clear (is_prefix p q) refusal.RootOrInside _ parts.0 in
     let b = clear (is_none (row_at rows p)) refusal.NoSuchPath _ a.1 in
@@ -166,12 +170,34 @@ renamable rows snaps p q h =
     let free = makeable rows q made.0 in
     let more = none-of-both (kept_causes rows snaps p) last parts.1 in
     let d = clear (nests_allowed rows snaps p q) refusal.NestedSnapshottable _ more.1 in
+    let e = clear (not (move_allowed rows p q)) refusal.CrossZone _ d.1 in
     record {
       can = record { stands = there (row_at rows p) b.0; housed = free.house; absent = free.absent; apart = a.0; fits = yes _ (no-cause (not (move_fits rows p q)) refusal.BadPath made.1) };
       none = holds-none rows snaps p more.0;
       outside = d.0;
-      zone = yes _ (no-cause (not (move_allowed rows p q)) refusal.CrossZone d.1);
+      zone = yes _ e.0;
     }
+
+-- a directory that is a zone
+
+some-of : {X : Type 0} (o : Option X) → is_none o ≡ false → (x : X) × (o ≡ Some x)
+some-of None h = absurd cc
+some-of (Some x) h = (x, refl)
+
+pub record IsZoneRoot (rows : List Entry) (p : List (List ℕ)) : Type 0 where
+  pub dir : is_dir_at (row_at rows p) ≡ true
+  pub key : KeyName
+  pub marked : mark_at rows p ≡ Some key
+
+pub zone-root : (rows : List Entry) (p : List (List ℕ)) → first_cause (zone_root_causes rows p) ≡ None → IsZoneRoot rows p
+zone-root rows p h =
+    let parts = none-of-both (directory_causes rows p) ((is_none (mark_at rows p), refusal.NotAZoneRoot) ∷ []) h in
+    let its = some-of (mark_at rows p) (no-cause (is_none (mark_at rows p)) refusal.NotAZoneRoot parts.1) in
+    record { dir = directory rows p parts.0; key = its.0; marked = its.1 }
+
+-- one that is not under re-encryption may be submitted
+pub submittable : (rows : List Entry) (statuses : List StatusRow) (p : List (List ℕ)) → first_cause (submit_causes rows statuses p) ≡ None → IsZoneRoot rows p
+submittable rows statuses p h = zone-root rows p (none-of-both (zone_root_causes rows p) ((zone_goes_on statuses (id_at rows p), refusal.AlreadySubmitted) ∷ []) h).0
 
 -- an operation that the table allows
 
@@ -217,6 +243,9 @@ allowed t (op.Allow p) safe may = parts t (op.Allow p) may
 allowed t (op.Disallow p) safe may = parts t (op.Disallow p) may
 allowed t (op.Snap p name) safe may = parts t (op.Snap p name) may
 allowed t (op.Unsnap p name) safe may = parts t (op.Unsnap p name) may
+allowed t (op.Submit session p noted) safe may = parts t (op.Submit session p noted) may
+allowed t (op.Cancel session) safe may = parts t (op.Cancel session) may
+allowed t (op.Complete session) safe may = parts t (op.Complete session) may
 
 pub allows-it : (t : NameTable) (o : EditOp) → is_opening o ≡ false → IsAllowed t o → allows t o ≡ true
 allows-it t (op.Opened opening) safe a = absurd cc
@@ -229,6 +258,9 @@ allows-it t (op.Allow p) safe a = whole t (op.Allow p) a
 allows-it t (op.Disallow p) safe a = whole t (op.Disallow p) a
 allows-it t (op.Snap p name) safe a = whole t (op.Snap p name) a
 allows-it t (op.Unsnap p name) safe a = whole t (op.Unsnap p name) a
+allows-it t (op.Submit session p noted) safe a = whole t (op.Submit session p noted) a
+allows-it t (op.Cancel session) safe a = whole t (op.Cancel session) a
+allows-it t (op.Complete session) safe a = whole t (op.Complete session) a
 
 -- the id of an operation that uses one
 

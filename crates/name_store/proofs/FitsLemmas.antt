@@ -276,7 +276,7 @@ module _ (t : NameTable) (good : IsTable t) where
   fits-after (op.Mkdir id p) may = fits-all t (put (new_directory id p) t.rows) good (stays-put (new_directory id p) t.rows (id-may-be-used t id (allowed t (op.Mkdir id p) refl may).ids).free)
   fits-after (op.File id p edek) may = fits-all t (put (new_file id p edek) t.rows) good (stays-put (new_file id p edek) t.rows (id-may-be-used t id (allowed t (op.File id p edek) refl may).ids).free)
   fits-after (op.Remove p) may = fits-removed t p good (holds-none t.rows t.snaps p (none-of-both (removal_causes t.rows p) (kept_causes t.rows t.snaps p) (allowed t (op.Remove p) refl may).free).1)
-  fits-after (op.Rename p q) may = let free = renamable t.rows t.snaps p q (allowed t (op.Rename p q) refl may).free in fits-renamed t p q good free.can free.none
+  fits-after (op.Rename p q) may = let free = renamable t.rows t.snaps t.statuses p q (allowed t (op.Rename p q) refl may).free in fits-renamed t p q good free.can free.none
   fits-after (op.Zone p key) may = fits-all t (set_kind t.rows (id_at t.rows p) (Dir (Some key))) good (stays-kind (id_at t.rows p) key t.rows)
   fits-after (op.Allow p) may = record {
     stand = all-with (Stands t.rows) (id_at t.rows p) t.snaps.allowed
@@ -289,10 +289,9 @@ module _ (t : NameTable) (good : IsTable t) where
     stand = good.fits.stand;
     whole = All-filter (λ (s : Snapshot). not (is_named (id_at t.rows p) name s)) (IsWhole t.rows) t.snaps.taken good.fits.whole;
   }
-
--- an operation that is allowed, of a table and an operation that are known by other names
-pub fits-of : (t t' : NameTable) (o o' : EditOp) → t ≡ t' → o' ≡ o → IsTable t → allows t' o' ≡ true → FitsRows (after_table t o).rows (after_table t o).snaps
-fits-of t t' o o' same is good may = fits-after t good o (ap (λ (u : NameTable). allows u o) same ∙ ap (allows t') (sym is) ∙ may)
+  fits-after (op.Submit session p noted) may = good.fits
+  fits-after (op.Cancel session) may = good.fits
+  fits-after (op.Complete session) may = good.fits
 
 -- whether it took effect, or there was no memory
 pub either : {A E X : Type 0} (P : X → Type 0) (r : Result A E) (new done old : X) → OnOk r (new ≡ done) → OnErr r (new ≡ old) → P done → P old → P new

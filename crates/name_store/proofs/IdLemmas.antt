@@ -64,6 +64,9 @@ rows_have P t (op.Allow p) own h = h
 rows_have P t (op.Disallow p) own h = h
 rows_have P t (op.Snap p name) own h = h
 rows_have P t (op.Unsnap p name) own h = h
+rows_have P t (op.Submit session p noted) own h = h
+rows_have P t (op.Cancel session) own h = h
+rows_have P t (op.Complete session) own h = h
 
 used-weaker : (n m : ℕ) → n ≤ m → (ids : List ℕ) → AllBelow n ids → AllBelow m ids
 used-weaker n m le [] h = tt
@@ -107,6 +110,11 @@ ids-after r (op.Allow p) may h = record { rows = h.rows; used = h.used }
 ids-after r (op.Disallow p) may h = record { rows = h.rows; used = h.used }
 ids-after r (op.Snap p name) may h = record { rows = h.rows; used = h.used }
 ids-after r (op.Unsnap p name) may h = record { rows = h.rows; used = h.used }
+ids-after r (op.Submit session p noted) may h =
+    let below = of-opening r.table session (id-may-be-used r.table session (allowed r.table (op.Submit session p noted) refl may).ids) in
+    record { rows = h.rows; used = (below, h.used) }
+ids-after r (op.Cancel session) may h = record { rows = h.rows; used = h.used }
+ids-after r (op.Complete session) may h = record { rows = h.rows; used = h.used }
 
 -- what the operations that apply keep holds of the result
 pub kept : (I : Replayed → Type 0) → ((r : Replayed) (o : EditOp) → applies r o ≡ true → I r → I (after r o)) → (r made : Replayed) (ops : List EditOp) → I r → name_replay r ops ≡ Some made → I made
@@ -151,3 +159,6 @@ fresh_in t used (op.Allow p) may h = refl
 fresh_in t used (op.Disallow p) may h = refl
 fresh_in t used (op.Snap p name) may h = refl
 fresh_in t used (op.Unsnap p name) may h = refl
+fresh_in t used (op.Submit session p noted) may h = of-this t used session (id-may-be-used t session (allowed t (op.Submit session p noted) refl may).ids) h
+fresh_in t used (op.Cancel session) may h = refl
+fresh_in t used (op.Complete session) may h = refl

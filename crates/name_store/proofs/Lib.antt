@@ -9,4 +9,5 @@ pub mod RowLemmas
 pub mod RunLemmas
 pub mod SettleLemmas
 pub mod Starts
+pub mod StatusLemmas
 pub mod UsedLemmas

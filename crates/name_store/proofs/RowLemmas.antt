@@ -87,7 +87,7 @@ directory-entry rows p good h = go (row_at rows p) refl h
     go None is dir = absurd cc
     go (Some row) is dir = let at = entry-at rows p row good is in (at.0, at.2, at.3, ap (λ (r : Row). is_dir r.kind) at.1 ∙ dir)
 
-same-prefix : (p q : List (List ℕ)) → same_path p q ≡ true → is_prefix p q ≡ true
+pub same-prefix : (p q : List (List ℕ)) → same_path p q ≡ true → is_prefix p q ≡ true
 same-prefix [] q h = refl
 same-prefix (x ∷ p) [] h = absurd cc
 same-prefix (x ∷ p) (y ∷ q) h =
@@ -121,7 +121,7 @@ not-over x es p h = go (is_zone_over p x) h
     go false h = (refl, h)
 
 -- if a path is in no zone, the row at the path has no mark
-unmarked : (es : List Entry) (p : List (List ℕ)) (row : Row) → row_at es p ≡ Some row → zone_of es p ≡ None → mark_of row.kind ≡ None
+pub unmarked : (es : List Entry) (p : List (List ℕ)) (row : Row) → row_at es p ≡ Some row → zone_of es p ≡ None → mark_of row.kind ≡ None
 unmarked [] p row is none = absurd cc
 unmarked (x ∷ es) p row is none = step (λ stands. unmarked es p row stands outside.1) (same_path x.path p) refl is
   where

@@ -44,6 +44,9 @@ turn-of t (op.Allow p) may = (allowed t (op.Allow p) refl may).opened
 turn-of t (op.Disallow p) may = (allowed t (op.Disallow p) refl may).opened
 turn-of t (op.Snap p name) may = (allowed t (op.Snap p name) refl may).opened
 turn-of t (op.Unsnap p name) may = (allowed t (op.Unsnap p name) refl may).opened
+turn-of t (op.Submit session p noted) may = (allowed t (op.Submit session p noted) refl may).opened
+turn-of t (op.Cancel session) may = (allowed t (op.Cancel session) refl may).opened
+turn-of t (op.Complete session) may = (allowed t (op.Complete session) refl may).opened
 
 last-of : (t : NameTable) (o : EditOp) → (after_table t o).opening ≡ then_last t.opening o
 last-of t (op.Opened opening) = refl
@@ -56,6 +59,9 @@ last-of t (op.Allow p) = refl
 last-of t (op.Disallow p) = refl
 last-of t (op.Snap p name) = refl
 last-of t (op.Unsnap p name) = refl
+last-of t (op.Submit session p noted) = refl
+last-of t (op.Cancel session) = refl
+last-of t (op.Complete session) = refl
 
 -- the last opening of operations is that of the table that they make
 pub openings-of : (r made : Replayed) (ops : List EditOp) → name_replay r ops ≡ Some made → openings r.table.opening ops ≡ Some made.table.opening

@@ -80,6 +80,9 @@ free_ids t has (op.Allow p) h new = tt
 free_ids t has (op.Disallow p) h new = tt
 free_ids t has (op.Snap p name) h new = tt
 free_ids t has (op.Unsnap p name) h new = tt
+free_ids t has (op.Submit session p noted) h new = (free-id has session t.rows h (not-first (has session) new), tt)
+free_ids t has (op.Cancel session) h new = tt
+free_ids t has (op.Complete session) h new = tt
 
 -- ---- an operation may use an id of the opening that no row has
 

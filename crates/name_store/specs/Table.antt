@@ -12,16 +12,19 @@ use Rattle.inode_tree.specs.Moves.{renamed}
 use Rattle.inode_tree.specs.Rows.{Entry, IsRows, entry_of, is_dir_at, mark_of, put, removed, root_only, set_kind, zone_of}
 use Rattle.snap_store.specs.Snapshots.{IsSnapshots, SnapTable, Snapshot, no_snaps, table_after_allow, table_after_disallow, table_after_disallow_below, table_after_remove, table_after_take}
 pub use Rattle.snap_store.specs.Snapshots.{is_among}
+use Rattle.zone_table.specs.declared.statuses.StatusRow.{StatusRow}
+use Rattle.zone_table.specs.Statuses.{StatusesFit, ended, new_status, with_status, without_below}
 use Rattle.edit_ops.specs.declared.ops.EditOp.{EditOp}
-use Rattle.edit_ops.specs.declared.ops.EditOp.TheVariants.{Opened, Mkdir, File, Remove, Rename, Zone, Allow, Disallow, Snap, Unsnap}
+use Rattle.edit_ops.specs.declared.ops.EditOp.TheVariants.{Opened, Mkdir, File, Remove, Rename, Zone, Allow, Disallow, Snap, Unsnap, Submit, Cancel, Complete}
 pub use Rattle.name_store.specs.Causes.{id_of}
-use Rattle.name_store.specs.Causes.{allow_causes, disallow_causes, first_cause, id_at, kept_causes, removal_causes, rename_causes, row_causes, snap_causes, to_be_made, unsnap_causes, zone_causes}
+use Rattle.name_store.specs.Causes.{allow_causes, disallow_causes, first_cause, id_at, kept_causes, removal_causes, rename_causes, row_causes, session_causes, snap_causes, submit_causes, to_be_made, unsnap_causes, zone_causes}
 
--- the number of the opening, the rows in path order, and the snapshots
+-- the number of the opening, the rows in path order, the snapshots, and how far the re-encryptions of zones are
 pub record NameTable : Type 0 where
   pub opening : ℕ
   pub rows : List Entry
   pub snaps : SnapTable
+  pub statuses : List StatusRow
 
 -- the result of the operations of a log: the table that they make, and the ids that they used
 pub record Replayed : Type 0 where
@@ -30,7 +33,7 @@ pub record Replayed : Type 0 where
 
 -- before the first opening: the root alone
 abbrev pub nothing_logged : Replayed
-nothing_logged = record { table = record { opening = 0; rows = root_only; snaps = no_snaps }; used = [] }
+nothing_logged = record { table = record { opening = 0; rows = root_only; snaps = no_snaps; statuses = [] }; used = [] }
 
 -- an id is of an opening: its number above, and a counter below
 abbrev pub is_of_opening : ℕ → ℕ → Bool
@@ -51,9 +54,15 @@ fits_zone None (Some e) = false
 fits_zone (Some key) None = false
 fits_zone (Some key) (Some e) = bytes_eq e.version.key key
 
--- a file's encrypted key fits the zone of its path
+-- a re-encryption is noted with a version of the zone's key
+abbrev pub fits_noted : Option KeyName → KeyName → Bool
+fits_noted None key = false
+fits_noted (Some zone) key = bytes_eq key zone
+
+-- a file's encrypted key, or the version of a re-encryption, fits the zone of its path
 abbrev pub fits_key : NameTable → EditOp → Bool
 fits_key t (File id p edek) = fits_zone (key_of_zone t.rows p) edek
+fits_key t (Submit session p noted) = fits_noted (key_of_zone t.rows p) noted.key
 fits_key t _ = true
 
 -- why the table refuses an operation; the calls that log it are refused for the same causes, and for others
@@ -62,12 +71,15 @@ op_causes t (Opened opening) = []
 op_causes t (Mkdir id p) = to_be_made t.rows p ++ row_causes t.rows
 op_causes t (File id p edek) = to_be_made t.rows p ++ row_causes t.rows
 op_causes t (Remove p) = removal_causes t.rows p ++ kept_causes t.rows t.snaps p
-op_causes t (Rename p q) = rename_causes t.rows t.snaps p q
+op_causes t (Rename p q) = rename_causes t.rows t.snaps t.statuses p q
 op_causes t (Zone p key) = zone_causes t.rows p
 op_causes t (Allow p) = allow_causes t.rows t.snaps p
 op_causes t (Disallow p) = disallow_causes t.rows t.snaps p
 op_causes t (Snap p name) = snap_causes t.rows t.snaps p name
 op_causes t (Unsnap p name) = unsnap_causes t.rows t.snaps p name
+op_causes t (Submit session p noted) = submit_causes t.rows t.statuses p
+op_causes t (Cancel session) = session_causes t.statuses session
+op_causes t (Complete session) = session_causes t.statuses session
 
 -- the ids that an operation uses
 abbrev pub uses : EditOp → List ℕ
@@ -81,12 +93,15 @@ uses (Allow p) = []
 uses (Disallow p) = []
 uses (Snap p name) = []
 uses (Unsnap p name) = []
+uses (Submit session p noted) = session ∷ []
+uses (Cancel session) = []
+uses (Complete session) = []
 
 abbrev pub may_use_all : NameTable → List ℕ → Bool
 may_use_all t [] = true
 may_use_all t (id ∷ ids) = may_use t id && may_use_all t ids
 
--- An operation other than an opening is allowed in an opening, if it may use its ids, no cause applies, and its encrypted key fits.
+-- An operation other than an opening is allowed in an opening, if it may use its ids, no cause applies, and its encrypted key or version fits.
 abbrev pub allows_change : NameTable → EditOp → Bool
 allows_change t op = nat_lt 0 t.opening && may_use_all t (uses op) && is_none (first_cause (op_causes t op)) && fits_key t op
 
@@ -112,13 +127,16 @@ abbrev pub after_table : NameTable → EditOp → NameTable
 after_table t (Opened opening) = record t { opening = opening }
 after_table t (Mkdir id p) = record t { rows = put (new_directory id p) t.rows }
 after_table t (File id p edek) = record t { rows = put (new_file id p edek) t.rows }
-after_table t (Remove p) = record t { rows = removed p t.rows; snaps = table_after_disallow_below t.rows p t.snaps }
+after_table t (Remove p) = record t { rows = removed p t.rows; snaps = table_after_disallow_below t.rows p t.snaps; statuses = without_below t.rows p t.statuses }
 after_table t (Rename p q) = record t { rows = renamed p q t.rows }
 after_table t (Zone p key) = record t { rows = marked t.rows p key }
 after_table t (Allow p) = record t { snaps = table_after_allow (id_at t.rows p) t.snaps }
 after_table t (Disallow p) = record t { snaps = table_after_disallow (id_at t.rows p) t.snaps }
 after_table t (Snap p name) = record t { snaps = table_after_take t.rows (id_at t.rows p) name t.snaps }
 after_table t (Unsnap p name) = record t { snaps = table_after_remove (id_at t.rows p) name t.snaps }
+after_table t (Submit session p noted) = record t { statuses = with_status (new_status (id_at t.rows p) session noted) t.statuses }
+after_table t (Cancel session) = record t { statuses = ended session true t.statuses }
+after_table t (Complete session) = record t { statuses = ended session false t.statuses }
 
 -- no earlier operation used its id
 abbrev pub is_fresh : List ℕ → EditOp → Bool
@@ -188,3 +206,4 @@ pub record IsTable (t : NameTable) : Type 0 where
   pub rules : IsRows t.rows
   pub snaps : IsSnapshots t.snaps.allowed t.snaps.taken
   pub fits : FitsRows t.rows t.snaps
+  pub statuses : StatusesFit t.rows t.statuses

@@ -1,5 +1,5 @@
 -- The ids that no operation may use again.
-use Rattle.std.specs.Prelude.{◌≡◌, ℕ, ◌<◌, Bool, true, ◌||◌, List, None}
+use Rattle.std.specs.Prelude.{◌≡◌, ℕ, ◌<◌, true, ◌||◌, List, None}
 use Rattle.std.specs.Bool.{nat_eq}
 use Rattle.std.specs.HashSet.{contains}
 use Rattle.std.specs.List.{All, AllByRecursion}

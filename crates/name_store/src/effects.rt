@@ -1,7 +1,10 @@
-//! What the operations of the log do to a tree, the table of its zones and its snapshots.
-ghost use Rattle.std.specs.Prelude.{◌≡◌, ◌≤◌, ◌++◌, None, IsOk, OnOk, OnErr};
+//! What the operations of the log do to a tree, the table of its zones, its snapshots and the statuses
+//! of its zones.
+ghost use Rattle.std.specs.Prelude.{◌≡◌, ◌≤◌, ◌++◌, List, None, IsOk, OnOk, OnErr};
 ghost use Rattle.inode_tree.specs.Moves.{renamed};
 ghost use Rattle.inode_tree.specs.Rows.{entry_of, need, put, removed};
+ghost use Rattle.zone_table.specs.declared.statuses.StatusRow.{StatusRow};
+ghost use Rattle.zone_table.specs.Statuses.{without_below};
 ghost use Rattle.zone_table.specs.Zones.{need_add, zones_of};
 ghost use Rattle.snap_store.specs.Snapshots.{IsReady, SnapTable, table_after_disallow, table_after_disallow_below, table_after_take};
 ghost use Rattle.name_store.specs.Causes.{disallow_causes, first_cause, id_at, kept_causes, removal_causes, rename_causes, row_causes, snap_causes, to_be_made, zone_causes};
@@ -12,7 +15,7 @@ use hk_base::{Edek, KeyName, NoMemory, Text};
 use inode_tree::Tree;
 use name_calls::NPath;
 use snap_store::Snaps;
-use zone_table::{Zones, zones_are_the_marks};
+use zone_table::{Statuses, Zones, zones_are_the_marks};
 
 /// Makes a directory.
 pub(crate) fn make(tree: &mut Tree, path: &NPath, id: u64) -> Result<(), NoMemory>
@@ -47,24 +50,32 @@ pub(crate) fn make_file(
     tree.add_file(path, id, edek)
 }
 
-/// Removes the row at the path and all rows below it, with their zones. Directories among them may
-/// no longer have snapshots.
-pub(crate) fn remove(tree: &mut Tree, zones: &mut Zones, snaps: &mut Snaps, path: &NPath)
+/// Removes the row at the path and all rows below it, with their zones and the statuses of these.
+/// Directories among them may no longer have snapshots.
+pub(crate) fn remove(
+    tree: &mut Tree,
+    zones: &mut Zones,
+    snaps: &mut Snaps,
+    statuses: &mut Statuses,
+    path: &NPath,
+)
     requires allowed { first_cause (removal_causes tree.old.rows path.now ++ kept_causes tree.old.rows snaps.old.table path.now) ≡ None }
     requires zones { zones.old.rows ≡ zones_of tree.old.rows }
     ensures rows { tree.new.rows ≡ removed path.now tree.old.rows }
     ensures zones { zones.new.rows ≡ zones_of tree.new.rows }
     ensures snaps { snaps.new.table ≡ table_after_disallow_below tree.old.rows path.now snaps.old.table }
+    ensures statuses { statuses.new.rows ≡ without_below tree.old.rows path.now statuses.old.rows }
 {
     zones.remove_below(tree, path);
     snaps.disallow_below(tree, path);
+    statuses.remove_below(tree, path);
     tree.remove(path);
 }
 
 /// Moves what is at a path and below it to another path. Its zones and snapshots stay those of their
 /// directories.
 pub(crate) fn rename(tree: &mut Tree, path: &NPath, to: &NPath) -> Result<(), NoMemory>
-    requires allowed { (snaps : SnapTable) × (first_cause (rename_causes tree.old.rows snaps path.now to.now) ≡ None) }
+    requires allowed { (snaps : SnapTable) × (statuses : List StatusRow) × (first_cause (rename_causes tree.old.rows snaps statuses path.now to.now) ≡ None) }
     ensures ok { OnOk result (tree.new.rows ≡ renamed path.now to.now tree.old.rows) }
     ensures err { OnErr result (tree.new.rows ≡ tree.old.rows) }
     ensures zones { zones_of tree.new.rows ≡ zones_of tree.old.rows }

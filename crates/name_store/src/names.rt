@@ -8,28 +8,31 @@ use name_calls::{NPath, NameRefusal, ZoneList};
 use snap_store::Snaps;
 use std::alloc::Global;
 use std::marker::Model;
-use zone_table::{Zones, zones_are_the_marks};
+use zone_table::{Statuses, Zones, zones_are_the_marks};
 
-/// The number of the opening, the directories and files, the encryption zones, and the snapshots.
+/// The number of the opening, the directories and files, the encryption zones, the snapshots, and how
+/// far the re-encryptions of zones are.
 #[derive(Drop)]
 pub(crate) struct Names {
     opening: u32,
     tree: Tree,
     zones: Zones,
     snaps: Snaps,
+    statuses: Statuses,
 }
 
 impl Model for Names {
     ghost use Rattle.std.specs.Prelude.{◌≡◌};
+    ghost use Rattle.zone_table.specs.Statuses.{StatusesFit};
     ghost use Rattle.zone_table.specs.Zones.{zones_of};
     ghost use Rattle.name_store.specs.Names.{NamesState};
     ghost use Rattle.name_store.specs.Table.{FitsRows};
 
     ghost Value = { NamesState };
 
-    ghost view = { λ a. record { table = record { opening = a.opening; rows = a.tree.rows; snaps = a.snaps.table }; tree_spare = a.tree.spare; zone_spare = a.zones.spare; snap_room = a.snaps.room } };
+    ghost view = { λ a. record { table = record { opening = a.opening; rows = a.tree.rows; snaps = a.snaps.table; statuses = a.statuses.rows }; tree_spare = a.tree.spare; zone_spare = a.zones.spare; snap_room = a.snaps.room; status_spare = a.statuses.spare } };
 
-    ghost invariant = { λ a. (a.zones.rows ≡ zones_of a.tree.rows) × FitsRows a.tree.rows a.snaps.table };
+    ghost invariant = { λ a. (a.zones.rows ≡ zones_of a.tree.rows) × FitsRows a.tree.rows a.snaps.table × StatusesFit a.tree.rows a.statuses.rows };
 }
 
 impl Names {
@@ -51,6 +54,7 @@ impl Names {
             tree: Tree::new(alloc)?,
             zones: Zones::new(alloc),
             snaps: Snaps::new(alloc),
+            statuses: Statuses::new(alloc),
         })
     }
 
@@ -60,7 +64,14 @@ impl Names {
         requires { HasFreeIds self.now.table.rows op.now }
         ensures { result ≡ allows self.now.table op.now }
     {
-        allows(self.opening, &self.tree, &self.zones, &self.snaps, op)
+        allows(
+            self.opening,
+            &self.tree,
+            &self.zones,
+            &self.snaps,
+            &self.statuses,
+            op,
+        )
     }
 
     /// Makes the next calls for the operation's path faster.
@@ -78,6 +89,9 @@ impl Names {
             EditOp::Disallow { path } => self.tree.focus(path),
             EditOp::Snap { path, .. } => self.tree.focus(path),
             EditOp::Unsnap { path, .. } => self.tree.focus(path),
+            EditOp::Submit { path, .. } => self.tree.focus(path),
+            EditOp::Cancel { .. } => (),
+            EditOp::Complete { .. } => (),
         }
     }
 
@@ -101,6 +115,9 @@ impl Names {
                 self.snaps.reserve_take(&self.tree, dir, name)
             }
             EditOp::Unsnap { .. } => Ok(()),
+            EditOp::Submit { .. } => self.statuses.reserve_submit(),
+            EditOp::Cancel { .. } => Ok(()),
+            EditOp::Complete { .. } => Ok(()),
         }
     }
 
@@ -123,7 +140,13 @@ impl Names {
             EditOp::Mkdir { id, path } => make(&mut self.tree, path, *id),
             EditOp::File { id, path, edek } => make_file(&mut self.tree, path, *id, *edek),
             EditOp::Remove { path } => {
-                remove(&mut self.tree, &mut self.zones, &mut self.snaps, path);
+                remove(
+                    &mut self.tree,
+                    &mut self.zones,
+                    &mut self.snaps,
+                    &mut self.statuses,
+                    path,
+                );
                 Ok(())
             }
             EditOp::Rename { path, to } => rename(&mut self.tree, path, to),
@@ -136,6 +159,21 @@ impl Names {
             EditOp::Snap { path, name } => snap(&self.tree, &mut self.snaps, path, name),
             EditOp::Unsnap { path, name } => {
                 self.snaps.remove(id_at(&self.tree, path), name);
+                Ok(())
+            }
+            EditOp::Submit {
+                session,
+                path,
+                noted,
+            } => self
+                .statuses
+                .submit(id_at(&self.tree, path), *session, *noted),
+            EditOp::Cancel { session } => {
+                self.statuses.end(*session, true);
+                Ok(())
+            }
+            EditOp::Complete { session } => {
+                self.statuses.end(*session, false);
                 Ok(())
             }
         }
@@ -158,11 +196,25 @@ impl Names {
         &self.snaps
     }
 
+    /// Returns how far the re-encryptions of zones are.
+    pub(crate) fn statuses(&self) -> &Statuses
+        ensures { result.now.rows ≡ self.now.table.statuses }
+    {
+        &self.statuses
+    }
+
     /// Returns why what is at a path can not move to another path.
     pub(crate) fn rename_refusal(&self, path: &NPath, to: &NPath) -> Option<NameRefusal>
-        ensures { result ≡ first_cause (rename_causes self.now.table.rows self.now.table.snaps path.now to.now) }
+        ensures { result ≡ first_cause (rename_causes self.now.table.rows self.now.table.snaps self.now.table.statuses path.now to.now) }
     {
-        to_be_renamed(&self.tree, &self.zones, &self.snaps, path, to)
+        to_be_renamed(
+            &self.tree,
+            &self.zones,
+            &self.snaps,
+            &self.statuses,
+            path,
+            to,
+        )
     }
 
     /// Returns the number of the last opening, or 0 before the first.

@@ -1,12 +1,13 @@
-//! What a tree and its snapshots say of a change: why it is refused, and whether an operation of the
-//! log is allowed.
-ghost use Rattle.std.specs.Prelude.{◌≡◌, ◌<◌, ◌++◌, ℕ};
+//! What a tree, its snapshots and the statuses of its zones say of a change: why it is refused, and
+//! whether an operation of the log is allowed.
+ghost use Rattle.std.specs.Prelude.{◌≡◌, ◌<◌, ◌++◌, ℕ, List};
 ghost use Rattle.inode_tree.specs.Moves.{move_fits};
 ghost use Rattle.inode_tree.specs.Rows.{is_dir_at, mark_of, move_allowed, row_at};
 ghost use Rattle.name_calls.specs.Paths.{is_prefix, parent};
 ghost use Rattle.snap_store.specs.Snapshots.{SnapTable};
-ghost use Rattle.name_store.specs.Causes.{allow_causes, allowed_causes, directory_causes, disallow_causes, first_cause, has_most_rows, has_most_snapshots, id_at, kept_causes, move_causes, nests_allowed, removal_causes, rename_causes, row_causes, snap_causes, to_be_made, unsnap_causes, zone_causes};
-ghost use Rattle.name_store.specs.Table.{NameTable, allows, allows_change, fits_key, fits_zone, is_of_opening, key_of_zone, may_use_all, op_causes, uses};
+ghost use Rattle.zone_table.specs.declared.statuses.StatusRow.{StatusRow};
+ghost use Rattle.name_store.specs.Causes.{allow_causes, allowed_causes, directory_causes, disallow_causes, first_cause, going_causes, has_most_rows, has_most_snapshots, id_at, is_under_reencryption, kept_causes, mark_at, move_causes, nests_allowed, removal_causes, rename_causes, row_causes, session_causes, snap_causes, submit_causes, to_be_made, unsnap_causes, zone_causes, zone_root_causes};
+ghost use Rattle.name_store.specs.Table.{NameTable, allows, allows_change, fits_key, fits_noted, fits_zone, is_of_opening, key_of_zone, may_use_all, op_causes, uses};
 ghost use Rattle.name_store.specs.Used.{HasFreeIds};
 
 use edit_ops::EditOp;
@@ -14,7 +15,7 @@ use hk_base::{Edek, KeyName, Text};
 use inode_tree::{Kind, MOST_ROWS, Tree};
 use name_calls::{NPath, NameRefusal};
 use snap_store::{MOST_SNAPSHOTS, Snaps};
-use zone_table::Zones;
+use zone_table::{Statuses, Zones};
 
 /// The number of ids of an opening.
 const IDS: u64 = 1 << 32;
@@ -205,15 +206,26 @@ fn to_be_moved(tree: &Tree, path: &NPath, to: &NPath) -> Option<NameRefusal>
     None
 }
 
+/// Returns whether the zone that the parent of a path lies in is under re-encryption.
+fn is_under_reencryption(tree: &Tree, statuses: &Statuses, path: &NPath) -> bool
+    ensures { result ≡ is_under_reencryption tree.now.rows statuses.now.rows path.now }
+{
+    match tree.zone_of_parent(path) {
+        None => false,
+        Some(zone) => statuses.zone_goes_on(zone),
+    }
+}
+
 /// Returns why what is at a path can not move to another path.
 pub(crate) fn to_be_renamed(
     tree: &Tree,
     zones: &Zones,
     snaps: &Snaps,
+    statuses: &Statuses,
     path: &NPath,
     to: &NPath,
 ) -> Option<NameRefusal>
-    ensures { result ≡ first_cause (rename_causes tree.now.rows snaps.now.table path.now to.now) }
+    ensures { result ≡ first_cause (rename_causes tree.now.rows snaps.now.table statuses.now.rows path.now to.now) }
 {
     if let Some(why) = to_be_moved(tree, path, to) {
         return Some(why);
@@ -227,30 +239,108 @@ pub(crate) fn to_be_renamed(
     if !zones.may_move(tree, path, to) {
         return Some(NameRefusal::CrossZone);
     }
+    if is_under_reencryption(tree, statuses, path) {
+        return Some(NameRefusal::UnderReencryption);
+    }
     None
 }
 
-/// Returns whether the table of an opening, a tree and its snapshots allows the operation, whose id no
-/// row must have. Does not look for a row of that id, nor check whether it was used before.
-pub(crate) fn allows(opening: u32, tree: &Tree, zones: &Zones, snaps: &Snaps, op: &EditOp) -> bool
-    requires { HasFreeIds tree.now.rows op.now }
-    ensures { result ≡ allows (record { opening = opening; rows = tree.now.rows; snaps = snaps.now.table }) op.now }
+/// Returns the key that the row at a path is marked with.
+fn mark_at(tree: &Tree, path: &NPath) -> Option<KeyName>
+    ensures { result ≡ mark_at tree.now.rows path.now }
 {
-    match op {
-        EditOp::Opened { opening: next } => *next as u64 == opening as u64 + 1,
-        _ => allows_change(opening, tree, zones, snaps, op),
+    match tree.find(path) {
+        None => None,
+        Some(row) => mark(row.kind),
     }
 }
 
-fn allows_change(opening: u32, tree: &Tree, zones: &Zones, snaps: &Snaps, op: &EditOp) -> bool
+/// Returns why a path is not that of a zone: it must be that of a directory with a key.
+pub fn to_be_zone_root(tree: &Tree, path: &NPath) -> Option<NameRefusal>
+    ensures { result ≡ first_cause (zone_root_causes tree.now.rows path.now) }
+{
+    if let Some(why) = to_be_directory(tree, path) {
+        return Some(why);
+    }
+    if mark_at(tree, path).is_none() {
+        return Some(NameRefusal::NotAZoneRoot);
+    }
+    None
+}
+
+/// Returns why the re-encryption of a zone can not be submitted: the path must be that of a zone, and
+/// the zone must not be under re-encryption.
+pub fn to_be_submitted(tree: &Tree, statuses: &Statuses, path: &NPath) -> Option<NameRefusal>
+    ensures { result ≡ first_cause (submit_causes tree.now.rows statuses.now.rows path.now) }
+{
+    if let Some(why) = to_be_zone_root(tree, path) {
+        return Some(why);
+    }
+    if statuses.zone_goes_on(id_at(tree, path)) {
+        return Some(NameRefusal::AlreadySubmitted);
+    }
+    None
+}
+
+/// Returns why a path is not that of a zone under re-encryption.
+pub fn to_be_going_on(tree: &Tree, statuses: &Statuses, path: &NPath) -> Option<NameRefusal>
+    ensures { result ≡ first_cause (going_causes tree.now.rows statuses.now.rows path.now) }
+{
+    if let Some(why) = to_be_zone_root(tree, path) {
+        return Some(why);
+    }
+    if !statuses.zone_goes_on(id_at(tree, path)) {
+        return Some(NameRefusal::NotSubmitted);
+    }
+    None
+}
+
+/// Returns why a re-encryption can not end: a zone must be under it.
+fn to_be_ended(statuses: &Statuses, session: u64) -> Option<NameRefusal>
+    ensures { result ≡ first_cause (session_causes statuses.now.rows session) }
+{
+    if !statuses.session_goes_on(session) {
+        return Some(NameRefusal::NotSubmitted);
+    }
+    None
+}
+
+/// Returns whether the table of an opening, a tree, its snapshots and the statuses of its zones allows
+/// the operation, whose id no row must have. Does not look for a row of that id, nor check whether it
+/// was used before.
+pub(crate) fn allows(
+    opening: u32,
+    tree: &Tree,
+    zones: &Zones,
+    snaps: &Snaps,
+    statuses: &Statuses,
+    op: &EditOp,
+) -> bool
     requires { HasFreeIds tree.now.rows op.now }
-    ensures { result ≡ allows_change (record { opening = opening; rows = tree.now.rows; snaps = snaps.now.table }) op.now }
+    ensures { result ≡ allows (record { opening = opening; rows = tree.now.rows; snaps = snaps.now.table; statuses = statuses.now.rows }) op.now }
+{
+    match op {
+        EditOp::Opened { opening: next } => *next as u64 == opening as u64 + 1,
+        _ => allows_change(opening, tree, zones, snaps, statuses, op),
+    }
+}
+
+fn allows_change(
+    opening: u32,
+    tree: &Tree,
+    zones: &Zones,
+    snaps: &Snaps,
+    statuses: &Statuses,
+    op: &EditOp,
+) -> bool
+    requires { HasFreeIds tree.now.rows op.now }
+    ensures { result ≡ allows_change (record { opening = opening; rows = tree.now.rows; snaps = snaps.now.table; statuses = statuses.now.rows }) op.now }
 {
     if opening == 0 {
         return false;
     }
     let ids = may_use_all(opening, op);
-    let free = refusal(tree, zones, snaps, op).is_none();
+    let free = refusal(tree, zones, snaps, statuses, op).is_none();
     let fits = fits_key(tree, op);
     ids && free && fits
 }
@@ -263,25 +353,35 @@ fn may_use_all(opening: u32, op: &EditOp) -> bool
     match op {
         EditOp::Mkdir { id, .. } => is_of_opening(opening, *id),
         EditOp::File { id, .. } => is_of_opening(opening, *id),
+        EditOp::Submit { session, .. } => is_of_opening(opening, *session),
         _ => true,
     }
 }
 
 /// Returns why the table refuses the operation.
-fn refusal(tree: &Tree, zones: &Zones, snaps: &Snaps, op: &EditOp) -> Option<NameRefusal>
-    ensures { (opening : ℕ) → result ≡ first_cause (op_causes (record { opening = opening; rows = tree.now.rows; snaps = snaps.now.table }) op.now) }
+fn refusal(
+    tree: &Tree,
+    zones: &Zones,
+    snaps: &Snaps,
+    statuses: &Statuses,
+    op: &EditOp,
+) -> Option<NameRefusal>
+    ensures { (opening : ℕ) → result ≡ first_cause (op_causes (record { opening = opening; rows = tree.now.rows; snaps = snaps.now.table; statuses = statuses.now.rows }) op.now) }
 {
     match op {
         EditOp::Opened { .. } => None,
         EditOp::Mkdir { path, .. } => to_be_added(tree, path),
         EditOp::File { path, .. } => to_be_added(tree, path),
         EditOp::Remove { path } => to_be_removed_whole(tree, snaps, path),
-        EditOp::Rename { path, to } => to_be_renamed(tree, zones, snaps, path, to),
+        EditOp::Rename { path, to } => to_be_renamed(tree, zones, snaps, statuses, path, to),
         EditOp::Zone { path, .. } => to_be_zone(tree, path),
         EditOp::Allow { path } => to_be_allowed(tree, snaps, path),
         EditOp::Disallow { path } => to_be_disallowed(tree, snaps, path),
         EditOp::Snap { path, name } => to_be_snapped(tree, snaps, path, name),
         EditOp::Unsnap { path, name } => to_be_unsnapped(tree, snaps, path, name),
+        EditOp::Submit { path, .. } => to_be_submitted(tree, statuses, path),
+        EditOp::Cancel { session } => to_be_ended(statuses, *session),
+        EditOp::Complete { session } => to_be_ended(statuses, *session),
     }
 }
 
@@ -311,12 +411,14 @@ fn to_be_removed_whole(tree: &Tree, snaps: &Snaps, path: &NPath) -> Option<NameR
     None
 }
 
-/// Returns whether the encrypted key of a file fits the zone of its path.
+/// Returns whether the encrypted key of a file, or the version of a re-encryption, fits the zone of its
+/// path.
 fn fits_key(tree: &Tree, op: &EditOp) -> bool
-    ensures { (opening : ℕ) (snaps : SnapTable) → result ≡ fits_key (record { opening = opening; rows = tree.now.rows; snaps = snaps }) op.now }
+    ensures { (opening : ℕ) (snaps : SnapTable) (statuses : List StatusRow) → result ≡ fits_key (record { opening = opening; rows = tree.now.rows; snaps = snaps; statuses = statuses }) op.now }
 {
     match op {
         EditOp::File { path, edek, .. } => fits_zone(&key_of_zone(tree, path), edek),
+        EditOp::Submit { path, noted, .. } => fits_noted(&key_of_zone(tree, path), &noted.key),
         _ => true,
     }
 }
@@ -363,5 +465,15 @@ pub fn fits_zone(key: &Option<KeyName>, edek: &Option<Edek>) -> bool
         (None, Some(_)) => false,
         (Some(_), None) => false,
         (Some(key), Some(edek)) => edek.version.key == *key,
+    }
+}
+
+/// Returns whether a key is that of a zone.
+fn fits_noted(zone: &Option<KeyName>, key: &KeyName) -> bool
+    ensures { result ≡ fits_noted zone.now key.now }
+{
+    match zone {
+        None => false,
+        Some(zone) => *key == *zone,
     }
 }

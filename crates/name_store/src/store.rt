@@ -11,9 +11,10 @@ use name_calls::{NPath, NameRefusal, ZoneList};
 use snap_store::Snaps;
 use std::alloc::Global;
 use std::marker::Model;
+use zone_table::Statuses;
 
-/// The directories, files, encryption zones and snapshots of the namesystem, and the edit log on file 1
-/// of a disk from which they can be made again.
+/// The directories, files, encryption zones and snapshots of the namesystem, how far the re-encryptions
+/// of its zones are, and the edit log on file 1 of a disk from which they can be made again.
 ///
 /// After a store fault in a commit one operation is pending: the disk may or may not hold its record,
 /// and the table is as before. The next call that changes the namesystem settles it first.
@@ -146,9 +147,16 @@ impl NameStore {
         self.names.snaps()
     }
 
+    /// Returns how far the re-encryptions of zones are, without the pending operation.
+    pub fn statuses(&self) -> &Statuses
+        ensures { result.now.rows ≡ self.now.table.statuses }
+    {
+        self.names.statuses()
+    }
+
     /// Returns why a rename is refused, without the pending operation.
     pub fn rename_refusal(&self, path: &NPath, to: &NPath) -> Option<NameRefusal>
-        ensures { result ≡ first_cause (rename_causes self.now.table.rows self.now.table.snaps path.now to.now) }
+        ensures { result ≡ first_cause (rename_causes self.now.table.rows self.now.table.snaps self.now.table.statuses path.now to.now) }
     {
         self.names.rename_refusal(path, to)
     }

@@ -38,6 +38,7 @@ impl UsedIds {
         match op {
             EditOp::Mkdir { id, .. } => !self.has(*id),
             EditOp::File { id, .. } => !self.has(*id),
+            EditOp::Submit { session, .. } => !self.has(*session),
             _ => true,
         }
     }
@@ -57,6 +58,7 @@ impl UsedIds {
         match op {
             EditOp::Mkdir { id, .. } => self.add_one(*id),
             EditOp::File { id, .. } => self.add_one(*id),
+            EditOp::Submit { session, .. } => self.add_one(*session),
             _ => Ok(()),
         }
     }

@@ -20,3 +20,11 @@ returns-in-File c t of free =
     ∙ ap (λ (n : ℕ). is_of_opening n id) (sym of)
     ∙ may_use_free t id (subst (λ (n : ℕ). 0 < n) (sym of) c.requires) (subst (HasFreeIds t.rows) c.in-File.is free).0
     ∙ ap (λ (o : EditOp). may_use_all t (uses o)) (sym c.in-File.is)
+
+pub returns-in-Submit : goal.returns-in-Submit
+returns-in-Submit c t of free =
+    let id = c.in-Submit.session in
+    c.is_of_opening-in-Submit.ensures
+    ∙ ap (λ (n : ℕ). is_of_opening n id) (sym of)
+    ∙ may_use_free t id (subst (λ (n : ℕ). 0 < n) (sym of) c.requires) (subst (HasFreeIds t.rows) c.in-Submit.is free).0
+    ∙ ap (λ (o : EditOp). may_use_all t (uses o)) (sym c.in-Submit.is)

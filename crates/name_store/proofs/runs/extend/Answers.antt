@@ -1,4 +1,4 @@
-use Rattle.std.proofs.Common.{◌≡◌, ◌+◌, suc, subst, arith, ◌∙◌, sym, ap}
+use Rattle.std.proofs.Common.{◌≡◌, ◌+◌, subst, arith, ◌∙◌, ap}
 use Rattle.name_store.specs.declared.runs.Run.{Run}
 use Rattle.name_store.proofs.RunLemmas.{PartedAt, extended_has, extended_rises}
 use Rattle.name_store.proofs.runs.extend.Goals as goal

@@ -1,4 +1,4 @@
-use Rattle.std.proofs.Common.{◌≡◌, ◌-◌, rules, length, List, Some, subst, sym, ap, ◌∙◌, arith}
+use Rattle.std.proofs.Common.{◌≡◌, ◌-◌, rules, length, List, Some, subst}
 use Rattle.std.specs.Prelude.{slice_get}
 use Rattle.name_store.specs.declared.runs.Run.{Run}
 use Rattle.name_store.proofs.RunLemmas.{PartedAt, parted_past}
