@@ -1,5 +1,5 @@
 -- Operations that the causes of a refusal let through are allowed.
-use Rattle.std.proofs.Common.{◌≡◌, ℕ, ◌+◌, ◌*◌, ◌^◌, ◌<◌, ◌≤◌, ◌&&◌, ◌||◌, Bool, true, false, cond, not, List, [], ◌∷◌, ◌++◌, Option, Some, None, is_none, nat_lt, nat_le, refl, ap, sym, subst, ◌∙◌, arith}
+use Rattle.std.proofs.Common.{◌≡◌, ℕ, ◌+◌, ◌*◌, ◌^◌, ◌<◌, ◌≤◌, ◌&&◌, ◌||◌, Bool, true, false, cond, not, List, [], ◌∷◌, ◌++◌, Option, Some, None, is_none, is_some, nat_lt, nat_le, refl, ap, sym, subst, ◌∙◌, arith}
 use Rattle.std.specs.Prelude.{◌==◌}
 use Rattle.std.specs.List.{AllByRecursion, list_any}
 use Rattle.std.proofs.lemmas.Bool.Decides.{nat_tests}
@@ -12,9 +12,12 @@ use Rattle.edit_ops.specs.declared.ops.EditOp.{EditOp}
 use Rattle.edit_ops.specs.declared.ops.EditOp.TheVariants as op
 use Rattle.name_store.specs.Replay.{AllBelow}
 use Rattle.name_store.specs.Store.{is_opening}
-use Rattle.name_store.specs.Causes.{first_cause, has_most_rows, kept_causes, removal_causes, row_causes, to_be_made, zone_causes}
-use Rattle.name_store.specs.Table.{NameTable, allows, fits_key, is_among, is_fresh, is_of_opening, may_use, may_use_all, op_causes, uses}
-use Rattle.name_store.proofs.CauseLemmas.{allows-it, clear, join, none-of-both, none-of-join}
+use Rattle.zone_table.specs.declared.statuses.StatusRow.{StatusRow}
+use Rattle.zone_table.specs.Statuses.{zone_goes_on}
+use Rattle.name_store.specs.Causes.{first_cause, going_causes, has_most_rows, id_at, kept_causes, removal_causes, row_causes, to_be_made, zone_causes, zone_root_causes}
+use Rattle.name_store.specs.Table.{NameTable, allows, fits_key, fits_noted, fits_zone, is_among, is_fresh, is_of_opening, key_of_zone, may_use, may_use_all, op_causes, uses}
+use Rattle.name_store.proofs.CauseLemmas.{IsZoneRoot, allows-it, clear, join, none-of-both, none-of-join, zone-root}
+use Rattle.name_store.proofs.StatusLemmas.{key-at-root}
 use Rattle.name_core.specs.declared.asks.OpenAsk.{OpenAsk}
 use Rattle.name_calls.specs.declared.calls.Ask.{Ask}
 use Rattle.name_calls.specs.declared.calls.Ask.TheVariants as ask
@@ -22,11 +25,13 @@ use Rattle.name_calls.specs.declared.calls.NameCall.{NameCall}
 use Rattle.name_calls.specs.declared.calls.NameCall.TheVariants as call
 use Rattle.name_calls.specs.declared.calls.NameRefusal.TheVariants as refusal
 use Rattle.name_core.specs.State.{AreFree, AreRecent, IdsFit, NameState, is_full, is_spent, next_id}
-use Rattle.name_core.specs.Asks.{closed, finish_causes, finish_op, is_other_key, is_other_zone, open_ask, without}
+use Rattle.name_core.specs.Asks.{closed, finish_causes, finish_op, is_other_key, is_other_zone, noted_of, open_ask, without}
 use Rattle.name_core.specs.Calls.{causes, deed, delete_causes, ids_used, mkdir_causes, name_causes, path_causes}
-use Rattle.name_core.specs.Steps.{IsBehind, MayBegin, MayWrite}
+use Rattle.name_core.specs.Steps.{HasWanted, IsBehind, MayBegin, MayWrite}
+use Rattle.name_core.specs.Walks.{session_at, walk_causes, walk_deed}
 use Rattle.name_core.proofs.AskLemmas.{each-map, each-without, fit-without, open-holds, open-id, without-apart}
 use Rattle.name_core.proofs.RowLemmas.{id-free, room-left}
+use Rattle.name_core.proofs.WalkLemmas.{going-session, walk-completes}
 
 yes : (b : Bool) → not b ≡ false → b ≡ true
 yes true h = refl
@@ -91,6 +96,14 @@ remove-free t p recursive h =
     let parts = none-of-both (removal_causes t.rows p) ((not recursive && has_children t.rows p, refusal.NotEmpty) ∷ kept_causes t.rows t.snaps p) h in
     none-of-join (removal_causes t.rows p) (kept_causes t.rows t.snaps p) parts.0 (clear (not recursive && has_children t.rows p) refusal.NotEmpty _ parts.1).1
 
+-- a cancel, and the completion of a session
+
+cancel-free : (t : NameTable) (p : List (List ℕ)) → first_cause (going_causes t.rows t.statuses p) ≡ None → first_cause (op_causes t (op.Cancel (session_at t p))) ≡ None
+cancel-free t p h = ap (λ (b : Bool). cond (not b) (Some refusal.NotSubmitted) None) (going-session t p h)
+
+complete-free : (t : NameTable) (p : List (List ℕ)) → first_cause (going_causes t.rows t.statuses p) ≡ None → first_cause (op_causes t (op.Complete (session_at t p))) ≡ None
+complete-free t p h = cancel-free t p h
+
 -- a finish that nothing stops
 
 pub record MayFinish (rows : List Entry) (a : OpenAsk) (edek : Option Edek) (p : List (List ℕ)) : Type 0 where
@@ -99,19 +112,62 @@ pub record MayFinish (rows : List Entry) (a : OpenAsk) (edek : Option Edek) (p :
   pub same_key : is_other_key rows p edek ≡ false
   pub room : first_cause (row_causes rows) ≡ None
 
-pub may-make-file : (rows : List Entry) (a : OpenAsk) (edek : Option Edek) (p : List (List ℕ)) → first_cause (finish_causes rows a edek (ask.Create p)) ≡ None → MayFinish rows a edek p
-may-make-file rows a edek p h =
+pub may-make-file : (rows : List Entry) (statuses : List StatusRow) (a : OpenAsk) (edek : Option Edek) (p : List (List ℕ)) → first_cause (finish_causes rows statuses a edek (ask.Create p)) ≡ None
+    → MayFinish rows a edek p
+may-make-file rows statuses a edek p h =
     let r = clear (starts_reserved p) refusal.BadPath _ h in
     let m = none-of-both (to_be_made rows p) ((is_other_zone rows a, refusal.ZoneChanged) ∷ (is_other_key rows p edek, refusal.ZoneChanged) ∷ row_causes rows) r.1 in
     let z = clear (is_other_zone rows a) refusal.ZoneChanged _ m.1 in
     let e = clear (is_other_key rows p edek) refusal.ZoneChanged _ z.1 in
     record { made = m.0; same_zone = z.0; same_key = e.0; room = e.1 }
 
-pub may-make-zone : (rows : List Entry) (a : OpenAsk) (edek : Option Edek) (p : List (List ℕ)) (key : KeyName) → first_cause (finish_causes rows a edek (ask.Zone p key)) ≡ None → first_cause (zone_causes rows p) ≡ None
-may-make-zone rows a edek p key h = (none-of-both (zone_causes rows p) ((is_other_zone rows a, refusal.ZoneChanged) ∷ []) (clear (starts_reserved p) refusal.BadPath _ h).1).0
+pub may-make-zone : (rows : List Entry) (statuses : List StatusRow) (a : OpenAsk) (edek : Option Edek) (p : List (List ℕ)) (key : KeyName)
+    → first_cause (finish_causes rows statuses a edek (ask.Zone p key)) ≡ None → first_cause (zone_causes rows p) ≡ None
+may-make-zone rows statuses a edek p key h = (none-of-both (zone_causes rows p) ((is_other_zone rows a, refusal.ZoneChanged) ∷ []) (clear (starts_reserved p) refusal.BadPath _ h).1).0
+
+-- a submission that nothing stops
+pub record MaySubmit (rows : List Entry) (statuses : List StatusRow) (a : OpenAsk) (edek : Option Edek) (p : List (List ℕ)) : Type 0 where
+  pub root : first_cause (zone_root_causes rows p) ≡ None
+  pub same_zone : is_other_zone rows a ≡ false
+  pub same_key : is_other_key rows p edek ≡ false
+  pub rests : zone_goes_on statuses (id_at rows p) ≡ false
+
+pub may-submit : (rows : List Entry) (statuses : List StatusRow) (a : OpenAsk) (edek : Option Edek) (p : List (List ℕ)) → first_cause (finish_causes rows statuses a edek (ask.Submit p)) ≡ None
+    → MaySubmit rows statuses a edek p
+may-submit rows statuses a edek p h =
+    let r = clear (starts_reserved p) refusal.BadPath _ h in
+    let goes = zone_goes_on statuses (id_at rows p) in
+    let m = none-of-both (zone_root_causes rows p) ((is_other_zone rows a, refusal.ZoneChanged) ∷ (is_other_key rows p edek, refusal.ZoneChanged) ∷ (goes, refusal.AlreadySubmitted) ∷ []) r.1 in
+    let z = clear (is_other_zone rows a) refusal.ZoneChanged _ m.1 in
+    let e = clear (is_other_key rows p edek) refusal.ZoneChanged _ z.1 in
+    record { root = m.0; same_zone = z.0; same_key = e.0; rests = (clear goes refusal.AlreadySubmitted None e.1).0 }
+
+given-key : (key : KeyName) (edek : Option Edek) → fits_zone (Some key) edek ≡ true → (is_some edek ≡ true) × (fits_noted (Some key) (noted_of edek).key ≡ true)
+given-key key None h = absurd cc
+given-key key (Some e) h = (refl, h)
+
+-- a submission has an encrypted key of the zone's key
+pub submitted-key : (rows : List Entry) (statuses : List StatusRow) (a : OpenAsk) (edek : Option Edek) (p : List (List ℕ)) → MaySubmit rows statuses a edek p
+    → (is_some edek ≡ true) × (fits_noted (key_of_zone rows p) (noted_of edek).key ≡ true)
+submitted-key rows statuses a edek p m = (its.0, ap (λ (o : Option KeyName). fits_noted o (noted_of edek).key) key_is ∙ its.1)
+  where
+    root : IsZoneRoot rows p
+    root = zone-root rows p m.root
+
+    key_is : key_of_zone rows p ≡ Some root.key
+    key_is = key-at-root rows p root.key root.marked
+
+    its : (is_some edek ≡ true) × (fits_noted (Some root.key) (noted_of edek).key ≡ true)
+    its = given-key root.key edek (ap (λ (o : Option KeyName). fits_zone o edek) (sym key_is) ∙ yes _ m.same_key)
+
+-- what a finish that nothing stops was given
+pub has-wanted : (rows : List Entry) (statuses : List StatusRow) (a : OpenAsk) (edek : Option Edek) (k : Ask) → first_cause (finish_causes rows statuses a edek k) ≡ None → HasWanted k edek
+has-wanted rows statuses a edek (ask.Create p) h = tt
+has-wanted rows statuses a edek (ask.Zone p key) h = tt
+has-wanted rows statuses a edek (ask.Submit p) h = (submitted-key rows statuses a edek p (may-submit rows statuses a edek p h)).0
 
 pub allowed-finish : (s : NameState) (id : ℕ) (a : OpenAsk) (edek : Option Edek) → 0 < s.table.opening → s.next ≤ 2 ^ 32 → IdsFit s.table.rows s.asks (next_id s)
-    → AreRecent s.table.opening s.asks → open_ask s.asks id ≡ Some a → first_cause (finish_causes s.table.rows a edek a.ask) ≡ None → allows s.table (finish_op a.id edek a.ask) ≡ true
+    → AreRecent s.table.opening s.asks → open_ask s.asks id ≡ Some a → first_cause (finish_causes s.table.rows s.table.statuses a edek a.ask) ≡ None → allows s.table (finish_op a.id edek a.ask) ≡ true
 allowed-finish s id a edek opened few ids recent stands free = go a.ask free
   where
     low : s.table.opening * 2 ^ 32 ≤ a.id
@@ -123,9 +179,9 @@ allowed-finish s id a edek opened few ids recent stands free = go a.ask free
     unused : entry_of s.table.rows a.id ≡ None
     unused = open-holds (λ (q : OpenAsk). entry_of s.table.rows q.id ≡ None) s.asks id a ids.free stands
 
-    go : (k : Ask) → first_cause (finish_causes s.table.rows a edek k) ≡ None → allows s.table (finish_op a.id edek k) ≡ true
+    go : (k : Ask) → first_cause (finish_causes s.table.rows s.table.statuses a edek k) ≡ None → allows s.table (finish_op a.id edek k) ≡ true
     go (ask.Create p) h =
-        let m = may-make-file s.table.rows a edek p h in
+        let m = may-make-file s.table.rows s.table.statuses a edek p h in
         allows-it s.table (op.File a.id p edek) refl (record {
           opened = lt-yes 0 s.table.opening opened;
           ids = usable s.table a.id s.next low high few unused;
@@ -133,7 +189,16 @@ allowed-finish s id a edek opened few ids recent stands free = go a.ask free
           fits = yes _ m.same_key;
         })
     go (ask.Zone p key) h =
-        allows-it s.table (op.Zone p key) refl (record { opened = lt-yes 0 s.table.opening opened; ids = refl; free = may-make-zone s.table.rows a edek p key h; fits = refl })
+        allows-it s.table (op.Zone p key) refl (record { opened = lt-yes 0 s.table.opening opened; ids = refl; free = may-make-zone s.table.rows s.table.statuses a edek p key h; fits = refl })
+    go (ask.Submit p) h =
+        let m = may-submit s.table.rows s.table.statuses a edek p h in
+        let rests = zone_goes_on s.table.statuses (id_at s.table.rows p) in
+        allows-it s.table (op.Submit a.id p (noted_of edek)) refl (record {
+          opened = lt-yes 0 s.table.opening opened;
+          ids = usable s.table a.id s.next low high few unused;
+          free = none-of-join (zone_root_causes s.table.rows p) ((rests, refusal.AlreadySubmitted) ∷ []) m.root (ap (λ (b : Bool). cond b (Some refusal.AlreadySubmitted) None) m.rests);
+          fits = (submitted-key s.table.rows s.table.statuses a edek p m).1;
+        })
 
 -- the operation that a call logs is allowed
 pub allowed-call : (s : NameState) (c : NameCall) (o : EditOp) → 0 < s.table.opening → IdsFit s.table.rows s.asks (next_id s) → first_cause (causes s c) ≡ None → (deed s c).logs ≡ Some o
@@ -153,11 +218,21 @@ allowed-call s (call.Snap p name) o opened ids free is =
     let same : op.Snap p name ≡ o = cc in subst (λ (x : EditOp). allows s.table x ≡ true) same (plainly-allowed s.table (op.Snap p name) opened refl refl refl free)
 allowed-call s (call.Unsnap p name) o opened ids free is =
     let same : op.Unsnap p name ≡ o = cc in subst (λ (x : EditOp). allows s.table x ≡ true) same (plainly-allowed s.table (op.Unsnap p name) opened refl refl refl free)
+allowed-call s (call.Cancel p) o opened ids free is =
+    let same : op.Cancel (session_at s.table p) ≡ o = cc in
+    subst (λ (x : EditOp). allows s.table x ≡ true) same (plainly-allowed s.table (op.Cancel (session_at s.table p)) opened refl refl refl (cancel-free s.table p free))
+allowed-call s (call.Status p) o opened ids free is = absurd cc
 allowed-call s (call.Info p) o opened ids free is = absurd cc
 allowed-call s (call.List p) o opened ids free is = absurd cc
 allowed-call s call.Zones o opened ids free is = absurd cc
 
--- no call and no finish logs an opening
+-- the completion that a walk logs is allowed
+pub allowed-walk : (s : NameState) (p : List (List ℕ)) (o : EditOp) → 0 < s.table.opening → first_cause (walk_causes s p) ≡ None → (walk_deed s p).logs ≡ Some o → allows s.table o ≡ true
+allowed-walk s p o opened free is =
+    subst (λ (x : EditOp). allows s.table x ≡ true) (sym (walk-completes s p o is))
+    (plainly-allowed s.table (op.Complete (session_at s.table p)) opened refl refl refl (complete-free s.table p free))
+
+-- no call, no finish and no walk logs an opening
 
 pub no-opening : (s : NameState) (c : NameCall) (o : EditOp) → (deed s c).logs ≡ Some o → is_opening o ≡ false
 no-opening s (call.Mkdir p) o is = let same : op.Mkdir (next_id s) p ≡ o = cc in ap is_opening (sym same)
@@ -167,6 +242,8 @@ no-opening s (call.Allow p) o is = let same : op.Allow p ≡ o = cc in ap is_ope
 no-opening s (call.Disallow p) o is = let same : op.Disallow p ≡ o = cc in ap is_opening (sym same)
 no-opening s (call.Snap p name) o is = let same : op.Snap p name ≡ o = cc in ap is_opening (sym same)
 no-opening s (call.Unsnap p name) o is = let same : op.Unsnap p name ≡ o = cc in ap is_opening (sym same)
+no-opening s (call.Cancel p) o is = let same : op.Cancel (session_at s.table p) ≡ o = cc in ap is_opening (sym same)
+no-opening s (call.Status p) o is = absurd cc
 no-opening s (call.Info p) o is = absurd cc
 no-opening s (call.List p) o is = absurd cc
 no-opening s call.Zones o is = absurd cc
@@ -174,6 +251,10 @@ no-opening s call.Zones o is = absurd cc
 pub no-opening-finish : (id : ℕ) (edek : Option Edek) (k : Ask) → is_opening (finish_op id edek k) ≡ false
 no-opening-finish id edek (ask.Create p) = refl
 no-opening-finish id edek (ask.Zone p key) = refl
+no-opening-finish id edek (ask.Submit p) = refl
+
+pub no-opening-walk : (s : NameState) (p : List (List ℕ)) (o : EditOp) → (walk_deed s p).logs ≡ Some o → is_opening o ≡ false
+no-opening-walk s p o is = ap is_opening (walk-completes s p o is)
 
 -- ids that are not used
 
@@ -249,12 +330,17 @@ behind-finish s id a edek few ids recent stands = record {
     below : (k : Ask) → AllBelow (next_id s) (uses (finish_op a.id edek k))
     below (ask.Create p) = (open-holds (λ (q : OpenAsk). q.id < next_id s) s.asks id a ids.of_asks stands, tt)
     below (ask.Zone p key) = tt
+    below (ask.Submit p) = (open-holds (λ (q : OpenAsk). q.id < next_id s) s.asks id a ids.of_asks stands, tt)
 
-    apart : (k : Ask) → AreFree (uses (finish_op a.id edek k)) (without s.asks id)
-    apart (ask.Create p) =
+    its : AreFree (a.id ∷ []) (without s.asks id)
+    its =
         each-map (λ (q : OpenAsk). q.id ≡ id → ⊥) (λ (q : OpenAsk). is_among (a.id ∷ []) q.id ≡ false)
         (λ q other. one-apart a.id q.id (unlike q.id a.id (λ same. other (same ∙ open-id s.asks id a stands)))) (without s.asks id) (without-apart s.asks id ids.rising)
+
+    apart : (k : Ask) → AreFree (uses (finish_op a.id edek k)) (without s.asks id)
+    apart (ask.Create p) = its
     apart (ask.Zone p key) = none-taken (without s.asks id)
+    apart (ask.Submit p) = its
 
 -- operations that may be written
 
@@ -326,12 +412,22 @@ may-write s c o opened few ids recent begins free is = go c begins free is
     go (call.Unsnap p name) begins free is =
         let same : op.Unsnap p name ≡ o = cc in
         subst (λ (x : EditOp). MayWrite s x (record s { next = s.next + 0 })) same (may-plain s (op.Unsnap p name) k refl refl refl (named p name begins.1) free)
+    go (call.Cancel p) begins free is =
+        let same : op.Cancel (session_at s.table p) ≡ o = cc in
+        subst (λ (x : EditOp). MayWrite s x (record s { next = s.next + 0 })) same (may-plain s (op.Cancel (session_at s.table p)) k refl refl refl refl (cancel-free s.table p free))
+    go (call.Status p) begins free is = absurd cc
     go (call.Info r) begins free is = absurd cc
     go (call.List r) begins free is = absurd cc
     go call.Zones begins free is = absurd cc
 
+-- the completion of a session may be written
+pub may-complete : (s : NameState) (p : List (List ℕ)) → 0 < s.table.opening → s.next ≤ 2 ^ 32 → IdsFit s.table.rows s.asks (next_id s) → AreRecent s.table.opening s.asks
+    → first_cause (walk_causes s p) ≡ None → MayWrite s (op.Complete (session_at s.table p)) (record s { next = s.next + 0 })
+may-complete s p opened few ids recent free =
+    may-plain s (op.Complete (session_at s.table p)) (record { opened = opened; few = few; ids = ids; recent = recent }) refl refl refl refl (complete-free s.table p free)
+
 pub may-finish : (s : NameState) (id : ℕ) (a : OpenAsk) (edek : Option Edek) → 0 < s.table.opening → s.next ≤ 2 ^ 32 → IdsFit s.table.rows s.asks (next_id s) → AreRecent s.table.opening s.asks
-    → open_ask s.asks id ≡ Some a → first_cause (finish_causes s.table.rows a edek a.ask) ≡ None → MayWrite s (finish_op a.id edek a.ask) (closed s id)
+    → open_ask s.asks id ≡ Some a → first_cause (finish_causes s.table.rows s.table.statuses a edek a.ask) ≡ None → MayWrite s (finish_op a.id edek a.ask) (closed s id)
 may-finish s id a edek opened few ids recent stands free = record {
   behind = behind-finish s id a edek few ids recent stands;
   allowed = allowed-finish s id a edek opened few ids recent stands free;
@@ -340,10 +436,12 @@ may-finish s id a edek opened few ids recent stands free = record {
   fewer = λ used h. each-without (λ (q : OpenAsk). is_among used q.id ≡ false) s.asks id h;
 }
   where
-    spelled : (k : Ask) → first_cause (finish_causes s.table.rows a edek k) ≡ None → fits (finish_op a.id edek k) ≡ true
+    spelled : (k : Ask) → first_cause (finish_causes s.table.rows s.table.statuses a edek k) ≡ None → fits (finish_op a.id edek k) ≡ true
     spelled (ask.Create p) h = ap not (clear (starts_reserved p) refusal.BadPath _ h).0
     spelled (ask.Zone p key) h = ap not (clear (starts_reserved p) refusal.BadPath _ h).0
+    spelled (ask.Submit p) h = ap not (clear (starts_reserved p) refusal.BadPath _ h).0
 
     fresh : (used : List ℕ) → is_among used a.id ≡ false → (k : Ask) → is_fresh used (finish_op a.id edek k) ≡ true
     fresh used h (ask.Create p) = fresh-id used a.id h
     fresh used h (ask.Zone p key) = refl
+    fresh used h (ask.Submit p) = fresh-id used a.id h

@@ -25,24 +25,28 @@ use Rattle.name_calls.specs.declared.calls.NameRefusal.{NameRefusal}
 use Rattle.name_calls.specs.declared.calls.NameRefusal.TheVariants as refusal
 use Rattle.name_core.specs.State.{IsRising, NameService, NameState, next_id, settled}
 use Rattle.name_core.specs.Asks.{Finishes, ask_gone, closed, finish_causes, finish_op, finished, open_ask, ask_opened, path_asked, unless_stopped, without}
-use Rattle.name_core.specs.Calls.{NameActs, Plain, NoRoom, causes, deed, done_with, early_causes, first_cause, numbered, unless_refused}
+use Rattle.name_core.specs.Calls.{NameActs, Plain, NoRoom, causes, deed, done_with, early_causes, first_cause, numbered, path_causes, unless_refused}
 use Rattle.name_core.specs.Reads.{info_reply, path_of_zone, shown_at}
 use Rattle.name_core.specs.Service.{Changes, Concludes, FinishServes, FinishServesAt, FinishServesOpen, NameServes, ServesBy, ServesUnless, is_change}
 use Rattle.name_core.specs.Steps.{Keeps}
-use Rattle.name_core.specs.Laws.{AnyFault, IsStep, Called, Asked, Finished, Reaches, FileIsReported, FinishedForGood, FinishedOnce, IdsStayBelow, OthersStayByFile, ZoneIsAsAsked}
+use Rattle.name_core.specs.Walking.{NameWalks, WalkGoes, WalkServes, WalkServesUnless, unless_not_walked}
+use Rattle.name_core.specs.Walks.{WalkDeed, session_at, walk_causes, walk_deed}
+use Rattle.name_core.specs.declared.walks.Walked.{Walked}
+use Rattle.name_core.specs.Laws.{AnyFault, IsStep, Called, Asked, Finished, Walks, Reaches, FileIsReported, FinishedForGood, FinishedOnce, IdsStayBelow, OthersStayByFile, ZoneIsAsAsked}
 use Rattle.name_store.proofs.CauseLemmas.{makeable}
 use Rattle.name_core.proofs.AllowedLemmas.{behind-finish, behind-make, behind-plain, may-make-file}
 use Rattle.name_core.proofs.AskLemmas.{ask-room, open-holds, open-id, without-apart}
-use Rattle.name_core.proofs.KeepLemmas.{keeps-asked, keeps-closed, keeps-done, keeps-pending, keeps-settled, next-done, settled-next}
+use Rattle.name_core.proofs.KeepLemmas.{keeps-asked, keeps-closed, keeps-done, keeps-pending, keeps-settled, keeps-walking, next-done, settled-next}
 use Rattle.name_core.proofs.LawLemmas.{other, row-new, row-other, info-by, zone-above, zone-same}
 use Rattle.name_core.proofs.Layers.{Asking, Same, Opened, asking}
 use Rattle.name_core.proofs.RowLemmas.{room-left}
+use Rattle.name_core.proofs.WalkLemmas.{DoesWalk, Ends, TakesFiles, Waits, walk-completes, walk-does}
 
 -- a finish that was done had no cause of a refusal, and left this state
 pub finished-by : (s : NameState) (a : OpenAsk) (edek : Option Edek) (s' : NameState) → Finishes s a edek (Ok tt) s'
-    → (first_cause (finish_causes s.table.rows a edek a.ask) ≡ None) × (s' ≡ finished s a edek)
+    → (first_cause (finish_causes s.table.rows s.table.statuses a edek a.ask) ≡ None) × (s' ≡ finished s a edek)
 finished-by s a edek s' (NoRoom, may, is) = let f : Ok tt ≡ Err refusal.NoMemory = ap (λ o. o.reply) is in absurd cc
-finished-by s a edek s' (Plain, may, is) = go (first_cause (finish_causes s.table.rows a edek a.ask)) is
+finished-by s a edek s' (Plain, may, is) = go (first_cause (finish_causes s.table.rows s.table.statuses a edek a.ask)) is
   where
     go : (o : Option NameRefusal) → (record { reply = Ok tt; state = s' }) ≡ unless_stopped o s a edek → (o ≡ None) × (s' ≡ finished s a edek)
     go (Some why) is = let f : Ok tt ≡ Err why = ap (λ o. o.reply) is in absurd cc
@@ -71,8 +75,8 @@ record MadeBy (s : NameState) (a : OpenAsk) (p : List (List ℕ)) (edek : Option
 made-by : (s : NameState) (a : OpenAsk) (p : List (List ℕ)) (edek : Option Edek) (s' : NameState) → a.ask ≡ ask.Create p → Finishes s a edek (Ok tt) s' → MadeBy s a p edek s'
 made-by s a p edek s' asks finishes =
     let done = finished-by s a edek s' finishes in
-    let free = subst (λ (k : Ask). first_cause (finish_causes s.table.rows a edek k) ≡ None) asks done.0 in
-    let m = may-make-file s.table.rows a edek p free in
+    let free = subst (λ (k : Ask). first_cause (finish_causes s.table.rows s.table.statuses a edek k) ≡ None) asks done.0 in
+    let m = may-make-file s.table.rows s.table.statuses a edek p free in
     record {
       absent = (makeable s.table.rows p m.made).absent;
       zone = ap (λ (k : Ask). zone_id s.table.rows (path_asked k)) (sym asks) ∙ same-id-is (zone_id s.table.rows (path_asked a.ask)) a.zone m.same_zone;
@@ -151,6 +155,8 @@ deed-done s (call.Allow p) free k = plain-done s (op.Allow p) refl refl k
 deed-done s (call.Disallow p) free k = plain-done s (op.Disallow p) refl refl k
 deed-done s (call.Snap p name) free k = plain-done s (op.Snap p name) refl refl k
 deed-done s (call.Unsnap p name) free k = plain-done s (op.Unsnap p name) refl refl k
+deed-done s (call.Cancel p) free k = plain-done s (op.Cancel (session_at s.table p)) refl refl k
+deed-done s (call.Status p) free k = served-none s k
 deed-done s (call.Info p) free k = served-none s k
 deed-done s (call.List p) free k = served-none s k
 deed-done s call.Zones free k = served-none s k
@@ -167,6 +173,8 @@ deed-pending s (call.Allow p) free k = plain-pending s (op.Allow p) refl refl k
 deed-pending s (call.Disallow p) free k = plain-pending s (op.Disallow p) refl refl k
 deed-pending s (call.Snap p name) free k = plain-pending s (op.Snap p name) refl refl k
 deed-pending s (call.Unsnap p name) free k = plain-pending s (op.Unsnap p name) refl refl k
+deed-pending s (call.Cancel p) free k = plain-pending s (op.Cancel (session_at s.table p)) refl refl k
+deed-pending s (call.Status p) free k = served-none s k
 deed-pending s (call.Info p) free k = served-none s k
 deed-pending s (call.List p) free k = served-none s k
 deed-pending s call.Zones free k = served-none s k
@@ -201,6 +209,43 @@ served s user c result logged s' serves k = early (first_cause (early_causes use
     early : (o : Option NameRefusal) → ServesUnless o s c AnyFault result logged s' → Served s.names s'
     early (Some why) refused = served-same s s' refused.same k
     early None serves = by (is_change c) serves
+
+-- walks
+
+walk-done : (s : NameState) (p : List (List ℕ)) → Keeps (Alone s) → Served s (Alone (done_with (walk_deed s p).logs (walk_deed s p).state))
+walk-done s p k = go (walk_deed s p) (walk-does s p)
+  where
+    go : (d : WalkDeed) → DoesWalk s p d → Served s (Alone (done_with d.logs d.state))
+    go d (TakesFiles walks answer is) = served-at s (Alone (record s { walks = walks })) (Alone (done_with d.logs d.state)) (ap (λ (x : WalkDeed). Alone (done_with x.logs x.state)) is)
+        (record { onward = record { asks = refl; rises = omega arith }; keeps = keeps-walking (Alone s) walks k })
+    go d (Waits answer is) = served-at s (Alone s) (Alone (done_with d.logs d.state)) (ap (λ (x : WalkDeed). Alone (done_with x.logs x.state)) is) (served-none s k)
+    go d (Ends is) =
+        let o = op.Complete (session_at s.table p) in
+        served-at s (Alone (done_with (Some o) s)) (Alone (done_with d.logs d.state)) (ap (λ (x : WalkDeed). Alone (done_with x.logs x.state)) is) (plain-done s o refl refl k)
+
+walk-pending : (s : NameState) (p : List (List ℕ)) (o : EditOp) → (walk_deed s p).logs ≡ Some o → Keeps (Alone s) → Served s (record { names = s; pending = Some o })
+walk-pending s p o is k = subst (λ (x : EditOp). Served s (record { names = s; pending = Some x })) (sym (walk-completes s p o is)) (plain-pending s (op.Complete (session_at s.table p)) refl refl k)
+
+walks-on : (s : NameState) (p : List (List ℕ)) (result : Result Walked NameRefusal) (s' : NameState) → NameWalks s p result s' → Keeps (Alone s) → Served s (Alone s')
+walks-on s p result s' (NoRoom, may, is) k = served-at s (Alone s) (Alone s') (ap Alone (ap (λ o. o.state) is)) (served-none s k)
+walks-on s p result s' (Plain, may, is) k = go (first_cause (walk_causes s p)) is
+  where
+    go : (o : Option NameRefusal) → (record { reply = result; state = s' }) ≡ unless_not_walked o s (walk_deed s p) → Served s (Alone s')
+    go (Some why) is = served-at s (Alone s) (Alone s') (ap Alone (ap (λ o. o.state) is)) (served-none s k)
+    go None is = served-at s (Alone (done_with (walk_deed s p).logs (walk_deed s p).state)) (Alone s') (ap Alone (ap (λ o. o.state) is)) (walk-done s p k)
+
+walk-served : (s : NameService) (p : List (List ℕ)) (result : Result Walked NameRefusal) (logged : List EditOp) (s' : NameService) → WalkServes s p AnyFault result logged s' → Keeps s → Served s.names s'
+walk-served s p result logged s' serves k = early (first_cause (path_causes p)) serves
+  where
+    goes : (kept : Bool) → WalkGoes (settled kept s) (settled_ops kept s.pending) p AnyFault result logged s' → Served (settled kept s) s'
+    goes kept (inl w) = served-at (settled kept s) (Alone w.changed) s' w.left (walks-on (settled kept s) p result w.changed w.walks (keeps-settled kept s k))
+    goes kept (inr u) =
+        served-at (settled kept s) (record { names = settled kept s; pending = Some u.op }) s' u.left (walk-pending (settled kept s) p u.op u.writes (keeps-settled kept s k))
+
+    early : (o : Option NameRefusal) → WalkServesUnless o s p AnyFault result logged s' → Served s.names s'
+    early (Some why) refused = served-same s s' refused.same k
+    early None (inl waits) = served-same s s' waits.ends.same k
+    early None (inr (kept, did)) = behind-settled kept s s' k (goes kept did)
 
 -- after a finish its ask is not open, unless memory ran out
 data Finishing (s : NameState) (id : ℕ) (result : Result (Unit {0}) NameRefusal) (s' : NameService) : Type 0 where
@@ -240,7 +285,7 @@ module _ (s : NameService) (id : ℕ) (a : OpenAsk) (stands : open_ask s.names.a
     wrote : (result : Result (Unit {0}) NameRefusal) (changed : NameState) (s' : NameService) → Finishes n a edek result changed → s' ≡ Alone changed → Finishing s.names id result s'
     wrote result changed s' (NoRoom, may, is) left =
         Wanting (ap (λ x. x.reply) is) (behind-settled kept s s' k (served-at n (Alone n) s' (left ∙ ap Alone (ap (λ x. x.state) is)) (served-none n alone)))
-    wrote result changed s' (Plain, may, is) left = go (first_cause (finish_causes n.table.rows a edek a.ask)) is
+    wrote result changed s' (Plain, may, is) left = go (first_cause (finish_causes n.table.rows n.table.statuses a edek a.ask)) is
       where
         go : (why : Option NameRefusal) → (record { reply = result; state = changed }) ≡ unless_stopped why n a edek → Finishing s.names id result s'
         go (Some why) is = away result s' (Alone (closed n a.id)) (left ∙ ap Alone (ap (λ x. x.state) is)) refl left-next (keeps-closed (Alone n) a.id alone)
@@ -280,6 +325,7 @@ pub ids_stay_below : IdsStayBelow
 ids_stay_below s s' (Called user c result logged serves) k = (served s user c result logged s' serves k).keeps
 ids_stay_below s s' (Asked user a result asks same) k = asked-keeps s s' user a same (asking s.names user a result s'.names asks) k
 ids_stay_below s s' (Finished id given result logged serves) k = finishing-keeps s.names id result s' (finishing s id given result logged s' serves k)
+ids_stay_below s s' (Walks p result logged serves) k = (walk-served s p result logged s' serves k).keeps
 
 -- no ask with the id is open
 
@@ -373,6 +419,7 @@ past-step : (id : ℕ) (s s' : NameService) → IsStep s s' → IsPast id s → 
 past-step id s s' (Called user c result logged serves) past = past-served id s s' (served s user c result logged s' serves past.keeps) past
 past-step id s s' (Asked user a result asks same) past = past-asked id s s' user a same (asking s.names user a result s'.names asks) past
 past-step id s s' (Finished another given result logged serves) past = past-finished id s another result s' (finishing s another given result logged s' serves past.keeps) past
+past-step id s s' (Walks p result logged serves) past = past-served id s s' (walk-served s p result logged s' serves past.keeps) past
 
 past-steps : (id : ℕ) (s : NameService) (between : List NameService) (t : NameService) → Reaches s between t → IsPast id s → IsPast id t
 past-steps id s [] t is past = subst (IsPast id) (sym is) past

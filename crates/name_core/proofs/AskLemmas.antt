@@ -16,7 +16,7 @@ use Rattle.name_core.specs.declared.asks.OpenAsk.{OpenAsk}
 use Rattle.name_calls.specs.declared.calls.NameRefusal.TheVariants.{BadPath, NotSuperuser, TooManyInodes}
 use Rattle.name_calls.specs.declared.calls.Ask.{Ask}
 use Rattle.name_calls.specs.declared.calls.Ask.TheVariants as ask
-use Rattle.name_store.specs.Causes.{first_cause, zone_causes}
+use Rattle.name_store.specs.Causes.{first_cause, submit_causes, zone_causes}
 use Rattle.name_store.specs.Table.{key_of_zone}
 use Rattle.name_store.proofs.CauseLemmas.{clear, none-of-both}
 use Rattle.name_core.specs.State.{IdsFit, IsRising, NameState, is_spent}
@@ -249,4 +249,9 @@ ask-room s user (ask.Zone p key) h =
     let r = clear (starts_reserved p) BadPath _ h in
     let u = clear (not (is_superuser user)) NotSuperuser _ r.1 in
     let z = none-of-both (zone_causes s.table.rows p) ((is_spent s, TooManyInodes) ∷ []) u.1 in
+    not-last s.next (clear (is_spent s) TooManyInodes None z.1).0
+ask-room s user (ask.Submit p) h =
+    let r = clear (starts_reserved p) BadPath _ h in
+    let u = clear (not (is_superuser user)) NotSuperuser _ r.1 in
+    let z = none-of-both (submit_causes s.table.rows s.table.statuses p) ((is_spent s, TooManyInodes) ∷ []) u.1 in
     not-last s.next (clear (is_spent s) TooManyInodes None z.1).0

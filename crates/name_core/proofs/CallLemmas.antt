@@ -27,6 +27,7 @@ use Rattle.name_core.specs.Reads.{answer_unless}
 use Rattle.name_core.specs.Asks.{Finishes, ask_gone, closed, finish_causes, finish_op, finished, open_ask, unless_stopped, without}
 use Rattle.name_core.specs.Service.{NameActsOnDisk, Changes, Concludes, FinishActs, FinishServesAt, Logs, OwnOf, OwnOfFinish, ServesUnless, ServesBy, acknowledged, is_change}
 use Rattle.name_core.specs.Steps.{ActsOn, ActsSettled, Answers, FinishesSettled, Growing, IsUnsettled, Leaving, Logging, OwnChange, OwnFinish, Settling, Writes, finish_answer, answer_of_store}
+use Rattle.name_core.specs.Walks.{session_at}
 use Rattle.name_core.proofs.AskLemmas.{open-id}
 use Rattle.name_core.proofs.LoggingLemmas.{behind-settling, closing, logging-growing, logging-leaving, rose_since, unchanged}
 
@@ -179,6 +180,8 @@ deed-is s (call.Allow p) o is = let same : op.Allow p ≡ o = cc in ap (only_log
 deed-is s (call.Disallow p) o is = let same : op.Disallow p ≡ o = cc in ap (only_logs s) same ∙ same-counter s o
 deed-is s (call.Snap p name) o is = let same : op.Snap p name ≡ o = cc in ap (only_logs s) same ∙ same-counter s o
 deed-is s (call.Unsnap p name) o is = let same : op.Unsnap p name ≡ o = cc in ap (only_logs s) same ∙ same-counter s o
+deed-is s (call.Cancel p) o is = let same : op.Cancel (session_at s.table p) ≡ o = cc in ap (only_logs s) same ∙ same-counter s o
+deed-is s (call.Status p) o is = absurd cc
 deed-is s (call.Info r) o is = absurd cc
 deed-is s (call.List r) o is = absurd cc
 deed-is s call.Zones o is = absurd cc
@@ -192,6 +195,8 @@ takes-memory s (call.Allow p) h = refl
 takes-memory s (call.Disallow p) h = refl
 takes-memory s (call.Snap p name) h = refl
 takes-memory s (call.Unsnap p name) h = refl
+takes-memory s (call.Cancel p) h = refl
+takes-memory s (call.Status p) h = refl
 takes-memory s (call.Info r) h = absurd cc
 takes-memory s (call.List r) h = refl
 takes-memory s call.Zones h = refl
@@ -274,7 +279,7 @@ finish-behind old mid new r s t id a edek outcome stands k b = record {
       edek = edek;
       was_open = stands;
       gave = refl;
-      free = ap (λ (n : NameState). first_cause (finish_causes n.table.rows a edek a.ask)) (sym names_are) ∙ h.0;
+      free = ap (λ (n : NameState). first_cause (finish_causes n.table.rows n.table.statuses a edek a.ask)) (sym names_are) ∙ h.0;
       is = h.1;
       was_written = h.2;
     }
@@ -289,7 +294,7 @@ finish-behind old mid new r s t id a edek outcome stands k b = record {
     })
     behind (inr u) = inr (record {
       failed = rose_since old.faults mid.faults new.faults k.disk.run.faults u.failed;
-      free = ap (λ (n : NameState). first_cause (finish_causes n.table.rows a edek a.ask)) (sym names_are) ∙ u.free;
+      free = ap (λ (n : NameState). first_cause (finish_causes n.table.rows n.table.statuses a edek a.ask)) (sym names_are) ∙ u.free;
       reply_is = u.reply_is;
       logged_is = ap (λ (l : List EditOp). before ++ l) u.logged_is ∙ append-nil before;
       left = u.left ∙ ap (λ (n : NameState). record { names = closed n a.id; pending = Some (finish_op a.id edek a.ask) }) names_are;
@@ -297,7 +302,7 @@ finish-behind old mid new r s t id a edek outcome stands k b = record {
 
 -- a finish that is refused while nothing is pending
 pub finish-refused : (d : DiskState) (r t : RunningNames) (id : ℕ) (a : OpenAsk) (edek : Option Edek) (why : NameRefusal) → open_ask r.asks id ≡ Some a → r.store.log.pending ≡ None
-    → first_cause (finish_causes r.store.table.rows a edek a.ask) ≡ Some why → t ≡ record r { asks = without r.asks id } → FinishesSettled d d r a edek (Err why) t
+    → first_cause (finish_causes r.store.table.rows r.store.table.statuses a edek a.ask) ≡ Some why → t ≡ record r { asks = without r.asks id } → FinishesSettled d d r a edek (Err why) t
 finish-refused d r t id a edek why stands none stops is = record {
   logged = [];
   concludes = inl (record {
@@ -310,7 +315,7 @@ finish-refused d r t id a edek why stands none stops is = record {
 }
 
 -- memory ran out for its operation
-pub finish-wanting : (d : DiskState) (r : RunningNames) (a : OpenAsk) (edek : Option Edek) → r.store.log.pending ≡ None → first_cause (finish_causes r.store.table.rows a edek a.ask) ≡ None
+pub finish-wanting : (d : DiskState) (r : RunningNames) (a : OpenAsk) (edek : Option Edek) → r.store.log.pending ≡ None → first_cause (finish_causes r.store.table.rows r.store.table.statuses a edek a.ask) ≡ None
     → FinishesSettled d d r a edek (Err refusal.NoMemory) r
 finish-wanting d r a edek none free = record {
   logged = [];
@@ -320,7 +325,7 @@ finish-wanting d r a edek none free = record {
 
 -- a finish that nothing stops, whose operation had to be written
 pub finish-written : (old new : DiskState) (r t : RunningNames) (id : ℕ) (a : OpenAsk) (edek : Option Edek) (result : Result (Unit {0}) StoreRefusal) → open_ask r.asks id ≡ Some a
-    → first_cause (finish_causes r.store.table.rows a edek a.ask) ≡ None → Writes old new r (closed (names_of r) id) (finish_op a.id edek a.ask) result t
+    → first_cause (finish_causes r.store.table.rows r.store.table.statuses a edek a.ask) ≡ None → Writes old new r (closed (names_of r) id) (finish_op a.id edek a.ask) result t
     → FinishesSettled old new r a edek (finish_answer result) t
 finish-written old new r t id a edek result stands free w = go result w
   where

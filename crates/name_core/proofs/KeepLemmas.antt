@@ -13,6 +13,7 @@ use Rattle.name_store.specs.Causes.{id_at}
 use Rattle.name_store.specs.Replay.{AllBelow}
 use Rattle.name_store.specs.Store.{IsPending, IsStore, is_opening}
 use Rattle.name_store.specs.Table.{NameTable, after_table, is_among, new_directory, new_file, settled_table, uses}
+use Rattle.reenc_walk.specs.Walks.{WalkState}
 use Rattle.name_core.specs.declared.asks.OpenAsk.{OpenAsk}
 use Rattle.name_core.specs.State.{AreFree, AreRecent, IdsFit, IsNames, IsWaiting, NameService, NameState, RunningNames, next_id, service_of, settled, took}
 use Rattle.name_core.specs.Asks.{closed}
@@ -81,6 +82,9 @@ fit-op t (op.Allow p) asks n safe below apart fit = fit
 fit-op t (op.Disallow p) asks n safe below apart fit = fit
 fit-op t (op.Snap p name) asks n safe below apart fit = fit
 fit-op t (op.Unsnap p name) asks n safe below apart fit = fit
+fit-op t (op.Submit session p noted) asks n safe below apart fit = fit
+fit-op t (op.Cancel session) asks n safe below apart fit = fit
+fit-op t (op.Complete session) asks n safe below apart fit = fit
 
 pub same-opening : (t : NameTable) (o : EditOp) → is_opening o ≡ false → (after_table t o).opening ≡ t.opening
 same-opening t (op.Opened opening) safe = absurd cc
@@ -93,6 +97,9 @@ same-opening t (op.Allow p) safe = refl
 same-opening t (op.Disallow p) safe = refl
 same-opening t (op.Snap p name) safe = refl
 same-opening t (op.Unsnap p name) safe = refl
+same-opening t (op.Submit session p noted) safe = refl
+same-opening t (op.Cancel session) safe = refl
+same-opening t (op.Complete session) safe = refl
 
 -- an operation took effect
 
@@ -210,11 +217,20 @@ keeps_later s n later few k = record {
     go None h = tt
     go (Some o) h = record { no_opening = h.no_opening; below = below-more (next_id s.names) (next_id (record s.names { next = n })) (omega (arith, later)) (uses o) h.below; free = h.free }
 
+-- walks change
+
+pub keeps-walking : (s : NameService) (walks : List WalkState) → Keeps s → Keeps (record { names = record s.names { walks = walks }; pending = s.pending })
+keeps-walking s walks k = record { few = k.few; ids = k.ids; recent = k.recent; waits = go s.pending k.waits }
+  where
+    go : (pending : Option EditOp) → IfSome pending (IsApart s.names) → IfSome pending (IsApart (record s.names { walks = walks }))
+    go None h = tt
+    go (Some o) h = record { no_opening = h.no_opening; below = h.below; free = h.free }
+
 -- a start
 
 pub keeps-started : (r : RunningNames) → r.next ≡ 1 → r.asks ≡ [] → r.store.log.pending ≡ None → All (λ (e : Entry). e.row.id < r.store.table.opening * 2 ^ 32) r.store.table.rows → Keeps (service_of r)
 keeps-started r next asks none earlier =
-    subst Keeps (λ i. record { names = record { table = r.store.table; next = sym next i; asks = sym asks i }; pending = sym none i }) (record {
+    subst Keeps (λ i. record { names = record { table = r.store.table; next = sym next i; asks = sym asks i; walks = r.walks; batch = r.batch }; pending = sym none i }) (record {
       few = omega arith;
       ids = record { of_rows = λ i d b. let low = earlier i d b in omega (arith, low); of_asks = tt; free = tt; rising = tt };
       recent = tt;
@@ -227,14 +243,15 @@ waiting : (pending : Option EditOp) (s : NameState) → IfSome pending (IsPendin
 waiting None s h k = tt
 waiting (Some o) s h k = record { pending = h; below = k.below; free = k.free }
 
-pub is-names : (r : RunningNames) → IsStore r.store → Keeps (service_of r) → IsNames (service_of r)
-is-names r store k = record {
+pub is-names : (r : RunningNames) → IsStore r.store → 1 ≤ r.batch → r.batch ≤ 1000 → Keeps (service_of r) → IsNames (service_of r)
+is-names r store some most k = record {
   opened = store.opened;
   few = k.few;
   table = store.table;
   ids = k.ids;
   recent = k.recent;
   waits = waiting r.store.log.pending (service_of r).names store.waits k.waits;
+  size = (some, most);
 }
 
 apart-of : (pending : Option EditOp) (s : NameState) → IfSome pending (IsWaiting s) → IfSome pending (IsApart s)

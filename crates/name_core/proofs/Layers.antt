@@ -19,9 +19,11 @@ use Rattle.name_core.specs.Asks.{Asks, ask_causes, asked, ask_opened, unless_not
 use Rattle.name_core.specs.Calls.{NoRoom, Plain, first_cause}
 use Rattle.name_core.specs.Service.{OwnOf, OwnOfFinish}
 use Rattle.name_core.specs.Steps.{Keeps}
+use Rattle.name_core.specs.Walking.{OwnOfWalk}
+use Rattle.name_core.specs.declared.walks.Walked.{Walked}
 use Rattle.name_core.proofs.AskLemmas.{each-append}
 use Rattle.name_core.proofs.KeepLemmas.{below-more, keeps-of, keeps-settled, settled-opening}
-pub use Rattle.name_core.proofs.AllowedLemmas.{allowed-call, allowed-finish, no-opening, no-opening-finish, not-among}
+pub use Rattle.name_core.proofs.AllowedLemmas.{allowed-call, allowed-finish, allowed-walk, no-opening, no-opening-finish, no-opening-walk, not-among}
 
 -- asks
 
@@ -85,3 +87,8 @@ own_of_finish s id given answer s' kept o n own =
       subst (λ (x : EditOp). allows (settled kept s).table x ≡ true) (sym own.is) (allowed-finish (settled kept s) id own.ask own.edek (settled_opened kept s n) k.few k.ids k.recent own.was_open own.free),
       ap is_opening own.is ∙ no-opening-finish own.ask.id own.edek own.ask.ask,
     )
+
+-- the completion that a walk may write is allowed, and is not an opening
+pub own_of_walk : (s : NameService) (p : List (List ℕ)) (answer : Result Walked NameRefusal) (s' : NameService) (kept : Bool) (o : EditOp) → IsNames s → OwnOfWalk s p answer s' kept o
+    → (allows (settled kept s).table o ≡ true) × (is_opening o ≡ false)
+own_of_walk s p answer s' kept o n own = (allowed-walk (settled kept s) p o (settled_opened kept s n) own.free own.is, no-opening-walk (settled kept s) p o own.is)

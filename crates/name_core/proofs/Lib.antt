@@ -15,5 +15,9 @@ pub mod SnapshotRows
 pub mod SnapshotTimes
 pub mod SnapshotZones
 pub mod StartLemmas
+pub mod WalkCalls
+pub mod WalkLaws
+pub mod WalkLemmas
+pub mod WalkOrder
 pub mod WriteLemmas
 pub mod ZoneLaws

@@ -198,8 +198,8 @@ free-pending kept (Some o) s used h k = free-settled kept o used s.asks h.free k
 abbrev pub Moments : DiskState → DiskState → RunningNames → Type 0
 Moments old new r = Tells old → (used : List ℕ) (ops : List EditOp) → store.IsNameStoreOf old r.store used ops → LeavesOnly 1 old new (IsLeftOf (made_with r.store used) r.store.log.pending NothingMore ops)
 
-pub settles : (old new : DiskState) (r t : RunningNames) → Keeps (service_of r) → t.next ≡ r.next → t.asks ≡ r.asks → Moments old new r → RunOn 1 old new → SettlesNames old new r.store t.store → Settling old new r t
-settles old new r t keeps next asks moments run k = record {
+pub settles : (old new : DiskState) (r t : RunningNames) → Keeps (service_of r) → t ≡ record r { store = t.store } → Moments old new r → RunOn 1 old new → SettlesNames old new r.store t.store → Settling old new r t
+settles old new r t keeps beside moments run k = record {
   kept = k.kept;
   service = is;
   disk = record {
@@ -209,7 +209,7 @@ settles old new r t keeps next asks moments run k = record {
       below =
           subst (λ (n : ℕ). AllBelow n (settled_used k.kept r.store.log.pending s.used)) (sym (ap (λ (x : NameService). next_id x.names) is ∙ settled-next k.kept (service_of r) keeps))
           (below-pending k.kept r.store.log.pending (names_of r) s.used keeps.waits s.below);
-      free = subst (λ (l : List OpenAsk). AreFree (settled_used k.kept r.store.log.pending s.used) l) (sym asks) (free-pending k.kept r.store.log.pending (names_of r) s.used keeps.waits s.free);
+      free = subst (λ (l : List OpenAsk). AreFree (settled_used k.kept r.store.log.pending s.used) l) (sym (ap (λ (x : RunningNames). x.asks) beside)) (free-pending k.kept r.store.log.pending (names_of r) s.used keeps.waits s.free);
     };
     moments = λ telling ops s. moments telling s.used ops s.store;
     run = run;
@@ -217,7 +217,7 @@ settles old new r t keeps next asks moments run k = record {
 }
   where
     is : service_of t ≡ record { names = settled k.kept (service_of r); pending = None }
-    is = λ i. record { names = record { table = k.table i; next = next i; asks = asks i }; pending = k.none i }
+    is = λ i. record { names = record { table = k.table i; next = (beside i).next; asks = (beside i).asks; walks = (beside i).walks; batch = (beside i).batch }; pending = k.none i }
 
 pub unsettled : (old new : DiskState) (r t : RunningNames) → t ≡ r → Moments old new r → RunOn 1 old new → store.Unsettled old new r.store t.store → IsUnsettled old new r t
 unsettled old new r t same moments run k = record {
@@ -264,12 +264,21 @@ stands-on old new r t P logged l stands telling =
 
 -- the result of settling
 
-pub settle-result : (old new : DiskState) (r t : RunningNames) (result : Result (Unit {0}) StoreRefusal) → Keeps (service_of r) → t.next ≡ r.next → t.asks ≡ r.asks → Moments old new r → RunOn 1 old new
+pub settle-result : (old new : DiskState) (r t : RunningNames) (result : Result (Unit {0}) StoreRefusal) → Keeps (service_of r) → t ≡ record r { store = t.store } → Moments old new r → RunOn 1 old new
     → MatchResult result (λ _. SettlesNames old new r.store t.store) (λ _. store.Unsettled old new r.store t.store) → MatchResult result (λ _. Settling old new r t) (λ _. IsUnsettled old new r t)
-settle-result old new r t (Ok done) keeps next asks moments run k = settles old new r t keeps next asks moments run k
-settle-result old new r t (Err why) keeps next asks moments run k = unsettled old new r t (λ i. record { store = k.same i; next = next i; asks = asks i }) moments run k
+settle-result old new r t (Ok done) keeps beside moments run k = settles old new r t keeps beside moments run k
+settle-result old new r t (Err why) keeps beside moments run k = unsettled old new r t (beside ∙ (λ i. record r { store = k.same i })) moments run k
 
 pub settle-keeps : (old new : DiskState) (r t : RunningNames) (result : Result (Unit {0}) StoreRefusal) → Keeps (service_of r) → MatchResult result (λ _. Settling old new r t) (λ _. IsUnsettled old new r t)
     → Keeps (service_of t)
 settle-keeps old new r t (Ok done) keeps k = subst Keeps (sym k.service) (keeps-settled k.kept (service_of r) keeps)
 settle-keeps old new r t (Err why) keeps k = subst (λ (x : RunningNames). Keeps (service_of x)) (sym k.same) keeps
+
+-- only walks change
+pub walking : (d : DiskState) (r t : RunningNames) (P : List ℕ → List EditOp → List ℕ → Type 0) → t ≡ record r { walks = t.walks } → Logging d d r t P []
+walking d r t P is = record {
+  stands = λ telling ops s.
+      subst (IsNamesystemOf d t) (sym (append-nil ops)) (subst (λ (x : RunningNames). IsNamesystemOf d x ops) (sym is) (record { used = s.used; store = s.store; below = s.below; free = s.free }));
+  moments = λ telling ops s. (begin 1 d (P s.used ops)).moments;
+  run = (begin 1 d (λ c. Unit {0})).run;
+}

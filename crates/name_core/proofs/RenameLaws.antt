@@ -19,7 +19,7 @@ module _ (s : NameState) (p q : List (List ℕ)) (s' : NameState) (did : NameAct
   done = done-by s (call.Rename p q) (op.Rename p q) s' refl did
 
   may : IsRenamable s.table.rows s.table.snaps p q
-  may = renamable s.table.rows s.table.snaps p q done.free
+  may = renamable s.table.rows s.table.snaps s.table.statuses p q done.free
 
   rows : s'.table.rows ≡ renamed p q s.table.rows
   rows = ap (λ (x : NameState). x.table.rows) done.left

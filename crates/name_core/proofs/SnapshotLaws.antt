@@ -34,14 +34,18 @@ use Rattle.name_store.proofs.RowLemmas.{directory-entry}
 use Rattle.name_core.specs.declared.asks.OpenAsk.{OpenAsk}
 use Rattle.name_core.specs.State.{IdsFit, IsNames, IsWaiting, NameService, NameState, next_id, settled, took}
 use Rattle.name_core.specs.Asks.{Asks, Finishes, finish_causes, finish_op, open_ask, unless_stopped}
-use Rattle.name_core.specs.Calls.{Deed, NameActs, NoRoom, Plain, causes, deed, done_with, early_causes, only_logs, unless_refused}
+use Rattle.name_core.specs.Calls.{Deed, NameActs, NoRoom, Plain, causes, deed, done_with, early_causes, only_logs, path_causes, unless_refused}
 use Rattle.name_core.specs.Reads.{answer_unless, entry_causes, info_causes, info_reply, list_answer, list_reply, shown_at, snapshot_rows, zone_in_or_above, zone_read}
 use Rattle.name_core.specs.Service.{Changes, Concludes, FinishServes, FinishServesAt, FinishServesOpen, NameServes, ServesBy, ServesUnless, is_change}
-use Rattle.name_core.specs.Laws.{AnyFault, Asked, Called, Finished, IsNotCalled, IsNotPending, SettlingKeepsSnapshots, SnapshotIsListed, SnapshotIsReported, SnapshotsStay, StepsKeepSnapshots, UnsnapIsGone, removes_snapshot}
+use Rattle.name_core.specs.Walking.{NameWalks, WalkGoes, WalkServes, WalkServesUnless, unless_not_walked}
+use Rattle.name_core.specs.Walks.{WalkDeed, walk_causes, walk_deed}
+use Rattle.name_core.specs.declared.walks.Walked.{Walked}
+use Rattle.name_core.specs.Laws.{AnyFault, Asked, Called, Finished, Walks, IsNotCalled, IsNotPending, SettlingKeepsSnapshots, SnapshotIsListed, SnapshotIsReported, SnapshotsStay, StepsKeepSnapshots, UnsnapIsGone, removes_snapshot}
 use Rattle.name_core.proofs.AllowedLemmas.{allowed-call}
 use Rattle.name_core.proofs.LawLemmas.{answer-by, shown-unless}
 use Rattle.name_core.proofs.Layers.{Asking, Opened, Same, asking, settled_keeps, settled_opened}
 use Rattle.name_core.proofs.SnapshotRows.{children-below, row-below, zone-path-below}
+use Rattle.name_core.proofs.WalkLemmas.{DoesWalk, Ends, TakesFiles, Waits, walk-does}
 
 -- changes that were done
 
@@ -66,7 +70,7 @@ behind-none (c ∷ front) behind h = go c.0 h (behind-none front behind)
     go true h rest = absurd cc
     go false h rest = rest h
 
-first-front : (front behind : List (Bool × NameRefusal)) (why : NameRefusal) → first_cause front ≡ Some why → first_cause (front ++ behind) ≡ Some why
+pub first-front : (front behind : List (Bool × NameRefusal)) (why : NameRefusal) → first_cause front ≡ Some why → first_cause (front ++ behind) ≡ Some why
 first-front [] behind why h = absurd cc
 first-front (c ∷ front) behind why h = go c.0 h (first-front front behind why)
   where
@@ -107,6 +111,9 @@ stays t (op.Snap p n) dir name was may keeps stood =
     let new : Snapshot = record { dir = id_at t.rows p; name = n; rows = frozen t.rows (id_at t.rows p) } in
     let free = (snappable t.rows t.snaps p n (allowed t (op.Snap p n) refl may).free).free in
     others-take {A = Unit {0}} {E = Unit {0}} t.snaps.taken (Ok tt) new (put_snapshot new t.snaps.taken) refl tt dir name (not-taken t.snaps.taken (id_at t.rows p) n dir name was free stood) ∙ stood
+stays t (op.Submit session p noted) dir name was may keeps stood = stood
+stays t (op.Cancel session) dir name was may keeps stood = stood
+stays t (op.Complete session) dir name was may keeps stood = stood
 stays t (op.Unsnap p n) dir name was may keeps stood = others-remove t.snaps.taken (id_at t.rows p) n dir name keeps ∙ stood
 
 pub snapshots_stay : SnapshotsStay
@@ -138,6 +145,8 @@ deed-table s (call.Allow p) = refl
 deed-table s (call.Disallow p) = refl
 deed-table s (call.Snap p name) = refl
 deed-table s (call.Unsnap p name) = refl
+deed-table s (call.Cancel p) = refl
+deed-table s (call.Status p) = refl
 deed-table s call.Zones = refl
 
 acted : (n : NameState) (c : NameCall) (result : NameReply) (n' : NameState) → NameActs n c result n' → TableNext n c n'.table
@@ -205,10 +214,11 @@ module _ (s s' : NameService) (dir : ℕ) (name : List ℕ) (was : Snapshot) (go
   finish-taken : (t : NameTable) (id : ℕ) (edek : Option Edek) (k : Ask) → (after_table t (finish_op id edek k)).snaps.taken ≡ t.snaps.taken
   finish-taken t id edek (ask.Create p) = refl
   finish-taken t id edek (ask.Zone p key) = refl
+  finish-taken t id edek (ask.Submit p) = refl
 
   finishes-taken : (n : NameState) (a : OpenAsk) (edek : Option Edek) (result : Result (Unit {0}) NameRefusal) (n' : NameState) → Finishes n a edek result n' → n'.table.snaps.taken ≡ n.table.snaps.taken
   finishes-taken n a edek result n' (NoRoom, may, is) = ap (λ x. x.state.table.snaps.taken) is
-  finishes-taken n a edek result n' (Plain, may, is) = go (first_cause (finish_causes n.table.rows a edek a.ask)) is
+  finishes-taken n a edek result n' (Plain, may, is) = go (first_cause (finish_causes n.table.rows n.table.statuses a edek a.ask)) is
     where
       go : (why : Option NameRefusal) → (record { reply = result; state = n' }) ≡ unless_stopped why n a edek → n'.table.snaps.taken ≡ n.table.snaps.taken
       go (Some why) is = ap (λ x. x.state.table.snaps.taken) is
@@ -232,10 +242,39 @@ module _ (s s' : NameService) (dir : ℕ) (name : List ℕ) (was : Snapshot) (go
       at None ends = as-before s'.names.table (ap (λ (x : NameService). x.names.table) ends.left_is)
       at (Some a) serves = of-open a given serves
 
+  -- nor does that of a walk
+  walk-taken : (n : NameState) (p : List (List ℕ)) (d : WalkDeed) → DoesWalk n p d → (done_with d.logs d.state).table.snaps.taken ≡ n.table.snaps.taken
+  walk-taken n p d (TakesFiles walks answer is) = ap (λ (x : WalkDeed). (done_with x.logs x.state).table.snaps.taken) is
+  walk-taken n p d (Waits answer is) = ap (λ (x : WalkDeed). (done_with x.logs x.state).table.snaps.taken) is
+  walk-taken n p d (Ends is) = ap (λ (x : WalkDeed). (done_with x.logs x.state).table.snaps.taken) is
+
+  walks-taken : (n : NameState) (p : List (List ℕ)) (result : Result Walked NameRefusal) (n' : NameState) → NameWalks n p result n' → n'.table.snaps.taken ≡ n.table.snaps.taken
+  walks-taken n p result n' (NoRoom, may, is) = ap (λ x. x.state.table.snaps.taken) is
+  walks-taken n p result n' (Plain, may, is) = go (first_cause (walk_causes n p)) is
+    where
+      go : (why : Option NameRefusal) → (record { reply = result; state = n' }) ≡ unless_not_walked why n (walk_deed n p) → n'.table.snaps.taken ≡ n.table.snaps.taken
+      go (Some why) is = ap (λ x. x.state.table.snaps.taken) is
+      go None is = ap (λ x. x.state.table.snaps.taken) is ∙ walk-taken n p (walk_deed n p) (walk-does n p)
+
+  kept-by-walk : (p : List (List ℕ)) (result : Result Walked NameRefusal) (logged : List EditOp) → WalkServes s p AnyFault result logged s' → Stood s'.names.table.snaps.taken
+  kept-by-walk p result logged serves = early (first_cause (path_causes p)) serves
+    where
+      goes : (kept : Bool) → WalkGoes (settled kept s) (settled_ops kept s.pending) p AnyFault result logged s' → Stood s'.names.table.snaps.taken
+      goes kept (inl w) =
+          ap (λ (x : NameService). snapshot_named x.names.table.snaps.taken dir name) w.left
+          ∙ ap (λ (taken : List Snapshot). snapshot_named taken dir name) (walks-taken (settled kept s) p result w.changed w.walks) ∙ as-settled kept
+      goes kept (inr u) = ap (λ (x : NameService). snapshot_named x.names.table.snaps.taken dir name) u.left ∙ as-settled kept
+
+      early : (why : Option NameRefusal) → WalkServesUnless why s p AnyFault result logged s' → Stood s'.names.table.snaps.taken
+      early (Some why) refused = as-before s'.names.table (ap (λ (x : NameService). x.names.table) refused.same)
+      early None (inl unsettled) = as-before s'.names.table (ap (λ (x : NameService). x.names.table) unsettled.ends.same)
+      early None (inr (kept, did)) = goes kept did
+
 pub steps_keep_snapshots : StepsKeepSnapshots
 steps_keep_snapshots s s' (Called user c result logged serves) dir name was good waits keeps stood = kept-by-call s s' dir name was good waits stood user c result logged serves keeps
 steps_keep_snapshots s s' (Asked user a result asks same) dir name was good waits keeps stood = kept-by-ask s s' dir name was good waits stood user a result asks
 steps_keep_snapshots s s' (Finished id given result logged serves) dir name was good waits keeps stood = kept-by-finish s s' dir name was good waits stood id given result logged serves
+steps_keep_snapshots s s' (Walks p result logged serves) dir name was good waits keeps stood = kept-by-walk s s' dir name was good waits stood p result logged serves
 
 -- a snapshot that was taken
 

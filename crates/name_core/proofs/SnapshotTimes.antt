@@ -335,7 +335,7 @@ same-after t (op.Remove q) p name good may r =
     same-rows t (after_table t (op.Remove q)) p r.dir (other-row q p t.rows out.1) (other-zone q p t.rows out.1)
     (among-kept (λ (id : ℕ). not (at_or_below t.rows id q)) t.snaps.allowed (id_at t.rows p) (ap not out.0) r.allowed)
 same-after t (op.Rename a b) p name good may r =
-    let free = renamable t.rows t.snaps a b (allowed t (op.Rename a b) refl may).free in
+    let free = renamable t.rows t.snaps t.statuses a b (allowed t (op.Rename a b) refl may).free in
     same-rename t p a b good.rules free.can (apart-from t p a name good.rules r free.none).1 r.dir r.allowed
 same-after t (op.Zone q key) p name good may r = same-zone t p q key name good.rules r (markable t.rows q (allowed t (op.Zone q key) refl may).free)
 same-after t (op.Allow q) p name good may r = same-rows t (after_table t (op.Allow q)) p r.dir refl refl (among-with t.snaps.allowed (id_at t.rows q) (id_at t.rows p) r.allowed)
@@ -343,6 +343,9 @@ same-after t (op.Disallow q) p name good may r =
     same-rows t (after_table t (op.Disallow q)) p r.dir refl refl (among-without t p q name good.rules r (allowed t (op.Disallow q) refl may).free)
 same-after t (op.Snap q n) p name good may r = same-rows t (after_table t (op.Snap q n)) p r.dir refl refl r.allowed
 same-after t (op.Unsnap q n) p name good may r = same-rows t (after_table t (op.Unsnap q n)) p r.dir refl refl r.allowed
+same-after t (op.Submit session q noted) p name good may r = same-rows t (after_table t (op.Submit session q noted)) p r.dir refl refl r.allowed
+same-after t (op.Cancel session) p name good may r = same-rows t (after_table t (op.Cancel session)) p r.dir refl refl r.allowed
+same-after t (op.Complete session) p name good may r = same-rows t (after_table t (op.Complete session)) p r.dir refl refl r.allowed
 
 -- what is answered
 

@@ -17,6 +17,8 @@ pub record Committing (F : RunningNames → NameState) (r s t : RunningNames) (o
   pub may : MayWrite (names_of s) o (F s)
   pub next : t.next ≡ (F r).next
   pub asks : t.asks ≡ (F r).asks
+  pub walks : t.walks ≡ (F r).walks
+  pub batch : t.batch ≡ (F r).batch
 
 -- the operation was written
 pub write-done : (F : RunningNames → NameState) (old new : DiskState) (r s t : RunningNames) (o : EditOp) → Committing F r s t o
@@ -31,7 +33,7 @@ write-done F old new r s t o c table pending k =
     table_is = table ∙ ap (λ (x : NameTable). after_table x o) (sym may.behind.same_table)
 
     is : service_of t ≡ record { names = done_with (Some o) (F r); pending = None }
-    is = λ i. record { names = record { table = table_is i; next = c.next i; asks = c.asks i }; pending = pending i }
+    is = λ i. record { names = record { table = table_is i; next = c.next i; asks = c.asks i; walks = c.walks i; batch = c.batch i }; pending = pending i }
 
     done : IsDone old new r (F r) o t
     done = record { service = is; disk = committed old new r t (F r) o true may (ap (λ (x : NameService). next_id x.names) is ∙ next-done (names_of r) (F r) o may.behind) c.asks k }
@@ -49,7 +51,7 @@ write-failed F old new r s t o c table pending failed k =
     table_is = table ∙ sym may.behind.same_table
 
     is : service_of t ≡ record { names = F r; pending = Some o }
-    is = λ i. record { names = record { table = table_is i; next = c.next i; asks = c.asks i }; pending = pending i }
+    is = λ i. record { names = record { table = table_is i; next = c.next i; asks = c.asks i; walks = c.walks i; batch = c.batch i }; pending = pending i }
 
     waits : IsPendingNow old new r (F r) o t
     waits = record { failed = failed; service = is; disk = committed old new r t (F r) o false may (ap (λ (x : NameService). next_id x.names) is) c.asks k }

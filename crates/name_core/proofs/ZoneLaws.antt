@@ -180,11 +180,11 @@ zone_is_reported s a p key edek s' answer s'' good asks finishes info = reply (i
     id_there : ℕ
     id_there = id_at s.table.rows p
 
-    done : (first_cause (finish_causes s.table.rows a edek a.ask) ≡ None) × (s' ≡ finished s a edek)
+    done : (first_cause (finish_causes s.table.rows s.table.statuses a edek a.ask) ≡ None) × (s' ≡ finished s a edek)
     done = finished-by s a edek s' finishes
 
     may : IsMarkable s.table.rows p
-    may = markable s.table.rows p (may-make-zone s.table.rows a edek p key (subst (λ (k : Ask). first_cause (finish_causes s.table.rows a edek k) ≡ None) asks done.0))
+    may = markable s.table.rows p (may-make-zone s.table.rows s.table.statuses a edek p key (subst (λ (k : Ask). first_cause (finish_causes s.table.rows s.table.statuses a edek k) ≡ None) asks done.0))
 
     rows : s'.table.rows ≡ set_kind s.table.rows id_there (Dir (Some key))
     rows = ap (λ (t : NameState). t.table.rows) done.1 ∙ ap (λ (k : Ask). (after_table s.table (finish_op a.id edek k)).rows) asks

@@ -2,12 +2,15 @@
 use Rattle.std.specs.Prelude.{◌≡◌, ℕ, ◌+◌, Bool, not, List, [], ◌∷◌, ◌++◌, Option, Some, None, if◌then◌else◌, Result, Ok, Err, ◌==◌}
 use Rattle.hk_base.specs.declared.names.Edek.{Edek}
 use Rattle.hk_base.specs.declared.names.KeyName.{KeyName}
+use Rattle.hk_base.specs.Names.{Version}
 use Rattle.hk_base.specs.declared.texts.Text.{Text}
 use Rattle.name_calls.specs.declared.paths.NPath.{NPath}
 use Rattle.inode_tree.specs.Rows.{Entry, same_id, zone_id}
 use Rattle.edit_ops.specs.declared.ops.EditOp.{EditOp}
 use Rattle.edit_ops.specs.declared.ops.EditOp.TheVariants as op
-use Rattle.name_store.specs.Causes.{first_cause, row_causes, to_be_made, zone_causes}
+use Rattle.zone_table.specs.declared.statuses.StatusRow.{StatusRow}
+use Rattle.zone_table.specs.Statuses.{zone_goes_on}
+use Rattle.name_store.specs.Causes.{first_cause, id_at, row_causes, submit_causes, to_be_made, zone_causes, zone_root_causes}
 use Rattle.name_store.specs.Table.{fits_zone, key_of_zone}
 use Rattle.name_calls.specs.declared.calls.Ask.{Ask}
 use Rattle.name_calls.specs.declared.calls.Ask.TheVariants as ask
@@ -36,19 +39,23 @@ abbrev pub ask_causes : NameState → Text → Ask → List (Bool × NameRefusal
 ask_causes s user (ask.Create p) = path_causes p ++ mkdir_causes s p
 ask_causes s user (ask.Zone p key) =
     path_causes p ++ (not (is_superuser user), refusal.NotSuperuser) ∷ zone_causes s.table.rows p ++ (is_spent s, refusal.TooManyInodes) ∷ []
+ask_causes s user (ask.Submit p) =
+    path_causes p ++ (not (is_superuser user), refusal.NotSuperuser) ∷ submit_causes s.table.rows s.table.statuses p ++ (is_spent s, refusal.TooManyInodes) ∷ []
 
 abbrev pub path_asked : Ask → NPath
 path_asked (ask.Create p) = p
 path_asked (ask.Zone p key) = p
+path_asked (ask.Submit p) = p
 
 abbrev pub wanted_under : Option KeyName → Want
 wanted_under None = want.Nothing
 wanted_under (Some key) = want.Generate key
 
--- a file in a zone wants an encrypted key of the zone's key, and a zone wants the metadata of its key
+-- a file in a zone, and a re-encryption, want an encrypted key of the zone's key; a zone wants the metadata of its key
 abbrev pub wanted : List Entry → Ask → Want
 wanted rows (ask.Create p) = wanted_under (key_of_zone rows p)
 wanted rows (ask.Zone p key) = want.Metadata key
+wanted rows (ask.Submit p) = wanted_under (key_of_zone rows p)
 
 -- an ask that is accepted takes the next id, and keeps the zone that its path lies in
 abbrev pub ask_opened : NameState → Ask → OpenAsk
@@ -95,17 +102,28 @@ is_other_zone rows a = not (same_id (zone_id rows (path_asked a.ask)) a.zone)
 abbrev pub is_other_key : List Entry → NPath → Option Edek → Bool
 is_other_key rows p edek = not (fits_zone (key_of_zone rows p) edek)
 
--- All is checked again, except the user and the next id. For a file, a key that doesn't fit the zone is refused with ZoneChanged.
-abbrev pub finish_causes : List Entry → OpenAsk → Option Edek → Ask → List (Bool × NameRefusal)
-finish_causes rows a edek (ask.Create p) =
+-- All is checked again, except the user and the next id. A key that doesn't fit the zone of a file or of a re-encryption is refused with
+-- ZoneChanged.
+abbrev pub finish_causes : List Entry → List StatusRow → OpenAsk → Option Edek → Ask → List (Bool × NameRefusal)
+finish_causes rows statuses a edek (ask.Create p) =
     path_causes p ++ to_be_made rows p
     ++ (is_other_zone rows a, refusal.ZoneChanged) ∷ (is_other_key rows p edek, refusal.ZoneChanged) ∷ row_causes rows
-finish_causes rows a edek (ask.Zone p key) = path_causes p ++ zone_causes rows p ++ (is_other_zone rows a, refusal.ZoneChanged) ∷ []
+finish_causes rows statuses a edek (ask.Zone p key) = path_causes p ++ zone_causes rows p ++ (is_other_zone rows a, refusal.ZoneChanged) ∷ []
+finish_causes rows statuses a edek (ask.Submit p) =
+    path_causes p ++ zone_root_causes rows p
+    ++ (is_other_zone rows a, refusal.ZoneChanged) ∷ (is_other_key rows p edek, refusal.ZoneChanged) ∷ (zone_goes_on statuses (id_at rows p), refusal.AlreadySubmitted) ∷ []
 
--- a create adds its file, with the ask's id and the encrypted key that was given, and a zone marks its directory
+-- the version of the encrypted key that was given; a re-encryption always has one
+abbrev pub noted_of : Option Edek → Version
+noted_of None = record { key = []; number = 0 }
+noted_of (Some e) = e.version
+
+-- a create adds its file, with the ask's id and the encrypted key that was given, a zone marks its directory, and a re-encryption begins
+-- under the ask's id
 abbrev pub finish_op : ℕ → Option Edek → Ask → EditOp
 finish_op id edek (ask.Create p) = op.File id p edek
 finish_op id edek (ask.Zone p key) = op.Zone p key
+finish_op id edek (ask.Submit p) = op.Submit id p (noted_of edek)
 
 -- the result of a finish: its refusal, if it was refused, and the state after it
 pub record FinishOutcome : Type 0 where
@@ -128,12 +146,12 @@ unless_stopped None s a edek = record { reply = Ok tt; state = finished s a edek
 
 -- A finish closes its ask, whatever it answers, unless memory runs out, which it may only if nothing else stops the finish.
 abbrev pub finish_outcome : NameState → OpenAsk → Option Edek → Ending → FinishOutcome
-finish_outcome s a edek Plain = unless_stopped (first_cause (finish_causes s.table.rows a edek a.ask)) s a edek
+finish_outcome s a edek Plain = unless_stopped (first_cause (finish_causes s.table.rows s.table.statuses a edek a.ask)) s a edek
 finish_outcome s a edek NoRoom = finish_refused refusal.NoMemory s
 
 abbrev pub FinishMayEnd : NameState → OpenAsk → Option Edek → Ending → Type 0
 FinishMayEnd s a edek Plain = Unit {0}
-FinishMayEnd s a edek NoRoom = first_cause (finish_causes s.table.rows a edek a.ask) ≡ None
+FinishMayEnd s a edek NoRoom = first_cause (finish_causes s.table.rows s.table.statuses a edek a.ask) ≡ None
 
 -- From s, while nothing is pending, a finish of an open ask with this encrypted key may get this answer and leave s'.
 abbrev pub Finishes : NameState → OpenAsk → Option Edek → Result (Unit {0}) NameRefusal → NameState → Type 0

@@ -11,7 +11,7 @@ use Rattle.inode_tree.specs.Rows.{Entry, has_children}
 use Rattle.snap_store.specs.Snapshots.{SnapTable}
 use Rattle.zone_table.specs.Zones.{zone_paths}
 pub use Rattle.name_store.specs.Causes.{first_cause, to_be_made}
-use Rattle.name_store.specs.Causes.{allow_causes, disallow_causes, kept_causes, removal_causes, rename_causes, snap_causes, unsnap_causes}
+use Rattle.name_store.specs.Causes.{allow_causes, disallow_causes, going_causes, kept_causes, removal_causes, rename_causes, snap_causes, unsnap_causes, zone_root_causes}
 use Rattle.name_calls.specs.declared.calls.NameCall.{NameCall}
 use Rattle.name_calls.specs.declared.calls.NameCall.TheVariants as call
 use Rattle.name_calls.specs.declared.calls.NameReply.{NameReply}
@@ -20,6 +20,7 @@ use Rattle.name_calls.specs.declared.calls.NameRefusal.{NameRefusal}
 use Rattle.name_calls.specs.declared.calls.NameRefusal.TheVariants as refusal
 use Rattle.name_core.specs.Reads.{info_causes, info_reply, list_causes, list_reply, zone_read}
 use Rattle.name_core.specs.State.{NameState, next_id, is_full, took}
+use Rattle.name_core.specs.Walks.{session_at, status_shown_at}
 
 -- why a call is refused
 
@@ -33,13 +34,15 @@ delete_causes rows snaps p recursive = removal_causes rows p ++ (not recursive &
 abbrev pub causes : NameState → NameCall → List (Bool × NameRefusal)
 causes s (call.Mkdir p) = mkdir_causes s p
 causes s (call.Delete p recursive) = delete_causes s.table.rows s.table.snaps p recursive
-causes s (call.Rename p q) = rename_causes s.table.rows s.table.snaps p q
+causes s (call.Rename p q) = rename_causes s.table.rows s.table.snaps s.table.statuses p q
 causes s (call.Info r) = info_causes s.table r
 causes s (call.List r) = list_causes s.table r
 causes s (call.Allow p) = allow_causes s.table.rows s.table.snaps p
 causes s (call.Disallow p) = disallow_causes s.table.rows s.table.snaps p
 causes s (call.Snap p name) = snap_causes s.table.rows s.table.snaps p name
 causes s (call.Unsnap p name) = unsnap_causes s.table.rows s.table.snaps p name
+causes s (call.Cancel p) = going_causes s.table.rows s.table.statuses p
+causes s (call.Status p) = zone_root_causes s.table.rows p
 causes s call.Zones = []
 
 -- Why a call is refused before anything is settled: a path of it begins with `.reserved`, its name of a snapshot can't be a name, or only
@@ -77,6 +80,8 @@ early_causes user (call.Allow p) = path_causes p ++ superuser_causes user
 early_causes user (call.Disallow p) = path_causes p ++ superuser_causes user
 early_causes user (call.Snap p name) = path_causes p ++ name_causes name
 early_causes user (call.Unsnap p name) = path_causes p ++ name_causes name
+early_causes user (call.Cancel p) = path_causes p ++ superuser_causes user
+early_causes user (call.Status p) = path_causes p ++ superuser_causes user
 early_causes user call.Zones = superuser_causes user
 
 -- What a call that is not refused does: its answer, its change of the table, and the state in which the change takes effect.
@@ -106,6 +111,8 @@ deed s (call.Allow p) = only_logs s (op.Allow p)
 deed s (call.Disallow p) = only_logs s (op.Disallow p)
 deed s (call.Snap p name) = only_logs s (op.Snap p name)
 deed s (call.Unsnap p name) = only_logs s (op.Unsnap p name)
+deed s (call.Cancel p) = only_logs s (op.Cancel (session_at s.table p))
+deed s (call.Status p) = only_answer s (reply.Status (status_shown_at s.table s.walks p))
 deed s call.Zones = only_answer s (reply.Zones (zone_paths s.table.rows))
 
 -- how many ids a change uses
@@ -135,7 +142,7 @@ pub data Ending : Type 0 where
   Plain : Ending
   NoRoom : Ending
 
--- the calls that allocate: a change its record, each list itself, and an info the path of a zone
+-- the calls that allocate: a change its record, each list itself, an info the path of a zone, and a status its mark
 abbrev pub takes_memory : NameState → NameCall → Bool
 takes_memory s (call.Info r) = is_some (zone_read s.table r)
 takes_memory s _ = true

@@ -1,5 +1,5 @@
 -- Properties of what was made, deleted or renamed, of ids, and of asks that were finished.
-use Rattle.std.specs.Prelude.{◌≡◌, ℕ, ◌<◌, ◌⊎◌, ◌&&◌, ◌==◌, Bool, true, false, List, [], ◌∷◌, ◌++◌, Option, None, Some, IfSome, Result, Ok, Err, bytes_eq, is_some}
+use Rattle.std.specs.Prelude.{◌≡◌, ℕ, ◌<◌, ◌≤◌, take, drop, ◌⊎◌, ◌&&◌, ◌==◌, Bool, true, false, List, [], ◌∷◌, ◌++◌, Option, None, Some, IfSome, Result, Ok, Err, bytes_eq, is_some}
 use Rattle.std.specs.List.{list_any}
 use Rattle.std.specs.Option.{option_map}
 use Rattle.hk_base.specs.declared.names.Edek.{Edek}
@@ -13,7 +13,14 @@ use Rattle.name_calls.specs.declared.read_paths.ReadPath.{ReadPath}
 use Rattle.inode_tree.specs.MoveLaws.{row_after}
 use Rattle.inode_tree.specs.Moves.{moved}
 use Rattle.inode_tree.specs.Rows.{Entry, IsRows, entry_of, row_at, zone_id}
+use Rattle.name_calls.specs.declared.status.State.TheVariants as state
+use Rattle.name_calls.specs.declared.status.ZoneStatus.{ZoneStatus}
+use Rattle.reenc_walk.specs.declared.sent.BatchNote.{BatchNote}
+use Rattle.reenc_walk.specs.Files.{sent_list, walk_list}
+use Rattle.reenc_walk.specs.Walks.{outstanding}
 use Rattle.snap_store.specs.Snapshots.{Snapshot, snapshot_named}
+use Rattle.zone_table.specs.declared.statuses.StatusRow.{StatusRow}
+use Rattle.zone_table.specs.Statuses.{status_of, zone_goes_on}
 use Rattle.edit_ops.specs.declared.ops.EditOp.{EditOp}
 use Rattle.edit_ops.specs.declared.ops.EditOp.TheVariants as op
 use Rattle.name_store.specs.Causes.{first_cause, id_at, unsnap_causes}
@@ -29,12 +36,16 @@ use Rattle.name_calls.specs.declared.calls.NameReply.TheVariants as reply
 use Rattle.name_calls.specs.declared.calls.NameRefusal.{NameRefusal}
 use Rattle.name_calls.specs.declared.calls.NameRefusal.TheVariants as refusal
 use Rattle.name_core.specs.declared.asks.OpenAsk.{OpenAsk}
+use Rattle.name_core.specs.declared.walks.Walked.{Walked}
+use Rattle.name_core.specs.declared.walks.Walked.TheVariants as result
 use Rattle.name_core.specs.State.{IsNames, NameService, NameState, next_id, settled}
 use Rattle.name_core.specs.Asks.{Asks, Finishes, ask_gone, open_ask}
 use Rattle.name_core.specs.Calls.{NameActs, deed}
 use Rattle.name_core.specs.Reads.{info_answer, info_reply, list_answer, path_of_zone, path_read, rows_read}
 use Rattle.name_core.specs.Service.{FinishServes, NameServes}
 use Rattle.name_core.specs.Steps.{Keeps}
+use Rattle.name_core.specs.Walking.{NameWalks, WalkServes}
+use Rattle.name_core.specs.Walks.{session_at, status_at, walk_of}
 
 -- info of what was made
 
@@ -152,11 +163,12 @@ NamesKeepIds = (s : NameService) → IsNames s → IdsBelowNext s
 abbrev pub AnyFault : Type 0
 AnyFault = Unit {0}
 
--- one step of the namesystem: a call, an ask or a finish, whatever it answers
+-- one step of the namesystem: a call, an ask, a finish or a walk, whatever it answers
 pub data IsStep (s s' : NameService) : Type 0 where
   Called : (user : Text) (c : NameCall) (answer : NameReply) (logged : List EditOp) → NameServes s user c AnyFault answer logged s' → IsStep s s'
   Asked : (user : Text) (a : Ask) (answer : Result AskNote NameRefusal) → Asks s.names user a answer s'.names → s'.pending ≡ s.pending → IsStep s s'
   Finished : (id : ℕ) (given : KeyAnswer) (answer : Result (Unit {0}) NameRefusal) (logged : List EditOp) → FinishServes s id given AnyFault answer logged s' → IsStep s s'
+  Walks : (p : NPath) (answer : Result Walked NameRefusal) (logged : List EditOp) → WalkServes s p AnyFault answer logged s' → IsStep s s'
 
 -- it stays true in each step
 abbrev pub IdsStayBelow : Type 0
@@ -225,8 +237,9 @@ abbrev pub DoesNotRemove : (s s' : NameService) → ℕ → List ℕ → IsStep 
 DoesNotRemove s s' dir name (Called user c answer logged serves) = IsNotCalled s c dir name
 DoesNotRemove s s' dir name (Asked user a answer asks same) = Unit {0}
 DoesNotRemove s s' dir name (Finished id given answer logged serves) = Unit {0}
+DoesNotRemove s s' dir name (Walks p answer logged serves) = Unit {0}
 
--- a call, an ask or a finish changes no snapshot that neither it nor the pending operation removes
+-- a call, an ask, a finish or a walk changes no snapshot that neither it nor the pending operation removes
 abbrev pub StepsKeepSnapshots : Type 0
 StepsKeepSnapshots =
     (s s' : NameService) (step : IsStep s s') (dir : ℕ) (name : List ℕ) (was : Snapshot)
@@ -253,3 +266,62 @@ abbrev pub UnsnapIsGone : Type 0
 UnsnapIsGone =
     (s : NameState) (p : NPath) (name : Text) (s' : NameState) (below : NPath) (answer : NameReply) (s'' : NameState)
     → NameActs s (call.Unsnap p name) reply.Done s' → NameActs s' (call.Info (as_it_was p name below)) answer s'' → answer ≡ reply.Refused refusal.NoSuchSnapshot
+
+-- re-encryptions
+
+-- after a cancel the zone is not being re-encrypted
+abbrev pub CancelEnds : Type 0
+CancelEnds = (s : NameState) (p : NPath) (s' : NameState) → NameActs s (call.Cancel p) reply.Done s' → zone_goes_on s'.table.statuses (id_at s'.table.rows p) ≡ false
+
+-- the status of a zone that has another session is unchanged
+abbrev pub OthersGoOn : Type 0
+OthersGoOn =
+    (s : NameState) (p : NPath) (s' : NameState) (zone : ℕ) (st : StatusRow)
+    → NameActs s (call.Cancel p) reply.Done s' → status_of s.table.statuses zone ≡ Some st → (st.session ≡ session_at s.table p → ⊥) → status_of s'.table.statuses zone ≡ Some st
+
+-- a status that shows the session as cancelled
+pub record ShowsCancel (session : ℕ) (answer : NameReply) : Type 0 where
+  pub shown : ZoneStatus
+  pub answers : answer ≡ reply.Status (Some shown)
+  pub session_is : shown.session ≡ session
+  pub state_is : shown.state ≡ state.Completed
+  pub cancelled : shown.cancelled ≡ true
+
+-- and a status shows that its session was cancelled, unless memory runs out
+abbrev pub CancelIsReported : Type 0
+CancelIsReported =
+    (s : NameState) (p : NPath) (s' : NameState) (answer : NameReply) (s'' : NameState)
+    → NameActs s (call.Cancel p) reply.Done s' → NameActs s' (call.Status p) answer s'' → (answer ≡ reply.Refused refusal.NoMemory) ⊎ ShowsCancel (session_at s.table p) answer
+
+-- the walk of the status of a zone has taken each file of it, and no batch is outstanding
+pub record IsWalkedThrough (s : NameState) (p : NPath) : Type 0 where
+  pub status : StatusRow
+  pub found : status_at s.table p ≡ Some status
+  pub no_files : walk_list s.table.rows (id_at s.table.rows p) (walk_of s.walks status).cursor ≡ []
+  pub none_outstanding : outstanding (walk_of s.walks status).batches ≡ 0
+
+-- A walk answers that a re-encryption has completed only if no file of the zone is left and no batch is outstanding. The zone is then no
+-- longer being re-encrypted.
+abbrev pub CompletedIsWalkedThrough : Type 0
+CompletedIsWalkedThrough =
+    (s : NameState) (p : NPath) (s' : NameState)
+    → NameWalks s p (Ok result.Completed) s' → IsWalkedThrough s p × (zone_goes_on s'.table.statuses (id_at s'.table.rows p) ≡ false)
+
+-- the files of two batches of a zone: the first ones of the walk's list, and those that follow them
+pub record FollowOn (s : NameState) (p : NPath) (note note' : BatchNote) : Type 0 where
+  pub status : StatusRow
+  pub found : status_at s.table p ≡ Some status
+  pub first : note.sent ≡ sent_list (take s.batch (walk_list s.table.rows (id_at s.table.rows p) (walk_of s.walks status).cursor))
+  pub second : note'.sent ≡ sent_list (take s.batch (drop s.batch (walk_list s.table.rows (id_at s.table.rows p) (walk_of s.walks status).cursor)))
+
+-- two walks of a zone in a row take files that follow one another, so no file is taken twice and none is left out
+abbrev pub BatchesFollow : Type 0
+BatchesFollow =
+    (s : NameState) (p : NPath) (note : BatchNote) (s' : NameState) (note' : BatchNote) (s'' : NameState)
+    → IsRows s.table.rows → 1 ≤ s.batch → NameWalks s p (Ok (result.Batch note)) s' → NameWalks s' p (Ok (result.Batch note')) s'' → FollowOn s p note note'
+
+-- a walk changes no row and no snapshot
+abbrev pub WalksKeepRows : Type 0
+WalksKeepRows =
+    (s : NameState) (p : NPath) (answer : Result Walked NameRefusal) (s' : NameState)
+    → NameWalks s p answer s' → (s'.table.rows ≡ s.table.rows) × (s'.table.snaps ≡ s.table.snaps)

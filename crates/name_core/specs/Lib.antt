@@ -5,3 +5,5 @@ pub mod Reads
 pub mod Service
 pub mod State
 pub mod Steps
+pub mod Walking
+pub mod Walks

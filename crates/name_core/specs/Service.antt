@@ -24,6 +24,7 @@ use Rattle.name_core.specs.Asks.{Finishes, ask_gone, closed, finish_causes, fini
 abbrev pub is_change : NameCall → Bool
 is_change (call.Info r) = false
 is_change (call.List r) = false
+is_change (call.Status p) = false
 is_change call.Zones = false
 is_change _ = true
 
@@ -117,7 +118,7 @@ pub record FinishWritten (names : NameState) (before : List EditOp) (a : OpenAsk
 -- The disk failed while the record was written: its operation is pending, and the ask is no longer open.
 pub record FinishUnwritten (names : NameState) (before : List EditOp) (a : OpenAsk) (edek : Option Edek) (fault : Type 0) (result : Result (Unit {0}) NameRefusal) (logged : List EditOp) (s' : NameService) : Type 0 where
   pub failed : fault
-  pub free : first_cause (finish_causes names.table.rows a edek a.ask) ≡ None
+  pub free : first_cause (finish_causes names.table.rows names.table.statuses a edek a.ask) ≡ None
   pub reply_is : result ≡ Err refusal.StoreFault
   pub logged_is : logged ≡ before
   pub left : s' ≡ record { names = closed names a.id; pending = Some (finish_op a.id edek a.ask) }
@@ -153,7 +154,7 @@ pub record OwnOfFinish (s : NameService) (id : ℕ) (given : KeyAnswer) (result 
   pub edek : Option Edek
   pub was_open : open_ask s.names.asks id ≡ Some ask
   pub gave : given ≡ answer.Given edek
-  pub free : first_cause (finish_causes (settled kept s).table.rows ask edek ask.ask) ≡ None
+  pub free : first_cause (finish_causes (settled kept s).table.rows (settled kept s).table.statuses ask edek ask.ask) ≡ None
   pub is : op ≡ finish_op ask.id edek ask.ask
   pub was_written : (result ≡ Ok tt) ⊎ (s'.pending ≡ Some op)
 
@@ -175,8 +176,8 @@ pub record FinishActs (old new : DiskState) (r : RunningNames) (id : ℕ) (given
   pub serves : FinishServes (service_of r) id given (Rose old.faults new.faults) result logged (service_of r')
   pub disk : Logs old new r r' (OwnOfFinish (service_of r) id given result (service_of r')) logged
 
--- A start found a table in the log, and added the next opening after its operations.
-pub record Starts (old new : DiskState) (r : RunningNames) : Type 0 where
+-- A start found a table in the log, and added the next opening after its operations. Its walks take batches of this number of files.
+pub record Starts (batch : ℕ) (old new : DiskState) (r : RunningNames) : Type 0 where
   pub found : NameTable
-  pub opens : service_of r ≡ started found
+  pub opens : service_of r ≡ started batch found
   pub log : Tells old → (ops : List EditOp) × (used : List ℕ) × IsNameLog (old.reads 1) ops (record { table = found; used = used }) × IsNamesystemOf new r (ops ++ next_opening found ∷ [])

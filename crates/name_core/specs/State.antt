@@ -9,13 +9,17 @@ use Rattle.name_store.specs.Table.{IsTable, NameTable, after_table, is_among, ne
 use Rattle.name_store.specs.Replay.{AllBelow}
 use Rattle.name_store.specs.Store.{IsPending, StoreState}
 use Rattle.name_store.specs.Store as store
+use Rattle.reenc_walk.specs.Walks.{WalkState}
 use Rattle.name_core.specs.declared.asks.OpenAsk.{OpenAsk}
 
--- the table, the counter of the next id, and the open asks in the order of their ids
+-- The table, the counter of the next id, the open asks in the order of their ids, the walks that have taken a batch, and the number of
+-- files in a batch.
 pub record NameState : Type 0 where
   pub table : NameTable
   pub next : ℕ
   pub asks : List OpenAsk
+  pub walks : List WalkState
+  pub batch : ℕ
 
 -- an id is the opening and, below it, the counter
 abbrev pub next_id : NameState → ℕ
@@ -43,18 +47,20 @@ pub record NameService : Type 0 where
 abbrev pub settled : Bool → NameService → NameState
 settled kept s = record s.names { table = settled_table kept s.pending s.names.table }
 
--- after a start that found this table: in the next opening, with no ask open and nothing pending
-abbrev pub started : NameTable → NameService
-started t = record { names = record { table = after_table t (next_opening t); next = 1; asks = [] }; pending = None }
+-- after a start that found this table: in the next opening, with no ask open, no walk begun and nothing pending
+abbrev pub started : ℕ → NameTable → NameService
+started batch t = record { names = record { table = after_table t (next_opening t); next = 1; asks = []; walks = []; batch = batch }; pending = None }
 
--- A running namesystem: its store, the counter of the next id, and the open asks.
+-- A running namesystem: its store, the counter of the next id, the open asks, the walks, and the number of files in a batch.
 pub record RunningNames : Type 0 where
   pub store : StoreState
   pub next : ℕ
   pub asks : List OpenAsk
+  pub walks : List WalkState
+  pub batch : ℕ
 
 abbrev pub names_of : RunningNames → NameState
-names_of r = record { table = r.store.table; next = r.next; asks = r.asks }
+names_of r = record { table = r.store.table; next = r.next; asks = r.asks; walks = r.walks; batch = r.batch }
 
 -- the state of a running namesystem, without its disk
 abbrev pub service_of : RunningNames → NameService
@@ -94,6 +100,7 @@ pub record IsNames (s : NameService) : Type 0 where
   pub ids : IdsFit s.names.table.rows s.names.asks (next_id s.names)
   pub recent : AreRecent s.names.table.opening s.names.asks
   pub waits : IfSome s.pending (IsWaiting s.names)
+  pub size : (1 ≤ s.names.batch) × (s.names.batch ≤ 1000)
 
 -- The log holds these acknowledged operations. The ids that they used are below the next one, and no open ask has one.
 pub record IsNamesystemOf (disk : DiskState) (r : RunningNames) (ops : List EditOp) : Type 0 where

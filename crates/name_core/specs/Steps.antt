@@ -1,28 +1,42 @@
 -- The steps that the namesystem takes in a call.
-use Rattle.std.specs.Prelude.{◌≡◌, ◌⊎◌, ◌≤◌, ◌^◌, ℕ, Bool, true, false, List, [], ◌∷◌, ◌++◌, Option, None, Some, Result, Ok, Err, IfSome, is_some}
+use Rattle.std.specs.Prelude.{◌≡◌, ◌≢◌, ◌⊎◌, ◌≤◌, ◌^◌, ℕ, Bool, true, false, List, [], ◌∷◌, ◌++◌, Option, None, Some, Result, Ok, Err, IfSome, is_some, ⊤}
 use Rattle.std.specs.List.{AllByRecursion}
+use Rattle.std.specs.Option.{option_map_or}
 use Rattle.hk_base.specs.Disk.{DiskState, Tells, RunOn, LeavesOnly}
 use Rattle.hk_base.specs.Faults.{Rose}
 use Rattle.hk_base.specs.declared.names.Edek.{Edek}
 use Rattle.hk_base.specs.declared.texts.Text.{Text}
 use Rattle.frame_log.specs.declared.fault.StoreRefusal.{StoreRefusal}
 use Rattle.frame_log.specs.declared.fault.StoreRefusal.TheVariants as store
+use Rattle.inode_tree.specs.Rows.{Entry}
 use Rattle.edit_ops.specs.Records.{HasSpelling, fits}
 use Rattle.edit_ops.specs.declared.ops.EditOp.{EditOp}
 use Rattle.name_store.specs.Replay.{AllBelow, Applies}
 use Rattle.name_store.specs.Store.{IsLeftOf, IsLogOf, NothingMore, is_opening, made_with}
 use Rattle.name_store.specs.Table.{Replayed, allows, is_fresh, settled_ops, uses}
+use Rattle.reenc_walk.specs.declared.walker.Walk.{Walk}
+use Rattle.reenc_walk.specs.declared.walker.Walk.TheVariants as walk
+use Rattle.reenc_walk.specs.Files.{walk_list}
+use Rattle.reenc_walk.specs.Walks.{WalkState, note_of, outstanding, walked}
+use Rattle.zone_table.specs.declared.statuses.StatusRow.{StatusRow}
 use Rattle.name_core.specs.declared.asks.OpenAsk.{OpenAsk}
+use Rattle.name_calls.specs.declared.calls.Ask.{Ask}
+use Rattle.name_calls.specs.declared.calls.Ask.TheVariants as ask
 use Rattle.name_calls.specs.declared.calls.NameCall.{NameCall}
 use Rattle.name_calls.specs.declared.calls.NameReply.{NameReply}
 use Rattle.name_calls.specs.declared.calls.NameReply.TheVariants.{Done, Refused}
 use Rattle.name_calls.specs.declared.calls.NameRefusal.{NameRefusal}
 use Rattle.name_calls.specs.declared.calls.NameRefusal.TheVariants.{NoMemory, StoreFault}
+use Rattle.name_calls.specs.declared.paths.NPath.{NPath}
+use Rattle.name_core.specs.declared.walks.Walked.{Walked}
+use Rattle.name_core.specs.declared.walks.Walked.TheVariants as result
 use Rattle.name_core.specs.State.{AreFree, AreRecent, IdsFit, NameService, NameState, RunningNames, IsNamesystemOf, names_of, next_id, service_of, settled}
 use Rattle.name_core.specs.Asks.{finish_causes, finish_op}
 use Rattle.name_core.specs.Calls.{causes, deed, done_with, early_causes, first_cause}
 use Rattle.name_core.specs.Reads.{answer_unless}
 use Rattle.name_core.specs.Service.{Changes, Concludes, OwnOf, ServesBy, acknowledged}
+use Rattle.name_core.specs.Walking.{WalkGoes}
+use Rattle.name_core.specs.Walks.{going_on, new_walk, none_left, session_at, walk_causes, walk_deed, walk_of, walk_under, with_walk}
 
 -- A read answers this, or is refused for the first of its causes. If it allocates and has no cause, memory may run out.
 abbrev pub Answers : Bool → List (Bool × NameRefusal) → NameReply → NameReply → Type 0
@@ -136,6 +150,15 @@ abbrev pub finish_answer : Result (Unit {0}) StoreRefusal → Result (Unit {0}) 
 finish_answer (Ok done) = Ok done
 finish_answer (Err why) = Err (refusal_of why)
 
+abbrev pub walk_answer : Result (Unit {0}) StoreRefusal → Result Walked NameRefusal
+walk_answer (Ok done) = Ok result.Completed
+walk_answer (Err why) = Err (refusal_of why)
+
+-- a submission was given an encrypted key
+abbrev pub HasWanted : Ask → Option Edek → Type 0
+HasWanted (ask.Submit p) edek = is_some edek ≡ true
+HasWanted _ edek = ⊤
+
 -- some user may make the call
 abbrev pub MayBegin : NameCall → Type 0
 MayBegin c = (user : Text) × (first_cause (early_causes user c) ≡ None)
@@ -157,10 +180,59 @@ pub record ActsSettled (old new : DiskState) (r : RunningNames) (c : NameCall) (
   pub changes : Changes (names_of r) [] c (Rose old.faults new.faults) reply logged (service_of r')
   pub disk : Logging old new r r' (Growing r (OwnChange (names_of r) c reply (service_of r'))) logged
 
+-- the number of outstanding batches of a session
+abbrev pub outstanding_under : List WalkState → ℕ → ℕ
+outstanding_under walks session = option_map_or (λ w. outstanding w.batches) (walk_under walks session) 0
+
+-- What a walk of the session of a status answers, and the walks after it.
+
+-- its first batch
+abbrev pub Begins : List Entry → ℕ → ℕ → StatusRow → List WalkState → Walk → List WalkState → Type 0
+Begins rows zone size st walks (walk.Batch note) walks' =
+    (walk_list rows zone st.mark ≢ []) × (note ≡ note_of rows zone size (new_walk st)) × (walks' ≡ walks ++ walked rows zone size (new_walk st) ∷ [])
+Begins rows zone size st walks walk.NoneLeft walks' = (walk_list rows zone st.mark ≡ []) × (walks' ≡ walks)
+Begins rows zone size st walks walk.NoMemory walks' = walks' ≡ walks
+
+-- its next batch
+abbrev pub TakesNext : List Entry → ℕ → ℕ → StatusRow → List WalkState → Walk → List WalkState → Type 0
+TakesNext rows zone size st walks (walk.Batch note) walks' =
+    (walk_list rows zone (walk_of walks st).cursor ≢ []) × (note ≡ note_of rows zone size (walk_of walks st)) × (walks' ≡ with_walk (walked rows zone size (walk_of walks st)) walks)
+TakesNext rows zone size st walks walk.NoneLeft walks' = (walk_list rows zone (walk_of walks st).cursor ≡ []) × (walks' ≡ walks)
+TakesNext rows zone size st walks walk.NoMemory walks' = walks' ≡ walks
+
+-- its next batch, and the walks of sessions that have ended are forgotten
+abbrev pub TakesBatch : List Entry → List StatusRow → ℕ → ℕ → StatusRow → List WalkState → Walk → List WalkState → Type 0
+TakesBatch rows statuses zone size st walks (walk.Batch note) walks' =
+    (walk_list rows zone (walk_of walks st).cursor ≢ []) × (note ≡ note_of rows zone size (walk_of walks st))
+    × (walks' ≡ going_on statuses (with_walk (walked rows zone size (walk_of walks st)) walks))
+TakesBatch rows statuses zone size st walks walk.NoneLeft walks' = (walk_list rows zone (walk_of walks st).cursor ≡ []) × (walks' ≡ walks)
+TakesBatch rows statuses zone size st walks walk.NoMemory walks' = walks' ≡ walks
+
+-- no file of the zone is left
+abbrev pub IsAtEnd : NameState → NPath → Type 0
+IsAtEnd s p = walk_deed s p ≡ none_left s (session_at s.table p) (outstanding_under s.walks (session_at s.table p))
+
+-- the next batch of a zone that is being re-encrypted is taken, if there is one
+abbrev pub Takes : RunningNames → NPath → Walk → RunningNames → Type 0
+Takes r p (walk.Batch note) r' = (walk_deed (names_of r) p ≡ record { answer = result.Batch note; logs = None; state = names_of r' }) × (r' ≡ record r { walks = r'.walks })
+Takes r p walk.NoneLeft r' = IsAtEnd (names_of r) p × (r' ≡ r)
+Takes r p walk.NoMemory r' = r' ≡ r
+
+-- the operation that a walk with this answer and this state after it may write
+abbrev pub OwnWalk : NameState → NPath → Result Walked NameRefusal → NameService → EditOp → Type 0
+OwnWalk s p reply s' op =
+    (first_cause (walk_causes s p) ≡ None) × ((walk_deed s p).logs ≡ Some op) × ((reply ≡ Ok result.Completed) ⊎ (s'.pending ≡ Some op))
+
+-- a walk while nothing is pending
+pub record WalksSettled (old new : DiskState) (r : RunningNames) (p : NPath) (reply : Result Walked NameRefusal) (r' : RunningNames) : Type 0 where
+  pub logged : List EditOp
+  pub goes : WalkGoes (names_of r) [] p (Rose old.faults new.faults) reply logged (service_of r')
+  pub disk : Logging old new r r' (Growing r (OwnWalk (names_of r) p reply (service_of r'))) logged
+
 -- the operation that a finish with this answer and this state after it may write, while nothing is pending
 abbrev pub OwnFinish : NameState → OpenAsk → Option Edek → Result (Unit {0}) NameRefusal → NameService → EditOp → Type 0
 OwnFinish s a edek reply s' op =
-    (first_cause (finish_causes s.table.rows a edek a.ask) ≡ None) × (op ≡ finish_op a.id edek a.ask) × ((reply ≡ Ok tt) ⊎ (s'.pending ≡ Some op))
+    (first_cause (finish_causes s.table.rows s.table.statuses a edek a.ask) ≡ None) × (op ≡ finish_op a.id edek a.ask) × ((reply ≡ Ok tt) ⊎ (s'.pending ≡ Some op))
 
 -- a finish of an open ask while nothing is pending
 pub record FinishesSettled (old new : DiskState) (r : RunningNames) (a : OpenAsk) (edek : Option Edek) (reply : Result (Unit {0}) NameRefusal) (r' : RunningNames) : Type 0 where

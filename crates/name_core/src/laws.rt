@@ -1,6 +1,7 @@
 //! Laws about directories, files and zones that were made, about deleted and renamed paths, about
-//! snapshots, about ids, and about finished asks. The functions do nothing: their contracts state the laws.
-ghost use Rattle.name_core.specs.Laws.{AskIdsRise, DeletedIsGone, FileIsReported, FinishedForGood, FinishedOnce, IdsRise, IdsStayBelow, ListTellsChildren, MadeIsReported, NamesKeepIds, OthersKeepZone, OthersStay, OthersStayByDelete, OthersStayByFile, RenamedHasMoved, RenamedKeepsRows, RenamedKeepsSnapshots, RenamedKeepsZone, SettlingKeepsSnapshots, SnapshotIsListed, SnapshotIsReported, SnapshotsStay, SnapshotsTellTheSame, StepsKeepSnapshots, UnsnapIsGone, ZoneIsAsAsked, ZoneIsReported};
+//! snapshots, about ids, about finished asks, and about re-encryptions. The functions do nothing:
+//! their contracts state the laws.
+ghost use Rattle.name_core.specs.Laws.{AskIdsRise, BatchesFollow, CancelEnds, CancelIsReported, CompletedIsWalkedThrough, DeletedIsGone, FileIsReported, FinishedForGood, FinishedOnce, IdsRise, IdsStayBelow, ListTellsChildren, MadeIsReported, NamesKeepIds, OthersGoOn, OthersKeepZone, OthersStay, OthersStayByDelete, OthersStayByFile, RenamedHasMoved, RenamedKeepsRows, RenamedKeepsSnapshots, RenamedKeepsZone, SettlingKeepsSnapshots, SnapshotIsListed, SnapshotIsReported, SnapshotsStay, SnapshotsTellTheSame, StepsKeepSnapshots, UnsnapIsGone, WalksKeepRows, ZoneIsAsAsked, ZoneIsReported};
 
 /// After a directory was made, `Info` on its path returns the next id, the zone that its parent
 /// lies in, and no key, unless it returns `NoMemory`. The answer for each other path stays the
@@ -52,7 +53,7 @@ pub fn lists_tell_what_lies_in_a_directory()
 
 /// What a snapshot has never changes while it exists: no other operation that the table allows
 /// changes it, nor what `Info` and `List` in it return. Neither does settling the pending
-/// operation, nor any call, ask or finish, whatever it answers and whenever its disk fails.
+/// operation, nor any call, ask, finish or walk, whatever it answers and whenever its disk fails.
 pub fn snapshots_stay()
     ensures operations { SnapshotsStay }
     ensures answers { SnapshotsTellTheSame }
@@ -74,7 +75,7 @@ pub fn removed_snapshots_are_gone()
 {}
 
 /// Making a directory and accepting an ask raise the next id. In every namesystem the next id is
-/// above all ids in use, and stays so after each call, ask and finish, whatever it answers and
+/// above all ids in use, and stays so after each call, ask, finish and walk, whatever it answers and
 /// whenever its disk fails. So no two rows get the same id.
 pub fn ids_rise()
     ensures rise { IdsRise }
@@ -84,8 +85,31 @@ pub fn ids_rise()
 {}
 
 /// After a finish that answered anything except `NoMemory`, its ask is no longer open. A finish of
-/// the same id finds none and changes nothing, both at once and after any calls, asks and finishes.
+/// the same id finds none and changes nothing, both at once and after any calls, asks, finishes and
+/// walks.
 pub fn asks_are_finished_once()
     ensures at_once { FinishedOnce }
     ensures later { FinishedForGood }
+{}
+
+/// After a cancel the zone is no longer being re-encrypted, and `Status` shows that its session was
+/// cancelled, unless it returns `NoMemory`. Zones that are re-encrypted under other sessions keep
+/// their statuses.
+pub fn cancelled_zones_are_reported()
+    ensures ends { CancelEnds }
+    ensures others { OthersGoOn }
+    ensures shown { CancelIsReported }
+{}
+
+/// Two walks of a zone in a row return files that follow one another in path order: at most as many
+/// as a batch has each, none twice, and none left out in between.
+pub fn batches_follow_one_another()
+    ensures { BatchesFollow }
+{}
+
+/// A walk returns `Completed` only if no file of the zone is left and no batch is outstanding, and
+/// the zone is then no longer being re-encrypted. A walk never changes a row or a snapshot.
+pub fn completed_zones_are_walked_through()
+    ensures complete { CompletedIsWalkedThrough }
+    ensures rows { WalksKeepRows }
 {}

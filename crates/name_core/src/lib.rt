@@ -2,17 +2,22 @@
 #![tactic(auto)]
 
 mod asks;
+mod batch_size;
 mod copies;
 mod laws;
 mod namesystem;
 mod reads;
 mod rules;
+mod walks;
 
 pub use laws::{
-    asks_are_finished_once, deleted_paths_are_gone, ids_rise, lists_tell_what_lies_in_a_directory,
-    made_directories_are_reported, made_files_are_reported, made_zones_are_reported,
-    removed_snapshots_are_gone, renames_move_together, snapshots_stay,
+    asks_are_finished_once, batches_follow_one_another, cancelled_zones_are_reported,
+    completed_zones_are_walked_through, deleted_paths_are_gone, ids_rise,
+    lists_tell_what_lies_in_a_directory, made_directories_are_reported, made_files_are_reported,
+    made_zones_are_reported, removed_snapshots_are_gone, renames_move_together, snapshots_stay,
     taken_snapshots_are_reported,
 };
 pub use name_calls::{Answered, Ask, AskNote, KeyAnswer, NameCall, NameRefusal, NameReply, Want};
 pub use namesystem::Name;
+pub use reenc_walk::{BatchNote, Sent, SentList};
+pub use walks::Walked;

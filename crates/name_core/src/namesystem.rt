@@ -1,5 +1,5 @@
 //! The namesystem and its calls.
-ghost use Rattle.std.specs.Prelude.{◌≡◌, ◌+◌, List, IfOk, IsErrOf, MatchResult, None, Option, Some, false, is_some, length, true};
+ghost use Rattle.std.specs.Prelude.{◌≡◌, ◌≤◌, ◌+◌, List, IfOk, IsErrOf, MatchResult, None, Option, Some, false, is_some, length, true};
 ghost use Rattle.hk_base.specs.Disk.{Tells};
 ghost use Rattle.name_calls.specs.Paths.{starts_reserved};
 ghost use Rattle.edit_ops.specs.declared.ops.EditOp.{EditOp};
@@ -10,22 +10,27 @@ ghost use Rattle.name_core.specs.Asks.{Asks, ask_causes, ask_gone, closed, finis
 ghost use Rattle.name_core.specs.Calls.{NameActs, causes, deed, first_cause, mkdir_causes};
 ghost use Rattle.name_core.specs.Service.{NameActsOnDisk, FinishActs, Starts, is_change};
 ghost use Rattle.name_core.specs.declared.asks.OpenAsk.{OpenAsk};
-ghost use Rattle.name_core.specs.Steps.{ActsOn, ActsSettled, FinishesSettled, IsUnsettled, MayBegin, MayWrite, Settling, Writes, finish_answer, refusal_of, answer_of_store};
+ghost use Rattle.name_core.specs.Steps.{ActsOn, ActsSettled, FinishesSettled, HasWanted, IsAtEnd, IsUnsettled, MayBegin, MayWrite, Settling, Takes, WalksSettled, Writes, finish_answer, outstanding_under, refusal_of, answer_of_store, walk_answer};
+ghost use Rattle.name_core.specs.Walking.{WalkActs};
+ghost use Rattle.name_core.specs.Walks.{session_at, walk_causes};
 
 use crate::asks::{OpenAsk, OpenAsks};
-use crate::reads::{info, list};
+use crate::batch_size::BatchSize;
+use crate::reads::{info, list, status};
 use crate::rules::{
-    early_refusal, finish_op, ids_used, is_change, is_superuser, path_asked, path_refusal,
+    early_refusal, finish_op, id_at, ids_used, is_change, is_superuser, path_asked, path_refusal,
     to_be_deleted, to_be_finished, wanted,
 };
+use crate::walks::{Walked, outstanding, take};
 use edit_ops::EditOp;
 use frame_log::{StartFault, StoreRefusal};
 use hk_base::{Disk, Edek, KeyName, NoMemory, Text};
 use name_calls::{Answered, Ask, AskNote, KeyAnswer, NPath, NameCall, NameRefusal, NameReply};
 use name_store::{
-    NameStore, has_most_rows, to_be_allowed, to_be_disallowed, to_be_made, to_be_snapped,
-    to_be_unsnapped, to_be_zone,
+    NameStore, has_most_rows, to_be_allowed, to_be_disallowed, to_be_going_on, to_be_made,
+    to_be_snapped, to_be_submitted, to_be_unsnapped, to_be_zone,
 };
+use reenc_walk::{Walk, Walker};
 use std::alloc::Global;
 use std::marker::Model;
 
@@ -33,8 +38,9 @@ use std::marker::Model;
 const IDS: u64 = 1 << 32;
 
 /// The namesystem in an opening, over the edit log on file 1 of a disk. In contracts its value is
-/// its store, the counter of the next id, and the open asks. The meaning of a call is stated on the
-/// rows and the pending operation.
+/// its store, the counter of the next id, the open asks, the walks through zones that are
+/// re-encrypted, and the number of files in a batch. The meaning of a call is stated on the rows and
+/// the pending operation.
 ///
 /// Always pass the disk that the namesystem was started on.
 #[derive(Drop)]
@@ -43,6 +49,8 @@ pub struct Name {
     store: NameStore,
     next: u64,
     asks: OpenAsks,
+    walks: Vec<Walker>,
+    batch: BatchSize,
 }
 
 impl Model for Name {
@@ -51,21 +59,23 @@ impl Model for Name {
 
     ghost Value = { RunningNames };
 
-    ghost view = { λ a. record { store = a.store; next = a.next; asks = a.asks } };
+    ghost view = { λ a. record { store = a.store; next = a.next; asks = a.asks; walks = a.walks.items; batch = a.batch } };
 
-    ghost invariant = { λ a. Keeps (service_of (record { store = a.store; next = a.next; asks = a.asks })) };
+    ghost invariant = { λ a. Keeps (service_of (record { store = a.store; next = a.next; asks = a.asks; walks = a.walks.items; batch = a.batch })) };
 }
 
 impl Name {
     /// Opens the edit log on file 1 of a disk, makes the rows of its operations, and commits the
-    /// record of a new opening. No ask is open then. It may be stopped at any moment, and started
-    /// again.
+    /// record of a new opening. No ask is open then, and no walk has begun. Walks take batches of
+    /// `batch` files. It may be stopped at any moment, and started again.
     ///
     /// Returns `Damaged`, with the offset of the gate, only if the file is not a log, or a record
     /// is not an operation or doesn't apply. Returns `Spent` only if opening 4,294,967,295 is
     /// recorded.
-    pub fn start<D: Disk>(alloc: Global, disk: &mut D) -> Result<Name, StartFault>
-        ensures started { IfOk result (Starts (D.state disk.old) (D.state disk.new)) }
+    pub fn start<D: Disk>(alloc: Global, disk: &mut D, batch: u16) -> Result<Name, StartFault>
+        requires some { 1 ≤ batch }
+        requires most { batch ≤ 1000 }
+        ensures started { IfOk result (Starts batch (D.state disk.old) (D.state disk.new)) }
 
         // A crash at any moment leaves what it might have left before the call, or the log that was
         // found, as it is or with its end gate read as 1, or its operations with or without the new
@@ -79,17 +89,20 @@ impl Name {
             store,
             next: 1,
             asks: OpenAsks::new(alloc),
+            walks: Vec::new(alloc),
+            batch: BatchSize::of(batch),
         })
     }
 
-    /// Opens the edit log again, and continues with the rows that it finds, without open asks and
-    /// without a pending operation. After an error only the disk has changed, and the namesystem
-    /// must not be used with this disk any longer.
+    /// Opens the edit log again, and continues with the rows that it finds, without open asks,
+    /// without a pending operation, and with walks that go on from the marks of their statuses. After
+    /// an error only the disk has changed, and the namesystem must not be used with this disk any
+    /// longer.
     pub fn restart<D: Disk>(&mut self, alloc: Global, disk: &mut D) -> Result<(), StartFault>
-        ensures started { MatchResult result (λ _. Starts (D.state disk.old) (D.state disk.new) self.new) (λ _. self.new ≡ self.old) }
+        ensures started { MatchResult result (λ _. Starts self.old.batch (D.state disk.old) (D.state disk.new) self.new) (λ _. self.new ≡ self.old) }
         ensures opens { OpensNames (D.state disk.old) (D.state disk.new) (λ fault. IsErrOf result fault) }
     {
-        match Name::start(alloc, disk) {
+        match Name::start(alloc, disk, self.batch.files()) {
             Err(fault) => Err(fault),
             Ok(name) => {
                 *self = name;
@@ -105,6 +118,7 @@ impl Name {
         ensures file { self.now.store.log.log.file ≡ 1 }
     {
         let _ = self.store.tree();
+        let _ = self.batch.files();
     }
 
     /// Returns how many directories and files there are, including the root.
@@ -146,6 +160,7 @@ impl Name {
         match call {
             NameCall::Info { path } => info(self.alloc, &self.store, path),
             NameCall::List { path } => list(&self.store, path),
+            NameCall::Status { path } => status(self.alloc, &self.store, &self.walks, path),
             NameCall::Zones => self.zones(),
             _ => unreachable!(),
         }
@@ -215,6 +230,7 @@ impl Name {
             NameCall::Disallow { path } => to_be_disallowed(tree, snaps, path),
             NameCall::Snap { path, name } => to_be_snapped(tree, snaps, path, name),
             NameCall::Unsnap { path, name } => to_be_unsnapped(tree, snaps, path, name),
+            NameCall::Cancel { path } => to_be_going_on(tree, self.store.statuses(), path),
             _ => unreachable!(),
         }
     }
@@ -236,7 +252,21 @@ impl Name {
             NameCall::Disallow { path } => EditOp::Disallow { path },
             NameCall::Snap { path, name } => EditOp::Snap { path, name },
             NameCall::Unsnap { path, name } => EditOp::Unsnap { path, name },
+            NameCall::Cancel { path } => EditOp::Cancel {
+                session: self.session_at(&path),
+            },
             _ => unreachable!(),
+        }
+    }
+
+    /// Returns the session of the last re-encryption of a zone, or 0 if there was none.
+    fn session_at(&self, zone: &NPath) -> u64
+        ensures { result ≡ session_at self.now.store.table zone.now }
+    {
+        let dir = id_at(self.store.tree(), zone);
+        match self.store.statuses().get(dir) {
+            None => 0,
+            Some(status) => status.session,
         }
     }
 
@@ -338,6 +368,7 @@ impl Name {
         match ask {
             Ask::Create { path } => self.file_refusal(path),
             Ask::Zone { path, .. } => self.zone_refusal(user, path),
+            Ask::Submit { path } => self.submission_refusal(user, path),
         }
     }
 
@@ -368,9 +399,27 @@ impl Name {
         None
     }
 
+    fn submission_refusal(&self, user: &Text, path: &NPath) -> Option<NameRefusal>
+        ensures { result ≡ first_cause (ask_causes (names_of self.now) user.now (Ask.Submit path.now)) }
+    {
+        if let Some(why) = path_refusal(path) {
+            return Some(why);
+        }
+        if !is_superuser(user) {
+            return Some(NameRefusal::NotSuperuser);
+        }
+        if let Some(why) = to_be_submitted(self.store.tree(), self.store.statuses(), path) {
+            return Some(why);
+        }
+        if self.is_spent() {
+            return Some(NameRefusal::TooManyInodes);
+        }
+        None
+    }
+
     /// Finishes the ask that a reply of the key management service answers, the last of its three
-    /// parts. Makes the file, with the encrypted key of the reply, or marks the zone. Everything is
-    /// checked again, after the pending operation is settled. Returns `AskGone` if no ask is open
+    /// parts. Makes the file, with the encrypted key of the reply, marks the zone, or begins the
+    /// re-encryption of the zone, with the version of that key noted. Everything is checked again, after the pending operation is settled. Returns `AskGone` if no ask is open
     /// under the id. Otherwise the ask is no longer open afterwards, unless the result is
     /// `NoMemory`.
     pub fn finish<D: Disk>(&mut self, disk: &mut D, answered: Answered) -> Result<(), NameRefusal>
@@ -481,13 +530,19 @@ impl Name {
 
     fn finish_refusal(&self, id: u64, edek: &Option<Edek>) -> Option<NameRefusal>
         requires { is_some (open_ask self.now.asks id) ≡ true }
-        ensures { (ask : OpenAsk) → open_ask self.now.asks id ≡ Some ask → result ≡ first_cause (finish_causes self.now.store.table.rows ask edek.now ask.ask) }
+        ensures { (ask : OpenAsk) → open_ask self.now.asks id ≡ Some ask → result ≡ first_cause (finish_causes self.now.store.table.rows self.now.store.table.statuses ask edek.now ask.ask) }
     {
-        to_be_finished(self.store.tree(), self.open_ask(id), edek)
+        to_be_finished(
+            self.store.tree(),
+            self.store.statuses(),
+            self.open_ask(id),
+            edek,
+        )
     }
 
     fn finish_op(&self, id: u64, edek: Option<Edek>) -> Result<EditOp, NoMemory>
-        requires { is_some (open_ask self.now.asks id) ≡ true }
+        requires asked { is_some (open_ask self.now.asks id) ≡ true }
+        requires given { (ask : OpenAsk) → open_ask self.now.asks id ≡ Some ask → HasWanted ask.ask edek }
         ensures { (ask : OpenAsk) → open_ask self.now.asks id ≡ Some ask → IfOk result (λ op. op ≡ finish_op ask.id edek ask.ask) }
     {
         finish_op(self.alloc, self.open_ask(id), edek)
@@ -520,6 +575,85 @@ impl Name {
     }
 }
 
+impl Name {
+    /// Walks through a zone that is being re-encrypted. Takes the next batch of its files in path
+    /// order, which is outstanding from then on. If no file is left, returns how many batches are
+    /// outstanding; if none is, records that the re-encryption has completed.
+    ///
+    /// The pending operation is settled first. After `StoreFault` at the record of the completion,
+    /// the completion is pending.
+    pub fn walk<D: Disk>(&mut self, disk: &mut D, zone: &NPath) -> Result<Walked, NameRefusal>
+        requires stands { Tells (D.state disk.old) → ((ops : List EditOp) × IsNamesystemOf (D.state disk.old) self.old ops) }
+        ensures { WalkActs (D.state disk.old) (D.state disk.new) self.old zone.now result self.new }
+    {
+        if let Some(why) = path_refusal(zone) {
+            return Err(why);
+        }
+        match self.settle(disk) {
+            Err(_) => Err(NameRefusal::StoreFault),
+            Ok(()) => self.walk_settled(disk, zone),
+        }
+    }
+
+    /// Walks through a zone while nothing is pending.
+    fn walk_settled<D: Disk>(&mut self, disk: &mut D, zone: &NPath) -> Result<Walked, NameRefusal>
+        requires settled { self.old.store.log.pending ≡ None }
+        requires stands { Tells (D.state disk.old) → ((ops : List EditOp) × IsNamesystemOf (D.state disk.old) self.old ops) }
+        ensures { WalksSettled (D.state disk.old) (D.state disk.new) self.old zone.now result self.new }
+    {
+        if let Some(why) = self.walk_refusal(zone) {
+            return Err(why);
+        }
+        match self.take_batch(zone) {
+            Walk::NoMemory => Err(NameRefusal::NoMemory),
+            Walk::Batch(note) => Ok(Walked::Batch(note)),
+            Walk::NoneLeft => self.end_walk(disk, zone),
+        }
+    }
+
+    fn walk_refusal(&self, zone: &NPath) -> Option<NameRefusal>
+        ensures { result ≡ first_cause (walk_causes (names_of self.now) zone.now) }
+    {
+        to_be_going_on(self.store.tree(), self.store.statuses(), zone)
+    }
+
+    /// Takes the next batch of a zone that is being re-encrypted, if there is one.
+    fn take_batch(&mut self, zone: &NPath) -> Walk
+        requires { first_cause (walk_causes (names_of self.old) zone.now) ≡ None }
+        ensures { Takes self.old zone.now result self.new }
+    {
+        let size = self.batch.files();
+        let tree = self.store.tree();
+        let statuses = self.store.statuses();
+        let dir = id_at(tree, zone);
+        take(self.alloc, &mut self.walks, tree, statuses, dir, size)
+    }
+
+    /// Returns the number of outstanding batches of a session.
+    fn outstanding(&self, session: u64) -> u32
+        ensures { result ≡ outstanding_under self.now.walks session }
+    {
+        outstanding(&self.walks, session)
+    }
+
+    /// Ends a walk that found no file left.
+    fn end_walk<D: Disk>(&mut self, disk: &mut D, zone: &NPath) -> Result<Walked, NameRefusal>
+        requires free { first_cause (walk_causes (names_of self.old) zone.now) ≡ None }
+        requires end { IsAtEnd (names_of self.old) zone.now }
+        requires settled { self.old.store.log.pending ≡ None }
+        requires stands { Tells (D.state disk.old) → ((ops : List EditOp) × IsNamesystemOf (D.state disk.old) self.old ops) }
+        ensures { WalksSettled (D.state disk.old) (D.state disk.new) self.old zone.now result self.new }
+    {
+        self.invariants();
+        let session = self.session_at(zone);
+        let outstanding = self.outstanding(session);
+        if outstanding > 0 {
+            return Ok(Walked::NoneLeft { outstanding });
+        }
+        completed(self.write(disk, &EditOp::Complete { session }, 0))
+    }
+}
+
 /// Returns the refusal of the namesystem for a refusal of the store.
 fn refusal(why: StoreRefusal) -> NameRefusal
     ensures { result ≡ refusal_of why }
@@ -547,5 +681,15 @@ fn finished(written: Result<(), StoreRefusal>) -> Result<(), NameRefusal>
     match written {
         Ok(()) => Ok(()),
         Err(why) => Err(refusal(why)),
+    }
+}
+
+/// Returns the answer to a walk, given the result of writing that its session has completed.
+fn completed(written: Result<(), StoreRefusal>) -> Result<Walked, NameRefusal>
+    ensures { result ≡ walk_answer written }
+{
+    match written {
+        Ok(()) => Ok(Walked::Completed),
+        Err(fault) => Err(refusal(fault)),
     }
 }

@@ -3,16 +3,21 @@ ghost use Rattle.std.specs.Prelude.{◌≡◌, IfOk, IsTrue, MatchResult, None, 
 ghost use Rattle.inode_tree.specs.Listing.{children};
 ghost use Rattle.inode_tree.specs.Rows.{is_dir_at, row_at, zone_of};
 ghost use Rattle.snap_store.specs.Snapshots.{zone_depth};
-ghost use Rattle.name_store.specs.Causes.{first_cause, id_at};
+ghost use Rattle.name_store.specs.Causes.{first_cause, zone_root_causes};
 ghost use Rattle.name_core.specs.Reads.{info_causes, info_reply, list_causes, list_reply, other_zone, path_of_zone, path_read, rows_read, info_of, snapshot_causes, snapshot_rows, zone_in_snapshot, zone_read};
 ghost use Rattle.name_core.specs.Steps.{Answers};
+ghost use Rattle.name_core.specs.Walks.{state_shown, status_shown, status_shown_at, walk_of};
 
 use crate::copies::{copy_of, joined};
+use crate::rules::id_at;
+use crate::walks::{copy_of_mark, has_begun};
 use hk_base::NoMemory;
 use inode_tree::{Kind, Row, Tree};
-use name_calls::{ChildList, NPath, NameRefusal, NameReply, ReadPath, SnapPart};
-use name_store::{NameStore, to_be_unsnapped};
+use name_calls::{ChildList, NPath, NameRefusal, NameReply, ReadPath, SnapPart, State, ZoneStatus};
+use name_store::{NameStore, to_be_unsnapped, to_be_zone_root};
+use reenc_walk::Walker;
 use std::alloc::Global;
+use zone_table::StatusRow;
 
 /// Returns the reply that describes an entry. It allocates only if the entry lies in a zone.
 pub fn info(alloc: Global, store: &NameStore, path: &ReadPath) -> NameReply
@@ -179,16 +184,6 @@ fn other_zone(tree: &Tree, path: &NPath) -> Result<Option<NPath>, NoMemory>
     }
 }
 
-/// Returns the id of the row at a path, or 0 if there is none.
-fn id_at(tree: &Tree, path: &NPath) -> u64
-    ensures { result ≡ id_at tree.now.rows path.now }
-{
-    match tree.find(path) {
-        None => 0,
-        Some(row) => row.id,
-    }
-}
-
 /// Returns the reply that describes a row, with the path of its zone.
 fn shown(row: Row, zone: Option<NPath>) -> NameReply
     ensures { result ≡ info_of row.id zone row.kind }
@@ -198,4 +193,64 @@ fn shown(row: Row, zone: Option<NPath>) -> NameReply
         Kind::Dir { key } => NameReply::Dir { id, zone, key },
         Kind::File { edek } => NameReply::File { id, zone, edek },
     }
+}
+
+/// Returns the reply that tells how far the re-encryption of a zone is.
+pub fn status(alloc: Global, store: &NameStore, walks: &Vec<Walker>, path: &NPath) -> NameReply
+    ensures { Answers true (zone_root_causes store.now.table.rows path.now) (NameReply.Status (status_shown_at store.now.table walks.now.items path.now)) result }
+{
+    if let Some(why) = to_be_zone_root(store.tree(), path) {
+        return NameReply::Refused(why);
+    }
+    match status_at(alloc, store, walks, path) {
+        Err(NoMemory) => NameReply::Refused(NameRefusal::NoMemory),
+        Ok(status) => NameReply::Status(status),
+    }
+}
+
+/// Returns what the status of a zone shows, or `None` if the zone was never submitted.
+fn status_at(
+    alloc: Global,
+    store: &NameStore,
+    walks: &Vec<Walker>,
+    path: &NPath,
+) -> Result<Option<ZoneStatus>, NoMemory>
+    ensures { IfOk result (λ status. status ≡ status_shown_at store.now.table walks.now.items path.now) }
+{
+    match store.statuses().get(id_at(store.tree(), path)) {
+        None => Ok(None),
+        Some(status) => Ok(Some(status_shown(alloc, walks, status)?)),
+    }
+}
+
+fn status_shown(
+    alloc: Global,
+    walks: &Vec<Walker>,
+    status: &StatusRow,
+) -> Result<ZoneStatus, NoMemory>
+    ensures { IfOk result (λ shown. shown ≡ status_shown walks.now.items status.now) }
+{
+    let mark = copy_of_mark(alloc, &status.mark)?;
+    Ok(ZoneStatus {
+        session: status.session,
+        noted: status.noted,
+        state: state_shown(walks, status),
+        cancelled: status.cancelled,
+        reencrypted: status.reencrypted,
+        failed: status.failed,
+        mark,
+    })
+}
+
+fn state_shown(walks: &Vec<Walker>, status: &StatusRow) -> State
+    ensures { result ≡ state_shown (walk_of walks.now.items status.now) status.now }
+{
+    if status.completed {
+        return State::Completed;
+    }
+    let begun = has_begun(walks, status);
+    if !begun && status.reencrypted == 0 && status.failed == 0 {
+        return State::Submitted;
+    }
+    State::Processing
 }

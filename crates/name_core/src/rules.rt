@@ -1,20 +1,25 @@
-//! Why calls are refused, from the rows of a tree and its snapshots.
-ghost use Rattle.std.specs.Prelude.{◌≡◌, ◌++◌, ℕ, IfOk, Option};
+//! Why calls are refused, from the rows of a tree, its snapshots and the statuses of its zones.
+ghost use Rattle.std.specs.Prelude.{◌≡◌, ◌++◌, ℕ, IfOk, List, Option, is_some, true};
 ghost use Rattle.name_calls.specs.Paths.{starts_reserved};
-ghost use Rattle.name_store.specs.Causes.{first_cause};
-ghost use Rattle.name_core.specs.Asks.{finish_causes, finish_op, is_other_key, is_other_zone, path_asked, wanted};
+ghost use Rattle.zone_table.specs.declared.statuses.StatusRow.{StatusRow};
+ghost use Rattle.name_store.specs.Causes.{first_cause, id_at};
+ghost use Rattle.name_core.specs.Asks.{finish_causes, finish_op, is_other_key, is_other_zone, noted_of, path_asked, wanted, wanted_under};
 ghost use Rattle.name_core.specs.Calls.{delete_causes, early_causes, ids_used, is_superuser, name_causes, path_causes, read_path_causes, superuser_causes};
 ghost use Rattle.name_core.specs.Service.{is_change};
+ghost use Rattle.name_core.specs.Steps.{HasWanted};
 
 use crate::asks::OpenAsk;
 use crate::copies::copy_of;
 use edit_ops::EditOp;
-use hk_base::{Edek, KeyName, NoMemory, Text};
+use hk_base::{Edek, KeyName, NoMemory, Text, VersionName};
 use inode_tree::Tree;
 use name_calls::{Ask, NPath, NameCall, NameRefusal, ReadPath, Want, is_component};
-use name_store::{fits_zone, has_most_rows, key_of_zone, to_be_made, to_be_removed, to_be_zone};
+use name_store::{
+    fits_zone, has_most_rows, key_of_zone, to_be_made, to_be_removed, to_be_zone, to_be_zone_root,
+};
 use snap_store::Snaps;
 use std::alloc::Global;
+use zone_table::Statuses;
 
 /// Returns whether the first name of a path is `.reserved`.
 fn is_reserved(path: &NPath) -> bool
@@ -66,10 +71,12 @@ pub fn early_refusal(user: &Text, call: &NameCall) -> Option<NameRefusal>
         NameCall::Rename { path, to } => both_paths_refusal(path, to),
         NameCall::Info { path } => read_path_refusal(path),
         NameCall::List { path } => read_path_refusal(path),
-        NameCall::Allow { path } => allowance_refusal(user, path),
-        NameCall::Disallow { path } => allowance_refusal(user, path),
+        NameCall::Allow { path } => directory_call_refusal(user, path),
+        NameCall::Disallow { path } => directory_call_refusal(user, path),
         NameCall::Snap { path, name } => snapshot_path_refusal(path, name),
         NameCall::Unsnap { path, name } => snapshot_path_refusal(path, name),
+        NameCall::Cancel { path } => directory_call_refusal(user, path),
+        NameCall::Status { path } => directory_call_refusal(user, path),
         NameCall::Zones => superuser_refusal(user),
     }
 }
@@ -95,7 +102,7 @@ fn both_paths_refusal(path: &NPath, to: &NPath) -> Option<NameRefusal>
     path_refusal(to)
 }
 
-fn allowance_refusal(user: &Text, path: &NPath) -> Option<NameRefusal>
+fn directory_call_refusal(user: &Text, path: &NPath) -> Option<NameRefusal>
     ensures { result ≡ first_cause (path_causes path.now ++ superuser_causes user.now) }
 {
     if let Some(why) = path_refusal(path) {
@@ -120,6 +127,7 @@ pub fn is_change(call: &NameCall) -> bool
     match call {
         NameCall::Info { .. } => false,
         NameCall::List { .. } => false,
+        NameCall::Status { .. } => false,
         NameCall::Zones => false,
         _ => true,
     }
@@ -165,6 +173,16 @@ pub fn is_superuser(user: &Text) -> bool
     user.as_str().as_bytes() == b"hdfs".as_slice()
 }
 
+/// Returns the id of the row at a path, or 0 if there is none.
+pub fn id_at(tree: &Tree, path: &NPath) -> u64
+    ensures { result ≡ id_at tree.now.rows path.now }
+{
+    match tree.find(path) {
+        None => 0,
+        Some(row) => row.id,
+    }
+}
+
 /// Returns the path of an ask.
 pub fn path_asked(ask: &Ask) -> &NPath
     ensures { result.now ≡ path_asked ask.now }
@@ -172,6 +190,7 @@ pub fn path_asked(ask: &Ask) -> &NPath
     match ask {
         Ask::Create { path } => path,
         Ask::Zone { path, .. } => path,
+        Ask::Submit { path } => path,
     }
 }
 
@@ -180,11 +199,19 @@ pub fn wanted(tree: &Tree, ask: &Ask) -> Want
     ensures { result ≡ wanted tree.now.rows ask.now }
 {
     match ask {
-        Ask::Create { path } => match key_of_zone(tree, path) {
-            None => Want::Nothing,
-            Some(key) => Want::Generate(key),
-        },
+        Ask::Create { path } => wanted_under(key_of_zone(tree, path)),
         Ask::Zone { key, .. } => Want::Metadata(*key),
+        Ask::Submit { path } => wanted_under(key_of_zone(tree, path)),
+    }
+}
+
+/// Returns the call that an ask wants in a zone of this key, or outside all zones.
+fn wanted_under(key: Option<KeyName>) -> Want
+    ensures { result ≡ wanted_under key }
+{
+    match key {
+        None => Want::Nothing,
+        Some(key) => Want::Generate(key),
     }
 }
 
@@ -204,12 +231,18 @@ fn is_other_key(tree: &Tree, path: &NPath, edek: &Option<Edek>) -> bool
 }
 
 /// Returns why an ask can not be finished. Everything is checked again, except who asked.
-pub fn to_be_finished(tree: &Tree, ask: &OpenAsk, edek: &Option<Edek>) -> Option<NameRefusal>
-    ensures { result ≡ first_cause (finish_causes tree.now.rows ask.now edek.now ask.now.ask) }
+pub fn to_be_finished(
+    tree: &Tree,
+    statuses: &Statuses,
+    ask: &OpenAsk,
+    edek: &Option<Edek>,
+) -> Option<NameRefusal>
+    ensures { result ≡ first_cause (finish_causes tree.now.rows statuses.now.rows ask.now edek.now ask.now.ask) }
 {
     match &ask.ask {
         Ask::Create { path } => file_refusal(tree, ask, edek, path),
         Ask::Zone { path, .. } => zone_refusal(tree, ask, path),
+        Ask::Submit { path } => submission_refusal(tree, statuses, ask, edek, path),
     }
 }
 
@@ -219,7 +252,7 @@ fn file_refusal(
     edek: &Option<Edek>,
     path: &NPath,
 ) -> Option<NameRefusal>
-    ensures { result ≡ first_cause (finish_causes tree.now.rows ask.now edek.now (Ask.Create path.now)) }
+    ensures { (statuses : List StatusRow) → result ≡ first_cause (finish_causes tree.now.rows statuses ask.now edek.now (Ask.Create path.now)) }
 {
     if let Some(why) = path_refusal(path) {
         return Some(why);
@@ -240,7 +273,7 @@ fn file_refusal(
 }
 
 fn zone_refusal(tree: &Tree, ask: &OpenAsk, path: &NPath) -> Option<NameRefusal>
-    ensures { (edek : Option Edek) (key : KeyName) → result ≡ first_cause (finish_causes tree.now.rows ask.now edek (Ask.Zone path.now key)) }
+    ensures { (statuses : List StatusRow) (edek : Option Edek) (key : KeyName) → result ≡ first_cause (finish_causes tree.now.rows statuses ask.now edek (Ask.Zone path.now key)) }
 {
     if let Some(why) = path_refusal(path) {
         return Some(why);
@@ -254,9 +287,48 @@ fn zone_refusal(tree: &Tree, ask: &OpenAsk, path: &NPath) -> Option<NameRefusal>
     None
 }
 
-/// Returns the operation that finishes an ask: it makes the file, or marks the directory of the
-/// zone.
+fn submission_refusal(
+    tree: &Tree,
+    statuses: &Statuses,
+    ask: &OpenAsk,
+    edek: &Option<Edek>,
+    path: &NPath,
+) -> Option<NameRefusal>
+    ensures { result ≡ first_cause (finish_causes tree.now.rows statuses.now.rows ask.now edek.now (Ask.Submit path.now)) }
+{
+    if let Some(why) = path_refusal(path) {
+        return Some(why);
+    }
+    if let Some(why) = to_be_zone_root(tree, path) {
+        return Some(why);
+    }
+    if is_other_zone(tree, ask) {
+        return Some(NameRefusal::ZoneChanged);
+    }
+    if is_other_key(tree, path, edek) {
+        return Some(NameRefusal::ZoneChanged);
+    }
+    if statuses.zone_goes_on(id_at(tree, path)) {
+        return Some(NameRefusal::AlreadySubmitted);
+    }
+    None
+}
+
+/// Returns the version of the encrypted key that a submission was given.
+fn noted_of(edek: &Option<Edek>) -> VersionName
+    requires { is_some edek.now ≡ true }
+    ensures { result ≡ noted_of edek.now }
+{
+    match edek {
+        None => unreachable!(),
+        Some(edek) => edek.version,
+    }
+}
+
+/// Returns the operation that finishes an ask: it makes the file, marks the directory of the zone,
+/// or begins the re-encryption of the zone.
 pub fn finish_op(alloc: Global, ask: &OpenAsk, edek: Option<Edek>) -> Result<EditOp, NoMemory>
+    requires { HasWanted ask.now.ask edek }
     ensures { IfOk result (λ op. op ≡ finish_op ask.now.id edek ask.now.ask) }
 {
     match &ask.ask {
@@ -268,6 +340,11 @@ pub fn finish_op(alloc: Global, ask: &OpenAsk, edek: Option<Edek>) -> Result<Edi
         Ask::Zone { path, key } => Ok(EditOp::Zone {
             path: copy_of(alloc, path)?,
             key: *key,
+        }),
+        Ask::Submit { path } => Ok(EditOp::Submit {
+            session: ask.id,
+            path: copy_of(alloc, path)?,
+            noted: noted_of(&edek),
         }),
     }
 }

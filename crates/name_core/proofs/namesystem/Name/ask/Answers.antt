@@ -21,5 +21,5 @@ invariant_of-self-in-Ok c =
     let id_is = ap (λ (q : OpenAsk). q.id) c.opened-opened.ensures ∙ ap (λ (x : RunningNames). next_id (names_of x)) (sym c.self.view_is) in
     let room = ask-room (names_of c.args.self.now) c.args.user.now c.args.ask (sym c.ask_refusal.ensures ∙ c.in_default.is) in
     let left : c.self.inside.next < 2 ^ 32 = subst (λ (x : RunningNames). x.next < 2 ^ 32) (sym c.self.view_is) room in
-    subst (λ (asks : List OpenAsk). Keeps (service_of (record { store = c.self.inside.store; next = c.self.inside.next + 1; asks = asks }))) (sym c.in-Ok.ensures.ok)
-    (keeps-asked (service_of (record { store = c.self.inside.store; next = c.self.inside.next; asks = c.self.inside.asks })) c.opened-opened.result id_is left c.self.invariant)
+    subst (λ (asks : List OpenAsk). Keeps (service_of (record { store = c.self.inside.store; next = c.self.inside.next + 1; asks = asks; walks = c.self.inside.walks.items; batch = c.self.inside.batch }))) (sym c.in-Ok.ensures.ok)
+    (keeps-asked (service_of (record { store = c.self.inside.store; next = c.self.inside.next; asks = c.self.inside.asks; walks = c.self.inside.walks.items; batch = c.self.inside.batch })) c.opened-opened.result id_is left c.self.invariant)

@@ -3,7 +3,7 @@ use Rattle.edit_ops.specs.declared.ops.EditOp.{EditOp}
 use Rattle.name_core.specs.Asks.{closed}
 use Rattle.name_core.specs.State.{names_of}
 use Rattle.name_core.specs.Steps.{MayWrite, Writes}
-use Rattle.name_core.proofs.AllowedLemmas.{may-finish}
+use Rattle.name_core.proofs.AllowedLemmas.{has-wanted, may-finish}
 use Rattle.name_core.proofs.CallLemmas.{finish-refused, finish-wanting, finish-written, is-open}
 use Rattle.name_core.proofs.namesystem.Name.conclude_settled.Goals as goal
 
@@ -15,6 +15,10 @@ returns-in-Some g c = λ a is.
 pub returns-in-Err : goal.returns-in-Err
 returns-in-Err g c = λ a is.
     finish-wanting (g.D.Disk.state c.args.disk.now) c.args.self.now a c.args.edek c.requires.settled (sym (c.finish_refusal.ensures a is) ∙ c.in_default.is)
+
+pub finish_op-requires-clause-given : goal.finish_op-requires-clause-given
+finish_op-requires-clause-given g c = λ a is.
+    has-wanted c.args.self.now.store.table.rows c.args.self.now.store.table.statuses a c.args.edek a.ask (sym (c.finish_refusal.ensures a is) ∙ c.in_default.is)
 
 pub write_finish-requires-clause-may : goal.write_finish-requires-clause-may
 write_finish-requires-clause-may g c =
