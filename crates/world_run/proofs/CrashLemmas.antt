@@ -19,6 +19,7 @@ use Rattle.name_store.specs.Table.{after_table, settled_log, settled_ops}
 use Rattle.name_calls.specs.declared.calls.NameCall.{NameCall}
 use Rattle.name_calls.specs.declared.calls.NameCall.TheVariants as call
 use Rattle.name_calls.specs.declared.calls.NameRefusal.{NameRefusal}
+use Rattle.name_calls.specs.declared.paths.NPath.{NPath}
 use Rattle.name_core.specs.Service.{OwnOfFinish}
 use Rattle.name_core.specs.State.{settled as settled_names}
 use Rattle.hk_events.specs.declared.event.Event.{Event}
@@ -26,21 +27,23 @@ use Rattle.hk_events.specs.declared.event.Event.TheVariants as event
 use Rattle.hk_events.specs.declared.event.Line.{Line}
 use Rattle.world_run.specs.declared.fault.WorldFault.{WorldFault}
 use Rattle.world_run.specs.declared.kept.KeptReply.{KeptReply}
-use Rattle.world_run.specs.declared.kept.KeptReply.TheVariants.{ToAsk}
+use Rattle.world_run.specs.declared.kept.KeptReply.TheVariants.{ToAsk, ToBatch}
 use Rattle.world_run.specs.Acknowledged.{Acknowledged, HoldsLogs, Survives}
 use Rattle.world_run.specs.Does.{Happens}
-use Rattle.world_run.specs.Own.{OwnKeysOfEvent, OwnOfEvent, OwnOfPath, OwnOfReply}
+use Rattle.world_run.specs.Own.{OwnKeysOfEvent, OwnOfEvent, OwnOfPath, OwnOfReply, OwnOfWalkAt}
 use Rattle.world_run.specs.Keeps.{Fails, KnowsWorld, RestsNow, SoundFrom, Steps, SurvivesThrough}
 use Rattle.world_run.specs.Ledger.{Hidden, Ledger, hidden_after}
 use Rattle.world_run.specs.Linked.{FilesLinked, LinkedWorld, ServicesFit, SoundFiles}
 use Rattle.world_run.specs.RenamePaths.{read_rename_paths, rename_along}
 use Rattle.world_run.specs.SnapPaths.{read_snap_path, snap_at, unsnap_at}
 use Rattle.world_run.specs.Step.{FinishReply, Step, delete_with, finish_line}
-use Rattle.world_run.specs.World.{RunningWorld, WorldState, numbered, world_of}
+use Rattle.world_run.specs.World.{RunningWorld, WorldState, next_batch, numbered, world_of}
 use Rattle.world_run.proofs.BothLemmas.{IsLeftOfBoth, LeavesLogs, keys-now, leaves-weaker, names-now, one-holds, one-leaves, one-runs}
 use Rattle.world_run.proofs.KeepLemmas.{draws-stay, keeps-linked, linked-promise}
 use Rattle.world_run.proofs.Laters.{may-wait, room-found}
 use Rattle.world_run.proofs.SoundLemmas.{LinkedFiles, OwnLinks, event-files, own-of-call, own-of-finish, own-of-nothing, own-of-opening, tables-through, world-files}
+use Rattle.world_run.proofs.WalkKeeps.{completion-files}
+use Rattle.world_run.proofs.WorldLemmas.{rows-settled}
 use Rattle.name_store.proofs.Layers.{sound_left as sound_names_left}
 
 -- the logs that are left
@@ -113,6 +116,7 @@ rests-now d r keys_file names_file fit done s c image =
 finish-owns : (w : WorldState) (h : Hidden) (words : ℕ → ℕ) (drawn number : ℕ) (reply : Option KeptReply) (fault : Type 0) (outcome : Line) (logged : Acknowledged) (w' : WorldState) → numbered w.kept.replies number ≡ reply
     → FinishReply w reply fault outcome drawn logged w' → ServicesFit w → LinkedWorld w h → OwnLinks w (hidden_after w words (event.Finish number) outcome drawn w' h).ledger (OwnOfReply w.names reply outcome w'.names)
 finish-owns w h words drawn number None fault outcome logged w' at acts fit l = λ kept op own. absurd own
+finish-owns w h words drawn number (Some (ToBatch batch answer)) fault outcome logged w' at acts fit l = λ kept op own. absurd own
 finish-owns w h words drawn number (Some (ToAsk ask_id answer)) fault outcome logged w' at acts fit l = λ kept op own may.
     subst (λ (v : WorldState). FilesLinked (hidden_after w words (event.Finish number) outcome drawn v h).ledger w.keys.keys.table.rows (after_table (settled_names kept w.names).table op)) (sym acts.left)
     (subst (λ (x : Line). FilesLinked (hidden_after w words (event.Finish number) x drawn (record w { names = acts.names }) h).ledger w.keys.keys.table.rows (after_table (settled_names kept w.names).table op)) (sym acts.reply_is)
@@ -138,6 +142,10 @@ event-owns lines w words now e fault tells outcome drawn logged w' h fit step l 
     by-path c None = λ kept op own. absurd own
     by-path c (Some read) = own-of-call w h (c read) outcome w'.names fit l
 
+    by-walk : (path : Option NPath) → OwnLinks w h.ledger (OwnOfWalkAt w.names path (next_batch w) outcome w'.names)
+    by-walk None = λ kept op own. absurd own
+    by-walk (Some path) = λ kept op own may. completion-files h.ledger w.keys.keys.table.rows (settled_names kept w.names) path op (rows-settled kept w.names fit.names) own.own.is (l.files kept)
+
     go : (x : Event) → Step lines w words now x fault tells outcome drawn logged w' → OwnLinks w (hidden_after w words x outcome drawn w' h).ledger (OwnOfEvent w x outcome w')
     go (event.Kms user c) s = own-of-nothing w h
     go event.Ticket s = own-of-nothing w h
@@ -153,11 +161,16 @@ event-owns lines w words now e fault tells outcome drawn logged w' h fit step l 
     go (event.Disallow user path) s = by-path call.Disallow (read_path path)
     go (event.Snap user path name) s = by-path snap_at (read_snap_path path name)
     go (event.Unsnap user path name) s = by-path unsnap_at (read_snap_path path name)
+    go (event.Cancel user path) s = by-path call.Cancel (read_path path)
+    go (event.Status user path) s = by-path call.Status (read_path path)
     go (event.Zones user) s = own-of-call w h call.Zones outcome w'.names fit l
     go (event.AskCreate user path) s = own-of-nothing w h
     go (event.AskZone user path key) s = own-of-nothing w h
+    go (event.AskSubmit user path) s = own-of-nothing w h
     go (event.Draw number) s = λ kept op own. absurd own
     go (event.Finish number) s = finish-owns w h words drawn number (numbered w.kept.replies number) fault outcome logged w' refl s fit l
+    go (event.Walk path) s = by-walk (read_path path)
+    go (event.Serve number) s = λ kept op own. absurd own
 
 -- an event
 

@@ -96,7 +96,7 @@ pub opens-named : (row : KeyRow) (e : Edek) (dek : Dek) → unseals (row ∷ [])
 opens-named row e dek h = named _ row e.version dek h
 
 -- and the other way round, if it is found under its name
-opens-alone : (rows : List KeyRow) (row : KeyRow) (e : Edek) (dek : Dek) → find_name rows e.version.key ≡ Some row → is_named e.version.key row ≡ true → unseals rows e ≡ Some dek
+pub opens-alone : (rows : List KeyRow) (row : KeyRow) (e : Edek) (dek : Dek) → find_name rows e.version.key ≡ Some row → is_named e.version.key row ≡ true → unseals rows e ≡ Some dek
     → unseals (row ∷ []) e ≡ Some dek
 opens-alone rows row e dek found named h = alone _ rows row e.version dek found named h
 

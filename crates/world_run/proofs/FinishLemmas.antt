@@ -1,5 +1,5 @@
 -- The ledger of draws, and the files, after a finish.
-use Rattle.std.proofs.Common.{◌≡◌, ◌⊎◌, inl, inr, ℕ, ◌≤◌, ◌^◌, ◌*◌, ◌<◌, Bool, true, false, cond, not, List, [], ◌∷◌, ◌++◌, Option, Some, None, refl, sym, ap, subst, ◌∙◌, arith}
+use Rattle.std.proofs.Common.{◌≡◌, ◌⊎◌, inl, inr, ℕ, ◌≤◌, ◌^◌, ◌*◌, ◌<◌, Bool, true, false, cond, not, List, [], ◌∷◌, ◌++◌, Option, Some, None, is_none, refl, sym, ap, subst, ◌∙◌, arith}
 use Rattle.std.specs.Prelude.{◌==◌}
 use Rattle.std.proofs.lemmas.Bool.Decides.{nat_tests}
 use Rattle.std.proofs.lemmas.List.{append-nil}
@@ -7,7 +7,9 @@ use Rattle.hk_base.specs.declared.names.Edek.{Edek}
 use Rattle.hk_base.specs.declared.names.VersionName.{VersionName}
 use Rattle.eek_queues.specs.Queues.{Queue}
 use Rattle.key_rows.specs.declared.rows.KeyRow.{KeyRow}
+use Rattle.hk_base.specs.declared.names.KeyName.{KeyName}
 use Rattle.inode_tree.specs.Rows.{Entry}
+use Rattle.name_calls.specs.declared.paths.NPath.{NPath}
 use Rattle.name_store.specs.Table.{NameTable, fits_zone, key_of_zone}
 use Rattle.name_core.specs.declared.asks.OpenAsk.{OpenAsk}
 use Rattle.name_calls.specs.declared.calls.Ask.{Ask}
@@ -17,18 +19,21 @@ use Rattle.name_calls.specs.declared.calls.NameRefusal.{NameRefusal}
 use Rattle.name_calls.specs.declared.calls.NameRefusal.TheVariants as refusal
 use Rattle.name_core.specs.Asks.{finish_causes, finish_op, is_other_key, is_other_zone, open_ask, without}
 use Rattle.name_core.specs.Calls.{first_cause, path_causes, to_be_made}
-use Rattle.name_store.specs.Causes.{row_causes}
+use Rattle.name_store.specs.Causes.{directory_causes, id_at, mark_at, row_causes, zone_causes, zone_root_causes}
+use Rattle.zone_table.specs.declared.statuses.StatusRow.{StatusRow}
+use Rattle.zone_table.specs.Statuses.{zone_goes_on}
 use Rattle.name_store.proofs.CauseLemmas.{clear, none-of-both}
-use Rattle.name_core.proofs.AllowedLemmas.{may-make-zone}
 use Rattle.name_core.specs.State.{IsNames, IsRising, NameService, next_id, settled}
 use Rattle.world_run.specs.declared.kept.KeptReply.{KeptReply}
-use Rattle.world_run.specs.declared.kept.KeptReply.TheVariants.{ToAsk}
-use Rattle.world_run.specs.World.{WorldState, numbered}
-use Rattle.world_run.specs.Ledger.{Draw, Hidden, Ledger, entered, entry_under, makes_file}
+use Rattle.world_run.specs.declared.kept.KeptReply.TheVariants.{ToAsk, ToBatch}
+use Rattle.world_run.specs.declared.kept.BatchResult.TheVariants as batch_result
+use Rattle.world_run.specs.World.{Kept, WorldState, numbered}
+use Rattle.world_run.specs.Ledger.{Draw, Hidden, Ledger, entered, entry_under, makes_entry}
 use Rattle.world_run.specs.Promise.{In}
-use Rattle.world_run.specs.Linked.{DrawsFit, FilesLinked, HasDraw, IsDrawn, IsOldBirth, IsReplyTo, KeyLinked, LedgerFits, LinkedWorld, QueuesLinked, Replied, RepliesLinked}
+use Rattle.world_run.specs.Linked.{BatchesLinked, DrawsFit, FilesLinked, HasDraw, HasNoted, IsDrawn, IsOldBirth, IsReplyTo, KeyLinked, LedgerFits, LinkedWorld, QueuesLinked, Replied, RepliesLinked, ReplyCameBack}
 use Rattle.world_run.proofs.Members.{each-in, in-append, in-left, in-right, numbered-in, some-is}
 use Rattle.world_run.proofs.RowsAfter.{OpFits, OpHasDraw}
+use Rattle.world_run.proofs.StatusLemmas.{entered-statuses, root-has-key}
 use Rattle.world_run.proofs.WorldLemmas.{draws-fewer}
 
 -- open asks
@@ -156,13 +161,24 @@ module _ (enter : Bool) (h : Hidden) (replies : List KeptReply) (ask_id : ℕ) (
         not_entered = λ birth id d i j. elim (in-entry enter h.ledger ask_id o id d j) [ inl old ↦ q.not_entered birth id d i old | inr new ↦ q.not_replied birth d i (replied-so d new.1) ];
       }
 
--- files are linked with more entries too
+-- what is linked is linked with more entries too
+
+has-entered : (ledger entries : Ledger) (keys : List KeyRow) (id : ℕ) (e : Edek) → HasDraw ledger keys id e → HasDraw (ledger ++ entries) keys id e
+has-entered ledger entries keys id e d = record { draw = d.draw; entered = in-left (id, d.draw) ledger entries d.entered; of_key = d.of_key; opens = d.opens }
+
 pub entered-files : (ledger entries : Ledger) (keys : List KeyRow) (names : NameTable) → FilesLinked ledger keys names → FilesLinked (ledger ++ entries) keys names
 entered-files ledger entries keys names f =
-    record {
-      files = λ row e i h. let d = f.files row e i h in record { draw = d.draw; entered = in-left (row.id, d.draw) ledger entries d.entered; of_key = d.of_key; opens = d.opens };
-      zones = f.zones;
-    }
+    record { files = λ row e i h. has-entered ledger entries keys row.id e (f.files row e i h); zones = f.zones; statuses = entered-statuses ledger entries names.statuses f.statuses }
+
+reply-entered : (ledger entries : Ledger) (keys : List KeyRow) (r : KeptReply) → ReplyCameBack ledger keys r → ReplyCameBack (ledger ++ entries) keys r
+reply-entered ledger entries keys (ToAsk id answer) back = tt
+reply-entered ledger entries keys (ToBatch batch (batch_result.Refused why)) back = tt
+reply-entered ledger entries keys (ToBatch batch (batch_result.Ready edeks)) back = λ place x e sent got.
+    let was = back place x e sent got in record { of_key = was.of_key; has = has-entered ledger entries keys x.id e was.has }
+
+entered-batches : (ledger entries : Ledger) (keys : List KeyRow) (kept : Kept) → BatchesLinked ledger keys kept → BatchesLinked (ledger ++ entries) keys kept
+entered-batches ledger entries keys kept l =
+    record { sent = λ batch x i j. has-entered ledger entries keys x.id x.edek (l.sent batch x i j); back = λ r i. reply-entered ledger entries keys r (l.back r i) }
 
 -- the draw of the key of a new file
 new-draw : (ledger : Ledger) (keys : List KeyRow) (ask_id : ℕ) (o : Option Draw) (e : Edek) → KeyLinked keys (Some e) o → HasDraw (with_entry true ask_id o ledger) keys ask_id e
@@ -174,29 +190,54 @@ new-draw ledger keys ask_id (Some d) e k = record {
   opens = k.1;
 }
 
--- the operation of a finish has a draw, if its file is entered
-pub finish-drawn : (enter : Bool) (ledger : Ledger) (keys : List KeyRow) (a : OpenAsk) (ask_id : ℕ) (o : Option Draw) (edek : Option Edek) (x : Ask) → a.id ≡ ask_id → KeyLinked keys edek o
-    → (makes_file ask_id (Some (finish_op a.id edek x)) ≡ true → enter ≡ true) → OpHasDraw (with_entry enter ask_id o ledger) keys (finish_op a.id edek x)
-finish-drawn enter ledger keys a ask_id o None (ask.Create p) same k enters = tt
-finish-drawn enter ledger keys a ask_id o (Some e) (ask.Create p) same k enters =
-    subst (λ (b : Bool). HasDraw (with_entry b ask_id o ledger) keys a.id e) (sym (enters (same-id a.id ask_id same)))
-    (subst (λ (n : ℕ). HasDraw (with_entry true ask_id o ledger) keys n e) (sym same) (new-draw ledger keys ask_id o e k))
-finish-drawn enter ledger keys a ask_id o edek (ask.Zone p key) same k enters = tt
-
--- a finish without a cause of a refusal
+-- the draw of a new re-encryption
+new-noted : (ledger : Ledger) (keys : List KeyRow) (ask_id : ℕ) (o : Option Draw) (e : Edek) → KeyLinked keys (Some e) o → HasNoted (with_entry true ask_id o ledger) ask_id e.version
+new-noted ledger keys ask_id None e k = absurd k
+new-noted ledger keys ask_id (Some d) e k = record { draw = d; entered = in-right (ask_id, d) ledger ((ask_id, d) ∷ []) (inl refl); noted_is = k.0 }
 
 not-false : (b : Bool) → not b ≡ false → b ≡ true
 not-false true h = refl
 not-false false h = absurd cc
 
-pub finish-fits : (rows : List Entry) (a : OpenAsk) (edek : Option Edek) (x : Ask) → first_cause (finish_causes rows a edek x) ≡ None → OpFits rows (finish_op a.id edek x)
-finish-fits rows a edek (ask.Create p) free =
+-- a re-encryption has a key, since the path is that of a zone
+pub submit-has-key : (rows : List Entry) (statuses : List StatusRow) (a : OpenAsk) (p : NPath) → first_cause (finish_causes rows statuses a None (ask.Submit p)) ≡ None → ⊥
+submit-has-key rows statuses a p free =
+    let more : List (Bool × NameRefusal) = (zone_goes_on statuses (id_at rows p), refusal.AlreadySubmitted) ∷ [] in
+    let key : List (Bool × NameRefusal) = (is_other_key rows p None, refusal.ZoneChanged) ∷ more in
+    let checks : List (Bool × NameRefusal) = (is_other_zone rows a, refusal.ZoneChanged) ∷ key in
+    let parts = none-of-both (zone_root_causes rows p) checks (none-of-both (path_causes p) (zone_root_causes rows p ++ checks) free).1 in
+    let root = none-of-both (directory_causes rows p) ((is_none (mark_at rows p), refusal.NotAZoneRoot) ∷ []) parts.0 in
+    let fits = clear (is_other_key rows p None) refusal.ZoneChanged (first_cause more) (clear (is_other_zone rows a) refusal.ZoneChanged (first_cause key) parts.1).1 in
+    root-has-key rows p (clear (is_none (mark_at rows p)) refusal.NotAZoneRoot None root.1).0 (keyless (key_of_zone rows p) (not-false (fits_zone (key_of_zone rows p) None) fits.0))
+  where
+    keyless : (o : Option KeyName) → fits_zone o None ≡ true → o ≡ None
+    keyless None h = refl
+    keyless (Some key) h = absurd cc
+
+-- the operation of a finish that nothing stops has a draw, if its file or its re-encryption is entered
+pub finish-drawn : (enter : Bool) (ledger : Ledger) (keys : List KeyRow) (rows : List Entry) (statuses : List StatusRow) (a : OpenAsk) (ask_id : ℕ) (o : Option Draw) (edek : Option Edek) (x : Ask) → a.id ≡ ask_id → KeyLinked keys edek o
+    → first_cause (finish_causes rows statuses a edek x) ≡ None → (makes_entry ask_id (Some (finish_op a.id edek x)) ≡ true → enter ≡ true) → OpHasDraw (with_entry enter ask_id o ledger) keys (finish_op a.id edek x)
+finish-drawn enter ledger keys rows statuses a ask_id o None (ask.Create p) same k free enters = tt
+finish-drawn enter ledger keys rows statuses a ask_id o (Some e) (ask.Create p) same k free enters =
+    subst (λ (b : Bool). HasDraw (with_entry b ask_id o ledger) keys a.id e) (sym (enters (same-id a.id ask_id same)))
+    (subst (λ (n : ℕ). HasDraw (with_entry true ask_id o ledger) keys n e) (sym same) (new-draw ledger keys ask_id o e k))
+finish-drawn enter ledger keys rows statuses a ask_id o edek (ask.Zone p key) same k free enters = tt
+finish-drawn enter ledger keys rows statuses a ask_id o None (ask.Submit p) same k free enters = absurd (submit-has-key rows statuses a p free)
+finish-drawn enter ledger keys rows statuses a ask_id o (Some e) (ask.Submit p) same k free enters =
+    subst (λ (b : Bool). HasNoted (with_entry b ask_id o ledger) a.id e.version) (sym (enters (same-id a.id ask_id same)))
+    (subst (λ (n : ℕ). HasNoted (with_entry true ask_id o ledger) n e.version) (sym same) (new-noted ledger keys ask_id o e k))
+
+pub finish-fits : (rows : List Entry) (statuses : List StatusRow) (a : OpenAsk) (edek : Option Edek) (x : Ask) → first_cause (finish_causes rows statuses a edek x) ≡ None → OpFits rows (finish_op a.id edek x)
+finish-fits rows statuses a edek (ask.Create p) free =
     let key : List (Bool × NameRefusal) = (is_other_key rows p edek, refusal.ZoneChanged) ∷ row_causes rows in
     let checks : List (Bool × NameRefusal) = (is_other_zone rows a, refusal.ZoneChanged) ∷ key in
     let made = none-of-both (path_causes p) (to_be_made rows p ++ checks) free in
     let fits = clear (is_other_zone rows a) refusal.ZoneChanged (first_cause key) (none-of-both (to_be_made rows p) checks made.1).1 in
     not-false (fits_zone (key_of_zone rows p) edek) (clear (is_other_key rows p edek) refusal.ZoneChanged (first_cause (row_causes rows)) fits.1).0
-finish-fits rows a edek (ask.Zone p key) free = may-make-zone rows a edek p key free
+finish-fits rows statuses a edek (ask.Zone p key) free =
+    let checks : List (Bool × NameRefusal) = (is_other_zone rows a, refusal.ZoneChanged) ∷ [] in
+    (none-of-both (zone_causes rows p) checks (none-of-both (path_causes p) (zone_causes rows p ++ checks) free).1).0
+finish-fits rows statuses a edek (ask.Submit p) free = tt
 
 -- the world after a finish
 
@@ -227,6 +268,7 @@ linked-finished w h enter a ask_id answer o names fit answered asks next files l
           (entered-ledger enter h.ledger w.keys.keys.table.rows w.kept.replies h.replied w.names.names.asks a ask_id answer o (next_id w.names.names) member.0 member.1 low recent fit.ids.rising answered.at l.replies l.ledger));
       queues = entered-queues enter h w.kept.replies ask_id answer o answered.at w.keys.keys.table.rows w.keys.keys.ready.queues l.queues;
       tickets = l.tickets;
+      batches = entered-batches h.ledger (entered enter (entry_under ask_id o)) w.keys.keys.table.rows w.kept l.batches;
     }
 
 -- nothing is entered

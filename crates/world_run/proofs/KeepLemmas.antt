@@ -4,7 +4,6 @@ use Rattle.std.specs.Prelude.{drop}
 use Rattle.std.specs.declared.result.Result.{Result}
 use Rattle.hk_base.specs.declared.names.Edek.{Edek}
 use Rattle.hk_base.specs.declared.names.KeyName.{KeyName}
-use Rattle.hk_base.specs.declared.texts.Text.{Text}
 use Rattle.eek_queues.specs.Queues.{Queue, ready_in}
 use Rattle.key_rows.specs.declared.rows.KeyCommand.{KeyCommand}
 use Rattle.key_rows.specs.declared.rows.KeyRow.{KeyRow}
@@ -15,11 +14,9 @@ use Rattle.kms_calls.specs.declared.calls.KmsRefusal.TheVariants as key_refusal
 use Rattle.key_rows.specs.Sound.{NamesOnce}
 use Rattle.key_rows.specs.Table.{Table}
 use Rattle.prop_text.specs.declared.lines.PropLine.{PropLine}
-use Rattle.name_calls.specs.declared.paths.NPath.{NPath}
 use Rattle.name_calls.specs.Paths.{read_path}
 use Rattle.name_calls.specs.ReadPaths.{read_any_path}
 use Rattle.edit_ops.specs.declared.ops.EditOp.{EditOp}
-use Rattle.edit_ops.specs.declared.ops.EditOp.TheVariants as op
 use Rattle.kms_acls.specs.declared.answers.Denied.{Denied}
 use Rattle.kms_acls.specs.declared.answers.Shown.{Shown}
 use Rattle.kms_acls.specs.Verdict.{verdict}
@@ -27,39 +24,36 @@ use Rattle.kms_core.specs.Calls.{KmsActs, birth_of, current_material, row_of}
 use Rattle.kms_core.specs.State.{IsService, KmsState, ServiceState, settled as settled_keys}
 use Rattle.kms_core.specs.Users.{ServesUnder}
 use Rattle.name_store.specs.Store.{is_opening}
-use Rattle.name_store.specs.Table.{NameTable, after_table, settled_table}
-use Rattle.name_store.proofs.CauseLemmas.{renamable}
+use Rattle.name_store.specs.Table.{NameTable, after_table}
 use Rattle.name_core.specs.declared.asks.OpenAsk.{OpenAsk}
 use Rattle.name_calls.specs.declared.calls.Ask.{Ask}
 use Rattle.name_calls.specs.declared.calls.Ask.TheVariants as ask
 use Rattle.name_calls.specs.declared.calls.AskNote.{AskNote}
 use Rattle.name_calls.specs.declared.calls.KeyAnswer.{KeyAnswer}
 use Rattle.name_calls.specs.declared.calls.KeyAnswer.TheVariants.{Given, Refused}
-use Rattle.name_calls.specs.declared.calls.NameCall.{NameCall}
 use Rattle.name_calls.specs.declared.calls.NameCall.TheVariants as call
 use Rattle.name_calls.specs.declared.calls.NameRefusal.{NameRefusal}
 use Rattle.name_calls.specs.declared.calls.NameRefusal.TheVariants as refusal
-use Rattle.name_calls.specs.declared.calls.NameReply.{NameReply}
 use Rattle.name_calls.specs.declared.calls.Want.{Want}
 use Rattle.name_calls.specs.declared.calls.Want.TheVariants as want
 use Rattle.name_calls.specs.Answers.{answer_of}
-use Rattle.name_core.specs.Asks.{AskOutcome, Asks, FinishOutcome, Finishes, ask_causes, ask_gone, asked, closed, finish_causes, finish_op, finished, open_ask, ask_opened, unless_not_asked, unless_stopped}
-use Rattle.name_core.specs.Calls.{NameActs, NoRoom, Plain, causes, deed, done_with, early_causes, first_cause, superuser, unless_refused}
-use Rattle.name_core.specs.Service.{FinishServes, FinishServesAt, FinishServesOpen, NameServes, ServesBy, ServesUnless, closed_service, is_change}
+use Rattle.name_core.specs.Asks.{FinishOutcome, Finishes, ask_gone, closed, finish_causes, finish_op, finished, open_ask, unless_stopped}
+use Rattle.name_core.specs.Calls.{NoRoom, Plain, first_cause, superuser}
+use Rattle.name_core.specs.Service.{FinishServes, FinishServesAt, FinishServesOpen, closed_service}
 use Rattle.name_core.specs.State.{IsNames, NameService, NameState, next_id, settled, started, took}
 use Rattle.hk_events.specs.declared.event.Event.{Event}
 use Rattle.hk_events.specs.declared.event.Event.TheVariants as event
 use Rattle.hk_events.specs.declared.event.Line.{Line}
 use Rattle.hk_events.specs.declared.event.Line.TheVariants as line
 use Rattle.world_run.specs.declared.kept.KeptReply.{KeptReply}
-use Rattle.world_run.specs.declared.kept.KeptReply.TheVariants.{ToAsk}
+use Rattle.world_run.specs.declared.kept.KeptReply.TheVariants.{ToAsk, ToBatch}
 use Rattle.world_run.specs.Acknowledged.{Acknowledged}
-use Rattle.world_run.specs.World.{WorldState, numbered, with_names, with_reply}
+use Rattle.world_run.specs.World.{WorldState, numbered, with_reply}
 use Rattle.world_run.specs.RenamePaths.{read_rename_paths, rename_along}
 use Rattle.world_run.specs.SnapPaths.{read_snap_path, snap_at, unsnap_at}
-use Rattle.world_run.specs.Step.{AskAt, DrawActs, FinishReply, PathActs, Step, WantActs, after_ask, delete_with, finish_line, kept_reply, zone_with}
+use Rattle.world_run.specs.Step.{DrawActs, FinishReply, Step, WantActs, delete_with, finish_line, kept_reply, zone_with}
 use Rattle.world_run.specs.Keeps.{KnowsWorld}
-use Rattle.world_run.specs.Ledger.{Draw, Hidden, Ledger, Past, draw_noted, draw_of, draw_answered, entered, enters, entry_of, entry_under, first_of, hidden_after, id_of_reply, left_in, makes_file, moved_on}
+use Rattle.world_run.specs.Ledger.{Draw, Hidden, Ledger, Past, draw_noted, draw_of, draw_answered, entered, enters, entry_of, entry_under, first_of, hidden_after, id_of_reply, left_in, makes_entry, moved_on}
 use Rattle.world_run.specs.Promise.{FilesOpen, In, ZoneFilesOpen}
 use Rattle.world_run.specs.Linked.{DrawsApart, FilesLinked, IsDrawn, IsOldBirth, KeyLinked, LedgerFits, LinkedTables, LinkedWorld, OpensTo, ReadyLinked, ServicesFit, WordsApart, given}
 use Rattle.world_run.proofs.DrawLemmas.{OneDrawn, OneTaken, fresh-key, generate-one, meta-answers, opens-among, opens-named, words-of-dek}
@@ -67,118 +61,13 @@ use Rattle.world_run.proofs.FinishLemmas.{Answered, entered-files, entered_in, f
 use Rattle.world_run.proofs.Laters.{later-settled, may-wait, names-with}
 use Rattle.world_run.proofs.Members.{in-append, numbered-beside, numbered-in, some-is}
 use Rattle.world_run.proofs.PairLemmas.{in-drop, pairs-first, pairs-none}
-use Rattle.world_run.proofs.RowLemmas.{InPlace}
-use Rattle.world_run.proofs.RowsAfter.{OpFits, OpHasDraw, files-after}
+use Rattle.world_run.proofs.RowsAfter.{files-after}
 use Rattle.world_run.proofs.ServiceLaters.{ServiceLater, acts-state, same-service, user-state}
 use Rattle.world_run.proofs.TicketLemmas.{deposit-keeps, ticket-keeps}
-use Rattle.world_run.proofs.WorldLemmas.{AfterReply, IsFree, NewReply, StaysLinked, StillLinked, apart-fewer, apart-moved, apart-reply, drawn-moved, files-later, first-free, left-is, ledger-more, linked-ask, linked-keys, linked-names, linked-reopened, linked-reply, linked-restart, linked-still, new-free, next-after, next-settled, rows-settled}
-
--- calls of the namesystem
-
-abbrev KeepsNames : WorldState → Hidden → NameService → Type 0
-KeepsNames w h names = LinkedWorld (record w { names = names }) h
-
--- files that are linked with an operation and without it
-with-pending : (ledger : Ledger) (keys : List KeyRow) (t : NameTable) (logs : EditOp) → FilesLinked ledger keys t → FilesLinked ledger keys (after_table t logs)
-    → (kept : Bool) → FilesLinked ledger keys (settled_table kept (Some logs) t)
-with-pending ledger keys t logs without with_it true = with_it
-with-pending ledger keys t logs without with_it false = without
-
--- the pending operation was settled
-settled-keeps : (w : WorldState) (h : Hidden) (k : Bool) → IsNames w.names → LinkedWorld w h → KeepsNames w h (record { names = settled k w.names; pending = None })
-settled-keeps w h k fit l =
-    linked-names w h (record { names = settled k w.names; pending = None }) (λ kept. l.files k)
-    (subst (λ (n : ℕ). LedgerFits h.ledger w.kept.replies h.replied w.names.names.asks n) (sym (next-settled k w.names fit)) l.ledger) l
-
--- the operation of a call was written, or is pending
-abbrev DoneAndPending : WorldState → Hidden → NameState → NameCall → Type 0
-DoneAndPending w h s c =
-    KeepsNames w h (record { names = done_with (deed s c).logs (deed s c).state; pending = None }) × KeepsNames w h (record { names = (deed s c).state; pending = (deed s c).logs })
-
--- a change that uses no id
-logs-keeps : (w : WorldState) (h : Hidden) (s : NameState) (o : EditOp) → is_opening o ≡ false → OpFits s.table.rows o → OpHasDraw h.ledger w.keys.keys.table.rows o → InPlace s.table.rows
-    → KeepsNames w h (record { names = s; pending = None }) → KeepsNames w h (record { names = took s o; pending = None }) × KeepsNames w h (record { names = s; pending = Some o })
-logs-keeps w h s o changes fits has good l =
-    let made : FilesLinked h.ledger w.keys.keys.table.rows (after_table s.table o) = files-after h.ledger w.keys.keys.table.rows s.table o good fits has (l.files true) in (
-      record {
-        files = λ kept. made;
-        replies = l.replies;
-        draws = l.draws;
-        ledger = subst (λ (n : ℕ). LedgerFits h.ledger w.kept.replies h.replied s.asks n) (sym (next-after s o changes)) l.ledger;
-        queues = l.queues;
-        tickets = l.tickets;
-      },
-      record { files = with-pending h.ledger w.keys.keys.table.rows s.table o (l.files true) made; replies = l.replies; draws = l.draws; ledger = l.ledger; queues = l.queues; tickets = l.tickets },
-    )
-
-deed-keeps : (w : WorldState) (h : Hidden) (s : NameState) (c : NameCall) → InPlace s.table.rows → first_cause (causes s c) ≡ None → KeepsNames w h (record { names = s; pending = None }) → DoneAndPending w h s c
-deed-keeps w h s (call.Mkdir p) good free l =
-    logs-keeps w h (record s { next = s.next + 1 }) (op.Mkdir (next_id s) p) refl tt tt good
-    (record { files = l.files; replies = l.replies; draws = l.draws; ledger = ledger-more h.ledger w.kept.replies h.replied s.asks (next_id s) (next_id (record s { next = s.next + 1 })) (omega arith) l.ledger; queues = l.queues; tickets = l.tickets })
-deed-keeps w h s (call.Delete p recursive) good free l = logs-keeps w h s (op.Remove p) refl tt tt good l
-deed-keeps w h s (call.Rename p q) good free l = let m = renamable s.table.rows s.table.snaps p q free in logs-keeps w h s (op.Rename p q) refl (m.can, m.zone) tt good l
-deed-keeps w h s (call.Info r) good free l = (l, l)
-deed-keeps w h s (call.List r) good free l = (l, l)
-deed-keeps w h s (call.Allow p) good free l = logs-keeps w h s (op.Allow p) refl tt tt good l
-deed-keeps w h s (call.Disallow p) good free l = logs-keeps w h s (op.Disallow p) refl tt tt good l
-deed-keeps w h s (call.Snap p name) good free l = logs-keeps w h s (op.Snap p name) refl tt tt good l
-deed-keeps w h s (call.Unsnap p name) good free l = logs-keeps w h s (op.Unsnap p name) refl tt tt good l
-deed-keeps w h s call.Zones good free l = (l, l)
-
-acts-keeps : (w : WorldState) (h : Hidden) (s : NameState) (c : NameCall) (outcome : NameReply) (changed : NameState) → InPlace s.table.rows → KeepsNames w h (record { names = s; pending = None })
-    → NameActs s c outcome changed → KeepsNames w h (record { names = changed; pending = None })
-acts-keeps w h s c outcome changed good l (NoRoom, may, is) = subst (λ (x : NameState). KeepsNames w h (record { names = x; pending = None })) (sym (ap (λ o. o.state) is)) l
-acts-keeps w h s c outcome changed good l (Plain, may, is) =
-    subst (λ (x : NameState). KeepsNames w h (record { names = x; pending = None })) (sym (ap (λ o. o.state) is)) (go (first_cause (causes s c)) refl)
-  where
-    go : (o : Option NameRefusal) → first_cause (causes s c) ≡ o → KeepsNames w h (record { names = (unless_refused o s (deed s c)).state; pending = None })
-    go (Some why) refused = l
-    go None free = (deed-keeps w h s c good free l).0
-
-serves-keeps : (w : WorldState) (h : Hidden) (c : NameCall) (fault : Type 0) (outcome : NameReply) (ops : List EditOp) (names : NameService) (b : Bool) → IsNames w.names → LinkedWorld w h
-    → ServesBy b w.names c fault outcome ops names → KeepsNames w h names
-serves-keeps w h c fault outcome ops names false fit l r = subst (KeepsNames w h) (sym r.same) l
-serves-keeps w h c fault outcome ops names true fit l (inl u) = subst (KeepsNames w h) (sym u.same) l
-serves-keeps w h c fault outcome ops names true fit l (inr (k, inl d)) =
-    subst (KeepsNames w h) (sym d.left) (acts-keeps w h (settled k w.names) c outcome d.changed (rows-settled k w.names fit) (settled-keeps w h k fit l) d.acts)
-serves-keeps w h c fault outcome ops names true fit l (inr (k, inr u)) =
-    subst (KeepsNames w h) (sym u.left) (deed-keeps w h (settled k w.names) c (rows-settled k w.names fit) u.free (settled-keeps w h k fit l)).1
-
-call-keeps : (w : WorldState) (h : Hidden) (user : Text) (c : NameCall) (fault : Type 0) (outcome : NameReply) (ops : List EditOp) (names : NameService) → IsNames w.names → LinkedWorld w h
-    → NameServes w.names user c fault outcome ops names → KeepsNames w h names
-call-keeps w h user c fault outcome ops names fit l serves = go (first_cause (early_causes user c)) serves
-  where
-    go : (o : Option NameRefusal) → ServesUnless o w.names c fault outcome ops names → KeepsNames w h names
-    go (Some why) r = subst (KeepsNames w h) (sym r.same) l
-    go None s = serves-keeps w h c fault outcome ops names (is_change c) fit l s
-
-path-keeps : {X : Type 0} (w : WorldState) (h : Hidden) (user : Text) (c : X → NameCall) (o : Option X) (fault : Type 0) (outcome : Line) (drawn : ℕ) (logged : Acknowledged) (w' : WorldState) → IsNames w.names → LinkedWorld w h
-    → PathActs w user c o fault outcome drawn logged w' → StillLinked w h drawn w'
-path-keeps w h user c None fault outcome drawn logged w' fit l u = subst (StillLinked w h drawn) (sym u.same) (linked-still w h drawn l)
-path-keeps w h user c (Some read) fault outcome drawn logged w' fit l (inl a) =
-    subst (StillLinked w h drawn) (sym a.left) (linked-still (record w { names = a.names }) h drawn (call-keeps w h user (c read) fault a.reply a.ops a.names fit l a.serves))
-path-keeps w h user c (Some read) fault outcome drawn logged w' fit l (inr u) = subst (StillLinked w h drawn) (sym u.same) (linked-still w h drawn l)
-
--- asks
-
-ask-keeps : (w : WorldState) (h : Hidden) (user : Text) (a : Ask) (result : Result AskNote NameRefusal) (names : NameState) → LinkedWorld w h → Asks w.names.names user a result names
-    → LinkedWorld (after_ask result (with_names names w)) h
-ask-keeps w h user a result names l (NoRoom, may, is) = subst (λ (o : AskOutcome). LinkedWorld (after_ask o.reply (with_names o.state w)) h) (sym is) l
-ask-keeps w h user a result names l (Plain, may, is) = subst (λ (o : AskOutcome). LinkedWorld (after_ask o.reply (with_names o.state w)) h) (sym is) (go (first_cause (ask_causes w.names.names user a)))
-  where
-    go : (o : Option NameRefusal) → LinkedWorld (after_ask (unless_not_asked o w.names.names a).reply (with_names (unless_not_asked o w.names.names a).state w)) h
-    go (Some why) = l
-    go None = linked-ask w h (ask_opened w.names.names a) (asked w.names.names a) refl refl (omega arith) refl l
-
-ask-at-keeps : (w : WorldState) (h : Hidden) (user : Text) (a : NPath → Ask) (o : Option NPath) (outcome : Line) (drawn : ℕ) (w' : WorldState) → LinkedWorld w h → AskAt w user a o outcome w' → StillLinked w h drawn w'
-ask-at-keeps w h user a None outcome drawn w' l r = subst (StillLinked w h drawn) (sym r.same) (linked-still w h drawn l)
-ask-at-keeps w h user a (Some p) outcome drawn w' l (inl acts) =
-    subst (StillLinked w h drawn) (sym acts.left) (answered acts.result (ask-keeps w h user (a p) acts.result acts.names l acts.asks))
-  where
-    answered : (result : Result AskNote NameRefusal) → LinkedWorld (after_ask result (with_names acts.names w)) h → StillLinked w h drawn (after_ask result (with_names acts.names w))
-    answered (Ok note) m = linked-still (after_ask (Ok note) (with_names acts.names w)) h drawn m
-    answered (Err why) m = linked-still (after_ask (Err why) (with_names acts.names w)) h drawn m
-ask-at-keeps w h user a (Some p) outcome drawn w' l (inr r) = subst (StillLinked w h drawn) (sym r.same) (linked-still w h drawn l)
+use Rattle.world_run.proofs.WorldLemmas.{AfterReply, IsFree, NewReply, StaysLinked, StillLinked, apart-fewer, apart-moved, apart-reply, drawn-moved, files-later, first-free, left-is, linked-keys, linked-reopened, linked-reply, linked-restart, linked-still, new-free, next-after, next-settled, rows-settled}
+use Rattle.world_run.proofs.NameKeeps.{ask-at-keeps, call-keeps, path-keeps, settled-keeps, with-pending}
+use Rattle.world_run.proofs.ServeKeeps.{serve-keeps}
+use Rattle.world_run.proofs.WalkKeeps.{walk-at-keeps}
 
 -- draws
 
@@ -205,6 +94,7 @@ unkeyed-keeps w h words note wanted reply drawn keys l none undrawn later =
       free = λ d is. absurd cc;
       born = λ d is. absurd cc;
       recent = λ d is. absurd cc;
+      back = tt;
     }) l)
 
 -- and with the keys unchanged
@@ -222,6 +112,7 @@ keyed-answers w h keys drawn note e d same version opens free born recent =
       free = λ f is. subst (IsFree h (left_in w.keys.keys.ready.queues keys.keys.ready.queues h.queued) (h.place + drawn)) (some-is d f is) free;
       born = λ f is. subst (λ (x : Draw). IsOldBirth keys.keys.table x.birth) (some-is d f is) (subst (λ (t : Table). IsOldBirth t d.birth) (sym same) born);
       recent = λ f is. subst (λ (x : Draw). 2 ^ 32 ≤ x.birth) (some-is d f is) recent;
+      back = tt;
     }
 
 module _ (w : WorldState) (h : Hidden) (words : ℕ → ℕ) (now : ℕ) (note : AskNote) (name : KeyName) (reply : KmsReply) (drawn : ℕ) (changed : KmsState) (fit : ServicesFit w) (l : LinkedWorld w h)
@@ -345,13 +236,13 @@ finish-ledger w words h number drawn ask_id answer o result names at drew =
 
 -- the operation of a finish that nothing stops keeps the files linked
 pub finish-files : (w : WorldState) (h : Hidden) (enter : Bool) (k : Bool) (a : OpenAsk) (ask_id : ℕ) (answer : KeyAnswer) (o : Option Draw) (edek : Option Edek) → IsNames w.names → LinkedWorld w h → Answered w h a ask_id answer o
-    → answer ≡ Given edek → first_cause (finish_causes (settled k w.names).table.rows a edek a.ask) ≡ None → (makes_file ask_id (Some (finish_op a.id edek a.ask)) ≡ true → enter ≡ true)
+    → answer ≡ Given edek → first_cause (finish_causes (settled k w.names).table.rows (settled k w.names).table.statuses a edek a.ask) ≡ None → (makes_entry ask_id (Some (finish_op a.id edek a.ask)) ≡ true → enter ≡ true)
     → FilesLinked (with_entry enter ask_id o h.ledger) w.keys.keys.table.rows (after_table (settled k w.names).table (finish_op a.id edek a.ask))
 finish-files w h enter k a ask_id answer o edek fit l answered said free enters =
     let linked : KeyLinked w.keys.keys.table.rows edek o = subst (λ (x : KeyAnswer). KeyLinked w.keys.keys.table.rows (given x) o) said (l.replies.keys_open (ToAsk ask_id answer) o answered.at) in
     files-after (with_entry enter ask_id o h.ledger) w.keys.keys.table.rows (settled k w.names).table (finish_op a.id edek a.ask) (rows-settled k w.names fit)
-    (finish-fits (settled k w.names).table.rows a edek a.ask free)
-    (finish-drawn enter h.ledger w.keys.keys.table.rows a ask_id o edek a.ask (open-in w.names.names.asks ask_id a answered.opened).1 linked enters)
+    (finish-fits (settled k w.names).table.rows (settled k w.names).table.statuses a edek a.ask free)
+    (finish-drawn enter h.ledger w.keys.keys.table.rows (settled k w.names).table.rows (settled k w.names).table.statuses a ask_id o edek a.ask (open-in w.names.names.asks ask_id a answered.opened).1 linked free enters)
     (entered-files h.ledger (entered enter (entry_under ask_id o)) w.keys.keys.table.rows (settled k w.names).table (l.files k))
 
 -- a finish with this answer, and this state after it, keeps the world linked, with the entry of its draw or without
@@ -361,6 +252,7 @@ FinishKeeps w h ask_id o result names = LinkedWorld (record w { names = names })
 no-opening : (id : ℕ) (edek : Option Edek) (x : Ask) → is_opening (finish_op id edek x) ≡ false
 no-opening id edek (ask.Create p) = refl
 no-opening id edek (ask.Zone p key) = refl
+no-opening id edek (ask.Submit p) = refl
 
 -- the state after it is replaced by an equal one
 ends-keeps : (w : WorldState) (h : Hidden) (ask_id : ℕ) (o : Option Draw) (result outcome : Result (Unit {0}) NameRefusal) (left names : NameService) → outcome ≡ result → names ≡ left
@@ -385,9 +277,9 @@ module _ (w : WorldState) (h : Hidden) (ask_id : ℕ) (answer : KeyAnswer) (o : 
   written-keeps k edek result changed said (NoRoom, may, is) =
       subst (λ (x : FinishOutcome). FinishKeeps w h ask_id o x.reply (record { names = x.state; pending = None })) (sym is) (linked-unentered _ h (settled-keeps w h k fit l))
   written-keeps k edek result changed said (Plain, may, is) =
-      subst (λ (x : FinishOutcome). FinishKeeps w h ask_id o x.reply (record { names = x.state; pending = None })) (sym is) (go (first_cause (finish_causes (settled k w.names).table.rows a edek a.ask)) refl)
+      subst (λ (x : FinishOutcome). FinishKeeps w h ask_id o x.reply (record { names = x.state; pending = None })) (sym is) (go (first_cause (finish_causes (settled k w.names).table.rows (settled k w.names).table.statuses a edek a.ask)) refl)
     where
-      go : (c : Option NameRefusal) → first_cause (finish_causes (settled k w.names).table.rows a edek a.ask) ≡ c
+      go : (c : Option NameRefusal) → first_cause (finish_causes (settled k w.names).table.rows (settled k w.names).table.statuses a edek a.ask) ≡ c
           → FinishKeeps w h ask_id o (unless_stopped c (settled k w.names) a edek).reply (record { names = (unless_stopped c (settled k w.names) a edek).state; pending = None })
       go (Some why) cause = settled-closed (enters ask_id (line.Refused why) (record { names = closed (settled k w.names) a.id; pending = None })) k
       go None free =
@@ -396,10 +288,10 @@ module _ (w : WorldState) (h : Hidden) (ask_id : ℕ) (answer : KeyAnswer) (o : 
           (λ b. finish-files w h true k a ask_id answer o edek fit l answered said free (λ e. refl)) l
 
   -- the operation is left pending
-  unwritten-keeps : (k : Bool) (edek : Option Edek) → answer ≡ Given edek → first_cause (finish_causes (settled k w.names).table.rows a edek a.ask) ≡ None
+  unwritten-keeps : (k : Bool) (edek : Option Edek) → answer ≡ Given edek → first_cause (finish_causes (settled k w.names).table.rows (settled k w.names).table.statuses a edek a.ask) ≡ None
       → FinishKeeps w h ask_id o (Err refusal.StoreFault) (record { names = closed (settled k w.names) a.id; pending = Some (finish_op a.id edek a.ask) })
   unwritten-keeps k edek said free =
-      let enter : Bool = makes_file ask_id (Some (finish_op a.id edek a.ask)) in
+      let enter : Bool = makes_entry ask_id (Some (finish_op a.id edek a.ask)) in
       linked-finished w h enter a ask_id answer o (record { names = closed (settled k w.names) a.id; pending = Some (finish_op a.id edek a.ask) }) fit answered refl (next-settled k w.names fit)
       (with-pending (with_entry enter ask_id o h.ledger) w.keys.keys.table.rows (settled k w.names).table (finish_op a.id edek a.ask)
       (entered-files h.ledger (entered enter (entry_under ask_id o)) w.keys.keys.table.rows (settled k w.names).table (l.files k))
@@ -409,7 +301,7 @@ module _ (w : WorldState) (h : Hidden) (ask_id : ℕ) (answer : KeyAnswer) (o : 
       → FinishServesOpen w.names a gave fault result ops names → FinishKeeps w h ask_id o result names
   open-keeps (Refused why) fault result ops names said e = ends-keeps w h ask_id o (Err (refusal.KeyRefused why)) result (closed_service w.names a) names e.reply_is e.left_is (closed-keeps false)
   open-keeps (Given edek) fault result ops names said (inl u) =
-      ends-keeps w h ask_id o (Err refusal.StoreFault) result (closed_service w.names a) names u.ends.reply_is u.ends.left_is (closed-keeps (makes_file ask_id w.names.pending))
+      ends-keeps w h ask_id o (Err refusal.StoreFault) result (closed_service w.names a) names u.ends.reply_is u.ends.left_is (closed-keeps (makes_entry ask_id w.names.pending))
   open-keeps (Given edek) fault result ops names said (inr (k, inl d)) =
       ends-keeps w h ask_id o result result (record { names = d.changed; pending = None }) names refl d.left (written-keeps k edek result d.changed said d.finishes)
   open-keeps (Given edek) fault result ops names said (inr (k, inr u)) =
@@ -433,6 +325,9 @@ finish-reply-keeps : (w : WorldState) (words : ℕ → ℕ) (h : Hidden) (number
 finish-reply-keeps w words h number fault outcome drawn logged w' None fit l at u =
     subst (λ (t : Line). LinkedWorld w' (hidden_after w words (event.Finish number) t drawn w' h)) (sym u.reply_is)
     (subst (λ (v : WorldState). LinkedWorld v (record (moved_on w.keys.keys.ready.queues v.keys.keys.ready.queues drawn h) { ledger = h.ledger ++ [] })) (sym u.same) (linked-still w (record h { ledger = h.ledger ++ [] }) drawn (linked-unentered w h l)))
+finish-reply-keeps w words h number fault outcome drawn logged w' (Some (ToBatch batch answer)) fit l at u =
+    subst (λ (t : Line). LinkedWorld w' (hidden_after w words (event.Finish number) t drawn w' h)) (sym u.reply_is)
+    (subst (λ (v : WorldState). LinkedWorld v (record (moved_on w.keys.keys.ready.queues v.keys.keys.ready.queues drawn h) { ledger = h.ledger ++ [] })) (sym u.same) (linked-still w (record h { ledger = h.ledger ++ [] }) drawn (linked-unentered w h l)))
 finish-reply-keeps w words h number fault outcome drawn logged w' (Some (ToAsk ask_id answer)) fit l at f =
     subst (λ (t : Line). LinkedWorld w' (hidden_after w words (event.Finish number) t drawn w' h)) (sym f.reply_is)
     (subst (λ (v : WorldState). LinkedWorld v (hidden_after w words (event.Finish number) (finish_line f.result) drawn v h)) (sym f.left)
@@ -449,7 +344,7 @@ keeps-linked lines w words now (event.Deposit number) fault tells outcome drawn 
 keeps-linked lines w words now event.RestartKms fault tells outcome drawn logged w' h knows fit s l =
     subst (StillLinked w h drawn) (sym s.left) (linked-restart w h drawn (s.found knows).kept s.table (s.found knows).table_is fit.keys l)
 keeps-linked lines w words now event.RestartName fault tells outcome drawn logged w' h knows fit s l =
-    subst (StillLinked w h drawn) (sym s.left) (linked-still (record w { names = started s.table }) h drawn (linked-reopened w h (s.found knows).kept s.table (s.found knows).table_is fit.names l))
+    subst (StillLinked w h drawn) (sym s.left) (linked-still (record w { names = started w.names.names.batch s.table }) h drawn (linked-reopened w h (s.found knows).kept s.table (s.found knows).table_is fit.names l))
 keeps-linked lines w words now (event.Mkdir user p) fault tells outcome drawn logged w' h knows fit s l = path-keeps w h user call.Mkdir (read_path p) fault outcome drawn logged w' fit.names l s
 keeps-linked lines w words now (event.Delete user p recursive) fault tells outcome drawn logged w' h knows fit s l = path-keeps w h user (delete_with recursive) (read_path p) fault outcome drawn logged w' fit.names l s
 keeps-linked lines w words now (event.Rename user p q) fault tells outcome drawn logged w' h knows fit s l = path-keeps w h user rename_along (read_rename_paths p q) fault outcome drawn logged w' fit.names l s
@@ -459,12 +354,17 @@ keeps-linked lines w words now (event.Allow user p) fault tells outcome drawn lo
 keeps-linked lines w words now (event.Disallow user p) fault tells outcome drawn logged w' h knows fit s l = path-keeps w h user call.Disallow (read_path p) fault outcome drawn logged w' fit.names l s
 keeps-linked lines w words now (event.Snap user p name) fault tells outcome drawn logged w' h knows fit s l = path-keeps w h user snap_at (read_snap_path p name) fault outcome drawn logged w' fit.names l s
 keeps-linked lines w words now (event.Unsnap user p name) fault tells outcome drawn logged w' h knows fit s l = path-keeps w h user unsnap_at (read_snap_path p name) fault outcome drawn logged w' fit.names l s
+keeps-linked lines w words now (event.Cancel user p) fault tells outcome drawn logged w' h knows fit s l = path-keeps w h user call.Cancel (read_path p) fault outcome drawn logged w' fit.names l s
+keeps-linked lines w words now (event.Status user p) fault tells outcome drawn logged w' h knows fit s l = path-keeps w h user call.Status (read_path p) fault outcome drawn logged w' fit.names l s
 keeps-linked lines w words now (event.Zones user) fault tells outcome drawn logged w' h knows fit s l =
     subst (StillLinked w h drawn) (sym s.left) (linked-still (record w { names = s.names }) h drawn (call-keeps w h user call.Zones fault s.reply s.ops s.names fit.names l s.serves))
 keeps-linked lines w words now (event.AskCreate user p) fault tells outcome drawn logged w' h knows fit s l = ask-at-keeps w h user ask.Create (read_path p) outcome drawn w' l s.1
 keeps-linked lines w words now (event.AskZone user p key) fault tells outcome drawn logged w' h knows fit s l = ask-at-keeps w h user (zone_with key) (read_path p) outcome drawn w' l s.1
+keeps-linked lines w words now (event.AskSubmit user p) fault tells outcome drawn logged w' h knows fit s l = ask-at-keeps w h user ask.Submit (read_path p) outcome drawn w' l s.1
 keeps-linked lines w words now (event.Draw number) fault tells outcome drawn logged w' h knows fit s l = (draw-keeps lines w h words now number fault outcome drawn logged w' (numbered w.kept.notes number) fit l refl s).0
 keeps-linked lines w words now (event.Finish number) fault tells outcome drawn logged w' h knows fit s l = finish-reply-keeps w words h number fault outcome drawn logged w' (numbered w.kept.replies number) fit.names l refl s
+keeps-linked lines w words now (event.Walk p) fault tells outcome drawn logged w' h knows fit s l = walk-at-keeps w h (read_path p) fault outcome drawn logged w' fit.names l s
+keeps-linked lines w words now (event.Serve number) fault tells outcome drawn logged w' h knows fit s l = (serve-keeps lines w h words now number fault outcome drawn logged w' (numbered w.kept.batches number) fit l refl s).0
 
 -- draws that were apart
 
@@ -478,6 +378,7 @@ apart-finish before after h drawn enter kept o is_kept f = apart-fewer h then wa
     drew : (d : Draw) (id : ℕ) (b : Bool) (k : Option KeptReply) (q : Option (Option Draw)) → ((x : Option Draw) → q ≡ Some x → In x h.replied) → In (id, d) (entered b (entry_of k q)) → In (Some d) h.replied
     drew d id false k q has i = absurd i
     drew d id true None q has i = absurd i
+    drew d id true (Some (ToBatch batch answer)) q has i = absurd i
     drew d id true (Some (ToAsk ask_id answer)) None has i = absurd i
     drew d id true (Some (ToAsk ask_id answer)) (Some None) has i = absurd i
     drew d id true (Some (ToAsk ask_id answer)) (Some (Some g)) has (inl is) = subst (λ (x : Draw). In (Some x) h.replied) (sym (ap (λ (e : ℕ × Draw). e.1) is)) (has (Some g) refl)
@@ -515,12 +416,17 @@ words-stay lines w words now e fault tells outcome drawn logged w' h fit s l f =
     go (event.Disallow user p) s = moved
     go (event.Snap user p name) s = moved
     go (event.Unsnap user p name) s = moved
+    go (event.Cancel user p) s = moved
+    go (event.Status user p) s = moved
     go (event.Zones user) s = moved
     go (event.AskCreate user p) s = moved
     go (event.AskZone user p key) s = moved
+    go (event.AskSubmit user p) s = moved
     go (event.Draw number) s = (draw-keeps lines w h words now number fault outcome drawn logged w' (numbered w.kept.notes number) fit l refl s).1 f
     go (event.Finish number) s =
         apart-finish before after h drawn (enters (id_of_reply (numbered w.kept.replies number)) outcome w'.names) (numbered w.kept.replies number) (numbered h.replied number) (λ x at. numbered-in h.replied number x at) f
+    go (event.Walk p) s = moved
+    go (event.Serve number) s = (serve-keeps lines w h words now number fault outcome drawn logged w' (numbered w.kept.batches number) fit l refl s).1 f
 
 -- and the draws of two files are apart, if each file has a draw of its own
 pub files-apart : (h : Hidden) (replies : List KeptReply) (asks : List OpenAsk) (next : ℕ) → LedgerFits h.ledger replies h.replied asks next → WordsApart h → DrawsApart h

@@ -11,6 +11,8 @@ use Rattle.kms_store.specs.Store.{IsLeftOf, NoCommand, StoreState}
 use Rattle.kms_core.specs.Service.{Logs, OwnOf}
 use Rattle.kms_core.specs.State.{ServiceState}
 use Rattle.hk_events.specs.declared.event.Line.TheVariants as line
+use Rattle.reenc_walk.specs.declared.sent.BatchNote.{BatchNote}
+use Rattle.world_run.specs.Batches.{batch_call}
 use Rattle.world_run.specs.Own.{OwnOfKeysCall}
 use Rattle.kms_core.proofs.ServiceLemmas.{leaving_more, logs_leaving}
 
@@ -19,7 +21,7 @@ pub keys-weaker : (own other : Bool → KeyCommand → Type 0) (table : Table) (
     → IsLeftOf table pending own commands bytes → IsLeftOf table pending other commands bytes
 keys-weaker own other table pending commands bytes f l = leaving_more table pending own other commands bytes f l
 
--- the calls that asks want change no key, and write nothing
+-- the calls that asks want, and the call for a batch, change no key, and write nothing
 
 pub generate-logs : (old new : DiskState) (store store' : StoreState) (s : ServiceState) (words : ℕ → ℕ) (now : ℕ) (name : KeyName) (answer : KmsReply) (s' : ServiceState) (logged : List KeyCommand)
     → Logs old new store store' (IsLeftOf store.table.keys store.pending (OwnOf s words now (call.Generate name 1) answer s')) logged → Logs old new store store' (IsLeftOf store.table.keys store.pending NoCommand) logged
@@ -30,6 +32,11 @@ pub metadata-logs : (old new : DiskState) (store store' : StoreState) (s : Servi
     → Logs old new store store' (IsLeftOf store.table.keys store.pending (OwnOf s words now (call.Metadata name) answer s')) logged → Logs old new store store' (IsLeftOf store.table.keys store.pending NoCommand) logged
 metadata-logs old new store store' s words now name answer s' logged l =
     logs_leaving old new store store' (OwnOf s words now (call.Metadata name) answer s') NoCommand logged (λ kept command own. let writes : None ≡ Some command = own.is in absurd (cc writes)) l
+
+pub batch-logs : (old new : DiskState) (store store' : StoreState) (s : ServiceState) (words : ℕ → ℕ) (now : ℕ) (batch : BatchNote) (answer : KmsReply) (s' : ServiceState) (logged : List KeyCommand)
+    → Logs old new store store' (IsLeftOf store.table.keys store.pending (OwnOf s words now (batch_call batch) answer s')) logged → Logs old new store store' (IsLeftOf store.table.keys store.pending NoCommand) logged
+batch-logs old new store store' s words now batch answer s' logged l =
+    logs_leaving old new store store' (OwnOf s words now (batch_call batch) answer s') NoCommand logged (λ kept command own. let writes : None ≡ Some command = own.is in absurd (cc writes)) l
 
 -- the command that a call of a user may write, with the line of its reply
 pub call-logs : (old new : DiskState) (store store' : StoreState) (s : ServiceState) (words : ℕ → ℕ) (now : ℕ) (c : KmsCall) (answer : KmsReply) (s' : ServiceState) (logged : List KeyCommand)

@@ -39,6 +39,7 @@ nothing-linked = record {
   files = record {
     files = λ row e i h. elim i [ inl is ↦ let none : None ≡ Some e = ap (λ (r : Row). edek_of r.kind) (sym is) ∙ h in absurd cc | inr none ↦ absurd none ];
     zones = λ x i. elim i [ inl is ↦ subst (λ (y : Entry). FitsZone (key_of_zone root_only y.path) y.row.kind) (sym is) tt | inr none ↦ absurd none ];
+    statuses = λ s i. absurd i;
   };
   draws = record { below = λ d i. absurd (none-drawn d i); one_place = λ d f i j. absurd (none-drawn d i); born = λ d i. absurd (none-drawn d i); recent = λ d i. absurd (none-drawn d i) };
   fits = record { one_draw = λ id d f i j. absurd i; one_file = λ i j d p q. absurd p; below = λ id d i. absurd i; recent = λ id d i. absurd i; not_open = λ a d i j. absurd i; its_ask = λ id r d i at. absurd i };

@@ -45,7 +45,7 @@ in-map f y (x ∷ xs) (inr p) = let q = in-map f y xs p in (q.0, inr q.1, q.2)
 pub some-is : {X : Type 0} (x y : X) → Some x ≡ Some y → x ≡ y
 some-is x y h = cc
 
-got-in : {X : Type 0} (xs : List X) (n : ℕ) (x : X) → slice_get xs n ≡ Some x → In x xs
+pub got-in : {X : Type 0} (xs : List X) (n : ℕ) (x : X) → slice_get xs n ≡ Some x → In x xs
 got-in [] n x h = absurd cc
 got-in (y ∷ xs) zero x h = inl (sym (some-is y x h))
 got-in (y ∷ xs) (suc n) x h = inr (got-in xs n x h)

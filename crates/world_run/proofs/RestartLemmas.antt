@@ -166,7 +166,7 @@ record NamesReopened (old new : DiskState) (w w' : RunningWorld) (table : NameTa
   found : Tells old → RecoversNames (world_of w).names table logged
   stands : Tells old → (ops : List EditOp) → IsNamesystemOf old w.names ops → IsNamesystemOf new w'.names (ops ++ logged)
 
-names-reopened : (old new : DiskState) (w w' : RunningWorld) → w.names.store.log.log.file ≡ 1 → Held old w → (s : NamesStart old new w'.names) → NamesReopened old new w w' s.found
+names-reopened : (old new : DiskState) (w w' : RunningWorld) → w.names.store.log.log.file ≡ 1 → Held old w → (s : NamesStart w.names.batch old new w'.names) → NamesReopened old new w w' s.found
 names-reopened old new w w' of_file held s = go old.tells refl
   where
     go : (b : Bool) → old.tells ≡ b → NamesReopened old new w w' s.found
@@ -192,7 +192,7 @@ names-reopened old new w w' of_file held s = go old.tells refl
         }
 
 -- the new rows replace the old ones
-pub names-restarted : (old new : DiskState) (w w' : RunningWorld) (opening : ℕ) → w'.keys ≡ w.keys → w.names.store.log.log.file ≡ 1 → Held old w → NamesStart old new w'.names
+pub names-restarted : (old new : DiskState) (w w' : RunningWorld) (opening : ℕ) → w'.keys ≡ w.keys → w.names.store.log.log.file ≡ 1 → Held old w → NamesStart w.names.batch old new w'.names
     → {fails : StartFault → Type 0} → OpensNames old new fails → opening ≡ w'.names.store.table.opening → w' ≡ record w { names = w'.names }
     → (lines : List PropLine) (words : ℕ → ℕ) (now : ℕ) → Happens lines old new w words now event.RestartName (line.Opened opening) w' words
 names-restarted old new w w' opening keys of_file held s o number rest lines words now =

@@ -17,18 +17,20 @@ use Rattle.inode_tree.specs.Rows.{AllAfter, Entry, IsRising, entry_of, is_dir, i
 use Rattle.inode_tree.proofs.Puts.{rising-put}
 use Rattle.inode_tree.proofs.Seeks.{same-is}
 use Rattle.edit_ops.specs.declared.ops.EditOp.{EditOp}
-use Rattle.edit_ops.specs.declared.ops.EditOp.TheVariants.{Opened, Mkdir, File, Remove, Rename, Zone, Allow, Disallow, Snap, Unsnap}
+use Rattle.edit_ops.specs.declared.ops.EditOp.TheVariants.{Opened, Mkdir, File, Remove, Rename, Zone, Allow, Disallow, Snap, Unsnap, Submit, Cancel, Complete}
 use Rattle.name_store.specs.Causes.{first_cause, id_at, id_of, row_causes, to_be_made, zone_causes}
 use Rattle.name_store.specs.Table.{NameTable, after_table, allows, fits_zone, kept_rows, key_of_zone, marked, new_directory, new_file}
 use Rattle.name_store.proofs.CauseLemmas.{MayUse, allowed, id-may-be-used, makeable, markable, none-of-both, renamable}
 use Rattle.snap_store.specs.Snapshots.{Snapshot, frozen, is_named, put_snapshot, without_snapshot}
 use Rattle.world_run.specs.Ledger.{Ledger}
 use Rattle.world_run.specs.Promise.{FitsZone, In, edek_of}
-use Rattle.world_run.specs.Linked.{FilesLinked, HasDraw}
+use Rattle.world_run.specs.Linked.{FilesLinked, HasDraw, HasNoted, StatusesLinked}
 use Rattle.world_run.proofs.Members.{in-map, some-is}
 use Rattle.world_run.proofs.KeptRows.{kept-entries, kept-snapped, rows-filter, rows-from, rows-frozen, rows-moved, rows-put, snapped-filter, snapped-put}
 use Rattle.world_run.proofs.RenameLemmas.{in-renamed, key-renamed, renamed-in-place}
 use Rattle.world_run.proofs.RowLemmas.{InPlace, Markable, dir-some, in-mark, in-put, in-removed, key-mark, key-put, key-removed, which}
+use Rattle.world_run.proofs.StatusLemmas.{ended-linked, with-linked, without-linked}
+use Rattle.zone_table.specs.Statuses.{new_status}
 
 none-is : {X : Type 0} (o : Option X) → is_none o ≡ true → o ≡ None
 none-is None h = refl
@@ -229,18 +231,22 @@ rows-after t (File id p edek) good may =
     let a = allowed t (File id p edek) refl may in
     made-in-place t (new_file id p edek) (id-may-be-used t id a.ids) a.free good
 rows-after t (Remove p) good may = removed-in-place p t.rows good
-rows-after t (Rename p q) good may = renamed-in-place t.rows p q good (renamable t.rows t.snaps p q (allowed t (Rename p q) refl may).free).can
+rows-after t (Rename p q) good may = renamed-in-place t.rows p q good (renamable t.rows t.snaps t.statuses p q (allowed t (Rename p q) refl may).free).can
 rows-after t (Zone p key) good may = marked-in-place (id_at t.rows p) key t.rows good
 rows-after t (Allow p) good may = good
 rows-after t (Disallow p) good may = good
 rows-after t (Snap p name) good may = good
 rows-after t (Unsnap p name) good may = good
+rows-after t (Submit session p noted) good may = good
+rows-after t (Cancel session) good may = good
+rows-after t (Complete session) good may = good
 
 -- the files linked there
 
--- a file that an operation makes has a draw
+-- a file that an operation makes has a draw, and a re-encryption that it begins
 abbrev pub OpHasDraw : Ledger → List KeyRow → EditOp → Type 0
 OpHasDraw ledger keys (File id p (Some e)) = HasDraw ledger keys id e
+OpHasDraw ledger keys (Submit session p noted) = HasNoted ledger session noted
 OpHasDraw ledger keys _ = ⊤
 
 -- its encrypted key is of its zone, a directory may become a zone, and what moves stays in its zone
@@ -281,6 +287,9 @@ kept-after t (Snap p name) row i =
 kept-after t (Unsnap p name) row i =
     inl (kept-snapped row t.rows t.snaps.taken (without_snapshot t.snaps.taken (id_at t.rows p) name)
     (λ snapped. inr (snapped-filter row (λ s. not (is_named (id_at t.rows p) name s)) t.snaps.taken snapped)) i)
+kept-after t (Submit session p noted) row i = inl i
+kept-after t (Cancel session) row i = inl i
+kept-after t (Complete session) row i = inl i
 
 file-drawn : (ledger : Ledger) (keys : List KeyRow) (id : ℕ) (p : List (List ℕ)) (made : Option Edek) → OpHasDraw ledger keys (File id p made) → (e : Edek) → made ≡ Some e → HasDraw ledger keys id e
 file-drawn ledger keys id p None has e is = absurd cc
@@ -303,6 +312,9 @@ made-drawn ledger keys (Allow p) row e has made h = absurd made
 made-drawn ledger keys (Disallow p) row e has made h = absurd made
 made-drawn ledger keys (Snap p name) row e has made h = absurd made
 made-drawn ledger keys (Unsnap p name) row e has made h = absurd made
+made-drawn ledger keys (Submit session p noted) row e has made h = absurd made
+made-drawn ledger keys (Cancel session) row e has made h = absurd made
+made-drawn ledger keys (Complete session) row e has made h = absurd made
 
 -- the zones of live entries
 
@@ -366,14 +378,34 @@ zones-after t (Allow p) good fits zones = zones
 zones-after t (Disallow p) good fits zones = zones
 zones-after t (Snap p name) good fits zones = zones
 zones-after t (Unsnap p name) good fits zones = zones
+zones-after t (Submit session p noted) good fits zones = zones
+zones-after t (Cancel session) good fits zones = zones
+zones-after t (Complete session) good fits zones = zones
+
+-- the draws of the re-encryptions
+statuses-after : (ledger : Ledger) (keys : List KeyRow) (t : NameTable) (op : EditOp) → OpHasDraw ledger keys op → StatusesLinked ledger t.statuses → StatusesLinked ledger (after_table t op).statuses
+statuses-after ledger keys t (Opened opening) has l = l
+statuses-after ledger keys t (Mkdir id p) has l = l
+statuses-after ledger keys t (File id p edek) has l = l
+statuses-after ledger keys t (Remove p) has l = without-linked ledger t.rows p t.statuses l
+statuses-after ledger keys t (Rename p q) has l = l
+statuses-after ledger keys t (Zone p key) has l = l
+statuses-after ledger keys t (Allow p) has l = l
+statuses-after ledger keys t (Disallow p) has l = l
+statuses-after ledger keys t (Snap p name) has l = l
+statuses-after ledger keys t (Unsnap p name) has l = l
+statuses-after ledger keys t (Submit session p noted) has l = with-linked ledger (new_status (id_at t.rows p) session noted) t.statuses has l
+statuses-after ledger keys t (Cancel session) has l = ended-linked ledger session true t.statuses l
+statuses-after ledger keys t (Complete session) has l = ended-linked ledger session false t.statuses l
 
 pub files-after : (ledger : Ledger) (keys : List KeyRow) (t : NameTable) (op : EditOp) → InPlace t.rows → OpFits t.rows op → OpHasDraw ledger keys op → FilesLinked ledger keys t
     → FilesLinked ledger keys (after_table t op)
 files-after ledger keys t op good fits has f = record {
   files = λ row e i h. elim (kept-after t op row i) [ inl old ↦ f.files row e old h | inr made ↦ made-drawn ledger keys op row e has made h ];
   zones = zones-after t op good fits f.zones;
+  statuses = statuses-after ledger keys t op has f.statuses;
 }
 
 -- an opening keeps all rows
 pub files-opened : (ledger : Ledger) (keys : List KeyRow) (t : NameTable) (opening : ℕ) → FilesLinked ledger keys t → FilesLinked ledger keys (record t { opening = opening })
-files-opened ledger keys t opening f = record { files = f.files; zones = f.zones }
+files-opened ledger keys t opening f = record { files = f.files; zones = f.zones; statuses = f.statuses }

@@ -29,17 +29,18 @@ use Rattle.name_core.specs.Asks.{finish_op, open_ask}
 use Rattle.name_core.specs.Calls.{causes, deed, first_cause}
 use Rattle.name_core.specs.Service.{FinishServes, FinishServesAt, FinishServesOpen, OwnOfFinish}
 use Rattle.name_core.specs.State.{NameService, next_id, settled as settled_names}
+use Rattle.name_core.specs.Walks.{session_at}
 use Rattle.hk_events.specs.declared.event.Event.{Event}
 use Rattle.hk_events.specs.declared.event.Event.TheVariants as event
 use Rattle.hk_events.specs.declared.event.Line.{Line}
 use Rattle.hk_events.specs.declared.event.Line.TheVariants as line
 use Rattle.world_run.specs.declared.kept.KeptReply.{KeptReply}
-use Rattle.world_run.specs.declared.kept.KeptReply.TheVariants.{ToAsk}
+use Rattle.world_run.specs.declared.kept.KeptReply.TheVariants.{ToAsk, ToBatch}
 use Rattle.world_run.specs.Acknowledged.{Acknowledged}
 use Rattle.world_run.specs.Own.{OwnOfNamesCall}
 use Rattle.world_run.specs.World.{WorldState, numbered}
 use Rattle.world_run.specs.Step.{FinishReply, Step, finish_line}
-use Rattle.world_run.specs.Ledger.{Draw, Hidden, Ledger, drawn_before, enters, hidden_after, makes_file, past_of}
+use Rattle.world_run.specs.Ledger.{Draw, Hidden, Ledger, drawn_before, enters, hidden_after, makes_entry, past_of}
 use Rattle.world_run.specs.Linked.{DrawsFit, FilesLinked, IsOldBirth, IsRecordedBirth, LedgerFits, LinkedTables, LinkedWorld, Replied, ServicesFit}
 use Rattle.world_run.proofs.FinishLemmas.{linked-unentered, with_entry}
 use Rattle.world_run.proofs.KeepLemmas.{closed-keeps, finish-files, finish-ledger}
@@ -100,6 +101,9 @@ finish-reply-through : (w : WorldState) (words : ℕ → ℕ) (h : Hidden) (numb
 finish-reply-through w words h number fault outcome drawn logged w' None fit l at u =
     subst (λ (t : Line). LinkedFiles w (hidden_after w words (event.Finish number) t drawn w' h).ledger h.place) (sym u.reply_is)
     (world-files w (record h { ledger = h.ledger ++ [] }) (linked-unentered w h l))
+finish-reply-through w words h number fault outcome drawn logged w' (Some (ToBatch batch answer)) fit l at u =
+    subst (λ (t : Line). LinkedFiles w (hidden_after w words (event.Finish number) t drawn w' h).ledger h.place) (sym u.reply_is)
+    (world-files w (record h { ledger = h.ledger ++ [] }) (linked-unentered w h l))
 finish-reply-through w words h number fault outcome drawn logged w' (Some (ToAsk ask_id answer)) fit l at f =
     subst (λ (t : Line). LinkedFiles w (hidden_after w words (event.Finish number) t drawn w' h).ledger h.place) (sym f.reply_is)
     (subst (λ (v : WorldState). LinkedFiles w (hidden_after w words (event.Finish number) (finish_line f.result) drawn v h).ledger h.place) (sym f.left)
@@ -120,6 +124,9 @@ draw-through w words h number drawn (line.Opened opening) w' f = f
 draw-through w words h number drawn (line.Name reply) w' f = f
 draw-through w words h number drawn (line.Asked n note) w' f = f
 draw-through w words h number drawn (line.Replied n reply) w' f = f
+draw-through w words h number drawn (line.Batch n files) w' f = f
+draw-through w words h number drawn (line.NoneLeft outstanding) w' f = f
+draw-through w words h number drawn line.Completed w' f = f
 draw-through w words h number drawn (line.Refused why) w' f = f
 draw-through w words h number drawn line.Unknown w' f = f
 
@@ -136,8 +143,28 @@ deposit-through w words h number drawn (line.Opened opening) w' f = f
 deposit-through w words h number drawn (line.Name reply) w' f = f
 deposit-through w words h number drawn (line.Asked n note) w' f = f
 deposit-through w words h number drawn (line.Replied n reply) w' f = f
+deposit-through w words h number drawn (line.Batch n files) w' f = f
+deposit-through w words h number drawn (line.NoneLeft outstanding) w' f = f
+deposit-through w words h number drawn line.Completed w' f = f
 deposit-through w words h number drawn (line.Refused why) w' f = f
 deposit-through w words h number drawn line.Unknown w' f = f
+
+-- and a served batch
+serve-through : (w : WorldState) (words : ℕ → ℕ) (h : Hidden) (number drawn : ℕ) (outcome : Line) (w' : WorldState) → LinkedFiles w h.ledger (h.place + drawn)
+    → LinkedFiles w (hidden_after w words (event.Serve number) outcome drawn w' h).ledger (hidden_after w words (event.Serve number) outcome drawn w' h).place
+serve-through w words h number drawn (line.Kms reply) w' f = f
+serve-through w words h number drawn (line.Ticket n version wanted) w' f = f
+serve-through w words h number drawn line.NoTicket w' f = f
+serve-through w words h number drawn (line.Deposit answer) w' f = f
+serve-through w words h number drawn (line.Opened opening) w' f = f
+serve-through w words h number drawn (line.Name reply) w' f = f
+serve-through w words h number drawn (line.Asked n note) w' f = f
+serve-through w words h number drawn (line.Replied n reply) w' f = f
+serve-through w words h number drawn (line.Batch n files) w' f = f
+serve-through w words h number drawn (line.NoneLeft outstanding) w' f = f
+serve-through w words h number drawn line.Completed w' f = f
+serve-through w words h number drawn (line.Refused why) w' f = f
+serve-through w words h number drawn line.Unknown w' f = f
 
 pub event-files : (lines : List PropLine) (w : WorldState) (words : ℕ → ℕ) (now : ℕ) (e : Event) (fault tells : Type 0) (outcome : Line) (drawn : ℕ) (logged : Acknowledged) (w' : WorldState) (h : Hidden) → ServicesFit w
     → Step lines w words now e fault tells outcome drawn logged w' → LinkedWorld w h → LinkedFiles w (hidden_after w words e outcome drawn w' h).ledger (hidden_after w words e outcome drawn w' h).place
@@ -161,13 +188,18 @@ event-files lines w words now e fault tells outcome drawn logged w' h fit s l = 
     go (event.Disallow user p) s = before
     go (event.Snap user p name) s = before
     go (event.Unsnap user p name) s = before
+    go (event.Cancel user p) s = before
+    go (event.Status user p) s = before
     go (event.Zones user) s = before
     go (event.AskCreate user p) s = before
     go (event.AskZone user p key) s = before
+    go (event.AskSubmit user p) s = before
     go (event.Draw number) s = draw-through w words h number drawn outcome w' before
     go (event.Finish number) s =
         more-words w (hidden_after w words (event.Finish number) outcome drawn w' h).ledger h.place drawn
         (finish-reply-through w words h number fault outcome drawn logged w' (numbered w.kept.replies number) fit l refl s)
+    go (event.Walk p) s = before
+    go (event.Serve number) s = serve-through w words h number drawn outcome w' before
 
 -- an operation that an event may write after the settled edit log keeps the files linked
 
@@ -188,6 +220,9 @@ own-of-opening w h fit l kept (op.Allow p) own may = absurd cc
 own-of-opening w h fit l kept (op.Disallow p) own may = absurd cc
 own-of-opening w h fit l kept (op.Snap p name) own may = absurd cc
 own-of-opening w h fit l kept (op.Unsnap p name) own may = absurd cc
+own-of-opening w h fit l kept (op.Submit session p noted) own may = absurd cc
+own-of-opening w h fit l kept (op.Cancel session) own may = absurd cc
+own-of-opening w h fit l kept (op.Complete session) own may = absurd cc
 
 pub own-of-call : (w : WorldState) (h : Hidden) (c : NameCall) (outcome : Line) (names : NameService) → ServicesFit w → LinkedWorld w h → OwnLinks w h.ledger (OwnOfNamesCall w.names c outcome names)
 own-of-call w h c outcome names fit l kept written own may = go c own.own.free own.own.is
@@ -202,7 +237,7 @@ own-of-call w h c outcome names fit l kept written own may = go c own.own.free o
     go (call.Mkdir p) free is = linked (op.Mkdir (next_id (settled_names kept w.names)) p) tt tt is
     go (call.Delete p recursive) free is = linked (op.Remove p) tt tt is
     go (call.Rename p q) free is =
-        let m = renamable (settled_names kept w.names).table.rows (settled_names kept w.names).table.snaps p q free in
+        let m = renamable (settled_names kept w.names).table.rows (settled_names kept w.names).table.snaps (settled_names kept w.names).table.statuses p q free in
         linked (op.Rename p q) (m.can, m.zone) tt is
     go (call.Info r) free is = absurd cc
     go (call.List r) free is = absurd cc
@@ -210,6 +245,8 @@ own-of-call w h c outcome names fit l kept written own may = go c own.own.free o
     go (call.Disallow p) free is = linked (op.Disallow p) tt tt is
     go (call.Snap p name) free is = linked (op.Snap p name) tt tt is
     go (call.Unsnap p name) free is = linked (op.Unsnap p name) tt tt is
+    go (call.Cancel p) free is = linked (op.Cancel (session_at (settled_names kept w.names).table p)) tt tt is
+    go (call.Status p) free is = absurd cc
     go call.Zones free is = absurd cc
 
 -- the answer of a finish that leaves an operation pending
@@ -222,15 +259,15 @@ pending-answered s a given edek fault result ops names waiting said serves waits
     go (inr (k, inl d)) = let none : None ≡ Some waiting = sym (ap (λ (n : NameService). n.pending) d.left) ∙ waits in absurd cc
     go (inr (k, inr u)) = u.reply_is
 
--- an operation that a finish wrote, or left pending, is entered if it makes a file
+-- an operation that a finish wrote, or left pending, is entered if it makes an entry
 written-enters : (s : NameService) (ask_id : ℕ) (answer : KeyAnswer) (fault : Type 0) (result : Result (Unit {0}) NameRefusal) (ops : List EditOp) (names : NameService) (k : Bool) (written : EditOp) (own : OwnOfFinish s ask_id answer result names k written)
-    → FinishServes s ask_id answer fault result ops names → makes_file ask_id (Some (finish_op own.ask.id own.edek own.ask.ask)) ≡ true → enters ask_id (finish_line result) names ≡ true
+    → FinishServes s ask_id answer fault result ops names → makes_entry ask_id (Some (finish_op own.ask.id own.edek own.ask.ask)) ≡ true → enters ask_id (finish_line result) names ≡ true
 written-enters s ask_id answer fault result ops names k written own serves file = elim own.was_written [
   | inl done ↦ ap (λ (r : Result (Unit {0}) NameRefusal). enters ask_id (finish_line r) names) done
   | inr waits ↦
       let refused : result ≡ Err refusal.StoreFault = pending-answered s own.ask answer own.edek fault result ops names written own.gave
       (subst (λ (o : Option OpenAsk). FinishServesAt s o answer fault result ops names) own.was_open serves) waits in
-      ap (λ (r : Result (Unit {0}) NameRefusal). enters ask_id (finish_line r) names) refused ∙ ap (makes_file ask_id) (waits ∙ ap Some own.is) ∙ file
+      ap (λ (r : Result (Unit {0}) NameRefusal). enters ask_id (finish_line r) names) refused ∙ ap (makes_entry ask_id) (waits ∙ ap Some own.is) ∙ file
 ]
 
 pub own-of-finish : (w : WorldState) (h : Hidden) (words : ℕ → ℕ) (drawn : ℕ) (number : ℕ) (ask_id : ℕ) (answer : KeyAnswer) (fault : Type 0) (result : Result (Unit {0}) NameRefusal) (ops : List EditOp) (names : NameService)
@@ -282,6 +319,9 @@ opening-rises t (op.Allow p) may = omega arith
 opening-rises t (op.Disallow p) may = omega arith
 opening-rises t (op.Snap p name) may = omega arith
 opening-rises t (op.Unsnap p name) may = omega arith
+opening-rises t (op.Submit session p noted) may = omega arith
+opening-rises t (op.Cancel session) may = omega arith
+opening-rises t (op.Complete session) may = omega arith
 
 opening-more : (r : Replayed) (more : Option EditOp) (found : Bool) → AppliesToNames r more → r.table.opening ≤ (settled_names_table found more r.table).opening
 opening-more r None found fits = omega arith

@@ -38,7 +38,7 @@ use Rattle.world_run.specs.Keeps.{Begins, IsOpenedLog, LeftByFirst, LeftBySecond
 use Rattle.world_run.specs.Ledger.{Past, drawn_before}
 use Rattle.world_run.specs.Linked.{IsOldBirth, IsRecordedBirth, LinkedTables, LinkedWorld, ServicesFit, SoundFiles, StartsSound}
 use Rattle.world_run.specs.Starts.{FailsAt, KeysOpened, OpensBoth}
-use Rattle.world_run.specs.World.{RunningWorld, WorldState, first_world, world_of}
+use Rattle.world_run.specs.World.{RunningWorld, WorldState, first_world, none_kept, world_of}
 use Rattle.world_run.proofs.BothLemmas.{both-of, keys-beside, leaves-keys}
 use Rattle.world_run.proofs.CrashLemmas.{rests-now}
 use Rattle.world_run.proofs.KeepLemmas.{linked-promise, world-apart}
@@ -134,6 +134,9 @@ next-linked past keys t (op.Allow p) is may l = absurd (cc is)
 next-linked past keys t (op.Disallow p) is may l = absurd (cc is)
 next-linked past keys t (op.Snap p name) is may l = absurd (cc is)
 next-linked past keys t (op.Unsnap p name) is may l = absurd (cc is)
+next-linked past keys t (op.Submit session p noted) is may l = absurd (cc is)
+next-linked past keys t (op.Cancel session) is may l = absurd (cc is)
+next-linked past keys t (op.Complete session) is may l = absurd (cc is)
 
 -- the operation that was pending, kept after all
 kept-after-all : (made : Replayed) (kept : Bool) (more : Option EditOp) (o : EditOp) → kept ≡ false → more ≡ Some o → after_table (settled_log kept more made).table o ≡ (settled_log true more made).table
@@ -299,8 +302,8 @@ keys-room old new r s telling =
     let k = s.log telling in
     let fits : s.table.opening + 1 < 2 ^ 32 = last-has k.0 (next_opening s.table) k.2.spelled in omega (arith, fits)
 
-names-room : (old new : DiskState) (r : RunningNames) → (s : NamesStart old new r) → Tells old → s.found.opening < 4294967295
-names-room old new r s telling =
+names-room : (old new : DiskState) (r : RunningNames) (batch : ℕ) → (s : NamesStart batch old new r) → Tells old → s.found.opening < 4294967295
+names-room old new r batch s telling =
     let n = s.log telling in
     let fits : s.found.opening + 1 < 2 ^ 32 = last-name n.0 (next_opening_of_names s.found) n.3.store.log.spelled in omega (arith, fits)
 
@@ -314,6 +317,7 @@ first-linked past sizes table names l = record {
   ledger = ledger-more past.ledger [] [] [] ((names.opening + 1) * 2 ^ 32) ((names.opening + 1) * 2 ^ 32 + 1) (omega arith) l.fits;
   queues = record { opens = λ birth. tt; rising = λ birth. tt; not_replied = λ birth d i. absurd i; not_entered = λ birth id d i. absurd i };
   tickets = λ ticket i. absurd i;
+  batches = record { sent = λ batch x i j. absurd i; back = λ r i. absurd i };
 }
 
 -- the two tables that are found in sound files are linked
@@ -325,8 +329,8 @@ found-linked past a b commands table ops made s keys names =
     subst (λ (t : Table). LinkedTables past t made.table) (sym f.table_is)
     (subst (λ (m : Replayed). LinkedTables past (settled_table f.kept s.more s.table) m.table) (sym g.made_is) (s.linked f.kept g.kept))
 
-pub begins : (sizes : SizeValues) (old mid new : DiskState) (r : RunningWorld) → r.keys.ready ≡ no_queues sizes → Moment old → r.keys.store.log.file ≡ 0 → r.names.store.log.log.file ≡ 1 → ServicesFit (world_of r) → r.kept ≡ record { tickets = []; notes = []; replies = [] }
-    → RunOn 0 old mid → RunOn 1 mid new → Starts old mid (running r.keys) → NamesStart mid new r.names → Begins sizes old new r
+pub begins : (sizes : SizeValues) (old mid new : DiskState) (r : RunningWorld) → r.keys.ready ≡ no_queues sizes → Moment old → r.keys.store.log.file ≡ 0 → r.names.store.log.log.file ≡ 1 → ServicesFit (world_of r) → r.kept ≡ none_kept
+    → RunOn 0 old mid → RunOn 1 mid new → Starts old mid (running r.keys) → NamesStart sizes.batch mid new r.names → Begins sizes old new r
 begins sizes old mid new r same_sizes m keys_file names_file fit nothing run other_run ks ns = record {
   table = ks.table;
   names = ns.found;
@@ -341,7 +345,7 @@ begins sizes old mid new r same_sizes m keys_file names_file fit nothing run oth
         keys = k.1;
         edits = edits telling;
         keys_room = keys-room old mid (running r.keys) ks telling;
-        names_room = names-room mid new r.names ns (tells-on 0 old mid run telling);
+        names_room = names-room mid new r.names sizes.batch ns (tells-on 0 old mid run telling);
         holds = record { keys = keys-beside mid new r.keys.store _ keys_file other_run (tells-on 0 old mid run telling) k.2; names = n.3 };
       };
   linked = linked;

@@ -1,6 +1,7 @@
 -- The parts of a step, put together.
 use Rattle.std.proofs.Common.{◌≡◌, ◌⊎◌, inl, inr, ℕ, ◌+◌, Bool, List, [], ◌∷◌, ◌++◌, length, Option, Some, None, Ok, Err, refl, sym, ap, subst, ◌∙◌, arith, length-append}
-use Rattle.std.specs.Prelude.{IfSome, MatchResult, false}
+use Rattle.std.specs.Prelude.{◌≤◌, IfSome, MatchResult, false}
+use Rattle.std.specs.Option.{option_and_then}
 use Rattle.std.specs.declared.result.Result.{Result}
 use Rattle.std.proofs.lemmas.List.{append-nil}
 use Rattle.hk_base.specs.Disk.{DiskState, Tells}
@@ -39,12 +40,18 @@ use Rattle.name_calls.specs.declared.calls.AskNote.{AskNote}
 use Rattle.name_calls.specs.declared.calls.KeyAnswer.{KeyAnswer}
 use Rattle.name_calls.specs.declared.calls.NameCall.{NameCall}
 use Rattle.name_calls.specs.declared.calls.NameRefusal.{NameRefusal}
+use Rattle.name_calls.specs.declared.calls.NameRefusal.TheVariants as refusal
+use Rattle.kms_acls.specs.Verdict.{verdict}
 use Rattle.name_calls.specs.declared.calls.NameReply.{NameReply}
 use Rattle.name_calls.specs.declared.calls.Want.{Want}
 use Rattle.name_calls.specs.declared.calls.Want.TheVariants as want
 use Rattle.name_core.specs.Asks.{Asks}
+use Rattle.reenc_walk.specs.declared.sent.BatchNote.{BatchNote}
 use Rattle.name_core.specs.Calls.{superuser}
 use Rattle.name_core.specs.Service.{NameActsOnDisk, FinishActs, Logs as NameLogs, OwnOf}
+use Rattle.name_core.specs.Walking.{OwnOfWalk, WalkActs}
+use Rattle.name_core.specs.declared.walks.Walked.{Walked}
+use Rattle.name_core.specs.declared.walks.Walked.TheVariants as walk
 use Rattle.name_core.specs.State.{NameState, RunningNames, IsNamesystemOf, names_of, service_of as names_service}
 use Rattle.hk_events.specs.declared.event.Event.{Event}
 use Rattle.hk_events.specs.declared.event.Event.TheVariants as event
@@ -52,18 +59,22 @@ use Rattle.hk_events.specs.declared.event.Line.{Line}
 use Rattle.hk_events.specs.declared.event.Line.TheVariants as line
 use Rattle.world_run.specs.declared.fault.WorldFault.{WorldFault}
 use Rattle.world_run.specs.declared.kept.KeptReply.{KeptReply}
-use Rattle.world_run.specs.declared.kept.KeptReply.TheVariants.{ToAsk}
+use Rattle.world_run.specs.declared.kept.KeptReply.TheVariants.{ToAsk, ToBatch}
+use Rattle.world_run.specs.declared.kept.BatchResult.{BatchResult}
 use Rattle.world_run.specs.Acknowledged.{Acknowledged, nothing_acknowledged, of_keys, of_names}
-use Rattle.world_run.specs.Does.{CallHappens, DepositHappens, Does, DrawHappens, FinishHappens, Happens, PathHappens, WantHappens}
-use Rattle.world_run.specs.Own.{OwnOfNamesCall, OwnOfReply}
+use Rattle.world_run.specs.Batches.{KeysFit, after_walk, batch_call, batches_after, result_of, walk_line}
+use Rattle.world_run.specs.Does.{CallHappens, DepositHappens, Does, DrawHappens, FinishHappens, Happens, PathHappens, ServeHappens, WalkHappens, WantHappens}
+use Rattle.world_run.specs.Own.{OwnOfNamesCall, OwnOfReply, OwnOfWalkAt}
 use Rattle.world_run.specs.Keeps.{Fails}
-use Rattle.world_run.specs.Step.{AskAt, GivesTicket, LacksRoom, PathActs, Step, after_ask, after_ticket, finish_line, kept_reply, ticket_line, unread_reply, zone_with}
+use Rattle.world_run.specs.Step.{AskAt, GivesTicket, LacksRoom, PathActs, Step, WalkAt, after_ask, after_ticket, ask_of, finish_line, kept_reply, ticket_line, unread_refusal, unread_reply, zone_with}
 use Rattle.world_run.specs.World.{RunningWorld, WorldState, next_ticket, numbered, with_names, world_of}
 use Rattle.world_run.proofs.AskLemmas.{ask-stands}
-use Rattle.world_run.proofs.KeyLemmas.{call-logs, generate-logs, metadata-logs}
+use Rattle.world_run.proofs.KeyLemmas.{batch-logs, call-logs, generate-logs, metadata-logs}
+use Rattle.world_run.proofs.Members.{some-is}
+use Rattle.world_run.proofs.ServeKeeps.{batch-fits}
 
-abbrev pub parts : RunningKms → RunningNames → List Ticket → List AskNote → List KeptReply → RunningWorld
-parts keys names tickets notes replies = record { keys = keys; names = names; kept = record { tickets = tickets; notes = notes; replies = replies } }
+abbrev pub parts : RunningKms → RunningNames → List Ticket → List AskNote → List BatchNote → List KeptReply → RunningWorld
+parts keys names tickets notes batches replies = record { keys = keys; names = names; kept = record { tickets = tickets; notes = notes; batches = batches; replies = replies } }
 
 -- nothing is done to the disk
 
@@ -124,7 +135,7 @@ still-does d r r' words P keys store names p = record {
 }
   where
     same : r'.names ≡ r.names
-    same = λ i. record { store = store i; next = (names i).next; asks = (names i).asks }
+    same = λ i. record { store = store i; next = (names i).next; asks = (names i).asks; walks = (names i).walks; batch = (names i).batch }
 
 -- an ask leaves this state of the namesystem
 names-left : (result : Result AskNote NameRefusal) (w : WorldState) (names : NameState) → (after_ask result (with_names names w)).names.names ≡ names
@@ -149,6 +160,12 @@ pub zone-happens : (lines : List PropLine) (d : DiskState) (w w' : RunningWorld)
 zone-happens lines d w w' words now e user path key outcome is keys store at =
     subst (λ (x : Event). Happens lines d d w words now x outcome w' words) (sym is)
     (ask-at d w w' user (zone_with key) (read_path path) outcome words (λ drawn logged. Step lines (world_of w) words now (event.AskZone user path key) (Rose d.faults d.faults) (Tells d) outcome drawn logged (world_of w')) keys store at ((refl, refl), at))
+
+pub submit-happens : (lines : List PropLine) (d : DiskState) (w w' : RunningWorld) (words : ℕ → ℕ) (now : ℕ) (e : Event) (user : Text) (path : List ℕ) (outcome : Line) → e ≡ event.AskSubmit user path
+    → w'.keys ≡ w.keys → w'.names.store ≡ w.names.store → AskAt (world_of w) user ask.Submit (read_path path) outcome (world_of w') → Happens lines d d w words now e outcome w' words
+submit-happens lines d w w' words now e user path outcome is keys store at =
+    subst (λ (x : Event). Happens lines d d w words now x outcome w' words) (sym is)
+    (ask-at d w w' user ask.Submit (read_path path) outcome words (λ drawn logged. Step lines (world_of w) words now (event.AskSubmit user path) (Rose d.faults d.faults) (Tells d) outcome drawn logged (world_of w')) keys store at ((refl, refl), at))
 
 more-by-one : {X : Type 0} (xs ys : List X) (x : X) → ys ≡ xs ++ x ∷ [] → length ys ≡ length xs + 1
 more-by-one xs ys x is = ap length is ∙ length-append xs (x ∷ [])
@@ -183,10 +200,10 @@ own-answered old new names names' c outcome logged l = record {
   run = l.run;
 }
 
-pub called : (old new : DiskState) (w : RunningWorld) (keys : RunningKms) (names names' : RunningNames) (tickets : List Ticket) (notes : List AskNote) (replies : List KeptReply) (user : Text) (c : NameCall) (outcome : NameReply)
-    → parts keys names tickets notes replies ≡ w → NameActsOnDisk old new names user c outcome names' → CallHappens old new w user c (line.Name outcome) (parts keys names' tickets notes replies)
-called old new w keys names names' tickets notes replies user c outcome view acts =
-    subst (λ (v : RunningWorld). CallHappens old new v user c (line.Name outcome) (parts keys names' tickets notes replies)) view
+pub called : (old new : DiskState) (w : RunningWorld) (keys : RunningKms) (names names' : RunningNames) (tickets : List Ticket) (notes : List AskNote) (batches : List BatchNote) (replies : List KeptReply) (user : Text) (c : NameCall) (outcome : NameReply)
+    → parts keys names tickets notes batches replies ≡ w → NameActsOnDisk old new names user c outcome names' → CallHappens old new w user c (line.Name outcome) (parts keys names' tickets notes batches replies)
+called old new w keys names names' tickets notes batches replies user c outcome view acts =
+    subst (λ (v : RunningWorld). CallHappens old new v user c (line.Name outcome) (parts keys names' tickets notes batches replies)) view
     (λ words. record {
       drawn = 0;
       logged = of_names acts.logged;
@@ -216,11 +233,11 @@ path-unread {X = X} d w w' user c o fault outcome same is bad only = λ words. d
 
 -- a finish by a kept reply, and by none
 
-pub finished : (old new : DiskState) (w : RunningWorld) (keys : RunningKms) (names names' : RunningNames) (tickets : List Ticket) (notes : List AskNote) (replies : List KeptReply) (id : ℕ) (answer : KeyAnswer) (result : Result (Unit {0}) NameRefusal) (outcome : Line)
-    → parts keys names tickets notes replies ≡ w → FinishActs old new names id answer result names' → outcome ≡ finish_line result → FinishHappens old new w (Some (ToAsk id answer)) outcome (parts keys names' tickets notes replies)
-finished old new w keys names names' tickets notes replies id answer result outcome view acts is =
-    subst (λ (l : Line). FinishHappens old new w (Some (ToAsk id answer)) l (parts keys names' tickets notes replies)) (sym is)
-    (subst (λ (v : RunningWorld). FinishHappens old new v (Some (ToAsk id answer)) (finish_line result) (parts keys names' tickets notes replies)) view
+pub finished : (old new : DiskState) (w : RunningWorld) (keys : RunningKms) (names names' : RunningNames) (tickets : List Ticket) (notes : List AskNote) (batches : List BatchNote) (replies : List KeptReply) (id : ℕ) (answer : KeyAnswer) (result : Result (Unit {0}) NameRefusal) (outcome : Line)
+    → parts keys names tickets notes batches replies ≡ w → FinishActs old new names id answer result names' → outcome ≡ finish_line result → FinishHappens old new w (Some (ToAsk id answer)) outcome (parts keys names' tickets notes batches replies)
+finished old new w keys names names' tickets notes batches replies id answer result outcome view acts is =
+    subst (λ (l : Line). FinishHappens old new w (Some (ToAsk id answer)) l (parts keys names' tickets notes batches replies)) (sym is)
+    (subst (λ (v : RunningWorld). FinishHappens old new v (Some (ToAsk id answer)) (finish_line result) (parts keys names' tickets notes batches replies)) view
     (λ words. record {
       drawn = 0;
       logged = of_names acts.logged;
@@ -239,13 +256,146 @@ finished old new w keys names names' tickets notes replies id answer result outc
     }
 
 -- a finish by the reply that is kept under a number
-pub so-finished : (old new : DiskState) (w w' : RunningWorld) (kept made : KeptReply) (read : Option KeptReply) (outcome : Line) → made ≡ kept → Some kept ≡ read → FinishHappens old new w (Some made) outcome w' → FinishHappens old new w read outcome w'
-so-finished old new w w' kept made read outcome same is happens = subst (λ (o : Option KeptReply). FinishHappens old new w o outcome w') (ap (λ (k : KeptReply). Some k) same ∙ is) happens
+pub so-finished : (old new : DiskState) (w w' : RunningWorld) (read : Option KeptReply) (id : ℕ) (answer : KeyAnswer) (outcome : Line) → Some (id, answer) ≡ option_and_then ask_of read
+    → FinishHappens old new w (Some (ToAsk id answer)) outcome w' → FinishHappens old new w read outcome w'
+so-finished old new w w' None id answer outcome is happens = absurd cc
+so-finished old new w w' (Some (ToBatch batch result)) id answer outcome is happens = absurd cc
+so-finished old new w w' (Some (ToAsk ask_id given)) id answer outcome is happens =
+    let same : (id, answer) ≡ (ask_id, given) = some-is (id, answer) (ask_id, given) is in
+    subst (λ (x : ℕ × KeyAnswer). FinishHappens old new w (Some (ToAsk x.0 x.1)) outcome w') same happens
 
-pub finish-unknown : (d : DiskState) (w w' : RunningWorld) (read : Option KeptReply) → None ≡ read → w' ≡ w → FinishHappens d d w read line.Unknown w'
-finish-unknown d w w' read none same =
-    subst (λ (o : Option KeptReply). FinishHappens d d w o line.Unknown w') none
-    (λ words. does-nothing d w w' words _ _ _ same (record { reply_is = refl; quiet = (refl, refl); same = ap world_of same }))
+pub finish-unknown : (d : DiskState) (w w' : RunningWorld) (read : Option KeptReply) → None ≡ option_and_then ask_of read → w' ≡ w → FinishHappens d d w read line.Unknown w'
+finish-unknown d w w' None none same = λ words. does-nothing d w w' words _ _ _ same (record { reply_is = refl; quiet = (refl, refl); same = ap world_of same })
+finish-unknown d w w' (Some (ToBatch batch result)) none same = λ words. does-nothing d w w' words _ _ _ same (record { reply_is = refl; quiet = (refl, refl); same = ap world_of same })
+finish-unknown d w w' (Some (ToAsk id answer)) none same = absurd cc
+
+-- a walk of a zone
+
+pub walk-unread : (d : DiskState) (w w' : RunningWorld) (path : Option NPath) (fault : PathFault) (outcome : Line) → w' ≡ w → outcome ≡ line.Refused (unread_refusal fault) → (fault ≡ BadPath → path ≡ None) → (path ≡ None → fault ≡ BadPath)
+    → WalkHappens d d w path outcome w'
+walk-unread d w w' path fault outcome same is bad only =
+    subst (λ (l : Line). WalkHappens d d w path l w') (sym is) (λ words. does-nothing d w w' words _ _ _ same (go path fault bad only))
+  where
+    go : (x : Option NPath) (f : PathFault) → (f ≡ BadPath → x ≡ None) → (x ≡ None → f ≡ BadPath) → WalkAt (world_of w) x (Rose d.faults d.faults) (line.Refused (unread_refusal f)) 0 nothing_acknowledged (world_of w')
+    go None f b o = ((refl, refl), record { reply_is = ap (λ (x : PathFault). line.Refused (unread_refusal x)) (o refl); same = ap world_of same })
+    go (Some read) BadPath b o = absurd (cc (b refl))
+    go (Some read) NoMemory b o = inr ((refl, refl), record { reply_is = refl; same = ap world_of same })
+
+pub walk-no-room : (d : DiskState) (w w' : RunningWorld) (path : NPath) → w' ≡ w → WalkHappens d d w (Some path) (line.Refused refusal.NoMemory) w'
+walk-no-room d w w' path same = λ words. does-nothing d w w' words _ _ _ same (inr ((refl, refl), record { reply_is = refl; same = ap world_of same }))
+
+-- about the path that was read
+pub so-walked : (old new : DiskState) (w w' : RunningWorld) (path : Option NPath) (read : NPath) (outcome : Line) → path ≡ Some read → WalkHappens old new w (Some read) outcome w' → WalkHappens old new w path outcome w'
+so-walked old new w w' path read outcome is happens = subst (λ (x : Option NPath). WalkHappens old new w x outcome w') (sym is) happens
+
+module _ (old new : DiskState) (keys : RunningKms) (names names' : RunningNames) (tickets : List Ticket) (notes : List AskNote) (batches : List BatchNote) (replies : List KeptReply) (path : NPath) where
+  abbrev before_walk : RunningWorld
+  before_walk = parts keys names tickets notes batches replies
+
+  -- the operation that may be written, with the line of the result
+  own-walked : (result : Result Walked NameRefusal) (number : ℕ) (logged : List EditOp) → NameLogs old new names names' (OwnOfWalk (names_service names) path result (names_service names')) logged
+      → NameLogs old new names names' (OwnOfWalkAt (names_service names) (Some path) number (walk_line result number) (names_service names')) logged
+  own-walked result number logged l = record {
+    stands = l.stands;
+    moments = λ tells ops s. weaker (λ c left. own-weaker _ _ names s.used ops c (λ k op own. record { result = result; reply_is = refl; own = own }) left) (l.moments tells ops s);
+    run = l.run;
+  }
+
+  walk-done : (result : Result Walked NameRefusal) (w' : RunningWorld) → w'.keys ≡ keys → w'.names ≡ names' → world_of w' ≡ after_walk result (world_of (parts keys names' tickets notes batches replies)) → WalkActs old new names path result names'
+      → WalkHappens old new before_walk (Some path) (walk_line result (length batches + 1)) w'
+  walk-done result w' keys_is names_is left acts = λ words. record {
+    drawn = 0;
+    logged = of_names acts.logged;
+    acts = inl (record { result = result; names = names_service names'; ops = acts.logged; walks = acts.serves; logged_is = refl; reply_is = refl; none_drawn = refl; left = left });
+    rest = λ k. ap words (omega arith);
+    disk = inr (record {
+      ops = acts.logged;
+      logged_is = refl;
+      log = subst (λ (n : RunningNames). NameLogs old new names n (OwnOfWalkAt (names_service names) (Some path) (length batches + 1) (walk_line result (length batches + 1)) (names_service n)) acts.logged) (sym names_is) (own-walked result (length batches + 1) acts.logged acts.disk);
+      keys = keys_is;
+    });
+    lists = ap (λ (k : RunningKms). k.acls) keys_is;
+  }
+
+pub walk-refused : (old new : DiskState) (w : RunningWorld) (keys : RunningKms) (names names' : RunningNames) (tickets : List Ticket) (notes : List AskNote) (batches batches' : List BatchNote) (replies : List KeptReply) (path : NPath) (result : Result Walked NameRefusal) (why : NameRefusal)
+    → parts keys names tickets notes batches replies ≡ w → batches' ≡ batches → result ≡ Err why → WalkActs old new names path result names' → WalkHappens old new w (Some path) (line.Refused why) (parts keys names' tickets notes batches' replies)
+walk-refused old new w keys names names' tickets notes batches batches' replies path result why view same is acts =
+    subst (λ (v : RunningWorld). WalkHappens old new v (Some path) (line.Refused why) (parts keys names' tickets notes batches' replies)) view
+    (walk-done old new keys names names' tickets notes batches replies path (Err why) (parts keys names' tickets notes batches' replies) refl refl
+    (ap (λ (l : List BatchNote). world_of (parts keys names' tickets notes l replies)) same) (subst (λ (r : Result Walked NameRefusal). WalkActs old new names path r names') is acts))
+
+pub walked : (old new : DiskState) (w : RunningWorld) (keys : RunningKms) (names names' : RunningNames) (tickets : List Ticket) (notes : List AskNote) (batches room batches' : List BatchNote) (replies : List KeptReply) (path : NPath) (result : Result Walked NameRefusal) (given : Walked) (outcome : Line)
+    → parts keys names tickets notes batches replies ≡ w → room ≡ batches → batches' ≡ batches_after given room → outcome ≡ walk_line (Ok given) (length room + 1) → result ≡ Ok given → WalkActs old new names path result names'
+    → WalkHappens old new w (Some path) outcome (parts keys names' tickets notes batches' replies)
+walked old new w keys names names' tickets notes batches room batches' replies path result given outcome view same kept is gave acts =
+    subst (λ (v : RunningWorld). WalkHappens old new v (Some path) outcome (parts keys names' tickets notes batches' replies)) view
+    (subst (λ (l : Line). WalkHappens old new (parts keys names tickets notes batches replies) (Some path) l (parts keys names' tickets notes batches' replies)) (sym (is ∙ ap (λ (l : List BatchNote). walk_line (Ok given) (length l + 1)) same))
+    (walk-done old new keys names names' tickets notes batches replies path (Ok given) (parts keys names' tickets notes batches' replies) refl refl (left given (kept ∙ ap (batches_after given) same))
+    (subst (λ (r : Result Walked NameRefusal). WalkActs old new names path r names') gave acts)))
+  where
+    left : (x : Walked) → batches' ≡ batches_after x batches → world_of (parts keys names' tickets notes batches' replies) ≡ after_walk (Ok x) (world_of (parts keys names' tickets notes batches replies))
+    left (walk.Batch batch) more = ap (λ (l : List BatchNote). world_of (parts keys names' tickets notes l replies)) more
+    left (walk.NoneLeft outstanding) more = ap (λ (l : List BatchNote). world_of (parts keys names' tickets notes l replies)) more
+    left walk.Completed more = ap (λ (l : List BatchNote). world_of (parts keys names' tickets notes l replies)) more
+
+-- a batch that is served
+
+pub serve-unknown : (lines : List PropLine) (d : DiskState) (w w' : RunningWorld) (words : ℕ → ℕ) (now : ℕ) (o : Option BatchNote) → None ≡ o → w' ≡ w → ServeHappens lines d d w words now o line.Unknown w' words
+serve-unknown lines d w w' words now o none same =
+    subst (λ (x : Option BatchNote). ServeHappens lines d d w words now x line.Unknown w' words) none
+    (does-nothing d w w' words _ _ _ same (record { reply_is = refl; quiet = (refl, refl); same = ap world_of same }))
+
+pub serve-no-room : (lines : List PropLine) (d : DiskState) (w w' : RunningWorld) (words : ℕ → ℕ) (now : ℕ) (o : Option BatchNote) (batch : BatchNote) → Some batch ≡ o → w' ≡ w
+    → ServeHappens lines d d w words now o (line.Kms (key_reply.Refused key_refusal.NoMemory)) w' words
+serve-no-room lines d w w' words now o batch is same =
+    subst (λ (x : Option BatchNote). ServeHappens lines d d w words now x (line.Kms (key_reply.Refused key_refusal.NoMemory)) w' words) is
+    (does-nothing d w w' words _ _ _ same (inr (record { reply_is = refl; quiet = (refl, refl); same = ap world_of same })))
+
+more-room : (count room : ℕ) (reply : KmsReply) → count ≤ room → KeysFit count reply → KeysFit room reply
+more-room count room (key_reply.Ready edeks) le fits = omega (arith, le, fits)
+more-room count room (key_reply.Refused why) le fits = tt
+more-room count room (key_reply.Version version material) le fits = tt
+more-room count room key_reply.Done le fits = tt
+more-room count room (key_reply.Metadata meta) le fits = tt
+more-room count room (key_reply.Metadatas metas) le fits = tt
+more-room count room (key_reply.Names names) le fits = tt
+more-room count room (key_reply.Versions versions) le fits = tt
+more-room count room (key_reply.Resealed edek) le fits = tt
+more-room count room (key_reply.Key key) le fits = tt
+
+-- the call for it, and its reply
+pub served : (lines : List PropLine) (old new : DiskState) (w : RunningWorld) (words : ℕ → ℕ) (now : ℕ) (batch note : BatchNote) (c : KmsCall) (user : Text) (keys keys' : RunningKms) (names : RunningNames) (tickets : List Ticket) (notes : List AskNote) (batches : List BatchNote)
+    (replies replies' : List KeptReply) (reply : KmsReply) (answer : BatchResult) (room n number : ℕ) (words' : ℕ → ℕ)
+    → parts keys names tickets notes batches replies ≡ w → Some batch ≡ numbered w.kept.batches n → note ≡ batch → c ≡ batch_call batch → user ≡ superuser → length batch.sent ≤ room
+    → (AreListsOf keys.acls lines → ActsFor lines user old new keys words now c reply keys' words') → (KeysFit room reply → answer ≡ result_of reply)
+    → replies' ≡ replies ++ ToBatch note answer ∷ [] → number ≡ length replies'
+    → AreListsOf w.keys.acls lines → ServeHappens lines old new w words now (numbered w.kept.batches n) (line.Replied number (Some reply)) (parts keys' names tickets notes batches replies') words'
+served lines old new w words now batch note c user keys keys' names tickets notes batches replies replies' reply answer room n number words' view at same_note same_call as_superuser le acts result more count =
+    subst (λ (o : Option BatchNote). AreListsOf w.keys.acls lines → ServeHappens lines old new w words now o (line.Replied number (Some reply)) (parts keys' names tickets notes batches replies') words') at
+    (subst (λ (v : RunningWorld). AreListsOf v.keys.acls lines → ServeHappens lines old new v words now (Some batch) (line.Replied number (Some reply)) (parts keys' names tickets notes batches replies') words') view
+    (λ lists. go (subst (λ (u : Text). ActsFor lines u old new keys words now (batch_call batch) reply keys' words') as_superuser (subst (λ (x : KmsCall). ActsFor lines user old new keys words now x reply keys' words') same_call (acts lists)))))
+  where
+    go : ActsFor lines superuser old new keys words now (batch_call batch) reply keys' words'
+        → ServeHappens lines old new (parts keys names tickets notes batches replies) words now (Some batch) (line.Replied number (Some reply)) (parts keys' names tickets notes batches replies') words'
+    go a =
+        let fits = batch-fits (service_of (running keys)) words now batch (Rose old.faults new.faults) reply a.drawn a.logged (service_of (running keys')) (verdict lines superuser (batch_call batch)) a.serves in
+        let kept : replies' ≡ replies ++ ToBatch batch (result_of reply) ∷ [] = more ∙ (λ i. replies ++ ToBatch (same_note i) (result (more-room (length batch.sent) room reply le fits) i) ∷ []) in
+        record {
+          drawn = a.drawn;
+          logged = of_keys a.logged;
+          acts = inl (record {
+            reply = reply;
+            keys = service_of (running keys');
+            commands = a.logged;
+            serves = a.serves;
+            logged_is = refl;
+            reply_is = ap (λ (k : ℕ). line.Replied k (Some reply)) (count ∙ more-by-one replies replies' (ToBatch batch (result_of reply)) kept);
+            left = ap (λ (l : List KeptReply). world_of (parts keys' names tickets notes batches l)) kept;
+          });
+          rest = a.rest;
+          disk = inl (record { commands = a.logged; logged_is = refl; log = batch-logs old new keys.store keys'.store (service_of (running keys)) words now batch reply (service_of (running keys')) a.logged a.disk; names = refl });
+          lists = a.lists;
+        }
 
 -- a draw
 
@@ -261,14 +411,14 @@ draw-no-room lines d w w' words now o note is same =
     (does-nothing d w w' words _ _ _ same (inr (record { reply_is = refl; quiet = (refl, refl); same = ap world_of same })))
 
 -- a call that was wanted, and its reply
-pub drew-note : (lines : List PropLine) (old new : DiskState) (w : RunningWorld) (words : ℕ → ℕ) (now : ℕ) (note : AskNote) (keys keys' : RunningKms) (names : RunningNames) (tickets : List Ticket) (notes : List AskNote) (replies replies' : List KeptReply)
+pub drew-note : (lines : List PropLine) (old new : DiskState) (w : RunningWorld) (words : ℕ → ℕ) (now : ℕ) (note : AskNote) (keys keys' : RunningKms) (names : RunningNames) (tickets : List Ticket) (notes : List AskNote) (batches : List BatchNote) (replies replies' : List KeptReply)
     (outcome : Option KmsReply) (n number : ℕ) (words' : ℕ → ℕ)
-    → parts keys names tickets notes replies ≡ w → Some note ≡ numbered w.kept.notes n → (AreListsOf keys.acls lines → WantHappens lines old new keys words now note.want outcome keys' words')
+    → parts keys names tickets notes batches replies ≡ w → Some note ≡ numbered w.kept.notes n → (AreListsOf keys.acls lines → WantHappens lines old new keys words now note.want outcome keys' words')
     → replies' ≡ replies ++ (kept_reply note outcome) ∷ [] → number ≡ length replies'
-    → AreListsOf w.keys.acls lines → DrawHappens lines old new w words now (numbered w.kept.notes n) (line.Replied number outcome) (parts keys' names tickets notes replies') words'
-drew-note lines old new w words now note keys keys' names tickets notes replies replies' outcome n number words' view at wants more count =
-    subst (λ (o : Option AskNote). AreListsOf w.keys.acls lines → DrawHappens lines old new w words now o (line.Replied number outcome) (parts keys' names tickets notes replies') words') at
-    (subst (λ (v : RunningWorld). AreListsOf v.keys.acls lines → DrawHappens lines old new v words now (Some note) (line.Replied number outcome) (parts keys' names tickets notes replies') words') view
+    → AreListsOf w.keys.acls lines → DrawHappens lines old new w words now (numbered w.kept.notes n) (line.Replied number outcome) (parts keys' names tickets notes batches replies') words'
+drew-note lines old new w words now note keys keys' names tickets notes batches replies replies' outcome n number words' view at wants more count =
+    subst (λ (o : Option AskNote). AreListsOf w.keys.acls lines → DrawHappens lines old new w words now o (line.Replied number outcome) (parts keys' names tickets notes batches replies') words') at
+    (subst (λ (v : RunningWorld). AreListsOf v.keys.acls lines → DrawHappens lines old new v words now (Some note) (line.Replied number outcome) (parts keys' names tickets notes batches replies') words') view
     (λ lists. let does = wants lists in record {
       drawn = does.drawn;
       logged = of_keys does.commands;
@@ -279,7 +429,7 @@ drew-note lines old new w words now note keys keys' names tickets notes replies 
         acts = does.acts;
         logged_is = refl;
         reply_is = ap (λ (k : ℕ). line.Replied k outcome) (count ∙ more-by-one replies replies' (kept_reply note outcome) more);
-        left = ap (λ (l : List KeptReply). world_of (parts keys' names tickets notes l)) more;
+        left = ap (λ (l : List KeptReply). world_of (parts keys' names tickets notes batches l)) more;
       });
       rest = does.rest;
       disk = inl (record { commands = does.commands; logged_is = refl; log = does.log; names = refl });
@@ -323,15 +473,15 @@ no-ticket w w' none same = record {
   left = ap world_of same ∙ ap (λ (o : Option Ticket). after_ticket o (world_of w)) none;
 }
 
-pub gives-ticket : (w : RunningWorld) (keys : RunningKms) (names : RunningNames) (tickets tickets' : List Ticket) (notes : List AskNote) (replies : List KeptReply) (ticket : Ticket) (number : ℕ) (version : VersionName)
-    → parts keys names tickets notes replies ≡ w → Some ticket ≡ ticket_of (keys_of (running keys)) → tickets' ≡ tickets ++ ticket ∷ [] → number ≡ length tickets' → version ≡ ticket.version
-    → GivesTicket (world_of w) (line.Ticket number version ticket.wanted) 0 nothing_acknowledged (world_of (parts keys names tickets' notes replies))
-gives-ticket w keys names tickets tickets' notes replies ticket number version view given more count is =
-    subst (λ (v : RunningWorld). GivesTicket (world_of v) (line.Ticket number version ticket.wanted) 0 nothing_acknowledged (world_of (parts keys names tickets' notes replies))) view
+pub gives-ticket : (w : RunningWorld) (keys : RunningKms) (names : RunningNames) (tickets tickets' : List Ticket) (notes : List AskNote) (batches : List BatchNote) (replies : List KeptReply) (ticket : Ticket) (number : ℕ) (version : VersionName)
+    → parts keys names tickets notes batches replies ≡ w → Some ticket ≡ ticket_of (keys_of (running keys)) → tickets' ≡ tickets ++ ticket ∷ [] → number ≡ length tickets' → version ≡ ticket.version
+    → GivesTicket (world_of w) (line.Ticket number version ticket.wanted) 0 nothing_acknowledged (world_of (parts keys names tickets' notes batches replies))
+gives-ticket w keys names tickets tickets' notes batches replies ticket number version view given more count is =
+    subst (λ (v : RunningWorld). GivesTicket (world_of v) (line.Ticket number version ticket.wanted) 0 nothing_acknowledged (world_of (parts keys names tickets' notes batches replies))) view
     (record {
       reply_is = (λ i. line.Ticket ((count ∙ more-by-one tickets tickets' ticket more) i) (is i) ticket.wanted) ∙ ap (λ (o : Option Ticket). ticket_line o (length tickets + 1)) given;
       quiet = (refl, refl);
-      left = ap (λ (l : List Ticket). world_of (parts keys names l notes replies)) more ∙ ap (λ (o : Option Ticket). after_ticket o (world_of (parts keys names tickets notes replies))) given;
+      left = ap (λ (l : List Ticket). world_of (parts keys names l notes batches replies)) more ∙ ap (λ (o : Option Ticket). after_ticket o (world_of (parts keys names tickets notes batches replies))) given;
     })
 
 pub ticket-happens : (lines : List PropLine) (d : DiskState) (w w' : RunningWorld) (words : ℕ → ℕ) (now : ℕ) (e : Event) (outcome : Line) → e ≡ event.Ticket → w'.keys ≡ w.keys → w'.names ≡ w.names
@@ -355,20 +505,20 @@ deposit-unknown w w' words o none same =
     (subst (λ (v : RunningWorld). DepositHappens w words None line.Unknown v words) (sym same)
     (record { drawn = 0; acts = record { reply_is = refl; quiet = (refl, refl); same = refl }; rest = λ k. ap words (omega arith); keys = refl; names = refl }))
 
-pub deposited-key : (w : RunningWorld) (words words' : ℕ → ℕ) (keys keys' : RunningKms) (names : RunningNames) (tickets : List Ticket) (notes : List AskNote) (replies : List KeptReply) (ticket : Ticket) (sealed : SealedKey) (answer : Deposit) (n : ℕ)
-    → parts keys names tickets notes replies ≡ w → Some ticket ≡ numbered w.kept.tickets n → sealed ≡ sealed_with ticket words → Drew words words' (words_of_draw (length ticket.material))
+pub deposited-key : (w : RunningWorld) (words words' : ℕ → ℕ) (keys keys' : RunningKms) (names : RunningNames) (tickets : List Ticket) (notes : List AskNote) (batches : List BatchNote) (replies : List KeptReply) (ticket : Ticket) (sealed : SealedKey) (answer : Deposit) (n : ℕ)
+    → parts keys names tickets notes batches replies ≡ w → Some ticket ≡ numbered w.kept.tickets n → sealed ≡ sealed_with ticket words → Drew words words' (words_of_draw (length ticket.material))
     → answer ≡ deposit_answer (keys_of (running keys)) sealed → keys' ≡ record keys { ready = queues_with keys.ready sealed answer }
-    → DepositHappens w words (numbered w.kept.tickets n) (line.Deposit answer) (parts keys' names tickets notes replies) words'
-deposited-key w words words' keys keys' names tickets notes replies ticket sealed answer n view at sealed_is rest is then_is =
-    subst (λ (o : Option Ticket). DepositHappens w words o (line.Deposit answer) (parts keys' names tickets notes replies) words') at
-    (subst (λ (v : RunningWorld). DepositHappens v words (Some ticket) (line.Deposit answer) (parts keys' names tickets notes replies) words') view
+    → DepositHappens w words (numbered w.kept.tickets n) (line.Deposit answer) (parts keys' names tickets notes batches replies) words'
+deposited-key w words words' keys keys' names tickets notes batches replies ticket sealed answer n view at sealed_is rest is then_is =
+    subst (λ (o : Option Ticket). DepositHappens w words o (line.Deposit answer) (parts keys' names tickets notes batches replies) words') at
+    (subst (λ (v : RunningWorld). DepositHappens v words (Some ticket) (line.Deposit answer) (parts keys' names tickets notes batches replies) words') view
     (record {
       drawn = words_of_draw (length ticket.material);
       acts = record {
         reply_is = ap (λ (d : Deposit). line.Deposit d) (is ∙ ap (λ (x : SealedKey). deposit_answer (keys_of (running keys)) x) sealed_is);
         drawn_is = refl;
         none_logged = refl;
-        left = ap (λ (k : RunningKms). world_of (parts k names tickets notes replies)) then_is ∙ ap (λ (d : Deposit). left sealed d) is ∙ ap (λ (x : SealedKey). left x (deposit_answer (keys_of (running keys)) x)) sealed_is;
+        left = ap (λ (k : RunningKms). world_of (parts k names tickets notes batches replies)) then_is ∙ ap (λ (d : Deposit). left sealed d) is ∙ ap (λ (x : SealedKey). left x (deposit_answer (keys_of (running keys)) x)) sealed_is;
       };
       rest = rest;
       keys = then_is ∙ (λ i. record keys { ready = (sym (ap (λ (k : RunningKms). k.ready) then_is)) i });
@@ -376,7 +526,7 @@ deposited-key w words words' keys keys' names tickets notes replies ticket seale
     }))
   where
     left : SealedKey → Deposit → WorldState
-    left x d = world_of (parts (record keys { ready = queues_with keys.ready x d }) names tickets notes replies)
+    left x d = world_of (parts (record keys { ready = queues_with keys.ready x d }) names tickets notes batches replies)
 
 pub deposit-happens : (lines : List PropLine) (d : DiskState) (w w' : RunningWorld) (words words' : ℕ → ℕ) (now : ℕ) (e : Event) (number : ℕ) (outcome : Line) → e ≡ event.Deposit number
     → DepositHappens w words (numbered w.kept.tickets number) outcome w' words' → Happens lines d d w words now e outcome w' words'
@@ -398,12 +548,12 @@ deposit-happens lines d w w' words words' now e number outcome is happens =
 
 -- each event
 
-pub kms-happens : (lines : List PropLine) (old new : DiskState) (w : RunningWorld) (keys keys' : RunningKms) (names : RunningNames) (tickets : List Ticket) (notes : List AskNote) (replies : List KeptReply) (words words' : ℕ → ℕ) (now : ℕ) (e : Event) (user : Text) (c : KmsCall) (reply : KmsReply)
-    → parts keys names tickets notes replies ≡ w → e ≡ event.Kms user c → (AreListsOf keys.acls lines → ActsFor lines user old new keys words now c reply keys' words')
-    → AreListsOf w.keys.acls lines → Happens lines old new w words now e (line.Kms reply) (parts keys' names tickets notes replies) words'
-kms-happens lines old new w keys keys' names tickets notes replies words words' now e user c reply view is served =
-    subst (λ (x : Event). AreListsOf w.keys.acls lines → Happens lines old new w words now x (line.Kms reply) (parts keys' names tickets notes replies) words') (sym is)
-    (subst (λ (v : RunningWorld). AreListsOf v.keys.acls lines → Happens lines old new v words now (event.Kms user c) (line.Kms reply) (parts keys' names tickets notes replies) words') view
+pub kms-happens : (lines : List PropLine) (old new : DiskState) (w : RunningWorld) (keys keys' : RunningKms) (names : RunningNames) (tickets : List Ticket) (notes : List AskNote) (batches : List BatchNote) (replies : List KeptReply) (words words' : ℕ → ℕ) (now : ℕ) (e : Event) (user : Text) (c : KmsCall) (reply : KmsReply)
+    → parts keys names tickets notes batches replies ≡ w → e ≡ event.Kms user c → (AreListsOf keys.acls lines → ActsFor lines user old new keys words now c reply keys' words')
+    → AreListsOf w.keys.acls lines → Happens lines old new w words now e (line.Kms reply) (parts keys' names tickets notes batches replies) words'
+kms-happens lines old new w keys keys' names tickets notes batches replies words words' now e user c reply view is served =
+    subst (λ (x : Event). AreListsOf w.keys.acls lines → Happens lines old new w words now x (line.Kms reply) (parts keys' names tickets notes batches replies) words') (sym is)
+    (subst (λ (v : RunningWorld). AreListsOf v.keys.acls lines → Happens lines old new v words now (event.Kms user c) (line.Kms reply) (parts keys' names tickets notes batches replies) words') view
     (λ lists. let acts = served lists in record {
       drawn = acts.drawn;
       logged = of_keys acts.logged;

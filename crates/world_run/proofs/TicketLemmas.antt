@@ -120,6 +120,7 @@ linked-ticket w h (Some ticket) fit is l = record {
     | inl old ↦ l.tickets other old
     | inr same ↦ subst (TicketLinked w.keys.keys.table w.keys.keys.ready.queues) (sym same) (ticket-linked w.keys.keys ticket fit.table fit.ready is)
   ];
+  batches = record { sent = l.batches.sent; back = l.batches.back };
 }
 
 -- the world after the event
@@ -255,7 +256,7 @@ module _ (w : WorldState) (h : Hidden) (words : ℕ → ℕ) (ticket : Ticket) (
 
   linked-deposit : StaysLinked h (with_ready w (with_sealed w.keys.keys.ready (sealed_with ticket words))) hidden_then
   linked-deposit = (
-    record { files = l.files; replies = l.replies; draws = deposited-draws; ledger = l.ledger; queues = deposited-queues; tickets = deposited-tickets },
+    record { files = l.files; replies = l.replies; draws = deposited-draws; ledger = l.ledger; queues = deposited-queues; tickets = deposited-tickets; batches = l.batches },
     λ apart. apart-with h hidden_then h.queued (λ d. d ≡ new_draw) was-drawn once free (omega arith) apart,
   )
 

@@ -9,16 +9,18 @@ use Rattle.key_rows.specs.Table.{Table}
 use Rattle.kms_core.specs.Draws.{words_of_draw}
 use Rattle.kms_core.specs.State.{IsService, ServiceState, service_after_opening, settled}
 use Rattle.edit_ops.specs.declared.ops.EditOp.{EditOp}
-use Rattle.edit_ops.specs.declared.ops.EditOp.TheVariants.{Opened, Mkdir, File, Remove, Rename, Zone, Allow, Disallow, Snap, Unsnap}
+use Rattle.edit_ops.specs.declared.ops.EditOp.TheVariants.{Opened, Mkdir, File, Remove, Rename, Zone, Allow, Disallow, Snap, Unsnap, Submit, Cancel, Complete}
 use Rattle.name_store.specs.Store.{is_opening}
 use Rattle.name_store.specs.Table.{NameTable, after_table, settled_table}
 use Rattle.name_core.specs.declared.asks.OpenAsk.{OpenAsk}
 use Rattle.name_core.specs.State.{IsNames, IsWaiting, NameService, NameState, next_id, settled as settled_names, started}
+use Rattle.world_run.specs.declared.kept.BatchResult.TheVariants as batch_result
 use Rattle.world_run.specs.declared.kept.KeptReply.{KeptReply}
-use Rattle.world_run.specs.World.{WorldState, with_note, with_reply}
+use Rattle.world_run.specs.declared.kept.KeptReply.TheVariants.{ToAsk, ToBatch}
+use Rattle.world_run.specs.World.{Kept, WorldState, with_note, with_reply}
 use Rattle.world_run.specs.Ledger.{Draw, Hidden, Ledger, behind_words, drawn_before, left_in, moved_on, past_of}
 use Rattle.world_run.specs.Promise.{Apart, In}
-use Rattle.world_run.specs.Linked.{DrawsFit, FilesLinked, IsDrawn, IsOldBirth, IsRising, KeyLinked, LedgerFits, LinkedWorld, Pairs, QueuesLinked, ReadyLinked, RepliesLinked, Replied, TicketLinked, TicketsLinked, WordsApart, key_in_reply}
+use Rattle.world_run.specs.Linked.{BatchesLinked, DrawsFit, FilesLinked, HasDraw, IsDrawn, IsOldBirth, IsRising, KeyLinked, LedgerFits, LinkedWorld, Pairs, QueuesLinked, ReadyLinked, RepliesLinked, Replied, ReplyCameBack, TicketLinked, TicketsLinked, WordsApart, key_in_reply}
 use Rattle.world_run.proofs.Laters.{KeysLater, LaterAt, draw-later, later-opened, later-settled, opens-later, then-later}
 use Rattle.world_run.proofs.Members.{in-more, numbered-in, numbered-more, numbered-within, some-is}
 use Rattle.world_run.proofs.PairLemmas.{drop-as-many, first-once, in-drop, pairs-drop, pairs-long, pairs-then, pairs-with, rising-drop}
@@ -115,19 +117,23 @@ queues-moved h IsBirth olds rows before after drawn f later shrinks q =
 
 -- keys that change, and words that are drawn
 
+has-later : (h : Hidden) (IsBirth : ℕ → Type 0) (olds keys : List KeyRow) (id : ℕ) (e : Edek) → DrawsFit h IsBirth → ((b : ℕ) → IsBirth b → LaterAt olds keys b) → HasDraw h.ledger olds id e → HasDraw h.ledger keys id e
+has-later h IsBirth olds keys id e draws later d =
+    record { draw = d.draw; entered = d.entered; of_key = d.of_key; opens = opens-later olds keys d.draw e (later d.draw.birth (draws.born d.draw (inl (id, d.entered)))) d.opens }
+
 pub files-later : (h : Hidden) (IsBirth : ℕ → Type 0) (olds keys : List KeyRow) (names : NameTable) → DrawsFit h IsBirth → ((b : ℕ) → IsBirth b → LaterAt olds keys b) → FilesLinked h.ledger olds names → FilesLinked h.ledger keys names
 files-later h IsBirth olds keys names draws later f =
-    record {
-      files = λ row e i is.
-          let d = f.files row e i is in
-          record {
-            draw = d.draw;
-            entered = d.entered;
-            of_key = d.of_key;
-            opens = opens-later olds keys d.draw e (later d.draw.birth (draws.born d.draw (inl (row.id, d.entered)))) d.opens;
-          };
-      zones = f.zones;
-    }
+    record { files = λ row e i is. has-later h IsBirth olds keys row.id e draws later (f.files row e i is); zones = f.zones; statuses = f.statuses }
+
+reply-later : (h : Hidden) (IsBirth : ℕ → Type 0) (olds keys : List KeyRow) (r : KeptReply) → DrawsFit h IsBirth → ((b : ℕ) → IsBirth b → LaterAt olds keys b) → ReplyCameBack h.ledger olds r → ReplyCameBack h.ledger keys r
+reply-later h IsBirth olds keys (ToAsk id answer) draws later back = tt
+reply-later h IsBirth olds keys (ToBatch batch (batch_result.Refused why)) draws later back = tt
+reply-later h IsBirth olds keys (ToBatch batch (batch_result.Ready edeks)) draws later back = λ place x e sent got.
+    let was = back place x e sent got in record { of_key = was.of_key; has = has-later h IsBirth olds keys x.id e draws later was.has }
+
+batches-later : (h : Hidden) (IsBirth : ℕ → Type 0) (olds keys : List KeyRow) (kept : Kept) → DrawsFit h IsBirth → ((b : ℕ) → IsBirth b → LaterAt olds keys b) → BatchesLinked h.ledger olds kept → BatchesLinked h.ledger keys kept
+batches-later h IsBirth olds keys kept draws later l =
+    record { sent = λ batch x i j. has-later h IsBirth olds keys x.id x.edek draws later (l.sent batch x i j); back = λ r i. reply-later h IsBirth olds keys r draws later (l.back r i) }
 
 replies-later : (h : Hidden) (IsBirth : ℕ → Type 0) (olds keys : List KeyRow) (replies : List KeptReply) → DrawsFit h IsBirth → ((b : ℕ) → IsBirth b → LaterAt olds keys b)
     → RepliesLinked olds replies h.replied → RepliesLinked keys replies h.replied
@@ -175,6 +181,7 @@ linked-keys w h keys drawn later l =
       ledger = l.ledger;
       queues = queues-moved h IsBirth olds rows before after drawn l.draws later.keys.rows later.shrinks l.queues;
       tickets = tickets-later w.keys.keys.table keys.keys.table before after w.kept.tickets later l.tickets;
+      batches = batches-later h IsBirth olds rows w.kept l.draws later.keys.rows l.batches;
     }
 
 -- words are drawn, and the queues are the same
@@ -187,6 +194,7 @@ linked-words w h drawn l =
       ledger = l.ledger;
       queues = record { opens = l.queues.opens; rising = l.queues.rising; not_replied = l.queues.not_replied; not_entered = l.queues.not_entered };
       tickets = l.tickets;
+      batches = l.batches;
     }
 
 pub linked-still : (w : WorldState) (h : Hidden) (drawn : ℕ) → LinkedWorld w h → StillLinked w h drawn w
@@ -227,6 +235,9 @@ same-opening t (Allow p) h = refl
 same-opening t (Disallow p) h = refl
 same-opening t (Snap p name) h = refl
 same-opening t (Unsnap p name) h = refl
+same-opening t (Submit session p noted) h = refl
+same-opening t (Cancel session) h = refl
+same-opening t (Complete session) h = refl
 
 -- the next id after an operation that is not an opening
 pub next-after : (s : NameState) (op : EditOp) → is_opening op ≡ false → next_id (record s { table = after_table s.table op }) ≡ next_id s
@@ -252,12 +263,12 @@ ledger-more ledger replies replied asks next more over f =
 
 pub linked-names : (w : WorldState) (h : Hidden) (names : NameService) → ((kept : Bool) → FilesLinked h.ledger w.keys.keys.table.rows (settled_names kept names).table)
     → LedgerFits h.ledger w.kept.replies h.replied names.names.asks (next_id names.names) → LinkedWorld w h → LinkedWorld (record w { names = names }) h
-linked-names w h names files fits l = record { files = files; replies = l.replies; draws = l.draws; ledger = fits; queues = l.queues; tickets = l.tickets }
+linked-names w h names files fits l = record { files = files; replies = l.replies; draws = l.draws; ledger = fits; queues = l.queues; tickets = l.tickets; batches = l.batches }
 
 -- the one that a start finds, with the pending operation kept or dropped
-pub linked-reopened : (w : WorldState) (h : Hidden) (kept : Bool) (table : NameTable) → table ≡ (settled_names kept w.names).table → IsNames w.names → LinkedWorld w h → LinkedWorld (record w { names = started table }) h
+pub linked-reopened : (w : WorldState) (h : Hidden) (kept : Bool) (table : NameTable) → table ≡ (settled_names kept w.names).table → IsNames w.names → LinkedWorld w h → LinkedWorld (record w { names = started w.names.names.batch table }) h
 linked-reopened w h kept table is fit l =
-    linked-names w h (started table) (λ again. files-opened h.ledger w.keys.keys.table.rows table (table.opening + 1) (subst (FilesLinked h.ledger w.keys.keys.table.rows) (sym is) (l.files kept))) (
+    linked-names w h (started w.names.names.batch table) (λ again. files-opened h.ledger w.keys.keys.table.rows table (table.opening + 1) (subst (FilesLinked h.ledger w.keys.keys.table.rows) (sym is) (l.files kept))) (
     record {
       one_draw = l.ledger.one_draw;
       one_file = l.ledger.one_file;
@@ -302,6 +313,7 @@ linked-ask w h q names table asks next new l =
           (asks-more h.ledger w.kept.replies h.replied w.names.names.asks q (next_id w.names.names) new l.ledger));
       queues = l.queues;
       tickets = l.tickets;
+      batches = record { sent = l.batches.sent; back = l.batches.back };
     }
 
 -- a new draw, and a draw that leaves its queue
@@ -398,6 +410,7 @@ pub record NewReply (h : Hidden) (left : ℕ → List Draw) (place : ℕ) (keys 
   pub free : (d : Draw) → o ≡ Some d → IsFree h left place d
   pub born : (d : Draw) → o ≡ Some d → IsOldBirth keys d.birth
   pub recent : (d : Draw) → o ≡ Some d → 2 ^ 32 ≤ d.birth
+  pub back : ReplyCameBack h.ledger keys.rows r
 
 abbrev pub AfterReply : Hidden → List Queue → List Queue → ℕ → Option Draw → Hidden
 AfterReply h before after drawn o = record (moved_on before after drawn h) { replied = h.replied ++ o ∷ [] }
@@ -491,4 +504,8 @@ module _ (w : WorldState) (h : Hidden) (keys : ServiceState) (drawn : ℕ) (r : 
         ledger = ledger-reply l.replies l.ledger;
         queues = queues-reply m.queues;
         tickets = m.tickets;
+        batches = record {
+          sent = m.batches.sent;
+          back = λ q i. elim (in-more q r w.kept.replies i) [ inl old ↦ m.batches.back q old | inr is ↦ subst (ReplyCameBack h.ledger keys.keys.table.rows) (sym is) n.back ];
+        };
       }

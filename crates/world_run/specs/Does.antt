@@ -16,14 +16,16 @@ use Rattle.eek_seal.specs.declared.tickets.Ticket.{Ticket}
 use Rattle.name_calls.specs.declared.calls.AskNote.{AskNote}
 use Rattle.name_calls.specs.declared.calls.NameCall.{NameCall}
 use Rattle.name_calls.specs.declared.calls.Want.{Want}
+use Rattle.name_calls.specs.declared.paths.NPath.{NPath}
+use Rattle.reenc_walk.specs.declared.sent.BatchNote.{BatchNote}
 use Rattle.name_core.specs.Service.{Logs as NameLogs}
 use Rattle.hk_events.specs.declared.event.Event.{Event}
 use Rattle.hk_events.specs.declared.event.Line.{Line}
 use Rattle.world_run.specs.declared.kept.KeptReply.{KeptReply}
 use Rattle.world_run.specs.Acknowledged.{Acknowledged, nothing_acknowledged, of_keys, of_names}
-use Rattle.world_run.specs.Step.{DepositActs, DrawActs, FinishReply, NamesAct, PathActs, Step, WantActs}
-use Rattle.world_run.specs.Own.{OwnKeysOfEvent, OwnOfEvent, OwnOfNamesCall, OwnOfPath, OwnOfReply}
-use Rattle.world_run.specs.World.{RunningWorld, world_of}
+use Rattle.world_run.specs.Step.{DepositActs, DrawActs, FinishReply, NamesAct, PathActs, ServeActs, Step, WalkAt, WantActs}
+use Rattle.world_run.specs.Own.{OwnKeysOfEvent, OwnOfEvent, OwnOfNamesCall, OwnOfPath, OwnOfReply, OwnOfWalkAt}
+use Rattle.world_run.specs.World.{RunningWorld, next_batch, world_of}
 
 -- The key log grew by the acknowledged commands, and the namesystem is unchanged.
 pub record OnKeys (old new : DiskState) (r r' : RunningWorld) (own : Bool → KeyCommand → Type 0) (logged : Acknowledged) : Type 0 where
@@ -71,6 +73,18 @@ abbrev pub FinishHappens : DiskState → DiskState → RunningWorld → Option K
 FinishHappens old new r reply result r' =
     (words : ℕ → ℕ) → Does old new r r' words words NoCommand (OwnOfReply (world_of r).names reply result (world_of r').names)
     (λ drawn logged. FinishReply (world_of r) reply (Rose old.faults new.faults) result drawn logged (world_of r'))
+
+-- a walk
+
+abbrev pub WalkHappens : DiskState → DiskState → RunningWorld → Option NPath → Line → RunningWorld → Type 0
+WalkHappens old new r path result r' =
+    (words : ℕ → ℕ) → Does old new r r' words words NoCommand (OwnOfWalkAt (world_of r).names path (next_batch (world_of r)) result (world_of r').names)
+    (λ drawn logged. WalkAt (world_of r) path (Rose old.faults new.faults) result drawn logged (world_of r'))
+
+-- the call for a batch; it writes nothing of its own
+abbrev pub ServeHappens : List PropLine → DiskState → DiskState → RunningWorld → (ℕ → ℕ) → ℕ → Option BatchNote → Line → RunningWorld → (ℕ → ℕ) → Type 0
+ServeHappens lines old new r words now batch result r' words' =
+    Does old new r r' words words' NoCommand NothingMore (λ drawn logged. ServeActs lines (world_of r) words now batch (Rose old.faults new.faults) result drawn logged (world_of r'))
 
 -- the parts of a draw
 

@@ -1,4 +1,4 @@
--- What is stored nowhere: which data encryption key was drawn for which file.
+-- What is stored nowhere: which data encryption key was drawn for which file, and which showed the version noted by a re-encryption.
 use Rattle.std.specs.Prelude.{ℕ, ◌+◌, ◌-◌, ◌==◌, if◌then◌else◌, drop, Bool, true, false, List, [], ◌∷◌, ◌++◌, length, Option, None, Some}
 use Rattle.hk_base.specs.declared.names.Dek.{Dek}
 use Rattle.hk_base.specs.declared.names.Iv.{Iv}
@@ -14,7 +14,7 @@ use Rattle.kms_core.specs.State.{KmsState}
 use Rattle.kms_core.specs.Calls.{birth_of, current_material, current_version, row_of}
 use Rattle.name_calls.specs.declared.calls.AskNote.{AskNote}
 use Rattle.edit_ops.specs.declared.ops.EditOp.{EditOp}
-use Rattle.edit_ops.specs.declared.ops.EditOp.TheVariants.{File}
+use Rattle.edit_ops.specs.declared.ops.EditOp.TheVariants.{File, Submit}
 use Rattle.name_core.specs.State.{NameService}
 use Rattle.name_calls.specs.declared.calls.NameReply.TheVariants.{Done}
 use Rattle.name_calls.specs.declared.calls.NameRefusal.TheVariants.{StoreFault}
@@ -25,7 +25,7 @@ use Rattle.hk_events.specs.declared.event.Event.TheVariants as event
 use Rattle.hk_events.specs.declared.event.Line.{Line}
 use Rattle.hk_events.specs.declared.event.Line.TheVariants as line
 use Rattle.world_run.specs.declared.kept.KeptReply.{KeptReply}
-use Rattle.world_run.specs.declared.kept.KeptReply.TheVariants.{ToAsk}
+use Rattle.world_run.specs.declared.kept.KeptReply.TheVariants.{ToAsk, ToBatch}
 use Rattle.world_run.specs.World.{WorldState, numbered}
 
 -- A data encryption key that was drawn: where its words begin in the stream of random words, the birth and the version
@@ -41,14 +41,14 @@ abbrev pub Ledger : Type 0
 Ledger = List (ℕ × Draw)
 
 -- the number of words drawn so far; for each birth the draws of the ready keys in its queue, in order; for each kept reply the draw
--- of its key, if it has one; and which draw the file of each id got
+-- of its key, if it has one; and which draw the file or the re-encryption of each id got
 pub record Hidden : Type 0 where
   pub place : ℕ
   pub queued : ℕ → List Draw
   pub replied : List (Option Draw)
   pub ledger : Ledger
 
--- what is hidden of earlier runs: which draw the file of each id got, and the number of words drawn by then
+-- what is hidden of earlier runs: which draw the file or the re-encryption of each id got, and the number of words drawn by then
 pub record Past : Type 0 where
   pub ledger : Ledger
   pub place : ℕ
@@ -120,19 +120,21 @@ abbrev pub entry_of : Option KeptReply → Option (Option Draw) → Ledger
 entry_of (Some (ToAsk id answer)) (Some drawn) = entry_under id drawn
 entry_of _ _ = []
 
--- the operation makes the file of this id
-abbrev pub makes_file : ℕ → Option EditOp → Bool
-makes_file id (Some (File made path edek)) = made == id
-makes_file id _ = false
+-- the operation makes the file of this id, or begins the re-encryption of this id
+abbrev pub makes_entry : ℕ → Option EditOp → Bool
+makes_entry id (Some (File made path edek)) = made == id
+makes_entry id (Some (Submit session path noted)) = session == id
+makes_entry id _ = false
 
 abbrev pub id_of_reply : Option KeptReply → ℕ
 id_of_reply None = 0
 id_of_reply (Some (ToAsk id answer)) = id
+id_of_reply (Some (ToBatch batch answer)) = 0
 
--- A finish enters its draw if it is done, and if the disk failed at its record: the file is pending then.
+-- A finish enters its draw if it is done, and if the disk failed at its record: the file, or the re-encryption, is pending then.
 abbrev pub enters : ℕ → Line → NameService → Bool
 enters id (line.Name Done) left = true
-enters id (line.Refused StoreFault) left = makes_file id left.pending
+enters id (line.Refused StoreFault) left = makes_entry id left.pending
 enters id _ left = false
 
 abbrev pub entered : Bool → Ledger → Ledger
@@ -148,7 +150,8 @@ abbrev pub moved_on : List Queue → List Queue → ℕ → Hidden → Hidden
 moved_on before after drawn h = record (behind_words drawn h) { queued = left_in before after h.queued }
 
 -- What is hidden after an event with this answer, and this world after it: a draw keeps what was drawn for its reply, a finish
--- enters the draw of the reply that it used, if it enters one, and a deposit that is kept queues its draw.
+-- enters the draw of the reply that it used, if it enters one, and a deposit that is kept queues its draw. The reply to the call for a
+-- batch has no draw.
 abbrev pub hidden_after : WorldState → (ℕ → ℕ) → Event → Line → ℕ → WorldState → Hidden → Hidden
 hidden_after w words (event.Draw number) (line.Replied n result) drawn w' h =
     record (moved_on w.keys.keys.ready.queues w'.keys.keys.ready.queues drawn h) { replied = h.replied ++ draw_noted w.keys.keys words h (numbered w.kept.notes number) result ∷ [] }
@@ -159,4 +162,6 @@ hidden_after w words (event.Finish number) result drawn w' h =
     record (moved_on w.keys.keys.ready.queues w'.keys.keys.ready.queues drawn h) {
       ledger = h.ledger ++ entered (enters (id_of_reply kept) result w'.names) (entry_of kept (numbered h.replied number));
     }
+hidden_after w words (event.Serve number) (line.Replied n result) drawn w' h =
+    record (moved_on w.keys.keys.ready.queues w'.keys.keys.ready.queues drawn h) { replied = h.replied ++ None ∷ [] }
 hidden_after w words _ _ drawn w' h = moved_on w.keys.keys.ready.queues w'.keys.keys.ready.queues drawn h

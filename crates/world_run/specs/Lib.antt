@@ -1,4 +1,5 @@
 pub mod Acknowledged
+pub mod Batches
 pub mod Does
 pub mod Keeps
 pub mod Ledger

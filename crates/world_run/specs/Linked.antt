@@ -3,6 +3,7 @@ use Rattle.std.specs.Prelude.{◌≡◌, ◌⊎◌, ◌+◌, ◌*◌, ◌^◌, �
 use Rattle.std.specs.List.{AllByRecursion}
 use Rattle.hk_base.specs.Disk.{DiskState, Image, IsImage}
 use Rattle.hk_base.specs.declared.names.Edek.{Edek}
+use Rattle.hk_base.specs.declared.names.VersionName.{VersionName}
 use Rattle.eek_queues.specs.Queues.{Queue, has_queue, ready_in}
 use Rattle.eek_seal.specs.declared.tickets.Ticket.{Ticket}
 use Rattle.inode_tree.specs.declared.rows.Row.{Row}
@@ -22,8 +23,12 @@ use Rattle.name_calls.specs.declared.calls.KeyAnswer.{KeyAnswer}
 use Rattle.name_calls.specs.declared.calls.KeyAnswer.TheVariants.{Given, Refused}
 use Rattle.name_core.specs.State.{IsNames, next_id, settled as settled_names}
 use Rattle.world_run.specs.declared.kept.KeptReply.{KeptReply}
-use Rattle.world_run.specs.declared.kept.KeptReply.TheVariants.{ToAsk}
-use Rattle.world_run.specs.World.{WorldState, numbered}
+use Rattle.world_run.specs.declared.kept.KeptReply.TheVariants.{ToAsk, ToBatch}
+use Rattle.world_run.specs.declared.kept.BatchResult.TheVariants as batch_result
+use Rattle.reenc_walk.specs.declared.sent.BatchNote.{BatchNote}
+use Rattle.reenc_walk.specs.declared.sent.Sent.{Sent}
+use Rattle.zone_table.specs.declared.statuses.StatusRow.{StatusRow}
+use Rattle.world_run.specs.World.{Kept, WorldState, numbered}
 use Rattle.world_run.specs.Ledger.{Draw, Hidden, Ledger, Past, drawn_before}
 use Rattle.world_run.specs.Promise.{Apart, FilesApart, FitsZone, In, edek_of}
 
@@ -43,10 +48,20 @@ pub record HasDraw (ledger : Ledger) (rows : List KeyRow) (id : ℕ) (e : Edek) 
   pub of_key : e.version.key ≡ draw.version.key
   pub opens : OpensTo rows draw e
 
--- each file that the table keeps has a draw, and each live entry fits its zone
+-- the re-encryption of this id has a draw, and notes its version
+pub record HasNoted (ledger : Ledger) (session : ℕ) (noted : VersionName) : Type 0 where
+  pub draw : Draw
+  pub entered : In (session, draw) ledger
+  pub noted_is : noted ≡ draw.version
+
+abbrev pub StatusesLinked : Ledger → List StatusRow → Type 0
+StatusesLinked ledger statuses = (s : StatusRow) → In s statuses → HasNoted ledger s.session s.noted
+
+-- each file that the table keeps has a draw, each live entry fits its zone, and each re-encryption has a draw
 pub record FilesLinked (ledger : Ledger) (keys : List KeyRow) (names : NameTable) : Type 0 where
   pub files : (row : Row) (e : Edek) → In row (kept_rows names) → edek_of row.kind ≡ Some e → HasDraw ledger keys row.id e
   pub zones : (x : Entry) → In x names.rows → FitsZone (key_of_zone names.rows x.path) x.row.kind
+  pub statuses : StatusesLinked ledger names.statuses
 
 -- the key of a kept reply, and its draw
 abbrev pub KeyLinked : List KeyRow → Option Edek → Option Draw → Type 0
@@ -62,10 +77,12 @@ given (Given edek) = edek
 -- the encrypted key that a kept reply gives, if it gives one
 abbrev pub key_in_reply : KeptReply → Option Edek
 key_in_reply (ToAsk id answer) = given answer
+key_in_reply (ToBatch batch answer) = None
 
 -- the reply is to the ask of this id
 abbrev pub IsReplyTo : ℕ → KeptReply → Type 0
 IsReplyTo id (ToAsk ask_id answer) = ask_id ≡ id
+IsReplyTo id (ToBatch batch answer) = ⊥
 
 -- a reply and its draw, if it has one, kept under one number
 abbrev pub Replied : List KeptReply → List (Option Draw) → KeptReply → Option Draw → Type 0
@@ -155,6 +172,23 @@ pub record TicketLinked (keys : Table) (queues : List Queue) (t : Ticket) : Type
 abbrev pub TicketsLinked : Table → List Queue → List Ticket → Type 0
 TicketsLinked keys queues tickets = (t : Ticket) → In t tickets → TicketLinked keys queues t
 
+-- an encrypted key that came back for a file, under the same key as the one that was sent: it is that of the file's draw
+pub record CameBack (ledger : Ledger) (keys : List KeyRow) (x : Sent) (e : Edek) : Type 0 where
+  pub of_key : e.version.key ≡ x.edek.version.key
+  pub has : HasDraw ledger keys x.id e
+
+-- each key of a reply to the call for a batch came back for the file at its place
+abbrev pub ReplyCameBack : Ledger → List KeyRow → KeptReply → Type 0
+ReplyCameBack ledger keys (ToAsk id answer) = ⊤
+ReplyCameBack ledger keys (ToBatch batch (batch_result.Refused why)) = ⊤
+ReplyCameBack ledger keys (ToBatch batch (batch_result.Ready edeks)) =
+    (place : ℕ) (x : Sent) (e : Edek) → slice_get batch.sent place ≡ Some x → slice_get edeks place ≡ Some e → CameBack ledger keys x e
+
+-- the encrypted keys of kept batches, and those that came back for them
+pub record BatchesLinked (ledger : Ledger) (keys : List KeyRow) (kept : Kept) : Type 0 where
+  pub sent : (batch : BatchNote) (x : Sent) → In batch kept.batches → In x batch.sent → HasDraw ledger keys x.id x.edek
+  pub back : (r : KeptReply) → In r kept.replies → ReplyCameBack ledger keys r
+
 -- From event to event, with and without the pending operation of the namesystem.
 pub record LinkedWorld (w : WorldState) (h : Hidden) : Type 0 where
   pub files : (kept : Bool) → FilesLinked h.ledger w.keys.keys.table.rows (settled_names kept w.names).table
@@ -163,6 +197,7 @@ pub record LinkedWorld (w : WorldState) (h : Hidden) : Type 0 where
   pub ledger : LedgerFits h.ledger w.kept.replies h.replied w.names.names.asks (next_id w.names.names)
   pub queues : QueuesLinked w.keys.keys.table.rows w.keys.keys.ready.queues h
   pub tickets : TicketsLinked w.keys.keys.table w.keys.keys.ready.queues w.kept.tickets
+  pub batches : BatchesLinked h.ledger w.keys.keys.table.rows w.kept
 
 -- What is true of two tables that are found in the files, while nothing is kept: files are linked, the births of the ledger are of
 -- openings that the key log records, and its ids of openings that the edit log records.

@@ -16,19 +16,23 @@ use Rattle.name_calls.specs.declared.calls.NameCall.{NameCall}
 use Rattle.name_calls.specs.declared.calls.NameCall.TheVariants as call
 use Rattle.name_calls.specs.declared.calls.NameRefusal.{NameRefusal}
 use Rattle.name_calls.specs.declared.calls.NameReply.{NameReply}
+use Rattle.name_calls.specs.declared.paths.NPath.{NPath}
+use Rattle.name_core.specs.declared.walks.Walked.{Walked}
 use Rattle.name_core.specs.Service.{OwnOf, OwnOfFinish}
+use Rattle.name_core.specs.Walking.{OwnOfWalk}
 use Rattle.name_core.specs.State.{NameService}
 use Rattle.hk_events.specs.declared.event.Event.{Event}
 use Rattle.hk_events.specs.declared.event.Event.TheVariants as event
 use Rattle.hk_events.specs.declared.event.Line.{Line}
 use Rattle.hk_events.specs.declared.event.Line.TheVariants as line
 use Rattle.world_run.specs.declared.kept.KeptReply.{KeptReply}
-use Rattle.world_run.specs.declared.kept.KeptReply.TheVariants.{ToAsk}
+use Rattle.world_run.specs.declared.kept.KeptReply.TheVariants.{ToAsk, ToBatch}
 use Rattle.world_run.specs.Acknowledged.{Acknowledged, Survives}
+use Rattle.world_run.specs.Batches.{walk_line}
 use Rattle.world_run.specs.RenamePaths.{read_rename_paths, rename_along}
 use Rattle.world_run.specs.SnapPaths.{read_snap_path, snap_at, unsnap_at}
 use Rattle.world_run.specs.Step.{delete_with, finish_line}
-use Rattle.world_run.specs.World.{WorldState, numbered}
+use Rattle.world_run.specs.World.{WorldState, next_batch, numbered}
 
 -- the key log
 
@@ -73,6 +77,17 @@ pub record OwnOfFinishedAsk (s : NameService) (id : ℕ) (answer : KeyAnswer) (o
 abbrev pub OwnOfReply : NameService → Option KeptReply → Line → NameService → Bool → EditOp → Type 0
 OwnOfReply s None outcome s' kept op = ⊥
 OwnOfReply s (Some (ToAsk id answer)) outcome s' kept op = OwnOfFinishedAsk s id answer outcome s' kept op
+OwnOfReply s (Some (ToBatch batch answer)) outcome s' kept op = ⊥
+
+-- the operation that a walk of the zone at a path may write there with this answer, if its batch would be kept under this number
+pub record OwnOfWalked (s : NameService) (path : NPath) (number : ℕ) (outcome : Line) (s' : NameService) (kept : Bool) (op : EditOp) : Type 0 where
+  pub result : Result Walked NameRefusal
+  pub reply_is : outcome ≡ walk_line result number
+  pub own : OwnOfWalk s path result s' kept op
+
+abbrev pub OwnOfWalkAt : NameService → Option NPath → ℕ → Line → NameService → Bool → EditOp → Type 0
+OwnOfWalkAt s None number outcome s' kept op = ⊥
+OwnOfWalkAt s (Some path) number outcome s' kept op = OwnOfWalked s path number outcome s' kept op
 
 -- the operation that an event with this answer, and this world after it, may write there
 abbrev pub OwnOfEvent : WorldState → Event → Line → WorldState → Bool → EditOp → Type 0
@@ -90,11 +105,16 @@ OwnOfEvent w (event.Allow user path) outcome w' kept op = OwnOfPath w.names call
 OwnOfEvent w (event.Disallow user path) outcome w' kept op = OwnOfPath w.names call.Disallow (read_path path) outcome w'.names kept op
 OwnOfEvent w (event.Snap user path name) outcome w' kept op = OwnOfPath w.names snap_at (read_snap_path path name) outcome w'.names kept op
 OwnOfEvent w (event.Unsnap user path name) outcome w' kept op = OwnOfPath w.names unsnap_at (read_snap_path path name) outcome w'.names kept op
+OwnOfEvent w (event.Cancel user path) outcome w' kept op = OwnOfPath w.names call.Cancel (read_path path) outcome w'.names kept op
+OwnOfEvent w (event.Status user path) outcome w' kept op = OwnOfPath w.names call.Status (read_path path) outcome w'.names kept op
 OwnOfEvent w (event.Zones user) outcome w' kept op = OwnOfNamesCall w.names call.Zones outcome w'.names kept op
 OwnOfEvent w (event.AskCreate user path) outcome w' kept op = NothingMore kept op
 OwnOfEvent w (event.AskZone user path key) outcome w' kept op = NothingMore kept op
+OwnOfEvent w (event.AskSubmit user path) outcome w' kept op = NothingMore kept op
 OwnOfEvent w (event.Draw number) outcome w' kept op = NothingMore kept op
 OwnOfEvent w (event.Finish number) outcome w' kept op = OwnOfReply w.names (numbered w.kept.replies number) outcome w'.names kept op
+OwnOfEvent w (event.Walk path) outcome w' kept op = OwnOfWalkAt w.names (read_path path) (next_batch w) outcome w'.names kept op
+OwnOfEvent w (event.Serve number) outcome w' kept op = NothingMore kept op
 
 -- and a restart that failed
 abbrev pub OwnOfRestart : Event → Bool → EditOp → Type 0

@@ -39,17 +39,21 @@ use Rattle.kms_core.specs.Ready.{deposit_answer, deposited, ticket_of}
 use Rattle.name_core.specs.Asks.{Asks}
 use Rattle.name_core.specs.Calls.{superuser}
 use Rattle.name_core.specs.Service.{FinishServes, NameServes}
+use Rattle.name_core.specs.Walking.{WalkServes}
 use Rattle.name_core.specs.State.{NameService, NameState, settled as settled_names, started}
+use Rattle.name_core.specs.declared.walks.Walked.{Walked}
+use Rattle.reenc_walk.specs.declared.sent.BatchNote.{BatchNote}
 use Rattle.hk_events.specs.declared.event.Event.{Event}
 use Rattle.hk_events.specs.declared.event.Event.TheVariants as event
 use Rattle.hk_events.specs.declared.event.Line.{Line}
 use Rattle.hk_events.specs.declared.event.Line.TheVariants as line
 use Rattle.world_run.specs.declared.kept.KeptReply.{KeptReply}
-use Rattle.world_run.specs.declared.kept.KeptReply.TheVariants.{ToAsk}
+use Rattle.world_run.specs.declared.kept.KeptReply.TheVariants.{ToAsk, ToBatch}
 use Rattle.world_run.specs.Acknowledged.{Acknowledged, nothing_acknowledged, of_keys, of_names}
+use Rattle.world_run.specs.Batches.{after_walk, batch_call, result_of, walk_line}
 use Rattle.world_run.specs.RenamePaths.{read_rename_paths, rename_along}
 use Rattle.world_run.specs.SnapPaths.{read_snap_path, snap_at, unsnap_at}
-use Rattle.world_run.specs.World.{WorldState, next_note, next_reply, next_ticket, numbered, with_names, with_note, with_reply, with_ticket}
+use Rattle.world_run.specs.World.{WorldState, next_batch, next_note, next_reply, next_ticket, numbered, with_names, with_note, with_reply, with_ticket}
 
 -- no word is drawn, and nothing is acknowledged
 abbrev pub IsQuiet : ℕ → Acknowledged → Type 0
@@ -89,7 +93,8 @@ pub record RecoversNames (s : NameService) (table : NameTable) (ops : List EditO
   pub table_is : table ≡ (settled_names kept s).table
   pub ops_are : ops ≡ settled_ops kept s.pending ++ next_opening_of_names table ∷ []
 
--- The namesystem is dropped, and opened again from its log: no ask is open then. All else stays.
+-- The namesystem is dropped, and opened again from its log with batches of the same size: no ask is open then, and no walk has begun. All
+-- else stays.
 pub record RestartsNames (w : WorldState) (tells : Type 0) (outcome : Line) (drawn : ℕ) (logged : Acknowledged) (w' : WorldState) : Type 0 where
   pub table : NameTable
   pub ops : List EditOp
@@ -97,7 +102,7 @@ pub record RestartsNames (w : WorldState) (tells : Type 0) (outcome : Line) (dra
   pub logged_is : logged ≡ of_names ops
   pub reply_is : outcome ≡ line.Opened (table.opening + 1)
   pub none_drawn : drawn ≡ 0
-  pub left : w' ≡ record w { names = started table }
+  pub left : w' ≡ record w { names = started w.names.names.batch table }
 
 -- a call of the namesystem leaves the key management service unchanged, and draws nothing
 pub record NamesAct (w : WorldState) (user : Text) (c : NameCall) (fault : Type 0) (outcome : Line) (drawn : ℕ) (logged : Acknowledged) (w' : WorldState) : Type 0 where
@@ -134,7 +139,7 @@ pub record IsUnknown (w : WorldState) (outcome : Line) (drawn : ℕ) (logged : A
   pub quiet : IsQuiet drawn logged
   pub same : w' ≡ w
 
--- an ask or a finish is refused, and nothing changes
+-- an ask, a finish or a walk is refused, and nothing changes
 pub record Refuses (w : WorldState) (why : NameRefusal) (outcome : Line) (w' : WorldState) : Type 0 where
   pub reply_is : outcome ≡ line.Refused why
   pub same : w' ≡ w
@@ -222,9 +227,46 @@ pub record FinishActs (w : WorldState) (id : ℕ) (answer : KeyAnswer) (fault : 
   pub none_drawn : drawn ≡ 0
   pub left : w' ≡ record w { names = names }
 
+-- the ask that a kept reply answers, and what the reply means for it
+abbrev pub ask_of : KeptReply → Option (ℕ × KeyAnswer)
+ask_of (ToAsk id answer) = Some (id, answer)
+ask_of (ToBatch batch answer) = None
+
 abbrev pub FinishReply : WorldState → Option KeptReply → Type 0 → Line → ℕ → Acknowledged → WorldState → Type 0
 FinishReply w None fault outcome drawn logged w' = IsUnknown w outcome drawn logged w'
 FinishReply w (Some (ToAsk id answer)) fault outcome drawn logged w' = FinishActs w id answer fault outcome drawn logged w'
+FinishReply w (Some (ToBatch batch answer)) fault outcome drawn logged w' = IsUnknown w outcome drawn logged w'
+
+-- a walk of the zone at a path, whose batch is kept
+
+pub record Walks (w : WorldState) (path : NPath) (fault : Type 0) (outcome : Line) (drawn : ℕ) (logged : Acknowledged) (w' : WorldState) : Type 0 where
+  pub result : Result Walked NameRefusal
+  pub names : NameService
+  pub ops : List EditOp
+  pub walks : WalkServes w.names path fault result ops names
+  pub logged_is : logged ≡ of_names ops
+  pub reply_is : outcome ≡ walk_line result (next_batch w)
+  pub none_drawn : drawn ≡ 0
+  pub left : w' ≡ after_walk result (record w { names = names })
+
+-- the path as it was given; there may be no memory for the path or for keeping a batch
+abbrev pub WalkAt : WorldState → Option NPath → Type 0 → Line → ℕ → Acknowledged → WorldState → Type 0
+WalkAt w None fault outcome drawn logged w' = IsQuiet drawn logged × Refuses w refusal.BadPath outcome w'
+WalkAt w (Some path) fault outcome drawn logged w' = Walks w path fault outcome drawn logged w' ⊎ (IsQuiet drawn logged × Refuses w refusal.NoMemory outcome w')
+
+-- The call for a kept batch is made as the superuser, and its reply is kept with the batch.
+pub record ServeBatch (lines : List PropLine) (w : WorldState) (words : ℕ → ℕ) (now : ℕ) (batch : BatchNote) (fault : Type 0) (outcome : Line) (drawn : ℕ) (logged : Acknowledged) (w' : WorldState) : Type 0 where
+  pub reply : KmsReply
+  pub keys : ServiceState
+  pub commands : List KeyCommand
+  pub serves : ServesUser lines superuser w.keys words now (batch_call batch) fault reply drawn commands keys
+  pub logged_is : logged ≡ of_keys commands
+  pub reply_is : outcome ≡ line.Replied (next_reply w) (Some reply)
+  pub left : w' ≡ with_reply (ToBatch batch (result_of reply)) (record w { keys = keys })
+
+abbrev pub ServeActs : List PropLine → WorldState → (ℕ → ℕ) → ℕ → Option BatchNote → Type 0 → Line → ℕ → Acknowledged → WorldState → Type 0
+ServeActs lines w words now None fault outcome drawn logged w' = IsUnknown w outcome drawn logged w'
+ServeActs lines w words now (Some batch) fault outcome drawn logged w' = ServeBatch lines w words now batch fault outcome drawn logged w' ⊎ LacksRoom w outcome drawn logged w'
 
 -- a ticket, which is kept if one is given
 
@@ -273,8 +315,13 @@ Step lines w words now (event.Allow user path) fault tells outcome drawn logged 
 Step lines w words now (event.Disallow user path) fault tells outcome drawn logged w' = PathActs w user call.Disallow (read_path path) fault outcome drawn logged w'
 Step lines w words now (event.Snap user path name) fault tells outcome drawn logged w' = PathActs w user snap_at (read_snap_path path name) fault outcome drawn logged w'
 Step lines w words now (event.Unsnap user path name) fault tells outcome drawn logged w' = PathActs w user unsnap_at (read_snap_path path name) fault outcome drawn logged w'
+Step lines w words now (event.Cancel user path) fault tells outcome drawn logged w' = PathActs w user call.Cancel (read_path path) fault outcome drawn logged w'
+Step lines w words now (event.Status user path) fault tells outcome drawn logged w' = PathActs w user call.Status (read_path path) fault outcome drawn logged w'
 Step lines w words now (event.Zones user) fault tells outcome drawn logged w' = NamesAct w user call.Zones fault outcome drawn logged w'
 Step lines w words now (event.AskCreate user path) fault tells outcome drawn logged w' = IsQuiet drawn logged × AskAt w user ask.Create (read_path path) outcome w'
 Step lines w words now (event.AskZone user path key) fault tells outcome drawn logged w' = IsQuiet drawn logged × AskAt w user (zone_with key) (read_path path) outcome w'
+Step lines w words now (event.AskSubmit user path) fault tells outcome drawn logged w' = IsQuiet drawn logged × AskAt w user ask.Submit (read_path path) outcome w'
 Step lines w words now (event.Draw number) fault tells outcome drawn logged w' = DrawActs lines w words now (numbered w.kept.notes number) fault outcome drawn logged w'
 Step lines w words now (event.Finish number) fault tells outcome drawn logged w' = FinishReply w (numbered w.kept.replies number) fault outcome drawn logged w'
+Step lines w words now (event.Walk path) fault tells outcome drawn logged w' = WalkAt w (read_path path) fault outcome drawn logged w'
+Step lines w words now (event.Serve number) fault tells outcome drawn logged w' = ServeActs lines w words now (numbered w.kept.batches number) fault outcome drawn logged w'

@@ -4,13 +4,16 @@
 
 mod fault;
 mod kept;
+mod keys;
 mod laws;
 mod rename_paths;
+mod serve;
 mod snap_path;
 mod world;
 
 pub use fault::WorldFault;
 pub use hk_events::{Event, Line};
-pub use kept::KeptReply;
+pub use kept::{BatchResult, KeptReply};
+pub use keys::NewKeys;
 pub use laws::sound_files_may_be_started_from;
 pub use world::World;

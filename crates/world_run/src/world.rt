@@ -1,5 +1,5 @@
 //! The world and its events.
-ghost use Rattle.std.specs.Prelude.{◌≡◌, ◌⊎◌, ◌<◌, ℕ, List, Some, IfOk, IsErrOf, MatchResult};
+ghost use Rattle.std.specs.Prelude.{◌≡◌, ◌⊎◌, ◌<◌, ◌≤◌, ℕ, List, Some, IfOk, IsErrOf, MatchResult};
 ghost use Rattle.hk_base.specs.Disk.{Tells};
 ghost use Rattle.name_calls.specs.Paths.{read_path};
 ghost use Rattle.name_calls.specs.ReadPaths.{read_any_path};
@@ -12,7 +12,7 @@ ghost use Rattle.name_core.specs.Calls.{superuser};
 ghost use Rattle.prop_text.specs.declared.lines.PropLine.{PropLine};
 ghost use Rattle.hk_events.specs.declared.event.Event.TheVariants as event;
 ghost use Rattle.world_run.specs.Acknowledged.{Acknowledged, HoldsLogs, nothing_acknowledged};
-ghost use Rattle.world_run.specs.Does.{CallHappens, DepositHappens, DrawHappens, FinishHappens, Happens, PathHappens, WantHappens};
+ghost use Rattle.world_run.specs.Does.{CallHappens, DepositHappens, DrawHappens, FinishHappens, Happens, PathHappens, ServeHappens, WalkHappens, WantHappens};
 ghost use Rattle.world_run.specs.Keeps.{Begins, Fails, Steps};
 ghost use Rattle.world_run.specs.Linked.{ServicesFit};
 ghost use Rattle.world_run.specs.Starts.{OpensBoth};
@@ -22,8 +22,11 @@ ghost use Rattle.world_run.specs.Step.{AskActs, AskAt, GivesTicket, LacksRoom, R
 ghost use Rattle.world_run.specs.World.{numbered, world_of};
 
 use crate::fault::WorldFault;
-use crate::kept::{KeptReply, again, note_numbered, reply_numbered, ticket_numbered};
+use crate::kept::{
+    KeptReply, again, ask_answered, batch_numbered, keep_batch, note_numbered, ticket_numbered,
+};
 use crate::rename_paths::RenamePaths;
+use crate::serve::{prepare, result_of};
 use crate::snap_path::SnapPath;
 use frame_log::StartFault;
 use hk_base::{ByteList, Disk, KeyName, NoMemory, Text, VersionName, Words};
@@ -36,7 +39,8 @@ use name_calls::{
     ReadPath, Want,
 };
 use name_core::Name;
-use prop_text::Props;
+use prop_text::{Props, Sizes};
+use reenc_walk::BatchNote;
 use std::alloc::Global;
 use std::marker::Model;
 
@@ -46,9 +50,10 @@ const KEYS: u8 = 0;
 /// The number of the file that has the edit log.
 const NAMES: u8 = 1;
 
-/// Both services, and the tickets, notes and replies that are kept between events. Contracts see the
-/// access control lists, the store and the queues of the key management service, the store and the
-/// open asks of the namesystem, and the tickets, notes and replies as lists.
+/// Both services, and the tickets, notes, batches and replies that are kept between events. Contracts
+/// see the access control lists, the store and the queues of the key management service, the store,
+/// the open asks and the walks of the namesystem, and the tickets, notes, batches and replies as
+/// lists.
 ///
 /// Always pass the disk that the world was started on. docs/glossary.md explains the words of its
 /// contracts: ledger, draw, linked, sound.
@@ -59,6 +64,7 @@ pub struct World {
     names: Name,
     tickets: Vec<Ticket>,
     notes: Vec<AskNote>,
+    batches: Vec<BatchNote>,
     replies: Vec<KeptReply>,
     superuser: Text,
 }
@@ -70,7 +76,7 @@ impl Model for World {
 
     ghost Value = { RunningWorld };
 
-    ghost view = { λ a. record { keys = a.keys; names = a.names; kept = record { tickets = a.tickets.items; notes = a.notes.items; replies = a.replies.items } } };
+    ghost view = { λ a. record { keys = a.keys; names = a.names; kept = record { tickets = a.tickets.items; notes = a.notes.items; batches = a.batches.items; replies = a.replies.items } } };
 
     ghost invariant = { λ a. a.superuser ≡ calls.superuser };
 }
@@ -129,6 +135,15 @@ fn beside_logs(alloc: Global, props: &Props) -> Result<(Text, Acls), NoMemory>
     Ok((user, acls))
 }
 
+/// Returns the number of files in a batch.
+fn batch_size(sizes: &Sizes) -> u16
+    ensures size { result ≡ sizes.now.batch }
+    ensures some { 1 ≤ result }
+    ensures most { result ≤ 1000 }
+{
+    sizes.batch
+}
+
 impl World {
     /// Opens the key log on file 0 of a disk, and then the edit log on file 1. The access control
     /// lists of the properties judge the calls of the key management service, and their sizes are its
@@ -158,7 +173,7 @@ impl World {
         };
         // The key log is on file 0.
         let _ = keys.count();
-        let names = match Name::start(alloc, disk) {
+        let names = match Name::start(alloc, disk, batch_size(&props.sizes)) {
             Ok(names) => names,
             Err(fault) => return Err(WorldFault { file: NAMES, fault }),
         };
@@ -169,6 +184,7 @@ impl World {
             names,
             tickets: Vec::new(alloc),
             notes: Vec::new(alloc),
+            batches: Vec::new(alloc),
             replies: Vec::new(alloc),
             superuser: user,
         })
@@ -245,11 +261,16 @@ impl World {
             Event::Disallow { user, path } => Ok(self.disallow(disk, &user, &path)),
             Event::Snap { user, path, name } => Ok(self.snap(disk, &user, &path, name)),
             Event::Unsnap { user, path, name } => Ok(self.unsnap(disk, &user, &path, name)),
+            Event::Cancel { user, path } => Ok(self.cancel(disk, &user, &path)),
+            Event::Status { user, path } => Ok(self.status(disk, &user, &path)),
             Event::Zones { user } => Ok(self.call(disk, &user, NameCall::Zones)),
             Event::AskCreate { user, path } => Ok(self.ask_create(user, path)),
             Event::AskZone { user, path, key } => Ok(self.ask_zone(user, path, key)),
+            Event::AskSubmit { user, path } => Ok(self.ask_submit(user, path)),
             Event::Draw { ask } => Ok(self.draw(disk, words, now, ask)),
             Event::Finish { reply } => Ok(self.finish(disk, reply)),
+            Event::Walk { path } => Ok(self.walk(disk, &path)),
+            Event::Serve { batch } => Ok(self.serve(disk, words, now, batch)),
         }
     }
 
@@ -468,6 +489,26 @@ impl World {
         }
     }
 
+    fn cancel<D: Disk>(&mut self, disk: &mut D, user: &Text, path: &ByteList) -> Line
+        requires stands { Tells (D.state disk.old) → ((done : Acknowledged) × HoldsLogs (D.state disk.old) self.old done) }
+        ensures { PathHappens (D.state disk.old) (D.state disk.new) self.old user.now call.Cancel (read_path path.now) result self.new }
+    {
+        match NPath::read(self.alloc, path.as_slice()) {
+            Err(fault) => Line::Name(unread(fault)),
+            Ok(path) => self.call(disk, user, NameCall::Cancel { path }),
+        }
+    }
+
+    fn status<D: Disk>(&mut self, disk: &mut D, user: &Text, path: &ByteList) -> Line
+        requires stands { Tells (D.state disk.old) → ((done : Acknowledged) × HoldsLogs (D.state disk.old) self.old done) }
+        ensures { PathHappens (D.state disk.old) (D.state disk.new) self.old user.now call.Status (read_path path.now) result self.new }
+    {
+        match NPath::read(self.alloc, path.as_slice()) {
+            Err(fault) => Line::Name(unread(fault)),
+            Ok(path) => self.call(disk, user, NameCall::Status { path }),
+        }
+    }
+
     fn ask_create(&mut self, user: Text, path: ByteList) -> Line
         ensures acts { AskAt (world_of self.old) user ask.Create (read_path path) result (world_of self.new) }
         ensures keys { self.new.keys ≡ self.old.keys }
@@ -487,6 +528,17 @@ impl World {
         match NPath::read(self.alloc, path.as_slice()) {
             Err(fault) => unread_ask(fault),
             Ok(path) => self.ask(&user, Ask::Zone { path, key }),
+        }
+    }
+
+    fn ask_submit(&mut self, user: Text, path: ByteList) -> Line
+        ensures acts { AskAt (world_of self.old) user ask.Submit (read_path path) result (world_of self.new) }
+        ensures keys { self.new.keys ≡ self.old.keys }
+        ensures store { self.new.names.store ≡ self.old.names.store }
+    {
+        match NPath::read(self.alloc, path.as_slice()) {
+            Err(fault) => unread_ask(fault),
+            Ok(path) => self.ask(&user, Ask::Submit { path }),
         }
     }
 
@@ -543,17 +595,14 @@ impl World {
         }
     }
 
-    /// Finishes what a kept reply answers.
+    /// Finishes the ask that a kept reply answers, if it answers one.
     fn finish<D: Disk>(&mut self, disk: &mut D, number: u32) -> Line
         requires stands { Tells (D.state disk.old) → ((done : Acknowledged) × HoldsLogs (D.state disk.old) self.old done) }
         ensures { FinishHappens (D.state disk.old) (D.state disk.new) self.old (numbered self.old.kept.replies number) result self.new }
     {
-        let kept = match reply_numbered(&self.replies, number) {
-            None => return Line::Unknown,
-            Some(kept) => *kept,
-        };
-        match kept {
-            KeptReply::ToAsk { id, answer } => self.finish_ask(disk, id, answer),
+        match ask_answered(&self.replies, number) {
+            None => Line::Unknown,
+            Some((id, answer)) => self.finish_ask(disk, id, answer),
         }
     }
 
@@ -563,6 +612,69 @@ impl World {
         ensures { FinishHappens (D.state disk.old) (D.state disk.new) self.old (Some (KeptReply.ToAsk id answer)) result self.new }
     {
         finish_line(self.names.finish_with(disk, id, answer))
+    }
+
+    fn walk<D: Disk>(&mut self, disk: &mut D, path: &ByteList) -> Line
+        requires stands { Tells (D.state disk.old) → ((done : Acknowledged) × HoldsLogs (D.state disk.old) self.old done) }
+        ensures { WalkHappens (D.state disk.old) (D.state disk.new) self.old (read_path path.now) result self.new }
+    {
+        match NPath::read(self.alloc, path.as_slice()) {
+            Err(fault) => unread_ask(fault),
+            Ok(path) => self.walk_zone(disk, &path),
+        }
+    }
+
+    /// Walks a zone, and keeps the batch that it gives, whose room is taken first.
+    fn walk_zone<D: Disk>(&mut self, disk: &mut D, zone: &NPath) -> Line
+        requires stands { Tells (D.state disk.old) → ((done : Acknowledged) × HoldsLogs (D.state disk.old) self.old done) }
+        ensures { WalkHappens (D.state disk.old) (D.state disk.new) self.old (Some zone.now) result self.new }
+    {
+        match self.batches.reserve(1) {
+            Err(_) => return Line::Refused(NameRefusal::NoMemory),
+            Ok(()) => {}
+        }
+        match self.names.walk(disk, zone) {
+            Err(why) => Line::Refused(why),
+            Ok(walked) => keep_batch(&mut self.batches, walked),
+        }
+    }
+
+    /// Makes the call for a kept batch, and keeps the reply with the batch. All memory that this
+    /// needs is taken first.
+    fn serve<D: Disk, W: Words>(
+        &mut self,
+        disk: &mut D,
+        words: &mut W,
+        now: u64,
+        number: u32,
+    ) -> Line
+        requires stands { Tells (D.state disk.old) → ((done : Acknowledged) × HoldsLogs (D.state disk.old) self.old done) }
+        ensures { (lines : List PropLine) → AreListsOf self.old.keys.acls lines → ServeHappens lines (D.state disk.old) (D.state disk.new) self.old (W.to_come words.old) now (numbered self.old.kept.batches number) result self.new (W.to_come words.new) }
+    {
+        let serving = match batch_numbered(&self.batches, number) {
+            None => return Line::Unknown,
+            Some(batch) => match prepare(self.alloc, batch) {
+                Err(_) => return Line::Kms(KmsReply::Refused(KmsRefusal::NoMemory)),
+                Ok(serving) => serving,
+            },
+        };
+        match self.replies.reserve(1) {
+            Err(_) => return Line::Kms(KmsReply::Refused(KmsRefusal::NoMemory)),
+            Ok(()) => {}
+        }
+        let reply = self
+            .keys
+            .act(disk, words, now, &self.superuser, serving.call);
+        let result = result_of(serving.room, &reply);
+        self.replies.push_reserved(KeptReply::ToBatch {
+            note: serving.note,
+            result,
+        });
+        let number = self.replies.as_slice().len() as u64;
+        Line::Replied {
+            number,
+            reply: Some(reply),
+        }
     }
 }
 

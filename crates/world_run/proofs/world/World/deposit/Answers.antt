@@ -11,6 +11,6 @@ returns-in-None g c =
 pub returns : goal.returns
 returns g c =
     deposited-key c.args.self.now (g.W.Words.to_come c.args.words.now) (g.W.Words.to_come c.draw_sealed-sealed.new.words) c.self.inside.keys c.deposit.new.self c.self.inside.names
-    c.self.inside.tickets.items c.self.inside.notes.items c.self.inside.replies.items c.in-Some.ticket.now c.draw_sealed-sealed.result c.deposit.result c.args.number
+    c.self.inside.tickets.items c.self.inside.notes.items c.self.inside.batches.items c.self.inside.replies.items c.in-Some.ticket.now c.draw_sealed-sealed.result c.deposit.result c.args.number
     c.self.view_is (c.in-Some.ensures ∙ ap (λ (w : RunningWorld). numbered w.kept.tickets c.args.number) c.self.view_is)
     c.draw_sealed-sealed.ensures.key c.draw_sealed-sealed.ensures.rest c.deposit.ensures.answer c.deposit.ensures.queues

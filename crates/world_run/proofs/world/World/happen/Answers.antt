@@ -1,5 +1,5 @@
 use Rattle.hk_events.specs.declared.event.Event.TheVariants as event
-use Rattle.world_run.proofs.StepLemmas.{ask-happens, deposit-happens, restart-happens, so-happens, ticket-happens, zone-happens}
+use Rattle.world_run.proofs.StepLemmas.{ask-happens, deposit-happens, restart-happens, so-happens, submit-happens, ticket-happens, zone-happens}
 use Rattle.world_run.proofs.world.World.happen.Goals as goal
 
 pub returns-in-Kms : goal.returns-in-Kms
@@ -72,6 +72,16 @@ returns-in-Unsnap g c lines lists =
     so-happens lines (g.D.Disk.state c.args.disk.now) (g.D.Disk.state c.unsnap.new.disk) c.args.self.now c.unsnap.new.self (g.W.Words.to_come c.args.words.now) (g.W.Words.to_come c.args.words.now) c.args.now c.args.event (event.Unsnap c.in-Unsnap.user c.in-Unsnap.path c.in-Unsnap.name) c.unsnap.result c.in-Unsnap.is
     (c.unsnap.ensures (g.W.Words.to_come c.args.words.now))
 
+pub returns-in-Cancel : goal.returns-in-Cancel
+returns-in-Cancel g c lines lists =
+    so-happens lines (g.D.Disk.state c.args.disk.now) (g.D.Disk.state c.cancel.new.disk) c.args.self.now c.cancel.new.self (g.W.Words.to_come c.args.words.now) (g.W.Words.to_come c.args.words.now) c.args.now c.args.event (event.Cancel c.in-Cancel.user c.in-Cancel.path) c.cancel.result c.in-Cancel.is
+    (c.cancel.ensures (g.W.Words.to_come c.args.words.now))
+
+pub returns-in-Status : goal.returns-in-Status
+returns-in-Status g c lines lists =
+    so-happens lines (g.D.Disk.state c.args.disk.now) (g.D.Disk.state c.status.new.disk) c.args.self.now c.status.new.self (g.W.Words.to_come c.args.words.now) (g.W.Words.to_come c.args.words.now) c.args.now c.args.event (event.Status c.in-Status.user c.in-Status.path) c.status.result c.in-Status.is
+    (c.status.ensures (g.W.Words.to_come c.args.words.now))
+
 pub returns-in-Zones : goal.returns-in-Zones
 returns-in-Zones g c lines lists =
     so-happens lines (g.D.Disk.state c.args.disk.now) (g.D.Disk.state c.call.new.disk) c.args.self.now c.call.new.self (g.W.Words.to_come c.args.words.now) (g.W.Words.to_come c.args.words.now) c.args.now c.args.event (event.Zones c.in-Zones.user) c.call.result c.in-Zones.is
@@ -87,6 +97,11 @@ returns-in-AskZone g c lines lists =
     zone-happens lines (g.D.Disk.state c.args.disk.now) c.args.self.now c.ask_zone.new.self (g.W.Words.to_come c.args.words.now) c.args.now c.args.event c.in-AskZone.user c.in-AskZone.path c.in-AskZone.key c.ask_zone.result c.in-AskZone.is
     c.ask_zone.ensures.keys c.ask_zone.ensures.store c.ask_zone.ensures.acts
 
+pub returns-in-AskSubmit : goal.returns-in-AskSubmit
+returns-in-AskSubmit g c lines lists =
+    submit-happens lines (g.D.Disk.state c.args.disk.now) c.args.self.now c.ask_submit.new.self (g.W.Words.to_come c.args.words.now) c.args.now c.args.event c.in-AskSubmit.user c.in-AskSubmit.path c.ask_submit.result c.in-AskSubmit.is
+    c.ask_submit.ensures.keys c.ask_submit.ensures.store c.ask_submit.ensures.acts
+
 pub returns-in-Draw : goal.returns-in-Draw
 returns-in-Draw g c lines lists =
     so-happens lines (g.D.Disk.state c.args.disk.now) (g.D.Disk.state c.draw.new.disk) c.args.self.now c.draw.new.self (g.W.Words.to_come c.args.words.now) (g.W.Words.to_come c.draw.new.words) c.args.now c.args.event (event.Draw c.in-Draw.ask) c.draw.result c.in-Draw.is
@@ -96,3 +111,13 @@ pub returns-in-Finish : goal.returns-in-Finish
 returns-in-Finish g c lines lists =
     so-happens lines (g.D.Disk.state c.args.disk.now) (g.D.Disk.state c.finish.new.disk) c.args.self.now c.finish.new.self (g.W.Words.to_come c.args.words.now) (g.W.Words.to_come c.args.words.now) c.args.now c.args.event (event.Finish c.in-Finish.reply) c.finish.result c.in-Finish.is
     (c.finish.ensures (g.W.Words.to_come c.args.words.now))
+
+pub returns-in-Walk : goal.returns-in-Walk
+returns-in-Walk g c lines lists =
+    so-happens lines (g.D.Disk.state c.args.disk.now) (g.D.Disk.state c.walk.new.disk) c.args.self.now c.walk.new.self (g.W.Words.to_come c.args.words.now) (g.W.Words.to_come c.args.words.now) c.args.now c.args.event (event.Walk c.in-Walk.path) c.walk.result c.in-Walk.is
+    (c.walk.ensures (g.W.Words.to_come c.args.words.now))
+
+pub returns-in-Serve : goal.returns-in-Serve
+returns-in-Serve g c lines lists =
+    so-happens lines (g.D.Disk.state c.args.disk.now) (g.D.Disk.state c.serve.new.disk) c.args.self.now c.serve.new.self (g.W.Words.to_come c.args.words.now) (g.W.Words.to_come c.serve.new.words) c.args.now c.args.event (event.Serve c.in-Serve.batch) c.serve.result c.in-Serve.is
+    (c.serve.ensures lines lists)

@@ -1,4 +1,5 @@
-use Rattle.std.proofs.Common.{◌∙◌, ap}
+use Rattle.std.proofs.Common.{◌∙◌, ap, subst}
+use Rattle.name_core.specs.Service.{Starts}
 use Rattle.name_core.specs.State.{RunningNames}
 use Rattle.world_run.specs.World.{RunningWorld}
 use Rattle.world_run.proofs.RestartLemmas.{names-fail, names-restarted}
@@ -10,11 +11,12 @@ pub returns-in-Err : goal.returns-in-Err
 returns-in-Err g c words =
     names-fail (g.D.Disk.state c.args.disk.now) (g.D.Disk.state c.restart.new.disk) c.args.self.now _ words c.in-Err.fault
     (record { counts = g.met.D.Disk.counts_now c.args.disk.now; only = g.met.D.Disk.only_now c.args.disk.now; is_one = λ tells file lt. g.met.D.Disk.is_one c.args.disk.now file tells lt }) (record { counts = g.met.D.Disk.counts_now c.restart.new.disk; only = g.met.D.Disk.only_now c.restart.new.disk; is_one = λ tells file lt. g.met.D.Disk.is_one c.restart.new.disk file tells lt })
-    (ap (λ (names : RunningNames). parts c.self.inside.keys names c.self.inside.tickets.items c.self.inside.notes.items c.self.inside.replies.items) c.in-Err.ensures.started ∙ c.self.view_is) c.fits.ensures.keys_file c.fits.ensures.names_file c.fits.ensures.fits c.requires.stands
+    (ap (λ (names : RunningNames). parts c.self.inside.keys names c.self.inside.tickets.items c.self.inside.notes.items c.self.inside.batches.items c.self.inside.replies.items) c.in-Err.ensures.started ∙ c.self.view_is) c.fits.ensures.keys_file c.fits.ensures.names_file c.fits.ensures.fits c.requires.stands
     (failed c.in-Err.fault c.in-Err.ensures.opens)
 
 pub returns : goal.returns
 returns g c lines words now =
-    names-restarted (g.D.Disk.state c.args.disk.now) (g.D.Disk.state c.restart.new.disk) c.args.self.now (parts c.self.inside.keys c.restart.new.self c.self.inside.tickets.items c.self.inside.notes.items c.self.inside.replies.items)
-    c.opening-opening.result (ap (λ (v : RunningWorld). v.keys) c.self.view_is) c.fits.ensures.names_file c.requires.stands c.in-Ok.ensures.started
+    names-restarted (g.D.Disk.state c.args.disk.now) (g.D.Disk.state c.restart.new.disk) c.args.self.now (parts c.self.inside.keys c.restart.new.self c.self.inside.tickets.items c.self.inside.notes.items c.self.inside.batches.items c.self.inside.replies.items)
+    c.opening-opening.result (ap (λ (v : RunningWorld). v.keys) c.self.view_is) c.fits.ensures.names_file c.requires.stands
+    (subst (λ (v : RunningWorld). Starts v.names.batch (g.D.Disk.state c.args.disk.now) (g.D.Disk.state c.restart.new.disk) c.restart.new.self) c.self.view_is c.in-Ok.ensures.started)
     c.restart.ensures.opens c.opening-opening.ensures (ap (λ (v : RunningWorld). record v { names = c.restart.new.self }) c.self.view_is) lines words now

@@ -1,4 +1,6 @@
+use Rattle.std.proofs.Common.{ℕ, subst}
 use Rattle.kms_core.specs.Users.{running}
+use Rattle.name_core.specs.Service.{Starts as NamesStart}
 use Rattle.frame_log.specs.declared.fault.StartFault.TheVariants as start
 use Rattle.world_run.proofs.StartLemmas.{begins, both-started, done, failed, failed-at, keys-are-opened, keys-not-started, names-not-started, no-start}
 use Rattle.world_run.proofs.StepLemmas.{parts}
@@ -40,7 +42,8 @@ returns-clause-opens g c =
 pub returns-clause-began : goal.returns-clause-began
 returns-clause-began g c =
     begins c.args.props.now.sizes (g.D.Disk.state c.args.disk.now) (g.D.Disk.state c.start.new.disk) (g.D.Disk.state c.start-2.new.disk)
-    (parts c.in-Ok-start.keys c.in-Ok-start-2.names c.new.result.items c.new-2.result.items c.new-3.result.items) c.in-Ok-start.ensures.queues
+    (parts c.in-Ok-start.keys c.in-Ok-start-2.names c.new.result.items c.new-2.result.items c.new-3.result.items c.new-4.result.items) c.in-Ok-start.ensures.queues
     (record { counts = g.met.D.Disk.counts_now c.args.disk.now; only = g.met.D.Disk.only_now c.args.disk.now; is_one = λ tells file lt. g.met.D.Disk.is_one c.args.disk.now file tells lt })
-    c.count.ensures.file c.invariants.ensures.file (record { keys = c.count.ensures.rules; names = c.invariants.ensures.names }) (λ i. record { tickets = c.new.ensures.items i; notes = c.new-2.ensures.items i; replies = c.new-3.ensures.items i })
-    c.in-Ok-start.ensures.opens.run c.start-2.ensures.opens.run c.in-Ok-start.ensures.started c.in-Ok-start-2.ensures.started
+    c.count.ensures.file c.invariants.ensures.file (record { keys = c.count.ensures.rules; names = c.invariants.ensures.names }) (λ i. record { tickets = c.new.ensures.items i; notes = c.new-2.ensures.items i; batches = c.new-3.ensures.items i; replies = c.new-4.ensures.items i })
+    c.in-Ok-start.ensures.opens.run c.start-2.ensures.opens.run c.in-Ok-start.ensures.started
+    (subst (λ (n : ℕ). NamesStart n (g.D.Disk.state c.start.new.disk) (g.D.Disk.state c.start-2.new.disk) c.in-Ok-start-2.names) c.batch_size.ensures.size c.in-Ok-start-2.ensures.started)
