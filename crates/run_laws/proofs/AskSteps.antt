@@ -1,10 +1,15 @@
 -- What stays true of open asks and of the table from step to step.
-use Rattle.std.proofs.Common.{◌≡◌, ℕ, ◌+◌, ◌*◌, ◌^◌, ◌≤◌, inl, inr, Bool, true, false, List, [], ◌∷◌, Option, Some, None, Result, refl, sym, ap, subst, arith}
+use Rattle.std.proofs.Common.{◌≡◌, ℕ, ◌+◌, ◌*◌, ◌^◌, ◌≤◌, ◌==◌, inl, inr, Bool, true, false, if◌then◌else◌, List, [], ◌∷◌, Option, Some, None, Result, refl, sym, ap, subst, arith}
 use Rattle.std.specs.Bool.{⊤}
 use Rattle.std.specs.List.{AllByRecursion}
 use Rattle.hk_base.specs.declared.names.Edek.{Edek}
 use Rattle.edit_ops.specs.declared.ops.EditOp.{EditOp}
 use Rattle.edit_ops.specs.declared.ops.EditOp.TheVariants as op
+use Rattle.inode_tree.specs.Rows.{Entry}
+use Rattle.reenc_walk.specs.Files.{walk_list}
+use Rattle.reenc_walk.specs.Walks.{outstanding}
+use Rattle.zone_table.specs.declared.statuses.StatusRow.{StatusRow}
+use Rattle.name_store.specs.Causes.{id_at}
 use Rattle.name_store.specs.Store.{is_opening}
 use Rattle.name_store.specs.Table.{NameTable, after_table}
 use Rattle.name_core.specs.declared.asks.OpenAsk.{OpenAsk}
@@ -15,12 +20,17 @@ use Rattle.name_calls.specs.declared.calls.NameCall.{NameCall}
 use Rattle.name_calls.specs.declared.calls.NameCall.TheVariants as call
 use Rattle.name_calls.specs.declared.calls.NameRefusal.{NameRefusal}
 use Rattle.name_calls.specs.declared.calls.NameReply.{NameReply}
+use Rattle.name_calls.specs.declared.paths.NPath.{NPath}
 use Rattle.name_core.specs.State.{NameService, NameState, next_id, settled, started}
 use Rattle.name_core.specs.Asks.{Finishes, closed, finish_causes, finish_op, open_ask, ask_opened, unless_stopped}
-use Rattle.name_core.specs.Calls.{NameActs, NoRoom, Plain, causes, deed, done_with, early_causes, first_cause, numbered, unless_refused}
+use Rattle.name_core.specs.Calls.{NameActs, NoRoom, Plain, causes, deed, done_with, early_causes, first_cause, numbered, path_causes, unless_refused}
 use Rattle.name_core.specs.Service.{FinishServes, FinishServesAt, FinishServesOpen, NameServes, ServesBy, ServesUnless, is_change}
 use Rattle.name_core.specs.Steps.{Keeps}
-use Rattle.name_core.specs.Laws.{AnyFault, IsStep, Called, Asked, Finished, Reaches}
+use Rattle.name_core.specs.Laws.{AnyFault, IsStep, Called, Asked, Finished, Walks, Reaches}
+use Rattle.name_core.specs.Walking.{NameWalks, WalkServes, WalkServesUnless, unless_not_walked}
+use Rattle.name_core.specs.Walks.{WalkDeed, deed_by_files, deed_by_status, none_left, session_at, status_at, walk_causes, walk_deed, walk_of}
+use Rattle.name_core.specs.declared.walks.Walked.{Walked}
+use Rattle.name_core.specs.declared.walks.Walked.TheVariants.{Completed, NoneLeft}
 use Rattle.name_core.proofs.AllowedLemmas.{no-opening-finish}
 use Rattle.name_core.proofs.AskLaws.{ids_stay_below}
 use Rattle.name_core.proofs.AskLemmas.{each-append, each-without, open-holds}
@@ -31,10 +41,11 @@ abbrev pub Alone : NameState → NameService
 Alone s = record { names = s; pending = None }
 
 -- A property of tables, and one of open asks that each ask has whose id is n or above. Changes keep the first: those of calls that `Spares`
--- allows, and those of finishes of asks that have the second.
+-- allows, those of finishes of asks that have the second, and those of walks.
 pub record Invariant (Holds : NameTable → Type 0) (P : OpenAsk → Type 0) (Spares : NameState → NameCall → Type 0) (n : ℕ) : Type 0 where
   pub called : (s : NameState) (c : NameCall) (o : EditOp) → Keeps (Alone s) → n ≤ next_id s → Spares s c → first_cause (causes s c) ≡ None → (deed s c).logs ≡ Some o → Holds s.table → Holds (after_table s.table o)
-  pub finished : (t : NameTable) (q : OpenAsk) (edek : Option Edek) → P q → first_cause (finish_causes t.rows q edek q.ask) ≡ None → Holds t → Holds (after_table t (finish_op q.id edek q.ask))
+  pub finished : (t : NameTable) (q : OpenAsk) (edek : Option Edek) → P q → first_cause (finish_causes t.rows t.statuses q edek q.ask) ≡ None → Holds t → Holds (after_table t (finish_op q.id edek q.ask))
+  pub completed : (t : NameTable) (session : ℕ) → Holds t → Holds (after_table t (op.Complete session))
   pub later_asks : (q : OpenAsk) → n ≤ q.id → P q
 
 -- what stays true from step to step, whether the pending operation will be kept or dropped
@@ -48,6 +59,7 @@ abbrev pub SparesStep : (NameState → NameCall → Type 0) → (s s' : NameServ
 SparesStep Spares s s' (Called user c result logged did) = (kept : Bool) → Spares (settled kept s) c
 SparesStep Spares s s' (Asked user a result asks same) = ⊤
 SparesStep Spares s s' (Finished id given result logged did) = ⊤
+SparesStep Spares s s' (Walks p result logged did) = ⊤
 
 module _ (Holds : NameTable → Type 0) (P : OpenAsk → Type 0) (Spares : NameState → NameCall → Type 0) (n : ℕ) (inv : Invariant Holds P Spares n) where
   abbrev Still : NameService → Type 0
@@ -90,6 +102,9 @@ module _ (Holds : NameTable → Type 0) (P : OpenAsk → Type 0) (Spares : NameS
   does s (call.Disallow p) k spares free h = takes s (op.Disallow p) (inv.called s (call.Disallow p) (op.Disallow p) k h.later spares free refl (h.table true)) refl h
   does s (call.Snap p name) k spares free h = takes s (op.Snap p name) (inv.called s (call.Snap p name) (op.Snap p name) k h.later spares free refl (h.table true)) refl h
   does s (call.Unsnap p name) k spares free h = takes s (op.Unsnap p name) (inv.called s (call.Unsnap p name) (op.Unsnap p name) k h.later spares free refl (h.table true)) refl h
+  does s (call.Cancel p) k spares free h =
+      takes s (op.Cancel (session_at s.table p)) (inv.called s (call.Cancel p) (op.Cancel (session_at s.table p)) k h.later spares free refl (h.table true)) refl h
+  does s (call.Status p) k spares free h = (h, h)
   does s call.Zones k spares free h = (h, h)
 
   acts : (s : NameState) (c : NameCall) (result : NameReply) (s' : NameState) → Keeps (Alone s) → Spares s c → NameActs s c result s' → Still (Alone s) → Still (Alone s')
@@ -119,15 +134,15 @@ module _ (Holds : NameTable → Type 0) (P : OpenAsk → Type 0) (Spares : NameS
   closes : (s : NameService) (id : ℕ) → Still s → Still (record { names = closed s.names id; pending = s.pending })
   closes s id h = record { later = h.later; asks = each-without P s.names.asks id h.asks; table = h.table }
 
-  finishes : (s : NameState) (q : OpenAsk) (edek : Option Edek) → P q → first_cause (finish_causes s.table.rows q edek q.ask) ≡ None → Still (Alone s)
+  finishes : (s : NameState) (q : OpenAsk) (edek : Option Edek) → P q → first_cause (finish_causes s.table.rows s.table.statuses q edek q.ask) ≡ None → Still (Alone s)
       → Still (Alone (done_with (Some (finish_op q.id edek q.ask)) (closed s q.id))) × Still (record { names = closed s q.id; pending = Some (finish_op q.id edek q.ask) })
   finishes s q edek only free h = takes (closed s q.id) (finish_op q.id edek q.ask) (inv.finished s.table q edek only free (h.table true)) (no-opening-finish q.id edek q.ask) (closes (Alone s) q.id h)
 
   writes : (s : NameState) (q : OpenAsk) (edek : Option Edek) (result : Result (Unit {0}) NameRefusal) (s' : NameState) → P q → Finishes s q edek result s' → Still (Alone s) → Still (Alone s')
   writes s q edek result s' only (NoRoom, may, is) h = at (Alone s') (Alone s) (ap Alone (ap (λ o. o.state) is)) h
-  writes s q edek result s' only (Plain, may, is) h = go (first_cause (finish_causes s.table.rows q edek q.ask)) refl is
+  writes s q edek result s' only (Plain, may, is) h = go (first_cause (finish_causes s.table.rows s.table.statuses q edek q.ask)) refl is
     where
-      go : (o : Option NameRefusal) → first_cause (finish_causes s.table.rows q edek q.ask) ≡ o → (record { reply = result; state = s' }) ≡ unless_stopped o s q edek → Still (Alone s')
+      go : (o : Option NameRefusal) → first_cause (finish_causes s.table.rows s.table.statuses q edek q.ask) ≡ o → (record { reply = result; state = s' }) ≡ unless_stopped o s q edek → Still (Alone s')
       go (Some why) stops is = at (Alone s') (Alone (closed s q.id)) (ap Alone (ap (λ o. o.state) is)) (closes (Alone s) q.id h)
       go None free is = at (Alone s') (Alone (done_with (Some (finish_op q.id edek q.ask)) (closed s q.id))) (ap Alone (ap (λ o. o.state) is)) (finishes s q edek only free h).0
 
@@ -156,10 +171,57 @@ module _ (Holds : NameTable → Type 0) (P : OpenAsk → Type 0) (Spares : NameS
         table = h.table;
       })
 
+  -- walks
+
+  -- the state that a walk leaves, and the one in which its operation is pending
+  abbrev StillAfter : NameState → WalkDeed → Type 0
+  StillAfter s d = Still (Alone (done_with d.logs d.state)) × ((o : EditOp) → d.logs ≡ Some o → Still (record { names = s; pending = Some o }))
+
+  completes : (s : NameState) (session : ℕ) → Still (Alone s) → StillAfter s (record { answer = Completed; logs = Some (op.Complete session); state = s })
+  completes s session h =
+      let t = takes s (op.Complete session) (inv.completed s.table session (h.table true)) refl h in
+      (t.0, λ o is. let same : op.Complete session ≡ o = cc in subst (λ (x : EditOp). Still (record { names = s; pending = Some x })) same t.1)
+
+  no-file : (s : NameState) (session count : ℕ) → Still (Alone s) → StillAfter s (none_left s session count)
+  no-file s session count h = go (count == 0)
+    where
+      go : (none : Bool) → StillAfter s (if none then record { answer = Completed; logs = Some (op.Complete session); state = s } else record { answer = NoneLeft count; logs = None; state = s })
+      go true = completes s session h
+      go false = (h, λ o is. absurd cc)
+
+  files-walked : (s : NameState) (zone : ℕ) (st : StatusRow) (files : List Entry) → Still (Alone s) → StillAfter s (deed_by_files s zone st files)
+  files-walked s zone st [] h = no-file s st.session (outstanding (walk_of s.walks st).batches) h
+  files-walked s zone st (e ∷ es) h = (record { later = h.later; asks = h.asks; table = h.table }, λ o is. absurd cc)
+
+  zone-walked : (s : NameState) (zone : ℕ) (status : Option StatusRow) → Still (Alone s) → StillAfter s (deed_by_status s zone status)
+  zone-walked s zone None h = (h, λ o is. absurd cc)
+  zone-walked s zone (Some st) h = files-walked s zone st (walk_list s.table.rows zone (walk_of s.walks st).cursor) h
+
+  walked-well : (s : NameState) (p : NPath) → Still (Alone s) → StillAfter s (walk_deed s p)
+  walked-well s p h = zone-walked s (id_at s.table.rows p) (status_at s.table p) h
+
+  moves-on : (s : NameState) (p : NPath) (result : Result Walked NameRefusal) (s' : NameState) → NameWalks s p result s' → Still (Alone s) → Still (Alone s')
+  moves-on s p result s' (NoRoom, may, is) h = at (Alone s') (Alone s) (ap Alone (ap (λ o. o.state) is)) h
+  moves-on s p result s' (Plain, may, is) h = go (first_cause (walk_causes s p)) is
+    where
+      go : (o : Option NameRefusal) → (record { reply = result; state = s' }) ≡ unless_not_walked o s (walk_deed s p) → Still (Alone s')
+      go (Some why) is = at (Alone s') (Alone s) (ap Alone (ap (λ o. o.state) is)) h
+      go None is = at (Alone s') (Alone (done_with (walk_deed s p).logs (walk_deed s p).state)) (ap Alone (ap (λ o. o.state) is)) (walked-well s p h).0
+
+  walks : (s : NameService) (p : NPath) (result : Result Walked NameRefusal) (logged : List EditOp) (s' : NameService) → WalkServes s p AnyFault result logged s' → Keeps s → Still s → Still s'
+  walks s p result logged s' did k h = early (first_cause (path_causes p)) did
+    where
+      early : (o : Option NameRefusal) → WalkServesUnless o s p AnyFault result logged s' → Still s'
+      early (Some why) refused = at s' s refused.same h
+      early None (inl waits) = at s' s waits.ends.same h
+      early None (inr (kept, inl w)) = at s' (Alone w.changed) w.left (moves-on (settled kept s) p result w.changed w.walks (settles kept s k h))
+      early None (inr (kept, inr u)) = at s' (record { names = settled kept s; pending = Some u.op }) u.left ((walked-well (settled kept s) p (settles kept s k h)).1 u.op u.writes)
+
   pub step : (s s' : NameService) (did : IsStep s s') → SparesStep Spares s s' did → Keeps s → Still s → Still s'
   step s s' (Called user c result logged did) spares k h = serves s user c result logged s' spares did k h
   step s s' (Asked user q result did same) spares k h = asks s s' user q same (asking s.names user q result s'.names did) h
   step s s' (Finished id given result logged did) spares k h = ends s id given result logged s' did k h
+  step s s' (Walks p result logged did) spares k h = walks s p result logged s' did k h
 
   -- if all steps may be made
   pub steps : ((s s' : NameService) (did : IsStep s s') → SparesStep Spares s s' did) → (s : NameService) (between : List NameService) (t : NameService) → Reaches s between t → Keeps s → Still s → Still t
@@ -182,6 +244,7 @@ pub any-step : (s s' : NameService) (did : IsStep s s') → SparesStep AnyCall s
 any-step s s' (Called user c result logged did) = λ kept. tt
 any-step s s' (Asked user a result asks same) = tt
 any-step s s' (Finished id given result logged did) = tt
+any-step s s' (Walks p result logged did) = tt
 
 -- a property of open asks, and of each ask with an id that is not used yet, stays true of open asks; used ids stay used
 pub asks-keep : (P : OpenAsk → Type 0) (n : ℕ) → ((q : OpenAsk) → n ≤ q.id → P q) → (s s' : NameService) → IsStep s s' → Keeps s → n ≤ next_id s.names → AllByRecursion P s.names.asks
@@ -190,11 +253,11 @@ asks-keep P n later s s' did k used asks = (still.later, still.asks)
   where
     still : Stays (λ t. ⊤) P n s'
     still =
-        step (λ t. ⊤) P AnyCall n (record { called = λ s c o k new spares free logs h. tt; finished = λ t q edek only free h. tt; later_asks = later }) s s' did (any-step s s' did) k
+        step (λ t. ⊤) P AnyCall n (record { called = λ s c o k new spares free logs h. tt; finished = λ t q edek only free h. tt; completed = λ t session h. tt; later_asks = later }) s s' did (any-step s s' did) k
         (record { later = used; asks = asks; table = λ kept. tt })
 
 -- ids are in order in a namesystem that is opened again
-pub keeps-reopened : (kept : Bool) (s : NameService) → Keeps s → Keeps (started (settled kept s).table)
+pub keeps-reopened : (kept : Bool) (s : NameService) → Keeps s → Keeps (started s.names.batch (settled kept s).table)
 keeps-reopened kept s k = record {
   few = omega arith;
   ids = record { of_rows = λ i d b. let h = now.ids.of_rows i d b in let few = now.few in omega (arith, h, few); of_asks = tt; free = tt; rising = tt };

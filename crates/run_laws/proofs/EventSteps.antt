@@ -26,15 +26,20 @@ use Rattle.name_calls.specs.declared.calls.Want.{Want}
 use Rattle.name_calls.specs.declared.calls.Want.TheVariants as want
 use Rattle.name_core.specs.Asks.{Asks}
 use Rattle.name_core.specs.Calls.{superuser}
-use Rattle.name_core.specs.Laws.{AnyFault, Asked, Called, Finished, IsStep}
+use Rattle.name_core.specs.Laws.{AnyFault, Asked, Called, Finished, IsStep, Walks}
+use Rattle.name_core.specs.Walking.{WalkServes}
+use Rattle.name_core.specs.declared.walks.Walked.{Walked}
+use Rattle.name_core.specs.declared.walks.Walked.TheVariants as walk
+use Rattle.reenc_walk.specs.declared.sent.BatchNote.{BatchNote}
 use Rattle.name_core.specs.State.{NameService, settled, started}
 use Rattle.hk_events.specs.declared.event.Event.{Event}
 use Rattle.hk_events.specs.declared.event.Event.TheVariants as event
 use Rattle.hk_events.specs.declared.event.Line.{Line}
 use Rattle.world_run.specs.declared.kept.KeptReply.{KeptReply}
-use Rattle.world_run.specs.declared.kept.KeptReply.TheVariants.{ToAsk}
+use Rattle.world_run.specs.declared.kept.KeptReply.TheVariants.{ToAsk, ToBatch}
+use Rattle.world_run.specs.Batches.{after_walk, batch_call, result_of}
 use Rattle.world_run.specs.Acknowledged.{Acknowledged}
-use Rattle.world_run.specs.Step.{AskAt, DepositActs, DrawActs, FinishReply, NamesAct, PathActs, Step, WantActs, after_ask, after_ticket, delete_with, kept_reply, zone_with}
+use Rattle.world_run.specs.Step.{AskAt, DepositActs, DrawActs, FinishReply, NamesAct, PathActs, ServeActs, Step, WalkAt, WantActs, after_ask, after_ticket, delete_with, kept_reply, zone_with}
 use Rattle.world_run.specs.RenamePaths.{read_rename_paths, rename_along}
 use Rattle.world_run.specs.SnapPaths.{read_snap_path, snap_at, unsnap_at}
 use Rattle.world_run.specs.World.{Kept, WorldState, numbered, with_names, with_reply, with_ticket}
@@ -72,12 +77,13 @@ abbrev pub IsOf : {s s' : NameService} → Event → IsStep s s' → Type 0
 IsOf e (Called user c outcome logged serves) = call_of e ≡ Some c
 IsOf e (Asked user a outcome asks same) = ⊤
 IsOf e (Finished id given outcome logged serves) = ⊤
+IsOf e (Walks p outcome logged serves) = ⊤
 
 -- in an event the namesystem is unchanged, or takes a step, or is opened again from its log
 pub data Turns (e : Event) (s s' : NameService) : Type 0 where
   Rests : s' ≡ s → Turns e s s'
   Stepped : (did : IsStep s s') → IsOf e did → Turns e s s'
-  Reopened : (kept : Bool) → s' ≡ started (settled kept s).table → Turns e s s'
+  Reopened : (kept : Bool) → s' ≡ started s.names.batch (settled kept s).table → Turns e s s'
 
 pub record Moves (e : Event) (w w' : WorldState) : Type 0 where
   pub names : Turns e w.names w'.names
@@ -137,7 +143,30 @@ module _ (e : Event) where
 
   finish-moves : (w : WorldState) (o : Option KeptReply) (outcome : Line) (drawn : ℕ) (logged : Acknowledged) (w' : WorldState) → FinishReply w o AnyFault outcome drawn logged w' → Moves e w w'
   finish-moves w None outcome drawn logged w' u = rests w w' u.same
+  finish-moves w (Some (ToBatch batch answer)) outcome drawn logged w' u = rests w w' u.same
   finish-moves w (Some (ToAsk id answer)) outcome drawn logged w' f = at w (record w { names = f.names }) w' f.left (turns w f.names (Stepped (Finished id answer f.result f.ops f.finishes) tt))
+
+  walk-moves : (w : WorldState) (o : Option NPath) (outcome : Line) (drawn : ℕ) (logged : Acknowledged) (w' : WorldState) → WalkAt w o AnyFault outcome drawn logged w' → Moves e w w'
+  walk-moves w None outcome drawn logged w' r = rests w w' r.1.same
+  walk-moves w (Some p) outcome drawn logged w' (inr r) = rests w w' r.1.same
+  walk-moves w (Some p) outcome drawn logged w' (inl a) = at w (after_walk a.result (record w { names = a.names })) w' a.left (go a.result a.walks)
+    where
+      -- a batch that is kept takes nothing away
+      go : (result : Result Walked NameRefusal) → WalkServes w.names p AnyFault result a.ops a.names → Moves e w (after_walk result (record w { names = a.names }))
+      go (Ok (walk.Batch batch)) did = record { names = Stepped (Walks p (Ok (walk.Batch batch)) a.ops did) tt; kept = record { notes = λ n x h. h; replies = λ n x h. h }; ready = λ ready. ready }
+      go (Ok (walk.NoneLeft outstanding)) did = turns w a.names (Stepped (Walks p (Ok (walk.NoneLeft outstanding)) a.ops did) tt)
+      go (Ok walk.Completed) did = turns w a.names (Stepped (Walks p (Ok walk.Completed) a.ops did) tt)
+      go (Err why) did = turns w a.names (Stepped (Walks p (Err why) a.ops did) tt)
+
+  serve-moves : (lines : List PropLine) (w : WorldState) (words : ℕ → ℕ) (now : ℕ) (o : Option BatchNote) (outcome : Line) (drawn : ℕ) (logged : Acknowledged) (w' : WorldState)
+      → ServeActs lines w words now o AnyFault outcome drawn logged w' → Moves e w w'
+  serve-moves lines w words now None outcome drawn logged w' u = rests w w' u.same
+  serve-moves lines w words now (Some batch) outcome drawn logged w' (inr full) = rests w w' full.same
+  serve-moves lines w words now (Some batch) outcome drawn logged w' (inl d) = at w (with_reply (ToBatch batch (result_of d.reply)) (record w { keys = d.keys })) w' d.left (record {
+    names = Rests refl;
+    kept = record { notes = λ n x h. h; replies = λ n x h. numbered-stays w.kept.replies (ToBatch batch (result_of d.reply)) n x h };
+    ready = user_keeps_ready lines superuser w.keys words now (batch_call batch) AnyFault d.reply drawn d.commands d.keys d.serves;
+  })
 
   -- the ticket that is kept, if one is given
   ticket-moves : (w : WorldState) (o : Option Ticket) (w' : WorldState) → w' ≡ after_ticket o w → Moves e w w'
@@ -169,7 +198,8 @@ step-moves lines w words now event.RestartKms outcome drawn logged w' s = at eve
       subst (λ (t : Table). KeepsReady (service_after_opening w.keys.keys.ready t)) (sym (s.found tt).table_is) (opening_keeps_ready (s.found tt).kept w.keys w.keys.keys.ready ready);
 })
 step-moves lines w words now event.RestartName outcome drawn logged w' s =
-    at event.RestartName w (record w { names = started s.table }) w' s.left (turns event.RestartName w (started s.table) (Reopened (s.found tt).kept (ap started (s.found tt).table_is)))
+    at event.RestartName w (record w { names = started w.names.names.batch s.table }) w' s.left
+    (turns event.RestartName w (started w.names.names.batch s.table) (Reopened (s.found tt).kept (ap (started w.names.names.batch) (s.found tt).table_is)))
 step-moves lines w words now (event.Mkdir user p) outcome drawn logged w' s = path-moves (event.Mkdir user p) w user call.Mkdir (read_path p) outcome drawn logged w' refl s
 step-moves lines w words now (event.Delete user p recursive) outcome drawn logged w' s = path-moves (event.Delete user p recursive) w user (delete_with recursive) (read_path p) outcome drawn logged w' refl s
 step-moves lines w words now (event.Rename user p q) outcome drawn logged w' s = path-moves (event.Rename user p q) w user rename_along (read_rename_paths p q) outcome drawn logged w' refl s
@@ -179,11 +209,16 @@ step-moves lines w words now (event.Allow user p) outcome drawn logged w' s = pa
 step-moves lines w words now (event.Disallow user p) outcome drawn logged w' s = path-moves (event.Disallow user p) w user call.Disallow (read_path p) outcome drawn logged w' refl s
 step-moves lines w words now (event.Snap user p name) outcome drawn logged w' s = path-moves (event.Snap user p name) w user snap_at (read_snap_path p name) outcome drawn logged w' refl s
 step-moves lines w words now (event.Unsnap user p name) outcome drawn logged w' s = path-moves (event.Unsnap user p name) w user unsnap_at (read_snap_path p name) outcome drawn logged w' refl s
+step-moves lines w words now (event.Cancel user p) outcome drawn logged w' s = path-moves (event.Cancel user p) w user call.Cancel (read_path p) outcome drawn logged w' refl s
+step-moves lines w words now (event.Status user p) outcome drawn logged w' s = path-moves (event.Status user p) w user call.Status (read_path p) outcome drawn logged w' refl s
 step-moves lines w words now (event.Zones user) outcome drawn logged w' s = call-moves (event.Zones user) w user call.Zones outcome drawn logged w' refl s
 step-moves lines w words now (event.AskCreate user p) outcome drawn logged w' s = ask-moves (event.AskCreate user p) w user ask.Create (read_path p) outcome w' s.1
 step-moves lines w words now (event.AskZone user p key) outcome drawn logged w' s = ask-moves (event.AskZone user p key) w user (zone_with key) (read_path p) outcome w' s.1
+step-moves lines w words now (event.AskSubmit user p) outcome drawn logged w' s = ask-moves (event.AskSubmit user p) w user ask.Submit (read_path p) outcome w' s.1
 step-moves lines w words now (event.Draw number) outcome drawn logged w' s = draw-moves (event.Draw number) lines w words now (numbered w.kept.notes number) outcome drawn logged w' s
 step-moves lines w words now (event.Finish number) outcome drawn logged w' s = finish-moves (event.Finish number) w (numbered w.kept.replies number) outcome drawn logged w' s
+step-moves lines w words now (event.Walk p) outcome drawn logged w' s = walk-moves (event.Walk p) w (read_path p) outcome drawn logged w' s
+step-moves lines w words now (event.Serve number) outcome drawn logged w' s = serve-moves (event.Serve number) lines w words now (numbered w.kept.batches number) outcome drawn logged w' s
 
 pub moves : (w : WorldState) (e : Event) (outcome : Line) (w' : WorldState) → Happens w e outcome w' → Moves e w w'
 moves w e outcome w' h = step-moves h.lines w h.words h.now e outcome h.drawn h.logged w' h.step

@@ -11,6 +11,9 @@ use Rattle.name_calls.specs.Paths.{parent, starts_reserved}
 use Rattle.inode_tree.specs.Rows.{Entry, entry_of, has_children, is_dir_at, mark_of, row_at, same_id, zone_id, zone_of}
 use Rattle.edit_ops.specs.declared.ops.EditOp.{EditOp}
 use Rattle.edit_ops.specs.declared.ops.EditOp.TheVariants as op
+use Rattle.zone_table.specs.declared.statuses.StatusRow.{StatusRow}
+use Rattle.zone_table.specs.Statuses.{zone_goes_on}
+use Rattle.name_store.specs.Causes.{id_at, mark_at}
 use Rattle.name_store.specs.Store.{is_opening}
 use Rattle.name_store.specs.Table.{fits_zone, key_of_zone, may_use_all, settled_table, uses}
 use Rattle.name_store.proofs.CauseLemmas.{allowed, id-may-be-used, markable}
@@ -98,6 +101,9 @@ module _ (s : NameService) (k : Ask) (names : IsNames s) where
   leaves (op.Disallow p) w = tt
   leaves (op.Snap p name) w = tt
   leaves (op.Unsnap p name) w = tt
+  leaves (op.Submit session p noted) w = tt
+  leaves (op.Cancel session) w = tt
+  leaves (op.Complete session) w = tt
 
   stays : Stays (KeepsKey under key) (IsOnly under its) (next_id (asked s.names k)) (record { names = asked s.names k; pending = s.pending })
   stays = record {
@@ -127,13 +133,13 @@ accepted s user k note s' (Plain, may, is) = go (first_cause (ask_causes s user 
 -- it was refused for a cause in the settled rows, which it left unchanged
 record IsStopped (t : NameService) (a : OpenAsk) (edek : Option Edek) (t' : NameService) : Type 0 where
   kept : Bool
-  stops : first_cause (finish_causes (settled kept t).table.rows a edek a.ask) ≡ Some refusal.ZoneChanged
+  stops : first_cause (finish_causes (settled kept t).table.rows (settled kept t).table.statuses a edek a.ask) ≡ Some refusal.ZoneChanged
   left : t'.names.table.rows ≡ (settled kept t).table.rows
 
 stopped : (s : NameState) (a : OpenAsk) (edek : Option Edek) (s' : NameState) → Finishes s a edek (Err refusal.ZoneChanged) s'
-    → (first_cause (finish_causes s.table.rows a edek a.ask) ≡ Some refusal.ZoneChanged) × (s'.table.rows ≡ s.table.rows)
+    → (first_cause (finish_causes s.table.rows s.table.statuses a edek a.ask) ≡ Some refusal.ZoneChanged) × (s'.table.rows ≡ s.table.rows)
 stopped s a edek s' (NoRoom, may, is) = let f : Err refusal.ZoneChanged ≡ Err refusal.NoMemory = ap (λ o. o.reply) is in absurd cc
-stopped s a edek s' (Plain, may, is) = go (first_cause (finish_causes s.table.rows a edek a.ask)) is
+stopped s a edek s' (Plain, may, is) = go (first_cause (finish_causes s.table.rows s.table.statuses a edek a.ask)) is
   where
     go : (o : Option NameRefusal) → (record { reply = Err refusal.ZoneChanged; state = s' }) ≡ unless_stopped o s a edek → (o ≡ Some refusal.ZoneChanged) × (s'.table.rows ≡ s.table.rows)
     go (Some why) is = let f : Err refusal.ZoneChanged ≡ Err why = ap (λ o. o.reply) is in (cc, ap (λ o. o.state.table.rows) is)
@@ -194,37 +200,48 @@ first : (b : Bool) (rest : Option NameRefusal) → (b ≡ false → rest ≡ Som
 first true rest never h = refl
 first false rest never h = absurd (never refl h)
 
-for-its-zone : (s : NameState) (k : Ask) (rows : List Entry) (edek : Option Edek) → All (HasKey (zone_id s.table.rows (path_asked k)) (key_of_zone s.table.rows (path_asked k))) rows
-    → Answers (wanted s.table.rows k) edek → first_cause (finish_causes rows (ask_opened s k) edek k) ≡ Some refusal.ZoneChanged → is_other_zone rows (ask_opened s k) ≡ true
-for-its-zone s (ask.Create p) rows edek have answers stops =
+-- an encrypted key that fits what was wanted fits the zone, if it is the same
+key-fits : (s : NameState) (p : List (List ℕ)) (rows : List Entry) (edek : Option Edek) → All (HasKey (zone_id s.table.rows p) (key_of_zone s.table.rows p)) rows → Answers (wanted_under (key_of_zone s.table.rows p)) edek
+    → not (same_id (zone_id rows p) (zone_id s.table.rows p)) ≡ false → is_other_key rows p edek ≡ false
+key-fits s p rows edek have answers same =
+    ap (λ (key : Option KeyName). not (fits_zone key edek))
+    (same-key (zone_id s.table.rows p) (key_of_zone s.table.rows p) rows p (no-key s.table.rows p) have (same-id-is (zone_id rows p) (zone_id s.table.rows p) same))
+    ∙ ap not (fits (key_of_zone s.table.rows p) edek answers)
+
+-- a key that fits, and another cause after it
+fitting : (b other : Bool) (why : NameRefusal) → (why ≡ refusal.ZoneChanged → ⊥) → b ≡ false → cond b (Some refusal.ZoneChanged) (cond other (Some why) None) ≡ Some refusal.ZoneChanged → ⊥
+fitting true other why another e h = absurd cc
+fitting false true why another e h = another cc
+fitting false false why another e h = absurd cc
+
+for-its-zone : (s : NameState) (k : Ask) (rows : List Entry) (statuses : List StatusRow) (edek : Option Edek) → All (HasKey (zone_id s.table.rows (path_asked k)) (key_of_zone s.table.rows (path_asked k))) rows
+    → Answers (wanted s.table.rows k) edek → first_cause (finish_causes rows statuses (ask_opened s k) edek k) ≡ Some refusal.ZoneChanged → is_other_zone rows (ask_opened s k) ≡ true
+for-its-zone s (ask.Create p) rows statuses edek have answers stops =
     let c1 = past (starts_reserved p) refusal.BadPath _ (λ e. cc) stops in
     let c2 = past (is_none (row_at rows (parent p))) refusal.NoSuchPath _ (λ e. cc) c1 in
     let c3 = past (not (is_dir_at (row_at rows (parent p)))) refusal.NotADirectory _ (λ e. cc) c2 in
     let c4 = past (is_some (row_at rows p)) refusal.Exists _ (λ e. cc) c3 in
-    first (is_other_zone rows (ask_opened s (ask.Create p))) _ (λ same. fitting (is_other_key rows p edek) (nat_le 1000000 (length rows)) (fit same)) c4
-  where
-    fit : is_other_zone rows (ask_opened s (ask.Create p)) ≡ false → is_other_key rows p edek ≡ false
-    fit same =
-        ap (λ (key : Option KeyName). not (fits_zone key edek))
-        (same-key (zone_id s.table.rows p) (key_of_zone s.table.rows p) rows p (no-key s.table.rows p) have (same-id-is (zone_id rows p) (zone_id s.table.rows p) same))
-        ∙ ap not (fits (key_of_zone s.table.rows p) edek answers)
-
-    fitting : (b full : Bool) → b ≡ false → cond b (Some refusal.ZoneChanged) (cond full (Some refusal.TooManyInodes) None) ≡ Some refusal.ZoneChanged → ⊥
-    fitting true full e h = absurd cc
-    fitting false true e h = absurd cc
-    fitting false false e h = absurd cc
-for-its-zone s (ask.Zone p key) rows edek have answers stops =
+    first (is_other_zone rows (ask_opened s (ask.Create p))) _
+    (λ same. fitting (is_other_key rows p edek) (nat_le 1000000 (length rows)) refusal.TooManyInodes (λ e. cc) (key-fits s p rows edek have answers same)) c4
+for-its-zone s (ask.Zone p key) rows statuses edek have answers stops =
     let c1 = past (starts_reserved p) refusal.BadPath _ (λ e. cc) stops in
     let c2 = past (is_none (row_at rows p)) refusal.NoSuchPath _ (λ e. cc) c1 in
     let c3 = past (not (is_dir_at (row_at rows p))) refusal.NotADirectory _ (λ e. cc) c2 in
     let c4 = past (has_children rows p) refusal.NotEmpty _ (λ e. cc) c3 in
     let c5 = past (is_some (zone_of rows p)) refusal.AlreadyInZone _ (λ e. cc) c4 in
     first (is_other_zone rows (ask_opened s (ask.Zone p key))) None (λ same h. absurd cc) c5
+for-its-zone s (ask.Submit p) rows statuses edek have answers stops =
+    let c1 = past (starts_reserved p) refusal.BadPath _ (λ e. cc) stops in
+    let c2 = past (is_none (row_at rows p)) refusal.NoSuchPath _ (λ e. cc) c1 in
+    let c3 = past (not (is_dir_at (row_at rows p))) refusal.NotADirectory _ (λ e. cc) c2 in
+    let c4 = past (is_none (mark_at rows p)) refusal.NotAZoneRoot _ (λ e. cc) c3 in
+    first (is_other_zone rows (ask_opened s (ask.Submit p))) _
+    (λ same. fitting (is_other_key rows p edek) (zone_goes_on statuses (id_at rows p)) refusal.AlreadySubmitted (λ e. cc) (key-fits s p rows edek have answers same)) c4
 
 pub refused_for_its_zone : RefusedForItsZone
 refused_for_its_zone s user k note s' between t edek logged t' names asks same reaches answers finish =
     subst (λ (rows : List Entry). is_other_zone rows a ≡ true) (sym stop.left)
-    (for-its-zone s.names k (settled stop.kept t).table.rows edek (now.table stop.kept) (subst (λ (x : AskNote). Answers x.want edek) did.0 answers) stop.stops)
+    (for-its-zone s.names k (settled stop.kept t).table.rows (settled stop.kept t).table.statuses edek (now.table stop.kept) (subst (λ (x : AskNote). Answers x.want edek) did.0 answers) stop.stops)
   where
     a : OpenAsk
     a = ask_opened s.names k

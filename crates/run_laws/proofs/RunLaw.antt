@@ -111,6 +111,7 @@ accepts w user k (Some p) a number note w' is (inl acts) = go acts.result acts.a
 asks-so : (w : WorldState) (e : Event) (a : Ask) (number : ℕ) (note : AskNote) (w' : WorldState) → ask_of e ≡ Some a → Happens w e (line.Asked number note) w' → Accepts w a number note w'
 asks-so w (event.AskCreate user p) a number note w' is h = accepts w user ask.Create (read_path p) a number note w' is h.step.1
 asks-so w (event.AskZone user p key) a number note w' is h = accepts w user (zone_with key) (read_path p) a number note w' is h.step.1
+asks-so w (event.AskSubmit user p) a number note w' is h = accepts w user ask.Submit (read_path p) a number note w' is h.step.1
 asks-so w (event.Kms user c) a number note w' is h = absurd cc
 asks-so w event.Ticket a number note w' is h = absurd cc
 asks-so w (event.Deposit n) a number note w' is h = absurd cc
@@ -125,9 +126,13 @@ asks-so w (event.Allow user p) a number note w' is h = absurd cc
 asks-so w (event.Disallow user p) a number note w' is h = absurd cc
 asks-so w (event.Snap user p name) a number note w' is h = absurd cc
 asks-so w (event.Unsnap user p name) a number note w' is h = absurd cc
+asks-so w (event.Cancel user p) a number note w' is h = absurd cc
+asks-so w (event.Status user p) a number note w' is h = absurd cc
 asks-so w (event.Zones user) a number note w' is h = absurd cc
 asks-so w (event.Draw n) a number note w' is h = absurd cc
 asks-so w (event.Finish n) a number note w' is h = absurd cc
+asks-so w (event.Walk p) a number note w' is h = absurd cc
+asks-so w (event.Serve n) a number note w' is h = absurd cc
 
 since-ask : (w : WorldState) (a : Ask) (number : ℕ) (note : AskNote) (w' : WorldState) → IsNames w.names → (acc : Accepts w a number note w') → Since note.id (record w.names { names = acc.names }) w'.names
 since-ask w a number note w' names acc =

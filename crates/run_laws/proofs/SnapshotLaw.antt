@@ -10,7 +10,7 @@ use Rattle.name_store.specs.Store.{is_opening}
 use Rattle.name_store.specs.Table.{NameTable, after_table}
 use Rattle.name_core.specs.Asks.{finish_op}
 use Rattle.name_core.specs.Calls.{causes, deed, first_cause}
-use Rattle.name_core.specs.Laws.{Asked, Called, Finished, IsNotCalled, IsStep, removes_snapshot}
+use Rattle.name_core.specs.Laws.{Asked, Called, Finished, IsNotCalled, IsStep, Walks, removes_snapshot}
 use Rattle.name_core.specs.State.{IsNames, NameService, NameState}
 use Rattle.name_core.specs.Steps.{Keeps}
 use Rattle.name_core.proofs.AllowedLemmas.{allowed-call, no-opening}
@@ -47,11 +47,13 @@ module _ (dir : ℕ) (name : List ℕ) (was : Snapshot) where
   has-finished : (t : NameTable) (id : ℕ) (edek : Option Edek) (k : Ask) → Has t → Has (after_table t (finish_op id edek k))
   has-finished t id edek (ask.Create p) h = record { opened = h.opened; stands = h.stands }
   has-finished t id edek (ask.Zone p key) h = record { opened = h.opened; stands = h.stands }
+  has-finished t id edek (ask.Submit p) h = record { opened = h.opened; stands = h.stands }
 
   snapshot-stays : Invariant Has AnyAsk Spares 0
   snapshot-stays = record {
     called = λ s c o k new spares free logs h. has-called s c o k spares free logs h;
     finished = λ t q edek only free h. has-finished t q.id edek q.ask h;
+    completed = λ t session h. record { opened = h.opened; stands = h.stands };
     later_asks = λ q later. tt;
   }
 
@@ -65,6 +67,7 @@ module _ (dir : ℕ) (name : List ℕ) (was : Snapshot) where
   spares-step e s s' (Called user c reply logged did) its spares = subst (λ (o : Option NameCall). IfSome o (λ c. IsNotCalled s c dir name)) its spares
   spares-step e s s' (Asked user a reply asks same) its spares = tt
   spares-step e s s' (Finished id given reply logged did) its spares = tt
+  spares-step e s s' (Walks p reply logged did) its spares = tt
 
   still-turn : (e : Event) (s s' : NameService) → Turns e s s' → IfSome (call_of e) (λ c. IsNotCalled s c dir name) → Still s → Still s'
   still-turn e s s' (Rests is) spares h = subst Still (sym is) h

@@ -55,6 +55,9 @@ LeavesZone under rows (op.Allow p) = ⊤
 LeavesZone under rows (op.Disallow p) = ⊤
 LeavesZone under rows (op.Snap p name) = ⊤
 LeavesZone under rows (op.Unsnap p name) = ⊤
+LeavesZone under rows (op.Submit session p noted) = ⊤
+LeavesZone under rows (op.Cancel session) = ⊤
+LeavesZone under rows (op.Complete session) = ⊤
 
 module _ (under : Option ℕ) (key : Option KeyName) (marked : (i : ℕ) → under ≡ Some i → is_some key ≡ true) where
   outside : (x : Entry) (rows : List Entry) (p : List (List ℕ)) → is_some (zone_of (x ∷ rows) p) ≡ false → (is_zone_over p x ≡ false) × (is_some (zone_of rows p) ≡ false)
@@ -93,6 +96,9 @@ module _ (under : Option ℕ) (key : Option KeyName) (marked : (i : ℕ) → und
   keys-stay t (op.Disallow p) leaves h = h
   keys-stay t (op.Snap p name) leaves h = h
   keys-stay t (op.Unsnap p name) leaves h = h
+  keys-stay t (op.Submit session p noted) leaves h = h
+  keys-stay t (op.Cancel session) leaves h = h
+  keys-stay t (op.Complete session) leaves h = h
   keys-stay t (op.Zone p k) leaves h = All-map (HasKey under key) (with_kind id (Dir (Some k))) t.rows (λ i d b. with-kind (get_or t.rows i d) (h i d b))
     where
       id : ℕ

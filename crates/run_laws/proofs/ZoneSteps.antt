@@ -15,6 +15,7 @@ use Rattle.name_core.specs.declared.asks.OpenAsk.{OpenAsk}
 use Rattle.name_core.specs.Asks.{finish_causes, finish_op}
 use Rattle.name_core.specs.Calls.{deed, first_cause}
 use Rattle.name_core.specs.State.{NameState, next_id}
+use Rattle.name_core.specs.Walks.{session_at}
 use Rattle.name_core.proofs.AllowedLemmas.{may-make-zone}
 use Rattle.run_laws.proofs.AskSteps.{AnyCall, Invariant}
 use Rattle.run_laws.proofs.ZoneMarks.{HasKey, LeavesZone, keys-stay}
@@ -50,16 +51,20 @@ module _ (under : Option ℕ) (key : Option KeyName) (P : OpenAsk → Type 0) (n
       go (call.Disallow p) is = so (op.Disallow p) tt is
       go (call.Snap p name) is = so (op.Snap p name) tt is
       go (call.Unsnap p name) is = so (op.Unsnap p name) tt is
+      go (call.Cancel p) is = so (op.Cancel (session_at s.table p)) tt is
+      go (call.Status p) is = absurd cc
       go call.Zones is = absurd cc
 
   -- a directory that a finish marks is outside all zones
-  leaves-finished : (t : NameTable) (q : OpenAsk) (edek : Option Edek) (k : Ask) → P q → first_cause (finish_causes t.rows q edek k) ≡ None → LeavesZone under t.rows (finish_op q.id edek k)
+  leaves-finished : (t : NameTable) (q : OpenAsk) (edek : Option Edek) (k : Ask) → P q → first_cause (finish_causes t.rows t.statuses q edek k) ≡ None → LeavesZone under t.rows (finish_op q.id edek k)
   leaves-finished t q edek (ask.Create p) only free = begun.apart q only
-  leaves-finished t q edek (ask.Zone p k) only free = let m = markable t.rows p (may-make-zone t.rows q edek p k free) in (m.dir, ap is_some m.outside)
+  leaves-finished t q edek (ask.Zone p k) only free = let m = markable t.rows p (may-make-zone t.rows t.statuses q edek p k free) in (m.dir, ap is_some m.outside)
+  leaves-finished t q edek (ask.Submit p) only free = tt
 
   pub zone-stays : Invariant (KeepsKey under key) P AnyCall n
   zone-stays = record {
     called = λ s c o k new spares free logs h. keys-stay under key begun.marked s.table o (leaves-called s c o new logs) h;
     finished = λ t q edek only free h. keys-stay under key begun.marked t (finish_op q.id edek q.ask) (leaves-finished t q edek q.ask only free) h;
+    completed = λ t session h. h;
     later_asks = begun.later_asks;
   }

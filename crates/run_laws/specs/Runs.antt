@@ -51,10 +51,11 @@ abbrev pub Leads : WorldState → List WorldState → WorldState → Type 0
 Leads w [] v = v ≡ w
 Leads w (m ∷ ms) v = SomeHappens w m × Leads m ms v
 
--- the ask that an event makes: for a file or for a zone, if its path keeps the rule of paths
+-- the ask that an event makes: for a file, for a zone or for a re-encryption, if its path keeps the rule of paths
 abbrev pub ask_of : Event → Option Ask
 ask_of (event.AskCreate user path) = option_map ask.Create (read_path path)
 ask_of (event.AskZone user path key) = option_map (zone_with key) (read_path path)
+ask_of (event.AskSubmit user path) = option_map ask.Submit (read_path path)
 ask_of _ = None
 
 -- The call of the namesystem that an event makes, if it makes one and what it gives can be read.
@@ -68,6 +69,8 @@ call_of (event.Allow user path) = option_map call.Allow (read_path path)
 call_of (event.Disallow user path) = option_map call.Disallow (read_path path)
 call_of (event.Snap user path name) = option_map snap_at (read_snap_path path name)
 call_of (event.Unsnap user path name) = option_map unsnap_at (read_snap_path path name)
+call_of (event.Cancel user path) = option_map call.Cancel (read_path path)
+call_of (event.Status user path) = option_map call.Status (read_path path)
 call_of (event.Zones user) = Some call.Zones
 call_of _ = None
 
