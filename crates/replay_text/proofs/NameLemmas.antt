@@ -37,14 +37,19 @@ no_name_line more no_path no_two no_zones (event.Rename user path to) x = no_two
 no_name_line more no_path no_two no_zones (event.Info user path) x = no_path (codes "info") user path (inr (inr (inr (inl refl)))) x
 no_name_line more no_path no_two no_zones (event.List user path) x = no_path (codes "list") user path (inr (inr (inr (inr (inl refl))))) x
 no_name_line more no_path no_two no_zones (event.Allow user path) x = no_path (codes "allow") user path (inr (inr (inr (inr (inr (inl refl)))))) x
-no_name_line more no_path no_two no_zones (event.Disallow user path) x = no_path (codes "disallow") user path (inr (inr (inr (inr (inr (inr refl)))))) x
+no_name_line more no_path no_two no_zones (event.Disallow user path) x = no_path (codes "disallow") user path (inr (inr (inr (inr (inr (inr (inl refl))))))) x
 no_name_line more no_path no_two no_zones (event.Snap user path name) x = no_two (codes "snap") user path name (inr (inl refl)) x
 no_name_line more no_path no_two no_zones (event.Unsnap user path name) x = no_two (codes "unsnap") user path name (inr (inr refl)) x
+no_name_line more no_path no_two no_zones (event.Cancel user path) x = no_path (codes "cancel") user path (inr (inr (inr (inr (inr (inr (inr (inl refl)))))))) x
+no_name_line more no_path no_two no_zones (event.Status user path) x = no_path (codes "status") user path (inr (inr (inr (inr (inr (inr (inr (inr refl)))))))) x
 no_name_line more no_path no_two no_zones (event.Zones user) x = no_zones user x
 no_name_line more no_path no_two no_zones (event.AskCreate user path) x = two_verbs _ _ _ (codes "nn") (codes "ask") (apart _ _ refl) refl x.fields_are
 no_name_line more no_path no_two no_zones (event.AskZone user path key) x = two_verbs _ _ _ (codes "nn") (codes "ask") (apart _ _ refl) refl x.fields_are
+no_name_line more no_path no_two no_zones (event.AskSubmit user path) x = two_verbs _ _ _ (codes "nn") (codes "ask") (apart _ _ refl) refl x.fields_are
 no_name_line more no_path no_two no_zones (event.Draw number) x = two_verbs _ _ _ (codes "nn") (codes "draw") (apart _ _ refl) refl x.fields_are
 no_name_line more no_path no_two no_zones (event.Finish number) x = two_verbs _ _ _ (codes "nn") (codes "finish") (apart _ _ refl) refl x.fields_are
+no_name_line more no_path no_two no_zones (event.Walk path) x = two_verbs _ _ _ (codes "nn") (codes "walk") (apart _ _ refl) refl x.fields_are
+no_name_line more no_path no_two no_zones (event.Serve number) x = two_verbs _ _ _ (codes "nn") (codes "serve") (apart _ _ refl) refl x.fields_are
 
 -- two fields after `nn` have no path
 two_fields : (user verb : List ℕ) → NoZones (codes "nn" ∷ user ∷ verb ∷ []) → (e : Event) → ¬ SpellsEvent (codes "nn" ∷ user ∷ verb ∷ []) e

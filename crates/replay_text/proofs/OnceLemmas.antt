@@ -10,7 +10,7 @@ use Rattle.kms_calls.specs.declared.calls.KmsCall.{KmsCall}
 use Rattle.kms_calls.specs.declared.calls.KmsCall.TheVariants as call
 use Rattle.hk_events.specs.declared.event.Event.{Event}
 use Rattle.hk_events.specs.declared.event.Event.TheVariants as event
-use Rattle.replay_text.specs.Events.{AreTriples, IsEscaped, IsMaterial, IsQuiet, IsTriple, IsUser, Spells, SpellsAskCreate, SpellsAskZone, SpellsBatch, SpellsCall, SpellsCreate, SpellsEdek, SpellsEvent, SpellsGenerate, SpellsKept, SpellsKms, SpellsMaterial, SpellsMetadatas, SpellsNamed, SpellsPath, SpellsRoll, SpellsSent, SpellsTwoFields, SpellsVersion, SpellsZones, delete_verb, fields_of, is_comma}
+use Rattle.replay_text.specs.Events.{AreTriples, IsEscaped, IsMaterial, IsQuiet, IsTriple, IsUser, Spells, SpellsAskPath, SpellsAskZone, SpellsBatch, SpellsCall, SpellsCreate, SpellsEdek, SpellsEvent, SpellsGenerate, SpellsKept, SpellsKms, SpellsMaterial, SpellsMetadatas, SpellsNamed, SpellsPath, SpellsRoll, SpellsSent, SpellsTwoFields, SpellsVersion, SpellsWalk, SpellsZones, delete_verb, fields_of, is_comma}
 use Rattle.replay_text.proofs.CallLemmas.{apart, two_verbs}
 
 both : (s t : Bool) → (s && t) ≡ true → (s ≡ true) × (t ≡ true)
@@ -385,14 +385,13 @@ same_two_fields verb fields user other path also second last x y =
       ),
     )
 
-ask_create_once : (fields : List (List ℕ)) (user other path also : List ℕ) → SpellsAskCreate fields user path → SpellsAskCreate fields other also → event.AskCreate user path ≡ event.AskCreate other also
-ask_create_once fields user other path also x y =
+-- the same for asks with a path alone
+same_ask : (verb : List ℕ) (fields : List (List ℕ)) (user other path also : List ℕ) → SpellsAskPath verb fields user path → SpellsAskPath verb fields other also → (user ≡ other) × (path ≡ also)
+same_ask verb fields user other path also x y =
     let same = sym x.fields_are ∙ y.fields_are in
     let user_field : x.user_field ≡ y.user_field = cc in
     let path_field : x.path_field ≡ y.path_field = cc in
-    let who : user ≡ other = user_once x.user_field y.user_field user other user_field x.user_is y.user_is in
-    let where_ : path ≡ also = path_once x.path_field y.path_field path also path_field x.path_is y.path_is in
-    λ i. event.AskCreate (who i) (where_ i)
+    (user_once x.user_field y.user_field user other user_field x.user_is y.user_is, path_once x.path_field y.path_field path also path_field x.path_is y.path_is)
 
 ask_zone_once : (fields : List (List ℕ)) (user other path also key second : List ℕ) → SpellsAskZone fields user path key → SpellsAskZone fields other also second → event.AskZone user path key ≡ event.AskZone other also second
 ask_zone_once fields user other path also key second x y =
@@ -410,6 +409,12 @@ kept_once verb fields m n x y =
     let text : decimal m ≡ decimal n = cc in
     decimal_once m n (omega (arith, x.small)) (omega (arith, y.small)) text
 
+walk_once : (fields : List (List ℕ)) (path also : List ℕ) → SpellsWalk fields path → SpellsWalk fields also → path ≡ also
+walk_once fields path also x y =
+    let same = sym x.fields_are ∙ y.fields_are in
+    let path_field : x.path_field ≡ y.path_field = cc in
+    path_once x.path_field y.path_field path also path_field x.path_is y.path_is
+
 zones_once : (fields : List (List ℕ)) (user other : List ℕ) → SpellsZones fields user → SpellsZones fields other → user ≡ other
 zones_once fields user other x y =
     let same = sym x.fields_are ∙ y.fields_are in
@@ -423,8 +428,9 @@ data Kind : Type 0 where
   OnPath : (verb : List ℕ) → Kind
   OnTwoFields : (verb : List ℕ) → Kind
   OnZones : Kind
-  NewFile : Kind
+  AskOnPath : (verb : List ℕ) → Kind
   NewZone : Kind
+  OnWalk : Kind
   OfNumber : (verb : List ℕ) → Kind
   Alone : Kind
 
@@ -443,7 +449,7 @@ name_kind (verb ∷ path ∷ second ∷ more) = OnTwoFields verb
 abbrev ask_kind : List (List ℕ) → Kind
 ask_kind [] = Call
 ask_kind (verb ∷ []) = Call
-ask_kind (verb ∷ path ∷ []) = NewFile
+ask_kind (verb ∷ path ∷ []) = AskOnPath verb
 ask_kind (verb ∷ path ∷ key ∷ more) = NewZone
 
 -- a line that begins with another word: that word alone, or with a number after it
@@ -462,6 +468,8 @@ kind_of (first ∷ rest) =
     then name_kind (drop 1 rest)
     else if bytes_eq first (codes "ask")
     then ask_kind (drop 1 rest)
+    else if bytes_eq first (codes "walk")
+    then OnWalk
     else number_kind first rest
 
 abbrev kind : Event → Kind
@@ -480,11 +488,16 @@ kind (event.Allow user path) = OnPath (codes "allow")
 kind (event.Disallow user path) = OnPath (codes "disallow")
 kind (event.Snap user path name) = OnTwoFields (codes "snap")
 kind (event.Unsnap user path name) = OnTwoFields (codes "unsnap")
+kind (event.Cancel user path) = OnPath (codes "cancel")
+kind (event.Status user path) = OnPath (codes "status")
 kind (event.Zones user) = OnZones
-kind (event.AskCreate user path) = NewFile
+kind (event.AskCreate user path) = AskOnPath (codes "create")
 kind (event.AskZone user path key) = NewZone
+kind (event.AskSubmit user path) = AskOnPath (codes "submit")
 kind (event.Draw n) = OfNumber (codes "draw")
 kind (event.Finish n) = OfNumber (codes "finish")
+kind (event.Walk path) = OnWalk
+kind (event.Serve n) = OfNumber (codes "serve")
 
 kind_is : (fields : List (List ℕ)) (e : Event) → SpellsEvent fields e → kind_of fields ≡ kind e
 kind_is fields (event.Kms user c) x = ap kind_of x.fields_are
@@ -502,11 +515,16 @@ kind_is fields (event.Allow user path) x = ap kind_of x.fields_are
 kind_is fields (event.Disallow user path) x = ap kind_of x.fields_are
 kind_is fields (event.Snap user path name) x = ap kind_of x.fields_are
 kind_is fields (event.Unsnap user path name) x = ap kind_of x.fields_are
+kind_is fields (event.Cancel user path) x = ap kind_of x.fields_are
+kind_is fields (event.Status user path) x = ap kind_of x.fields_are
 kind_is fields (event.Zones user) x = ap kind_of x.fields_are
 kind_is fields (event.AskCreate user path) x = ap kind_of x.fields_are
 kind_is fields (event.AskZone user path key) x = ap kind_of x.fields_are
+kind_is fields (event.AskSubmit user path) x = ap kind_of x.fields_are
 kind_is fields (event.Draw n) x = ap kind_of x.fields_are
 kind_is fields (event.Finish n) x = ap kind_of x.fields_are
+kind_is fields (event.Walk path) x = ap kind_of x.fields_are
+kind_is fields (event.Serve n) x = ap kind_of x.fields_are
 
 -- the event of a word
 abbrev restart_event : List ℕ → Event
@@ -526,7 +544,11 @@ path_event verb user path =
     then event.List user path
     else if bytes_eq verb (codes "allow")
     then event.Allow user path
-    else event.Disallow user path
+    else if bytes_eq verb (codes "disallow")
+    then event.Disallow user path
+    else if bytes_eq verb (codes "cancel")
+    then event.Cancel user path
+    else event.Status user path
 
 abbrev two_field_event : List ℕ → List ℕ → List ℕ → List ℕ → Event
 two_field_event verb user path second =
@@ -536,12 +558,17 @@ two_field_event verb user path second =
     then event.Snap user path second
     else event.Unsnap user path second
 
+abbrev ask_event : List ℕ → List ℕ → List ℕ → Event
+ask_event verb user path = if bytes_eq verb (codes "create") then event.AskCreate user path else event.AskSubmit user path
+
 abbrev number_event : List ℕ → ℕ → Event
 number_event verb n =
     if bytes_eq verb (codes "draw")
     then event.Draw n
     else if bytes_eq verb (codes "finish")
     then event.Finish n
+    else if bytes_eq verb (codes "serve")
+    then event.Serve n
     else event.Deposit n
 
 -- the event of the fields of a line of this kind
@@ -551,8 +578,9 @@ Says (Restart service) fields e = e ≡ restart_event service
 Says (OnPath verb) fields e = (user : List ℕ) × ((path : List ℕ) × (SpellsPath verb fields user path × (e ≡ path_event verb user path)))
 Says (OnTwoFields verb) fields e = (user : List ℕ) × ((path : List ℕ) × ((second : List ℕ) × (SpellsTwoFields verb fields user path second × (e ≡ two_field_event verb user path second))))
 Says OnZones fields e = (user : List ℕ) × (SpellsZones fields user × (e ≡ event.Zones user))
-Says NewFile fields e = (user : List ℕ) × ((path : List ℕ) × (SpellsAskCreate fields user path × (e ≡ event.AskCreate user path)))
+Says (AskOnPath verb) fields e = (user : List ℕ) × ((path : List ℕ) × (SpellsAskPath verb fields user path × (e ≡ ask_event verb user path)))
 Says NewZone fields e = (user : List ℕ) × ((path : List ℕ) × ((key : List ℕ) × (SpellsAskZone fields user path key × (e ≡ event.AskZone user path key))))
+Says OnWalk fields e = (path : List ℕ) × (SpellsWalk fields path × (e ≡ event.Walk path))
 Says (OfNumber verb) fields e = (n : ℕ) × (SpellsKept verb fields n × (e ≡ number_event verb n))
 Says Alone fields e = e ≡ event.Ticket
 
@@ -572,11 +600,16 @@ says fields (event.Allow user path) x = (user, (path, (x, refl)))
 says fields (event.Disallow user path) x = (user, (path, (x, refl)))
 says fields (event.Snap user path name) x = (user, (path, (name, (x, refl))))
 says fields (event.Unsnap user path name) x = (user, (path, (name, (x, refl))))
+says fields (event.Cancel user path) x = (user, (path, (x, refl)))
+says fields (event.Status user path) x = (user, (path, (x, refl)))
 says fields (event.Zones user) x = (user, (x, refl))
 says fields (event.AskCreate user path) x = (user, (path, (x, refl)))
 says fields (event.AskZone user path key) x = (user, (path, (key, (x, refl))))
+says fields (event.AskSubmit user path) x = (user, (path, (x, refl)))
 says fields (event.Draw n) x = (n, (x, refl))
 says fields (event.Finish n) x = (n, (x, refl))
+says fields (event.Walk path) x = (path, (x, refl))
+says fields (event.Serve n) x = (n, (x, refl))
 
 says_once : (k : Kind) (fields : List (List ℕ)) (a b : Event) → Says k fields a → Says k fields b → a ≡ b
 says_once Call fields a b (user, (c, (x, is))) (other, (d, (y, also))) = is ∙ kms_once fields user other c d x y ∙ sym also
@@ -588,8 +621,11 @@ says_once (OnTwoFields verb) fields a b (user, (path, (second, (x, is)))) (other
     let same = same_two_fields verb fields user other path at second last x y in
     is ∙ (λ i. two_field_event verb (same.0 i) (same.1.0 i) (same.1.1 i)) ∙ sym also
 says_once OnZones fields a b (user, (x, is)) (other, (y, also)) = is ∙ ap event.Zones (zones_once fields user other x y) ∙ sym also
-says_once NewFile fields a b (user, (path, (x, is))) (other, (second, (y, also))) = is ∙ ask_create_once fields user other path second x y ∙ sym also
+says_once (AskOnPath verb) fields a b (user, (path, (x, is))) (other, (second, (y, also))) =
+    let same = same_ask verb fields user other path second x y in
+    is ∙ (λ i. ask_event verb (same.0 i) (same.1 i)) ∙ sym also
 says_once NewZone fields a b (user, (path, (key, (x, is)))) (other, (second, (word, (y, also)))) = is ∙ ask_zone_once fields user other path second key word x y ∙ sym also
+says_once OnWalk fields a b (path, (x, is)) (second, (y, also)) = is ∙ ap event.Walk (walk_once fields path second x y) ∙ sym also
 says_once (OfNumber verb) fields a b (m, (x, is)) (n, (y, also)) = is ∙ ap (number_event verb) (kept_once verb fields m n x y) ∙ sym also
 says_once Alone fields a b is also = is ∙ sym also
 
@@ -626,11 +662,16 @@ begins fields (event.Allow user path) x = record { first = 110; front = codes "n
 begins fields (event.Disallow user path) x = record { first = 110; front = codes "n"; more = x.user_field ∷ codes "disallow" ∷ x.path_field ∷ []; begin = x.fields_are; no_comment = λ e. omega (arith, e) }
 begins fields (event.Snap user path name) x = record { first = 110; front = codes "n"; more = x.user_field ∷ codes "snap" ∷ x.path_field ∷ x.second_field ∷ []; begin = x.fields_are; no_comment = λ e. omega (arith, e) }
 begins fields (event.Unsnap user path name) x = record { first = 110; front = codes "n"; more = x.user_field ∷ codes "unsnap" ∷ x.path_field ∷ x.second_field ∷ []; begin = x.fields_are; no_comment = λ e. omega (arith, e) }
+begins fields (event.Cancel user path) x = record { first = 110; front = codes "n"; more = x.user_field ∷ codes "cancel" ∷ x.path_field ∷ []; begin = x.fields_are; no_comment = λ e. omega (arith, e) }
+begins fields (event.Status user path) x = record { first = 110; front = codes "n"; more = x.user_field ∷ codes "status" ∷ x.path_field ∷ []; begin = x.fields_are; no_comment = λ e. omega (arith, e) }
 begins fields (event.Zones user) x = record { first = 110; front = codes "n"; more = x.user_field ∷ codes "zones" ∷ []; begin = x.fields_are; no_comment = λ e. omega (arith, e) }
 begins fields (event.AskCreate user path) x = record { first = 97; front = codes "sk"; more = x.user_field ∷ codes "create" ∷ x.path_field ∷ []; begin = x.fields_are; no_comment = λ e. omega (arith, e) }
 begins fields (event.AskZone user path key) x = record { first = 97; front = codes "sk"; more = x.user_field ∷ codes "zone" ∷ x.path_field ∷ key ∷ []; begin = x.fields_are; no_comment = λ e. omega (arith, e) }
+begins fields (event.AskSubmit user path) x = record { first = 97; front = codes "sk"; more = x.user_field ∷ codes "submit" ∷ x.path_field ∷ []; begin = x.fields_are; no_comment = λ e. omega (arith, e) }
 begins fields (event.Draw number) x = record { first = 100; front = codes "raw"; more = decimal number ∷ []; begin = x.fields_are; no_comment = λ e. omega (arith, e) }
 begins fields (event.Finish number) x = record { first = 102; front = codes "inish"; more = decimal number ∷ []; begin = x.fields_are; no_comment = λ e. omega (arith, e) }
+begins fields (event.Walk path) x = record { first = 119; front = codes "alk"; more = x.path_field ∷ []; begin = x.fields_are; no_comment = λ e. omega (arith, e) }
+begins fields (event.Serve number) x = record { first = 115; front = codes "erve"; more = decimal number ∷ []; begin = x.fields_are; no_comment = λ e. omega (arith, e) }
 
 -- the first byte of a line begins its first field
 first_byte : (b c : ℕ) (fields : List (List ℕ)) (more : List ℕ) (rest : List (List ℕ)) → onto_first b fields ≡ (c ∷ more) ∷ rest → b ≡ c

@@ -214,11 +214,11 @@ abbrev pub delete_verb : Bool → List ℕ
 delete_verb false = codes "delete"
 delete_verb true = codes "rdelete"
 
--- `ask U create P`
-pub record SpellsAskCreate (fields : List (List ℕ)) (user path : List ℕ) : Type 0 where
+-- `ask U`, this verb and a path
+pub record SpellsAskPath (verb : List ℕ) (fields : List (List ℕ)) (user path : List ℕ) : Type 0 where
   pub user_field : List ℕ
   pub path_field : List ℕ
-  pub fields_are : fields ≡ codes "ask" ∷ user_field ∷ codes "create" ∷ path_field ∷ []
+  pub fields_are : fields ≡ codes "ask" ∷ user_field ∷ verb ∷ path_field ∷ []
   pub user_is : IsUser user_field user
   pub path_is : IsEscaped path_field path
 
@@ -231,7 +231,13 @@ pub record SpellsAskZone (fields : List (List ℕ)) (user path key : List ℕ) :
   pub path_is : IsEscaped path_field path
   pub key_is : IsKeyName key
 
--- this verb and the number of a ticket, note or reply, below 2^32
+-- `walk P`
+pub record SpellsWalk (fields : List (List ℕ)) (path : List ℕ) : Type 0 where
+  pub path_field : List ℕ
+  pub fields_are : fields ≡ codes "walk" ∷ path_field ∷ []
+  pub path_is : IsEscaped path_field path
+
+-- this verb and the number of a ticket, ask, reply or batch, below 2^32
 pub record SpellsKept (verb : List ℕ) (fields : List (List ℕ)) (number : ℕ) : Type 0 where
   pub fields_are : fields ≡ verb ∷ decimal number ∷ []
   pub small : number < 2 ^ 32
@@ -260,11 +266,16 @@ SpellsEvent fields (event.Allow user path) = SpellsPath (codes "allow") fields u
 SpellsEvent fields (event.Disallow user path) = SpellsPath (codes "disallow") fields user path
 SpellsEvent fields (event.Snap user path name) = SpellsTwoFields (codes "snap") fields user path name
 SpellsEvent fields (event.Unsnap user path name) = SpellsTwoFields (codes "unsnap") fields user path name
+SpellsEvent fields (event.Cancel user path) = SpellsPath (codes "cancel") fields user path
+SpellsEvent fields (event.Status user path) = SpellsPath (codes "status") fields user path
 SpellsEvent fields (event.Zones user) = SpellsZones fields user
-SpellsEvent fields (event.AskCreate user path) = SpellsAskCreate fields user path
+SpellsEvent fields (event.AskCreate user path) = SpellsAskPath (codes "create") fields user path
 SpellsEvent fields (event.AskZone user path key) = SpellsAskZone fields user path key
+SpellsEvent fields (event.AskSubmit user path) = SpellsAskPath (codes "submit") fields user path
 SpellsEvent fields (event.Draw ask) = SpellsKept (codes "draw") fields ask
 SpellsEvent fields (event.Finish reply) = SpellsKept (codes "finish") fields reply
+SpellsEvent fields (event.Walk path) = SpellsWalk fields path
+SpellsEvent fields (event.Serve batch) = SpellsKept (codes "serve") fields batch
 
 -- the line is the text of the event
 pub record Spells (line : List ℕ) (event : Event) : Type 0 where
@@ -275,13 +286,14 @@ pub record Spells (line : List ℕ) (event : Event) : Type 0 where
 abbrev pub IsPathVerb : List ℕ → Type 0
 IsPathVerb verb =
     (verb ≡ codes "mkdir") ⊎ (verb ≡ codes "delete") ⊎ (verb ≡ codes "rdelete") ⊎ (verb ≡ codes "info") ⊎ (verb ≡ codes "list")
-    ⊎ (verb ≡ codes "allow") ⊎ (verb ≡ codes "disallow")
+    ⊎ (verb ≡ codes "allow") ⊎ (verb ≡ codes "disallow") ⊎ (verb ≡ codes "cancel") ⊎ (verb ≡ codes "status")
 
 abbrev pub IsPathEvent : List ℕ → List ℕ → List ℕ → Event → Type 0
 IsPathEvent verb user path e =
     ((verb ≡ codes "mkdir") × (e ≡ event.Mkdir user path)) ⊎ ((verb ≡ codes "delete") × (e ≡ event.Delete user path false))
     ⊎ ((verb ≡ codes "rdelete") × (e ≡ event.Delete user path true)) ⊎ ((verb ≡ codes "info") × (e ≡ event.Info user path)) ⊎ ((verb ≡ codes "list") × (e ≡ event.List user path))
     ⊎ ((verb ≡ codes "allow") × (e ≡ event.Allow user path)) ⊎ ((verb ≡ codes "disallow") × (e ≡ event.Disallow user path))
+    ⊎ ((verb ≡ codes "cancel") × (e ≡ event.Cancel user path)) ⊎ ((verb ≡ codes "status") × (e ≡ event.Status user path))
 
 -- the verbs that take a path, and another path or the name of a snapshot, and the event of each
 abbrev pub IsTwoFieldVerb : List ℕ → Type 0

@@ -1,5 +1,5 @@
 -- The transcript: a line for each event, with its number and its answer.
-use Rattle.std.specs.Prelude.{ℕ, ◌+◌, Bool, true, false, List, [], ◌∷◌, ◌++◌, codes, Option, None, Some}
+use Rattle.std.specs.Prelude.{ℕ, ◌+◌, Bool, true, false, List, [], ◌∷◌, ◌++◌, drop, codes, Option, None, Some}
 use Rattle.std.specs.Fmt.{decimal}
 use Rattle.std.specs.List.{flat_map}
 use Rattle.hex.specs.Hex.{encode_lower}
@@ -15,6 +15,9 @@ use Rattle.name_calls.specs.declared.calls.NameReply.{NameReply}
 use Rattle.name_calls.specs.declared.calls.NameReply.TheVariants as name
 use Rattle.name_calls.specs.declared.calls.NameRefusal.{NameRefusal}
 use Rattle.name_calls.specs.declared.calls.NameRefusal.TheVariants as why
+use Rattle.name_calls.specs.declared.status.State.{State}
+use Rattle.name_calls.specs.declared.status.State.TheVariants as state
+use Rattle.name_calls.specs.declared.status.ZoneStatus.{ZoneStatus}
 use Rattle.name_calls.specs.declared.calls.Want.{Want}
 use Rattle.name_calls.specs.declared.calls.Want.TheVariants as want
 use Rattle.eek_seal.specs.declared.deposit.Deposit.{Deposit}
@@ -74,7 +77,9 @@ refusal_name why.NotADirectory = codes "N4 NotADirectory"
 refusal_name why.NotEmpty = codes "N5 NotEmpty"
 refusal_name why.NotSuperuser = codes "N6 NotSuperuser"
 refusal_name why.AlreadyInZone = codes "N7 AlreadyInZone"
+refusal_name why.NotAZoneRoot = codes "N8 NotAZoneRoot"
 refusal_name why.CrossZone = codes "N9 CrossZone"
+refusal_name why.UnderReencryption = codes "N10 UnderReencryption"
 refusal_name why.HasSnapshots = codes "N11 HasSnapshots"
 refusal_name why.NotSnapshottable = codes "N12 NotSnapshottable"
 refusal_name why.SnapshotExists = codes "N13 SnapshotExists"
@@ -82,6 +87,8 @@ refusal_name why.NoSuchSnapshot = codes "N14 NoSuchSnapshot"
 refusal_name why.TooManySnapshots = codes "N15 TooManySnapshots"
 refusal_name (why.AskGone opening next) = codes "N16 AskGone"
 refusal_name why.ZoneChanged = codes "N17 ZoneChanged"
+refusal_name why.AlreadySubmitted = codes "N18 AlreadySubmitted"
+refusal_name why.NotSubmitted = codes "N19 NotSubmitted"
 refusal_name why.TooManyInodes = codes "N20 TooManyInodes"
 refusal_name (why.KeyRefused refused) = codes "N21 KeyRefused"
 refusal_name why.NoMemory = codes "N22 NoMemory"
@@ -131,11 +138,39 @@ child_part child = codes " " ++ percent_encode ESCAPED child.name ++ slash_of ch
 abbrev pub zone_part : ZonePath → List ℕ
 zone_part zone = codes " " ++ escaped_path zone.path ++ codes ":" ++ zone.key
 
+abbrev pub state_text : State → List ℕ
+state_text state.Submitted = codes "Submitted"
+state_text state.Processing = codes "Processing"
+state_text state.Completed = codes "Completed"
+
+abbrev pub yes_or_no : Bool → List ℕ
+yes_or_no false = codes "no"
+yes_or_no true = codes "yes"
+
+-- a path in a zone, without a slash before its first name
+abbrev pub escaped_relative_path : NPath → List ℕ
+escaped_relative_path path = percent_encode ESCAPED (drop 1 (path_text path))
+
+abbrev pub mark_text : Option NPath → List ℕ
+mark_text None = codes "-"
+mark_text (Some path) = escaped_relative_path path
+
+-- how many files of a zone got another key, and how many failed
+abbrev pub counts_text : ZoneStatus → List ℕ
+counts_text status = decimal status.reencrypted ++ codes " " ++ decimal status.failed
+
+abbrev pub status_text : Option ZoneStatus → List ℕ
+status_text None = codes "status None"
+status_text (Some status) =
+    codes "status " ++ state_text status.state ++ codes " " ++ version_text status.noted.key status.noted.number ++ codes " "
+    ++ counts_text status ++ codes " " ++ yes_or_no status.cancelled ++ codes " " ++ mark_text status.mark
+
 abbrev pub name_text : NameReply → List ℕ
 name_text name.Done = codes "done"
 name_text (name.Dir id zone key) = row_front (codes "dir ") id zone ++ key_text key
 name_text (name.File id zone edek) = row_front (codes "file ") id zone ++ edek_field edek
 name_text (name.List children) = codes "list" ++ flat_map child_part children
+name_text (name.Status status) = status_text status
 name_text (name.Zones zones) = codes "zones" ++ flat_map zone_part zones
 name_text (name.Refused why) = codes "refused " ++ name_refusal_text why
 
@@ -145,7 +180,7 @@ want_text want.Nothing = codes "none"
 want_text (want.Generate key) = codes "generate " ++ key
 want_text (want.Metadata key) = codes "metadata " ++ key
 
--- the stored reply of a draw
+-- the reply that a draw or a serve keeps
 abbrev pub kept_text : Option KmsReply → List ℕ
 kept_text None = codes "nothing"
 kept_text (Some reply) = answer_text reply
@@ -169,6 +204,9 @@ outcome_text (line.Opened opening) = codes "opened " ++ decimal opening
 outcome_text (line.Name reply) = name_text reply
 outcome_text (line.Asked number note) = codes "ask " ++ decimal number ++ codes " " ++ decimal note.id ++ codes " " ++ want_text note.want
 outcome_text (line.Replied number reply) = codes "reply " ++ decimal number ++ codes " " ++ kept_text reply
+outcome_text (line.Batch number files) = codes "batch " ++ decimal number ++ codes " " ++ decimal files
+outcome_text (line.NoneLeft outstanding) = codes "noneleft " ++ decimal outstanding
+outcome_text line.Completed = codes "completed"
 outcome_text (line.Refused why) = codes "refused " ++ name_refusal_text why
 outcome_text line.Unknown = codes "unknown"
 

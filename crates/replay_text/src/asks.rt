@@ -1,7 +1,7 @@
-//! Lines of deposits, asks, draws and finishes.
+//! Lines of deposits, asks, draws, finishes, walks and serves.
 ghost use Rattle.std.specs.Prelude.{◌≡◌, ◌<◌, ◌^◌, ◌∷◌, [], ℕ, List, IfOk, MatchOption, codes};
 ghost use Rattle.std.specs.Fmt.{decimal};
-ghost use Rattle.replay_text.specs.Events.{SpellsAskCreate, SpellsAskZone, SpellsEvent, SpellsKept, fields_of};
+ghost use Rattle.replay_text.specs.Events.{SpellsAskPath, SpellsAskZone, SpellsEvent, SpellsKept, SpellsWalk, fields_of};
 
 use crate::fields::{cut, only_field, read_escaped, read_small_number, read_user};
 use hk_base::{KeyName, NoMemory};
@@ -10,7 +10,7 @@ use std::alloc::Global;
 
 /// Reads `ask U`, a verb and its fields, from after `ask`.
 pub fn read_ask(alloc: Global, fields: &[u8]) -> Result<Option<Event>, NoMemory>
-    ensures { IfOk result (λ found. MatchOption found (((user path : List ℕ) → ¬ SpellsAskCreate (codes "ask" ∷ fields_of fields.now) user path) × ((user path key : List ℕ) → ¬ SpellsAskZone (codes "ask" ∷ fields_of fields.now) user path key)) (SpellsEvent (codes "ask" ∷ fields_of fields.now))) }
+    ensures { IfOk result (λ found. MatchOption found (((user path : List ℕ) → ¬ SpellsAskPath (codes "create") (codes "ask" ∷ fields_of fields.now) user path) × (((user path : List ℕ) → ¬ SpellsAskPath (codes "submit") (codes "ask" ∷ fields_of fields.now) user path) × ((user path key : List ℕ) → ¬ SpellsAskZone (codes "ask" ∷ fields_of fields.now) user path key))) (SpellsEvent (codes "ask" ∷ fields_of fields.now))) }
 {
     let (user, rest) = cut(fields);
     let Some(rest) = rest else {
@@ -23,6 +23,9 @@ pub fn read_ask(alloc: Global, fields: &[u8]) -> Result<Option<Event>, NoMemory>
     if verb == b"create".as_slice() {
         return read_create(alloc, user, rest);
     }
+    if verb == b"submit".as_slice() {
+        return read_submit(alloc, user, rest);
+    }
     if verb == b"zone".as_slice() {
         return read_zone(alloc, user, rest);
     }
@@ -31,7 +34,7 @@ pub fn read_ask(alloc: Global, fields: &[u8]) -> Result<Option<Event>, NoMemory>
 
 /// Reads `ask U create P`, from after `create`.
 fn read_create(alloc: Global, user: &[u8], fields: &[u8]) -> Result<Option<Event>, NoMemory>
-    ensures { IfOk result (λ found. MatchOption found ((who path : List ℕ) → ¬ SpellsAskCreate (codes "ask" ∷ user.now ∷ codes "create" ∷ fields_of fields.now) who path) (SpellsEvent (codes "ask" ∷ user.now ∷ codes "create" ∷ fields_of fields.now))) }
+    ensures { IfOk result (λ found. MatchOption found ((who path : List ℕ) → ¬ SpellsAskPath (codes "create") (codes "ask" ∷ user.now ∷ codes "create" ∷ fields_of fields.now) who path) (SpellsEvent (codes "ask" ∷ user.now ∷ codes "create" ∷ fields_of fields.now))) }
 {
     let Some(path) = only_field(fields) else {
         return Ok(None);
@@ -43,6 +46,22 @@ fn read_create(alloc: Global, user: &[u8], fields: &[u8]) -> Result<Option<Event
         return Ok(None);
     };
     Ok(Some(Event::AskCreate { user, path }))
+}
+
+/// Reads `ask U submit P`, from after `submit`.
+fn read_submit(alloc: Global, user: &[u8], fields: &[u8]) -> Result<Option<Event>, NoMemory>
+    ensures { IfOk result (λ found. MatchOption found ((who path : List ℕ) → ¬ SpellsAskPath (codes "submit") (codes "ask" ∷ user.now ∷ codes "submit" ∷ fields_of fields.now) who path) (SpellsEvent (codes "ask" ∷ user.now ∷ codes "submit" ∷ fields_of fields.now))) }
+{
+    let Some(path) = only_field(fields) else {
+        return Ok(None);
+    };
+    let Some(user) = read_user(alloc, user)? else {
+        return Ok(None);
+    };
+    let Some(path) = read_escaped(alloc, path)? else {
+        return Ok(None);
+    };
+    Ok(Some(Event::AskSubmit { user, path }))
 }
 
 /// Reads `ask U zone P K`, from after `zone`.
@@ -96,6 +115,29 @@ pub fn read_finish(fields: &[u8]) -> Option<Event>
         return None;
     };
     Some(Event::Finish { reply })
+}
+
+/// Reads `walk P`, from after `walk`.
+pub fn read_walk(alloc: Global, fields: &[u8]) -> Result<Option<Event>, NoMemory>
+    ensures { IfOk result (λ found. MatchOption found ((path : List ℕ) → ¬ SpellsWalk (codes "walk" ∷ fields_of fields.now) path) (SpellsEvent (codes "walk" ∷ fields_of fields.now))) }
+{
+    let Some(path) = only_field(fields) else {
+        return Ok(None);
+    };
+    let Some(path) = read_escaped(alloc, path)? else {
+        return Ok(None);
+    };
+    Ok(Some(Event::Walk { path }))
+}
+
+/// Reads `serve B`, from after `serve`.
+pub fn read_serve(fields: &[u8]) -> Option<Event>
+    ensures { MatchOption result ((batch : ℕ) → ¬ SpellsKept (codes "serve") (codes "serve" ∷ fields_of fields.now) batch) (SpellsEvent (codes "serve" ∷ fields_of fields.now)) }
+{
+    let Some(batch) = only_number(fields) else {
+        return None;
+    };
+    Some(Event::Serve { batch })
 }
 
 /// Returns the number below 2^32 that the only field spells. Returns `None` for several fields or

@@ -5,7 +5,7 @@ ghost use Rattle.replay_text.specs.Events.{IsBad, IsPathEvent, IsPathVerb, IsQui
 ghost use Rattle.hk_events.specs.declared.event.Event.{Event};
 ghost use Rattle.hk_events.specs.declared.event.Event.TheVariants as event;
 
-use crate::asks::{read_ask, read_deposit, read_draw, read_finish};
+use crate::asks::{read_ask, read_deposit, read_draw, read_finish, read_serve, read_walk};
 use crate::calls::read_call;
 use crate::fields::{cut, only_field, read_escaped, read_user};
 use hk_base::{ByteList, NoMemory, Text};
@@ -67,6 +67,12 @@ fn read_spelled(alloc: Global, line: &[u8]) -> Result<Option<Event>, NoMemory>
     }
     if first == b"finish".as_slice() {
         return Ok(read_finish(rest));
+    }
+    if first == b"walk".as_slice() {
+        return read_walk(alloc, rest);
+    }
+    if first == b"serve".as_slice() {
+        return Ok(read_serve(rest));
     }
     Ok(None)
 }
@@ -262,6 +268,12 @@ fn path_event(verb: &[u8], user: Text, path: ByteList) -> Option<Event>
     }
     if verb == b"disallow".as_slice() {
         return Some(Event::Disallow { user, path });
+    }
+    if verb == b"cancel".as_slice() {
+        return Some(Event::Cancel { user, path });
+    }
+    if verb == b"status".as_slice() {
+        return Some(Event::Status { user, path });
     }
     None
 }

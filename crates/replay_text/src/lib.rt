@@ -8,6 +8,7 @@ mod event;
 mod fields;
 mod laws;
 mod lists;
+mod status;
 mod transcript;
 
 pub use event::{LineFault, read_event};

@@ -9,6 +9,7 @@ ghost use Rattle.replay_text.specs.declared.transcript.TheConstants.{ESCAPED};
 ghost use Rattle.kms_calls.specs.Refusals.{refusal_text};
 ghost use Rattle.replay_text.specs.Transcript.{answer_text, child_part, deposit_text, edek_field, edek_part, edek_text, escaped_path, kept_text, key_text, line_text, material_text, meta_part, meta_text, name_part, name_refusal_text, name_text, refusal_name, row_front, shown_part, outcome_text, ticket_text, want_text, zone_part, zone_text};
 
+use crate::status::write_status;
 use eek_seal::Deposit;
 use hk_base::{ByteList, Dek, Edek, KeyName, NoMemory, VersionName};
 use hk_events::Line;
@@ -60,7 +61,7 @@ fn write_parts(
     out.push(b'\n')
 }
 
-fn write_number(number: u64, out: &mut ByteList) -> Result<(), NoMemory>
+pub(crate) fn write_number(number: u64, out: &mut ByteList) -> Result<(), NoMemory>
     ensures { OnOk result (out.new ≡ out.old ++ decimal number) }
 {
     let mut digits = Buffer::new();
@@ -83,6 +84,9 @@ fn write_outcome(alloc: Global, outcome: &Line, out: &mut ByteList) -> Result<()
         Line::Name(reply) => write_name_reply(alloc, reply, out),
         Line::Asked { number, note } => write_asked(*number, note, out),
         Line::Replied { number, reply } => write_replied(alloc, *number, reply, out),
+        Line::Batch { number, files } => write_batch(*number, *files, out),
+        Line::NoneLeft { outstanding } => write_none_left(*outstanding, out),
+        Line::Completed => out.append(b"completed"),
         Line::Refused(why) => write_refused(why, out),
         Line::Unknown => out.append(b"unknown"),
     }
@@ -168,7 +172,7 @@ fn write_want(want: &Want, out: &mut ByteList) -> Result<(), NoMemory>
     }
 }
 
-/// Appends the answer to a draw.
+/// Appends the answer to a draw or a serve.
 fn write_replied(
     alloc: Global,
     number: u64,
@@ -186,6 +190,24 @@ fn write_replied(
     }
 }
 
+/// Appends the answer to a walk that gave a batch.
+fn write_batch(number: u64, files: u32, out: &mut ByteList) -> Result<(), NoMemory>
+    ensures { OnOk result (out.new ≡ out.old ++ codes "batch " ++ decimal number ++ codes " " ++ decimal files) }
+{
+    out.append(b"batch ")?;
+    write_number(number, out)?;
+    out.push(b' ')?;
+    write_number(files as u64, out)
+}
+
+/// Appends the answer to a walk that found no file, while batches are outstanding.
+fn write_none_left(outstanding: u32, out: &mut ByteList) -> Result<(), NoMemory>
+    ensures { OnOk result (out.new ≡ out.old ++ codes "noneleft " ++ decimal outstanding) }
+{
+    out.append(b"noneleft ")?;
+    write_number(outstanding as u64, out)
+}
+
 fn write_refused(why: &NameRefusal, out: &mut ByteList) -> Result<(), NoMemory>
     ensures { OnOk result (out.new ≡ out.old ++ codes "refused " ++ name_refusal_text why.now) }
 {
@@ -201,6 +223,7 @@ fn write_name_reply(alloc: Global, reply: &NameReply, out: &mut ByteList) -> Res
         NameReply::Dir { id, zone, key } => write_directory(alloc, *id, zone, key, out),
         NameReply::File { id, zone, edek } => write_file(alloc, *id, zone, edek, out),
         NameReply::List(children) => write_child_list(alloc, children, out),
+        NameReply::Status(status) => write_status(alloc, status, out),
         NameReply::Zones(zones) => write_zone_list(alloc, zones, out),
         NameReply::Refused(why) => write_refused(why, out),
     }
@@ -281,7 +304,7 @@ fn write_path(alloc: Global, path: &NPath, out: &mut ByteList) -> Result<(), NoM
 }
 
 /// Appends bytes of a path, with escapes.
-fn write_escaped(alloc: Global, bytes: &[u8], out: &mut ByteList) -> Result<(), NoMemory>
+pub(crate) fn write_escaped(alloc: Global, bytes: &[u8], out: &mut ByteList) -> Result<(), NoMemory>
     ensures { OnOk result (out.new ≡ out.old ++ percent_encode ESCAPED bytes.now) }
 {
     let mut text = String::new(alloc);
@@ -370,7 +393,9 @@ fn refusal_name(why: &NameRefusal) -> &'static [u8]
         NameRefusal::NotEmpty => b"N5 NotEmpty",
         NameRefusal::NotSuperuser => b"N6 NotSuperuser",
         NameRefusal::AlreadyInZone => b"N7 AlreadyInZone",
+        NameRefusal::NotAZoneRoot => b"N8 NotAZoneRoot",
         NameRefusal::CrossZone => b"N9 CrossZone",
+        NameRefusal::UnderReencryption => b"N10 UnderReencryption",
         NameRefusal::HasSnapshots => b"N11 HasSnapshots",
         NameRefusal::NotSnapshottable => b"N12 NotSnapshottable",
         NameRefusal::SnapshotExists => b"N13 SnapshotExists",
@@ -378,6 +403,8 @@ fn refusal_name(why: &NameRefusal) -> &'static [u8]
         NameRefusal::TooManySnapshots => b"N15 TooManySnapshots",
         NameRefusal::AskGone { .. } => b"N16 AskGone",
         NameRefusal::ZoneChanged => b"N17 ZoneChanged",
+        NameRefusal::AlreadySubmitted => b"N18 AlreadySubmitted",
+        NameRefusal::NotSubmitted => b"N19 NotSubmitted",
         NameRefusal::TooManyInodes => b"N20 TooManyInodes",
         NameRefusal::KeyRefused(_) => b"N21 KeyRefused",
         NameRefusal::NoMemory => b"N22 NoMemory",

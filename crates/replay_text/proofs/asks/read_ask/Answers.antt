@@ -1,6 +1,6 @@
 use Rattle.std.proofs.Common.{◌∙◌, sym}
 use Rattle.std.proofs.lemmas.Slice.Eq.{bytes_eq-Decides}
-use Rattle.replay_text.proofs.AskLemmas.{create_answered, zone_answered}
+use Rattle.replay_text.proofs.AskLemmas.{create_answered, submit_answered, zone_answered}
 use Rattle.replay_text.proofs.asks.read_ask.Goals as goal
 
 pub returns-then-eq : goal.returns-then-eq
@@ -10,5 +10,10 @@ returns-then-eq c =
 
 pub returns-then-eq-2 : goal.returns-then-eq-2
 returns-then-eq-2 c =
+    submit_answered _ _ _ _ _ c.read_submit.result (rw c.in-Some.is at c.cut.ensures) (rw c.in-Some-rest.is at c.cut-2.ensures)
+    ((bytes_eq-Decides _ _).0 (sym c.if-eq-2.ensures) ∙ c.as_slice-2.ensures) c.read_submit.ensures
+
+pub returns-then-eq-3 : goal.returns-then-eq-3
+returns-then-eq-3 c =
     zone_answered _ _ _ _ _ c.read_zone.result (rw c.in-Some.is at c.cut.ensures) (rw c.in-Some-rest.is at c.cut-2.ensures)
-    ((bytes_eq-Decides _ _).0 (sym c.if-eq-2.ensures) ∙ c.as_slice-2.ensures) c.read_zone.ensures
+    ((bytes_eq-Decides _ _).0 (sym c.if-eq-3.ensures) ∙ c.as_slice-3.ensures) c.read_zone.ensures

@@ -11,4 +11,6 @@ returns c = no_event _ _ c.in-Some.rest.now (rw c.in-Some.is at c.cut.ensures) (
   no_ask = is_other _ _ _ c.as_slice-5.ensures c.if-eq-5.ensures;
   no_draw = is_other _ _ _ c.as_slice-6.ensures c.if-eq-6.ensures;
   no_finish = is_other _ _ _ c.as_slice-7.ensures c.if-eq-7.ensures;
+  no_walk = is_other _ _ _ c.as_slice-8.ensures c.if-eq-8.ensures;
+  no_serve = is_other _ _ _ c.as_slice-9.ensures c.if-eq-9.ensures;
 })
