@@ -222,11 +222,16 @@ which_restart (event.Allow user path) file r = absurd r
 which_restart (event.Disallow user path) file r = absurd r
 which_restart (event.Snap user path name) file r = absurd r
 which_restart (event.Unsnap user path name) file r = absurd r
+which_restart (event.Cancel user path) file r = absurd r
+which_restart (event.Status user path) file r = absurd r
 which_restart (event.Zones user) file r = absurd r
 which_restart (event.AskCreate user path) file r = absurd r
 which_restart (event.AskZone user path key) file r = absurd r
+which_restart (event.AskSubmit user path) file r = absurd r
 which_restart (event.Draw n) file r = absurd r
 which_restart (event.Finish n) file r = absurd r
+which_restart (event.Walk path) file r = absurd r
+which_restart (event.Serve n) file r = absurd r
 
 -- the last opening of its log is used
 spent_is : (left : Option (List ℕ)) (lines : List (List ℕ)) (e : Event) (file : ℕ) (w : WorldState) (kept : Bool) → is_restart e file → ComesNext left lines e → last_opening w e kept ≡ 4294967295 → IsSpent left lines w

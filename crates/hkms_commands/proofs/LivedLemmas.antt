@@ -148,11 +148,16 @@ knows (event.Allow user path) T t = tt
 knows (event.Disallow user path) T t = tt
 knows (event.Snap user path name) T t = tt
 knows (event.Unsnap user path name) T t = tt
+knows (event.Cancel user path) T t = tt
+knows (event.Status user path) T t = tt
 knows (event.Zones user) T t = tt
 knows (event.AskCreate user path) T t = tt
 knows (event.AskZone user path key) T t = tt
+knows (event.AskSubmit user path) T t = tt
 knows (event.Draw n) T t = tt
 knows (event.Finish n) T t = tt
+knows (event.Walk path) T t = tt
+knows (event.Serve n) T t = tt
 
 -- a step is alike beside the same values
 same_step : (props : List PropLine) (T U : Type 0) (w v : WorldState) (words others : ℕ → ℕ) (f g after now drawn : ℕ) (e : Event) (answer : Line) (logged : Acknowledged) (w' : WorldState)
