@@ -12,7 +12,7 @@ def states_after(possible, answer, change):
     gives None if it is refused."""
     changed = [change(state) for state in possible]
     done = [state for state in changed if state is not None]
-    if answer == 'done' or answer.startswith('version '):
+    if answer in ('done', 'completed') or answer.startswith('version '):
         return done
     # A change that was refused since the disk failed may be there.
     if answer in FAULTS:

@@ -19,6 +19,9 @@ KINDS = {
         8: ("disallow", "t"),
         9: ("snap", "tt"),
         10: ("unsnap", "tt"),
+        11: ("submit", "8tn2"),
+        13: ("cancel", "8"),
+        14: ("complete", "8"),
     },
 }
 

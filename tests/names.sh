@@ -325,6 +325,10 @@ disallow() { printf '08%s' "$(path "$1")"; }
 # snap PATH NAME, unsnap PATH NAME: a name is written as a path is
 snap() { printf '09%s%s' "$(path "$1")" "$(path "$2")"; }
 unsnap() { printf '0a%s%s' "$(path "$1")" "$(path "$2")"; }
+# submit COUNTER PATH KEY NUMBER, cancel COUNTER, complete COUNTER
+submit() { printf '0b00000001%08x%s01%s%04x' "$1" "$(path "$2")" "$(printf %s "$3" | od -An -tx1 | tr -d ' \n')" "$4"; }
+cancel() { printf '0d00000001%08x' "$1"; }
+complete() { printf '0e00000001%08x' "$1"; }
 path() { printf '%04x%s' "${#1}" "$(printf %s "$1" | od -An -v -tx1 | tr -d ' \n')"; }
 
 # Writes the log of these payloads, and sets place to the offset of the last one's gate.
@@ -411,6 +415,21 @@ refuses 'a rename from a zone to another' "$opened" "$z" "$marked" "$(dir 3 /y)"
 refuses 'a rename to a path without a slash' "$opened" "$d" "$(rename /d x)"
 refuses 'a rename to a reserved path' "$opened" "$d" "$(rename /d /.reserved)"
 refuses 'a rename with one path' "$opened" "$d" "05$(path /d)"
+begun=$(submit 3 /z k 0)
+refuses 'a re-encryption of nothing' "$opened" "$d" "$begun"
+refuses 'a re-encryption of a file' "$opened" "$(file 1 /z)" "$begun"
+refuses 'a re-encryption of a directory that is no zone' "$opened" "$z" "$begun"
+refuses 'a re-encryption of a directory in a zone' "$opened" "$z" "$marked" "$(dir 4 /z/d)" "$(submit 3 /z/d k 0)"
+refuses 'a re-encryption under another key' "$opened" "$z" "$marked" "$(submit 3 /z j 0)"
+refuses 'a re-encryption of a zone that is being re-encrypted' "$opened" "$z" "$marked" "$begun" "$(submit 4 /z k 0)"
+refuses 'a re-encryption under an id that a row has' "$opened" "$z" "$marked" "$(submit 2 /z k 0)"
+refuses 'a re-encryption under the id of an earlier one' "$opened" "$z" "$marked" "$begun" "$(complete 3)" "$begun"
+refuses 'the cancellation of no re-encryption' "$opened" "$z" "$marked" "$begun" "$(cancel 4)"
+refuses 'the cancellation of a completed re-encryption' "$opened" "$z" "$marked" "$begun" "$(complete 3)" "$(cancel 3)"
+refuses 'the completion of a cancelled re-encryption' "$opened" "$z" "$marked" "$begun" "$(cancel 3)" "$(complete 3)"
+refuses 'the completion of a re-encryption whose zone was removed' "$opened" "$z" "$marked" "$begun" "$(remove /z)" "$(complete 3)"
+refuses 'a rename in a zone that is being re-encrypted' "$opened" "$z" "$marked" "$(file 4 /z/f k)" "$begun" "$(rename /z/f /z/g)"
+refuses 'an update, which is no record yet' "$opened" "$z" "$marked" "$begun" "0c000000010000000300000000000000000000000000"
 refuses 'a record of no kind' "$opened" "$d" 00
 refuses 'a record with a byte behind it' "$opened" "$d" "$(remove /d)00"
 
@@ -460,6 +479,22 @@ expect 'a log of snapshots made by hand' 0 '1 list
 5 refused N12 NotSnapshottable
 6 done'
 
+# A re-encryption goes on at the new path of its zone, and the last one of a zone is shown.
+make_log "$opened" "$d" "$z" "$marked" "$(file 4 /z/f k)" "$begun" "$(rename /z /d/z)" "$(cancel 3)" "$(submit 5 /d/z k 7)" "$(dir 6 /y)" "$(zone /y j)" \
+    "$(submit 7 /y j 0)" "$(complete 7)"
+run_here <<'EOT'
+nn hdfs status /d/z
+walk /d/z
+nn hdfs status /d/z
+nn hdfs status /y
+walk /y
+EOT
+expect 'a log of re-encryptions made by hand' 0 '1 status Submitted k@7 0 0 no -
+2 batch 1 1
+3 status Processing k@7 0 0 no -
+4 status Completed j@0 0 0 no -
+5 refused N19 NotSubmitted'
+
 # ---- a log of all kinds of records, cut at each length, and with each byte changed
 
 run <<'EOT'
@@ -478,11 +513,20 @@ nn a snap /z s
 nn a unsnap /z s
 nn hdfs disallow /z
 nn a rename /z/f /z/g
+ask hdfs submit /z
+draw 3
+finish 3
+nn hdfs cancel /z
+ask hdfs submit /z
+draw 4
+finish 4
+nn a delete /z/g
+walk /z
 EOT
 output=$(stat -c %s "$room/names.log")
-expect 'the log of all kinds of records' 0 199
+expect 'the log of all kinds of records' 0 283
 cp "$room/names.log" "$folder/all"
-gates=(8 18 36 48 106 124 134 144 157 170 180 198)
+gates=(8 18 36 48 106 124 134 144 157 170 180 198 220 234 256 268 282)
 
 room=$quick
 # Runs the program on a log that is made of standard input.
@@ -491,7 +535,7 @@ run_on() {
     run_here <<<'nn a list /'
 }
 
-for ((length = 0; length <= 198; length++)); do
+for ((length = 0; length <= 282; length++)); do
     head -c "$length" "$folder/all" >"$folder/cut"
     run_on <"$folder/cut"
     if [ "$length" -le 9 ]; then
@@ -510,7 +554,7 @@ for gate in "${gates[@]}"; do
 done
 
 whole=$(digits "$folder/all")
-for ((at = 0; at < 199; at++)); do
+for ((at = 0; at < 283; at++)); do
     for change in 1 255; do
         changed=$(printf %02x $((16#${whole:2 * at:2} ^ change)))
         bytes "${whole:0:2 * at}$changed${whole:2 * at + 2}" >"$folder/changed"

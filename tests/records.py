@@ -49,6 +49,18 @@ def zone(path, key):
     return b"\x06" + path_bytes(path) + bytes([len(key)]) + key
 
 
+def submit(session, path, key, number=0):
+    return b"\x0b" + session.to_bytes(8, "big") + path_bytes(path) + bytes([len(key)]) + key + number.to_bytes(2, "big")
+
+
+def cancel(session):
+    return b"\x0d" + session.to_bytes(8, "big")
+
+
+def complete(session):
+    return b"\x0e" + session.to_bytes(8, "big")
+
+
 def log(records, gate=1, end=b"\x00"):
     """Returns the bytes of a log, the last record after this gate, and the offset of that gate."""
     text, at = b"HKMSNAM1", 8
@@ -122,6 +134,17 @@ for sealed in (bytes(16), bytes(range(24)), bytes(range(32))):
         wanted = f"{name.decode()}@65535:{bytes(16).hex()}:{sealed.hex()}"
         expect("an encrypted key", run(log(records)[0], b"nn a info /z/%C3%A4\n"), (0, f"1 file {row_id(2)} /z {wanted}\n"))
 
+# A submission with the highest version and the longest name of a key, one that goes on and ones that ended.
+for name in (b"k", b"a.b-c_D9", b"K" * 64):
+    submitted = [opened(1), mkdir(row_id(1), b"/z"), zone(b"/z", name), submit(row_id(2), b"/z", name, 65535)]
+    noted = f"{name.decode()}@65535"
+    for records, wanted in (
+        (submitted, f"Submitted {noted} 0 0 no -"),
+        (submitted + [cancel(row_id(2))], f"Completed {noted} 0 0 yes -"),
+        (submitted + [complete(row_id(2))], f"Completed {noted} 0 0 no -"),
+    ):
+        expect("a submission", run(log(records)[0], b"nn hdfs status /z\n"), (0, f"1 status {wanted}\n"))
+
 # Only a gate of 1 opens a record.
 for gate in range(256):
     wanted = "1 list d/\n" if gate == 1 else "1 list\n"
@@ -183,7 +206,7 @@ for record in (
     is_damaged(f"{record.hex()} with a byte more", BASE + [record + b"\x00"])
 for name, record in {
     "an unknown first byte": b"\x00",
-    "an unknown record": b"\x0b\x00\x02/z\x00\x02/y",
+    "an unknown record": b"\x0f\x00\x02/z\x00\x02/y",
     "a byte 2 for what may be absent": b"\x03" + row_id(5).to_bytes(8, "big") + path_bytes(b"/z/y") + b"\x02" + edek(b"k"),
     "sealed bytes of another length": file(row_id(5), b"/z/y", edek(b"k", bytes(17))),
     "a path without its slash": remove(b"d/"),
@@ -192,8 +215,18 @@ for name, record in {
     "a rename to a path that begins with .reserved": rename(b"/d", b"/.reserved/d"),
     "the name of a key that is none": zone(b"/d", b"/"),
     "the name of a key without bytes": zone(b"/d", b""),
+    "a submission of a path without its slash": submit(row_id(5), b"z/", b"k"),
+    "a submission of a path that begins with .reserved": submit(row_id(5), b"/.reserved", b"k"),
+    "a submission with the name of a key that is none": submit(row_id(5), b"/z", b"/"),
 }.items():
     is_damaged(name, BASE + [record])
+
+submission = submit(row_id(5), b"/z", b"k")
+for before, record in ((BASE, submission), (BASE + [submission], cancel(row_id(5))), (BASE + [submission], complete(row_id(5)))):
+    expect(f"{record.hex()} whole", run(log(before + [record])[0]), (0, "1 list d/ f z/\n"))
+    for length in range(1, len(record)):
+        is_damaged(f"{record.hex()} cut to {length} bytes", before + [record[:length]])
+    is_damaged(f"{record.hex()} with a byte more", before + [record + b"\x00"])
 
 # Paths at their limits: 100 names and 8,000 bytes.
 rows, above, longest = [opened(1)], b"", b"/" + b"a" * 79

@@ -200,6 +200,37 @@ expect 'ready keys' 0 '1 version k@0 H
 22 ready k@1:H:H
 23 unknown'
 
+run_masked examples/reencryption.events
+expect 'a re-encryption' 0 '1 version k@0 H
+2 done
+3 ask 1 4294967298 metadata k
+4 reply 1 meta k 128 1 1
+5 done
+6 ask 2 4294967299 generate k
+7 reply 2 ready k@0:H:H
+8 done
+9 status None
+10 version k@1 H
+11 ask 3 4294967300 generate k
+12 reply 3 ready k@1:H:H
+13 done
+14 status Submitted k@1 0 0 no -
+15 batch 1 1
+16 status Processing k@1 0 0 no -
+17 reply 4 ready k@1:H:H
+18 noneleft 1
+19 refused N10 UnderReencryption
+20 refused N18 AlreadySubmitted
+21 done
+22 status Completed k@1 0 0 yes -
+23 done
+24 ask 4 4294967301 generate k
+25 reply 5 ready k@1:H:H
+26 done
+27 done
+28 completed
+29 status Completed k@1 0 0 no -'
+
 run_masked examples/create.events
 expect 'created keys' 0 '1 version payroll@0 H
 2 version archive@0 H

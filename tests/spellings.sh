@@ -49,7 +49,14 @@ renames=(
 asks=(
     'ask a create' 'ask a  create /f' 'ask a create  /f' 'ask a create /f k' 'ask a create /f%2'
     'ask hdfs zone /z' 'ask hdfs zone /z  k' 'ask hdfs zone /z k ' 'ask hdfs zone /z k%6b' 'ask hdfs zone /%zz k'
-    'ask hdfs submit /z' 'ask hdfs' 'nn hdfs create /f'
+    'ask hdfs' 'nn hdfs create /f'
+)
+reencryptions=(
+    'nn a cancel' 'nn a cancel /z ' 'nn a cancel /z s' 'nn a cancel  /z' 'nn a Cancel /z' 'nn a cancel /z:y' 'nn %ff cancel /z' 'cancel /z'
+    'nn a status' 'nn a status /z ' 'nn a status /z s' 'nn a Status /z' 'nn a status /ä' 'nn a:b status /z' 'status /z'
+    'ask a submit' 'ask a submit /z k' 'ask a submit  /z' 'ask a submit /z ' 'ask a submit /%zz' 'ask  submit /z' 'ask a Submit /z' 'nn a submit /z'
+    'walk' 'walk /z ' 'walk /z k' 'walk  /z' 'Walk /z' 'walk /%4' 'walk /a:b' 'nn a walk /z' 'walk a /z'
+    'serve' 'serve ' 'serve 01' 'serve 4294967296' 'serve +1' 'serve  1' 'serve 1 ' 'serve 1 2' 'Serve 1' 'nn a serve 1' 'deliver 1' 'giveup 1'
 )
 numbers=(
     'draw 4294967296' 'draw 01' 'draw +1' 'draw' 'draw ' 'draw  1' 'draw 1 '
@@ -66,8 +73,8 @@ restarts=(
 )
 
 # The line before it is answered, and the line after it is not.
-for line in "${calls_on_keys[@]}" "${users[@]}" "${paths[@]}" "${snapshots[@]}" "${renames[@]}" "${asks[@]}" "${numbers[@]}" \
-    "${fills[@]}" "${restarts[@]}"; do
+for line in "${calls_on_keys[@]}" "${users[@]}" "${paths[@]}" "${snapshots[@]}" "${renames[@]}" "${asks[@]}" "${reencryptions[@]}" \
+    "${numbers[@]}" "${fills[@]}" "${restarts[@]}"; do
     room=$(mktemp -d -p "$quick") || exit 1
     output=$(cd "$room" && printf 'nn a info /\n%s\nnn a info /\n' "$line" | "$program" replay)
     status=$?
