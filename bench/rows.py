@@ -18,7 +18,7 @@ import sys
 import time
 
 FIRST_ID = (1 << 32) + 1
-DIRECTORY, FILE = 2, 3
+DIRECTORY, FILE, SUBMISSION = 2, 3, 11
 SEALED = bytes(range(16))
 # What follows the path in the record of a file: an encrypted key of version 0 of the key k.
 EDEK = b"\x01\x01k" + bytes(2) + bytes(16) + b"\x10" + SEALED
@@ -26,6 +26,8 @@ EDEK_TEXT = "k@0:" + bytes(16).hex() + ":" + SEALED.hex()
 # One line for the start; then so many calls of a kind.
 ROOT_LINE = "nn a info /\n"
 CALLS = 200_000
+# The files of a batch, if no property says otherwise.
+BATCH = 1000
 IS_DEEP_AT = 18
 
 
@@ -53,22 +55,27 @@ def removal_records(paths):
 class Rows:
     """What a log makes: the zone /zone, directories in it, and files in these. Directories come before what is in them."""
 
-    def __init__(self, directories, files, removed=()):
+    def __init__(self, directories, files, removed=(), submitted=False):
         self.directories = directories
         self.files = files
         self.removed = removed
+        self.submitted = submitted
 
     def first_file(self):
         return FIRST_ID + 1 + len(self.directories)
 
     def log(self):
         zone = b"/zone"
+        zone_path = len(zone).to_bytes(2, "big") + zone
         parts = [frames([b"\x01" + (1).to_bytes(4, "big")]), row_records(DIRECTORY, [zone], FIRST_ID)]
-        parts.append(frames([b"\x06" + len(zone).to_bytes(2, "big") + zone + b"\x01k"]))
+        parts.append(frames([b"\x06" + zone_path + b"\x01k"]))
         parts += [row_records(DIRECTORY, [it], number) for number, it in enumerate(self.directories, FIRST_ID + 1)]
         parts.append(row_records(FILE, self.files, self.first_file()))
         if self.removed:
             parts.append(removal_records(self.removed))
+        if self.submitted:
+            session = self.first_file() + len(self.files)
+            parts.append(frames([bytes([SUBMISSION]) + session.to_bytes(8, "big") + zone_path + b"\x01k" + bytes(2)]))
         return b"HKMSNAM1" + b"".join(parts) + b"\x00"
 
 
@@ -301,6 +308,30 @@ class Bench:
         print_row(f"a snapshot of {files:,} files, ms", min(taken) * 1e3, most, 100, 0)
         print_row("its removal, ms", min(removed) * 1e3, most, 100, 0)
 
+    def walk_seconds(self, files, runs):
+        """The processor time of a walk in a zone of so many files, the mean of those that give a batch."""
+        rows = rows_in("/zone", [], files)
+        rows.submitted = True
+        self.clear()
+        with open(self.names, "wb") as file:
+            file.write(rows.log())
+        batches = (files + BATCH - 1) // BATCH
+        answers = [f"batch {it + 1} {min(BATCH, files - it * BATCH)}" for it in range(batches)]
+        roots, walks = [], []
+        for _ in range(runs):
+            session = Session(self.program, self.folder)
+            session.run([ROOT_LINE], ["dir 0 - -"])
+            roots.append(session.run([ROOT_LINE] * batches, ["dir 0 - -"] * batches))
+            walks.append(session.run(["walk /zone\n"] * batches, answers))
+            session.run(["walk /zone\n"], [f"noneleft {batches}"])
+            session.end()
+        return (min(walks) - min(roots)) / batches
+
+    def print_walks(self, files):
+        """Measures walks in a zone of so many files, beside those in one of at most 10,000."""
+        fewer = min(files, 10_000)
+        ours, theirs = self.walk_seconds(files, 3), self.walk_seconds(fewer, 10)
+        print_row(f"a batch of {BATCH:,} files of {files:,}, µs", ours * 1e6, f"the same of {fewer:,}", theirs * 1e6, 0, 2)
 
     def print_renames(self, files):
         """Measures renames of a directory with so many rows below it, there and back."""
@@ -339,6 +370,7 @@ def main():
         bench.opening(what, made, 2, 3)
     bench.print_snapshots(min(files, 100_000))
     bench.print_renames(min(files, 500_000))
+    bench.print_walks(files)
     bench.clear()
 
 
