@@ -1,0 +1,7 @@
+use Rattle.kms_cell.proofs.calls.close_keys.Goals as goal
+
+pub returns : goal.returns
+returns g c = record {
+  closes = (c.close-side.result, c.close-side.ensures, c.into_parts.ensures.kms, c.into_parts.ensures.disk);
+  runs = c.into_parts.ensures.runs;
+}
