@@ -29,6 +29,13 @@ impl<T: Drop> Listing<T> {
         }
     }
 
+    /// Makes a list of the entries of a `Vec`. Does not allocate.
+    pub fn of(items: Vec<T>) -> Listing<T>
+        ensures { result ≡ items.items }
+    {
+        Listing { items }
+    }
+
     /// Creates an empty list with room for `count` entries.
     pub fn with_room(alloc: Global, count: usize) -> Result<Listing<T>, NoMemory>
         ensures { IfOk result (λ list. list ≡ []) }
