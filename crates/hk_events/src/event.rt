@@ -2,7 +2,7 @@
 use eek_seal::Deposit;
 use hk_base::{ByteList, KeyName, Text, VersionName};
 use kms_calls::{KmsCall, KmsReply};
-use name_calls::{AskNote, NameRefusal, NameReply};
+use name_calls::{AskNote, Delivered, NameRefusal, NameReply};
 
 /// An event: one call of one service. A path and the name of a snapshot are given by their bytes.
 /// Kept tickets, asks, batches and replies are numbered from 1, each kind by itself. They are never
@@ -126,6 +126,17 @@ pub enum Event {
     Serve {
         batch: u32,
     },
+    /// Gives the files of a batch the encrypted keys that came back with the kept reply of this
+    /// number. A refusal counts each file of the batch as failed. The batch is then no longer
+    /// outstanding.
+    Deliver {
+        reply: u32,
+    },
+    /// Gives up the kept batch with this number: each of its files counts as failed, and the batch is
+    /// no longer outstanding.
+    GiveUp {
+        batch: u32,
+    },
 }
 
 /// The answer to an event: a line of the transcript.
@@ -171,7 +182,9 @@ pub enum Line {
     },
     /// No file is left and no batch is outstanding: the re-encryption is completed.
     Completed,
-    /// An ask, a finish or a walk was refused.
+    /// What became of a reply that was delivered, or of a batch that was given up.
+    Delivered(Delivered),
+    /// An ask, a finish, a walk, a delivery or a giving up was refused.
     Refused(NameRefusal),
     /// Nothing is kept under the given number.
     Unknown,

@@ -2,8 +2,8 @@
 use Rattle.std.proofs.Common.{◌≡◌, ℕ, ◌+◌, ◌<◌, ◌≤◌, suc, Bool, true, false, cond, ◌&&◌, List, [], ◌∷◌, length, get_or, drop, Option, Some, None, is_some, option_map, refl, sym, ap, ◌∙◌, arith}
 use Rattle.std.proofs.Math.Seq.{drop-cons}
 use Rattle.std.proofs.lemmas.List.{drop_all}
-use Rattle.name_calls.specs.Paths.{is_component}
-use Rattle.name_calls.specs.ReadPaths.{as_it_was, mark_at, read_below, read_directory, read_in_snapshot, read_parts, relative, snapshot_name, starts_mark}
+use Rattle.name_calls.specs.Paths.{is_component, relative}
+use Rattle.name_calls.specs.ReadPaths.{as_it_was, mark_at, read_below, read_directory, read_in_snapshot, read_parts, snapshot_name, starts_mark}
 use Rattle.name_calls.proofs.PathLemmas.{parts_of}
 
 shifted : (o : Option ℕ) (k : ℕ) → option_map (λ n. n + k) (option_map (λ n. n + 1) o) ≡ option_map (λ n. n + (k + 1)) o

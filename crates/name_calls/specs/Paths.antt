@@ -83,3 +83,12 @@ abbrev pub read_path : List ℕ → Option (List (List ℕ))
 read_path [] = None
 read_path (b ∷ []) = if b == 47 then Some [] else None
 read_path (b ∷ c ∷ bytes) = if b == 47 then absolute (slice_split (λ x. x == 47) (c ∷ bytes)) else None
+
+abbrev pub relative : List (List ℕ) → Option (List (List ℕ))
+relative p = if is_relative p then Some p else None
+
+-- the path down from a directory with this text form: a slash, and the names with slashes between them
+abbrev pub read_relative : List ℕ → Option (List (List ℕ))
+read_relative [] = None
+read_relative (b ∷ []) = if b == 47 then Some [] else None
+read_relative (b ∷ c ∷ bytes) = if b == 47 then relative (slice_split (λ x. x == 47) (c ∷ bytes)) else None

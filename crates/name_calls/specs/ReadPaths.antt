@@ -2,7 +2,7 @@
 use Rattle.std.specs.Prelude.{ℕ, ◌+◌, Bool, ◌==◌, List, [], ◌∷◌, length, take, drop, Option, Some, None, option_map, if◌then◌else◌, bytes_eq, codes}
 use Rattle.std.specs.List.{before_first, slice_split}
 use Rattle.name_calls.specs.declared.read_paths.ReadPath.{ReadPath}
-use Rattle.name_calls.specs.Paths.{is_component, is_relative, read_path}
+use Rattle.name_calls.specs.Paths.{is_component, read_path, relative}
 
 -- an entry as it is
 abbrev pub as_it_is : List (List ℕ) → ReadPath
@@ -28,9 +28,6 @@ mark_at (b ∷ bytes) = if starts_mark (b ∷ bytes) then Some 0 else option_map
 abbrev pub read_directory : List ℕ → Option (List (List ℕ))
 read_directory [] = Some []
 read_directory (b ∷ bytes) = read_path (b ∷ bytes)
-
-abbrev pub relative : List (List ℕ) → Option (List (List ℕ))
-relative p = if is_relative p then Some p else None
 
 -- a slash before each name that leads down from the directory
 abbrev pub read_below : List ℕ → Option (List (List ℕ))

@@ -12,5 +12,5 @@ pub use calls::{Answered, Ask, AskNote, KeyAnswer, NameCall, NameRefusal, NameRe
 pub use listing::{Child, ChildList};
 pub use paths::{MOST_BYTES, MOST_NAMES, NPath, PathFault, is_component, is_path};
 pub use read_paths::{ReadPath, SnapPart};
-pub use status::{State, ZoneStatus};
+pub use status::{Delivered, State, ZoneStatus};
 pub use zone_list::{ZoneList, ZonePath};

@@ -2,7 +2,7 @@
 ghost use Rattle.std.specs.Prelude.{◌≡◌, ◌<◌, ◌≤◌, ◌++◌, ◌∷◌, ◌↔◌, ◌==◌, ◌&&◌, ◌||◌, [], nat_lt, not, None, Some, Err, length, drop, take, slice_index_or, is_some, true, map, count_by, position, codes, IsTrue, IfOk, OnOk, OnErr};
 ghost use Rattle.std.specs.List.{before_first, list_all, slice_split};
 ghost use Rattle.std.specs.Str.{bytes_eq, is_utf8};
-ghost use Rattle.name_calls.specs.Paths.{is_absolute, is_component, is_plain_byte, is_prefix, is_relative, path_text, read_path, starts_reserved};
+ghost use Rattle.name_calls.specs.Paths.{is_absolute, is_component, is_plain_byte, is_prefix, is_relative, path_text, read_path, read_relative, starts_reserved};
 
 use hk_base::{ByteList, NoMemory, Text};
 use std::alloc::{AllocError, Global};
@@ -172,6 +172,19 @@ pub fn is_path(bytes: &[u8]) -> bool
     are_names_from_root(after_first_byte(bytes))
 }
 
+/// Returns whether the bytes are the text form of a path down from a directory.
+fn is_relative_path(bytes: &[u8]) -> bool
+    ensures { result ≡ is_some (read_relative bytes.now) }
+{
+    if bytes.len() == 0 || bytes[0] != b'/' {
+        return false;
+    }
+    if bytes.len() == 1 {
+        return true;
+    }
+    are_names(after_first_byte(bytes))
+}
+
 pub(crate) fn text_of(alloc: Global, name: &[u8]) -> Result<Text, NoMemory>
     requires { is_component name.now ≡ true }
     ensures { IfOk result (λ text. text ≡ name.now) }
@@ -236,6 +249,24 @@ impl NPath {
         ensures bad { (result ≡ Err PathFault.BadPath) ↔ (read_path bytes.now ≡ None) }
     {
         if !is_path(bytes) {
+            return Err(PathFault::BadPath);
+        }
+        if bytes.len() == 1 {
+            return Ok(NPath::root(alloc));
+        }
+        match names_of(alloc, after_first_byte(bytes)) {
+            Ok(names) => Ok(NPath { names }),
+            Err(_) => Err(PathFault::NoMemory),
+        }
+    }
+
+    /// Reads a path down from a directory: `/`, or a `/` before each name. Its first name may be
+    /// `.reserved`. Returns `BadPath` exactly if the bytes break the rule of paths.
+    pub fn read_relative(alloc: Global, bytes: &[u8]) -> Result<NPath, PathFault>
+        ensures ok { IfOk result (λ path. read_relative bytes.now ≡ Some path) }
+        ensures bad { (result ≡ Err PathFault.BadPath) ↔ (read_relative bytes.now ≡ None) }
+    {
+        if !is_relative_path(bytes) {
             return Err(PathFault::BadPath);
         }
         if bytes.len() == 1 {

@@ -30,3 +30,21 @@ pub struct ZoneStatus {
     /// The path in the zone of the last file up to which all are done, or `None` before the first.
     pub mark: Option<NPath>,
 }
+
+/// What became of the reply to the call for a batch, or of a batch that was given up.
+#[derive(Clone, Copy, Debug, PartialEq, Eq)]
+pub enum Delivered {
+    /// The batch was outstanding, and is not any longer. `changed` files got another encrypted key,
+    /// `skipped` files are gone, have another key than the one that was sent, or got the same key
+    /// back, and `failed` files got none.
+    Applied {
+        changed: u32,
+        skipped: u32,
+        failed: u32,
+    },
+    /// The batch is not outstanding, and nothing changed. `session` is the id of the last
+    /// re-encryption of the zone, or 0 if there was none.
+    Ignored {
+        session: u64,
+    },
+}
