@@ -8,3 +8,4 @@ pub mod NodeList
 pub mod NodeNames
 pub mod Rows
 pub mod Written
+pub mod ZoneFiles

@@ -1,5 +1,5 @@
 //! The tree of inodes.
-ghost use Rattle.std.specs.Prelude.{ℕ, Option, ◌≡◌, ◌<◌, ◌≤◌, ◌-◌, [], Some, None, length, slice_index_or, slice_set, take, string_bytes, string_capacity, vec_capacity, vec_len, IsSome, IsOk, IsTrue, OnOk, OnErr, IfOk, if◌then◌else◌};
+ghost use Rattle.std.specs.Prelude.{ℕ, Option, false, ◌≡◌, ◌<◌, ◌≤◌, ◌-◌, [], Some, None, length, slice_index_or, slice_set, take, string_bytes, string_capacity, vec_capacity, vec_len, IsSome, IsOk, IsTrue, OnOk, OnErr, IfOk, if◌then◌else◌};
 ghost use Rattle.std.specs.HashMap.{get, spare};
 ghost use Rattle.std.specs.Bool.{nat_eq};
 ghost use Rattle.std.specs.List.{insert};
@@ -270,6 +270,15 @@ impl Tree {
         ensures { self.new.rows ≡ set_kind self.old.rows id (Dir (Some key)) }
     {
         let kind = Kind::Dir { key: Some(key) };
+        set(&mut self.nodes, &self.order, &self.places, id, kind);
+    }
+
+    /// Gives the file with this id another encrypted key. The id must be that of a file.
+    pub fn set_edek(&mut self, id: u64, edek: Edek)
+        requires { option_map (λ e. is_dir e.row.kind) (entry_of self.old.rows id) ≡ Some false }
+        ensures { self.new.rows ≡ set_kind self.old.rows id (File (Some edek)) }
+    {
+        let kind = Kind::File { edek: Some(edek) };
         set(&mut self.nodes, &self.order, &self.places, id, kind);
     }
 }

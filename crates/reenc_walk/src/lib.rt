@@ -9,5 +9,5 @@ mod sent;
 mod walker;
 
 pub use batches::WalkedBatch;
-pub use sent::{BatchNote, MOST_SENT, Sent, SentList};
+pub use sent::{BatchNote, MOST_SENT, Sent, SentList, is_same_edek};
 pub use walker::{Walk, Walker};

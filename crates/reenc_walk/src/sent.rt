@@ -42,7 +42,9 @@ pub struct BatchNote {
     pub sent: SentList,
 }
 
-fn is_same_edek(edek: &Edek, other: &Edek) -> bool
+/// Returns whether two encrypted keys are the same: of the same version, with the same initialization
+/// vector and the same sealed bytes.
+pub fn is_same_edek(edek: &Edek, other: &Edek) -> bool
     ensures { result ≡ same_edek edek.now other.now }
 {
     let key = edek.version.key.as_bytes() == other.version.key.as_bytes();
