@@ -6,13 +6,14 @@ use Rattle.std.specs.Option.{option_and_then, option_map, option_map_or}
 use Rattle.std.proofs.lemmas.List.Elements.{All-cons, All-head, All-map, All-nil, All-tail, All-weaker, recursion_from_All}
 use Rattle.hk_base.specs.declared.names.KeyName.{KeyName}
 use Rattle.inode_tree.specs.declared.rows.Kind.{Kind}
+use Rattle.name_calls.specs.declared.paths.NPath.{NPath}
 use Rattle.name_calls.specs.Paths.{is_before, is_prefix}
 use Rattle.inode_tree.specs.Below.{at_or_below}
 use Rattle.inode_tree.specs.Moves.{moved, renamed}
 use Rattle.inode_tree.specs.Rows.{Entry, IsRows, entry_of, mark_of, put, removed, set_kind}
 use Rattle.inode_tree.proofs.MovedLaws.{entry-order, has-ids, ids-moved}
 use Rattle.zone_table.specs.declared.statuses.StatusRow.{StatusRow}
-use Rattle.zone_table.specs.Statuses.{StatusesFit, ended, goes_on_under, is_of, mark_of_id, with_end, with_status, without_below}
+use Rattle.zone_table.specs.Statuses.{StatusesFit, counted, ended, goes_on_under, is_of, mark_of_id, with_counts, with_end, with_status, without_below}
 use Rattle.zone_table.proofs.Marks.{eq-yes}
 
 module _ (P : StatusRow → Type 0) where
@@ -36,6 +37,16 @@ module _ (P : StatusRow → Type 0) where
           go true = stays s h
           go false = h
 
+  -- what stays true of a status that counts files is true of all after one has
+  pub all-counted : (session changed failed : ℕ) (mark : Option NPath) → ((s : StatusRow) → P s → P (with_counts changed failed mark s)) → (ts : List StatusRow) → All P ts
+      → All P (counted session changed failed mark ts)
+  all-counted session changed failed mark stays [] a = a
+  all-counted session changed failed mark stays (t ∷ ts) a = go (goes_on_under session t) (all-counted session changed failed mark stays ts (All-tail P t ts a))
+    where
+      go : (b : Bool) → All P (counted session changed failed mark ts) → All P (cond b (with_counts changed failed mark t ∷ ts) (t ∷ counted session changed failed mark ts))
+      go true ih = All-cons P (with_counts changed failed mark t) ts (stays t (All-head P t ts a)) (All-tail P t ts a)
+      go false ih = All-cons P t (counted session changed failed mark ts) (All-head P t ts a) ih
+
 abbrev Fits : List Entry → StatusRow → Type 0
 Fits rows s = mark_of_id rows s.zone ≡ Some s.noted.key
 
@@ -47,6 +58,9 @@ fit-submitted rows s statuses h fit = all-with-status (Fits rows) s statuses h f
 
 pub fit-ended : (rows : List Entry) (session : ℕ) (cancelled : Bool) (statuses : List StatusRow) → StatusesFit rows statuses → StatusesFit rows (ended session cancelled statuses)
 fit-ended rows session cancelled statuses fit = all-ended (Fits rows) session cancelled (λ s h. h) statuses fit
+
+pub fit-counted : (rows : List Entry) (session changed failed : ℕ) (mark : Option NPath) (statuses : List StatusRow) → StatusesFit rows statuses → StatusesFit rows (counted session changed failed mark statuses)
+fit-counted rows session changed failed mark statuses fit = all-counted (Fits rows) session changed failed mark (λ s h. h) statuses fit
 
 -- the statuses fit other rows in which each marked directory has the same mark
 pub fit-same : (rows others : List Entry) (statuses : List StatusRow) → ((id : ℕ) (key : KeyName) → mark_of_id rows id ≡ Some key → mark_of_id others id ≡ Some key) → StatusesFit rows statuses → StatusesFit others statuses

@@ -1,12 +1,13 @@
 -- The place of a status in the list, and lists of which the first statuses have ended.
-use Rattle.std.proofs.Common.{◌≡◌, ℕ, ◌+◌, ◌<◌, ◌≤◌, zero, suc, Bool, true, false, not, cond, List, [], ◌∷◌, ◌++◌, length, map, set, get_or, Some, None, refl, sym, ap, ◌∙◌, subst, arith}
+use Rattle.std.proofs.Common.{◌≡◌, ℕ, ◌+◌, ◌<◌, ◌≤◌, zero, suc, Bool, true, false, not, cond, List, [], ◌∷◌, ◌++◌, length, map, set, get_or, Option, Some, None, refl, sym, ap, ◌∙◌, subst, arith}
 use Rattle.std.specs.Prelude.{nat_lt, slice_get}
 use Rattle.std.specs.List.{find, position, position_or_len}
 use Rattle.std.proofs.lemmas.Bool.Decides.{nat_tests}
 use Rattle.std.proofs.lemmas.List.Folds.{find_at}
 use Rattle.std.proofs.lemmas.Option.{slice_get-get_or, slice_get_past}
 use Rattle.zone_table.specs.declared.statuses.StatusRow.{StatusRow}
-use Rattle.zone_table.specs.Statuses.{is_of, with_status}
+use Rattle.name_calls.specs.declared.paths.NPath.{NPath}
+use Rattle.zone_table.specs.Statuses.{counted, goes_on_under, is_of, with_counts, with_status}
 
 lower : (a b : ℕ) → nat_lt a b ≡ true → a < b
 lower a b h = grind (arith, nat_tests)
@@ -68,6 +69,45 @@ put-placed s ts at h =
 
 pub put-unplaced : (s : StatusRow) (ts : List StatusRow) → None ≡ position (is_of s.zone) ts → ts ++ s ∷ [] ≡ with_status s ts
 put-unplaced s ts h = with-push s ts (unplaced (is_of s.zone) ts h)
+
+-- files that are counted in the first status that goes on under the session
+module _ (session changed failed : ℕ) (mark : Option NPath) where
+  counted-set : (ts : List StatusRow) (d : StatusRow) → position_or_len (goes_on_under session) ts < length ts
+      → set ts (position_or_len (goes_on_under session) ts) (with_counts changed failed mark (get_or ts (position_or_len (goes_on_under session) ts) d)) ≡ counted session changed failed mark ts
+  counted-set [] d h = absurd (omega arith)
+  counted-set (t ∷ ts) d h = go (goes_on_under session t) h (counted-set ts d)
+    where
+      at : ℕ
+      at = position_or_len (goes_on_under session) ts
+
+      put : (xs : List StatusRow) → ℕ → List StatusRow
+      put xs k = set xs k (with_counts changed failed mark (get_or xs k d))
+
+      go : (b : Bool) → cond (not b) (1 + at) 0 < length (t ∷ ts) → (at < length ts → put ts at ≡ counted session changed failed mark ts)
+          → put (t ∷ ts) (cond (not b) (1 + at) 0) ≡ cond b (with_counts changed failed mark t ∷ ts) (t ∷ counted session changed failed mark ts)
+      go true h ih = refl
+      go false h ih = ap (put (t ∷ ts)) (next at) ∙ ap (λ (l : List StatusRow). t ∷ l) (ih (omega arith))
+
+  counted-none : (ts : List StatusRow) → length ts ≤ position_or_len (goes_on_under session) ts → ts ≡ counted session changed failed mark ts
+  counted-none [] h = refl
+  counted-none (t ∷ ts) h = go (goes_on_under session t) h (counted-none ts)
+    where
+      at : ℕ
+      at = position_or_len (goes_on_under session) ts
+
+      go : (b : Bool) → length (t ∷ ts) ≤ cond (not b) (1 + at) 0 → (length ts ≤ at → ts ≡ counted session changed failed mark ts) → t ∷ ts ≡ cond b (with_counts changed failed mark t ∷ ts) (t ∷ counted session changed failed mark ts)
+      go true h ih = absurd (omega arith)
+      go false h ih = ap (λ (l : List StatusRow). t ∷ l) (ih (omega arith))
+
+  pub counted-placed : (ts : List StatusRow) (d : StatusRow) (at : ℕ) → Some at ≡ position (goes_on_under session) ts
+      → set ts at (with_counts changed failed mark (get_or ts at d)) ≡ counted session changed failed mark ts
+  counted-placed ts d at h =
+      let place = placed (goes_on_under session) ts at h in
+      ap (λ (n : ℕ). set ts n (with_counts changed failed mark (get_or ts n d))) (sym place.0)
+      ∙ counted-set ts d (subst (λ (n : ℕ). n < length ts) (sym place.0) place.1)
+
+  pub counted-unplaced : (ts : List StatusRow) → None ≡ position (goes_on_under session) ts → ts ≡ counted session changed failed mark ts
+  counted-unplaced ts h = counted-none ts (unplaced (goes_on_under session) ts h)
 
 -- the list after its first k elements have changed
 abbrev pub changed_until : {X : Type 0} → (X → X) → ℕ → List X → List X

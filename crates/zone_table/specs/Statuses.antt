@@ -1,9 +1,10 @@
 -- The statuses of the zones that were submitted for re-encryption, at most one a zone.
-use Rattle.std.specs.Prelude.{◌≡◌, ℕ, Bool, true, false, not, ◌&&◌, ◌==◌, List, [], ◌∷◌, map, Option, Some, None, if◌then◌else◌}
+use Rattle.std.specs.Prelude.{◌≡◌, ℕ, ◌+◌, ◌-◌, ◌^◌, Bool, true, false, not, ◌&&◌, ◌==◌, nat_lt, List, [], ◌∷◌, map, Option, Some, None, if◌then◌else◌}
 use Rattle.std.specs.List.{All, filter, find, list_any}
 use Rattle.std.specs.Option.{option_and_then, option_map_or}
 use Rattle.hk_base.specs.declared.names.KeyName.{KeyName}
 use Rattle.hk_base.specs.Names.{Version}
+use Rattle.name_calls.specs.declared.paths.NPath.{NPath}
 use Rattle.inode_tree.specs.Below.{at_or_below}
 use Rattle.inode_tree.specs.Rows.{Entry, entry_of, mark_of}
 use Rattle.zone_table.specs.declared.statuses.StatusRow.{StatusRow}
@@ -53,6 +54,24 @@ with_end session cancelled s = if goes_on_under session s then record s { comple
 -- the statuses after the session has ended
 abbrev pub ended : ℕ → Bool → List StatusRow → List StatusRow
 ended session cancelled statuses = map (with_end session cancelled) statuses
+
+-- a count that stays at the greatest number of 64 bits
+abbrev pub capped : ℕ → ℕ
+capped n = if nat_lt n (2 ^ 64) then n else 2 ^ 64 - 1
+
+-- the mark, or the earlier one if it has not moved
+abbrev pub or_mark : Option NPath → Option NPath → Option NPath
+or_mark None mark = mark
+or_mark (Some p) mark = Some p
+
+-- the status with more files that were re-encrypted or failed, and with a mark that may have moved
+abbrev pub with_counts : ℕ → ℕ → Option NPath → StatusRow → StatusRow
+with_counts changed failed mark s = record s { reencrypted = capped (s.reencrypted + changed); failed = capped (s.failed + failed); mark = or_mark mark s.mark }
+
+-- the statuses after the first one that goes on under the session has counted files
+abbrev pub counted : ℕ → ℕ → ℕ → Option NPath → List StatusRow → List StatusRow
+counted session changed failed mark [] = []
+counted session changed failed mark (s ∷ ss) = if goes_on_under session s then with_counts changed failed mark s ∷ ss else s ∷ counted session changed failed mark ss
 
 -- the statuses without those of zones at the path or below it
 abbrev pub without_below : List Entry → List (List ℕ) → List StatusRow → List StatusRow

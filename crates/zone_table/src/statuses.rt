@@ -1,7 +1,7 @@
 //! The statuses of zones that were submitted for re-encryption.
-ghost use Rattle.std.specs.Prelude.{◌≡◌, ◌<◌, ◌≤◌, [], position, vec_len, vec_capacity, IsOk, OnOk, OnErr};
-ghost use Rattle.std.specs.Option.{option_map};
-ghost use Rattle.zone_table.specs.Statuses.{ended, goes_on, goes_on_under, is_of, need_status, new_status, session_goes_on, status_of, with_end, with_status, without_below, zone_goes_on};
+ghost use Rattle.std.specs.Prelude.{◌≡◌, ◌<◌, ◌≤◌, ◌+◌, [], false, position, vec_len, vec_capacity, IsOk, OnOk, OnErr};
+ghost use Rattle.std.specs.Option.{option_map, option_map_or};
+ghost use Rattle.zone_table.specs.Statuses.{capped, counted, ended, goes_on, goes_on_under, is_of, need_status, new_status, session_goes_on, status_of, with_counts, with_end, with_status, without_below, zone_goes_on};
 
 use hk_base::{NoMemory, VersionName};
 use inode_tree::Tree;
@@ -111,6 +111,41 @@ fn end(rows: &mut Vec<StatusRow>, session: u64, cancelled: bool)
     }
 }
 
+/// Returns a count with more files. It stays at the maximum.
+fn add(count: u64, more: u32) -> u64
+    ensures { result ≡ capped (count + more) }
+{
+    count.saturating_add(more as u64)
+}
+
+/// Counts files in a status. The mark moves if `mark` is a path.
+fn count_one(row: &mut StatusRow, changed: u32, failed: u32, mark: Option<NPath>)
+    ensures { row.new ≡ with_counts changed failed mark row.old }
+{
+    row.reencrypted = add(row.reencrypted, changed);
+    row.failed = add(row.failed, failed);
+    if mark.is_some() {
+        row.mark = mark;
+    }
+}
+
+/// Returns the index of the first status that goes on under the session, or `None` if none does.
+fn find_going(rows: &Vec<StatusRow>, session: u64) -> Option<usize>
+    ensures { result ≡ position (goes_on_under session) rows.now.items }
+{
+    rows.iter().position(|row| goes_on_under(row, session))
+}
+
+/// Counts files in the first status that goes on under the session. Does nothing if none does.
+fn count(rows: &mut Vec<StatusRow>, session: u64, changed: u32, failed: u32, mark: Option<NPath>)
+    ensures { rows.new.items ≡ counted session changed failed mark rows.old.items }
+{
+    match find_going(rows, session) {
+        Some(at) => count_one(&mut rows[at], changed, failed, mark),
+        None => (),
+    }
+}
+
 /// Removes the statuses of zones at the path or below it.
 fn remove_below(rows: &mut Vec<StatusRow>, tree: &Tree, path: &NPath)
     ensures { rows.new.items ≡ without_below tree.now.rows path.now rows.old.items }
@@ -145,6 +180,16 @@ impl Statuses {
     {
         match self.get(zone) {
             Some(row) => goes_on(row),
+            None => false,
+        }
+    }
+
+    /// Returns whether this zone is being re-encrypted under this session. It does not allocate.
+    pub fn zone_goes_on_under(&self, zone: u64, session: u64) -> bool
+        ensures { result ≡ option_map_or (goes_on_under session) (status_of self.now.rows zone) false }
+    {
+        match self.get(zone) {
+            Some(row) => goes_on_under(row, session),
             None => false,
         }
     }
@@ -197,6 +242,16 @@ impl Statuses {
         ensures { self.new.rows ≡ ended session cancelled self.old.rows }
     {
         end(&mut self.rows, session, cancelled);
+    }
+
+    /// Counts files of the re-encryption that goes on under a session: `changed` files got another
+    /// encrypted key, and `failed` files got none. Both counts stay at the maximum of 64 bits. If
+    /// `mark` is a path, all files up to it are done. Does nothing if no re-encryption goes on under
+    /// the session. It does not allocate.
+    pub fn count(&mut self, session: u64, changed: u32, failed: u32, mark: Option<NPath>)
+        ensures { self.new.rows ≡ counted session changed failed mark self.old.rows }
+    {
+        count(&mut self.rows, session, changed, failed, mark);
     }
 
     /// Removes the statuses of zones at the path or below it. Call this before the rows are removed
