@@ -1,3 +1,4 @@
 pub mod PathText
+mod Counted
 mod Parts
 pub mod RecordLemmas

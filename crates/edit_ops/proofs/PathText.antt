@@ -5,7 +5,7 @@ use Rattle.std.specs.List.{list_all, onto_first}
 use Rattle.std.proofs.lemmas.Bool.Decides.{nat_tests}
 use Rattle.std.proofs.lemmas.List.{take_more}
 use Rattle.std.proofs.lemmas.Option.{cond_some}
-use Rattle.name_calls.specs.Paths.{is_component, is_plain_byte, is_short, is_relative, is_absolute, absolute, starts_reserved, names_text, path_text, read_path}
+use Rattle.name_calls.specs.Paths.{is_component, is_plain_byte, is_short, is_relative, is_absolute, absolute, relative, starts_reserved, names_text, path_text, read_path, read_relative}
 use Rattle.name_calls.proofs.PathLemmas.{parts_of, path-text-parts, and-parts, names-text-snoc}
 
 -- a conditional that gave a value
@@ -80,6 +80,29 @@ path_again ((b ∷ c) ∷ cs) h =
     let g = and-parts (is_component (b ∷ c)) (list_all is_component cs) l in
     ap absolute (name_before (names_text cs) cs (parts_again cs g.1) (b ∷ c) (component_plain (b ∷ c) g.0))
     ∙ if_true (is_absolute ((b ∷ c) ∷ cs)) (Some ((b ∷ c) ∷ cs)) None h
+
+-- the same for paths down from a directory
+pub relative_takes : (bytes : List ℕ) (p : List (List ℕ)) → read_relative bytes ≡ Some p → (bytes ≡ path_text p) × (is_relative p ≡ true)
+relative_takes [] p e = absurd cc
+relative_takes (b ∷ []) p e =
+    let g = cond_some (b == 47) [] p e in
+    subst (λ (q : List (List ℕ)). (b ∷ [] ≡ path_text q) × (is_relative q ≡ true)) g.1 (ap (λ (x : ℕ). x ∷ []) (eq_47 b g.0), refl)
+relative_takes (b ∷ c ∷ bytes) p e =
+    let g = if_some (b == 47) (relative (parts_of (c ∷ bytes))) p e in
+    let h = cond_some (is_relative (parts_of (c ∷ bytes))) (parts_of (c ∷ bytes)) p g.1 in
+    subst (λ (q : List (List ℕ)). (b ∷ c ∷ bytes ≡ path_text q) × (is_relative q ≡ true)) h.1 (ap (λ (x : ℕ). x ∷ c ∷ bytes) (eq_47 b g.0) ∙ sym (path-text-parts (c ∷ bytes)), h.0)
+
+pub relative_again : (p : List (List ℕ)) → is_relative p ≡ true → read_relative (path_text p) ≡ Some p
+relative_again [] h = refl
+relative_again ([] ∷ cs) h =
+    let l = (and-parts (list_all is_component ([] ∷ cs)) (is_short ([] ∷ cs)) h).0 in
+    let c = (and-parts (is_component []) (list_all is_component cs) l).0 in
+    absurd (cc (component_some [] c))
+relative_again ((b ∷ c) ∷ cs) h =
+    let l = (and-parts (list_all is_component ((b ∷ c) ∷ cs)) (is_short ((b ∷ c) ∷ cs)) h).0 in
+    let g = and-parts (is_component (b ∷ c)) (list_all is_component cs) l in
+    ap relative (name_before (names_text cs) cs (parts_again cs g.1) (b ∷ c) (component_plain (b ∷ c) g.0))
+    ∙ if_true (is_relative ((b ∷ c) ∷ cs)) (Some ((b ∷ c) ∷ cs)) None h
 
 pub relative_length : (p : List (List ℕ)) → is_relative p ≡ true → length (path_text p) ≤ 8000
 relative_length p h =

@@ -11,7 +11,7 @@ SpelledFits = (op : EditOp) → HasSpelling op → IsTrue (fits op)
 
 -- the most bytes of a record
 abbrev pub longest_record : ℕ
-longest_record = 16005
+longest_record = 132024
 
 -- no record is empty, and none is longer
 abbrev pub RecordsAreShort : Type 0

@@ -1,11 +1,12 @@
 -- Records read from left to right: each field, and the bytes after it.
-use Rattle.std.specs.Prelude.{ℕ, List, [], ◌∷◌, length, Option, Some, None, ◌==◌, if◌then◌else◌}
+use Rattle.std.specs.Prelude.{ℕ, Bool, zero, suc, nat_le, List, [], ◌∷◌, length, Option, Some, None, ◌==◌, if◌then◌else◌}
 use Rattle.std.specs.Int.{w16, w32, w64}
 use Rattle.hk_base.specs.Names.{Encrypted, Version}
-use Rattle.name_calls.specs.Paths.{is_component, read_path}
+use Rattle.name_calls.specs.Paths.{is_component, read_path, read_relative}
 use Rattle.key_rows.specs.Reading.{◌>>=◌, number_at, bytes_at, short_at, long_at, name_of, material_of}
+use Rattle.edit_ops.specs.declared.files.FileKey.{FileKey}
 use Rattle.edit_ops.specs.declared.ops.EditOp.{EditOp}
-use Rattle.edit_ops.specs.declared.ops.EditOp.TheVariants.{Opened, Mkdir, File, Remove, Rename, Zone, Allow, Disallow, Snap, Unsnap, Submit, Cancel, Complete}
+use Rattle.edit_ops.specs.declared.ops.EditOp.TheVariants.{Opened, Mkdir, File, Remove, Rename, Zone, Allow, Disallow, Snap, Unsnap, Submit, Update, Cancel, Complete}
 
 -- reads a value from the start of the bytes, if they begin with one: the value, and the bytes after it
 abbrev pub Front : Type 0 → Type 0
@@ -39,6 +40,37 @@ abbrev pub as_of : {X Y : Type 0} → (X → Y) → Whole X → Whole Y
 as_of see whole bytes = do
   x ← whole bytes
   Some (see x)
+
+-- all of the bytes as one value that passes a test
+abbrev pub checked : {X : Type 0} → (X → Bool) → Whole X → Whole X
+checked test whole bytes = do
+  x ← whole bytes
+  if test x then Some x else None
+
+-- a value, and another one after it
+abbrev pub pair_at : {X Y : Type 0} → Front X → Front Y → Front (X × Y)
+pair_at front next bytes = do
+  x ← front bytes
+  y ← next x.1
+  Some ((x.0, y.0), y.1)
+
+abbrev pub as_at : {X Y : Type 0} → (X → Y) → Front X → Front Y
+as_at see front bytes = do
+  x ← front bytes
+  Some (see x.0, x.1)
+
+-- as many values as that, one after the other
+abbrev pub times_at : {X : Type 0} → Front X → ℕ → Front (List X)
+times_at front zero bytes = Some ([], bytes)
+times_at front (suc n) bytes = do
+  x ← front bytes
+  xs ← times_at front n x.1
+  Some (x.0 ∷ xs.0, xs.1)
+
+-- a byte 0, or a byte 1 and a value
+abbrev pub opt_at : {X : Type 0} → Front X → Front (Option X)
+opt_at front [] = None
+opt_at front (tag ∷ bytes) = if tag == 0 then Some (None, bytes) else (if tag == 1 then as_at (λ x. Some x) front bytes else None)
 
 -- a byte 0 alone, or a byte 1 and a value
 abbrev pub opt_of : {X : Type 0} → Whole X → Whole (Option X)
@@ -81,8 +113,11 @@ sealed_at = front_of short_at material_of
 abbrev pub encrypted : List ℕ × (ℕ × (List ℕ × List ℕ)) → Encrypted
 encrypted x = record { version = record { key = x.0; number = x.1.0 }; iv = x.1.1.0; sealed = x.1.1.1 }
 
+unfoldable pub edek_at : Front Encrypted
+edek_at bytes = as_at encrypted (pair_at name_at (pair_at (number_at w16) (pair_at iv_at sealed_at))) bytes
+
 unfoldable pub edek_of : Whole Encrypted
-edek_of bytes = as_of encrypted (then_of name_at (then_of (number_at w16) (then_of iv_at (last sealed_at)))) bytes
+edek_of bytes = last edek_at bytes
 
 unfoldable pub opt_edek_of : Whole (Option Encrypted)
 opt_edek_of bytes = opt_of edek_of bytes
@@ -120,6 +155,34 @@ unsnap_of bytes = as_of (λ x. Unsnap x.0 x.1) path_and_name_of bytes
 unfoldable pub submit_of : Whole EditOp
 submit_of bytes = as_of (λ x. Submit x.0 x.1.0 x.1.1) (then_of (number_at w64) (then_of path_at version_of)) bytes
 
+unfoldable pub mark_at : Front (List (List ℕ))
+mark_at bytes = front_of long_at read_relative bytes
+
+unfoldable pub opt_mark_at : Front (Option (List (List ℕ)))
+opt_mark_at bytes = opt_at mark_at bytes
+
+unfoldable pub file_key_at : Front FileKey
+file_key_at bytes = as_at (λ x. record { id = x.0; edek = x.1 }) (pair_at (number_at w64) edek_at) bytes
+
+-- all of the bytes, if they are that many files
+abbrev pub files_of : ℕ → Whole (List FileKey)
+files_of count = last (times_at file_key_at count)
+
+-- all of the bytes, if they are the number of files, at most 1,000, and the files
+unfoldable pub counted_of : Whole (List FileKey)
+counted_of bytes = do
+  count ← number_at w32 bytes
+  files ← files_of count.0 count.1
+  if nat_le (length files) 1000 then Some files else None
+
+-- a session, a number of changed files and one of failed ones, a mark, and files
+abbrev pub update_parts : Whole (ℕ × (ℕ × (ℕ × (Option (List (List ℕ)) × List FileKey))))
+update_parts = then_of (number_at w64) (then_of (number_at w32) (then_of (number_at w32) (then_of opt_mark_at counted_of)))
+
+-- as many files as changed
+unfoldable pub update_of : Whole EditOp
+update_of bytes = as_of (λ x. Update x.0 x.1.1.0 x.1.1.1.0 x.1.1.1.1) (checked (λ x. x.1.0 == length x.1.1.1.1) update_parts) bytes
+
 unfoldable pub cancel_of : Whole EditOp
 cancel_of bytes = as_of Cancel (last (number_at w64)) bytes
 
@@ -141,5 +204,6 @@ op_of (tag ∷ bytes) =
     else (if tag == 9 then snap_of bytes
     else (if tag == 10 then unsnap_of bytes
     else (if tag == 11 then submit_of bytes
+    else (if tag == 12 then update_of bytes
     else (if tag == 13 then cancel_of bytes
-    else (if tag == 14 then complete_of bytes else None))))))))))))
+    else (if tag == 14 then complete_of bytes else None)))))))))))))

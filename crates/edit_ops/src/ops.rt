@@ -4,6 +4,7 @@ ghost use Rattle.std.specs.Str.{bytes_eq};
 ghost use Rattle.name_calls.specs.Paths.{is_component, is_relative, starts_reserved};
 ghost use Rattle.edit_ops.specs.Records.{fits};
 
+use crate::files::FileKeys;
 use hk_base::{Edek, KeyName, Text, VersionName};
 use name_calls::{NPath, is_component};
 
@@ -64,6 +65,15 @@ pub enum EditOp {
         path: NPath,
         noted: VersionName,
     },
+    /// A batch of a re-encryption came back or was given up. These files got these encrypted keys, and
+    /// `failed` files got none. `mark` is the path in the zone up to which all files are done, if that
+    /// has moved.
+    Update {
+        session: u64,
+        failed: u32,
+        mark: Option<NPath>,
+        files: FileKeys,
+    },
     /// A re-encryption was cancelled.
     Cancel {
         session: u64,
@@ -121,6 +131,7 @@ impl EditOp {
             EditOp::Snap { path, name } => can_be_a_snapshot(path, name),
             EditOp::Unsnap { path, name } => can_be_a_snapshot(path, name),
             EditOp::Submit { path, .. } => !is_reserved(path),
+            EditOp::Update { .. } => true,
             EditOp::Cancel { .. } => true,
             EditOp::Complete { .. } => true,
         }

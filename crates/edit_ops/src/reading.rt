@@ -1,12 +1,13 @@
 //! Reading the records of the edit log.
-ghost use Rattle.std.specs.Prelude.{◌≡◌, true, IfOk, IsErrOf};
+ghost use Rattle.std.specs.Prelude.{◌≡◌, ◌++◌, ◌∷◌, [], true, IfOk, IsErrOf, OnOk};
 ghost use Rattle.std.specs.Int.{w64};
 ghost use Rattle.hk_base.specs.declared.records.RecordFault.TheVariants as fault;
-ghost use Rattle.name_calls.specs.Paths.{is_component, read_path};
+ghost use Rattle.name_calls.specs.Paths.{is_component, read_path, read_relative};
 ghost use Rattle.key_rows.specs.Reading.{Gives, number_at};
 ghost use Rattle.edit_ops.specs.Records.{HasSpelling, spelling};
-ghost use Rattle.edit_ops.specs.Reading.{allow_of, cancel_of, complete_of, component_of, disallow_of, edek_of, file_of, iv_of, last, mkdir_of, op_of, opened_of, opt_edek_of, path_and_name_of, path_at, remove_of, rename_of, snap_of, submit_of, unsnap_of, version_of, zone_of};
+ghost use Rattle.edit_ops.specs.Reading.{allow_of, cancel_of, complete_of, component_of, counted_of, disallow_of, edek_at, edek_of, file_key_at, file_of, files_of, iv_of, last, mark_at, mkdir_of, op_of, opened_of, opt_edek_of, opt_mark_at, path_and_name_of, path_at, remove_of, rename_of, snap_of, submit_of, unsnap_of, update_of, version_of, zone_of};
 
+use crate::files::{FileKey, FileKeys};
 use crate::ops::EditOp;
 use hk_base::{Edek, Iv, NoMemory, RecordFault, Text, VersionName};
 use key_rows::fields::{cut, cut_long, cut_short, material_of, name_of, u16_at, u32_at, u64_at};
@@ -115,10 +116,10 @@ fn version_of(bytes: &[u8]) -> Result<VersionName, RecordFault>
     Ok(VersionName { key, number })
 }
 
-/// Reads all of the bytes as an encrypted data encryption key.
-#[tactic(auto, unfolding(crate::specs::Reading::edek_of))]
-fn edek_of(bytes: &[u8]) -> Result<Edek, RecordFault>
-    ensures { Gives (λ x. x) result (edek_of bytes.now) }
+/// Reads an encrypted data encryption key from the start.
+#[tactic(auto, unfolding(crate::specs::Reading::edek_at))]
+fn edek_at(bytes: &[u8]) -> Result<(Edek, &[u8]), RecordFault>
+    ensures { Gives (λ x. (x.0, x.1.now)) result (edek_at bytes.now) }
 {
     let (key, rest) = cut_short(bytes)?;
     let key = name_of(key)?;
@@ -127,15 +128,29 @@ fn edek_of(bytes: &[u8]) -> Result<Edek, RecordFault>
     let iv = iv_of(iv)?;
     let (sealed, rest) = cut_short(rest)?;
     let sealed = material_of(sealed)?;
-    if !rest.is_empty() {
-        return Err(RecordFault::NoRecord);
-    }
     let version = VersionName { key, number };
-    Ok(Edek {
+    let edek = Edek {
         version,
         iv,
         sealed,
-    })
+    };
+    Ok((edek, rest))
+}
+
+/// Reads all of the bytes as an encrypted data encryption key.
+#[tactic(auto, unfolding(crate::specs::Reading::edek_of))]
+fn edek_of(bytes: &[u8]) -> Result<Edek, RecordFault>
+    ensures { Gives (λ x. x) result (edek_of bytes.now) }
+{
+    match edek_at(bytes) {
+        Err(fault) => Err(fault),
+        Ok((edek, rest)) => {
+            if !rest.is_empty() {
+                return Err(RecordFault::NoRecord);
+            }
+            Ok(edek)
+        }
+    }
 }
 
 /// Reads all of the bytes as an optional encrypted data encryption key.
@@ -150,6 +165,96 @@ fn opt_edek_of(bytes: &[u8]) -> Result<Option<Edek>, RecordFault>
             Ok(Some(edek))
         }
         _ => Err(RecordFault::NoRecord),
+    }
+}
+
+/// Reads all of the bytes as a path in a zone.
+fn relative_of(alloc: Global, bytes: &[u8]) -> Result<NPath, RecordFault>
+    ensures { Gives (λ x. x) result (read_relative bytes.now) }
+{
+    match NPath::read_relative(alloc, bytes) {
+        Ok(path) => Ok(path),
+        Err(PathFault::BadPath) => Err(RecordFault::NoRecord),
+        Err(PathFault::NoMemory) => Err(RecordFault::NoMemory),
+    }
+}
+
+/// Reads a path in a zone from the start.
+#[tactic(auto, unfolding(crate::specs::Reading::mark_at))]
+fn mark_at(alloc: Global, bytes: &[u8]) -> Result<(NPath, &[u8]), RecordFault>
+    ensures { Gives (λ x. (x.0, x.1.now)) result (mark_at bytes.now) }
+{
+    let (text, rest) = cut_long(bytes)?;
+    let path = relative_of(alloc, text)?;
+    Ok((path, rest))
+}
+
+/// Reads an optional path in a zone from the start.
+#[tactic(auto, unfolding(crate::specs::Reading::opt_mark_at))]
+fn opt_mark_at(alloc: Global, bytes: &[u8]) -> Result<(Option<NPath>, &[u8]), RecordFault>
+    ensures { Gives (λ x. (x.0, x.1.now)) result (opt_mark_at bytes.now) }
+{
+    match bytes {
+        [0, rest @ ..] => Ok((None, rest)),
+        [1, rest @ ..] => {
+            let (path, rest) = mark_at(alloc, rest)?;
+            Ok((Some(path), rest))
+        }
+        _ => Err(RecordFault::NoRecord),
+    }
+}
+
+/// Reads a file and its encrypted key from the start.
+#[tactic(auto, unfolding(crate::specs::Reading::file_key_at))]
+fn file_key_at(bytes: &[u8]) -> Result<(FileKey, &[u8]), RecordFault>
+    ensures { Gives (λ x. (x.0, x.1.now)) result (file_key_at bytes.now) }
+{
+    let (id, rest) = u64_at(bytes)?;
+    match edek_at(rest) {
+        Err(fault) => Err(fault),
+        Ok((edek, rest)) => Ok((FileKey { id, edek }, rest)),
+    }
+}
+
+/// Appends a file.
+fn add(files: &mut Vec<FileKey>, file: FileKey) -> Result<(), NoMemory>
+    ensures { OnOk result (files.new.items ≡ files.old.items ++ file ∷ []) }
+{
+    files.push(file)?;
+    Ok(())
+}
+
+/// Reads all of the bytes as `count` files and their encrypted keys.
+fn files_of(alloc: Global, count: u32, bytes: &[u8]) -> Result<Vec<FileKey>, RecordFault>
+    ensures { Gives (λ x. x.items) result (files_of count bytes.now) }
+{
+    let mut files = Vec::new(alloc);
+    let mut left = bytes;
+    for _ in 0..count {
+        match file_key_at(left) {
+            Err(fault) => return Err(fault),
+            Ok((file, rest)) => {
+                add(&mut files, file)?;
+                left = rest;
+            }
+        }
+    }
+    if !left.is_empty() {
+        return Err(RecordFault::NoRecord);
+    }
+    Ok(files)
+}
+
+/// Reads all of the bytes as the number of files, and the files with their encrypted keys.
+#[tactic(auto, unfolding(crate::specs::Reading::counted_of))]
+fn counted_of(alloc: Global, bytes: &[u8]) -> Result<FileKeys, RecordFault>
+    ensures { Gives (λ x. x) result (counted_of bytes.now) }
+{
+    let (count, rest) = u32_at(bytes)?;
+    let files = files_of(alloc, count, rest)?;
+    match FileKeys::of(files) {
+        None => Err(RecordFault::NoRecord),
+        Some(files) => Ok(files),
     }
 }
 
@@ -262,6 +367,26 @@ fn submit_of(alloc: Global, bytes: &[u8]) -> Result<EditOp, RecordFault>
     })
 }
 
+#[tactic(auto, unfolding(crate::specs::Reading::update_of))]
+fn update_of(alloc: Global, bytes: &[u8]) -> Result<EditOp, RecordFault>
+    ensures { Gives (λ x. x) result (update_of bytes.now) }
+{
+    let (session, rest) = u64_at(bytes)?;
+    let (changed, rest) = u32_at(rest)?;
+    let (failed, rest) = u32_at(rest)?;
+    let (mark, rest) = opt_mark_at(alloc, rest)?;
+    let files = counted_of(alloc, rest)?;
+    if changed as usize != files.as_slice().len() {
+        return Err(RecordFault::NoRecord);
+    }
+    Ok(EditOp::Update {
+        session,
+        failed,
+        mark,
+        files,
+    })
+}
+
 #[tactic(auto, unfolding(crate::specs::Reading::cancel_of))]
 fn cancel_of(bytes: &[u8]) -> Result<EditOp, RecordFault>
     ensures { Gives (λ x. x) result (cancel_of bytes.now) }
@@ -294,6 +419,7 @@ fn op_of(alloc: Global, bytes: &[u8]) -> Result<EditOp, RecordFault>
         [9, rest @ ..] => snap_of(alloc, rest),
         [10, rest @ ..] => unsnap_of(alloc, rest),
         [11, rest @ ..] => submit_of(alloc, rest),
+        [12, rest @ ..] => update_of(alloc, rest),
         [13, rest @ ..] => cancel_of(rest),
         [14, rest @ ..] => complete_of(rest),
         _ => Err(RecordFault::NoRecord),

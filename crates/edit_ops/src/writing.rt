@@ -1,11 +1,13 @@
 //! Writing the records of the edit log.
 ghost use Rattle.std.specs.Prelude.{◌≡◌, ◌≤◌, ◌++◌, ◌∷◌, true, IsTrue, OnOk, OnErr, length, take};
 ghost use Rattle.std.specs.Int.{w16, w32, w64, to_be_bytes};
+ghost use Rattle.std.specs.List.{AllByRecursion};
 ghost use Rattle.hk_base.specs.Names.{IsKeyName};
 ghost use Rattle.name_calls.specs.Paths.{is_component, is_relative, names_text, path_text};
 ghost use Rattle.key_rows.specs.Records.{name_field, text_field};
-ghost use Rattle.edit_ops.specs.Records.{HasSpelling, IsEdek, IsOpt, IsVersion, edek_field, fits, opt_field, path_field, spelling, version_field};
+ghost use Rattle.edit_ops.specs.Records.{HasSpelling, IsEdek, IsFileKey, IsOpt, IsVersion, counted_field, edek_field, file_field, files_field, fits, opt_field, path_field, spelling, version_field};
 
+use crate::files::{FileKey, FileKeys};
 use crate::ops::EditOp;
 use hk_base::{ByteList, Edek, KeyName, NoMemory, Text, VersionName};
 use key_rows::fields::{append_head, append_name};
@@ -182,6 +184,99 @@ fn append_submit(
     append_version(out, noted)
 }
 
+/// Appends an optional path in a zone. If allocation fails, a prefix may have been appended.
+fn append_opt_mark(out: &mut ByteList, mark: &Option<NPath>) -> Result<(), NoMemory>
+    ensures ok { OnOk result (out.new ≡ out.old ++ opt_field path_field mark.now) }
+    ensures rule { OnOk result (IsOpt (λ p. IsTrue (is_relative p)) mark.now) }
+    ensures err { OnErr result (take (length out.old) out.new ≡ out.old) }
+{
+    match mark {
+        None => out.push(0),
+        Some(path) => {
+            out.push(1)?;
+            append_path(out, path)
+        }
+    }
+}
+
+/// Appends a file and its encrypted key. If allocation fails, a prefix may have been appended.
+fn append_file_key(out: &mut ByteList, file: &FileKey) -> Result<(), NoMemory>
+    ensures ok { OnOk result (out.new ≡ out.old ++ file_field file.now) }
+    ensures is_file_key { OnOk result (IsFileKey file.now) }
+    ensures err { OnErr result (take (length out.old) out.new ≡ out.old) }
+{
+    out.append(&file.id.to_be_bytes())?;
+    append_edek(out, &file.edek)
+}
+
+/// Appends files and their encrypted keys. If allocation fails, a prefix may have been appended.
+fn append_file_keys(out: &mut ByteList, files: &[FileKey]) -> Result<(), NoMemory>
+    ensures ok { OnOk result (out.new ≡ out.old ++ files_field files.now) }
+    ensures are_file_keys { OnOk result (AllByRecursion IsFileKey files.now) }
+    ensures err { OnErr result (take (length out.old) out.new ≡ out.old) }
+{
+    for file in files {
+        append_file_key(out, file)?;
+    }
+    Ok(())
+}
+
+/// Appends the number of files. If allocation fails, a prefix may have been appended.
+fn append_count(out: &mut ByteList, files: &FileKeys) -> Result<(), NoMemory>
+    ensures ok { OnOk result (out.new ≡ out.old ++ to_be_bytes w32 (length files.now)) }
+    ensures err { OnErr result (take (length out.old) out.new ≡ out.old) }
+{
+    let count = files.as_slice().len() as u32;
+    out.append(&count.to_be_bytes())
+}
+
+/// Appends files and their encrypted keys after their number. If allocation fails, a prefix may have
+/// been appended.
+fn append_counted(out: &mut ByteList, files: &FileKeys) -> Result<(), NoMemory>
+    ensures ok { OnOk result (out.new ≡ out.old ++ counted_field files.now) }
+    ensures are_file_keys { OnOk result (AllByRecursion IsFileKey files.now) }
+    ensures most { OnOk result (length files.now ≤ 1000) }
+    ensures err { OnErr result (take (length out.old) out.new ≡ out.old) }
+{
+    append_count(out, files)?;
+    append_file_keys(out, files.as_slice())
+}
+
+/// Appends the first byte of the record of an update, the session, and how many files were changed and
+/// failed. If allocation fails, a prefix may have been appended.
+fn append_counts(
+    out: &mut ByteList,
+    session: u64,
+    failed: u32,
+    files: &FileKeys,
+) -> Result<(), NoMemory>
+    ensures ok { OnOk result (out.new ≡ out.old ++ 12 ∷ (to_be_bytes w64 session ++ (to_be_bytes w32 (length files.now) ++ to_be_bytes w32 failed))) }
+    ensures err { OnErr result (take (length out.old) out.new ≡ out.old) }
+{
+    append_head(out, 12, session)?;
+    out.append(&(files.as_slice().len() as u32).to_be_bytes())?;
+    out.append(&failed.to_be_bytes())
+}
+
+/// Appends the record of an update. If allocation fails, a prefix may have been appended.
+fn append_update(
+    out: &mut ByteList,
+    session: u64,
+    failed: u32,
+    mark: &Option<NPath>,
+    files: &FileKeys,
+) -> Result<(), NoMemory>
+    ensures ok { OnOk result (out.new ≡ out.old ++ 12 ∷ (to_be_bytes w64 session ++ (to_be_bytes w32 (length files.now) ++ (to_be_bytes w32 failed ++ (opt_field path_field mark.now ++ counted_field files.now))))) }
+    ensures rule { OnOk result (IsOpt (λ p. IsTrue (is_relative p)) mark.now) }
+    ensures are_file_keys { OnOk result (AllByRecursion IsFileKey files.now) }
+    ensures most { OnOk result (length files.now ≤ 1000) }
+    ensures err { OnErr result (take (length out.old) out.new ≡ out.old) }
+{
+    append_counts(out, session, failed, files)?;
+    append_opt_mark(out, mark)?;
+    append_counted(out, files)
+}
+
 impl EditOp {
     /// Appends the record of the operation in the edit log. Returns `NoMemory` if allocation fails;
     /// `out` is then unchanged.
@@ -227,6 +322,12 @@ impl EditOp {
                 path,
                 noted,
             } => append_submit(out, *session, path, noted),
+            EditOp::Update {
+                session,
+                failed,
+                mark,
+                files,
+            } => append_update(out, *session, *failed, mark, files),
             EditOp::Cancel { session } => append_head(out, 13, *session),
             EditOp::Complete { session } => append_head(out, 14, *session),
         }
