@@ -244,6 +244,7 @@ allowed t (op.Disallow p) safe may = parts t (op.Disallow p) may
 allowed t (op.Snap p name) safe may = parts t (op.Snap p name) may
 allowed t (op.Unsnap p name) safe may = parts t (op.Unsnap p name) may
 allowed t (op.Submit session p noted) safe may = parts t (op.Submit session p noted) may
+allowed t (op.Update session failed mark files) safe may = parts t (op.Update session failed mark files) may
 allowed t (op.Cancel session) safe may = parts t (op.Cancel session) may
 allowed t (op.Complete session) safe may = parts t (op.Complete session) may
 
@@ -259,6 +260,7 @@ allows-it t (op.Disallow p) safe a = whole t (op.Disallow p) a
 allows-it t (op.Snap p name) safe a = whole t (op.Snap p name) a
 allows-it t (op.Unsnap p name) safe a = whole t (op.Unsnap p name) a
 allows-it t (op.Submit session p noted) safe a = whole t (op.Submit session p noted) a
+allows-it t (op.Update session failed mark files) safe a = whole t (op.Update session failed mark files) a
 allows-it t (op.Cancel session) safe a = whole t (op.Cancel session) a
 allows-it t (op.Complete session) safe a = whole t (op.Complete session) a
 

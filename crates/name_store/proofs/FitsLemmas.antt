@@ -22,10 +22,10 @@ use Rattle.snap_store.specs.Snapshots.{SnapTable, Snapshot, frozen, holds_snapsh
 use Rattle.edit_ops.specs.declared.ops.EditOp.{EditOp}
 use Rattle.edit_ops.specs.declared.ops.EditOp.TheVariants as op
 use Rattle.name_store.specs.Causes.{id_at, kept_causes, removal_causes}
-use Rattle.name_store.specs.Table.{FitsRows, IsTable, NameTable, after_table, allows, new_directory, new_file, path_of, row_of}
+use Rattle.name_store.specs.Table.{FitsRows, IsTable, NameTable, after_table, allows, new_directory, new_file, path_of, row_of, with_edeks}
 use Rattle.name_store.proofs.CauseLemmas.{allowable, allowed, both, holds-none, id-may-be-used, none-of-both, renamable, snappable}
-use Rattle.name_store.proofs.IdLemmas.{kind-id}
 use Rattle.name_store.proofs.RowLemmas.{directory-entry}
+use Rattle.name_store.proofs.UpdateLemmas.{dirs-kept, entry-kind, updated-files}
 
 abbrev Stands : List Entry → ℕ → Type 0
 Stands rows id = is_dir_at (row_of rows id) ≡ true
@@ -178,16 +178,6 @@ fits-renamed t p q good can none =
 
 -- a row with another kind
 
-entry-kind : (n : ℕ) (kind : Kind) (rows : List Entry) (id : ℕ) → entry_of (set_kind rows n kind) id ≡ option_map (with_kind n kind) (entry_of rows id)
-entry-kind n kind [] id = refl
-entry-kind n kind (y ∷ ys) id =
-    ap (λ (i : ℕ). cond (i == id) (Some (with_kind n kind y)) (entry_of (set_kind ys n kind) id)) (kind-id n kind y) ∙ go (y.row.id == id) (entry-kind n kind ys id)
-  where
-    go : (b : Bool) → entry_of (set_kind ys n kind) id ≡ option_map (with_kind n kind) (entry_of ys id)
-        → cond b (Some (with_kind n kind y)) (entry_of (set_kind ys n kind) id) ≡ option_map (with_kind n kind) (cond b (Some y) (entry_of ys id))
-    go true ih = refl
-    go false ih = ih
-
 stays-kind : (n : ℕ) (key : KeyName) (rows : List Entry) (id : ℕ) → Stands rows id → Stays rows (set_kind rows n (Dir (Some key))) id
 stays-kind n key rows id h = record {
   path = ap path_in (entry-kind n (Dir (Some key)) rows id) ∙ same_path_as (entry_of rows id);
@@ -290,6 +280,9 @@ module _ (t : NameTable) (good : IsTable t) where
     whole = All-filter (λ (s : Snapshot). not (is_named (id_at t.rows p) name s)) (IsWhole t.rows) t.snaps.taken good.fits.whole;
   }
   fits-after (op.Submit session p noted) may = good.fits
+  fits-after (op.Update session failed mark files) may =
+      let stand = updated-files t t session failed mark files (op.Update session failed mark files) refl refl may in
+      fits-all t (with_edeks files t.rows) good (λ id h. same-entry t.rows (with_edeks files t.rows) id (dirs-kept files t.rows id stand h) h)
   fits-after (op.Cancel session) may = good.fits
   fits-after (op.Complete session) may = good.fits
 

@@ -5,13 +5,14 @@ use Rattle.std.specs.List.{All, AllByRecursion}
 use Rattle.std.proofs.lemmas.Bool.Decides.{Decides-eqb, nat_tests}
 use Rattle.std.proofs.lemmas.List.Elements.{All-cons, All-filter, All-head, All-map, All-nil, All-tail, All-weaker}
 use Rattle.inode_tree.specs.declared.rows.Kind.{Kind}
-use Rattle.inode_tree.specs.declared.rows.Kind.TheVariants.{Dir}
+use Rattle.inode_tree.specs.declared.rows.Kind.TheVariants.{Dir, File}
 use Rattle.name_calls.specs.Paths.{is_before}
 use Rattle.inode_tree.specs.Moves.{moved, renamed}
 use Rattle.inode_tree.specs.Rows.{Entry, put, set_kind, with_kind}
+use Rattle.edit_ops.specs.declared.files.FileKey.{FileKey}
 use Rattle.edit_ops.specs.declared.ops.EditOp.{EditOp}
 use Rattle.edit_ops.specs.declared.ops.EditOp.TheVariants as op
-use Rattle.name_store.specs.Table.{NameTable, Replayed, after, after_table, allows, applies, is_among, is_fresh, is_of_opening, nothing_logged, uses}
+use Rattle.name_store.specs.Table.{NameTable, Replayed, after, after_table, allows, applies, is_among, is_fresh, is_of_opening, nothing_logged, uses, with_edeks}
 use Rattle.name_store.specs.Causes.{id_at}
 use Rattle.name_store.specs.Replay.{AllBelow, IdsOfOpening, name_replay}
 use Rattle.name_store.proofs.CauseLemmas.{MayUse, allowed, both, id-may-be-used}
@@ -47,6 +48,11 @@ kind-id n kind e = go (e.row.id == n) refl
 kinds-have : (P : ℕ → Type 0) (n : ℕ) (kind : Kind) (es : List Entry) → All (IdHas P) es → All (IdHas P) (set_kind es n kind)
 kinds-have P n kind es h = All-map (IdHas P) (with_kind n kind) es (All-weaker (IdHas P) (λ e. IdHas P (with_kind n kind e)) (λ e has. subst P (sym (kind-id n kind e)) has) es h)
 
+-- other encrypted keys leave the ids
+edeks-have : (P : ℕ → Type 0) (files : List FileKey) (es : List Entry) → All (IdHas P) es → All (IdHas P) (with_edeks files es)
+edeks-have P [] es h = h
+edeks-have P (f ∷ fs) es h = edeks-have P fs (set_kind es f.id (File (Some f.edek))) (kinds-have P f.id (File (Some f.edek)) es h)
+
 -- a move leaves the ids
 moved-have : (P : ℕ → Type 0) (p q : List (List ℕ)) (es : List Entry) → All (IdHas P) es → All (IdHas P) (renamed p q es)
 moved-have P p q [] h = All-nil (IdHas P)
@@ -65,6 +71,7 @@ rows_have P t (op.Disallow p) own h = h
 rows_have P t (op.Snap p name) own h = h
 rows_have P t (op.Unsnap p name) own h = h
 rows_have P t (op.Submit session p noted) own h = h
+rows_have P t (op.Update session failed mark files) own h = edeks-have P files t.rows h
 rows_have P t (op.Cancel session) own h = h
 rows_have P t (op.Complete session) own h = h
 
@@ -113,6 +120,7 @@ ids-after r (op.Unsnap p name) may h = record { rows = h.rows; used = h.used }
 ids-after r (op.Submit session p noted) may h =
     let below = of-opening r.table session (id-may-be-used r.table session (allowed r.table (op.Submit session p noted) refl may).ids) in
     record { rows = h.rows; used = (below, h.used) }
+ids-after r (op.Update session failed mark files) may h = record { rows = rows_have (IsBefore (end_of_ids r.table.opening)) r.table (op.Update session failed mark files) tt h.rows; used = h.used }
 ids-after r (op.Cancel session) may h = record { rows = h.rows; used = h.used }
 ids-after r (op.Complete session) may h = record { rows = h.rows; used = h.used }
 
@@ -160,5 +168,6 @@ fresh_in t used (op.Disallow p) may h = refl
 fresh_in t used (op.Snap p name) may h = refl
 fresh_in t used (op.Unsnap p name) may h = refl
 fresh_in t used (op.Submit session p noted) may h = of-this t used session (id-may-be-used t session (allowed t (op.Submit session p noted) refl may).ids) h
+fresh_in t used (op.Update session failed mark files) may h = refl
 fresh_in t used (op.Cancel session) may h = refl
 fresh_in t used (op.Complete session) may h = refl

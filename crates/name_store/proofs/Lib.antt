@@ -3,6 +3,7 @@ pub mod Commits
 pub mod FitsLemmas
 pub mod IdLemmas
 pub mod Layers
+pub mod PathLemmas
 mod ReaderLemmas
 pub mod Replays
 pub mod RowLemmas
@@ -10,4 +11,5 @@ pub mod RunLemmas
 pub mod SettleLemmas
 pub mod Starts
 pub mod StatusLemmas
+pub mod UpdateLemmas
 pub mod UsedLemmas

@@ -9,7 +9,7 @@ use Rattle.edit_ops.specs.Records.{HasSpelling}
 use Rattle.edit_ops.specs.declared.ops.EditOp.{EditOp}
 use Rattle.edit_log.specs.Log.{EditLogState}
 use Rattle.edit_log.specs.Log as edits
-use Rattle.name_store.specs.Table.{Replayed, after_table, applies, settled_ops, settled_table, settled_used}
+use Rattle.name_store.specs.Table.{Replayed, after_table, applies, kept_op, settled_ops, settled_table, settled_used}
 use Rattle.name_store.specs.Replay.{Applies}
 use Rattle.name_store.specs.Store.{IsLeftOf, IsLogOf, NothingMore, SettlesNames, IsNameStoreOf, StoreState, Unsettled, made_with}
 use Rattle.name_store.proofs.Commits.{as_before, one_more}
@@ -41,9 +41,10 @@ module _ (old new : DiskState) (store store' : StoreState) where
       Tells old → (ops : List EditOp) → edits.IsEditLogOf old store.log ops → slice_get (old.reads 1) store.log.log.end ≢ Some 1 → (answer ≡ None) × edits.IsEditLogOf new store'.log ops
 
   -- nothing was pending, or it was dropped
-  pub settles_none : (answer : Option EditOp) → answer ≡ None → store'.log.pending ≡ None → store'.table ≡ store.table → Nothing → Kept answer → Dropped answer → SettlesNames old new store store'
+  pub settles_none : (answer : Option EditOp) → answer ≡ None → store'.log.pending ≡ None → store'.table ≡ store.table → Nothing → Kept answer → Dropped answer → SettlesNames old new store None store'
   settles_none answer is none same nothing kept dropped = record {
     kept = false;
+    answer_is = answer_is store.log.pending;
     none = none;
     table = same ∙ table_is store.log.pending;
     stands = λ tells used ops s.
@@ -53,6 +54,10 @@ module _ (old new : DiskState) (store store' : StoreState) where
         (subst (λ (u : List ℕ). IsNameStoreOf new store' u ops) (used_is used store.log.pending) now);
   }
     where
+      answer_is : (o : Option EditOp) → None ≡ kept_op false o
+      answer_is None = refl
+      answer_is (Some op) = refl
+
       table_is : (o : Option EditOp) → store.table ≡ settled_table false o store.table
       table_is None = refl
       table_is (Some op) = refl
@@ -74,9 +79,10 @@ module _ (old new : DiskState) (store store' : StoreState) where
           (is_one (slice_get (old.reads 1) store.log.log.end))
 
   -- the pending operation was kept
-  pub settles_kept : (answer : Option EditOp) (op : EditOp) → answer ≡ Some op → (answer ≡ None) ⊎ (answer ≡ store.log.pending) → store'.log.pending ≡ None → store'.table ≡ after_table store.table op → Kept answer → Dropped answer → SettlesNames old new store store'
+  pub settles_kept : (answer : Option EditOp) (op : EditOp) → answer ≡ Some op → (answer ≡ None) ⊎ (answer ≡ store.log.pending) → store'.log.pending ≡ None → store'.table ≡ after_table store.table op → Kept answer → Dropped answer → SettlesNames old new store (Some op) store'
   settles_kept answer op is from none then_is kept dropped = record {
     kept = true;
+    answer_is = ap (λ (o : Option EditOp). kept_op true o) (sym waits);
     none = none;
     table = then_is ∙ ap (λ (o : Option EditOp). settled_table true o store.table) (sym waits);
     stands = λ tells used ops s.

@@ -45,6 +45,7 @@ turn-of t (op.Disallow p) may = (allowed t (op.Disallow p) refl may).opened
 turn-of t (op.Snap p name) may = (allowed t (op.Snap p name) refl may).opened
 turn-of t (op.Unsnap p name) may = (allowed t (op.Unsnap p name) refl may).opened
 turn-of t (op.Submit session p noted) may = (allowed t (op.Submit session p noted) refl may).opened
+turn-of t (op.Update session failed mark files) may = (allowed t (op.Update session failed mark files) refl may).opened
 turn-of t (op.Cancel session) may = (allowed t (op.Cancel session) refl may).opened
 turn-of t (op.Complete session) may = (allowed t (op.Complete session) refl may).opened
 
@@ -60,6 +61,7 @@ last-of t (op.Disallow p) = refl
 last-of t (op.Snap p name) = refl
 last-of t (op.Unsnap p name) = refl
 last-of t (op.Submit session p noted) = refl
+last-of t (op.Update session failed mark files) = refl
 last-of t (op.Cancel session) = refl
 last-of t (op.Complete session) = refl
 

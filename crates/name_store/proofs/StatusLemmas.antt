@@ -14,7 +14,7 @@ use Rattle.inode_tree.specs.Rows.{Entry, IsRows, is_dir_at, is_marked, is_zone_o
 use Rattle.inode_tree.proofs.Seeks.{same-is, same-itself}
 use Rattle.inode_tree.proofs.ZoneLemmas.{prefix-whole, zone-short}
 use Rattle.zone_table.specs.declared.statuses.StatusRow.{StatusRow}
-use Rattle.zone_table.specs.Statuses.{StatusesFit, mark_of_id, new_status}
+use Rattle.zone_table.specs.Statuses.{StatusesFit, counted, mark_of_id, new_status}
 use Rattle.zone_table.proofs.StatusLaws.{fit-ended, fit-kind, fit-put, fit-removed, fit-renamed, fit-submitted}
 use Rattle.snap_store.specs.Snapshots.{SnapTable}
 use Rattle.edit_ops.specs.declared.ops.EditOp.{EditOp}
@@ -24,14 +24,15 @@ use Rattle.name_store.specs.Table.{FitsRows, IsTable, NameTable, after_table, al
 use Rattle.name_store.proofs.CauseLemmas.{allowed, both, id-may-be-used, markable, submittable}
 use Rattle.name_store.proofs.FitsLemmas.{fits-after}
 use Rattle.name_store.proofs.RowLemmas.{entry-at, is-unmarked, same-prefix}
+use Rattle.name_store.proofs.UpdateLemmas.{fit-updated, updated-files}
 
 -- a marked row is that of the zone of its path
 
-record IsZoneAt (es : List Entry) (p : List (List ℕ)) (row : Row) : Type 0 where
-  zone : Entry
-  found : zone_of es p ≡ Some zone
-  its_row : zone.row ≡ row
-  its_path : zone.path ≡ p
+pub record IsZoneAt (es : List Entry) (p : List (List ℕ)) (row : Row) : Type 0 where
+  pub zone : Entry
+  pub found : zone_of es p ≡ Some zone
+  pub its_row : zone.row ≡ row
+  pub its_path : zone.path ≡ p
 
 not-longer : (x g : Entry) (p : List (List ℕ)) → x.path ≡ p → length g.path ≤ length p → nat_lt (length x.path) (length g.path) ≡ false
 not-longer x g p is short =
@@ -55,7 +56,7 @@ shorter x f p over other is = go (nat_lt (length x.path) (length f.path)) refl
         let whole : same_path x.path p ≡ true = ap (λ (q : List (List ℕ)). same_path q p) (prefix-whole x.path p over long) ∙ same-itself p in
         absurd (both_ways (same_path x.path p) other whole)
 
-zone-at : (es : List Entry) (p : List (List ℕ)) (row : Row) → row_at es p ≡ Some row → is_marked row ≡ true → IsZoneAt es p row
+pub zone-at : (es : List Entry) (p : List (List ℕ)) (row : Row) → row_at es p ≡ Some row → is_marked row ≡ true → IsZoneAt es p row
 zone-at [] p row is marked = absurd cc
 zone-at (x ∷ es) p row is marked = go (same_path x.path p) refl is (λ rest. zone-at es p row rest marked)
   where
@@ -82,12 +83,12 @@ zone-at (x ∷ es) p row is marked = go (same_path x.path p) refl is (λ rest. z
 
 -- the key of a zone at its root
 
-record MarkedRow (rows : List Entry) (p : List (List ℕ)) (key : KeyName) : Type 0 where
-  row : Row
-  stands : row_at rows p ≡ Some row
-  mark : mark_of row.kind ≡ Some key
+pub record MarkedRow (rows : List Entry) (p : List (List ℕ)) (key : KeyName) : Type 0 where
+  pub row : Row
+  pub stands : row_at rows p ≡ Some row
+  pub mark : mark_of row.kind ≡ Some key
 
-marked-row : (rows : List Entry) (p : List (List ℕ)) (key : KeyName) → mark_at rows p ≡ Some key → MarkedRow rows p key
+pub marked-row : (rows : List Entry) (p : List (List ℕ)) (key : KeyName) → mark_at rows p ≡ Some key → MarkedRow rows p key
 marked-row rows p key h = go (row_at rows p) refl h
   where
     go : (o : Option Row) → row_at rows p ≡ o → option_and_then (λ r. mark_of r.kind) o ≡ Some key → MarkedRow rows p key
@@ -145,6 +146,9 @@ statuses-after t good (op.Submit session p noted) may =
     let a = allowed t (op.Submit session p noted) refl may in
     let root = submittable t.rows t.statuses p a.free in
     fit-submitted t.rows (new_status (id_at t.rows p) session noted) t.statuses (noted-fits t.rows p root.key noted good.rules root.marked a.fits) good.statuses
+statuses-after t good (op.Update session failed mark files) may =
+    let stand = updated-files t t session failed mark files (op.Update session failed mark files) refl refl may in
+    fit-updated session (length files) failed mark files t.rows t.statuses (counted session (length files) failed mark t.statuses) stand good.statuses refl
 statuses-after t good (op.Cancel session) may = fit-ended t.rows session true t.statuses good.statuses
 statuses-after t good (op.Complete session) may = fit-ended t.rows session false t.statuses good.statuses
 

@@ -81,6 +81,7 @@ free_ids t has (op.Disallow p) h new = tt
 free_ids t has (op.Snap p name) h new = tt
 free_ids t has (op.Unsnap p name) h new = tt
 free_ids t has (op.Submit session p noted) h new = (free-id has session t.rows h (not-first (has session) new), tt)
+free_ids t has (op.Update session failed mark files) h new = tt
 free_ids t has (op.Cancel session) h new = tt
 free_ids t has (op.Complete session) h new = tt
 

@@ -6,3 +6,4 @@ pub mod Store
 pub mod Names
 pub mod Laws
 pub mod Used
+pub mod Updates

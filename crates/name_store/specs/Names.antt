@@ -1,21 +1,23 @@
 -- The table of the namesystem as it is kept in memory.
-use Rattle.std.specs.Prelude.{ℕ, ◌≤◌, ◌<◌, ⊤}
+use Rattle.std.specs.Prelude.{◌≡◌, ℕ, ◌≤◌, ◌<◌, Option, ⊤}
+use Rattle.name_calls.specs.declared.paths.NPath.{NPath}
 use Rattle.inode_tree.specs.Rows.{need}
 use Rattle.zone_table.specs.Zones.{need_add}
 use Rattle.zone_table.specs.Statuses.{need_status}
 use Rattle.snap_store.specs.Snapshots.{IsReady, SnapRoom}
 use Rattle.edit_ops.specs.declared.ops.EditOp.{EditOp}
-use Rattle.edit_ops.specs.declared.ops.EditOp.TheVariants.{Opened, Mkdir, File, Remove, Rename, Zone, Allow, Disallow, Snap, Unsnap, Submit, Cancel, Complete}
+use Rattle.edit_ops.specs.declared.ops.EditOp.TheVariants.{Opened, Mkdir, File, Remove, Rename, Zone, Allow, Disallow, Snap, Unsnap, Submit, Update, Cancel, Complete}
 use Rattle.name_store.specs.Causes.{id_at}
 use Rattle.name_store.specs.Table.{NameTable}
 
--- the table, and the room that its tree, its zones, its snapshots and its statuses keep
+-- the table, the room that its tree, its zones, its snapshots and its statuses keep, and a copy of the mark of an update
 pub record NamesState : Type 0 where
   pub table : NameTable
   pub tree_spare : ℕ
   pub zone_spare : ℕ
   pub snap_room : SnapRoom
   pub status_spare : ℕ
+  pub mark : Option NPath
 
 -- the operation takes no more memory than there is room for
 abbrev pub HasRoom : EditOp → NamesState → Type 0
@@ -30,5 +32,11 @@ HasRoom (Disallow p) s = ⊤
 HasRoom (Snap p name) s = IsReady s.snap_room s.table.rows (id_at s.table.rows p) name
 HasRoom (Unsnap p name) s = ⊤
 HasRoom (Submit session p noted) s = need_status ≤ s.status_spare
+HasRoom (Update session failed mark files) s = s.mark ≡ mark
 HasRoom (Cancel session) s = ⊤
 HasRoom (Complete session) s = ⊤
+
+-- the mark of an update was copied
+abbrev pub HasMark : EditOp → NamesState → Type 0
+HasMark (Update session failed mark files) s = s.mark ≡ mark
+HasMark _ s = ⊤

@@ -11,7 +11,7 @@ use Rattle.edit_ops.specs.declared.ops.EditOp.{EditOp}
 use Rattle.edit_ops.specs.declared.ops.EditOp.TheVariants as op
 use Rattle.edit_log.specs.Log.{EditLogState}
 use Rattle.edit_log.specs.Log as edits
-use Rattle.name_store.specs.Table.{IsTable, NameTable, Replayed, after_table, allows, is_fresh, next_opening, nothing_logged, settled_log, settled_ops, settled_table, settled_used}
+use Rattle.name_store.specs.Table.{IsTable, NameTable, Replayed, after_table, allows, is_fresh, kept_op, next_opening, nothing_logged, settled_log, settled_ops, settled_table, settled_used}
 use Rattle.name_store.specs.Replay.{AllBelow, Applies, IsNoNext, name_replay}
 
 -- its edit log with the pending operation, and the table
@@ -138,9 +138,10 @@ pub record Commits (old new : DiskState) (store : StoreState) (op : EditOp) (wri
   pub moments : Tells old → (used : List ℕ) (ops : List EditOp) → IsNameStoreOf old store used ops → LeavesOnly 1 old new (IsWritten ops op)
   pub run : RunOn 1 old new
 
--- The pending operation was settled: kept or dropped.
-pub record SettlesNames (old new : DiskState) (store store' : StoreState) : Type 0 where
+-- The pending operation was settled: kept or dropped. It is returned if it was kept.
+pub record SettlesNames (old new : DiskState) (store : StoreState) (answer : Option EditOp) (store' : StoreState) : Type 0 where
   pub kept : Bool
+  pub answer_is : answer ≡ kept_op kept store.log.pending
   pub none : store'.log.pending ≡ None
   pub table : store'.table ≡ settled_table kept store.log.pending store.table
   pub stands : Tells old → (used : List ℕ) (ops : List EditOp) → IsNameStoreOf old store used ops

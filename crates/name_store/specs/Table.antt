@@ -1,6 +1,6 @@
 -- The table of the namesystem, and what an operation of the edit log does to it.
-use Rattle.std.specs.Prelude.{◌≡◌, ℕ, ◌+◌, ◌*◌, ◌^◌, Bool, true, false, not, ◌&&◌, ◌==◌, nat_lt, nat_le, List, [], ◌∷◌, ◌++◌, Option, Some, None, is_none, bytes_eq}
-use Rattle.std.specs.List.{All, list_any}
+use Rattle.std.specs.Prelude.{◌≡◌, ℕ, ◌+◌, ◌*◌, ◌^◌, Bool, true, false, not, ◌&&◌, ◌==◌, nat_lt, nat_le, List, [], ◌∷◌, ◌++◌, length, Option, Some, None, is_none, is_some, bytes_eq}
+use Rattle.std.specs.List.{All, list_all, list_any}
 use Rattle.std.specs.Option.{option_and_then, option_map, option_map_or}
 use Rattle.hk_base.specs.declared.names.Edek.{Edek}
 use Rattle.hk_base.specs.declared.names.KeyName.{KeyName}
@@ -9,13 +9,15 @@ use Rattle.inode_tree.specs.declared.rows.Kind.TheVariants.{Dir, File as FileKin
 use Rattle.name_calls.specs.declared.calls.NameRefusal.{NameRefusal}
 use Rattle.name_calls.specs.Paths.{is_relative}
 use Rattle.inode_tree.specs.Moves.{renamed}
-use Rattle.inode_tree.specs.Rows.{Entry, IsRows, entry_of, is_dir_at, mark_of, put, removed, root_only, set_kind, zone_of}
+use Rattle.inode_tree.specs.Rows.{Entry, IsRows, entry_of, is_dir_at, mark_of, put, removed, root_only, set_kind, zone_id, zone_of}
+use Rattle.inode_tree.specs.ZoneFiles.{edek_of}
 use Rattle.snap_store.specs.Snapshots.{IsSnapshots, SnapTable, Snapshot, no_snaps, table_after_allow, table_after_disallow, table_after_disallow_below, table_after_remove, table_after_take}
 pub use Rattle.snap_store.specs.Snapshots.{is_among}
 use Rattle.zone_table.specs.declared.statuses.StatusRow.{StatusRow}
-use Rattle.zone_table.specs.Statuses.{StatusesFit, ended, new_status, with_status, without_below}
+use Rattle.zone_table.specs.Statuses.{StatusesFit, counted, ended, goes_on_under, new_status, status_of, with_status, without_below}
+use Rattle.edit_ops.specs.declared.files.FileKey.{FileKey}
 use Rattle.edit_ops.specs.declared.ops.EditOp.{EditOp}
-use Rattle.edit_ops.specs.declared.ops.EditOp.TheVariants.{Opened, Mkdir, File, Remove, Rename, Zone, Allow, Disallow, Snap, Unsnap, Submit, Cancel, Complete}
+use Rattle.edit_ops.specs.declared.ops.EditOp.TheVariants.{Opened, Mkdir, File, Remove, Rename, Zone, Allow, Disallow, Snap, Unsnap, Submit, Update, Cancel, Complete}
 pub use Rattle.name_store.specs.Causes.{id_of}
 use Rattle.name_store.specs.Causes.{allow_causes, disallow_causes, first_cause, id_at, kept_causes, removal_causes, rename_causes, row_causes, session_causes, snap_causes, submit_causes, to_be_made, unsnap_causes, zone_causes}
 
@@ -59,10 +61,30 @@ abbrev pub fits_noted : Option KeyName → KeyName → Bool
 fits_noted None key = false
 fits_noted (Some zone) key = bytes_eq key zone
 
--- a file's encrypted key, or the version of a re-encryption, fits the zone of its path
+-- no id comes twice
+abbrev pub ids_once : List FileKey → Bool
+ids_once [] = true
+ids_once (f ∷ fs) = not (list_any (λ g. g.id == f.id) fs) && ids_once fs
+
+-- the row is a file in a zone that is being re-encrypted under the session
+abbrev pub is_under : NameTable → ℕ → Entry → Bool
+is_under t session e =
+    is_some (edek_of e.row.kind) && option_map_or (λ zone. option_map_or (goes_on_under session) (status_of t.statuses zone) false) (zone_id t.rows e.path) false
+
+-- the new encrypted key is of the same key as the row's, which is that of its zone
+abbrev pub is_of_key : FileKey → Entry → Bool
+is_of_key f e = option_map_or (λ edek. bytes_eq f.edek.version.key edek.version.key) (edek_of e.row.kind) false
+
+-- the file may get its new encrypted key under the session
+abbrev pub may_update : NameTable → ℕ → FileKey → Bool
+may_update t session f = option_map_or (λ e. is_under t session e && is_of_key f e) (entry_of t.rows f.id) false
+
+-- A file's encrypted key, or the version of a re-encryption, fits the zone of its path. Each file of an update lies in a zone of its session,
+-- and comes once.
 abbrev pub fits_key : NameTable → EditOp → Bool
 fits_key t (File id p edek) = fits_zone (key_of_zone t.rows p) edek
 fits_key t (Submit session p noted) = fits_noted (key_of_zone t.rows p) noted.key
+fits_key t (Update session failed mark files) = ids_once files && list_all (may_update t session) files
 fits_key t _ = true
 
 -- why the table refuses an operation; the calls that log it are refused for the same causes, and for others
@@ -78,6 +100,7 @@ op_causes t (Disallow p) = disallow_causes t.rows t.snaps p
 op_causes t (Snap p name) = snap_causes t.rows t.snaps p name
 op_causes t (Unsnap p name) = unsnap_causes t.rows t.snaps p name
 op_causes t (Submit session p noted) = submit_causes t.rows t.statuses p
+op_causes t (Update session failed mark files) = session_causes t.statuses session
 op_causes t (Cancel session) = session_causes t.statuses session
 op_causes t (Complete session) = session_causes t.statuses session
 
@@ -94,6 +117,7 @@ uses (Disallow p) = []
 uses (Snap p name) = []
 uses (Unsnap p name) = []
 uses (Submit session p noted) = session ∷ []
+uses (Update session failed mark files) = []
 uses (Cancel session) = []
 uses (Complete session) = []
 
@@ -122,6 +146,11 @@ new_file id p edek = record { path = p; row = record { id = id; kind = FileKind 
 abbrev pub marked : List Entry → List (List ℕ) → KeyName → List Entry
 marked rows p key = set_kind rows (id_at rows p) (Dir (Some key))
 
+-- the rows after these files got their new encrypted keys
+abbrev pub with_edeks : List FileKey → List Entry → List Entry
+with_edeks [] rows = rows
+with_edeks (f ∷ fs) rows = with_edeks fs (set_kind rows f.id (FileKind (Some f.edek)))
+
 -- the table after the operation took effect
 abbrev pub after_table : NameTable → EditOp → NameTable
 after_table t (Opened opening) = record t { opening = opening }
@@ -135,6 +164,7 @@ after_table t (Disallow p) = record t { snaps = table_after_disallow (id_at t.ro
 after_table t (Snap p name) = record t { snaps = table_after_take t.rows (id_at t.rows p) name t.snaps }
 after_table t (Unsnap p name) = record t { snaps = table_after_remove (id_at t.rows p) name t.snaps }
 after_table t (Submit session p noted) = record t { statuses = with_status (new_status (id_at t.rows p) session noted) t.statuses }
+after_table t (Update session failed mark files) = record t { rows = with_edeks files t.rows; statuses = counted session (length files) failed mark t.statuses }
 after_table t (Cancel session) = record t { statuses = ended session true t.statuses }
 after_table t (Complete session) = record t { statuses = ended session false t.statuses }
 
@@ -168,6 +198,12 @@ abbrev pub settled_ops : Bool → Option EditOp → List EditOp
 settled_ops kept None = []
 settled_ops true (Some op) = op ∷ []
 settled_ops false (Some op) = []
+
+-- the operation that was kept
+abbrev pub kept_op : Bool → Option EditOp → Option EditOp
+kept_op kept None = None
+kept_op true (Some op) = Some op
+kept_op false (Some op) = None
 
 abbrev pub settled_log : Bool → Option EditOp → Replayed → Replayed
 settled_log kept pending r = record { table = settled_table kept pending r.table; used = settled_used kept pending r.used }

@@ -1,16 +1,18 @@
 //! What the operations of the log do to a tree, the table of its zones, its snapshots and the statuses
 //! of its zones.
-ghost use Rattle.std.specs.Prelude.{◌≡◌, ◌≤◌, ◌++◌, List, None, IsOk, OnOk, OnErr};
+ghost use Rattle.std.specs.Prelude.{◌≡◌, ◌≤◌, ◌++◌, List, length, None, IsOk, OnOk, OnErr};
 ghost use Rattle.inode_tree.specs.Moves.{renamed};
 ghost use Rattle.inode_tree.specs.Rows.{entry_of, need, put, removed};
 ghost use Rattle.zone_table.specs.declared.statuses.StatusRow.{StatusRow};
-ghost use Rattle.zone_table.specs.Statuses.{without_below};
+ghost use Rattle.zone_table.specs.Statuses.{counted, without_below};
 ghost use Rattle.zone_table.specs.Zones.{need_add, zones_of};
 ghost use Rattle.snap_store.specs.Snapshots.{IsReady, SnapTable, table_after_disallow, table_after_disallow_below, table_after_take};
 ghost use Rattle.name_store.specs.Causes.{disallow_causes, first_cause, id_at, kept_causes, removal_causes, rename_causes, row_causes, snap_causes, to_be_made, zone_causes};
-ghost use Rattle.name_store.specs.Table.{marked, new_directory, new_file};
+ghost use Rattle.name_store.specs.Table.{marked, new_directory, new_file, with_edeks};
+ghost use Rattle.name_store.specs.Updates.{AreFiles};
 
 use crate::rules::id_at;
+use edit_ops::{FileKey, FileKeys};
 use hk_base::{Edek, KeyName, NoMemory, Text};
 use inode_tree::Tree;
 use name_calls::NPath;
@@ -139,4 +141,31 @@ pub(crate) fn snap(
     // Each id is that of one row.
     let _ = tree.rows();
     snaps.take(tree, id_at(tree, path), name)
+}
+
+/// Gives files their new encrypted keys.
+pub(crate) fn update(tree: &mut Tree, files: &[FileKey])
+    requires files { AreFiles tree.old.rows files.now }
+    ensures rows { tree.new.rows ≡ with_edeks files.now tree.old.rows }
+    ensures zones { zones_of tree.new.rows ≡ zones_of tree.old.rows }
+{
+    // Each id is that of one row.
+    let _ = tree.rows();
+    for file in files {
+        tree.set_edek(file.id, file.edek);
+    }
+}
+
+/// Counts the files of an update in the status of its session.
+pub(crate) fn count(
+    statuses: &mut Statuses,
+    session: u64,
+    failed: u32,
+    mark: Option<NPath>,
+    files: &FileKeys,
+)
+    ensures { statuses.new.rows ≡ counted session (length files.now) failed mark statuses.old.rows }
+{
+    let files = files.as_slice();
+    statuses.count(session, files.len() as u32, failed, mark);
 }

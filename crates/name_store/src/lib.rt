@@ -2,6 +2,7 @@
 //! keeps them.
 #![tactic(auto)]
 
+mod copies;
 mod effects;
 mod laws;
 mod names;
@@ -10,6 +11,7 @@ mod replay;
 mod rules;
 mod runs;
 mod store;
+mod updates;
 mod used;
 
 pub use laws::what_a_crash_leaves_is_no_damage;

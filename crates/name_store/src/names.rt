@@ -1,5 +1,6 @@
 //! The table of the namesystem as it is kept in memory.
-use crate::effects::{disallow, make, make_file, mark, remove, rename, snap};
+use crate::copies::copy_of_mark;
+use crate::effects::{count, disallow, make, make_file, mark, remove, rename, snap, update};
 use crate::rules::{allows, id_at, to_be_renamed};
 use edit_ops::EditOp;
 use hk_base::NoMemory;
@@ -11,14 +12,17 @@ use std::marker::Model;
 use zone_table::{Statuses, Zones, zones_are_the_marks};
 
 /// The number of the opening, the directories and files, the encryption zones, the snapshots, and how
-/// far the re-encryptions of zones are.
+/// far the re-encryptions of zones are. `mark` is a copy of the mark of the update that memory was last
+/// reserved for.
 #[derive(Drop)]
 pub(crate) struct Names {
+    alloc: Global,
     opening: u32,
     tree: Tree,
     zones: Zones,
     snaps: Snaps,
     statuses: Statuses,
+    mark: Option<NPath>,
 }
 
 impl Model for Names {
@@ -30,7 +34,7 @@ impl Model for Names {
 
     ghost Value = { NamesState };
 
-    ghost view = { λ a. record { table = record { opening = a.opening; rows = a.tree.rows; snaps = a.snaps.table; statuses = a.statuses.rows }; tree_spare = a.tree.spare; zone_spare = a.zones.spare; snap_room = a.snaps.room; status_spare = a.statuses.spare } };
+    ghost view = { λ a. record { table = record { opening = a.opening; rows = a.tree.rows; snaps = a.snaps.table; statuses = a.statuses.rows }; tree_spare = a.tree.spare; zone_spare = a.zones.spare; snap_room = a.snaps.room; status_spare = a.statuses.spare; mark = a.mark } };
 
     ghost invariant = { λ a. (a.zones.rows ≡ zones_of a.tree.rows) × FitsRows a.tree.rows a.snaps.table × StatusesFit a.tree.rows a.statuses.rows };
 }
@@ -39,7 +43,7 @@ impl Names {
     ghost use Rattle.std.specs.Prelude.{◌≡◌, IfOk, IsOk, IsTrue, OnOk, OnErr};
     ghost use Rattle.zone_table.specs.Zones.{zone_paths};
     ghost use Rattle.name_store.specs.Table.{IsTable, after_table, allows, nothing_logged};
-    ghost use Rattle.name_store.specs.Names.{HasRoom};
+    ghost use Rattle.name_store.specs.Names.{HasMark, HasRoom};
     ghost use Rattle.name_store.specs.Causes.{first_cause, rename_causes};
     ghost use Rattle.name_store.specs.Used.{HasFreeIds};
 
@@ -50,19 +54,21 @@ impl Names {
         // The root alone has no zones.
         zones_are_the_marks();
         Ok(Names {
+            alloc,
             opening: 0,
             tree: Tree::new(alloc)?,
             zones: Zones::new(alloc),
             snaps: Snaps::new(alloc),
             statuses: Statuses::new(alloc),
+            mark: None,
         })
     }
 
     /// Returns whether the operation, whose id no row must have, may take effect. Does not check whether
-    /// its id was used before.
-    pub(crate) fn allows(&self, op: &EditOp) -> bool
+    /// its id was used before. Returns `NoMemory` if allocation fails.
+    pub(crate) fn allows(&self, op: &EditOp) -> Result<bool, NoMemory>
         requires { HasFreeIds self.now.table.rows op.now }
-        ensures { result ≡ allows self.now.table op.now }
+        ensures { IfOk result (λ may. may ≡ allows self.now.table op.now) }
     {
         allows(
             self.opening,
@@ -90,6 +96,7 @@ impl Names {
             EditOp::Snap { path, .. } => self.tree.focus(path),
             EditOp::Unsnap { path, .. } => self.tree.focus(path),
             EditOp::Submit { path, .. } => self.tree.focus(path),
+            EditOp::Update { .. } => (),
             EditOp::Cancel { .. } => (),
             EditOp::Complete { .. } => (),
         }
@@ -116,15 +123,38 @@ impl Names {
             }
             EditOp::Unsnap { .. } => Ok(()),
             EditOp::Submit { .. } => self.statuses.reserve_submit(),
+            EditOp::Update { mark, .. } => self.keep_mark(mark),
             EditOp::Cancel { .. } => Ok(()),
             EditOp::Complete { .. } => Ok(()),
         }
     }
 
-    /// Lets an operation take effect. If allocation fails, the table is unchanged. Returns `Ok` if there
-    /// is room for the operation.
+    /// Keeps a copy of the mark of an update. The table is unchanged, even if allocation fails.
+    fn keep_mark(&mut self, mark: &Option<NPath>) -> Result<(), NoMemory>
+        ensures same { self.new.table ≡ self.old.table }
+        ensures ok { OnOk result (self.new.mark ≡ mark.now) }
+    {
+        self.mark = copy_of_mark(self.alloc, mark)?;
+        Ok(())
+    }
+
+    /// Copies the mark of an update. Does nothing for another operation. The table is unchanged, even if
+    /// allocation fails.
+    pub(crate) fn reserve_mark(&mut self, op: &EditOp) -> Result<(), NoMemory>
+        ensures same { self.new.table ≡ self.old.table }
+        ensures ok { OnOk result (HasMark op.now self.new) }
+    {
+        match op {
+            EditOp::Update { mark, .. } => self.keep_mark(mark),
+            _ => Ok(()),
+        }
+    }
+
+    /// Lets an operation take effect. The mark of an update must have been copied. If allocation fails,
+    /// the table is unchanged. Returns `Ok` if there is room for the operation.
     pub(crate) fn apply(&mut self, op: &EditOp) -> Result<(), NoMemory>
-        requires { IsTrue (allows self.old.table op.now) }
+        requires allowed { IsTrue (allows self.old.table op.now) }
+        requires mark { HasMark op.now self.old }
         ensures ok { OnOk result (self.new.table ≡ after_table self.old.table op.now) }
         ensures err { OnErr result (self.new.table ≡ self.old.table) }
         ensures room { HasRoom op.now self.old → IsOk result }
@@ -168,6 +198,17 @@ impl Names {
             } => self
                 .statuses
                 .submit(id_at(&self.tree, path), *session, *noted),
+            EditOp::Update {
+                session,
+                failed,
+                files,
+                ..
+            } => {
+                update(&mut self.tree, files.as_slice());
+                let mark = self.mark.take();
+                count(&mut self.statuses, *session, *failed, mark, files);
+                Ok(())
+            }
             EditOp::Cancel { session } => {
                 self.statuses.end(*session, true);
                 Ok(())

@@ -26,10 +26,11 @@ fn take(names: &mut Names, used: &mut UsedIds, op: &EditOp) -> Result<bool, NoMe
     if !fresh {
         return Ok(false);
     }
-    let allowed = names.allows(op);
+    let allowed = names.allows(op)?;
     if !allowed {
         return Ok(false);
     }
+    names.reserve_mark(op)?;
     names.apply(op)?;
     used.add(op)?;
     Ok(true)

@@ -1,17 +1,17 @@
 //! What a tree, its snapshots and the statuses of its zones say of a change: why it is refused, and
 //! whether an operation of the log is allowed.
-ghost use Rattle.std.specs.Prelude.{◌≡◌, ◌<◌, ◌++◌, ℕ, List};
+ghost use Rattle.std.specs.Prelude.{◌≡◌, ◌<◌, ◌++◌, ℕ, List, IfOk};
 ghost use Rattle.inode_tree.specs.Moves.{move_fits};
 ghost use Rattle.inode_tree.specs.Rows.{is_dir_at, mark_of, move_allowed, row_at};
 ghost use Rattle.name_calls.specs.Paths.{is_prefix, parent};
 ghost use Rattle.snap_store.specs.Snapshots.{SnapTable};
-ghost use Rattle.zone_table.specs.declared.statuses.StatusRow.{StatusRow};
 ghost use Rattle.name_store.specs.Causes.{allow_causes, allowed_causes, directory_causes, disallow_causes, first_cause, going_causes, has_most_rows, has_most_snapshots, id_at, is_under_reencryption, kept_causes, mark_at, move_causes, nests_allowed, removal_causes, rename_causes, row_causes, session_causes, snap_causes, submit_causes, to_be_made, unsnap_causes, zone_causes, zone_root_causes};
 ghost use Rattle.name_store.specs.Table.{NameTable, allows, allows_change, fits_key, fits_noted, fits_zone, is_of_opening, key_of_zone, may_use_all, op_causes, uses};
 ghost use Rattle.name_store.specs.Used.{HasFreeIds};
 
+use crate::updates::may_update_all;
 use edit_ops::EditOp;
-use hk_base::{Edek, KeyName, Text};
+use hk_base::{Edek, KeyName, NoMemory, Text};
 use inode_tree::{Kind, MOST_ROWS, Tree};
 use name_calls::{NPath, NameRefusal};
 use snap_store::{MOST_SNAPSHOTS, Snaps};
@@ -295,7 +295,7 @@ pub fn to_be_going_on(tree: &Tree, statuses: &Statuses, path: &NPath) -> Option<
     None
 }
 
-/// Returns why a re-encryption can not end: a zone must be under it.
+/// Returns why a re-encryption can not go on or end: a zone must be under it.
 fn to_be_ended(statuses: &Statuses, session: u64) -> Option<NameRefusal>
     ensures { result ≡ first_cause (session_causes statuses.now.rows session) }
 {
@@ -307,7 +307,7 @@ fn to_be_ended(statuses: &Statuses, session: u64) -> Option<NameRefusal>
 
 /// Returns whether the table of an opening, a tree, its snapshots and the statuses of its zones allows
 /// the operation, whose id no row must have. Does not look for a row of that id, nor check whether it
-/// was used before.
+/// was used before. Returns `NoMemory` if allocation fails.
 pub(crate) fn allows(
     opening: u32,
     tree: &Tree,
@@ -315,12 +315,12 @@ pub(crate) fn allows(
     snaps: &Snaps,
     statuses: &Statuses,
     op: &EditOp,
-) -> bool
+) -> Result<bool, NoMemory>
     requires { HasFreeIds tree.now.rows op.now }
-    ensures { result ≡ allows (record { opening = opening; rows = tree.now.rows; snaps = snaps.now.table; statuses = statuses.now.rows }) op.now }
+    ensures { IfOk result (λ may. may ≡ allows (record { opening = opening; rows = tree.now.rows; snaps = snaps.now.table; statuses = statuses.now.rows }) op.now) }
 {
     match op {
-        EditOp::Opened { opening: next } => *next as u64 == opening as u64 + 1,
+        EditOp::Opened { opening: next } => Ok(*next as u64 == opening as u64 + 1),
         _ => allows_change(opening, tree, zones, snaps, statuses, op),
     }
 }
@@ -332,17 +332,17 @@ fn allows_change(
     snaps: &Snaps,
     statuses: &Statuses,
     op: &EditOp,
-) -> bool
+) -> Result<bool, NoMemory>
     requires { HasFreeIds tree.now.rows op.now }
-    ensures { result ≡ allows_change (record { opening = opening; rows = tree.now.rows; snaps = snaps.now.table; statuses = statuses.now.rows }) op.now }
+    ensures { IfOk result (λ may. may ≡ allows_change (record { opening = opening; rows = tree.now.rows; snaps = snaps.now.table; statuses = statuses.now.rows }) op.now) }
 {
     if opening == 0 {
-        return false;
+        return Ok(false);
     }
     let ids = may_use_all(opening, op);
     let free = refusal(tree, zones, snaps, statuses, op).is_none();
-    let fits = fits_key(tree, op);
-    ids && free && fits
+    let fits = fits_key(tree, statuses, op)?;
+    Ok(ids && free && fits)
 }
 
 /// Returns whether the operation may use its ids if no row has them.
@@ -380,6 +380,7 @@ fn refusal(
         EditOp::Snap { path, name } => to_be_snapped(tree, snaps, path, name),
         EditOp::Unsnap { path, name } => to_be_unsnapped(tree, snaps, path, name),
         EditOp::Submit { path, .. } => to_be_submitted(tree, statuses, path),
+        EditOp::Update { session, .. } => to_be_ended(statuses, *session),
         EditOp::Cancel { session } => to_be_ended(statuses, *session),
         EditOp::Complete { session } => to_be_ended(statuses, *session),
     }
@@ -412,14 +413,20 @@ fn to_be_removed_whole(tree: &Tree, snaps: &Snaps, path: &NPath) -> Option<NameR
 }
 
 /// Returns whether the encrypted key of a file, or the version of a re-encryption, fits the zone of its
-/// path.
-fn fits_key(tree: &Tree, op: &EditOp) -> bool
-    ensures { (opening : ℕ) (snaps : SnapTable) (statuses : List StatusRow) → result ≡ fits_key (record { opening = opening; rows = tree.now.rows; snaps = snaps; statuses = statuses }) op.now }
+/// path, and whether the files of an update lie in a zone of its session. Returns `NoMemory` if
+/// allocation fails.
+fn fits_key(tree: &Tree, statuses: &Statuses, op: &EditOp) -> Result<bool, NoMemory>
+    ensures { (opening : ℕ) (snaps : SnapTable) → IfOk result (λ fits. fits ≡ fits_key (record { opening = opening; rows = tree.now.rows; snaps = snaps; statuses = statuses.now.rows }) op.now) }
 {
     match op {
-        EditOp::File { path, edek, .. } => fits_zone(&key_of_zone(tree, path), edek),
-        EditOp::Submit { path, noted, .. } => fits_noted(&key_of_zone(tree, path), &noted.key),
-        _ => true,
+        EditOp::File { path, edek, .. } => Ok(fits_zone(&key_of_zone(tree, path), edek)),
+        EditOp::Submit { path, noted, .. } => {
+            Ok(fits_noted(&key_of_zone(tree, path), &noted.key))
+        }
+        EditOp::Update { session, files, .. } => {
+            may_update_all(tree, statuses, *session, files.as_slice())
+        }
+        _ => Ok(true),
     }
 }
 

@@ -102,15 +102,15 @@ impl NameStore {
         }
     }
 
-    /// Settles the pending operation. If the log keeps it, it takes effect; otherwise it is dropped. Does
-    /// nothing if none is pending. Does not allocate. After `StoreFault`, the only error, it is still
-    /// pending.
-    pub fn settle<D: Disk>(&mut self, disk: &mut D) -> Result<(), StoreRefusal>
+    /// Settles the pending operation. If the log keeps it, it takes effect and is returned; otherwise it is
+    /// dropped. Does nothing if none is pending. Does not allocate. After `StoreFault`, the only error, it
+    /// is still pending.
+    pub fn settle<D: Disk>(&mut self, disk: &mut D) -> Result<Option<EditOp>, StoreRefusal>
         requires stands { Tells (D.state disk.old) → ((used : List ℕ) × (ops : List EditOp) × IsNameStoreOf (D.state disk.old) self.old used ops) }
 
-        ensures nothing { self.old.log.pending ≡ None → (result ≡ Ok tt) × (self.new ≡ self.old) × (disk.new ≡ disk.old) }
+        ensures nothing { self.old.log.pending ≡ None → (result ≡ Ok None) × (self.new ≡ self.old) × (disk.new ≡ disk.old) }
         ensures settles { MatchResult result
-            (λ _. SettlesNames (D.state disk.old) (D.state disk.new) self.old self.new)
+            (λ answer. SettlesNames (D.state disk.old) (D.state disk.new) self.old answer self.new)
             (λ _. Unsettled (D.state disk.old) (D.state disk.new) self.old self.new) }
         ensures fault { IsErr result → IsErrOf result store.StoreFault }
 
@@ -120,10 +120,10 @@ impl NameStore {
         ensures run { RunOn 1 (D.state disk.old) (D.state disk.new) }
     {
         match self.log.settle(disk) {
-            Ok(None) => return Ok(()),
+            Ok(None) => return Ok(None),
             Ok(Some(op)) => {
                 self.names.apply(&op)?;
-                return Ok(());
+                return Ok(Some(op));
             }
             Err(_) => return Err(StoreRefusal::StoreFault),
         }

@@ -1,4 +1,4 @@
-use Rattle.std.proofs.Common.{List, ℕ, refl, sym, subst}
+use Rattle.std.proofs.Common.{List, ℕ, Some, None, refl, sym, subst}
 use Rattle.hk_base.specs.Disk.{LeavesOnly, Tells}
 use Rattle.hk_base.proofs.Runs.{begin}
 use Rattle.edit_ops.specs.declared.ops.EditOp.{EditOp}
@@ -23,7 +23,7 @@ returns-in-Ok-None-clause-settles g c =
     let was : StoreState = record { log = c.self.inside.log; table = c.self.inside.names.table } in
     let is : StoreState = record { log = c.settle.new.self; table = c.self.inside.names.table } in
     let h = c.in-Ok-None.ensures in
-    subst (λ (s : StoreState). SettlesNames D0 D1 s is) c.self.view_is
+    subst (λ (s : StoreState). SettlesNames D0 D1 s None is) c.self.view_is
     (settles_none D0 D1 was is c.in-Ok-None.field-0 c.in-Ok-None.field-0-is h.settled refl
     (λ none ops s. let same = h.nothing none in subst (λ d. edits.IsEditLogOf (g.D.Disk.state d) is.log ops) (sym same.2) (subst (λ l. edits.IsEditLogOf D0 l ops) (sym same.1) s))
     h.kept h.dropped)
@@ -35,7 +35,7 @@ returns-in-Ok-Some-clause-settles g c =
     let was : StoreState = record { log = c.self.inside.log; table = c.self.inside.names.table } in
     let is : StoreState = record { log = c.settle.new.self; table = c.apply.new.self.table } in
     let h = c.in-Ok-Some.ensures in
-    subst (λ (s : StoreState). SettlesNames D0 D1 s is) c.self.view_is
+    subst (λ (s : StoreState). SettlesNames D0 D1 s (Some c.in-Ok-Some.op) is) c.self.view_is
     (settles_kept D0 D1 was is c.in-Ok-Some.field-0 c.in-Ok-Some.op c.in-Ok-Some.field-0-is h.answer h.settled c.in_ok-apply-in-Ok-Some.ensures.ok h.kept h.dropped)
 
 pub returns-in-Ok-None-clause-any_moment : goal.returns-in-Ok-None-clause-any_moment
