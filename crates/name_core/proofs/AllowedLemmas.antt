@@ -88,7 +88,7 @@ allowed-mkdir s p opened ids h =
     })
 
 -- an operation that uses no id and keeps no key
-plainly-allowed : (t : NameTable) (o : EditOp) → 0 < t.opening → is_opening o ≡ false → may_use_all t (uses o) ≡ true → fits_key t o ≡ true → first_cause (op_causes t o) ≡ None → allows t o ≡ true
+pub plainly-allowed : (t : NameTable) (o : EditOp) → 0 < t.opening → is_opening o ≡ false → may_use_all t (uses o) ≡ true → fits_key t o ≡ true → first_cause (op_causes t o) ≡ None → allows t o ≡ true
 plainly-allowed t o opened safe ids key h = allows-it t o safe (record { opened = lt-yes 0 t.opening opened; ids = ids; free = h; fits = key })
 
 remove-free : (t : NameTable) (p : List (List ℕ)) (recursive : Bool) → first_cause (delete_causes t.rows t.snaps p recursive) ≡ None → first_cause (op_causes t (op.Remove p)) ≡ None

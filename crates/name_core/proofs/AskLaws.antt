@@ -23,16 +23,19 @@ use Rattle.name_calls.specs.declared.calls.NameReply.{NameReply}
 use Rattle.name_calls.specs.declared.calls.NameReply.TheVariants.{Refused}
 use Rattle.name_calls.specs.declared.calls.NameRefusal.{NameRefusal}
 use Rattle.name_calls.specs.declared.calls.NameRefusal.TheVariants as refusal
+use Rattle.name_calls.specs.declared.status.Delivered.{Delivered}
 use Rattle.name_core.specs.State.{IsRising, NameService, NameState, next_id, settled}
 use Rattle.name_core.specs.Asks.{Finishes, ask_gone, closed, finish_causes, finish_op, finished, open_ask, ask_opened, path_asked, unless_stopped, without}
 use Rattle.name_core.specs.Calls.{NameActs, Plain, NoRoom, causes, deed, done_with, early_causes, first_cause, numbered, path_causes, unless_refused}
 use Rattle.name_core.specs.Reads.{info_reply, path_of_zone, shown_at}
 use Rattle.name_core.specs.Service.{Changes, Concludes, FinishServes, FinishServesAt, FinishServesOpen, NameServes, ServesBy, ServesUnless, is_change}
 use Rattle.name_core.specs.Steps.{Keeps}
+use Rattle.name_core.specs.Updates.{UpdateDeed, deliver_deed, give_up_deed, update_op}
+use Rattle.name_core.specs.Updating.{NameUpdates, UpdateGoes, UpdateServes}
 use Rattle.name_core.specs.Walking.{NameWalks, WalkGoes, WalkServes, WalkServesUnless, unless_not_walked}
 use Rattle.name_core.specs.Walks.{WalkDeed, session_at, walk_causes, walk_deed}
 use Rattle.name_core.specs.declared.walks.Walked.{Walked}
-use Rattle.name_core.specs.Laws.{AnyFault, IsStep, Called, Asked, Finished, Walks, Reaches, FileIsReported, FinishedForGood, FinishedOnce, IdsStayBelow, OthersStayByFile, ZoneIsAsAsked}
+use Rattle.name_core.specs.Laws.{AnyFault, IsStep, Called, Asked, Finished, Walks, Delivers, GivesUp, Reaches, FileIsReported, FinishedForGood, FinishedOnce, IdsStayBelow, OthersStayByFile, ZoneIsAsAsked}
 use Rattle.name_store.proofs.CauseLemmas.{makeable}
 use Rattle.name_core.proofs.AllowedLemmas.{behind-finish, behind-make, behind-plain, may-make-file}
 use Rattle.name_core.proofs.AskLemmas.{ask-room, open-holds, open-id, without-apart}
@@ -40,6 +43,7 @@ use Rattle.name_core.proofs.KeepLemmas.{keeps-asked, keeps-closed, keeps-done, k
 use Rattle.name_core.proofs.LawLemmas.{other, row-new, row-other, info-by, zone-above, zone-same}
 use Rattle.name_core.proofs.Layers.{Asking, Same, Opened, asking}
 use Rattle.name_core.proofs.RowLemmas.{room-left}
+use Rattle.name_core.proofs.UpdateLemmas.{Applies, DoesUpdate, Ignores, behind-update, delivery-does, giving-up-does, with_update}
 use Rattle.name_core.proofs.WalkLemmas.{DoesWalk, Ends, TakesFiles, Waits, walk-completes, walk-does}
 
 -- a finish that was done had no cause of a refusal, and left this state
@@ -247,6 +251,41 @@ walk-served s p result logged s' serves k = early (first_cause (path_causes p)) 
     early None (inl waits) = served-same s s' waits.ends.same k
     early None (inr (kept, did)) = behind-settled kept s s' k (goes kept did)
 
+-- deliveries, and batches given up
+
+update-done : (s : NameState) (d : UpdateDeed) → DoesUpdate s d → Keeps (Alone s) → Served s (Alone (done_with d.logs d.state))
+update-done s d (Ignores note is) k = served-at s (Alone s) (Alone (done_with d.logs d.state)) (ap (λ (x : UpdateDeed). Alone (done_with x.logs x.state)) is) (served-none s k)
+update-done s d (Applies note changes has is) k =
+    let o = update_op s note changes in
+    let left = with_update s note.sent in
+    let behind = behind-update s note changes k.few k.ids k.recent in
+    let next = next-done s left o behind in
+    served-at s (Alone (done_with (Some o) left)) (Alone (done_with d.logs d.state)) (ap (λ (x : UpdateDeed). Alone (done_with x.logs x.state)) is)
+    (record { onward = record { asks = refl; rises = omega (arith, next) }; keeps = keeps-done s left o behind })
+
+update-pending : (s : NameState) (d : UpdateDeed) (o : EditOp) → DoesUpdate s d → d.logs ≡ Some o → Keeps (Alone s) → Served s (record { names = d.state; pending = Some o })
+update-pending s d o (Ignores note is) logs k = let f : None ≡ Some o = sym (ap (λ (x : UpdateDeed). x.logs) is) ∙ logs in absurd cc
+update-pending s d o (Applies note changes has is) logs k =
+    let left = with_update s note.sent in
+    served-at s (record { names = left; pending = Some (update_op s note changes) }) (record { names = d.state; pending = Some o })
+    (λ i. record { names = (ap (λ (x : UpdateDeed). x.state) is) i; pending = (sym logs ∙ ap (λ (x : UpdateDeed). x.logs) is) i })
+    (record { onward = record { asks = refl; rises = omega arith }; keeps = keeps-pending s left (update_op s note changes) (behind-update s note changes k.few k.ids k.recent) })
+
+updates-on : (s : NameState) (d : NameState → UpdateDeed) (result : Result Delivered NameRefusal) (s' : NameState) → DoesUpdate s (d s) → NameUpdates s d result s' → Keeps (Alone s) → Served s (Alone s')
+updates-on s d result s' does (NoRoom, may, is) k = served-at s (Alone s) (Alone s') (ap Alone (ap (λ o. o.state) is)) (served-none s k)
+updates-on s d result s' does (Plain, may, is) k = served-at s (Alone (done_with (d s).logs (d s).state)) (Alone s') (ap Alone (ap (λ o. o.state) is)) (update-done s (d s) does k)
+
+update-served : (s : NameService) (d : NameState → UpdateDeed) (result : Result Delivered NameRefusal) (logged : List EditOp) (s' : NameService) → ((n : NameState) → DoesUpdate n (d n))
+    → UpdateServes s d AnyFault result logged s' → Keeps s → Served s.names s'
+update-served s d result logged s' does (inl waits) k = served-same s s' waits.ends.same k
+update-served s d result logged s' does (inr (kept, did)) k = behind-settled kept s s' k (goes did)
+  where
+    goes : UpdateGoes (settled kept s) (settled_ops kept s.pending) d AnyFault result logged s' → Served (settled kept s) s'
+    goes (inl w) = served-at (settled kept s) (Alone w.changed) s' w.left (updates-on (settled kept s) d result w.changed (does (settled kept s)) w.updates (keeps-settled kept s k))
+    goes (inr u) =
+        served-at (settled kept s) (record { names = (d (settled kept s)).state; pending = Some u.op }) s' u.left
+        (update-pending (settled kept s) (d (settled kept s)) u.op (does (settled kept s)) u.writes (keeps-settled kept s k))
+
 -- after a finish its ask is not open, unless memory ran out
 data Finishing (s : NameState) (id : ℕ) (result : Result (Unit {0}) NameRefusal) (s' : NameService) : Type 0 where
   Wanting : result ≡ Err refusal.NoMemory → Served s s' → Finishing s id result s'
@@ -326,6 +365,8 @@ ids_stay_below s s' (Called user c result logged serves) k = (served s user c re
 ids_stay_below s s' (Asked user a result asks same) k = asked-keeps s s' user a same (asking s.names user a result s'.names asks) k
 ids_stay_below s s' (Finished id given result logged serves) k = finishing-keeps s.names id result s' (finishing s id given result logged s' serves k)
 ids_stay_below s s' (Walks p result logged serves) k = (walk-served s p result logged s' serves k).keeps
+ids_stay_below s s' (Delivers reply result logged serves) k = (update-served s (deliver_deed reply) result logged s' (delivery-does reply) serves k).keeps
+ids_stay_below s s' (GivesUp note result logged serves) k = (update-served s (give_up_deed note) result logged s' (giving-up-does note) serves k).keeps
 
 -- no ask with the id is open
 
@@ -420,6 +461,8 @@ past-step id s s' (Called user c result logged serves) past = past-served id s s
 past-step id s s' (Asked user a result asks same) past = past-asked id s s' user a same (asking s.names user a result s'.names asks) past
 past-step id s s' (Finished another given result logged serves) past = past-finished id s another result s' (finishing s another given result logged s' serves past.keeps) past
 past-step id s s' (Walks p result logged serves) past = past-served id s s' (walk-served s p result logged s' serves past.keeps) past
+past-step id s s' (Delivers reply result logged serves) past = past-served id s s' (update-served s (deliver_deed reply) result logged s' (delivery-does reply) serves past.keeps) past
+past-step id s s' (GivesUp note result logged serves) past = past-served id s s' (update-served s (give_up_deed note) result logged s' (giving-up-does note) serves past.keeps) past
 
 past-steps : (id : ℕ) (s : NameService) (between : List NameService) (t : NameService) → Reaches s between t → IsPast id s → IsPast id t
 past-steps id s [] t is past = subst (IsPast id) (sym is) past

@@ -13,6 +13,7 @@ use Rattle.name_calls.specs.Paths.{is_before, starts_reserved}
 use Rattle.inode_tree.specs.Moves.{moved, renamed}
 use Rattle.inode_tree.specs.Rows.{Entry, entry_of, mark_of, put, set_kind, with_kind, zone_id, zone_of}
 use Rattle.name_core.specs.declared.asks.OpenAsk.{OpenAsk}
+use Rattle.name_calls.specs.declared.calls.NameRefusal.{NameRefusal}
 use Rattle.name_calls.specs.declared.calls.NameRefusal.TheVariants.{BadPath, NotSuperuser, TooManyInodes}
 use Rattle.name_calls.specs.declared.calls.Ask.{Ask}
 use Rattle.name_calls.specs.declared.calls.Ask.TheVariants as ask
@@ -21,7 +22,7 @@ use Rattle.name_store.specs.Table.{key_of_zone}
 use Rattle.name_store.proofs.CauseLemmas.{clear, none-of-both}
 use Rattle.name_core.specs.State.{IdsFit, IsRising, NameState, is_spent}
 use Rattle.name_core.specs.Asks.{ask_causes, open_ask, without}
-use Rattle.name_core.specs.Calls.{is_superuser}
+use Rattle.name_core.specs.Calls.{is_superuser, path_causes}
 use Rattle.name_core.specs.Steps.{AreKeyed}
 use Rattle.name_core.proofs.RowLemmas.{BelowId, all-put, id-free, room-left}
 
@@ -255,3 +256,22 @@ ask-room s user (ask.Submit p) h =
     let u = clear (not (is_superuser user)) NotSuperuser _ r.1 in
     let z = none-of-both (submit_causes s.table.rows s.table.statuses p) ((is_spent s, TooManyInodes) ∷ []) u.1 in
     not-last s.next (clear (is_spent s) TooManyInodes None z.1).0
+
+-- a submission is refused for the causes of its zone, if its path and its user may submit
+
+pub first-front : (front behind : List (Bool × NameRefusal)) (why : NameRefusal) → first_cause front ≡ Some why → first_cause (front ++ behind) ≡ Some why
+first-front [] behind why h = absurd cc
+first-front (c ∷ front) behind why h = go c.0 h (first-front front behind why)
+  where
+    go : (b : Bool) → cond b (Some c.1) (first_cause front) ≡ Some why → (first_cause front ≡ Some why → first_cause (front ++ behind) ≡ Some why) → cond b (Some c.1) (first_cause (front ++ behind)) ≡ Some why
+    go true h rest = h
+    go false h rest = rest h
+
+pub submission-refused : (s : NameState) (user : List ℕ) (p : List (List ℕ)) (why : NameRefusal) → first_cause (path_causes p) ≡ None → is_superuser user ≡ true
+    → first_cause (submit_causes s.table.rows s.table.statuses p) ≡ Some why → first_cause (ask_causes s user (ask.Submit p)) ≡ Some why
+submission-refused s user p why path super h =
+    let causes = submit_causes s.table.rows s.table.statuses p in
+    let last = (is_spent s, TooManyInodes) ∷ [] in
+    ap (λ (b : Bool). cond b (Some BadPath) (cond (not (is_superuser user)) (Some NotSuperuser) (first_cause (causes ++ last)))) (clear (starts_reserved p) BadPath None path).0
+    ∙ ap (λ (b : Bool). cond (not b) (Some NotSuperuser) (first_cause (causes ++ last))) super
+    ∙ first-front causes last why h

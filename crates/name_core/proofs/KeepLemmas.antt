@@ -3,19 +3,20 @@ use Rattle.std.proofs.Common.{◌≡◌, ℕ, ◌+◌, ◌*◌, ◌^◌, ◌<◌
 use Rattle.std.specs.Prelude.{◌==◌}
 use Rattle.std.specs.List.{All, filter}
 use Rattle.std.proofs.lemmas.List.Elements.{All-filter}
-use Rattle.inode_tree.specs.declared.rows.Kind.TheVariants.{Dir}
+use Rattle.inode_tree.specs.declared.rows.Kind.TheVariants.{Dir, File}
 use Rattle.name_calls.specs.Paths.{is_prefix}
 use Rattle.inode_tree.specs.Moves.{renamed}
-use Rattle.inode_tree.specs.Rows.{Entry, entry_of, put, removed}
+use Rattle.inode_tree.specs.Rows.{Entry, entry_of, put, removed, set_kind}
+use Rattle.edit_ops.specs.declared.files.FileKey.{FileKey}
 use Rattle.edit_ops.specs.declared.ops.EditOp.{EditOp}
 use Rattle.edit_ops.specs.declared.ops.EditOp.TheVariants as op
 use Rattle.name_store.specs.Causes.{id_at}
 use Rattle.name_store.specs.Replay.{AllBelow}
 use Rattle.name_store.specs.Store.{IsPending, IsStore, is_opening}
-use Rattle.name_store.specs.Table.{NameTable, after_table, is_among, new_directory, new_file, settled_table, uses}
+use Rattle.name_store.specs.Table.{NameTable, after_table, is_among, new_directory, new_file, settled_table, uses, with_edeks}
 use Rattle.reenc_walk.specs.Walks.{WalkState}
 use Rattle.name_core.specs.declared.asks.OpenAsk.{OpenAsk}
-use Rattle.name_core.specs.State.{AreFree, AreRecent, IdsFit, IsNames, IsWaiting, NameService, NameState, RunningNames, next_id, service_of, settled, took}
+use Rattle.name_core.specs.State.{AreFree, AreRecent, IdsFit, IsNames, IsWaiting, NameService, NameState, RunningNames, WalksOnce, next_id, service_of, settled, took}
 use Rattle.name_core.specs.Asks.{closed}
 use Rattle.name_core.specs.Calls.{done_with}
 use Rattle.name_core.specs.Steps.{IsApart, IsBehind, Keeps}
@@ -55,6 +56,16 @@ filter-free test (e ∷ rows) id h = go (test e) (filter-free test rows id (entr
     go true rest = ap (λ (b : Bool). cond b (Some e) (entry_of (filter test rows) id)) (entry-behind e rows id h).0 ∙ rest
     go false rest = rest
 
+-- files that get other encrypted keys keep their ids
+
+edeks-below : (n : ℕ) (files : List FileKey) (rows : List Entry) → All (BelowId n) rows → All (BelowId n) (with_edeks files rows)
+edeks-below n [] rows h = h
+edeks-below n (f ∷ files) rows h = edeks-below n files (set_kind rows f.id (File (Some f.edek))) (kind-below n f.id (File (Some f.edek)) rows h)
+
+edeks-free : (files : List FileKey) (rows : List Entry) (id : ℕ) → entry_of rows id ≡ None → entry_of (with_edeks files rows) id ≡ None
+edeks-free [] rows id h = h
+edeks-free (f ∷ files) rows id h = edeks-free files (set_kind rows f.id (File (Some f.edek))) id (kind-free f.id (File (Some f.edek)) rows id h)
+
 -- after an operation whose ids are taken, and not by an open ask, ids keep their rules
 pub fit-op : (t : NameTable) (o : EditOp) (asks : List OpenAsk) (n : ℕ) → is_opening o ≡ false → AllBelow n (uses o) → AreFree (uses o) asks → IdsFit t.rows asks n → IdsFit (after_table t o).rows asks n
 fit-op t (op.Opened opening) asks n safe below apart fit = absurd cc
@@ -83,6 +94,12 @@ fit-op t (op.Disallow p) asks n safe below apart fit = fit
 fit-op t (op.Snap p name) asks n safe below apart fit = fit
 fit-op t (op.Unsnap p name) asks n safe below apart fit = fit
 fit-op t (op.Submit session p noted) asks n safe below apart fit = fit
+fit-op t (op.Update session failed mark files) asks n safe below apart fit = record {
+  of_rows = edeks-below n files t.rows fit.of_rows;
+  of_asks = fit.of_asks;
+  free = each-map (λ (a : OpenAsk). entry_of t.rows a.id ≡ None) (λ (a : OpenAsk). entry_of (with_edeks files t.rows) a.id ≡ None) (λ a h. edeks-free files t.rows a.id h) asks fit.free;
+  rising = fit.rising;
+}
 fit-op t (op.Cancel session) asks n safe below apart fit = fit
 fit-op t (op.Complete session) asks n safe below apart fit = fit
 
@@ -98,6 +115,7 @@ same-opening t (op.Disallow p) safe = refl
 same-opening t (op.Snap p name) safe = refl
 same-opening t (op.Unsnap p name) safe = refl
 same-opening t (op.Submit session p noted) safe = refl
+same-opening t (op.Update session failed mark files) safe = refl
 same-opening t (op.Cancel session) safe = refl
 same-opening t (op.Complete session) safe = refl
 
@@ -230,7 +248,7 @@ keeps-walking s walks k = record { few = k.few; ids = k.ids; recent = k.recent; 
 
 pub keeps-started : (r : RunningNames) → r.next ≡ 1 → r.asks ≡ [] → r.store.log.pending ≡ None → All (λ (e : Entry). e.row.id < r.store.table.opening * 2 ^ 32) r.store.table.rows → Keeps (service_of r)
 keeps-started r next asks none earlier =
-    subst Keeps (λ i. record { names = record { table = r.store.table; next = sym next i; asks = sym asks i; walks = r.walks; batch = r.batch }; pending = sym none i }) (record {
+    subst Keeps (λ i. record { names = record { table = r.store.table; next = sym next i; asks = sym asks i; walks = r.walks; updating = r.updating; batch = r.batch }; pending = sym none i }) (record {
       few = omega arith;
       ids = record { of_rows = λ i d b. let low = earlier i d b in omega (arith, low); of_asks = tt; free = tt; rising = tt };
       recent = tt;
@@ -243,14 +261,15 @@ waiting : (pending : Option EditOp) (s : NameState) → IfSome pending (IsPendin
 waiting None s h k = tt
 waiting (Some o) s h k = record { pending = h; below = k.below; free = k.free }
 
-pub is-names : (r : RunningNames) → IsStore r.store → 1 ≤ r.batch → r.batch ≤ 1000 → Keeps (service_of r) → IsNames (service_of r)
-is-names r store some most k = record {
+pub is-names : (r : RunningNames) → IsStore r.store → 1 ≤ r.batch → r.batch ≤ 1000 → Keeps (service_of r) → WalksOnce r.walks → IsNames (service_of r)
+is-names r store some most k once = record {
   opened = store.opened;
   few = k.few;
   table = store.table;
   ids = k.ids;
   recent = k.recent;
   waits = waiting r.store.log.pending (service_of r).names store.waits k.waits;
+  once = once;
   size = (some, most);
 }
 

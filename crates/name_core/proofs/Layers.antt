@@ -1,5 +1,5 @@
 -- Properties of the namesystem that the layers above need.
-use Rattle.std.proofs.Common.{◌≡◌, ℕ, ◌<◌, ◌≤◌, Bool, true, false, List, Option, None, Some, refl, ap, sym, subst, ◌∙◌, arith}
+use Rattle.std.proofs.Common.{◌≡◌, ℕ, ◌<◌, ◌≤◌, Bool, true, false, cond, List, Option, None, Some, refl, ap, sym, subst, ◌∙◌, arith}
 use Rattle.std.specs.Prelude.{Result}
 use Rattle.hk_base.specs.Disk.{DiskState}
 use Rattle.edit_ops.specs.declared.ops.EditOp.{EditOp}
@@ -14,14 +14,23 @@ use Rattle.name_calls.specs.declared.calls.KeyAnswer.{KeyAnswer}
 use Rattle.name_calls.specs.declared.calls.NameCall.{NameCall}
 use Rattle.name_calls.specs.declared.calls.NameRefusal.{NameRefusal}
 use Rattle.name_calls.specs.declared.calls.NameReply.{NameReply}
-use Rattle.name_core.specs.State.{AreFree, IsNames, NameService, NameState, RunningNames, IsNamesystemOf, names_of, next_id, settled}
+use Rattle.name_core.specs.State.{AreFree, IsNames, NameService, NameState, RunningNames, IsNamesystemOf, WalksOnce, names_of, next_id, settled}
 use Rattle.name_core.specs.Asks.{Asks, ask_causes, asked, ask_opened, unless_not_asked}
 use Rattle.name_core.specs.Calls.{NoRoom, Plain, first_cause}
 use Rattle.name_core.specs.Service.{OwnOf, OwnOfFinish}
-use Rattle.name_core.specs.Steps.{Keeps}
+use Rattle.name_core.specs.Steps.{Keeps, MayUpdate}
 use Rattle.name_core.specs.Walking.{OwnOfWalk}
+use Rattle.name_core.specs.Updates.{applied, deliver_deed, give_up_deed, ignored, is_outstanding, update_deed, update_op}
+use Rattle.name_core.specs.Updating.{OwnOfUpdate}
 use Rattle.name_core.specs.declared.walks.Walked.{Walked}
+use Rattle.reenc_update.specs.declared.changes.Changes.{Changes}
+use Rattle.reenc_update.specs.Changes.{all_failed, changes_of}
+use Rattle.reenc_update.specs.Replies.{Fits, ReplyState}
+use Rattle.reenc_walk.specs.declared.sent.BatchNote.{BatchNote}
+use Rattle.name_calls.specs.declared.status.Delivered.{Delivered}
 use Rattle.name_core.proofs.AskLemmas.{each-append}
+use Rattle.name_core.proofs.OnceLemmas.{once-settled}
+use Rattle.name_core.proofs.UpdateLemmas.{allowed-update, may-deliver}
 use Rattle.name_core.proofs.KeepLemmas.{below-more, keeps-of, keeps-settled, settled-opening}
 pub use Rattle.name_core.proofs.AllowedLemmas.{allowed-call, allowed-finish, allowed-walk, no-opening, no-opening-finish, no-opening-walk, not-among}
 
@@ -92,3 +101,28 @@ own_of_finish s id given answer s' kept o n own =
 pub own_of_walk : (s : NameService) (p : List (List ℕ)) (answer : Result Walked NameRefusal) (s' : NameService) (kept : Bool) (o : EditOp) → IsNames s → OwnOfWalk s p answer s' kept o
     → (allows (settled kept s).table o ≡ true) × (is_opening o ≡ false)
 own_of_walk s p answer s' kept o n own = (allowed-walk (settled kept s) p o (settled_opened kept s n) own.free own.is, no-opening-walk (settled kept s) p o own.is)
+
+-- the update that a delivery, or a batch given up, may write is allowed, and is not an opening
+
+once_settled : (kept : Bool) (s : NameService) → IsNames s → WalksOnce (settled kept s).walks
+once_settled kept s n = once-settled kept s.pending s.names.updating s.names.walks n.once
+
+abbrev pub Writable : NameState → EditOp → Type 0
+Writable s o = (allows s.table o ≡ true) × (is_opening o ≡ false)
+
+by_update : (s : NameState) (note : BatchNote) (changes : Changes) (o : EditOp) → 0 < s.table.opening → (is_outstanding s note ≡ true → MayUpdate s note changes) → (update_deed s note changes).logs ≡ Some o → Writable s o
+by_update s note changes o opened may logs = go (is_outstanding s note) refl logs
+  where
+    go : (b : Bool) → is_outstanding s note ≡ b → (cond b (applied s note changes) (ignored s note)).logs ≡ Some o → Writable s o
+    go true is logs = let same : update_op s note changes ≡ o = cc in subst (Writable s) same (allowed-update s note changes opened (may is), refl)
+    go false is logs = absurd cc
+
+pub own_of_delivery : (s : NameService) (reply : ReplyState) (answer : Result Delivered NameRefusal) (s' : NameService) (kept : Bool) (o : EditOp) → IsNames s → Fits reply.note.sent reply.result
+    → OwnOfUpdate s (deliver_deed reply) answer s' kept o → Writable (settled kept s) o
+own_of_delivery s reply answer s' kept o n fits own =
+    let t = settled kept s in
+    by_update t reply.note (changes_of t.table.rows reply.note.zone reply.note.sent reply.result) o (settled_opened kept s n) (may-deliver t reply.note reply.result (once_settled kept s n) fits) own.is
+
+pub own_of_giving_up : (s : NameService) (note : BatchNote) (answer : Result Delivered NameRefusal) (s' : NameService) (kept : Bool) (o : EditOp) → IsNames s → OwnOfUpdate s (give_up_deed note) answer s' kept o
+    → Writable (settled kept s) o
+own_of_giving_up s note answer s' kept o n own = by_update (settled kept s) note (all_failed note.sent) o (settled_opened kept s n) (λ is. (is, refl)) own.is

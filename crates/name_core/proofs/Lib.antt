@@ -3,10 +3,12 @@ pub mod AskLaws
 pub mod AskLemmas
 pub mod CallLemmas
 pub mod DeleteLaws
+pub mod EdekRows
 pub mod KeepLemmas
 pub mod LawLemmas
 pub mod Layers
 pub mod LoggingLemmas
+pub mod OnceLemmas
 pub mod PathCopies
 pub mod RenameLaws
 pub mod RowLemmas
@@ -15,6 +17,9 @@ pub mod SnapshotRows
 pub mod SnapshotTimes
 pub mod SnapshotZones
 pub mod StartLemmas
+pub mod UpdateCalls
+pub mod UpdateLaws
+pub mod UpdateLemmas
 pub mod WalkCalls
 pub mod WalkLaws
 pub mod WalkLemmas

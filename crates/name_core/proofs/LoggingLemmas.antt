@@ -1,20 +1,21 @@
 -- What the steps of a call do to the disk, each and together.
 use Rattle.std.proofs.Common.{◌≡◌, ◌⊎◌, inl, inr, ℕ, ◌≤◌, ◌&&◌, ◌||◌, Bool, cond, true, false, List, [], ◌∷◌, ◌++◌, Option, None, Some, IfSome, refl, ap, sym, ◌∙◌, subst, arith}
-use Rattle.std.specs.Prelude.{◌==◌, IsTrue, Result, Ok, Err, MatchResult}
+use Rattle.std.specs.Prelude.{◌==◌, IsTrue}
 use Rattle.std.proofs.lemmas.List.{append-nil, append_assoc}
 use Rattle.hk_base.specs.Disk.{DiskState, LeavesOnly, RunOn, Tells}
 use Rattle.hk_base.specs.Faults.{Rose}
 use Rattle.hk_base.proofs.Runs.{begin, compose, weaker}
-use Rattle.frame_log.specs.declared.fault.StoreRefusal.{StoreRefusal}
 use Rattle.edit_ops.specs.declared.ops.EditOp.{EditOp}
 use Rattle.name_store.specs.Replay.{AllBelow, Applies, name_replay}
 use Rattle.name_store.specs.Store.{Commits, IsLeftOf, IsWritten, NothingMore, SettlesNames, made_with}
 use Rattle.name_store.specs.Store as store
-use Rattle.name_store.specs.Table.{Replayed, after, applies, is_among, is_fresh, nothing_logged, settled_log, settled_ops, settled_used, uses}
+use Rattle.name_store.specs.Table.{Replayed, after, applies, is_among, is_fresh, kept_op, nothing_logged, settled_log, settled_ops, settled_used, uses}
+use Rattle.reenc_walk.specs.declared.sent.Sent.{Sent}
+use Rattle.reenc_walk.specs.Walks.{WalkState}
 use Rattle.name_core.specs.declared.asks.OpenAsk.{OpenAsk}
-use Rattle.name_core.specs.State.{AreFree, NameService, NameState, RunningNames, IsNamesystemOf, names_of, next_id, service_of, settled}
+use Rattle.name_core.specs.State.{AreFree, NameService, NameState, RunningNames, IsNamesystemOf, names_of, next_id, service_of, settled, settled_walks}
 use Rattle.name_core.specs.Asks.{without}
-use Rattle.name_core.specs.Steps.{Grows, Growing, IsApart, IsUnsettled, Keeps, Leaving, Logging, MayWrite, Settling}
+use Rattle.name_core.specs.Steps.{Grows, Growing, IsApart, IsUnsettled, Keeps, Leaving, Logging, MayWrite, Settling, walks_with}
 use Rattle.name_core.proofs.AskLemmas.{each-without}
 use Rattle.name_core.proofs.KeepLemmas.{below-more, ids-rise, keeps-settled, settled-next}
 
@@ -198,8 +199,17 @@ free-pending kept (Some o) s used h k = free-settled kept o used s.asks h.free k
 abbrev pub Moments : DiskState → DiskState → RunningNames → Type 0
 Moments old new r = Tells old → (used : List ℕ) (ops : List EditOp) → store.IsNameStoreOf old r.store used ops → LeavesOnly 1 old new (IsLeftOf (made_with r.store used) r.store.log.pending NothingMore ops)
 
-pub settles : (old new : DiskState) (r t : RunningNames) → Keeps (service_of r) → t ≡ record r { store = t.store } → Moments old new r → RunOn 1 old new → SettlesNames old new r.store t.store → Settling old new r t
-settles old new r t keeps beside moments run k = record {
+settled-with : (kept : Bool) (pending answer : Option EditOp) (sent : Option (List Sent)) (walks : List WalkState) → answer ≡ kept_op kept pending → walks_with answer sent walks ≡ settled_walks kept pending sent walks
+settled-with kept pending answer sent walks is = ap (λ (o : Option EditOp). walks_with o sent walks) is ∙ go kept pending
+  where
+    go : (kept : Bool) (pending : Option EditOp) → walks_with (kept_op kept pending) sent walks ≡ settled_walks kept pending sent walks
+    go kept None = refl
+    go true (Some o) = refl
+    go false (Some o) = refl
+
+pub settles : (old new : DiskState) (r t : RunningNames) (answer : Option EditOp) → Keeps (service_of r) → t ≡ record r { store = t.store; walks = t.walks } → Moments old new r → RunOn 1 old new
+    → SettlesNames old new r.store answer t.store → t.walks ≡ walks_with answer r.updating r.walks → Settling old new r t
+settles old new r t answer keeps beside moments run k walks = record {
   kept = k.kept;
   service = is;
   disk = record {
@@ -216,8 +226,11 @@ settles old new r t keeps beside moments run k = record {
   };
 }
   where
+    walks_are : t.walks ≡ settled_walks k.kept r.store.log.pending r.updating r.walks
+    walks_are = walks ∙ settled-with k.kept r.store.log.pending answer r.updating r.walks k.answer_is
+
     is : service_of t ≡ record { names = settled k.kept (service_of r); pending = None }
-    is = λ i. record { names = record { table = k.table i; next = (beside i).next; asks = (beside i).asks; walks = (beside i).walks; batch = (beside i).batch }; pending = k.none i }
+    is = λ i. record { names = record { table = k.table i; next = (beside i).next; asks = (beside i).asks; walks = walks_are i; updating = (beside i).updating; batch = (beside i).batch }; pending = k.none i }
 
 pub unsettled : (old new : DiskState) (r t : RunningNames) → t ≡ r → Moments old new r → RunOn 1 old new → store.Unsettled old new r.store t.store → IsUnsettled old new r t
 unsettled old new r t same moments run k = record {
@@ -262,17 +275,8 @@ stands-on old new r t P logged l stands telling =
     let x = stands before in
     (x.0 ++ logged, l.stands before x.0 x.1)
 
--- the result of settling
-
-pub settle-result : (old new : DiskState) (r t : RunningNames) (result : Result (Unit {0}) StoreRefusal) → Keeps (service_of r) → t ≡ record r { store = t.store } → Moments old new r → RunOn 1 old new
-    → MatchResult result (λ _. SettlesNames old new r.store t.store) (λ _. store.Unsettled old new r.store t.store) → MatchResult result (λ _. Settling old new r t) (λ _. IsUnsettled old new r t)
-settle-result old new r t (Ok done) keeps beside moments run k = settles old new r t keeps beside moments run k
-settle-result old new r t (Err why) keeps beside moments run k = unsettled old new r t (beside ∙ (λ i. record r { store = k.same i })) moments run k
-
-pub settle-keeps : (old new : DiskState) (r t : RunningNames) (result : Result (Unit {0}) StoreRefusal) → Keeps (service_of r) → MatchResult result (λ _. Settling old new r t) (λ _. IsUnsettled old new r t)
-    → Keeps (service_of t)
-settle-keeps old new r t (Ok done) keeps k = subst Keeps (sym k.service) (keeps-settled k.kept (service_of r) keeps)
-settle-keeps old new r t (Err why) keeps k = subst (λ (x : RunningNames). Keeps (service_of x)) (sym k.same) keeps
+pub settling-keeps : (old new : DiskState) (r t : RunningNames) → Keeps (service_of r) → Settling old new r t → Keeps (service_of t)
+settling-keeps old new r t keeps k = subst Keeps (sym k.service) (keeps-settled k.kept (service_of r) keeps)
 
 -- only walks change
 pub walking : (d : DiskState) (r t : RunningNames) (P : List ℕ → List EditOp → List ℕ → Type 0) → t ≡ record r { walks = t.walks } → Logging d d r t P []

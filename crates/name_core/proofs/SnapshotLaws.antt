@@ -27,6 +27,7 @@ use Rattle.name_calls.specs.declared.calls.NameReply.{NameReply}
 use Rattle.name_calls.specs.declared.calls.NameReply.TheVariants as reply
 use Rattle.name_calls.specs.declared.calls.NameRefusal.{NameRefusal}
 use Rattle.name_calls.specs.declared.calls.NameRefusal.TheVariants as refusal
+use Rattle.name_calls.specs.declared.status.Delivered.{Delivered}
 use Rattle.name_store.specs.Causes.{allowed_causes, directory_causes, first_cause, has_most_snapshots, id_at, snap_causes, unsnap_causes}
 use Rattle.name_store.specs.Table.{NameTable, after_table, allows, settled_ops, settled_table}
 use Rattle.name_store.proofs.CauseLemmas.{allowed, both, join, none-of-both, none-of-join, snappable}
@@ -37,14 +38,18 @@ use Rattle.name_core.specs.Asks.{Asks, Finishes, finish_causes, finish_op, open_
 use Rattle.name_core.specs.Calls.{Deed, NameActs, NoRoom, Plain, causes, deed, done_with, early_causes, only_logs, path_causes, unless_refused}
 use Rattle.name_core.specs.Reads.{answer_unless, entry_causes, info_causes, info_reply, list_answer, list_reply, shown_at, snapshot_rows, zone_in_or_above, zone_read}
 use Rattle.name_core.specs.Service.{Changes, Concludes, FinishServes, FinishServesAt, FinishServesOpen, NameServes, ServesBy, ServesUnless, is_change}
+use Rattle.name_core.specs.Updates.{UpdateDeed, deliver_deed, give_up_deed}
+use Rattle.name_core.specs.Updating.{NameUpdates, UpdateGoes, UpdateServes}
 use Rattle.name_core.specs.Walking.{NameWalks, WalkGoes, WalkServes, WalkServesUnless, unless_not_walked}
 use Rattle.name_core.specs.Walks.{WalkDeed, walk_causes, walk_deed}
 use Rattle.name_core.specs.declared.walks.Walked.{Walked}
-use Rattle.name_core.specs.Laws.{AnyFault, Asked, Called, Finished, Walks, IsNotCalled, IsNotPending, SettlingKeepsSnapshots, SnapshotIsListed, SnapshotIsReported, SnapshotsStay, StepsKeepSnapshots, UnsnapIsGone, removes_snapshot}
+use Rattle.name_core.specs.Laws.{AnyFault, Asked, Called, Finished, Walks, Delivers, GivesUp, IsNotCalled, IsNotPending, SettlingKeepsSnapshots, SnapshotIsListed, SnapshotIsReported, SnapshotsStay, StepsKeepSnapshots, UnsnapIsGone, removes_snapshot}
 use Rattle.name_core.proofs.AllowedLemmas.{allowed-call}
+use Rattle.name_core.proofs.AskLemmas.{first-front}
 use Rattle.name_core.proofs.LawLemmas.{answer-by, shown-unless}
 use Rattle.name_core.proofs.Layers.{Asking, Opened, Same, asking, settled_keeps, settled_opened}
 use Rattle.name_core.proofs.SnapshotRows.{children-below, row-below, zone-path-below}
+use Rattle.name_core.proofs.UpdateLemmas.{Applies, DoesUpdate, Ignores, delivery-does, giving-up-does}
 use Rattle.name_core.proofs.WalkLemmas.{DoesWalk, Ends, TakesFiles, Waits, walk-does}
 
 -- changes that were done
@@ -68,14 +73,6 @@ behind-none (c ∷ front) behind h = go c.0 h (behind-none front behind)
   where
     go : (b : Bool) → cond b (Some c.1) (first_cause front) ≡ None → (first_cause front ≡ None → first_cause (front ++ behind) ≡ first_cause behind) → cond b (Some c.1) (first_cause (front ++ behind)) ≡ first_cause behind
     go true h rest = absurd cc
-    go false h rest = rest h
-
-pub first-front : (front behind : List (Bool × NameRefusal)) (why : NameRefusal) → first_cause front ≡ Some why → first_cause (front ++ behind) ≡ Some why
-first-front [] behind why h = absurd cc
-first-front (c ∷ front) behind why h = go c.0 h (first-front front behind why)
-  where
-    go : (b : Bool) → cond b (Some c.1) (first_cause front) ≡ Some why → (first_cause front ≡ Some why → first_cause (front ++ behind) ≡ Some why) → cond b (Some c.1) (first_cause (front ++ behind)) ≡ Some why
-    go true h rest = h
     go false h rest = rest h
 
 equal : (a b : ℕ) → (a == b) ≡ true → a ≡ b
@@ -112,6 +109,7 @@ stays t (op.Snap p n) dir name was may keeps stood =
     let free = (snappable t.rows t.snaps p n (allowed t (op.Snap p n) refl may).free).free in
     others-take {A = Unit {0}} {E = Unit {0}} t.snaps.taken (Ok tt) new (put_snapshot new t.snaps.taken) refl tt dir name (not-taken t.snaps.taken (id_at t.rows p) n dir name was free stood) ∙ stood
 stays t (op.Submit session p noted) dir name was may keeps stood = stood
+stays t (op.Update session failed mark files) dir name was may keeps stood = stood
 stays t (op.Cancel session) dir name was may keeps stood = stood
 stays t (op.Complete session) dir name was may keeps stood = stood
 stays t (op.Unsnap p n) dir name was may keeps stood = others-remove t.snaps.taken (id_at t.rows p) n dir name keeps ∙ stood
@@ -270,11 +268,34 @@ module _ (s s' : NameService) (dir : ℕ) (name : List ℕ) (was : Snapshot) (go
       early None (inl unsettled) = as-before s'.names.table (ap (λ (x : NameService). x.names.table) unsettled.ends.same)
       early None (inr (kept, did)) = goes kept did
 
+  -- nor does that of a delivery, or of a batch given up
+  update-taken : (n : NameState) (d : UpdateDeed) → DoesUpdate n d → ((done_with d.logs d.state).table.snaps.taken ≡ n.table.snaps.taken) × (d.state.table.snaps.taken ≡ n.table.snaps.taken)
+  update-taken n d (Ignores note is) = (ap (λ (x : UpdateDeed). (done_with x.logs x.state).table.snaps.taken) is, ap (λ (x : UpdateDeed). x.state.table.snaps.taken) is)
+  update-taken n d (Applies note changes has is) = (ap (λ (x : UpdateDeed). (done_with x.logs x.state).table.snaps.taken) is, ap (λ (x : UpdateDeed). x.state.table.snaps.taken) is)
+
+  updates-taken : (n : NameState) (d : NameState → UpdateDeed) (result : Result Delivered NameRefusal) (n' : NameState) → DoesUpdate n (d n) → NameUpdates n d result n' → n'.table.snaps.taken ≡ n.table.snaps.taken
+  updates-taken n d result n' does (NoRoom, may, is) = ap (λ x. x.state.table.snaps.taken) is
+  updates-taken n d result n' does (Plain, may, is) = ap (λ x. x.state.table.snaps.taken) is ∙ (update-taken n (d n) does).0
+
+  kept-by-update : (d : NameState → UpdateDeed) (result : Result Delivered NameRefusal) (logged : List EditOp) → ((n : NameState) → DoesUpdate n (d n)) → UpdateServes s d AnyFault result logged s' → Stood s'.names.table.snaps.taken
+  kept-by-update d result logged does (inl unsettled) = as-before s'.names.table (ap (λ (x : NameService). x.names.table) unsettled.ends.same)
+  kept-by-update d result logged does (inr (kept, did)) = goes did
+    where
+      goes : UpdateGoes (settled kept s) (settled_ops kept s.pending) d AnyFault result logged s' → Stood s'.names.table.snaps.taken
+      goes (inl w) =
+          ap (λ (x : NameService). snapshot_named x.names.table.snaps.taken dir name) w.left
+          ∙ ap (λ (taken : List Snapshot). snapshot_named taken dir name) (updates-taken (settled kept s) d result w.changed (does (settled kept s)) w.updates) ∙ as-settled kept
+      goes (inr u) =
+          ap (λ (x : NameService). snapshot_named x.names.table.snaps.taken dir name) u.left
+          ∙ ap (λ (taken : List Snapshot). snapshot_named taken dir name) (update-taken (settled kept s) (d (settled kept s)) (does (settled kept s))).1 ∙ as-settled kept
+
 pub steps_keep_snapshots : StepsKeepSnapshots
 steps_keep_snapshots s s' (Called user c result logged serves) dir name was good waits keeps stood = kept-by-call s s' dir name was good waits stood user c result logged serves keeps
 steps_keep_snapshots s s' (Asked user a result asks same) dir name was good waits keeps stood = kept-by-ask s s' dir name was good waits stood user a result asks
 steps_keep_snapshots s s' (Finished id given result logged serves) dir name was good waits keeps stood = kept-by-finish s s' dir name was good waits stood id given result logged serves
 steps_keep_snapshots s s' (Walks p result logged serves) dir name was good waits keeps stood = kept-by-walk s s' dir name was good waits stood p result logged serves
+steps_keep_snapshots s s' (Delivers reply result logged serves) dir name was good waits keeps stood = kept-by-update s s' dir name was good waits stood (deliver_deed reply) result logged (delivery-does reply) serves
+steps_keep_snapshots s s' (GivesUp note result logged serves) dir name was good waits keeps stood = kept-by-update s s' dir name was good waits stood (give_up_deed note) result logged (giving-up-does note) serves
 
 -- a snapshot that was taken
 

@@ -1,7 +1,7 @@
 -- What info and lists tell of a snapshot stays the same while the snapshot is there.
 use Rattle.std.proofs.Common.{◌≡◌, ℕ, ◌+◌, ◌≤◌, zero, suc, Bool, true, false, cond, not, ◌&&◌, ◌||◌, List, [], ◌∷◌, ◌++◌, drop, length, Option, Some, None, is_none, refl, sym, ap, ◌∙◌, subst, arith}
 use Rattle.std.specs.Prelude.{◌==◌}
-use Rattle.std.specs.List.{All, AllByRecursion, filter, find, list_any}
+use Rattle.std.specs.List.{All, AllByRecursion, filter, find, list_all, list_any}
 use Rattle.std.specs.Option.{option_map_or}
 use Rattle.std.specs.Ordering.{is_lt, nat_cmp}
 use Rattle.std.specs.Str.{bytes_eq}
@@ -31,13 +31,14 @@ use Rattle.name_calls.specs.declared.calls.NameRefusal.{NameRefusal}
 use Rattle.name_calls.specs.declared.calls.NameRefusal.TheVariants as refusal
 use Rattle.name_calls.specs.declared.calls.NameReply.TheVariants as reply
 use Rattle.name_store.specs.Causes.{allowed_causes, directory_causes, disallow_causes, first_cause, id_at, id_of, kept_causes, removal_causes, row_causes, to_be_made, unsnap_causes}
-use Rattle.name_store.specs.Table.{IsTable, NameTable, after_table, allows, new_directory, new_file}
+use Rattle.name_store.specs.Table.{IsTable, NameTable, after_table, allows, ids_once, may_update, new_directory, new_file}
 use Rattle.name_store.proofs.CauseLemmas.{IsDisallowable, IsMarkable, allowed, both, clear, directory, disallowable, holds-none, join, makeable, markable, none-of-both, none-of-join, renamable}
 use Rattle.name_store.proofs.IdLemmas.{kind-id}
 use Rattle.name_store.proofs.RowLemmas.{directory-entry}
 use Rattle.name_core.specs.Reads.{answer_unless, entry_causes, info_answer, info_reply, list_answer, list_reply, other_zone, shown_at, snapshot_rows, zone_in_or_above}
 use Rattle.name_core.specs.Laws.{SnapshotsTellTheSame}
 use Rattle.name_core.proofs.DeleteLaws.{other-row, other-zone}
+use Rattle.name_core.proofs.EdekRows.{all-files, row-edeks, zone-edeks}
 use Rattle.name_core.proofs.LawLemmas.{prefix-parent, row-other, zone-same}
 use Rattle.name_core.proofs.SnapshotLaws.{behind-none, missing, stays}
 use Rattle.name_core.proofs.SnapshotZones.{equal}
@@ -344,6 +345,9 @@ same-after t (op.Disallow q) p name good may r =
 same-after t (op.Snap q n) p name good may r = same-rows t (after_table t (op.Snap q n)) p r.dir refl refl r.allowed
 same-after t (op.Unsnap q n) p name good may r = same-rows t (after_table t (op.Unsnap q n)) p r.dir refl refl r.allowed
 same-after t (op.Submit session q noted) p name good may r = same-rows t (after_table t (op.Submit session q noted)) p r.dir refl refl r.allowed
+same-after t (op.Update session failed mark files) p name good may r =
+    let files-are = all-files t session files good.rules (both (ids_once files) (list_all (may_update t session) files) (allowed t (op.Update session failed mark files) refl may).fits).1 in
+    same-rows t (after_table t (op.Update session failed mark files)) p r.dir (row-edeks files t.rows p files-are r.dir) (zone-edeks files t.rows p files-are) r.allowed
 same-after t (op.Cancel session) p name good may r = same-rows t (after_table t (op.Cancel session)) p r.dir refl refl r.allowed
 same-after t (op.Complete session) p name good may r = same-rows t (after_table t (op.Complete session)) p r.dir refl refl r.allowed
 

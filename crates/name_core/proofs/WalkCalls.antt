@@ -11,7 +11,7 @@ use Rattle.frame_log.specs.declared.fault.StoreRefusal.{StoreRefusal}
 use Rattle.frame_log.specs.declared.fault.StoreRefusal.TheVariants as store
 use Rattle.edit_ops.specs.declared.ops.EditOp.{EditOp}
 use Rattle.edit_ops.specs.declared.ops.EditOp.TheVariants as op
-use Rattle.inode_tree.specs.Rows.{Entry}
+use Rattle.inode_tree.specs.Rows.{Entry, IsRows}
 use Rattle.name_calls.specs.declared.calls.NameRefusal.{NameRefusal}
 use Rattle.name_calls.specs.declared.calls.NameRefusal.TheVariants as refusal
 use Rattle.reenc_walk.specs.declared.sent.BatchNote.{BatchNote}
@@ -26,17 +26,18 @@ use Rattle.name_store.specs.Store.{NothingMore}
 use Rattle.name_store.specs.Table.{settled_ops}
 use Rattle.name_core.specs.declared.walks.Walked.{Walked}
 use Rattle.name_core.specs.declared.walks.Walked.TheVariants as result
-use Rattle.name_core.specs.State.{NameService, NameState, RunningNames, names_of, service_of, settled}
+use Rattle.name_core.specs.State.{NameService, NameState, RunningNames, WalksOnce, names_of, service_of, settled}
 use Rattle.name_core.specs.Calls.{NoRoom, Plain, done_with, path_causes}
 use Rattle.name_core.specs.Service.{Logs}
 use Rattle.name_core.specs.Steps.{Begins, Growing, IsAtEnd, IsUnsettled, Leaving, Logging, OwnWalk, Settling, Takes, TakesBatch, TakesNext, WalksSettled, Writes, outstanding_under, walk_answer}
 use Rattle.name_core.specs.Walking.{NameWalks, OwnOfWalk, WalkActs, WalkGoes, WalkServesUnless, unless_not_walked, walk_logs}
 use Rattle.name_core.specs.Walks.{WalkDeed, deed_by_files, deed_by_status, going_on, is_walk_of, new_walk, none_left, or_new_walk, session_at, status_at, taken, walk_causes, walk_deed, walk_of, walk_under, with_walk}
 use Rattle.name_core.proofs.LoggingLemmas.{behind-settling, logging-growing, logging-leaving, rose_since, unchanged, walking}
+use Rattle.name_core.proofs.OnceLemmas.{once-walked}
 use Rattle.name_core.proofs.WalkLemmas.{GoesOn, of-session, session-is, walk-new, walk-found, walk-placed, walk-unplaced, zone-goes}
 use Rattle.zone_table.proofs.StatusLists.{found-at, found-none, placed}
 
-logs-of : (old new : DiskState) (r t : RunningNames) (own : Bool → EditOp → Type 0) (logged : List EditOp) → Logging old new r t (Leaving r own) logged → Logs old new r t own logged
+pub logs-of : (old new : DiskState) (r t : RunningNames) (own : Bool → EditOp → Type 0) (logged : List EditOp) → Logging old new r t (Leaving r own) logged → Logs old new r t own logged
 logs-of old new r t own logged l = record { stands = l.stands; moments = l.moments; run = l.run }
 
 -- a walk that is refused before anything is settled
@@ -288,6 +289,23 @@ pub was-submitted : (r : RunningNames) (p : List (List ℕ)) (rows : List Entry)
 was-submitted r p rows statuses zone rows_are statuses_are zone_is free =
     let g = zone-goes r.store.table p free in
     (λ i. is_some (status_of (statuses_are i) ((zone_is ∙ ap (λ (es : List Entry). id_at es p) rows_are) i))) ∙ some-status (status_at r.store.table p) g.status g.found
+
+-- no batch has a file twice after it
+pub takes-once : (r : RunningNames) (p : List (List ℕ)) (answer : Walk) (rows : List Entry) (statuses : List StatusRow) (zone size : ℕ) (walks : List WalkState) → rows ≡ r.store.table.rows
+    → statuses ≡ r.store.table.statuses → zone ≡ id_at rows p → first_cause (walk_causes (names_of r) p) ≡ None → IsRows r.store.table.rows → WalksOnce r.walks
+    → ((st : StatusRow) → status_of statuses zone ≡ Some st → TakesBatch rows statuses zone size st r.walks answer walks) → WalksOnce walks
+takes-once r p answer rows statuses zone size walks rows_are statuses_are zone_is free good once takes = go answer (takes g.status found)
+  where
+    g : GoesOn r.store.table p
+    g = zone-goes r.store.table p free
+
+    found : status_of statuses zone ≡ Some g.status
+    found = (λ i. status_of (statuses_are i) ((zone_is ∙ ap (λ (es : List Entry). id_at es p) rows_are) i)) ∙ g.found
+
+    go : (answer : Walk) → TakesBatch rows statuses zone size g.status r.walks answer walks → WalksOnce walks
+    go (walk.Batch note) h = subst WalksOnce (sym h.2) (once-walked rows statuses zone size g.status r.walks (subst IsRows (sym rows_are) good) once)
+    go walk.NoneLeft h = subst WalksOnce (sym h.1) once
+    go walk.NoMemory h = subst WalksOnce (sym h) once
 
 -- numbers of outstanding batches
 

@@ -35,7 +35,7 @@ or-yes true b h = refl
 or-yes false b h = h
 
 -- its session goes on
-found-goes : (statuses : List StatusRow) (zone : ℕ) (st : StatusRow) → status_of statuses zone ≡ Some st → goes_on st ≡ true → session_goes_on statuses st.session ≡ true
+pub found-goes : (statuses : List StatusRow) (zone : ℕ) (st : StatusRow) → status_of statuses zone ≡ Some st → goes_on st ≡ true → session_goes_on statuses st.session ≡ true
 found-goes [] zone st is h = absurd cc
 found-goes (s ∷ ss) zone st is h = go (is_of zone s) is (found-goes ss zone st)
   where
@@ -135,7 +135,7 @@ pub walk-unplaced : (w : WalkState) (ws : List WalkState) → None ≡ position 
 walk-unplaced w ws h = with-push w ws (unplaced (is_walk_of w.session) ws h)
 
 -- the walk that is found has the session
-found-session : (ws : List WalkState) (session : ℕ) (w : WalkState) → walk_under ws session ≡ Some w → w.session ≡ session
+pub found-session : (ws : List WalkState) (session : ℕ) (w : WalkState) → walk_under ws session ≡ Some w → w.session ≡ session
 found-session [] session w h = absurd cc
 found-session (x ∷ ws) session w h = go (is_walk_of session x) refl h (found-session ws session w)
   where

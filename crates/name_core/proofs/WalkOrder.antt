@@ -175,7 +175,7 @@ module _ (rows : List Entry) (zone : ℕ) where
 
 -- the walk after a batch
 
-under-with : (w : WalkState) (ws : List WalkState) → walk_under (with_walk w ws) w.session ≡ Some w
+pub under-with : (w : WalkState) (ws : List WalkState) → walk_under (with_walk w ws) w.session ≡ Some w
 under-with w [] = ap (λ (b : Bool). cond b (Some w) None) (itself w.session)
   where
     itself : (n : ℕ) → (n == n) ≡ true
@@ -190,7 +190,7 @@ under-with w (x ∷ ws) = go (is_walk_of w.session x) refl (under-with w ws)
     go false at rest = ap (λ (b : Bool). cond b (Some x) (walk_under (with_walk w ws) w.session)) at ∙ rest
 
 -- a walk of a session that goes on is not forgotten
-under-going : (statuses : List StatusRow) (session : ℕ) (ws : List WalkState) → session_goes_on statuses session ≡ true → walk_under (going_on statuses ws) session ≡ walk_under ws session
+pub under-going : (statuses : List StatusRow) (session : ℕ) (ws : List WalkState) → session_goes_on statuses session ≡ true → walk_under (going_on statuses ws) session ≡ walk_under ws session
 under-going statuses session [] goes = refl
 under-going statuses session (x ∷ ws) goes = go (session_goes_on statuses x.session) refl (is_walk_of session x) refl (under-going statuses session ws goes)
   where
@@ -224,7 +224,7 @@ batch-of s zone st note [] is = absurd (never (count == 0) is)
     never false h = absurd cc
 batch-of s zone st note (e ∷ es) is = (cc is, (λ none. absurd cc), refl)
 
-some-taken : (n : ℕ) (es : List Entry) → 1 ≤ n → es ≢ [] → take n es ≢ []
+pub some-taken : (n : ℕ) (es : List Entry) → 1 ≤ n → es ≢ [] → take n es ≢ []
 some-taken zero es some there none = absurd (omega (arith, some))
 some-taken (suc n) [] some there none = there refl
 some-taken (suc n) (e ∷ es) some there none = absurd cc

@@ -1,7 +1,7 @@
--- Properties of what was made, deleted or renamed, of ids, and of asks that were finished.
-use Rattle.std.specs.Prelude.{◌≡◌, ℕ, ◌<◌, ◌≤◌, take, drop, ◌⊎◌, ◌&&◌, ◌==◌, Bool, true, false, List, [], ◌∷◌, ◌++◌, Option, None, Some, IfSome, Result, Ok, Err, bytes_eq, is_some}
-use Rattle.std.specs.List.{list_any}
-use Rattle.std.specs.Option.{option_map}
+-- Properties of what was made, deleted or renamed, of ids, of asks that were finished, and of re-encryptions.
+use Rattle.std.specs.Prelude.{◌≡◌, ℕ, ◌<◌, ◌≤◌, suc, length, take, drop, ◌⊎◌, ◌&&◌, ◌==◌, Bool, true, false, List, [], ◌∷◌, ◌++◌, Option, None, Some, IfSome, Result, Ok, Err, bytes_eq, is_some, if◌then◌else◌}
+use Rattle.std.specs.List.{filter, list_any}
+use Rattle.std.specs.Option.{option_map, option_map_or}
 use Rattle.hk_base.specs.declared.names.Edek.{Edek}
 use Rattle.hk_base.specs.declared.names.KeyName.{KeyName}
 use Rattle.hk_base.specs.declared.texts.Text.{Text}
@@ -13,11 +13,14 @@ use Rattle.name_calls.specs.declared.read_paths.ReadPath.{ReadPath}
 use Rattle.inode_tree.specs.MoveLaws.{row_after}
 use Rattle.inode_tree.specs.Moves.{moved}
 use Rattle.inode_tree.specs.Rows.{Entry, IsRows, entry_of, row_at, zone_id}
+use Rattle.name_calls.specs.declared.status.Delivered.{Delivered}
+use Rattle.name_calls.specs.declared.status.Delivered.TheVariants.{Applied, Ignored}
 use Rattle.name_calls.specs.declared.status.State.TheVariants as state
 use Rattle.name_calls.specs.declared.status.ZoneStatus.{ZoneStatus}
 use Rattle.reenc_walk.specs.declared.sent.BatchNote.{BatchNote}
 use Rattle.reenc_walk.specs.Files.{sent_list, walk_list}
-use Rattle.reenc_walk.specs.Walks.{outstanding}
+use Rattle.reenc_walk.specs.Walks.{WalkState, is_of, outstanding}
+use Rattle.reenc_update.specs.Replies.{ReplyState}
 use Rattle.snap_store.specs.Snapshots.{Snapshot, snapshot_named}
 use Rattle.zone_table.specs.declared.statuses.StatusRow.{StatusRow}
 use Rattle.zone_table.specs.Statuses.{status_of, zone_goes_on}
@@ -44,6 +47,8 @@ use Rattle.name_core.specs.Calls.{NameActs, deed}
 use Rattle.name_core.specs.Reads.{info_answer, info_reply, list_answer, path_of_zone, path_read, rows_read}
 use Rattle.name_core.specs.Service.{FinishServes, NameServes}
 use Rattle.name_core.specs.Steps.{Keeps}
+use Rattle.name_core.specs.Updates.{UpdateDeed, deliver_deed, give_up_deed, going_walk, last_session}
+use Rattle.name_core.specs.Updating.{NameUpdates, UpdateServes, UpdateUnwritten}
 use Rattle.name_core.specs.Walking.{NameWalks, WalkServes}
 use Rattle.name_core.specs.Walks.{session_at, status_at, walk_of}
 
@@ -163,12 +168,14 @@ NamesKeepIds = (s : NameService) → IsNames s → IdsBelowNext s
 abbrev pub AnyFault : Type 0
 AnyFault = Unit {0}
 
--- one step of the namesystem: a call, an ask, a finish or a walk, whatever it answers
+-- one step of the namesystem: a call, an ask, a finish, a walk, a delivery or a batch given up, whatever it answers
 pub data IsStep (s s' : NameService) : Type 0 where
   Called : (user : Text) (c : NameCall) (answer : NameReply) (logged : List EditOp) → NameServes s user c AnyFault answer logged s' → IsStep s s'
   Asked : (user : Text) (a : Ask) (answer : Result AskNote NameRefusal) → Asks s.names user a answer s'.names → s'.pending ≡ s.pending → IsStep s s'
   Finished : (id : ℕ) (given : KeyAnswer) (answer : Result (Unit {0}) NameRefusal) (logged : List EditOp) → FinishServes s id given AnyFault answer logged s' → IsStep s s'
   Walks : (p : NPath) (answer : Result Walked NameRefusal) (logged : List EditOp) → WalkServes s p AnyFault answer logged s' → IsStep s s'
+  Delivers : (reply : ReplyState) (answer : Result Delivered NameRefusal) (logged : List EditOp) → UpdateServes s (deliver_deed reply) AnyFault answer logged s' → IsStep s s'
+  GivesUp : (note : BatchNote) (answer : Result Delivered NameRefusal) (logged : List EditOp) → UpdateServes s (give_up_deed note) AnyFault answer logged s' → IsStep s s'
 
 -- it stays true in each step
 abbrev pub IdsStayBelow : Type 0
@@ -238,8 +245,10 @@ DoesNotRemove s s' dir name (Called user c answer logged serves) = IsNotCalled s
 DoesNotRemove s s' dir name (Asked user a answer asks same) = Unit {0}
 DoesNotRemove s s' dir name (Finished id given answer logged serves) = Unit {0}
 DoesNotRemove s s' dir name (Walks p answer logged serves) = Unit {0}
+DoesNotRemove s s' dir name (Delivers reply answer logged serves) = Unit {0}
+DoesNotRemove s s' dir name (GivesUp note answer logged serves) = Unit {0}
 
--- a call, an ask, a finish or a walk changes no snapshot that neither it nor the pending operation removes
+-- a step changes no snapshot that neither it nor the pending operation removes
 abbrev pub StepsKeepSnapshots : Type 0
 StepsKeepSnapshots =
     (s s' : NameService) (step : IsStep s s') (dir : ℕ) (name : List ℕ) (was : Snapshot)
@@ -325,3 +334,44 @@ abbrev pub WalksKeepRows : Type 0
 WalksKeepRows =
     (s : NameState) (p : NPath) (answer : Result Walked NameRefusal) (s' : NameState)
     → NameWalks s p answer s' → (s'.table.rows ≡ s.table.rows) × (s'.table.snaps ≡ s.table.snaps)
+
+-- deliveries, and batches given up
+
+abbrev pub batches_of_walk : BatchNote → WalkState → ℕ
+batches_of_walk note w = if w.session == note.session then length (filter (is_of note.sent) w.batches) else 0
+
+-- How many batches of the zone's present re-encryption, with the session and the files of the note, are outstanding. There may be more than
+-- one: a file that is moved is walked again.
+abbrev pub batches_of : NameState → BatchNote → ℕ
+batches_of s note = option_map_or (batches_of_walk note) (going_walk s note.zone) 0
+
+-- the update is a delivery of the batch, or its giving up
+pub data IsUpdateOf (note : BatchNote) (d : NameState → UpdateDeed) : Type 0 where
+  Delivery : (reply : ReplyState) → reply.note ≡ note → d ≡ deliver_deed reply → IsUpdateOf note d
+  GivingUp : d ≡ give_up_deed note → IsUpdateOf note d
+
+-- one that is applied retires one batch
+abbrev pub UpdatesRetire : Type 0
+UpdatesRetire =
+    (s : NameState) (note : BatchNote) (d : NameState → UpdateDeed) (changed skipped failed : ℕ) (s' : NameState)
+    → IsUpdateOf note d → NameUpdates s d (Ok (Applied changed skipped failed)) s' → batches_of s note ≡ suc (batches_of s' note)
+
+-- one whose record could not be written retires its batch as soon as the record is kept, and not if it is dropped
+abbrev pub KeptUpdatesRetire : Type 0
+KeptUpdatesRetire =
+    (s : NameState) (before : List EditOp) (note : BatchNote) (d : NameState → UpdateDeed) (answer : Result Delivered NameRefusal) (logged : List EditOp) (s' : NameService)
+    → IsUpdateOf note d → UpdateUnwritten s before d AnyFault answer logged s'
+    → (batches_of s note ≡ suc (batches_of (settled true s') note)) × (batches_of s note ≡ batches_of (settled false s') note)
+
+-- one that finds no such batch is ignored, and changes nothing
+abbrev pub RetiredIsIgnored : Type 0
+RetiredIsIgnored =
+    (s : NameState) (note : BatchNote) (d : NameState → UpdateDeed) (answer : Result Delivered NameRefusal) (s' : NameState)
+    → IsUpdateOf note d → batches_of s note ≡ 0 → NameUpdates s d answer s' → (answer ≡ Ok (Ignored (last_session s note.zone))) × (s' ≡ s)
+
+-- so an update of a batch that was outstanding once is ignored after it was applied
+abbrev pub UpdatedOnce : Type 0
+UpdatedOnce =
+    (s : NameState) (note : BatchNote) (d d' : NameState → UpdateDeed) (changed skipped failed : ℕ) (s' : NameState) (answer : Result Delivered NameRefusal) (s'' : NameState)
+    → IsUpdateOf note d → IsUpdateOf note d' → batches_of s note ≡ 1 → NameUpdates s d (Ok (Applied changed skipped failed)) s' → NameUpdates s' d' answer s''
+    → (answer ≡ Ok (Ignored (last_session s' note.zone))) × (s'' ≡ s')

@@ -5,5 +5,7 @@ pub mod Reads
 pub mod Service
 pub mod State
 pub mod Steps
+pub mod Updates
+pub mod Updating
 pub mod Walking
 pub mod Walks

@@ -13,7 +13,9 @@ use Rattle.edit_ops.specs.Records.{HasSpelling, fits}
 use Rattle.edit_ops.specs.declared.ops.EditOp.{EditOp}
 use Rattle.name_store.specs.Replay.{AllBelow, Applies}
 use Rattle.name_store.specs.Store.{IsLeftOf, IsLogOf, NothingMore, is_opening, made_with}
-use Rattle.name_store.specs.Table.{Replayed, allows, is_fresh, settled_ops, uses}
+use Rattle.name_store.specs.Table.{Replayed, allows, fits_key, is_fresh, settled_ops, uses}
+use Rattle.reenc_walk.specs.declared.sent.BatchNote.{BatchNote}
+use Rattle.reenc_walk.specs.declared.sent.Sent.{Sent}
 use Rattle.reenc_walk.specs.declared.walker.Walk.{Walk}
 use Rattle.reenc_walk.specs.declared.walker.Walk.TheVariants as walk
 use Rattle.reenc_walk.specs.Files.{walk_list}
@@ -28,13 +30,17 @@ use Rattle.name_calls.specs.declared.calls.NameReply.TheVariants.{Done, Refused}
 use Rattle.name_calls.specs.declared.calls.NameRefusal.{NameRefusal}
 use Rattle.name_calls.specs.declared.calls.NameRefusal.TheVariants.{NoMemory, StoreFault}
 use Rattle.name_calls.specs.declared.paths.NPath.{NPath}
+use Rattle.name_calls.specs.declared.status.Delivered.{Delivered}
+use Rattle.reenc_update.specs.declared.changes.Changes.{Changes as BatchChanges}
 use Rattle.name_core.specs.declared.walks.Walked.{Walked}
 use Rattle.name_core.specs.declared.walks.Walked.TheVariants as result
-use Rattle.name_core.specs.State.{AreFree, AreRecent, IdsFit, NameService, NameState, RunningNames, IsNamesystemOf, names_of, next_id, service_of, settled}
+use Rattle.name_core.specs.State.{AreFree, AreRecent, IdsFit, NameService, NameState, RunningNames, IsNamesystemOf, names_of, next_id, service_of, settled, walks_after}
 use Rattle.name_core.specs.Asks.{finish_causes, finish_op}
 use Rattle.name_core.specs.Calls.{causes, deed, done_with, early_causes, first_cause}
 use Rattle.name_core.specs.Reads.{answer_unless}
 use Rattle.name_core.specs.Service.{Changes, Concludes, OwnOf, ServesBy, acknowledged}
+use Rattle.name_core.specs.Updates.{UpdateDeed, is_outstanding, update_op}
+use Rattle.name_core.specs.Updating.{UpdateGoes}
 use Rattle.name_core.specs.Walking.{WalkGoes}
 use Rattle.name_core.specs.Walks.{going_on, new_walk, none_left, session_at, walk_causes, walk_deed, walk_of, walk_under, with_walk}
 
@@ -101,6 +107,11 @@ pub record Logging (old new : DiskState) (r r' : RunningNames) (P : List ℕ →
   pub stands : Tells old → (ops : List EditOp) → IsNamesystemOf old r ops → IsNamesystemOf new r' (ops ++ logged)
   pub moments : Tells old → (ops : List EditOp) → (s : IsNamesystemOf old r ops) → LeavesOnly 1 old new (P s.used ops)
   pub run : RunOn 1 old new
+
+-- the walks after the operation that was kept, if there is one
+abbrev pub walks_with : Option EditOp → Option (List Sent) → List WalkState → List WalkState
+walks_with None sent walks = walks
+walks_with (Some op) sent walks = walks_after sent op walks
 
 -- the pending operation was settled: kept or dropped
 pub record Settling (old new : DiskState) (r r' : RunningNames) : Type 0 where
@@ -228,6 +239,24 @@ pub record WalksSettled (old new : DiskState) (r : RunningNames) (p : NPath) (re
   pub logged : List EditOp
   pub goes : WalkGoes (names_of r) [] p (Rose old.faults new.faults) reply logged (service_of r')
   pub disk : Logging old new r r' (Growing r (OwnWalk (names_of r) p reply (service_of r'))) logged
+
+-- the operation that an update with this answer and this state after it may write, while nothing is pending
+abbrev pub OwnUpdate : NameState → (NameState → UpdateDeed) → Result Delivered NameRefusal → NameService → EditOp → Type 0
+OwnUpdate s d reply s' op = ((d s).logs ≡ Some op) × (((delivered : Delivered) × (reply ≡ Ok delivered)) ⊎ (s'.pending ≡ Some op))
+
+-- an update while nothing is pending
+pub record UpdatesSettled (old new : DiskState) (r : RunningNames) (d : NameState → UpdateDeed) (reply : Result Delivered NameRefusal) (r' : RunningNames) : Type 0 where
+  pub logged : List EditOp
+  pub goes : UpdateGoes (names_of r) [] d (Rose old.faults new.faults) reply logged (service_of r')
+  pub disk : Logging old new r r' (Growing r (OwnUpdate (names_of r) d reply (service_of r'))) logged
+
+-- what is known of the changes of an outstanding batch: the table allows its update
+abbrev pub MayUpdate : NameState → BatchNote → BatchChanges → Type 0
+MayUpdate s note changes = (is_outstanding s note ≡ true) × (fits_key s.table (update_op s note changes) ≡ true)
+
+abbrev pub delivered_answer : Delivered → Result (Unit {0}) StoreRefusal → Result Delivered NameRefusal
+delivered_answer delivered (Ok done) = Ok delivered
+delivered_answer delivered (Err why) = Err (refusal_of why)
 
 -- the operation that a finish with this answer and this state after it may write, while nothing is pending
 abbrev pub OwnFinish : NameState → OpenAsk → Option Edek → Result (Unit {0}) NameRefusal → NameService → EditOp → Type 0

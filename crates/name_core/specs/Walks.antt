@@ -1,6 +1,6 @@
 -- Walks through the zones that are re-encrypted: why one is refused, the batch that it takes, and what is shown of a status.
 use Rattle.std.specs.Prelude.{ℕ, ◌==◌, ◌&&◌, Bool, not, List, [], ◌∷◌, Option, Some, None, is_some, if◌then◌else◌}
-use Rattle.std.specs.List.{filter, find}
+use Rattle.std.specs.List.{filter}
 use Rattle.std.specs.Option.{option_map, option_map_or}
 use Rattle.edit_ops.specs.declared.ops.EditOp.{EditOp}
 use Rattle.edit_ops.specs.declared.ops.EditOp.TheVariants as op
@@ -18,6 +18,7 @@ use Rattle.name_store.specs.Causes.{going_causes, id_at}
 use Rattle.name_store.specs.Table.{NameTable}
 use Rattle.name_core.specs.declared.walks.Walked.{Walked}
 use Rattle.name_core.specs.declared.walks.Walked.TheVariants as result
+pub use Rattle.name_core.specs.State.{is_walk_of, walk_under, with_walk}
 use Rattle.name_core.specs.State.{NameState}
 
 -- the status of the zone whose directory is at the path
@@ -35,12 +36,6 @@ session_at t p = option_map_or (λ st. st.session) (status_at t p) 0
 abbrev pub new_walk : StatusRow → WalkState
 new_walk st = record { session = st.session; cursor = st.mark; batches = [] }
 
-abbrev pub is_walk_of : ℕ → WalkState → Bool
-is_walk_of session w = w.session == session
-
-abbrev pub walk_under : List WalkState → ℕ → Option WalkState
-walk_under walks session = find (is_walk_of session) walks
-
 abbrev pub or_new_walk : Option WalkState → StatusRow → WalkState
 or_new_walk None st = new_walk st
 or_new_walk (Some w) st = w
@@ -48,11 +43,6 @@ or_new_walk (Some w) st = w
 -- the walk of the session of a status
 abbrev pub walk_of : List WalkState → StatusRow → WalkState
 walk_of walks st = or_new_walk (walk_under walks st.session) st
-
--- the walks with another state of one, or with one more
-abbrev pub with_walk : WalkState → List WalkState → List WalkState
-with_walk w [] = w ∷ []
-with_walk w (x ∷ xs) = if is_walk_of w.session x then w ∷ xs else x ∷ with_walk w xs
 
 -- the walks of the sessions that have not ended
 abbrev pub going_on : List StatusRow → List WalkState → List WalkState

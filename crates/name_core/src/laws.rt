@@ -1,7 +1,7 @@
 //! Laws about directories, files and zones that were made, about deleted and renamed paths, about
 //! snapshots, about ids, about finished asks, and about re-encryptions. The functions do nothing:
 //! their contracts state the laws.
-ghost use Rattle.name_core.specs.Laws.{AskIdsRise, BatchesFollow, CancelEnds, CancelIsReported, CompletedIsWalkedThrough, DeletedIsGone, FileIsReported, FinishedForGood, FinishedOnce, IdsRise, IdsStayBelow, ListTellsChildren, MadeIsReported, NamesKeepIds, OthersGoOn, OthersKeepZone, OthersStay, OthersStayByDelete, OthersStayByFile, RenamedHasMoved, RenamedKeepsRows, RenamedKeepsSnapshots, RenamedKeepsZone, SettlingKeepsSnapshots, SnapshotIsListed, SnapshotIsReported, SnapshotsStay, SnapshotsTellTheSame, StepsKeepSnapshots, UnsnapIsGone, WalksKeepRows, ZoneIsAsAsked, ZoneIsReported};
+ghost use Rattle.name_core.specs.Laws.{AskIdsRise, BatchesFollow, CancelEnds, CancelIsReported, CompletedIsWalkedThrough, DeletedIsGone, FileIsReported, FinishedForGood, FinishedOnce, IdsRise, IdsStayBelow, KeptUpdatesRetire, ListTellsChildren, MadeIsReported, NamesKeepIds, OthersGoOn, OthersKeepZone, OthersStay, OthersStayByDelete, OthersStayByFile, RenamedHasMoved, RenamedKeepsRows, RenamedKeepsSnapshots, RenamedKeepsZone, RetiredIsIgnored, SettlingKeepsSnapshots, SnapshotIsListed, SnapshotIsReported, SnapshotsStay, SnapshotsTellTheSame, StepsKeepSnapshots, UnsnapIsGone, UpdatedOnce, UpdatesRetire, WalksKeepRows, ZoneIsAsAsked, ZoneIsReported};
 
 /// After a directory was made, `Info` on its path returns the next id, the zone that its parent
 /// lies in, and no key, unless it returns `NoMemory`. The answer for each other path stays the
@@ -53,7 +53,8 @@ pub fn lists_tell_what_lies_in_a_directory()
 
 /// What a snapshot has never changes while it exists: no other operation that the table allows
 /// changes it, nor what `Info` and `List` in it return. Neither does settling the pending
-/// operation, nor any call, ask, finish or walk, whatever it answers and whenever its disk fails.
+/// operation, nor any call, ask, finish, walk, delivery or giving up, whatever it answers and
+/// whenever its disk fails.
 pub fn snapshots_stay()
     ensures operations { SnapshotsStay }
     ensures answers { SnapshotsTellTheSame }
@@ -75,8 +76,8 @@ pub fn removed_snapshots_are_gone()
 {}
 
 /// Making a directory and accepting an ask raise the next id. In every namesystem the next id is
-/// above all ids in use, and stays so after each call, ask, finish and walk, whatever it answers and
-/// whenever its disk fails. So no two rows get the same id.
+/// above all ids in use, and stays so after each call, ask, finish, walk, delivery and giving up,
+/// whatever it answers and whenever its disk fails. So no two rows get the same id.
 pub fn ids_rise()
     ensures rise { IdsRise }
     ensures rise_by_asks { AskIdsRise }
@@ -85,8 +86,8 @@ pub fn ids_rise()
 {}
 
 /// After a finish that answered anything except `NoMemory`, its ask is no longer open. A finish of
-/// the same id finds none and changes nothing, both at once and after any calls, asks, finishes and
-/// walks.
+/// the same id finds none and changes nothing, both at once and after any calls, asks, finishes,
+/// walks, deliveries and givings up.
 pub fn asks_are_finished_once()
     ensures at_once { FinishedOnce }
     ensures later { FinishedForGood }
@@ -112,4 +113,14 @@ pub fn batches_follow_one_another()
 pub fn completed_zones_are_walked_through()
     ensures complete { CompletedIsWalkedThrough }
     ensures rows { WalksKeepRows }
+{}
+
+/// A delivery or a giving up that answers `Applied` retires its batch, as does one whose record could
+/// not be written, once the record is kept. If the batch was outstanding once, delivering it again or
+/// giving it up answers `Ignored` and changes nothing.
+pub fn updates_retire_their_batches()
+    ensures retires { UpdatesRetire }
+    ensures kept { KeptUpdatesRetire }
+    ensures ignored { RetiredIsIgnored }
+    ensures once { UpdatedOnce }
 {}

@@ -4,13 +4,15 @@ ghost use Rattle.hk_base.specs.Disk.{Tells};
 ghost use Rattle.name_calls.specs.Paths.{starts_reserved};
 ghost use Rattle.edit_ops.specs.declared.ops.EditOp.{EditOp};
 ghost use Rattle.name_store.specs.Store.{OpensNames};
-ghost use Rattle.name_core.specs.State.{IsNames, IsNamesystemOf, is_full, is_spent, names_of, next_id, service_of};
+ghost use Rattle.name_core.specs.State.{IsNames, IsNamesystemOf, NameState, is_full, is_spent, names_of, next_id, service_of};
 ghost use Rattle.name_calls.specs.Answers.{answer_of};
 ghost use Rattle.name_core.specs.Asks.{Asks, ask_causes, ask_gone, closed, finish_causes, finish_op, open_ask, ask_opened, without};
 ghost use Rattle.name_core.specs.Calls.{NameActs, causes, deed, first_cause, mkdir_causes};
 ghost use Rattle.name_core.specs.Service.{NameActsOnDisk, FinishActs, Starts, is_change};
 ghost use Rattle.name_core.specs.declared.asks.OpenAsk.{OpenAsk};
-ghost use Rattle.name_core.specs.Steps.{ActsOn, ActsSettled, FinishesSettled, HasWanted, IsAtEnd, IsUnsettled, MayBegin, MayWrite, Settling, Takes, WalksSettled, Writes, finish_answer, outstanding_under, refusal_of, answer_of_store, walk_answer};
+ghost use Rattle.name_core.specs.Steps.{ActsOn, ActsSettled, FinishesSettled, HasWanted, IsAtEnd, IsUnsettled, MayBegin, MayUpdate, MayWrite, Settling, Takes, UpdatesSettled, WalksSettled, Writes, delivered_answer, finish_answer, outstanding_under, refusal_of, answer_of_store, walk_answer};
+ghost use Rattle.name_core.specs.Updates.{UpdateDeed, applied, deliver_deed, give_up_deed, ignored, is_outstanding, update_op};
+ghost use Rattle.name_core.specs.Updating.{UpdateActs};
 ghost use Rattle.name_core.specs.Walking.{WalkActs};
 ghost use Rattle.name_core.specs.Walks.{session_at, walk_causes};
 
@@ -21,16 +23,22 @@ use crate::rules::{
     early_refusal, finish_op, id_at, ids_used, is_change, is_superuser, path_asked, path_refusal,
     to_be_deleted, to_be_finished, wanted,
 };
+use crate::updates::{
+    applied_answer, is_outstanding, last_session, mark_by, retire_by, retire_kept,
+};
 use crate::walks::{Walked, outstanding, take};
 use edit_ops::EditOp;
 use frame_log::{StartFault, StoreRefusal};
 use hk_base::{Disk, Edek, KeyName, NoMemory, Text};
-use name_calls::{Answered, Ask, AskNote, KeyAnswer, NPath, NameCall, NameRefusal, NameReply};
+use name_calls::{
+    Answered, Ask, AskNote, Delivered, KeyAnswer, NPath, NameCall, NameRefusal, NameReply,
+};
 use name_store::{
     NameStore, has_most_rows, to_be_allowed, to_be_disallowed, to_be_going_on, to_be_made,
     to_be_snapped, to_be_submitted, to_be_unsnapped, to_be_zone,
 };
-use reenc_walk::{Walk, Walker};
+use reenc_update::{BatchReply, Changes, all_failed, changes_of};
+use reenc_walk::{BatchNote, SentList, Walk, Walker};
 use std::alloc::Global;
 use std::marker::Model;
 
@@ -39,8 +47,8 @@ const IDS: u64 = 1 << 32;
 
 /// The namesystem in an opening, over the edit log on file 1 of a disk. In contracts its value is
 /// its store, the counter of the next id, the open asks, the walks through zones that are
-/// re-encrypted, and the number of files in a batch. The meaning of a call is stated on the rows and
-/// the pending operation.
+/// re-encrypted, the files of the batch of the last update, and the number of files in a batch. The
+/// meaning of a call is stated on the rows and the pending operation.
 ///
 /// Always pass the disk that the namesystem was started on.
 #[derive(Drop)]
@@ -50,18 +58,19 @@ pub struct Name {
     next: u64,
     asks: OpenAsks,
     walks: Vec<Walker>,
+    updating: Option<SentList>,
     batch: BatchSize,
 }
 
 impl Model for Name {
-    ghost use Rattle.name_core.specs.State.{RunningNames, service_of};
+    ghost use Rattle.name_core.specs.State.{RunningNames, WalksOnce, service_of};
     ghost use Rattle.name_core.specs.Steps.{Keeps};
 
     ghost Value = { RunningNames };
 
-    ghost view = { λ a. record { store = a.store; next = a.next; asks = a.asks; walks = a.walks.items; batch = a.batch } };
+    ghost view = { λ a. record { store = a.store; next = a.next; asks = a.asks; walks = a.walks.items; updating = a.updating; batch = a.batch } };
 
-    ghost invariant = { λ a. Keeps (service_of (record { store = a.store; next = a.next; asks = a.asks; walks = a.walks.items; batch = a.batch })) };
+    ghost invariant = { λ a. Keeps (service_of (record { store = a.store; next = a.next; asks = a.asks; walks = a.walks.items; updating = a.updating; batch = a.batch })) × WalksOnce a.walks.items };
 }
 
 impl Name {
@@ -90,6 +99,7 @@ impl Name {
             next: 1,
             asks: OpenAsks::new(alloc),
             walks: Vec::new(alloc),
+            updating: None,
             batch: BatchSize::of(batch),
         })
     }
@@ -175,14 +185,21 @@ impl Name {
         }
     }
 
-    /// Settles the pending operation, if there is one. If the disk fails, it is still pending.
+    /// Settles the pending operation, if there is one. An update that the log kept retires its batch. If
+    /// the disk fails, the operation is still pending.
     fn settle<D: Disk>(&mut self, disk: &mut D) -> Result<(), StoreRefusal>
         requires stands { Tells (D.state disk.old) → ((ops : List EditOp) × IsNamesystemOf (D.state disk.old) self.old ops) }
         ensures { MatchResult result (λ _. Settling (D.state disk.old) (D.state disk.new) self.old self.new) (λ _. IsUnsettled (D.state disk.old) (D.state disk.new) self.old self.new) }
     {
         // The invariant of the store.
         let _ = self.store.tree();
-        self.store.settle(disk)
+        match self.store.settle(disk) {
+            Err(why) => Err(why),
+            Ok(kept) => {
+                retire_kept(&mut self.walks, &self.updating, kept);
+                Ok(())
+            }
+        }
     }
 
     /// Answers a change, after the pending operation was settled.
@@ -264,10 +281,7 @@ impl Name {
         ensures { result ≡ session_at self.now.store.table zone.now }
     {
         let dir = id_at(self.store.tree(), zone);
-        match self.store.statuses().get(dir) {
-            None => 0,
-            Some(status) => status.session,
-        }
+        last_session(self.store.statuses(), dir)
     }
 
     fn mkdir_refusal(&self, path: &NPath) -> Option<NameRefusal>
@@ -317,6 +331,7 @@ impl Name {
             }
             Ok(()) => {
                 self.next += ids;
+                retire_by(&mut self.walks, &self.updating, op);
                 Ok(())
             }
         }
@@ -569,6 +584,7 @@ impl Name {
             }
             Ok(()) => {
                 self.asks.remove(id);
+                retire_by(&mut self.walks, &self.updating, op);
                 Ok(())
             }
         }
@@ -654,6 +670,164 @@ impl Name {
     }
 }
 
+impl Name {
+    /// Delivers what the key management service replied to the call for a batch. Each file that is
+    /// still in the zone with the encrypted key that was sent gets the one that came back. If the
+    /// service refused the call, each file of the batch counts as failed. The batch is then no longer
+    /// outstanding. If it is not outstanding, nothing changes.
+    ///
+    /// The pending operation is settled first. The only refusals are `NoMemory` and `StoreFault`. After
+    /// `StoreFault` at its own record the update is pending, and the batch is still outstanding.
+    pub fn deliver<D: Disk>(
+        &mut self,
+        disk: &mut D,
+        reply: &BatchReply,
+    ) -> Result<Delivered, NameRefusal>
+        requires stands { Tells (D.state disk.old) → ((ops : List EditOp) × IsNamesystemOf (D.state disk.old) self.old ops) }
+        ensures { UpdateActs (D.state disk.old) (D.state disk.new) self.old (deliver_deed reply.now) result self.new }
+    {
+        match self.settle(disk) {
+            Err(_) => Err(NameRefusal::StoreFault),
+            Ok(()) => self.deliver_settled(disk, reply),
+        }
+    }
+
+    /// Delivers a reply while nothing is pending.
+    fn deliver_settled<D: Disk>(
+        &mut self,
+        disk: &mut D,
+        reply: &BatchReply,
+    ) -> Result<Delivered, NameRefusal>
+        requires settled { self.old.store.log.pending ≡ None }
+        requires stands { Tells (D.state disk.old) → ((ops : List EditOp) × IsNamesystemOf (D.state disk.old) self.old ops) }
+        ensures { UpdatesSettled (D.state disk.old) (D.state disk.new) self.old (deliver_deed reply.now) result self.new }
+    {
+        self.invariants();
+        // Its keys fit its files.
+        let _ = reply.result();
+        let note = reply.note();
+        if !self.is_outstanding(note) {
+            return Ok(self.ignored(note));
+        }
+        match changes_of(self.alloc, self.store.tree(), reply) {
+            Err(_) => Err(NameRefusal::NoMemory),
+            Ok(changes) => self.update(disk, note, changes),
+        }
+    }
+
+    /// Gives up a batch: each file of it counts as failed, and it is no longer outstanding. If it is not
+    /// outstanding, nothing changes. It settles the pending operation first, and is refused, as
+    /// `deliver` does.
+    pub fn give_up<D: Disk>(
+        &mut self,
+        disk: &mut D,
+        note: &BatchNote,
+    ) -> Result<Delivered, NameRefusal>
+        requires stands { Tells (D.state disk.old) → ((ops : List EditOp) × IsNamesystemOf (D.state disk.old) self.old ops) }
+        ensures { UpdateActs (D.state disk.old) (D.state disk.new) self.old (give_up_deed note.now) result self.new }
+    {
+        match self.settle(disk) {
+            Err(_) => Err(NameRefusal::StoreFault),
+            Ok(()) => self.give_up_settled(disk, note),
+        }
+    }
+
+    /// Gives up a batch while nothing is pending.
+    fn give_up_settled<D: Disk>(
+        &mut self,
+        disk: &mut D,
+        note: &BatchNote,
+    ) -> Result<Delivered, NameRefusal>
+        requires settled { self.old.store.log.pending ≡ None }
+        requires stands { Tells (D.state disk.old) → ((ops : List EditOp) × IsNamesystemOf (D.state disk.old) self.old ops) }
+        ensures { UpdatesSettled (D.state disk.old) (D.state disk.new) self.old (give_up_deed note.now) result self.new }
+    {
+        if !self.is_outstanding(note) {
+            return Ok(self.ignored(note));
+        }
+        let changes = all_failed(self.alloc, note);
+        self.update(disk, note, changes)
+    }
+
+    fn is_outstanding(&self, note: &BatchNote) -> bool
+        ensures { result ≡ is_outstanding (names_of self.now) note.now }
+    {
+        is_outstanding(&self.walks, self.store.statuses(), note)
+    }
+
+    /// Returns the answer for a batch that is not outstanding.
+    fn ignored(&self, note: &BatchNote) -> Delivered
+        ensures { result ≡ (ignored (names_of self.now) note.now).answer }
+    {
+        Delivered::Ignored {
+            session: last_session(self.store.statuses(), note.zone),
+        }
+    }
+
+    /// Writes what becomes of an outstanding batch while nothing is pending, and retires the batch.
+    fn update<D: Disk>(
+        &mut self,
+        disk: &mut D,
+        note: &BatchNote,
+        changes: Changes,
+    ) -> Result<Delivered, NameRefusal>
+        requires may { MayUpdate (names_of self.old) note.now changes }
+        requires settled { self.old.store.log.pending ≡ None }
+        requires stands { Tells (D.state disk.old) → ((ops : List EditOp) × IsNamesystemOf (D.state disk.old) self.old ops) }
+        ensures { (d : NameState → UpdateDeed) → d (names_of self.old) ≡ applied (names_of self.old) note.now changes → UpdatesSettled (D.state disk.old) (D.state disk.new) self.old d result self.new }
+    {
+        self.invariants();
+        let answer = applied_answer(&changes);
+        match self.update_op(note, changes) {
+            Err(_) => Err(NameRefusal::NoMemory),
+            Ok(op) => delivered(answer, self.write_update(disk, &op, note)),
+        }
+    }
+
+    /// Returns the operation of an update.
+    fn update_op(&self, note: &BatchNote, changes: Changes) -> Result<EditOp, NoMemory>
+        requires { is_outstanding (names_of self.now) note.now ≡ true }
+        ensures { IfOk result (λ op. op ≡ update_op (names_of self.now) note.now changes) }
+    {
+        let mark = mark_by(&self.walks, note)?;
+        Ok(EditOp::Update {
+            session: note.session,
+            failed: changes.failed,
+            mark,
+            files: changes.files,
+        })
+    }
+
+    /// Writes an update of a batch after all checks, while nothing is pending.
+    fn write_update<D: Disk>(
+        &mut self,
+        disk: &mut D,
+        op: &EditOp,
+        note: &BatchNote,
+    ) -> Result<(), StoreRefusal>
+        requires may { MayWrite (names_of self.old) op.now (record (names_of self.old) { updating = Some note.now.sent }) }
+        requires settled { self.old.store.log.pending ≡ None }
+        requires stands { Tells (D.state disk.old) → ((ops : List EditOp) × IsNamesystemOf (D.state disk.old) self.old ops) }
+        ensures { Writes (D.state disk.old) (D.state disk.new) self.old (record (names_of self.old) { updating = Some note.now.sent }) op.now result self.new }
+    {
+        let Ok(sent) = note.sent.copy(self.alloc) else {
+            return Err(StoreRefusal::NoMemory);
+        };
+        match self.store.commit(self.alloc, disk, op) {
+            Err(StoreRefusal::NoMemory) => Err(StoreRefusal::NoMemory),
+            Err(StoreRefusal::StoreFault) => {
+                self.updating = Some(sent);
+                Err(StoreRefusal::StoreFault)
+            }
+            Ok(()) => {
+                self.updating = Some(sent);
+                retire_by(&mut self.walks, &self.updating, op);
+                Ok(())
+            }
+        }
+    }
+}
+
 /// Returns the refusal of the namesystem for a refusal of the store.
 fn refusal(why: StoreRefusal) -> NameRefusal
     ensures { result ≡ refusal_of why }
@@ -691,5 +865,16 @@ fn completed(written: Result<(), StoreRefusal>) -> Result<Walked, NameRefusal>
     match written {
         Ok(()) => Ok(Walked::Completed),
         Err(fault) => Err(refusal(fault)),
+    }
+}
+
+/// Returns the answer to an update, given the one that it gets if its operation is written, and the
+/// result of writing it.
+fn delivered(answer: Delivered, written: Result<(), StoreRefusal>) -> Result<Delivered, NameRefusal>
+    ensures { result ≡ delivered_answer answer written }
+{
+    match written {
+        Ok(()) => Ok(answer),
+        Err(refused) => Err(refusal(refused)),
     }
 }

@@ -31,7 +31,7 @@ fn is_walk_of(walker: &Walker, session: u64) -> bool
 }
 
 /// Returns the index of the walk of a session, or `None` if it has taken no batch.
-fn find(walks: &Vec<Walker>, session: u64) -> Option<usize>
+pub fn find(walks: &Vec<Walker>, session: u64) -> Option<usize>
     ensures { result ≡ position (is_walk_of session) walks.now.items }
 {
     walks.iter().position(|walker| is_walk_of(walker, session))

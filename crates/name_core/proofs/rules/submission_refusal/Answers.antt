@@ -5,7 +5,8 @@ use Rattle.zone_table.specs.Statuses.{zone_goes_on}
 use Rattle.name_store.specs.Causes.{id_at, zone_root_causes}
 use Rattle.name_core.specs.Asks.{is_other_key, is_other_zone}
 use Rattle.name_core.specs.Calls.{path_causes}
-use Rattle.name_core.proofs.SnapshotLaws.{behind-none, first-front}
+use Rattle.name_core.proofs.AskLemmas.{first-front}
+use Rattle.name_core.proofs.SnapshotLaws.{behind-none}
 use Rattle.name_core.proofs.rules.submission_refusal.Goals as goal
 
 pub returns-in-Some-to_be_zone_root : goal.returns-in-Some-to_be_zone_root

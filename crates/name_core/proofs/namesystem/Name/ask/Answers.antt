@@ -14,12 +14,14 @@ opened-opened-requires c = not-spent (names_of c.args.self.now) (ask-room (names
 pub push-requires : goal.push-requires
 push-requires c =
     let id_is = ap (λ (q : OpenAsk). q.id) c.opened-opened.ensures ∙ ap (λ (x : RunningNames). next_id (names_of x)) (sym c.self.view_is) in
-    subst (λ (n : ℕ). AllByRecursion (λ (a : OpenAsk). a.id < n) c.self.inside.asks) (sym id_is) c.self.invariant.ids.of_asks
+    subst (λ (n : ℕ). AllByRecursion (λ (a : OpenAsk). a.id < n) c.self.inside.asks) (sym id_is) c.self.invariant.0.ids.of_asks
 
 pub invariant_of-self-in-Ok : goal.invariant_of-self-in-Ok
 invariant_of-self-in-Ok c =
     let id_is = ap (λ (q : OpenAsk). q.id) c.opened-opened.ensures ∙ ap (λ (x : RunningNames). next_id (names_of x)) (sym c.self.view_is) in
     let room = ask-room (names_of c.args.self.now) c.args.user.now c.args.ask (sym c.ask_refusal.ensures ∙ c.in_default.is) in
-    let left : c.self.inside.next < 2 ^ 32 = subst (λ (x : RunningNames). x.next < 2 ^ 32) (sym c.self.view_is) room in
-    subst (λ (asks : List OpenAsk). Keeps (service_of (record { store = c.self.inside.store; next = c.self.inside.next + 1; asks = asks; walks = c.self.inside.walks.items; batch = c.self.inside.batch }))) (sym c.in-Ok.ensures.ok)
-    (keeps-asked (service_of (record { store = c.self.inside.store; next = c.self.inside.next; asks = c.self.inside.asks; walks = c.self.inside.walks.items; batch = c.self.inside.batch })) c.opened-opened.result id_is left c.self.invariant)
+    let left : c.self.inside.next < 2 ^ 32 = subst (λ (x : RunningNames). x.next < 2 ^ 32) (sym c.self.view_is) room in (
+      subst (λ (asks : List OpenAsk). Keeps (service_of (record { store = c.self.inside.store; next = c.self.inside.next + 1; asks = asks; walks = c.self.inside.walks.items; updating = c.self.inside.updating; batch = c.self.inside.batch }))) (sym c.in-Ok.ensures.ok)
+          (keeps-asked (service_of (record { store = c.self.inside.store; next = c.self.inside.next; asks = c.self.inside.asks; walks = c.self.inside.walks.items; updating = c.self.inside.updating; batch = c.self.inside.batch })) c.opened-opened.result id_is left c.self.invariant.0),
+      c.self.invariant.1,
+    )
