@@ -26,14 +26,17 @@ use Rattle.name_store.proofs.CauseLemmas.{clear, none-of-both}
 use Rattle.name_core.specs.State.{IsNames, IsRising, NameService, next_id, settled}
 use Rattle.world_run.specs.declared.kept.KeptReply.{KeptReply}
 use Rattle.world_run.specs.declared.kept.KeptReply.TheVariants.{ToAsk, ToBatch}
-use Rattle.world_run.specs.declared.kept.BatchResult.TheVariants as batch_result
+use Rattle.reenc_update.specs.declared.reply.BatchResult.{BatchResult}
+use Rattle.reenc_update.specs.declared.reply.BatchResult.TheVariants as batch_result
+use Rattle.reenc_walk.specs.declared.sent.BatchNote.{BatchNote}
 use Rattle.world_run.specs.World.{Kept, WorldState, numbered}
-use Rattle.world_run.specs.Ledger.{Draw, Hidden, Ledger, entered, entry_under, makes_entry}
+use Rattle.world_run.specs.Ledger.{Draw, Hidden, Ledger, entered, entry_under, makes_entry, starts_of}
 use Rattle.world_run.specs.Promise.{In}
-use Rattle.world_run.specs.Linked.{BatchesLinked, DrawsFit, FilesLinked, HasDraw, HasNoted, IsDrawn, IsOldBirth, IsReplyTo, KeyLinked, LedgerFits, LinkedWorld, QueuesLinked, Replied, RepliesLinked, ReplyCameBack}
+use Rattle.world_run.specs.Linked.{BatchesLinked, DrawsFit, FilesLinked, HasDraw, HasNoted, IsDrawn, IsOldBirth, IsReplyTo, KeyLinked, KeysCameBack, LedgerFits, LinkedDraws, NotBelow, OfSession, QueuesLinked, Replied, RepliesLinked, ReplyCameBack, StatusesLinked, VersionsStand, given}
 use Rattle.world_run.proofs.Members.{each-in, in-append, in-left, in-right, numbered-in, some-is}
-use Rattle.world_run.proofs.RowsAfter.{OpFits, OpHasDraw}
+use Rattle.world_run.proofs.RowsAfter.{OpFits, OpHasDraw, OpIsNew}
 use Rattle.world_run.proofs.StatusLemmas.{entered-statuses, root-has-key}
+use Rattle.world_run.proofs.VersionLemmas.{drawn-version}
 use Rattle.world_run.proofs.WorldLemmas.{draws-fewer}
 
 -- open asks
@@ -137,22 +140,23 @@ entered-ledger enter ledger keys replies replied asks a ask_id answer o next mem
     replied-as : {d : Draw} → o ≡ Some d → Replied replies replied (ToAsk ask_id answer) (Some d)
     replied-as {d = d} is = subst (λ (x : Option Draw). Replied replies replied (ToAsk ask_id answer) x) is at
 
-abbrev pub entered_in : Bool → ℕ → Option Draw → Hidden → Hidden
-entered_in enter ask_id o h = record h { ledger = with_entry enter ask_id o h.ledger }
+-- what is hidden with the entry, if this is the table of the namesystem then
+abbrev pub entered_in : Bool → ℕ → Option Draw → NameTable → Hidden → Hidden
+entered_in enter ask_id o t h = record h { ledger = with_entry enter ask_id o h.ledger; starts = h.starts ++ starts_of t (entered enter (entry_under ask_id o)) }
 
 -- the draw of an entry was drawn before
-module _ (enter : Bool) (h : Hidden) (replies : List KeptReply) (ask_id : ℕ) (answer : KeyAnswer) (o : Option Draw) (at : Replied replies h.replied (ToAsk ask_id answer) o) where
+module _ (enter : Bool) (h : Hidden) (t : NameTable) (replies : List KeptReply) (ask_id : ℕ) (answer : KeyAnswer) (o : Option Draw) (at : Replied replies h.replied (ToAsk ask_id answer) o) where
   replied-so : (d : Draw) → o ≡ Some d → In (Some d) h.replied
   replied-so d is = subst (λ (x : Option Draw). In x h.replied) is (numbered-in h.replied at.0 o at.2)
 
-  entered-draws : (IsBirth : ℕ → Type 0) → DrawsFit h IsBirth → DrawsFit (entered_in enter ask_id o h) IsBirth
-  entered-draws IsBirth f = draws-fewer h (entered_in enter ask_id o h) IsBirth IsBirth was (omega arith) (λ b old. old) f
+  entered-draws : (IsBirth : ℕ → Type 0) → DrawsFit h IsBirth → DrawsFit (entered_in enter ask_id o t h) IsBirth
+  entered-draws IsBirth f = draws-fewer h (entered_in enter ask_id o t h) IsBirth IsBirth was (omega arith) (λ b old. old) f
     where
-      was : (d : Draw) → IsDrawn (entered_in enter ask_id o h) d → IsDrawn h d
+      was : (d : Draw) → IsDrawn (entered_in enter ask_id o t h) d → IsDrawn h d
       was d (inl (id, i)) = elim (in-entry enter h.ledger ask_id o id d i) [ inl old ↦ inl (id, old) | inr new ↦ inr (inl (replied-so d new.1)) ]
       was d (inr i) = inr i
 
-  entered-queues : (rows : List KeyRow) (queues : List Queue) → QueuesLinked rows queues h → QueuesLinked rows queues (entered_in enter ask_id o h)
+  entered-queues : (rows : List KeyRow) (queues : List Queue) → QueuesLinked rows queues h → QueuesLinked rows queues (entered_in enter ask_id o t h)
   entered-queues rows queues q =
       record {
         opens = q.opens;
@@ -168,17 +172,48 @@ has-entered ledger entries keys id e d = record { draw = d.draw; entered = in-le
 
 pub entered-files : (ledger entries : Ledger) (keys : List KeyRow) (names : NameTable) → FilesLinked ledger keys names → FilesLinked (ledger ++ entries) keys names
 entered-files ledger entries keys names f =
-    record { files = λ row e i h. has-entered ledger entries keys row.id e (f.files row e i h); zones = f.zones; statuses = entered-statuses ledger entries names.statuses f.statuses }
+    record { files = λ row e i h. has-entered ledger entries keys row.id e (f.files row e i h); zones = f.zones; statuses = entered-statuses ledger entries names.statuses f.statuses; distinct = f.distinct }
 
-reply-entered : (ledger entries : Ledger) (keys : List KeyRow) (r : KeptReply) → ReplyCameBack ledger keys r → ReplyCameBack (ledger ++ entries) keys r
-reply-entered ledger entries keys (ToAsk id answer) back = tt
-reply-entered ledger entries keys (ToBatch batch (batch_result.Refused why)) back = tt
-reply-entered ledger entries keys (ToBatch batch (batch_result.Ready edeks)) back = λ place x e sent got.
-    let was = back place x e sent got in record { of_key = was.of_key; has = has-entered ledger entries keys x.id e was.has }
+of-entered : (ledger entries : Ledger) (session : ℕ) (key : KeyName) → OfSession ledger session key → OfSession (ledger ++ entries) session key
+of-entered ledger entries session key s = record { draw = s.draw; entered = in-left (session, s.draw) ledger entries s.entered; of_key = s.of_key }
 
-entered-batches : (ledger entries : Ledger) (keys : List KeyRow) (kept : Kept) → BatchesLinked ledger keys kept → BatchesLinked (ledger ++ entries) keys kept
-entered-batches ledger entries keys kept l =
-    record { sent = λ batch x i j. has-entered ledger entries keys x.id x.edek (l.sent batch x i j); back = λ r i. reply-entered ledger entries keys r (l.back r i) }
+-- one draw for an id
+abbrev pub OneDraw : Ledger → Type 0
+OneDraw ledger = (id : ℕ) (d f : Draw) → In (id, d) ledger → In (id, f) ledger → d ≡ f
+
+-- the re-encryption has no other draw
+below-entered : (ledger entries : Ledger) (keys : List KeyRow) (session : ℕ) (e : Edek) → OneDraw (ledger ++ entries) → OfSession ledger session e.version.key → NotBelow ledger keys session e → NotBelow (ledger ++ entries) keys session e
+below-entered ledger entries keys session e one s low d row i j born =
+    let same : s.draw ≡ d = one session s.draw d (in-left (session, s.draw) ledger entries s.entered) i in
+    subst (λ (x : Draw). x.version.number ≤ e.version.number) same (low s.draw row s.entered j (born ∙ ap (λ (x : Draw). x.birth) (sym same)))
+
+back-entered : (ledger entries : Ledger) (keys : List KeyRow) (note : BatchNote) (result : BatchResult) → OneDraw (ledger ++ entries) → KeysCameBack ledger keys note result → KeysCameBack (ledger ++ entries) keys note result
+back-entered ledger entries keys note batch_result.Refused one back = tt
+back-entered ledger entries keys note (batch_result.Ready edeks) one back = λ place x e sent got.
+    let was = back place x e sent got in
+    record {
+      came = record { of_key = was.came.of_key; has = has-entered ledger entries keys x.id e was.came.has };
+      of_session = of-entered ledger entries note.session e.version.key was.of_session;
+      not_below = below-entered ledger entries keys note.session e one was.of_session was.not_below;
+    }
+
+reply-entered : (ledger entries : Ledger) (keys : List KeyRow) (r : KeptReply) → OneDraw (ledger ++ entries) → ReplyCameBack ledger keys r → ReplyCameBack (ledger ++ entries) keys r
+reply-entered ledger entries keys (ToAsk id answer) one back = tt
+reply-entered ledger entries keys (ToBatch reply) one back = (back.0, back-entered ledger entries keys reply.note reply.result one back.1)
+
+entered-batches : (ledger entries : Ledger) (keys : List KeyRow) (kept : Kept) → OneDraw (ledger ++ entries) → BatchesLinked ledger keys kept → BatchesLinked (ledger ++ entries) keys kept
+entered-batches ledger entries keys kept one l =
+    record {
+      sent = λ batch x i j. has-entered ledger entries keys x.id x.edek (l.sent batch x i j);
+      sessions = λ batch x i j. of-entered ledger entries batch.session x.edek.version.key (l.sessions batch x i j);
+      back = λ r i. reply-entered ledger entries keys r one (l.back r i);
+    }
+
+entered-versions : (enter : Bool) (ledger : Ledger) (keys : List KeyRow) (ask_id : ℕ) (o : Option Draw) (edek : Option Edek) → KeyLinked keys edek o → VersionsStand ledger keys → VersionsStand (with_entry enter ask_id o ledger) keys
+entered-versions enter ledger keys ask_id o edek linked stand id d row i j born = elim (in-entry enter ledger ask_id o id d i) [
+  | inl old ↦ stand id d row old j born
+  | inr new ↦ drawn-version keys edek o d row linked new.1 j born
+]
 
 -- the draw of the key of a new file
 new-draw : (ledger : Ledger) (keys : List KeyRow) (ask_id : ℕ) (o : Option Draw) (e : Edek) → KeyLinked keys (Some e) o → HasDraw (with_entry true ask_id o ledger) keys ask_id e
@@ -239,6 +274,14 @@ finish-fits rows statuses a edek (ask.Zone p key) free =
     (none-of-both (zone_causes rows p) checks (none-of-both (path_causes p) (zone_causes rows p ++ checks) free).1).0
 finish-fits rows statuses a edek (ask.Submit p) free = tt
 
+-- no re-encryption has the id of an open ask
+pub finish-new : (ledger : Ledger) (replies : List KeptReply) (replied : List (Option Draw)) (asks : List OpenAsk) (next : ℕ) (statuses : List StatusRow) (a : OpenAsk) (edek : Option Edek) (x : Ask) → In a asks → LedgerFits ledger replies replied asks next
+    → StatusesLinked ledger statuses → OpIsNew statuses (finish_op a.id edek x)
+finish-new ledger replies replied asks next statuses a edek (ask.Create p) member fits linked = tt
+finish-new ledger replies replied asks next statuses a edek (ask.Zone p key) member fits linked = tt
+finish-new ledger replies replied asks next statuses a edek (ask.Submit p) member fits linked = λ t i same.
+    let has = linked t i in fits.not_open a has.draw member (subst (λ (id : ℕ). In (id, has.draw) ledger) same has.entered)
+
 -- the world after a finish
 
 -- an open ask, and the kept reply that answers it, with its draw
@@ -251,26 +294,31 @@ from-one : (opening id : ℕ) → 0 < opening → opening * 2 ^ 32 ≤ id → 2 
 from-one opening id opened here = omega (arith, opened, here)
 
 -- the ask is no longer open, and its draw may be entered
-pub linked-finished : (w : WorldState) (h : Hidden) (enter : Bool) (a : OpenAsk) (ask_id : ℕ) (answer : KeyAnswer) (o : Option Draw) (names : NameService) → IsNames w.names → Answered w h a ask_id answer o
+pub linked-finished : (w : WorldState) (h : Hidden) (enter : Bool) (a : OpenAsk) (ask_id : ℕ) (answer : KeyAnswer) (o : Option Draw) (t : NameTable) (names : NameService) → IsNames w.names → Answered w h a ask_id answer o
     → names.names.asks ≡ without w.names.names.asks a.id → next_id names.names ≡ next_id w.names.names
-    → ((k : Bool) → FilesLinked (with_entry enter ask_id o h.ledger) w.keys.keys.table.rows (settled k names).table) → LinkedWorld w h → LinkedWorld (record w { names = names }) (entered_in enter ask_id o h)
-linked-finished w h enter a ask_id answer o names fit answered asks next files l =
+    → ((k : Bool) → FilesLinked (with_entry enter ask_id o h.ledger) w.keys.keys.table.rows (settled k names).table) → LinkedDraws w h → LinkedDraws (record w { names = names }) (entered_in enter ask_id o t h)
+linked-finished w h enter a ask_id answer o t names fit answered asks next files l =
     let member = open-in w.names.names.asks ask_id a answered.opened in
     let low : a.id < next_id w.names.names = each-in (λ (q : OpenAsk). q.id < next_id w.names.names) w.names.names.asks a fit.ids.of_asks member.0 in
     let present : w.names.names.table.opening * 2 ^ 32 ≤ a.id = each-in (λ (q : OpenAsk). w.names.names.table.opening * 2 ^ 32 ≤ q.id) w.names.names.asks a fit.recent member.0 in
     let recent : 2 ^ 32 ≤ a.id = from-one w.names.names.table.opening a.id fit.opened present in
+    let fits : LedgerFits (with_entry enter ask_id o h.ledger) w.kept.replies h.replied (without w.names.names.asks a.id) (next_id w.names.names) =
+    entered-ledger enter h.ledger w.keys.keys.table.rows w.kept.replies h.replied w.names.names.asks a ask_id answer o (next_id w.names.names) member.0 member.1 low recent fit.ids.rising answered.at l.replies l.ledger in
     record {
       files = files;
       replies = l.replies;
-      draws = entered-draws enter h w.kept.replies ask_id answer o answered.at (IsOldBirth w.keys.keys.table) l.draws;
+      draws = entered-draws enter h t w.kept.replies ask_id answer o answered.at (IsOldBirth w.keys.keys.table) l.draws;
       ledger = subst (λ (open_asks : List OpenAsk). LedgerFits (with_entry enter ask_id o h.ledger) w.kept.replies h.replied open_asks (next_id names.names)) (sym asks)
-          (subst (λ (n : ℕ). LedgerFits (with_entry enter ask_id o h.ledger) w.kept.replies h.replied (without w.names.names.asks a.id) n) (sym next)
-          (entered-ledger enter h.ledger w.keys.keys.table.rows w.kept.replies h.replied w.names.names.asks a ask_id answer o (next_id w.names.names) member.0 member.1 low recent fit.ids.rising answered.at l.replies l.ledger));
-      queues = entered-queues enter h w.kept.replies ask_id answer o answered.at w.keys.keys.table.rows w.keys.keys.ready.queues l.queues;
+          (subst (λ (n : ℕ). LedgerFits (with_entry enter ask_id o h.ledger) w.kept.replies h.replied (without w.names.names.asks a.id) n) (sym next) fits);
+      queues = entered-queues enter h t w.kept.replies ask_id answer o answered.at w.keys.keys.table.rows w.keys.keys.ready.queues l.queues;
       tickets = l.tickets;
-      batches = entered-batches h.ledger (entered enter (entry_under ask_id o)) w.keys.keys.table.rows w.kept l.batches;
+      batches = entered-batches h.ledger (entered enter (entry_under ask_id o)) w.keys.keys.table.rows w.kept fits.one_draw l.batches;
+      versions = entered-versions enter h.ledger w.keys.keys.table.rows ask_id o (given answer) (l.replies.keys_open (ToAsk ask_id answer) o answered.at) l.versions;
     }
 
 -- nothing is entered
-pub linked-unentered : (w : WorldState) (h : Hidden) → LinkedWorld w h → LinkedWorld w (record h { ledger = h.ledger ++ [] })
-linked-unentered w h l = subst (λ (ledger : Ledger). LinkedWorld w (record h { ledger = ledger })) (sym (append-nil h.ledger)) l
+abbrev pub unentered : Hidden → Hidden
+unentered h = record h { ledger = h.ledger ++ []; starts = h.starts ++ [] }
+
+pub linked-unentered : (w : WorldState) (h : Hidden) → LinkedDraws w h → LinkedDraws w (unentered h)
+linked-unentered w h l = subst (LinkedDraws w) (λ i. record h { ledger = sym (append-nil h.ledger) i; starts = sym (append-nil h.starts) i }) l

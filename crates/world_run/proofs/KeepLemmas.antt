@@ -40,7 +40,7 @@ use Rattle.name_calls.specs.Answers.{answer_of}
 use Rattle.name_core.specs.Asks.{FinishOutcome, Finishes, ask_gone, closed, finish_causes, finish_op, finished, open_ask, unless_stopped}
 use Rattle.name_core.specs.Calls.{NoRoom, Plain, first_cause, superuser}
 use Rattle.name_core.specs.Service.{FinishServes, FinishServesAt, FinishServesOpen, closed_service}
-use Rattle.name_core.specs.State.{IsNames, NameService, NameState, next_id, settled, started, took}
+use Rattle.name_core.specs.State.{IsNames, NameService, NameState, next_id, settled, started}
 use Rattle.hk_events.specs.declared.event.Event.{Event}
 use Rattle.hk_events.specs.declared.event.Event.TheVariants as event
 use Rattle.hk_events.specs.declared.event.Line.{Line}
@@ -53,11 +53,15 @@ use Rattle.world_run.specs.RenamePaths.{read_rename_paths, rename_along}
 use Rattle.world_run.specs.SnapPaths.{read_snap_path, snap_at, unsnap_at}
 use Rattle.world_run.specs.Step.{DrawActs, FinishReply, Step, WantActs, delete_with, finish_line, kept_reply, zone_with}
 use Rattle.world_run.specs.Keeps.{KnowsWorld}
-use Rattle.world_run.specs.Ledger.{Draw, Hidden, Ledger, Past, draw_noted, draw_of, draw_answered, entered, enters, entry_of, entry_under, first_of, hidden_after, id_of_reply, left_in, makes_entry, moved_on}
+use Rattle.reenc_walk.specs.Walks.{WalkState}
+use Rattle.world_run.specs.Covered.{CoveredBy}
+use Rattle.world_run.specs.Ledger.{Draw, Hidden, Past, Starts, draw_noted, draw_of, draw_answered, entered, enters, entry_of, entry_under, first_of, hidden_after, id_of_reply, left_in, makes_entry, moved_on, past_of, starts_of}
 use Rattle.world_run.specs.Promise.{FilesOpen, In, ZoneFilesOpen}
-use Rattle.world_run.specs.Linked.{DrawsApart, FilesLinked, IsDrawn, IsOldBirth, KeyLinked, LedgerFits, LinkedTables, LinkedWorld, OpensTo, ReadyLinked, ServicesFit, WordsApart, given}
+use Rattle.world_run.specs.Linked.{DrawsApart, FilesLinked, IsDrawn, IsOldBirth, KeyLinked, LedgerFits, LinkedDraws, LinkedTables, LinkedWorld, OpensTo, ReadyLinked, ServicesFit, WordsApart, given}
+use Rattle.world_run.proofs.CoveredEnds.{covered-completed}
+use Rattle.world_run.proofs.CoveredKeys.{covered-keys}
 use Rattle.world_run.proofs.DrawLemmas.{OneDrawn, OneTaken, fresh-key, generate-one, meta-answers, opens-among, opens-named, words-of-dek}
-use Rattle.world_run.proofs.FinishLemmas.{Answered, entered-files, entered_in, finish-drawn, finish-fits, linked-finished, linked-unentered, open-in, with_entry}
+use Rattle.world_run.proofs.FinishLemmas.{Answered, entered-files, entered_in, finish-drawn, finish-fits, finish-new, linked-finished, linked-unentered, open-in, unentered, with_entry}
 use Rattle.world_run.proofs.Laters.{later-settled, may-wait, names-with}
 use Rattle.world_run.proofs.Members.{in-append, numbered-beside, numbered-in, some-is}
 use Rattle.world_run.proofs.PairLemmas.{in-drop, pairs-first, pairs-none}
@@ -67,6 +71,7 @@ use Rattle.world_run.proofs.TicketLemmas.{deposit-keeps, ticket-keeps}
 use Rattle.world_run.proofs.WorldLemmas.{AfterReply, IsFree, NewReply, StaysLinked, StillLinked, apart-fewer, apart-moved, apart-reply, drawn-moved, files-later, first-free, left-is, linked-keys, linked-reopened, linked-reply, linked-restart, linked-still, new-free, next-after, next-settled, rows-settled}
 use Rattle.world_run.proofs.NameKeeps.{ask-at-keeps, call-keeps, path-keeps, settled-keeps, with-pending}
 use Rattle.world_run.proofs.ServeKeeps.{serve-keeps}
+use Rattle.world_run.proofs.UpdateKeeps.{deliver-keeps, give-up-keeps}
 use Rattle.world_run.proofs.WalkKeeps.{walk-at-keeps}
 
 -- draws
@@ -79,12 +84,12 @@ AfterDraw w words h note drawn keys wanted reply =
 abbrev Answers : WorldState → Hidden → ServiceState → ℕ → KeptReply → Option Draw → Type 0
 Answers w h keys drawn r o = NewReply h (left_in w.keys.keys.ready.queues keys.keys.ready.queues h.queued) (h.place + drawn) keys.keys.table r o
 
-reply-stays : (w : WorldState) (h : Hidden) (keys : ServiceState) (drawn : ℕ) (r : KeptReply) (o : Option Draw) → ServiceLater w.keys keys → Answers w h keys drawn r o → LinkedWorld w h
+reply-stays : (w : WorldState) (h : Hidden) (keys : ServiceState) (drawn : ℕ) (r : KeptReply) (o : Option Draw) → ServiceLater w.keys keys → Answers w h keys drawn r o → LinkedDraws w h
     → StaysLinked h (with_reply r (record w { keys = keys })) (AfterReply h w.keys.keys.ready.queues keys.keys.ready.queues drawn o)
 reply-stays w h keys drawn r o later new l = (linked-reply w h keys drawn r o later new l, apart-reply w h keys drawn r o later new)
 
 -- a reply without a key
-unkeyed-keeps : (w : WorldState) (h : Hidden) (words : ℕ → ℕ) (note : AskNote) (wanted : Want) (reply : Option KmsReply) (drawn : ℕ) (keys : ServiceState) → LinkedWorld w h → given (answer_of reply) ≡ None
+unkeyed-keeps : (w : WorldState) (h : Hidden) (words : ℕ → ℕ) (note : AskNote) (wanted : Want) (reply : Option KmsReply) (drawn : ℕ) (keys : ServiceState) → LinkedDraws w h → given (answer_of reply) ≡ None
     → draw_answered w.keys.keys words h wanted reply ≡ None → ServiceLater w.keys keys → AfterDraw w words h note drawn keys wanted reply
 unkeyed-keeps w h words note wanted reply drawn keys l none undrawn later =
     subst (λ (d : Option Draw). StaysLinked h (with_reply (kept_reply note reply) (record w { keys = keys })) (AfterReply h w.keys.keys.ready.queues keys.keys.ready.queues drawn d)) (sym undrawn)
@@ -98,7 +103,7 @@ unkeyed-keeps w h words note wanted reply drawn keys l none undrawn later =
     }) l)
 
 -- and with the keys unchanged
-unkeyed-same : (w : WorldState) (h : Hidden) (words : ℕ → ℕ) (note : AskNote) (wanted : Want) (reply : Option KmsReply) (drawn : ℕ) → LinkedWorld w h → given (answer_of reply) ≡ None
+unkeyed-same : (w : WorldState) (h : Hidden) (words : ℕ → ℕ) (note : AskNote) (wanted : Want) (reply : Option KmsReply) (drawn : ℕ) → LinkedDraws w h → given (answer_of reply) ≡ None
     → draw_answered w.keys.keys words h wanted reply ≡ None → AfterDraw w words h note drawn w.keys wanted reply
 unkeyed-same w h words note wanted reply drawn l none undrawn = unkeyed-keeps w h words note wanted reply drawn w.keys l none undrawn (same-service w.keys)
 
@@ -115,7 +120,7 @@ keyed-answers w h keys drawn note e d same version opens free born recent =
       back = tt;
     }
 
-module _ (w : WorldState) (h : Hidden) (words : ℕ → ℕ) (now : ℕ) (note : AskNote) (name : KeyName) (reply : KmsReply) (drawn : ℕ) (changed : KmsState) (fit : ServicesFit w) (l : LinkedWorld w h)
+module _ (w : WorldState) (h : Hidden) (words : ℕ → ℕ) (now : ℕ) (note : AskNote) (name : KeyName) (reply : KmsReply) (drawn : ℕ) (changed : KmsState) (fit : ServicesFit w) (l : LinkedDraws w h)
     (acts : KmsActs w.keys.keys words now (key_call.Generate name 1) reply drawn changed) where
   abbrev changed_keys : ServiceState
   changed_keys = record w.keys { keys = changed }
@@ -177,7 +182,7 @@ module _ (w : WorldState) (h : Hidden) (words : ℕ → ℕ) (now : ℕ) (note :
 -- the reply to the call that was wanted, by the verdict on the superuser
 
 generate-keeps : (w : WorldState) (h : Hidden) (words : ℕ → ℕ) (now : ℕ) (note : AskNote) (name : KeyName) (fault : Type 0) (reply : KmsReply) (drawn : ℕ) (logged : List KeyCommand) (keys : ServiceState) (v : Result Shown Denied)
-    → ServicesFit w → LinkedWorld w h → ServesUnder v w.keys words now (key_call.Generate name 1) fault reply drawn logged keys → AfterDraw w words h note drawn keys (want.Generate name) (Some reply)
+    → ServicesFit w → LinkedDraws w h → ServesUnder v w.keys words now (key_call.Generate name 1) fault reply drawn logged keys → AfterDraw w words h note drawn keys (want.Generate name) (Some reply)
 generate-keeps w h words now note name fault reply drawn logged keys (Ok shown) fit l p =
     subst (λ (s : ServiceState). AfterDraw w words h note drawn s (want.Generate name) (Some reply)) (sym p.serves.left)
     (subst (λ (r : KmsReply). AfterDraw w words h note drawn (record w.keys { keys = p.serves.changed }) (want.Generate name) (Some r)) (sym p.reply_is)
@@ -188,7 +193,7 @@ generate-keeps w h words now note name fault reply drawn logged keys (Err denied
     (unkeyed-same w h words note (want.Generate name) (Some (key_reply.Refused (key_refusal.Denied denied.table denied.op))) drawn l refl refl))
 
 metadata-keeps : (w : WorldState) (h : Hidden) (words : ℕ → ℕ) (now : ℕ) (note : AskNote) (name : KeyName) (fault : Type 0) (reply : KmsReply) (drawn : ℕ) (logged : List KeyCommand) (keys : ServiceState) (v : Result Shown Denied)
-    → LinkedWorld w h → ServesUnder v w.keys words now (key_call.Metadata name) fault reply drawn logged keys → AfterDraw w words h note drawn keys (want.Metadata name) (Some reply)
+    → LinkedDraws w h → ServesUnder v w.keys words now (key_call.Metadata name) fault reply drawn logged keys → AfterDraw w words h note drawn keys (want.Metadata name) (Some reply)
 metadata-keeps w h words now note name fault reply drawn logged keys (Ok shown) l p =
     subst (λ (s : ServiceState). AfterDraw w words h note drawn s (want.Metadata name) (Some reply)) (sym p.serves.same)
     (subst (λ (r : KmsReply). AfterDraw w words h note drawn w.keys (want.Metadata name) (Some r)) (sym p.reply_is)
@@ -199,7 +204,7 @@ metadata-keeps w h words now note name fault reply drawn logged keys (Err denied
     (unkeyed-same w h words note (want.Metadata name) (Some (key_reply.Refused (key_refusal.Denied denied.table denied.op))) drawn l refl refl))
 
 want-keeps : (lines : List PropLine) (w : WorldState) (h : Hidden) (words : ℕ → ℕ) (now : ℕ) (note : AskNote) (fault : Type 0) (reply : Option KmsReply) (drawn : ℕ) (logged : List KeyCommand) (keys : ServiceState) (wanted : Want)
-    → ServicesFit w → LinkedWorld w h → WantActs lines w.keys words now wanted fault reply drawn logged keys → AfterDraw w words h note drawn keys wanted reply
+    → ServicesFit w → LinkedDraws w h → WantActs lines w.keys words now wanted fault reply drawn logged keys → AfterDraw w words h note drawn keys wanted reply
 want-keeps lines w h words now note fault reply drawn logged keys want.Nothing fit l a =
     subst (λ (s : ServiceState). AfterDraw w words h note drawn s want.Nothing reply) (sym a.same)
     (subst (λ (r : Option KmsReply). AfterDraw w words h note drawn w.keys want.Nothing r) (sym a.reply_is) (unkeyed-same w h words note want.Nothing None drawn l refl refl))
@@ -210,7 +215,7 @@ want-keeps lines w h words now note fault reply drawn logged keys (want.Metadata
     subst (λ (r : Option KmsReply). AfterDraw w words h note drawn keys (want.Metadata name) r) (sym a.reply_is)
     (metadata-keeps w h words now note name fault a.reply drawn logged keys (verdict lines superuser (key_call.Metadata name)) l a.serves)
 
-draw-keeps : (lines : List PropLine) (w : WorldState) (h : Hidden) (words : ℕ → ℕ) (now number : ℕ) (fault : Type 0) (outcome : Line) (drawn : ℕ) (logged : Acknowledged) (w' : WorldState) (o : Option AskNote) → ServicesFit w → LinkedWorld w h
+draw-keeps : (lines : List PropLine) (w : WorldState) (h : Hidden) (words : ℕ → ℕ) (now number : ℕ) (fault : Type 0) (outcome : Line) (drawn : ℕ) (logged : Acknowledged) (w' : WorldState) (o : Option AskNote) → ServicesFit w → LinkedDraws w h
     → numbered w.kept.notes number ≡ o → DrawActs lines w words now o fault outcome drawn logged w' → StaysLinked h w' (hidden_after w words (event.Draw number) outcome drawn w' h)
 draw-keeps lines w h words now number fault outcome drawn logged w' None fit l is u =
     subst (λ (t : Line). StaysLinked h w' (hidden_after w words (event.Draw number) t drawn w' h)) (sym u.reply_is)
@@ -226,28 +231,37 @@ draw-keeps lines w h words now number fault outcome drawn logged w' (Some note) 
 
 -- finishes
 
--- the ledger of draws after a finish of a kept reply
-pub finish-ledger : (w : WorldState) (words : ℕ → ℕ) (h : Hidden) (number drawn : ℕ) (ask_id : ℕ) (answer : KeyAnswer) (o : Option Draw) (result : Result (Unit {0}) NameRefusal) (names : NameService)
+-- what is hidden with the entry of a kept reply, if this is the state of the namesystem then
+abbrev entered_by : Option KeptReply → Option (Option Draw) → Line → NameService → Hidden → Hidden
+entered_by kept o outcome names h =
+    let entry = entered (enters (id_of_reply kept) outcome names) (entry_of kept o) in
+    record h { ledger = h.ledger ++ entry; starts = h.starts ++ starts_of (settled true names).table entry }
+
+-- and so after a finish
+pub finish-hidden : (w : WorldState) (words : ℕ → ℕ) (h : Hidden) (number drawn : ℕ) (ask_id : ℕ) (answer : KeyAnswer) (o : Option Draw) (result : Result (Unit {0}) NameRefusal) (names : NameService)
     → numbered w.kept.replies number ≡ Some (ToAsk ask_id answer) → numbered h.replied number ≡ Some o
-    → (hidden_after w words (event.Finish number) (finish_line result) drawn (record w { names = names }) h).ledger ≡ with_entry (enters ask_id (finish_line result) names) ask_id o h.ledger
-finish-ledger w words h number drawn ask_id answer o result names at drew =
-    ap (λ (k : Option KeptReply). h.ledger ++ entered (enters (id_of_reply k) (finish_line result) names) (entry_of k (numbered h.replied number))) at
-    ∙ ap (λ (d : Option (Option Draw)). h.ledger ++ entered (enters ask_id (finish_line result) names) (entry_of (Some (ToAsk ask_id answer)) d)) drew
+    → hidden_after w words (event.Finish number) (finish_line result) drawn (record w { names = names }) h
+    ≡ moved_on w.keys.keys.ready.queues w.keys.keys.ready.queues drawn (entered_in (enters ask_id (finish_line result) names) ask_id o (settled true names).table h)
+finish-hidden w words h number drawn ask_id answer o result names at drew =
+    ap (λ (k : Option KeptReply). moved_on w.keys.keys.ready.queues w.keys.keys.ready.queues drawn (entered_by k (numbered h.replied number) (finish_line result) names h)) at
+    ∙ ap (λ (d : Option (Option Draw)). moved_on w.keys.keys.ready.queues w.keys.keys.ready.queues drawn (entered_by (Some (ToAsk ask_id answer)) d (finish_line result) names h)) drew
 
 -- the operation of a finish that nothing stops keeps the files linked
-pub finish-files : (w : WorldState) (h : Hidden) (enter : Bool) (k : Bool) (a : OpenAsk) (ask_id : ℕ) (answer : KeyAnswer) (o : Option Draw) (edek : Option Edek) → IsNames w.names → LinkedWorld w h → Answered w h a ask_id answer o
+pub finish-files : (w : WorldState) (h : Hidden) (enter : Bool) (k : Bool) (a : OpenAsk) (ask_id : ℕ) (answer : KeyAnswer) (o : Option Draw) (edek : Option Edek) → IsNames w.names → LinkedDraws w h → Answered w h a ask_id answer o
     → answer ≡ Given edek → first_cause (finish_causes (settled k w.names).table.rows (settled k w.names).table.statuses a edek a.ask) ≡ None → (makes_entry ask_id (Some (finish_op a.id edek a.ask)) ≡ true → enter ≡ true)
     → FilesLinked (with_entry enter ask_id o h.ledger) w.keys.keys.table.rows (after_table (settled k w.names).table (finish_op a.id edek a.ask))
 finish-files w h enter k a ask_id answer o edek fit l answered said free enters =
     let linked : KeyLinked w.keys.keys.table.rows edek o = subst (λ (x : KeyAnswer). KeyLinked w.keys.keys.table.rows (given x) o) said (l.replies.keys_open (ToAsk ask_id answer) o answered.at) in
+    let member = open-in w.names.names.asks ask_id a answered.opened in
     files-after (with_entry enter ask_id o h.ledger) w.keys.keys.table.rows (settled k w.names).table (finish_op a.id edek a.ask) (rows-settled k w.names fit)
     (finish-fits (settled k w.names).table.rows (settled k w.names).table.statuses a edek a.ask free)
-    (finish-drawn enter h.ledger w.keys.keys.table.rows (settled k w.names).table.rows (settled k w.names).table.statuses a ask_id o edek a.ask (open-in w.names.names.asks ask_id a answered.opened).1 linked free enters)
+    (finish-drawn enter h.ledger w.keys.keys.table.rows (settled k w.names).table.rows (settled k w.names).table.statuses a ask_id o edek a.ask member.1 linked free enters)
+    (finish-new h.ledger w.kept.replies h.replied w.names.names.asks (next_id w.names.names) (settled k w.names).table.statuses a edek a.ask member.0 l.ledger (l.files k).statuses)
     (entered-files h.ledger (entered enter (entry_under ask_id o)) w.keys.keys.table.rows (settled k w.names).table (l.files k))
 
 -- a finish with this answer, and this state after it, keeps the world linked, with the entry of its draw or without
 abbrev FinishKeeps : WorldState → Hidden → ℕ → Option Draw → Result (Unit {0}) NameRefusal → NameService → Type 0
-FinishKeeps w h ask_id o result names = LinkedWorld (record w { names = names }) (entered_in (enters ask_id (finish_line result) names) ask_id o h)
+FinishKeeps w h ask_id o result names = LinkedDraws (record w { names = names }) (entered_in (enters ask_id (finish_line result) names) ask_id o (settled true names).table h)
 
 no-opening : (id : ℕ) (edek : Option Edek) (x : Ask) → is_opening (finish_op id edek x) ≡ false
 no-opening id edek (ask.Create p) = refl
@@ -259,17 +273,17 @@ ends-keeps : (w : WorldState) (h : Hidden) (ask_id : ℕ) (o : Option Draw) (res
     → FinishKeeps w h ask_id o result left → FinishKeeps w h ask_id o outcome names
 ends-keeps w h ask_id o result outcome left names same is l = subst (λ (r : Result (Unit {0}) NameRefusal). FinishKeeps w h ask_id o r names) (sym same) (subst (λ (n : NameService). FinishKeeps w h ask_id o result n) (sym is) l)
 
-module _ (w : WorldState) (h : Hidden) (ask_id : ℕ) (answer : KeyAnswer) (o : Option Draw) (a : OpenAsk) (fit : IsNames w.names) (l : LinkedWorld w h) (answered : Answered w h a ask_id answer o) where
+module _ (w : WorldState) (h : Hidden) (ask_id : ℕ) (answer : KeyAnswer) (o : Option Draw) (a : OpenAsk) (fit : IsNames w.names) (l : LinkedDraws w h) (answered : Answered w h a ask_id answer o) where
   -- the ask is closed, and the pending operation is still pending
-  pub closed-keeps : (enter : Bool) → LinkedWorld (record w { names = closed_service w.names a }) (entered_in enter ask_id o h)
-  closed-keeps enter =
-      linked-finished w h enter a ask_id answer o (closed_service w.names a) fit answered refl refl
+  pub closed-keeps : (enter : Bool) (t : NameTable) → LinkedDraws (record w { names = closed_service w.names a }) (entered_in enter ask_id o t h)
+  closed-keeps enter t =
+      linked-finished w h enter a ask_id answer o t (closed_service w.names a) fit answered refl refl
       (λ k. entered-files h.ledger (entered enter (entry_under ask_id o)) w.keys.keys.table.rows (settled k w.names).table (l.files k)) l
 
   -- or was settled
-  settled-closed : (enter : Bool) (k : Bool) → LinkedWorld (record w { names = record { names = closed (settled k w.names) a.id; pending = None } }) (entered_in enter ask_id o h)
+  settled-closed : (enter : Bool) (k : Bool) → LinkedDraws (record w { names = record { names = closed (settled k w.names) a.id; pending = None } }) (entered_in enter ask_id o (settled k w.names).table h)
   settled-closed enter k =
-      linked-finished w h enter a ask_id answer o (record { names = closed (settled k w.names) a.id; pending = None }) fit answered refl (next-settled k w.names fit)
+      linked-finished w h enter a ask_id answer o (settled k w.names).table (record { names = closed (settled k w.names) a.id; pending = None }) fit answered refl (next-settled k w.names fit)
       (λ b. entered-files h.ledger (entered enter (entry_under ask_id o)) w.keys.keys.table.rows (settled k w.names).table (l.files k)) l
 
   written-keeps : (k : Bool) (edek : Option Edek) (result : Result (Unit {0}) NameRefusal) (changed : NameState) → answer ≡ Given edek → Finishes (settled k w.names) a edek result changed
@@ -283,7 +297,7 @@ module _ (w : WorldState) (h : Hidden) (ask_id : ℕ) (answer : KeyAnswer) (o : 
           → FinishKeeps w h ask_id o (unless_stopped c (settled k w.names) a edek).reply (record { names = (unless_stopped c (settled k w.names) a edek).state; pending = None })
       go (Some why) cause = settled-closed (enters ask_id (line.Refused why) (record { names = closed (settled k w.names) a.id; pending = None })) k
       go None free =
-          linked-finished w h true a ask_id answer o (record { names = finished (settled k w.names) a edek; pending = None }) fit answered refl
+          linked-finished w h true a ask_id answer o (finished (settled k w.names) a edek).table (record { names = finished (settled k w.names) a edek; pending = None }) fit answered refl
           (next-after (closed (settled k w.names) a.id) (finish_op a.id edek a.ask) (no-opening a.id edek a.ask) ∙ next-settled k w.names fit)
           (λ b. finish-files w h true k a ask_id answer o edek fit l answered said free (λ e. refl)) l
 
@@ -292,51 +306,51 @@ module _ (w : WorldState) (h : Hidden) (ask_id : ℕ) (answer : KeyAnswer) (o : 
       → FinishKeeps w h ask_id o (Err refusal.StoreFault) (record { names = closed (settled k w.names) a.id; pending = Some (finish_op a.id edek a.ask) })
   unwritten-keeps k edek said free =
       let enter : Bool = makes_entry ask_id (Some (finish_op a.id edek a.ask)) in
-      linked-finished w h enter a ask_id answer o (record { names = closed (settled k w.names) a.id; pending = Some (finish_op a.id edek a.ask) }) fit answered refl (next-settled k w.names fit)
+      linked-finished w h enter a ask_id answer o (after_table (settled k w.names).table (finish_op a.id edek a.ask)) (record { names = closed (settled k w.names) a.id; pending = Some (finish_op a.id edek a.ask) }) fit answered refl (next-settled k w.names fit)
       (with-pending (with_entry enter ask_id o h.ledger) w.keys.keys.table.rows (settled k w.names).table (finish_op a.id edek a.ask)
       (entered-files h.ledger (entered enter (entry_under ask_id o)) w.keys.keys.table.rows (settled k w.names).table (l.files k))
       (finish-files w h enter k a ask_id answer o edek fit l answered said free (λ e. e))) l
 
   open-keeps : (gave : KeyAnswer) (fault : Type 0) (result : Result (Unit {0}) NameRefusal) (ops : List EditOp) (names : NameService) → answer ≡ gave
       → FinishServesOpen w.names a gave fault result ops names → FinishKeeps w h ask_id o result names
-  open-keeps (Refused why) fault result ops names said e = ends-keeps w h ask_id o (Err (refusal.KeyRefused why)) result (closed_service w.names a) names e.reply_is e.left_is (closed-keeps false)
+  open-keeps (Refused why) fault result ops names said e = ends-keeps w h ask_id o (Err (refusal.KeyRefused why)) result (closed_service w.names a) names e.reply_is e.left_is (closed-keeps false (settled true w.names).table)
   open-keeps (Given edek) fault result ops names said (inl u) =
-      ends-keeps w h ask_id o (Err refusal.StoreFault) result (closed_service w.names a) names u.ends.reply_is u.ends.left_is (closed-keeps (makes_entry ask_id w.names.pending))
+      ends-keeps w h ask_id o (Err refusal.StoreFault) result (closed_service w.names a) names u.ends.reply_is u.ends.left_is (closed-keeps (makes_entry ask_id w.names.pending) (settled true w.names).table)
   open-keeps (Given edek) fault result ops names said (inr (k, inl d)) =
       ends-keeps w h ask_id o result result (record { names = d.changed; pending = None }) names refl d.left (written-keeps k edek result d.changed said d.finishes)
   open-keeps (Given edek) fault result ops names said (inr (k, inr u)) =
       ends-keeps w h ask_id o (Err refusal.StoreFault) result (record { names = closed (settled k w.names) a.id; pending = Some (finish_op a.id edek a.ask) }) names u.reply_is u.left
       (unwritten-keeps k edek said u.free)
 
-finish-keeps : (w : WorldState) (words : ℕ → ℕ) (h : Hidden) (number drawn : ℕ) (ask_id : ℕ) (answer : KeyAnswer) (fault : Type 0) (result : Result (Unit {0}) NameRefusal) (ops : List EditOp) (names : NameService) → IsNames w.names → LinkedWorld w h
+finish-keeps : (w : WorldState) (words : ℕ → ℕ) (h : Hidden) (number drawn : ℕ) (ask_id : ℕ) (answer : KeyAnswer) (fault : Type 0) (result : Result (Unit {0}) NameRefusal) (ops : List EditOp) (names : NameService) → IsNames w.names → LinkedDraws w h
     → numbered w.kept.replies number ≡ Some (ToAsk ask_id answer) → FinishServes w.names ask_id answer fault result ops names
-    → LinkedWorld (record w { names = names }) (hidden_after w words (event.Finish number) (finish_line result) drawn (record w { names = names }) h)
+    → LinkedDraws (record w { names = names }) (hidden_after w words (event.Finish number) (finish_line result) drawn (record w { names = names }) h)
 finish-keeps w words h number drawn ask_id answer fault result ops names fit l at serves =
     let drew = numbered-beside w.kept.replies h.replied number (ToAsk ask_id answer) l.replies.as_many at in
-    subst (λ (ledger : Ledger). LinkedWorld (record w { names = names }) (record (moved_on w.keys.keys.ready.queues w.keys.keys.ready.queues drawn h) { ledger = ledger })) (sym (finish-ledger w words h number drawn ask_id answer drew.0 result names at drew.1))
-    (linked-still (record w { names = names }) (entered_in (enters ask_id (finish_line result) names) ask_id drew.0 h) drawn (go drew.0 drew.1 (open_ask w.names.names.asks ask_id) refl serves))
+    subst (LinkedDraws (record w { names = names })) (sym (finish-hidden w words h number drawn ask_id answer drew.0 result names at drew.1))
+    (linked-still (record w { names = names }) (entered_in (enters ask_id (finish_line result) names) ask_id drew.0 (settled true names).table h) drawn (go drew.0 drew.1 (open_ask w.names.names.asks ask_id) refl serves))
   where
     go : (o : Option Draw) → numbered h.replied number ≡ Some o → (q : Option OpenAsk) → open_ask w.names.names.asks ask_id ≡ q → FinishServesAt w.names q answer fault result ops names → FinishKeeps w h ask_id o result names
     go o drew None gone e = ends-keeps w h ask_id o (Err (ask_gone w.names.names)) result w.names names e.reply_is e.left_is (linked-unentered w h l)
     go o drew (Some a) found s = open-keeps w h ask_id answer o a fit l (record { opened = found; at = (number, at, drew) }) answer fault result ops names refl s
 
-finish-reply-keeps : (w : WorldState) (words : ℕ → ℕ) (h : Hidden) (number : ℕ) (fault : Type 0) (outcome : Line) (drawn : ℕ) (logged : Acknowledged) (w' : WorldState) (o : Option KeptReply) → IsNames w.names → LinkedWorld w h
-    → numbered w.kept.replies number ≡ o → FinishReply w o fault outcome drawn logged w' → LinkedWorld w' (hidden_after w words (event.Finish number) outcome drawn w' h)
+finish-reply-keeps : (w : WorldState) (words : ℕ → ℕ) (h : Hidden) (number : ℕ) (fault : Type 0) (outcome : Line) (drawn : ℕ) (logged : Acknowledged) (w' : WorldState) (o : Option KeptReply) → IsNames w.names → LinkedDraws w h
+    → numbered w.kept.replies number ≡ o → FinishReply w o fault outcome drawn logged w' → LinkedDraws w' (hidden_after w words (event.Finish number) outcome drawn w' h)
 finish-reply-keeps w words h number fault outcome drawn logged w' None fit l at u =
-    subst (λ (t : Line). LinkedWorld w' (hidden_after w words (event.Finish number) t drawn w' h)) (sym u.reply_is)
-    (subst (λ (v : WorldState). LinkedWorld v (record (moved_on w.keys.keys.ready.queues v.keys.keys.ready.queues drawn h) { ledger = h.ledger ++ [] })) (sym u.same) (linked-still w (record h { ledger = h.ledger ++ [] }) drawn (linked-unentered w h l)))
-finish-reply-keeps w words h number fault outcome drawn logged w' (Some (ToBatch batch answer)) fit l at u =
-    subst (λ (t : Line). LinkedWorld w' (hidden_after w words (event.Finish number) t drawn w' h)) (sym u.reply_is)
-    (subst (λ (v : WorldState). LinkedWorld v (record (moved_on w.keys.keys.ready.queues v.keys.keys.ready.queues drawn h) { ledger = h.ledger ++ [] })) (sym u.same) (linked-still w (record h { ledger = h.ledger ++ [] }) drawn (linked-unentered w h l)))
+    subst (λ (t : Line). LinkedDraws w' (hidden_after w words (event.Finish number) t drawn w' h)) (sym u.reply_is)
+    (subst (λ (v : WorldState). LinkedDraws v (moved_on w.keys.keys.ready.queues v.keys.keys.ready.queues drawn (unentered h))) (sym u.same) (linked-still w (unentered h) drawn (linked-unentered w h l)))
+finish-reply-keeps w words h number fault outcome drawn logged w' (Some (ToBatch reply)) fit l at u =
+    subst (λ (t : Line). LinkedDraws w' (hidden_after w words (event.Finish number) t drawn w' h)) (sym u.reply_is)
+    (subst (λ (v : WorldState). LinkedDraws v (moved_on w.keys.keys.ready.queues v.keys.keys.ready.queues drawn (unentered h))) (sym u.same) (linked-still w (unentered h) drawn (linked-unentered w h l)))
 finish-reply-keeps w words h number fault outcome drawn logged w' (Some (ToAsk ask_id answer)) fit l at f =
-    subst (λ (t : Line). LinkedWorld w' (hidden_after w words (event.Finish number) t drawn w' h)) (sym f.reply_is)
-    (subst (λ (v : WorldState). LinkedWorld v (hidden_after w words (event.Finish number) (finish_line f.result) drawn v h)) (sym f.left)
+    subst (λ (t : Line). LinkedDraws w' (hidden_after w words (event.Finish number) t drawn w' h)) (sym f.reply_is)
+    (subst (λ (v : WorldState). LinkedDraws v (hidden_after w words (event.Finish number) (finish_line f.result) drawn v h)) (sym f.left)
     (finish-keeps w words h number drawn ask_id answer fault f.result f.ops f.names fit l at f.finishes))
 
 -- each event
 
 pub keeps-linked : (lines : List PropLine) (w : WorldState) (words : ℕ → ℕ) (now : ℕ) (e : Event) (fault tells : Type 0) (outcome : Line) (drawn : ℕ) (logged : Acknowledged) (w' : WorldState) (h : Hidden) → KnowsWorld e tells → ServicesFit w
-    → Step lines w words now e fault tells outcome drawn logged w' → LinkedWorld w h → LinkedWorld w' (hidden_after w words e outcome drawn w' h)
+    → Step lines w words now e fault tells outcome drawn logged w' → LinkedDraws w h → LinkedDraws w' (hidden_after w words e outcome drawn w' h)
 keeps-linked lines w words now (event.Kms user c) fault tells outcome drawn logged w' h knows fit s l =
     subst (StillLinked w h drawn) (sym s.left) (linked-keys w h s.keys drawn (user-state lines user w.keys words now c fault s.reply drawn s.commands s.keys fit.keys s.serves) l)
 keeps-linked lines w words now event.Ticket fault tells outcome drawn logged w' h knows fit s l = ticket-keeps w h outcome drawn logged w' fit.keys l s
@@ -365,20 +379,22 @@ keeps-linked lines w words now (event.Draw number) fault tells outcome drawn log
 keeps-linked lines w words now (event.Finish number) fault tells outcome drawn logged w' h knows fit s l = finish-reply-keeps w words h number fault outcome drawn logged w' (numbered w.kept.replies number) fit.names l refl s
 keeps-linked lines w words now (event.Walk p) fault tells outcome drawn logged w' h knows fit s l = walk-at-keeps w h (read_path p) fault outcome drawn logged w' fit.names l s
 keeps-linked lines w words now (event.Serve number) fault tells outcome drawn logged w' h knows fit s l = (serve-keeps lines w h words now number fault outcome drawn logged w' (numbered w.kept.batches number) fit l refl s).0
+keeps-linked lines w words now (event.Deliver number) fault tells outcome drawn logged w' h knows fit s l = deliver-keeps w h number (numbered w.kept.replies number) fault outcome drawn logged w' fit.names l refl s
+keeps-linked lines w words now (event.GiveUp number) fault tells outcome drawn logged w' h knows fit s l = give-up-keeps w h (numbered w.kept.batches number) fault outcome drawn logged w' fit.names l s
 
 -- draws that were apart
 
-apart-finish : (before after : List Queue) (h : Hidden) (drawn : ℕ) (enter : Bool) (kept : Option KeptReply) (o : Option (Option Draw)) → ((x : Option Draw) → o ≡ Some x → In x h.replied) → WordsApart h
-    → WordsApart (record (moved_on before after drawn h) { ledger = h.ledger ++ entered enter (entry_of kept o) })
-apart-finish before after h drawn enter kept o is_kept f = apart-fewer h then was (omega arith) f
+apart-finish : (before after : List Queue) (h : Hidden) (drawn : ℕ) (enter : Bool) (kept : Option KeptReply) (o : Option (Option Draw)) (starts : Starts) → ((x : Option Draw) → o ≡ Some x → In x h.replied) → WordsApart h
+    → WordsApart (record (moved_on before after drawn h) { ledger = h.ledger ++ entered enter (entry_of kept o); starts = starts })
+apart-finish before after h drawn enter kept o starts is_kept f = apart-fewer h then was (omega arith) f
   where
     then : Hidden
-    then = record (moved_on before after drawn h) { ledger = h.ledger ++ entered enter (entry_of kept o) }
+    then = record (moved_on before after drawn h) { ledger = h.ledger ++ entered enter (entry_of kept o); starts = starts }
 
     drew : (d : Draw) (id : ℕ) (b : Bool) (k : Option KeptReply) (q : Option (Option Draw)) → ((x : Option Draw) → q ≡ Some x → In x h.replied) → In (id, d) (entered b (entry_of k q)) → In (Some d) h.replied
     drew d id false k q has i = absurd i
     drew d id true None q has i = absurd i
-    drew d id true (Some (ToBatch batch answer)) q has i = absurd i
+    drew d id true (Some (ToBatch reply)) q has i = absurd i
     drew d id true (Some (ToAsk ask_id answer)) None has i = absurd i
     drew d id true (Some (ToAsk ask_id answer)) (Some None) has i = absurd i
     drew d id true (Some (ToAsk ask_id answer)) (Some (Some g)) has (inl is) = subst (λ (x : Draw). In (Some x) h.replied) (sym (ap (λ (e : ℕ × Draw). e.1) is)) (has (Some g) refl)
@@ -389,7 +405,7 @@ apart-finish before after h drawn enter kept o is_kept f = apart-fewer h then wa
     was d (inr i) = drawn-moved before after drawn h d (inr i)
 
 words-stay : (lines : List PropLine) (w : WorldState) (words : ℕ → ℕ) (now : ℕ) (e : Event) (fault tells : Type 0) (outcome : Line) (drawn : ℕ) (logged : Acknowledged) (w' : WorldState) (h : Hidden) → ServicesFit w
-    → Step lines w words now e fault tells outcome drawn logged w' → LinkedWorld w h → WordsApart h → WordsApart (hidden_after w words e outcome drawn w' h)
+    → Step lines w words now e fault tells outcome drawn logged w' → LinkedDraws w h → WordsApart h → WordsApart (hidden_after w words e outcome drawn w' h)
 words-stay lines w words now e fault tells outcome drawn logged w' h fit s l f = go e s
   where
     before : List Queue
@@ -424,9 +440,11 @@ words-stay lines w words now e fault tells outcome drawn logged w' h fit s l f =
     go (event.AskSubmit user p) s = moved
     go (event.Draw number) s = (draw-keeps lines w h words now number fault outcome drawn logged w' (numbered w.kept.notes number) fit l refl s).1 f
     go (event.Finish number) s =
-        apart-finish before after h drawn (enters (id_of_reply (numbered w.kept.replies number)) outcome w'.names) (numbered w.kept.replies number) (numbered h.replied number) (λ x at. numbered-in h.replied number x at) f
+        apart-finish before after h drawn (enters (id_of_reply (numbered w.kept.replies number)) outcome w'.names) (numbered w.kept.replies number) (numbered h.replied number) _ (λ x at. numbered-in h.replied number x at) f
     go (event.Walk p) s = moved
     go (event.Serve number) s = (serve-keeps lines w h words now number fault outcome drawn logged w' (numbered w.kept.batches number) fit l refl s).1 f
+    go (event.Deliver number) s = moved
+    go (event.GiveUp number) s = moved
 
 -- and the draws of two files are apart, if each file has a draw of its own
 pub files-apart : (h : Hidden) (replies : List KeptReply) (asks : List OpenAsk) (next : ℕ) → LedgerFits h.ledger replies h.replied asks next → WordsApart h → DrawsApart h
@@ -440,20 +458,20 @@ files-apart h replies asks next fits f = record {
   };
 }
 
-pub world-apart : (w : WorldState) (h : Hidden) → LinkedWorld w h → WordsApart h → DrawsApart h
+pub world-apart : (w : WorldState) (h : Hidden) → LinkedDraws w h → WordsApart h → DrawsApart h
 world-apart w h l f = files-apart h w.kept.replies w.names.names.asks (next_id w.names.names) l.ledger f
 
 pub draws-stay : (lines : List PropLine) (w : WorldState) (words : ℕ → ℕ) (now : ℕ) (e : Event) (fault tells : Type 0) (outcome : Line) (drawn : ℕ) (logged : Acknowledged) (w' : WorldState) (h : Hidden) → KnowsWorld e tells → ServicesFit w
-    → Step lines w words now e fault tells outcome drawn logged w' → LinkedWorld w h → WordsApart h → DrawsApart (hidden_after w words e outcome drawn w' h)
+    → Step lines w words now e fault tells outcome drawn logged w' → LinkedDraws w h → WordsApart h → DrawsApart (hidden_after w words e outcome drawn w' h)
 draws-stay lines w words now e fault tells outcome drawn logged w' h knows fit s l f =
     world-apart w' (hidden_after w words e outcome drawn w' h) (keeps-linked lines w words now e fault tells outcome drawn logged w' h knows fit s l)
     (words-stay lines w words now e fault tells outcome drawn logged w' h fit s l f)
 
 -- the promise
 
-files-open : (ledger : Ledger) (replied : List (Option Draw)) (keys : List KeyRow) (names : NameTable) (replies : List KeptReply) (asks : List OpenAsk) (next : ℕ) → NamesOnce keys → FilesLinked ledger keys names
-    → LedgerFits ledger replies replied asks next → FilesOpen ledger keys names
-files-open ledger replied keys names replies asks next once f fits =
+files-open : (past : Past) (replied : List (Option Draw)) (keys : List KeyRow) (names : NameTable) (walks : List WalkState) (replies : List KeptReply) (asks : List OpenAsk) (next : ℕ) → NamesOnce keys → FilesLinked past.ledger keys names
+    → LedgerFits past.ledger replies replied asks next → CoveredBy past keys names walks → FilesOpen past keys names
+files-open past replied keys names walks replies asks next once f fits covered =
     record {
       open_up = λ row e i is.
           let d = f.files row e i is in
@@ -465,15 +483,18 @@ files-open ledger replied keys names replies asks next once f fits =
           };
       one_draw = fits.one_draw;
       of_zone = f.zones;
+      completed = covered-completed past keys names walks covered;
     }
 
 pub linked-promise : (w : WorldState) (h : Hidden) → IsService w.keys → LinkedWorld w h → ZoneFilesOpen w h
 linked-promise w h fit l kept_keys kept_names =
     let later = later-settled kept_keys w.keys fit in
-    files-open h.ledger h.replied (settled_keys kept_keys w.keys).table.rows (settled kept_names w.names).table w.kept.replies w.names.names.asks (next_id w.names.names)
+    files-open (past_of h) h.replied (settled_keys kept_keys w.keys).table.rows (settled kept_names w.names).table (settled kept_names w.names).walks w.kept.replies w.names.names.asks (next_id w.names.names)
     (names-with kept_keys w.keys.pending w.keys.keys.table fit.table (may-wait w.keys.pending w.keys.keys fit.waits))
-    (files-later h (IsOldBirth w.keys.keys.table) w.keys.keys.table.rows (settled_keys kept_keys w.keys).table.rows (settled kept_names w.names).table l.draws later.rows (l.files kept_names))
-    l.ledger
+    (files-later h (IsOldBirth w.keys.keys.table) w.keys.keys.table.rows (settled_keys kept_keys w.keys).table.rows (settled kept_names w.names).table l.draws.draws later.rows (l.draws.files kept_names))
+    l.draws.ledger
+    (covered-keys (past_of h) w.keys.keys.table.rows (settled_keys kept_keys w.keys).table.rows (settled kept_names w.names).table (settled kept_names w.names).walks
+    (λ id d i. later.rows d.birth (l.draws.draws.born d (inl (id, i)))) (l.covered kept_names))
 
-pub tables-open : (past : Past) (keys : Table) (names : NameTable) → NamesOnce keys.rows → LinkedTables past keys names → FilesOpen past.ledger keys.rows names
-tables-open past keys names once l = files-open past.ledger [] keys.rows names [] [] ((names.opening + 1) * 2 ^ 32) once l.files l.fits
+pub tables-open : (past : Past) (keys : Table) (names : NameTable) → NamesOnce keys.rows → LinkedTables past keys names → FilesOpen past keys.rows names
+tables-open past keys names once l = files-open past [] keys.rows names [] [] [] ((names.opening + 1) * 2 ^ 32) once l.files l.fits l.covered

@@ -29,20 +29,33 @@ use Rattle.name_store.proofs.Layers.{not_damaged as names_not_damaged}
 at-rest : (file : ℕ) (bytes : List ℕ) → length bytes ≤ 9 → IsAtRest file [] bytes
 at-rest file bytes short = ap (λ (b : Bool). if b then Found [] 0 else (if starts_with (magic file) bytes then frames_at (length bytes) 8 (drop 8 bytes) else NoLog 0)) (le-leb (length bytes) 9 short)
 
-pub none-drawn : (d : Draw) → IsDrawn (drawn_before (record { ledger = []; place = 0 })) d → ⊥
+pub none-drawn : (d : Draw) → IsDrawn (drawn_before (record { ledger = []; place = 0; starts = [] })) d → ⊥
 none-drawn d (inl (id, none)) = absurd none
 none-drawn d (inr (inl none)) = absurd none
 none-drawn d (inr (inr (birth, none))) = absurd none
 
-nothing-linked : LinkedTables (record { ledger = []; place = 0 }) no_keys nothing_logged.table
+nothing-linked : LinkedTables (record { ledger = []; place = 0; starts = [] }) no_keys nothing_logged.table
 nothing-linked = record {
   files = record {
     files = λ row e i h. elim i [ inl is ↦ let none : None ≡ Some e = ap (λ (r : Row). edek_of r.kind) (sym is) ∙ h in absurd cc | inr none ↦ absurd none ];
     zones = λ x i. elim i [ inl is ↦ subst (λ (y : Entry). FitsZone (key_of_zone root_only y.path) y.row.kind) (sym is) tt | inr none ↦ absurd none ];
     statuses = λ s i. absurd i;
+    distinct = tt;
   };
   draws = record { below = λ d i. absurd (none-drawn d i); one_place = λ d f i j. absurd (none-drawn d i); born = λ d i. absurd (none-drawn d i); recent = λ d i. absurd (none-drawn d i) };
   fits = record { one_draw = λ id d f i j. absurd i; one_file = λ i j d p q. absurd p; below = λ id d i. absurd i; recent = λ id d i. absurd i; not_open = λ a d i j. absurd i; its_ask = λ id r d i at. absurd i };
+  versions = λ id d row i j born. absurd i;
+  covered = record {
+    going_on = λ s x i. absurd i;
+    completed = λ s x i. absurd i;
+    still_sent = λ s x b y i. absurd i;
+    walks_fit = λ s i. absurd i;
+    in_zone = λ s x i. absurd i;
+    uncancelled = λ s i. absurd i;
+    sessions = λ session ids i. absurd i;
+    files = λ session ids id i. absurd i;
+    begun = λ w i. absurd i;
+  };
 }
 
 pub empty-sound : EmptyFilesAreSound

@@ -1,6 +1,6 @@
 -- Members of lists, and values kept under numbers.
-use Rattle.std.proofs.Common.{◌≡◌, ◌⊎◌, inl, inr, ℕ, zero, suc, Bool, true, false, cond, List, [], ◌∷◌, ◌++◌, length, map, find, Some, slice_get, refl, sym, ap, subst, arith}
-use Rattle.std.specs.List.{AllByRecursion}
+use Rattle.std.proofs.Common.{◌≡◌, ◌⊎◌, inl, inr, ℕ, zero, suc, Bool, true, false, cond, List, [], ◌∷◌, ◌++◌, length, map, take, drop, filter, find, Option, None, Some, slice_get, refl, sym, ap, ◌∙◌, subst, arith}
+use Rattle.std.specs.List.{AllByRecursion, cons_option, filter_map}
 use Rattle.world_run.specs.Promise.{In}
 use Rattle.world_run.specs.World.{numbered}
 
@@ -85,3 +85,63 @@ got-beside (z ∷ xs) (y ∷ ys) (suc n) x same h = got-beside xs ys n x (omega 
 pub numbered-beside : {X Y : Type 0} (xs : List X) (ys : List Y) (n : ℕ) (x : X) → length ys ≡ length xs → numbered xs n ≡ Some x → (y : Y) × (numbered ys n ≡ Some y)
 numbered-beside xs ys zero x same h = absurd cc
 numbered-beside xs ys (suc n) x same h = got-beside xs ys n x same h
+
+-- members of parts of lists
+
+pub map-in : {X Y : Type 0} (f : X → Y) (x : X) (xs : List X) → In x xs → In (f x) (map f xs)
+map-in f x [] i = absurd i
+map-in f x (y ∷ xs) (inl is) = inl (ap f is)
+map-in f x (y ∷ xs) (inr i) = inr (map-in f x xs i)
+
+pub in-filter : {X : Type 0} (p : X → Bool) (x : X) (xs : List X) → In x (filter p xs) → In x xs × (p x ≡ true)
+in-filter p x [] i = absurd i
+in-filter {X = X} p x (y ∷ xs) i = go (p y) refl i (in-filter p x xs)
+  where
+    go : (b : Bool) → p y ≡ b → In x (cond b (y ∷ filter p xs) (filter p xs)) → (In x (filter p xs) → In x xs × (p x ≡ true)) → In x (y ∷ xs) × (p x ≡ true)
+    go true h (inl is) ih = (inl is, ap p is ∙ h)
+    go true h (inr j) ih = let r = ih j in (inr r.0, r.1)
+    go false h j ih = let r = ih j in (inr r.0, r.1)
+
+pub filter-in : {X : Type 0} (p : X → Bool) (x : X) (xs : List X) → In x xs → p x ≡ true → In x (filter p xs)
+filter-in p x [] i h = absurd i
+filter-in {X = X} p x (y ∷ xs) (inl is) h = subst (λ (b : Bool). In x (cond b (y ∷ filter p xs) (filter p xs))) (sym (sym (ap p is) ∙ h)) (inl is)
+filter-in {X = X} p x (y ∷ xs) (inr i) h = go (p y) (filter-in p x xs i h)
+  where
+    go : (b : Bool) → In x (filter p xs) → In x (cond b (y ∷ filter p xs) (filter p xs))
+    go true j = inr j
+    go false j = j
+
+pub in-filter-map : {X Y : Type 0} (f : X → Option Y) (y : Y) (xs : List X) → In y (filter_map f xs) → (x : X) × In x xs × (f x ≡ Some y)
+in-filter-map f y [] i = absurd i
+in-filter-map {X = X} {Y = Y} f y (x ∷ xs) i = go (f x) refl i (in-filter-map f y xs)
+  where
+    go : (o : Option Y) → f x ≡ o → In y (cons_option o (filter_map f xs)) → (In y (filter_map f xs) → (z : X) × In z xs × (f z ≡ Some y)) → (z : X) × In z (x ∷ xs) × (f z ≡ Some y)
+    go None is i ih = let r = ih i in (r.0, inr r.1, r.2)
+    go (Some z) is (inl same) ih = (x, inl refl, is ∙ ap (λ (v : Y). Some v) (sym same))
+    go (Some z) is (inr i) ih = let r = ih i in (r.0, inr r.1, r.2)
+
+pub filter-map-in : {X Y : Type 0} (f : X → Option Y) (x : X) (y : Y) (xs : List X) → In x xs → f x ≡ Some y → In y (filter_map f xs)
+filter-map-in f x y [] i gives = absurd i
+filter-map-in {X = X} {Y = Y} f x y (z ∷ xs) (inl is) gives = subst (λ (o : Option Y). In y (cons_option o (filter_map f xs))) (sym (sym (ap f is) ∙ gives)) (inl refl)
+filter-map-in {X = X} {Y = Y} f x y (z ∷ xs) (inr i) gives = go (f z) (filter-map-in f x y xs i gives)
+  where
+    go : (o : Option Y) → In y (filter_map f xs) → In y (cons_option o (filter_map f xs))
+    go None j = j
+    go (Some v) j = inr j
+
+pub in-take : {X : Type 0} (n : ℕ) (x : X) (xs : List X) → In x (take n xs) → In x xs
+in-take zero x xs i = absurd i
+in-take (suc n) x [] i = absurd i
+in-take (suc n) x (y ∷ ys) (inl is) = inl is
+in-take (suc n) x (y ∷ ys) (inr i) = inr (in-take n x ys i)
+
+pub take-or-drop : {X : Type 0} (n : ℕ) (x : X) (xs : List X) → In x xs → In x (take n xs) ⊎ In x (drop n xs)
+take-or-drop zero x xs i = inr i
+take-or-drop (suc n) x [] i = absurd i
+take-or-drop (suc n) x (y ∷ ys) (inl is) = inl (inl is)
+take-or-drop (suc n) x (y ∷ ys) (inr i) = elim (take-or-drop n x ys i) [ inl t ↦ inl (inr t) | inr d ↦ inr d ]
+
+-- what is true of each member is true of each element
+pub in-each : {X : Type 0} (P : X → Type 0) (xs : List X) → ((x : X) → In x xs → P x) → AllByRecursion P xs
+in-each P [] each = tt
+in-each P (x ∷ xs) each = (each x (inl refl), in-each P xs (λ y i. each y (inr i)))

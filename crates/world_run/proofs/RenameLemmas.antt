@@ -31,7 +31,7 @@ pub in-renamed : (x : Entry) (p q : List (List ℕ)) (rows : List Entry) → In 
 in-renamed x p q rows i = in-map (moved p q) x rows (in-order x (map (moved p q) rows) i)
 
 -- the zone of a path is a member
-zone-member : (rows : List Entry) (p : List (List ℕ)) (z : Entry) → zone_of rows p ≡ Some z → In z rows
+pub zone-member : (rows : List Entry) (p : List (List ℕ)) (z : Entry) → zone_of rows p ≡ Some z → In z rows
 zone-member [] p z h = absurd cc
 zone-member (e ∷ es) p z h = go (is_zone_over p e) (zone_of es p) h (zone-member es p z)
   where
@@ -48,7 +48,7 @@ abbrev key_of : Option Entry → Option KeyName
 key_of o = option_and_then (λ (z : Entry). mark_of z.row.kind) o
 
 module _ (rows : List Entry) (p q : List (List ℕ)) (good : InPlace rows) (can : CanMove rows p q) where
-  is-placed : IsPlaced rows
+  pub is-placed : IsPlaced rows
   is-placed = record {
     rising = good.rising;
     once = All-from_recursion (λ (e : Entry). entry_of rows e.row.id ≡ Some e) rows (each-of (λ (e : Entry). entry_of rows e.row.id ≡ Some e) rows good.once);

@@ -22,7 +22,7 @@ use Rattle.hk_events.specs.declared.event.Line.TheVariants as line
 use Rattle.world_run.specs.Acknowledged.{Acknowledged, HoldsLogs, LeavesBoth, Survives, of_keys, of_names}
 use Rattle.world_run.specs.Does.{Happens}
 use Rattle.world_run.specs.Keeps.{Fails, LeftByRestart, SoundFrom, SurvivesThrough}
-use Rattle.world_run.specs.Ledger.{Hidden}
+use Rattle.world_run.specs.Ledger.{Hidden, past_of}
 use Rattle.world_run.specs.Linked.{LinkedWorld, ServicesFit}
 use Rattle.world_run.specs.Step.{Recovers, RecoversNames}
 use Rattle.world_run.specs.World.{RunningWorld, world_of}
@@ -143,7 +143,7 @@ keys-fail old new w w' words fault m n same keys_file names_file fit held o = re
     left : Tells old → LeavesLogs old new w AKeyOpening NothingMore
     left tells = on-keys-leaves old new w AKeyOpening NothingMore names_file (keys-left-by-restart old new w keys_file fit o.any_moment tells)
 
-    files : (h : Hidden) → LinkedWorld (world_of w) h → LinkedFiles (world_of w) h.ledger h.place
+    files : (h : Hidden) → LinkedWorld (world_of w) h → LinkedFiles (world_of w) (past_of h)
     files = world-files (world_of w)
 
     survives : SurvivesThrough old new w (LeftByRestart (world_of w) event.RestartKms)
@@ -243,7 +243,7 @@ names-fail old new w w' words fault m n same keys_file names_file fit held o = r
     left : Tells old → LeavesLogs old new w NoCommand AnOpening
     left tells = on-names-leaves old new w NoCommand AnOpening keys_file fit (names-left-by-restart old new w names_file o.any_moment tells)
 
-    files : (h : Hidden) → LinkedWorld (world_of w) h → LinkedFiles (world_of w) h.ledger h.place
+    files : (h : Hidden) → LinkedWorld (world_of w) h → LinkedFiles (world_of w) (past_of h)
     files = world-files (world_of w)
 
     survives : SurvivesThrough old new w (LeftByRestart (world_of w) event.RestartName)

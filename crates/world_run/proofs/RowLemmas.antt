@@ -54,7 +54,7 @@ in-put x e (y ∷ ys) p = go (is_before e.path y.path) p (in-put x e ys)
     go false (inr q) ih = elim (ih q) [ inl r ↦ inl r | inr r ↦ inr (inr r) ]
 
 -- a row without a mark is no zone
-zone-put : (e : Entry) (rows : List Entry) (p : List (List ℕ)) → is_marked e.row ≡ false → zone_of (put e rows) p ≡ zone_of rows p
+pub zone-put : (e : Entry) (rows : List Entry) (p : List (List ℕ)) → is_marked e.row ≡ false → zone_of (put e rows) p ≡ zone_of rows p
 zone-put e [] p h = ap (λ b. cond (b && is_prefix e.path p) (Some e) None) h
 zone-put e (y ∷ ys) p h = go (is_before e.path y.path) (zone-put e ys p h)
   where
@@ -92,7 +92,7 @@ row-at-member (e ∷ es) r x (inr i) =
     ap (λ b. cond b (Some e.row) (row_at es x.path)) (before-not-same e.path x.path (after-in e.path es r.0 x i)) ∙ row-at-member es r.1 x i
 
 -- a row at a path is of a member
-member-at : (rows : List Entry) (p : List (List ℕ)) (row : Row) → row_at rows p ≡ Some row → (x : Entry) × In x rows × (x.path ≡ p) × (x.row ≡ row)
+pub member-at : (rows : List Entry) (p : List (List ℕ)) (row : Row) → row_at rows p ≡ Some row → (x : Entry) × In x rows × (x.path ≡ p) × (x.row ≡ row)
 member-at [] p row h = absurd cc
 member-at (e ∷ es) p row h = go (same_path e.path p) refl (member-at es p row) h
   where
@@ -198,7 +198,7 @@ both true h k = absurd cc
 both false h k = absurd cc
 
 -- a member with the directory's id has its row, which is a directory without a mark
-dir-row : (rows : List Entry) (p : List (List ℕ)) (dir : ℕ) → InPlace rows → Markable rows p dir → (x : Entry) → In x rows → x.row.id ≡ dir → (is_marked x.row ≡ false) × (x.path ≡ p)
+pub dir-row : (rows : List Entry) (p : List (List ℕ)) (dir : ℕ) → InPlace rows → Markable rows p dir → (x : Entry) → In x rows → x.row.id ≡ dir → (is_marked x.row ≡ false) × (x.path ≡ p)
 dir-row rows p dir good m x i same =
     let y = member-at rows p m.row m.stands in
     let is : y.0 ≡ x = one-of-id rows good y.0 x y.1 i (ap (λ (r : Row). r.id) y.3 ∙ m.of_id ∙ sym same) in
@@ -212,7 +212,7 @@ dir-row rows p dir good m x i same =
     unmarked false b h k = refl
 
 -- a file does not lie below it
-beside : (rows : List Entry) (p : List (List ℕ)) (dir : ℕ) → InPlace rows → Markable rows p dir → (x : Entry) → In x rows → is_dir x.row.kind ≡ false → is_prefix p x.path ≡ false
+pub beside : (rows : List Entry) (p : List (List ℕ)) (dir : ℕ) → InPlace rows → Markable rows p dir → (x : Entry) → In x rows → is_dir x.row.kind ≡ false → is_prefix p x.path ≡ false
 beside rows p dir good m x i file = go (is_prefix p x.path) refl (same_path p x.path) refl
   where
     here : p ≡ x.path → ⊥
@@ -240,7 +240,7 @@ which dir key x = go (x.row.id == dir) refl
     go false h = inr refl
 
 -- the zone of a path outside the new one
-zone-beside : (dir : ℕ) (key : KeyName) (rows : List Entry) (p q : List (List ℕ)) → is_prefix p q ≡ false
+pub zone-beside : (dir : ℕ) (key : KeyName) (rows : List Entry) (p q : List (List ℕ)) → is_prefix p q ≡ false
     → ((x : Entry) → In x rows → x.row.id ≡ dir → (is_marked x.row ≡ false) × (x.path ≡ p)) → zone_of (set_kind rows dir (Dir (Some key))) q ≡ zone_of rows q
 zone-beside dir key [] p q out dirs = refl
 zone-beside dir key (y ∷ ys) p q out dirs = go (which dir key y) (zone-beside dir key ys p q out (λ x i. dirs x (inr i)))
@@ -301,7 +301,7 @@ in-removed p x (y ∷ ys) i = go (is_prefix p y.path) refl i (in-removed p x ys)
     go false is (inr i) ih = let q = ih i in (inr q.0, q.1)
 
 -- the zone of a path that stays stays
-zone-removed : (p q : List (List ℕ)) (rows : List Entry) → is_prefix p q ≡ false → zone_of (removed p rows) q ≡ zone_of rows q
+pub zone-removed : (p q : List (List ℕ)) (rows : List Entry) → is_prefix p q ≡ false → zone_of (removed p rows) q ≡ zone_of rows q
 zone-removed p q [] out = refl
 zone-removed p q (y ∷ ys) out = go (is_prefix p y.path) refl (zone-removed p q ys out)
   where

@@ -1,5 +1,5 @@
 -- The rows after an operation of the edit log, and the files linked there.
-use Rattle.std.proofs.Common.{◌≡◌, ◌⊎◌, inl, inr, ℕ, Bool, true, false, cond, not, ◌&&◌, List, [], ◌∷◌, ◌++◌, Option, Some, None, is_none, refl, sym, ap, subst, ◌∙◌, arith}
+use Rattle.std.proofs.Common.{◌≡◌, ◌⊎◌, inl, inr, ℕ, Bool, true, false, cond, not, ◌&&◌, List, [], ◌∷◌, ◌++◌, length, Option, Some, None, is_none, refl, sym, ap, subst, ◌∙◌, arith}
 use Rattle.std.specs.Prelude.{◌==◌, ⊤}
 use Rattle.std.specs.Option.{option_map}
 use Rattle.std.specs.Str.{bytes_eq}
@@ -16,27 +16,30 @@ use Rattle.inode_tree.specs.Moves.{CanMove, renamed}
 use Rattle.inode_tree.specs.Rows.{AllAfter, Entry, IsRising, entry_of, is_dir, is_dir_at, is_marked, move_allowed, put, removed, row_at, set_kind, with_kind}
 use Rattle.inode_tree.proofs.Puts.{rising-put}
 use Rattle.inode_tree.proofs.Seeks.{same-is}
+use Rattle.edit_ops.specs.declared.files.FileKey.{FileKey}
 use Rattle.edit_ops.specs.declared.ops.EditOp.{EditOp}
-use Rattle.edit_ops.specs.declared.ops.EditOp.TheVariants.{Opened, Mkdir, File, Remove, Rename, Zone, Allow, Disallow, Snap, Unsnap, Submit, Cancel, Complete}
+use Rattle.edit_ops.specs.declared.ops.EditOp.TheVariants.{Opened, Mkdir, File, Remove, Rename, Zone, Allow, Disallow, Snap, Unsnap, Submit, Update, Cancel, Complete}
 use Rattle.name_store.specs.Causes.{first_cause, id_at, id_of, row_causes, to_be_made, zone_causes}
-use Rattle.name_store.specs.Table.{NameTable, after_table, allows, fits_zone, kept_rows, key_of_zone, marked, new_directory, new_file}
+use Rattle.name_store.specs.Table.{NameTable, after_table, allows, fits_zone, kept_rows, key_of_zone, marked, new_directory, new_file, with_edeks}
 use Rattle.name_store.proofs.CauseLemmas.{MayUse, allowed, id-may-be-used, makeable, markable, none-of-both, renamable}
 use Rattle.snap_store.specs.Snapshots.{Snapshot, frozen, is_named, put_snapshot, without_snapshot}
 use Rattle.world_run.specs.Ledger.{Ledger}
 use Rattle.world_run.specs.Promise.{FitsZone, In, edek_of}
-use Rattle.world_run.specs.Linked.{FilesLinked, HasDraw, HasNoted, StatusesLinked}
+use Rattle.world_run.specs.Linked.{AreDistinct, FilesLinked, HasDraw, HasNoted, StatusesLinked}
+use Rattle.world_run.proofs.EdekRows.{AllReplace, all-replace, edeks-in-place, file_row, rows-edeks, zones-edeks}
 use Rattle.world_run.proofs.Members.{in-map, some-is}
 use Rattle.world_run.proofs.KeptRows.{kept-entries, kept-snapped, rows-filter, rows-from, rows-frozen, rows-moved, rows-put, snapped-filter, snapped-put}
 use Rattle.world_run.proofs.RenameLemmas.{in-renamed, key-renamed, renamed-in-place}
 use Rattle.world_run.proofs.RowLemmas.{InPlace, Markable, dir-some, in-mark, in-put, in-removed, key-mark, key-put, key-removed, which}
-use Rattle.world_run.proofs.StatusLemmas.{ended-linked, with-linked, without-linked}
+use Rattle.world_run.proofs.StatusLemmas.{IsNewSession, counted-linked, distinct-counted, distinct-ended, distinct-with, distinct-without, ended-linked, with-linked, without-linked}
+use Rattle.zone_table.specs.declared.statuses.StatusRow.{StatusRow}
 use Rattle.zone_table.specs.Statuses.{new_status}
 
 none-is : {X : Type 0} (o : Option X) → is_none o ≡ true → o ≡ None
 none-is None h = refl
 none-is (Some x) h = absurd cc
 
-not-both : {X : Type 0} (o : Option X) (x : X) → o ≡ None → o ≡ Some x → ⊥
+pub not-both : {X : Type 0} (o : Option X) (x : X) → o ≡ None → o ≡ Some x → ⊥
 not-both o x h k = absurd (go (sym h ∙ k))
   where
     go : None ≡ Some x → ⊥
@@ -62,7 +65,7 @@ entry-new e (y ∷ ys) h = go (is_before e.path y.path) (y.row.id == e.row.id) r
     go false false is h ih = ap (λ c. cond c (Some y) (entry_of (put e ys) e.row.id)) is ∙ ih h
 
 -- and a row of another id keeps it
-entry-old : (e : Entry) (rows : List Entry) (id : ℕ) → (e.row.id == id) ≡ false → entry_of (put e rows) id ≡ entry_of rows id
+pub entry-old : (e : Entry) (rows : List Entry) (id : ℕ) → (e.row.id == id) ≡ false → entry_of (put e rows) id ≡ entry_of rows id
 entry-old e [] id h = ap (λ b. cond b (Some e) None) h
 entry-old e (y ∷ ys) id h = go (is_before e.path y.path) (entry-old e ys id h)
   where
@@ -164,7 +167,7 @@ removed-in-place p rows good = record {
 -- a directory that is marked
 
 module _ (dir : ℕ) (key : KeyName) where
-  path-stays : (x : Entry) → (with_kind dir (Dir (Some key)) x).path ≡ x.path
+  pub path-stays : (x : Entry) → (with_kind dir (Dir (Some key)) x).path ≡ x.path
   path-stays x = elim (which dir key x) [ inl w ↦ ap (λ (y : Entry). y.path) w.1 | inr same ↦ ap (λ (y : Entry). y.path) same ]
 
   id-stays : (x : Entry) → (with_kind dir (Dir (Some key)) x).row.id ≡ x.row.id
@@ -181,7 +184,7 @@ module _ (dir : ℕ) (key : KeyName) where
   rising-mark [] r = tt
   rising-mark (y ∷ ys) r = (subst (λ (q : List (List ℕ)). AllAfter q (set_kind ys dir (Dir (Some key)))) (sym (path-stays y)) (after-mark y.path ys r.0), rising-mark ys r.1)
 
-  entry-mark : (rows : List Entry) (id : ℕ) → entry_of (set_kind rows dir (Dir (Some key))) id ≡ option_map (with_kind dir (Dir (Some key))) (entry_of rows id)
+  pub entry-mark : (rows : List Entry) (id : ℕ) → entry_of (set_kind rows dir (Dir (Some key))) id ≡ option_map (with_kind dir (Dir (Some key))) (entry_of rows id)
   entry-mark [] id = refl
   entry-mark (y ∷ ys) id =
       ap (λ (n : ℕ). cond (n == id) (Some (with_kind dir (Dir (Some key)) y)) (entry_of (set_kind ys dir (Dir (Some key))) id)) (id-stays y) ∙ go (y.row.id == id) (entry-mark ys id)
@@ -238,31 +241,41 @@ rows-after t (Disallow p) good may = good
 rows-after t (Snap p name) good may = good
 rows-after t (Unsnap p name) good may = good
 rows-after t (Submit session p noted) good may = good
+rows-after t (Update session failed mark files) good may =
+    edeks-in-place files t.rows (all-replace t session files (allowed t (Update session failed mark files) refl may).fits) good
 rows-after t (Cancel session) good may = good
 rows-after t (Complete session) good may = good
 
 -- the files linked there
 
--- a file that an operation makes has a draw, and a re-encryption that it begins
+-- a file that an operation makes has a draw, a re-encryption that it begins, and each file that gets another encrypted key
 abbrev pub OpHasDraw : Ledger → List KeyRow → EditOp → Type 0
 OpHasDraw ledger keys (File id p (Some e)) = HasDraw ledger keys id e
 OpHasDraw ledger keys (Submit session p noted) = HasNoted ledger session noted
+OpHasDraw ledger keys (Update session failed mark files) = (f : FileKey) → In f files → HasDraw ledger keys f.id f.edek
 OpHasDraw ledger keys _ = ⊤
 
--- its encrypted key is of its zone, a directory may become a zone, and what moves stays in its zone
+-- its encrypted key is of its zone, a directory may become a zone, what moves stays in its zone, and a file keeps its key's name
 abbrev pub OpFits : List Entry → EditOp → Type 0
 OpFits rows (File id p edek) = fits_zone (key_of_zone rows p) edek ≡ true
 OpFits rows (Rename p q) = CanMove rows p q × (move_allowed rows p q ≡ true)
 OpFits rows (Zone p key) = first_cause (zone_causes rows p) ≡ None
+OpFits rows (Update session failed mark files) = AllReplace rows files
 OpFits rows _ = ⊤
+
+-- a re-encryption that it begins has an id that none of these has
+abbrev pub OpIsNew : List StatusRow → EditOp → Type 0
+OpIsNew statuses (Submit session p noted) = IsNewSession session statuses
+OpIsNew statuses _ = ⊤
 
 -- the rows that are kept after it
 
--- the rows that an operation makes: its file's, or a directory's
+-- the rows that an operation makes: its file's, a directory's, or those of files with other encrypted keys
 abbrev IsMadeBy : EditOp → Row → Type 0
 IsMadeBy (Mkdir id p) row = is_dir row.kind ≡ true
 IsMadeBy (File id p edek) row = row ≡ (new_file id p edek).row
 IsMadeBy (Zone p key) row = is_dir row.kind ≡ true
+IsMadeBy (Update session failed mark files) row = (f : FileKey) × In f files × (row ≡ file_row f.id f.edek)
 IsMadeBy _ row = ⊥
 
 -- each was kept before, or the operation makes it
@@ -288,6 +301,8 @@ kept-after t (Unsnap p name) row i =
     inl (kept-snapped row t.rows t.snaps.taken (without_snapshot t.snaps.taken (id_at t.rows p) name)
     (λ snapped. inr (snapped-filter row (λ s. not (is_named (id_at t.rows p) name s)) t.snaps.taken snapped)) i)
 kept-after t (Submit session p noted) row i = inl i
+kept-after t (Update session failed mark files) row i =
+    kept-entries row t.rows (with_edeks files t.rows) t.snaps.taken ((f : FileKey) × In f files × (row ≡ file_row f.id f.edek)) (rows-edeks files t.rows row) i
 kept-after t (Cancel session) row i = inl i
 kept-after t (Complete session) row i = inl i
 
@@ -313,6 +328,8 @@ made-drawn ledger keys (Disallow p) row e has made h = absurd made
 made-drawn ledger keys (Snap p name) row e has made h = absurd made
 made-drawn ledger keys (Unsnap p name) row e has made h = absurd made
 made-drawn ledger keys (Submit session p noted) row e has made h = absurd made
+made-drawn ledger keys (Update session failed mark files) row e has (f, i, is) h =
+    subst (λ (r : Row). HasDraw ledger keys r.id e) (sym is) (subst (HasDraw ledger keys f.id) (some-is f.edek e (ap (λ (r : Row). edek_of r.kind) (sym is) ∙ h)) (has f i))
 made-drawn ledger keys (Cancel session) row e has made h = absurd made
 made-drawn ledger keys (Complete session) row e has made h = absurd made
 
@@ -347,7 +364,7 @@ of-zone (Some key) None h = absurd cc
 of-zone (Some key) (Some e) h = (bytes_eq-Decides e.version.key key).0 h
 
 -- a directory that may become a zone
-to-be-marked : (rows : List Entry) (p : List (List ℕ)) → first_cause (zone_causes rows p) ≡ None → Markable rows p (id_at rows p)
+pub to-be-marked : (rows : List Entry) (p : List (List ℕ)) → first_cause (zone_causes rows p) ≡ None → Markable rows p (id_at rows p)
 to-be-marked rows p free =
     let m = markable rows p free in
     let row = dir-some (row_at rows p) m.dir in
@@ -379,6 +396,7 @@ zones-after t (Disallow p) good fits zones = zones
 zones-after t (Snap p name) good fits zones = zones
 zones-after t (Unsnap p name) good fits zones = zones
 zones-after t (Submit session p noted) good fits zones = zones
+zones-after t (Update session failed mark files) good fits zones = zones-edeks files t.rows fits good zones
 zones-after t (Cancel session) good fits zones = zones
 zones-after t (Complete session) good fits zones = zones
 
@@ -395,17 +413,35 @@ statuses-after ledger keys t (Disallow p) has l = l
 statuses-after ledger keys t (Snap p name) has l = l
 statuses-after ledger keys t (Unsnap p name) has l = l
 statuses-after ledger keys t (Submit session p noted) has l = with-linked ledger (new_status (id_at t.rows p) session noted) t.statuses has l
+statuses-after ledger keys t (Update session failed mark files) has l = counted-linked session (length files) failed mark ledger t.statuses l
 statuses-after ledger keys t (Cancel session) has l = ended-linked ledger session true t.statuses l
 statuses-after ledger keys t (Complete session) has l = ended-linked ledger session false t.statuses l
 
-pub files-after : (ledger : Ledger) (keys : List KeyRow) (t : NameTable) (op : EditOp) → InPlace t.rows → OpFits t.rows op → OpHasDraw ledger keys op → FilesLinked ledger keys t
+distinct-after : (t : NameTable) (op : EditOp) → OpIsNew t.statuses op → AreDistinct t.statuses → AreDistinct (after_table t op).statuses
+distinct-after t (Opened opening) new d = d
+distinct-after t (Mkdir id p) new d = d
+distinct-after t (File id p edek) new d = d
+distinct-after t (Remove p) new d = distinct-without t.rows p t.statuses d
+distinct-after t (Rename p q) new d = d
+distinct-after t (Zone p key) new d = d
+distinct-after t (Allow p) new d = d
+distinct-after t (Disallow p) new d = d
+distinct-after t (Snap p name) new d = d
+distinct-after t (Unsnap p name) new d = d
+distinct-after t (Submit session p noted) new d = distinct-with (new_status (id_at t.rows p) session noted) t.statuses new d
+distinct-after t (Update session failed mark files) new d = distinct-counted session (length files) failed mark t.statuses d
+distinct-after t (Cancel session) new d = distinct-ended session true t.statuses d
+distinct-after t (Complete session) new d = distinct-ended session false t.statuses d
+
+pub files-after : (ledger : Ledger) (keys : List KeyRow) (t : NameTable) (op : EditOp) → InPlace t.rows → OpFits t.rows op → OpHasDraw ledger keys op → OpIsNew t.statuses op → FilesLinked ledger keys t
     → FilesLinked ledger keys (after_table t op)
-files-after ledger keys t op good fits has f = record {
+files-after ledger keys t op good fits has new f = record {
   files = λ row e i h. elim (kept-after t op row i) [ inl old ↦ f.files row e old h | inr made ↦ made-drawn ledger keys op row e has made h ];
   zones = zones-after t op good fits f.zones;
   statuses = statuses-after ledger keys t op has f.statuses;
+  distinct = distinct-after t op new f.distinct;
 }
 
 -- an opening keeps all rows
 pub files-opened : (ledger : Ledger) (keys : List KeyRow) (t : NameTable) (opening : ℕ) → FilesLinked ledger keys t → FilesLinked ledger keys (record t { opening = opening })
-files-opened ledger keys t opening f = record { files = f.files; zones = f.zones; statuses = f.statuses }
+files-opened ledger keys t opening f = record { files = f.files; zones = f.zones; statuses = f.statuses; distinct = f.distinct }

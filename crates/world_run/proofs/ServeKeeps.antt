@@ -1,11 +1,11 @@
 -- The call for a kept batch keeps the world linked: each key that comes back opens to the draw of its file.
-use Rattle.std.proofs.Common.{◌≡◌, inl, inr, ℕ, zero, suc, ◌+◌, ◌<◌, Bool, true, false, not, ◌||◌, List, [], ◌∷◌, ◌++◌, length, map, take, get_or, Option, Some, None, Ok, Err, slice_get, refl, sym, ap, subst, ◌∙◌, arith}
+use Rattle.std.proofs.Common.{◌≡◌, inl, inr, ℕ, zero, suc, ◌+◌, ◌-◌, ◌<◌, Bool, true, false, cond, not, ◌&&◌, ◌||◌, List, [], ◌∷◌, ◌++◌, length, map, take, get_or, Option, Some, None, is_none, Ok, Err, slice_get, refl, sym, ap, subst, ◌∙◌, arith}
 use Rattle.std.specs.Prelude.{◌≢◌}
 use Rattle.std.specs.List.{list_any}
 use Rattle.std.specs.Option.{option_map, option_and_then}
 use Rattle.std.specs.Str.{bytes_eq}
 use Rattle.std.specs.declared.result.Result.{Result}
-use Rattle.std.proofs.lemmas.List.{length-map, take_more}
+use Rattle.std.proofs.lemmas.List.{take_more}
 use Rattle.std.proofs.lemmas.Option.{slice_get-map}
 use Rattle.std.proofs.lemmas.Slice.Eq.{bytes_eq-Decides}
 use Rattle.hk_base.specs.declared.names.Dek.{Dek}
@@ -18,19 +18,20 @@ use Rattle.key_rows.specs.Sound.{IsTable, NamesOnce}
 use Rattle.key_rows.specs.Table.{find_name, is_named}
 use Rattle.kms_acls.specs.declared.answers.Denied.{Denied}
 use Rattle.kms_acls.specs.declared.answers.Shown.{Shown}
+use Rattle.eek_seal.specs.Seal.{seal}
 use Rattle.kms_acls.specs.Verdict.{verdict}
 use Rattle.kms_calls.specs.declared.calls.KmsRefusal.{KmsRefusal}
 use Rattle.kms_calls.specs.declared.calls.KmsReply.{KmsReply}
 use Rattle.kms_calls.specs.declared.calls.KmsReply.TheVariants as key_reply
 use Rattle.kms_calls.specs.declared.calls.RawEdek.{RawEdek}
-use Rattle.kms_core.specs.Calls.{KmsActs, NoRoom, Plain, batch_causes, causes, current_version, deed, first_cause, is_of_other_key, resealed, row_of, unless_refused}
+use Rattle.kms_core.specs.Calls.{KmsActs, NoRoom, Plain, batch_causes, causes, current_material, current_version, deed, edek_of, first_cause, is_of_other_key, resealed, row_of, same_version, unless_refused, unsealed_dek}
 use Rattle.kms_core.specs.Laws.{SameKey, sent_of}
 use Rattle.kms_core.specs.Opening.{unseals}
 use Rattle.kms_core.specs.State.{KmsState, ServiceState}
 use Rattle.kms_core.specs.Users.{ServesUnder}
 use Rattle.kms_core.proofs.KeyLemmas.{found_passes, named}
 use Rattle.kms_core.proofs.ResealLemmas.{batch_opens}
-use Rattle.kms_core.proofs.SentLemmas.{batch_has, map_more}
+use Rattle.kms_core.proofs.SentLemmas.{BatchHas, batch_has, map_more}
 use Rattle.prop_text.specs.declared.lines.PropLine.{PropLine}
 use Rattle.name_core.specs.Calls.{superuser}
 use Rattle.reenc_walk.specs.declared.sent.BatchNote.{BatchNote}
@@ -39,13 +40,15 @@ use Rattle.hk_events.specs.declared.event.Event.TheVariants as event
 use Rattle.hk_events.specs.declared.event.Line.{Line}
 use Rattle.world_run.specs.declared.kept.KeptReply.TheVariants.{ToBatch}
 use Rattle.world_run.specs.Acknowledged.{Acknowledged}
-use Rattle.world_run.specs.Batches.{KeysFit, batch_call, key_of_sent, raw_keys, result_of}
-use Rattle.world_run.specs.Ledger.{Hidden, Ledger, hidden_after, left_in, moved_on}
-use Rattle.world_run.specs.Linked.{CameBack, HasDraw, LinkedWorld, ReplyCameBack, ServicesFit}
+use Rattle.reenc_update.specs.Replies.{are_of_keys}
+use Rattle.world_run.specs.Batches.{ReplyFits, batch_call, key_of_sent, raw_keys, reply_for, result_of}
+use Rattle.world_run.specs.Ledger.{Draw, Hidden, Ledger, hidden_after, left_in, moved_on}
+use Rattle.world_run.specs.Linked.{CameBackIn, HasDraw, KeysCameBack, LinkedDraws, NotBelow, OfSession, ReplyCameBack, ServicesFit, VersionsStand}
 use Rattle.world_run.specs.Promise.{In}
 use Rattle.world_run.specs.Step.{ServeActs}
 use Rattle.world_run.specs.World.{WorldState, numbered}
 use Rattle.world_run.proofs.DrawLemmas.{opens-alone, opens-among, opens-named}
+use Rattle.world_run.proofs.FinishLemmas.{OneDraw}
 use Rattle.world_run.proofs.Members.{each-in, found-in, got-in, numbered-in, some-is}
 use Rattle.world_run.proofs.ServiceLaters.{ServiceLater, user-state}
 use Rattle.world_run.proofs.WorldLemmas.{AfterReply, NewReply, StaysLinked, apart-moved, apart-reply, linked-reply, linked-still}
@@ -67,8 +70,8 @@ opened-row open_by (Some row) n dek h = (row, refl)
 found-row : (rows : List KeyRow) (e : Edek) (dek : Dek) → unseals rows e ≡ Some dek → (row : KeyRow) × (find_name rows e.version.key ≡ Some row)
 found-row rows e dek h = opened-row _ (find_name rows e.version.key) e.version.number dek h
 
--- a key that comes back for a file with a draw
-module _ (ledger : Ledger) (s : KmsState) (name : KeyName) (x : Sent) (e : Edek) (row : KeyRow) (table : IsTable s.table) (mine : x.edek.version.key ≡ name) (had : HasDraw ledger s.table.rows x.id x.edek)
+-- a key that comes back in a re-encryption, for a file with a draw
+module _ (ledger : Ledger) (session : ℕ) (s : KmsState) (name : KeyName) (x : Sent) (e : Edek) (row : KeyRow) (table : IsTable s.table) (mine : x.edek.version.key ≡ name) (had : HasDraw ledger s.table.rows x.id x.edek) (of_session : OfSession ledger session x.edek.version.key)
     (same : SameKey s name (sent_of x.edek) s e) (found : find_name s.table.rows name ≡ Some row) where
   row-named : row.name ≡ name
   row-named = named s.table.rows name row found
@@ -87,13 +90,29 @@ module _ (ledger : Ledger) (s : KmsState) (name : KeyName) (x : Sent) (e : Edek)
       (opens-alone s.table.rows row e had.draw.dek (ap (find_name s.table.rows) key-is ∙ found) (ap (λ (k : KeyName). is_named k row) key-is ∙ found_passes (is_named name) s.table.rows row found)
       (same.after ∙ dek_is))
 
-  of-row : CameBack ledger s.table.rows x e
-  of-row = record { of_key = key-is ∙ sym mine; has = record { draw = had.draw; entered = had.entered; of_key = key-is ∙ sym mine ∙ had.of_key; opens = opened } }
+  -- its version is the last one of that key
+  not-below : OneDraw ledger → VersionsStand ledger s.table.rows → NotBelow ledger s.table.rows session e
+  not-below one stand d other entered i born =
+      let drawn = stand session d other entered i born in
+      let draw_is : d ≡ of_session.draw = one session d of_session.draw entered of_session.entered in
+      let name_is : other.name ≡ row.name = drawn.0 ∙ ap (λ (f : Draw). f.version.key) draw_is ∙ of_session.of_key ∙ mine ∙ sym row-named in
+      let is : other ≡ row = once-named s.table.rows other row table.names i (found-in (is_named name) s.table.rows row found) name_is in
+      let low : d.version.number < length row.materials = subst (λ (r : KeyRow). d.version.number < length r.materials) is drawn.1 in
+      let number : e.version.number ≡ length row.materials - 1 = ap (λ (v : VersionName). v.number) (same.version ∙ ap current_version found) in
+      omega (arith, low, number)
 
-came-back : (ledger : Ledger) (s : KmsState) (name : KeyName) (x : Sent) (e : Edek) → IsTable s.table → x.edek.version.key ≡ name → HasDraw ledger s.table.rows x.id x.edek → SameKey s name (sent_of x.edek) s e → CameBack ledger s.table.rows x e
-came-back ledger s name x e table mine had same =
+  of-row : OneDraw ledger → VersionsStand ledger s.table.rows → CameBackIn ledger s.table.rows session x e
+  of-row one stand = record {
+    came = record { of_key = key-is ∙ sym mine; has = record { draw = had.draw; entered = had.entered; of_key = key-is ∙ sym mine ∙ had.of_key; opens = opened } };
+    of_session = record { draw = of_session.draw; entered = of_session.entered; of_key = of_session.of_key ∙ mine ∙ sym key-is };
+    not_below = not-below one stand;
+  }
+
+came-back : (ledger : Ledger) (session : ℕ) (s : KmsState) (name : KeyName) (x : Sent) (e : Edek) → IsTable s.table → x.edek.version.key ≡ name → HasDraw ledger s.table.rows x.id x.edek → OfSession ledger session x.edek.version.key
+    → OneDraw ledger → VersionsStand ledger s.table.rows → SameKey s name (sent_of x.edek) s e → CameBackIn ledger s.table.rows session x e
+came-back ledger session s name x e table mine had of_session one stand same =
     let found = found-row s.table.rows x.edek same.dek same.before in
-    of-row ledger s name x e found.0 table mine had same (ap (find_name s.table.rows) (sym mine) ∙ found.1)
+    of-row ledger session s name x e found.0 table mine had of_session same (ap (find_name s.table.rows) (sym mine) ∙ found.1) one stand
 
 -- the keys of one more file
 pub one-more-raw : (sent : List Sent) (i : ℕ) (x : Sent) (raw raw' : List RawEdek) (key : RawEdek) → i < length sent → get_or sent i x ≡ x → raw ≡ raw_keys (take i sent) → key ≡ sent_of x.edek → raw' ≡ raw ++ key ∷ []
@@ -101,19 +120,15 @@ pub one-more-raw : (sent : List Sent) (i : ℕ) (x : Sent) (raw raw' : List RawE
 one-more-raw sent i x raw raw' key within at are is more =
     more ∙ (λ j. are j ++ is j ∷ []) ∙ ap (λ (y : Sent). raw_keys (take i sent) ++ sent_of y.edek ∷ []) (sym at) ∙ sym (map_more (λ (y : Sent). sent_of y.edek) (take i sent) (get_or sent i x)) ∙ ap raw_keys (sym (take_more sent i x within))
 
+neither : (a b : Bool) → (a || b) ≡ false → (a ≡ false) × (b ≡ false)
+neither true b h = absurd cc
+neither false b h = (refl, h)
+
 -- none of a list, so not the one at a place
 none-at : {X : Type 0} (p : X → Bool) (xs : List X) (n : ℕ) (x : X) → list_any p xs ≡ false → slice_get xs n ≡ Some x → p x ≡ false
 none-at p [] n x none at = absurd cc
 none-at p (y ∷ ys) zero x none at = subst (λ z. p z ≡ false) (some-is y x at) (neither (p y) (list_any p ys) none).0
-  where
-    neither : (a b : Bool) → (a || b) ≡ false → (a ≡ false) × (b ≡ false)
-    neither true b h = absurd cc
-    neither false b h = (refl, h)
-none-at p (y ∷ ys) (suc n) x none at = none-at p ys n x (rest (p y) (list_any p ys) none) at
-  where
-    rest : (a b : Bool) → (a || b) ≡ false → b ≡ false
-    rest true b h = absurd cc
-    rest false b h = h
+none-at p (y ∷ ys) (suc n) x none at = none-at p ys n x (neither (p y) (list_any p ys) none).1 at
 
 of-name : (name : KeyName) (x : Sent) → not (bytes_eq x.edek.version.key name) ≡ false → x.edek.version.key ≡ name
 of-name name x h = (bytes_eq-Decides x.edek.version.key name).0 (yes (bytes_eq x.edek.version.key name) h)
@@ -124,9 +139,10 @@ of-name name x h = (bytes_eq-Decides x.edek.version.key name).0 (yes (bytes_eq x
 
 -- the reply to the call for a batch
 
-module _ (ledger : Ledger) (s : KmsState) (words : ℕ → ℕ) (now : ℕ) (batch : BatchNote) (table : IsTable s.table) (had : (x : Sent) → In x batch.sent → HasDraw ledger s.table.rows x.id x.edek) where
+module _ (ledger : Ledger) (s : KmsState) (words : ℕ → ℕ) (now : ℕ) (batch : BatchNote) (table : IsTable s.table) (had : (x : Sent) → In x batch.sent → HasDraw ledger s.table.rows x.id x.edek)
+    (of_session : (x : Sent) → In x batch.sent → OfSession ledger batch.session x.edek.version.key) (one : OneDraw ledger) (stand : VersionsStand ledger s.table.rows) where
   abbrev Returned : KmsReply → Type 0
-  Returned reply = ReplyCameBack ledger s.table.rows (ToBatch batch (result_of reply))
+  Returned reply = KeysCameBack ledger s.table.rows batch (result_of reply)
 
   abbrev batch_key : KeyName
   batch_key = key_of_sent batch.sent
@@ -139,7 +155,8 @@ module _ (ledger : Ledger) (s : KmsState) (words : ℕ → ℕ) (now : ℕ) (bat
       let at : slice_get (raw_keys batch.sent) place ≡ Some (sent_of x.edek) = slice_get-map (λ (y : Sent). sent_of y.edek) batch.sent place ∙ ap (option_map (λ (y : Sent). sent_of y.edek)) sent in
       let its = none-at (is_of_other_key batch_key) (raw_keys batch.sent) place (sent_of x.edek) (batch_has (row_of s batch_key) batch_key (raw_keys batch.sent) free).its at in
       let same = (batch_opens s words now batch_key (raw_keys batch.sent) new_keys s (λ k. words (drawn + k)) table (record { drawn = drawn; acts = acts; rest = λ k. refl })).1 place (sent_of x.edek) e at got in
-      came-back ledger s batch_key x e table (of-name batch_key x its) (had x (got-in batch.sent place x sent)) same
+      let member = got-in batch.sent place x sent in
+      came-back ledger batch.session s batch_key x e table (of-name batch_key x its) (had x member) (of_session x member) one stand same
 
   acts-returned : (reply : KmsReply) (drawn : ℕ) → KmsActs s words now (batch_call batch) reply drawn s → Returned reply
   acts-returned reply drawn (NoRoom some, may, is) = subst Returned (sym (ap (λ o. o.reply) is)) tt
@@ -157,22 +174,62 @@ module _ (ledger : Ledger) (s : KmsState) (words : ℕ → ℕ) (now : ℕ) (bat
       subst Returned (sym p.reply_is) (acts-returned p.reply drawn (subst (λ (k : KmsState). KmsActs k words now (batch_call batch) p.reply drawn k) is p.serves.acts))
   under-returned service fault reply drawn logged after (Err denied) is d = subst Returned (sym d.reply_is) tt
 
--- as many keys come back as were sent
-pub batch-fits : (s : ServiceState) (words : ℕ → ℕ) (now : ℕ) (batch : BatchNote) (fault : Type 0) (reply : KmsReply) (drawn : ℕ) (logged : List KeyCommand) (after : ServiceState) (v : Result Shown Denied)
-    → ServesUnder v s words now (batch_call batch) fault reply drawn logged after → KeysFit (length batch.sent) reply
-batch-fits s words now batch fault reply drawn logged after (Err denied) d = subst (KeysFit (length batch.sent)) (sym d.reply_is) tt
-batch-fits s words now batch fault reply drawn logged after (Ok shown) p = subst (KeysFit (length batch.sent)) (sym p.reply_is) (by-end p.serves.acts)
+-- keys of another number are not those of the files
+pub other-length : (sent : List Sent) (edeks : List Edek) → (length sent ≡ length edeks → ⊥) → false ≡ are_of_keys sent edeks
+other-length [] [] h = absurd (h refl)
+other-length [] (e ∷ es) h = refl
+other-length (x ∷ xs) [] h = refl
+other-length (x ∷ xs) (e ∷ es) h = go (bytes_eq e.version.key x.edek.version.key) (other-length xs es (λ same. h (ap suc same)))
   where
-    as-many : length (map (resealed s.keys (key_of_sent batch.sent)) (raw_keys batch.sent)) ≡ length batch.sent
-    as-many = length-map (raw_keys batch.sent) (resealed s.keys (key_of_sent batch.sent)) ∙ length-map batch.sent (λ (x : Sent). sent_of x.edek)
+    go : (b : Bool) → false ≡ are_of_keys xs es → false ≡ (b && are_of_keys xs es)
+    go true none = none
+    go false none = refl
 
-    by-end : KmsActs s.keys words now (batch_call batch) p.reply drawn s.keys → KeysFit (length batch.sent) p.reply
-    by-end (NoRoom some, may, is) = subst (KeysFit (length batch.sent)) (sym (ap (λ o. o.reply) is)) tt
-    by-end (Plain, may, is) = subst (KeysFit (length batch.sent)) (sym (ap (λ o. o.reply) is)) (go (first_cause (causes s.keys (batch_call batch))))
+-- as many keys come back as were sent, each of the same key
+
+resealed-key : (s : KmsState) (name : KeyName) (sent : RawEdek) (row : KeyRow) → row_of s name ≡ Some row → row.name ≡ name → sent.version.key ≡ name → (resealed s name sent).version.key ≡ name
+resealed-key s name sent row found is mine =
+    go (same_version sent.version (current_version (row_of s name))) (record { version = current_version (row_of s name); iv = sent.iv; sealed = seal (current_material s name) sent.iv (unsealed_dek s sent) }) refl
+  where
+    go : (b : Bool) (other : Edek) → other.version ≡ current_version (row_of s name) → (cond b (edek_of sent) other).version.key ≡ name
+    go true other of = mine
+    go false other of = ap (λ (v : VersionName). v.key) (of ∙ ap current_version found) ∙ is
+
+keys-of-sent : (s : KmsState) (name : KeyName) (row : KeyRow) (sent : List Sent) → row_of s name ≡ Some row → row.name ≡ name → list_any (is_of_other_key name) (raw_keys sent) ≡ false
+    → are_of_keys sent (map (resealed s name) (raw_keys sent)) ≡ true
+keys-of-sent s name row [] found is none = refl
+keys-of-sent s name row (x ∷ xs) found is none =
+    let parts = neither (is_of_other_key name (sent_of x.edek)) (list_any (is_of_other_key name) (raw_keys xs)) none in
+    let mine : x.edek.version.key ≡ name = of-name name x parts.0 in
+    let same : (resealed s name (sent_of x.edek)).version.key ≡ x.edek.version.key = resealed-key s name (sent_of x.edek) row found is mine ∙ sym mine in
+    ap (λ b. b && are_of_keys xs (map (resealed s name) (raw_keys xs))) ((bytes_eq-Decides (resealed s name (sent_of x.edek)).version.key x.edek.version.key).1 same) ∙ keys-of-sent s name row xs found is parts.1
+
+batch-keys : (s : KmsState) (batch : BatchNote) → first_cause (batch_causes (row_of s (key_of_sent batch.sent)) (key_of_sent batch.sent) (raw_keys batch.sent)) ≡ None
+    → are_of_keys batch.sent (map (resealed s (key_of_sent batch.sent)) (raw_keys batch.sent)) ≡ true
+batch-keys s batch free = go (row_of s name) refl has.stands
+  where
+    name : KeyName
+    name = key_of_sent batch.sent
+
+    has : BatchHas (row_of s name) name (raw_keys batch.sent)
+    has = batch_has (row_of s name) name (raw_keys batch.sent) free
+
+    go : (o : Option KeyRow) → row_of s name ≡ o → is_none o ≡ false → are_of_keys batch.sent (map (resealed s name) (raw_keys batch.sent)) ≡ true
+    go None found some = absurd cc
+    go (Some row) found some = keys-of-sent s name row batch.sent found (named s.table.rows name row found) has.its
+
+pub batch-fits : (s : ServiceState) (words : ℕ → ℕ) (now : ℕ) (batch : BatchNote) (fault : Type 0) (reply : KmsReply) (drawn : ℕ) (logged : List KeyCommand) (after : ServiceState) (v : Result Shown Denied)
+    → ServesUnder v s words now (batch_call batch) fault reply drawn logged after → ReplyFits batch reply
+batch-fits s words now batch fault reply drawn logged after (Err denied) d = subst (ReplyFits batch) (sym d.reply_is) tt
+batch-fits s words now batch fault reply drawn logged after (Ok shown) p = subst (ReplyFits batch) (sym p.reply_is) (by-end p.serves.acts)
+  where
+    by-end : KmsActs s.keys words now (batch_call batch) p.reply drawn s.keys → ReplyFits batch p.reply
+    by-end (NoRoom some, may, is) = subst (ReplyFits batch) (sym (ap (λ o. o.reply) is)) tt
+    by-end (Plain, may, is) = subst (ReplyFits batch) (sym (ap (λ o. o.reply) is)) (go (first_cause (causes s.keys (batch_call batch))) refl)
       where
-        go : (o : Option KmsRefusal) → KeysFit (length batch.sent) (unless_refused o s.keys (deed s.keys words now (batch_call batch))).reply
-        go (Some why) = tt
-        go None = omega (arith, as-many)
+        go : (o : Option KmsRefusal) → first_cause (causes s.keys (batch_call batch)) ≡ o → ReplyFits batch (unless_refused o s.keys (deed s.keys words now (batch_call batch))).reply
+        go (Some why) cause = tt
+        go None free = batch-keys s.keys batch free
 
 -- the call changes no key
 same-rows : (s after : ServiceState) (words : ℕ → ℕ) (now : ℕ) (batch : BatchNote) (fault : Type 0) (reply : KmsReply) (drawn : ℕ) (logged : List KeyCommand) (v : Result Shown Denied)
@@ -180,7 +237,7 @@ same-rows : (s after : ServiceState) (words : ℕ → ℕ) (now : ℕ) (batch : 
 same-rows s after words now batch fault reply drawn logged (Ok shown) p = p.serves.same
 same-rows s after words now batch fault reply drawn logged (Err denied) d = d.same
 
-pub serve-keeps : (lines : List PropLine) (w : WorldState) (h : Hidden) (words : ℕ → ℕ) (now number : ℕ) (fault : Type 0) (outcome : Line) (drawn : ℕ) (logged : Acknowledged) (w' : WorldState) (o : Option BatchNote) → ServicesFit w → LinkedWorld w h
+pub serve-keeps : (lines : List PropLine) (w : WorldState) (h : Hidden) (words : ℕ → ℕ) (now number : ℕ) (fault : Type 0) (outcome : Line) (drawn : ℕ) (logged : Acknowledged) (w' : WorldState) (o : Option BatchNote) → ServicesFit w → LinkedDraws w h
     → numbered w.kept.batches number ≡ o → ServeActs lines w words now o fault outcome drawn logged w' → StaysLinked h w' (hidden_after w words (event.Serve number) outcome drawn w' h)
 serve-keeps lines w h words now number fault outcome drawn logged w' None fit l at u =
     subst (λ (t : Line). StaysLinked h w' (hidden_after w words (event.Serve number) t drawn w' h)) (sym u.reply_is)
@@ -191,7 +248,7 @@ serve-keeps lines w h words now number fault outcome drawn logged w' (Some batch
 serve-keeps lines w h words now number fault outcome drawn logged w' (Some batch) fit l at (inl a) =
     subst (λ (t : Line). StaysLinked h w' (hidden_after w words (event.Serve number) t drawn w' h)) (sym a.reply_is)
     (subst (λ (v : WorldState). StaysLinked h v (AfterReply h w.keys.keys.ready.queues v.keys.keys.ready.queues drawn None)) (sym a.left)
-    (linked-reply w h a.keys drawn (ToBatch batch (result_of a.reply)) None later new l, apart-reply w h a.keys drawn (ToBatch batch (result_of a.reply)) None later new))
+    (linked-reply w h a.keys drawn (ToBatch (reply_for batch a.reply)) None later new l, apart-reply w h a.keys drawn (ToBatch (reply_for batch a.reply)) None later new))
   where
     later : ServiceLater w.keys a.keys
     later = user-state lines superuser w.keys words now (batch_call batch) fault a.reply drawn a.commands a.keys fit.keys a.serves
@@ -199,16 +256,19 @@ serve-keeps lines w h words now number fault outcome drawn logged w' (Some batch
     same : a.keys ≡ w.keys
     same = same-rows w.keys a.keys words now batch fault a.reply drawn a.commands (verdict lines superuser (batch_call batch)) a.serves
 
-    back : ReplyCameBack h.ledger w.keys.keys.table.rows (ToBatch batch (result_of a.reply))
+    back : ReplyCameBack h.ledger w.keys.keys.table.rows (ToBatch (reply_for batch a.reply))
     back =
-        under-returned h.ledger w.keys.keys words now batch fit.keys.table (λ x i. l.batches.sent batch x (numbered-in w.kept.batches number batch at) i) w.keys fault a.reply drawn a.commands a.keys
-        (verdict lines superuser (batch_call batch)) refl a.serves
+        let member = numbered-in w.kept.batches number batch at in (
+          batch-fits w.keys words now batch fault a.reply drawn a.commands a.keys (verdict lines superuser (batch_call batch)) a.serves,
+          under-returned h.ledger w.keys.keys words now batch fit.keys.table (λ x i. l.batches.sent batch x member i) (λ x i. l.batches.sessions batch x member i) l.ledger.one_draw l.versions w.keys fault a.reply drawn a.commands a.keys
+              (verdict lines superuser (batch_call batch)) refl a.serves,
+        )
 
-    new : NewReply h (left_in w.keys.keys.ready.queues a.keys.keys.ready.queues h.queued) (h.place + drawn) a.keys.keys.table (ToBatch batch (result_of a.reply)) None
+    new : NewReply h (left_in w.keys.keys.ready.queues a.keys.keys.ready.queues h.queued) (h.place + drawn) a.keys.keys.table (ToBatch (reply_for batch a.reply)) None
     new = record {
       opens = tt;
       free = λ d is. absurd cc;
       born = λ d is. absurd cc;
       recent = λ d is. absurd cc;
-      back = subst (λ (k : ServiceState). ReplyCameBack h.ledger k.keys.table.rows (ToBatch batch (result_of a.reply))) (sym same) back;
+      back = subst (λ (k : ServiceState). ReplyCameBack h.ledger k.keys.table.rows (ToBatch (reply_for batch a.reply))) (sym same) back;
     }

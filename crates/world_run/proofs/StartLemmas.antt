@@ -41,6 +41,7 @@ use Rattle.world_run.specs.Starts.{FailsAt, KeysOpened, OpensBoth}
 use Rattle.world_run.specs.World.{RunningWorld, WorldState, first_world, none_kept, world_of}
 use Rattle.world_run.proofs.BothLemmas.{both-of, keys-beside, leaves-keys}
 use Rattle.world_run.proofs.CrashLemmas.{rests-now}
+use Rattle.world_run.proofs.CoveredOps.{covered-same}
 use Rattle.world_run.proofs.KeepLemmas.{linked-promise, world-apart}
 use Rattle.world_run.proofs.Laters.{next-rises, recorded-more}
 use Rattle.world_run.proofs.Members.{numbered-in}
@@ -76,6 +77,8 @@ key-opened-linked past t names opening le l = record {
   files = l.files;
   draws = draws-later (drawn_before past) (IsRecordedBirth t) (IsRecordedBirth (record t { opening = opening })) (λ b h. recorded-more t.opening opening b le h) l.draws;
   fits = l.fits;
+  versions = l.versions;
+  covered = l.covered;
 }
 
 next-key-linked : (past : Past) (t : Table) (names : NameTable) (c : KeyCommand) → is_key_opening c ≡ true → applies t c ≡ true → LinkedTables past t names → LinkedTables past (after t c) names
@@ -118,6 +121,8 @@ opened-linked past keys t opening le l = record {
   files = files-opened past.ledger keys.rows t opening l.files;
   draws = l.draws;
   fits = ledger-more past.ledger [] [] [] ((t.opening + 1) * 2 ^ 32) ((opening + 1) * 2 ^ 32) (omega (arith, le)) l.fits;
+  versions = l.versions;
+  covered = covered-same past keys.rows t [] opening t.snaps l.covered;
 }
 
 next-linked : (past : Past) (keys : Table) (t : NameTable) (o : EditOp) → is_opening o ≡ true → allows t o ≡ true → LinkedTables past keys t → LinkedTables past keys (after_table t o)
@@ -135,6 +140,7 @@ next-linked past keys t (op.Disallow p) is may l = absurd (cc is)
 next-linked past keys t (op.Snap p name) is may l = absurd (cc is)
 next-linked past keys t (op.Unsnap p name) is may l = absurd (cc is)
 next-linked past keys t (op.Submit session p noted) is may l = absurd (cc is)
+next-linked past keys t (op.Update session failed mark files) is may l = absurd (cc is)
 next-linked past keys t (op.Cancel session) is may l = absurd (cc is)
 next-linked past keys t (op.Complete session) is may l = absurd (cc is)
 
@@ -311,13 +317,17 @@ names-room old new r batch s telling =
 
 first-linked : (past : Past) (sizes : SizeValues) (table : Table) (names : NameTable) → LinkedTables past table names → LinkedWorld (first_world sizes table names) (drawn_before past)
 first-linked past sizes table names l = record {
-  files = λ kept. files-opened past.ledger table.rows names (names.opening + 1) l.files;
-  replies = record { as_many = refl; keys_open = λ r o at. absurd (none-replied r o at); one_reply = λ n m d at other. absurd (numbered-in [] n (Some d) at) };
-  draws = draws-later (drawn_before past) (IsRecordedBirth table) (IsOldBirth (first_world sizes table names).keys.keys.table) (λ b h. inl h) l.draws;
-  ledger = ledger-more past.ledger [] [] [] ((names.opening + 1) * 2 ^ 32) ((names.opening + 1) * 2 ^ 32 + 1) (omega arith) l.fits;
-  queues = record { opens = λ birth. tt; rising = λ birth. tt; not_replied = λ birth d i. absurd i; not_entered = λ birth id d i. absurd i };
-  tickets = λ ticket i. absurd i;
-  batches = record { sent = λ batch x i j. absurd i; back = λ r i. absurd i };
+  draws = record {
+    files = λ kept. files-opened past.ledger table.rows names (names.opening + 1) l.files;
+    replies = record { as_many = refl; keys_open = λ r o at. absurd (none-replied r o at); one_reply = λ n m d at other. absurd (numbered-in [] n (Some d) at) };
+    draws = draws-later (drawn_before past) (IsRecordedBirth table) (IsOldBirth (first_world sizes table names).keys.keys.table) (λ b h. inl h) l.draws;
+    ledger = ledger-more past.ledger [] [] [] ((names.opening + 1) * 2 ^ 32) ((names.opening + 1) * 2 ^ 32 + 1) (omega arith) l.fits;
+    queues = record { opens = λ birth. tt; rising = λ birth. tt; not_replied = λ birth d i. absurd i; not_entered = λ birth id d i. absurd i };
+    tickets = λ ticket i. absurd i;
+    batches = record { sent = λ batch x i j. absurd i; sessions = λ batch x i j. absurd i; back = λ r i. absurd i };
+    versions = l.versions;
+  };
+  covered = λ kept. covered-same past table.rows names [] (names.opening + 1) names.snaps l.covered;
 }
 
 -- the two tables that are found in sound files are linked
@@ -350,7 +360,7 @@ begins sizes old mid new r same_sizes m keys_file names_file fit nothing run oth
       };
   linked = linked;
   files_open = λ telling past sound. linked-promise (world_of r) (drawn_before past) fit.keys (linked telling past sound);
-  draws_apart = λ telling past sound apart. world-apart (world_of r) (drawn_before past) (linked telling past sound) apart;
+  draws_apart = λ telling past sound apart. world-apart (world_of r) (drawn_before past) (linked telling past sound).draws apart;
   rests = rests-now new r keys_file names_file fit;
 }
   where

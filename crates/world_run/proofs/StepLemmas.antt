@@ -1,6 +1,6 @@
 -- The parts of a step, put together.
 use Rattle.std.proofs.Common.{◌≡◌, ◌⊎◌, inl, inr, ℕ, ◌+◌, Bool, List, [], ◌∷◌, ◌++◌, length, Option, Some, None, Ok, Err, refl, sym, ap, subst, ◌∙◌, arith, length-append}
-use Rattle.std.specs.Prelude.{◌≤◌, IfSome, MatchResult, false}
+use Rattle.std.specs.Prelude.{IfSome, MatchResult, false}
 use Rattle.std.specs.Option.{option_and_then}
 use Rattle.std.specs.declared.result.Result.{Result}
 use Rattle.std.proofs.lemmas.List.{append-nil}
@@ -44,11 +44,14 @@ use Rattle.name_calls.specs.declared.calls.NameRefusal.TheVariants as refusal
 use Rattle.kms_acls.specs.Verdict.{verdict}
 use Rattle.name_calls.specs.declared.calls.NameReply.{NameReply}
 use Rattle.name_calls.specs.declared.calls.Want.{Want}
+use Rattle.name_calls.specs.declared.status.Delivered.{Delivered}
 use Rattle.name_calls.specs.declared.calls.Want.TheVariants as want
 use Rattle.name_core.specs.Asks.{Asks}
 use Rattle.reenc_walk.specs.declared.sent.BatchNote.{BatchNote}
 use Rattle.name_core.specs.Calls.{superuser}
 use Rattle.name_core.specs.Service.{NameActsOnDisk, FinishActs, Logs as NameLogs, OwnOf}
+use Rattle.name_core.specs.Updates.{UpdateDeed, deliver_deed, give_up_deed}
+use Rattle.name_core.specs.Updating.{OwnOfUpdate, UpdateActs}
 use Rattle.name_core.specs.Walking.{OwnOfWalk, WalkActs}
 use Rattle.name_core.specs.declared.walks.Walked.{Walked}
 use Rattle.name_core.specs.declared.walks.Walked.TheVariants as walk
@@ -60,13 +63,13 @@ use Rattle.hk_events.specs.declared.event.Line.TheVariants as line
 use Rattle.world_run.specs.declared.fault.WorldFault.{WorldFault}
 use Rattle.world_run.specs.declared.kept.KeptReply.{KeptReply}
 use Rattle.world_run.specs.declared.kept.KeptReply.TheVariants.{ToAsk, ToBatch}
-use Rattle.world_run.specs.declared.kept.BatchResult.{BatchResult}
+use Rattle.reenc_update.specs.Replies.{ReplyState}
 use Rattle.world_run.specs.Acknowledged.{Acknowledged, nothing_acknowledged, of_keys, of_names}
-use Rattle.world_run.specs.Batches.{KeysFit, after_walk, batch_call, batches_after, result_of, walk_line}
-use Rattle.world_run.specs.Does.{CallHappens, DepositHappens, Does, DrawHappens, FinishHappens, Happens, PathHappens, ServeHappens, WalkHappens, WantHappens}
-use Rattle.world_run.specs.Own.{OwnOfNamesCall, OwnOfReply, OwnOfWalkAt}
+use Rattle.world_run.specs.Batches.{ReplyFits, after_walk, batch_call, batch_reply_of, batches_after, reply_for, walk_line}
+use Rattle.world_run.specs.Does.{CallHappens, DeliverHappens, DepositHappens, Does, DrawHappens, FinishHappens, GiveUpHappens, Happens, PathHappens, ServeHappens, WalkHappens, WantHappens}
+use Rattle.world_run.specs.Own.{OwnOfNamesCall, OwnOfReply, OwnOfUpdated, OwnOfWalkAt}
 use Rattle.world_run.specs.Keeps.{Fails}
-use Rattle.world_run.specs.Step.{AskAt, GivesTicket, LacksRoom, PathActs, Step, WalkAt, after_ask, after_ticket, ask_of, finish_line, kept_reply, ticket_line, unread_refusal, unread_reply, zone_with}
+use Rattle.world_run.specs.Step.{AskAt, GivesTicket, LacksRoom, PathActs, Step, Updates, WalkAt, after_ask, after_ticket, ask_of, finish_line, kept_reply, ticket_line, unread_refusal, unread_reply, update_line, zone_with}
 use Rattle.world_run.specs.World.{RunningWorld, WorldState, next_ticket, numbered, with_names, world_of}
 use Rattle.world_run.proofs.AskLemmas.{ask-stands}
 use Rattle.world_run.proofs.KeyLemmas.{batch-logs, call-logs, generate-logs, metadata-logs}
@@ -135,7 +138,7 @@ still-does d r r' words P keys store names p = record {
 }
   where
     same : r'.names ≡ r.names
-    same = λ i. record { store = store i; next = (names i).next; asks = (names i).asks; walks = (names i).walks; batch = (names i).batch }
+    same = λ i. record { store = store i; next = (names i).next; asks = (names i).asks; walks = (names i).walks; updating = (names i).updating; batch = (names i).batch }
 
 -- an ask leaves this state of the namesystem
 names-left : (result : Result AskNote NameRefusal) (w : WorldState) (names : NameState) → (after_ask result (with_names names w)).names.names ≡ names
@@ -259,14 +262,14 @@ finished old new w keys names names' tickets notes batches replies id answer res
 pub so-finished : (old new : DiskState) (w w' : RunningWorld) (read : Option KeptReply) (id : ℕ) (answer : KeyAnswer) (outcome : Line) → Some (id, answer) ≡ option_and_then ask_of read
     → FinishHappens old new w (Some (ToAsk id answer)) outcome w' → FinishHappens old new w read outcome w'
 so-finished old new w w' None id answer outcome is happens = absurd cc
-so-finished old new w w' (Some (ToBatch batch result)) id answer outcome is happens = absurd cc
+so-finished old new w w' (Some (ToBatch reply)) id answer outcome is happens = absurd cc
 so-finished old new w w' (Some (ToAsk ask_id given)) id answer outcome is happens =
     let same : (id, answer) ≡ (ask_id, given) = some-is (id, answer) (ask_id, given) is in
     subst (λ (x : ℕ × KeyAnswer). FinishHappens old new w (Some (ToAsk x.0 x.1)) outcome w') same happens
 
 pub finish-unknown : (d : DiskState) (w w' : RunningWorld) (read : Option KeptReply) → None ≡ option_and_then ask_of read → w' ≡ w → FinishHappens d d w read line.Unknown w'
 finish-unknown d w w' None none same = λ words. does-nothing d w w' words _ _ _ same (record { reply_is = refl; quiet = (refl, refl); same = ap world_of same })
-finish-unknown d w w' (Some (ToBatch batch result)) none same = λ words. does-nothing d w w' words _ _ _ same (record { reply_is = refl; quiet = (refl, refl); same = ap world_of same })
+finish-unknown d w w' (Some (ToBatch reply)) none same = λ words. does-nothing d w w' words _ _ _ same (record { reply_is = refl; quiet = (refl, refl); same = ap world_of same })
 finish-unknown d w w' (Some (ToAsk id answer)) none same = absurd cc
 
 -- a walk of a zone
@@ -351,26 +354,14 @@ serve-no-room lines d w w' words now o batch is same =
     subst (λ (x : Option BatchNote). ServeHappens lines d d w words now x (line.Kms (key_reply.Refused key_refusal.NoMemory)) w' words) is
     (does-nothing d w w' words _ _ _ same (inr (record { reply_is = refl; quiet = (refl, refl); same = ap world_of same })))
 
-more-room : (count room : ℕ) (reply : KmsReply) → count ≤ room → KeysFit count reply → KeysFit room reply
-more-room count room (key_reply.Ready edeks) le fits = omega (arith, le, fits)
-more-room count room (key_reply.Refused why) le fits = tt
-more-room count room (key_reply.Version version material) le fits = tt
-more-room count room key_reply.Done le fits = tt
-more-room count room (key_reply.Metadata meta) le fits = tt
-more-room count room (key_reply.Metadatas metas) le fits = tt
-more-room count room (key_reply.Names names) le fits = tt
-more-room count room (key_reply.Versions versions) le fits = tt
-more-room count room (key_reply.Resealed edek) le fits = tt
-more-room count room (key_reply.Key key) le fits = tt
-
 -- the call for it, and its reply
 pub served : (lines : List PropLine) (old new : DiskState) (w : RunningWorld) (words : ℕ → ℕ) (now : ℕ) (batch note : BatchNote) (c : KmsCall) (user : Text) (keys keys' : RunningKms) (names : RunningNames) (tickets : List Ticket) (notes : List AskNote) (batches : List BatchNote)
-    (replies replies' : List KeptReply) (reply : KmsReply) (answer : BatchResult) (room n number : ℕ) (words' : ℕ → ℕ)
-    → parts keys names tickets notes batches replies ≡ w → Some batch ≡ numbered w.kept.batches n → note ≡ batch → c ≡ batch_call batch → user ≡ superuser → length batch.sent ≤ room
-    → (AreListsOf keys.acls lines → ActsFor lines user old new keys words now c reply keys' words') → (KeysFit room reply → answer ≡ result_of reply)
-    → replies' ≡ replies ++ ToBatch note answer ∷ [] → number ≡ length replies'
+    (replies replies' : List KeptReply) (reply : KmsReply) (answer : ReplyState) (n number : ℕ) (words' : ℕ → ℕ)
+    → parts keys names tickets notes batches replies ≡ w → Some batch ≡ numbered w.kept.batches n → note ≡ batch → c ≡ batch_call batch → user ≡ superuser
+    → (AreListsOf keys.acls lines → ActsFor lines user old new keys words now c reply keys' words') → (ReplyFits note reply → answer ≡ reply_for note reply)
+    → replies' ≡ replies ++ ToBatch answer ∷ [] → number ≡ length replies'
     → AreListsOf w.keys.acls lines → ServeHappens lines old new w words now (numbered w.kept.batches n) (line.Replied number (Some reply)) (parts keys' names tickets notes batches replies') words'
-served lines old new w words now batch note c user keys keys' names tickets notes batches replies replies' reply answer room n number words' view at same_note same_call as_superuser le acts result more count =
+served lines old new w words now batch note c user keys keys' names tickets notes batches replies replies' reply answer n number words' view at same_note same_call as_superuser acts result more count =
     subst (λ (o : Option BatchNote). AreListsOf w.keys.acls lines → ServeHappens lines old new w words now o (line.Replied number (Some reply)) (parts keys' names tickets notes batches replies') words') at
     (subst (λ (v : RunningWorld). AreListsOf v.keys.acls lines → ServeHappens lines old new v words now (Some batch) (line.Replied number (Some reply)) (parts keys' names tickets notes batches replies') words') view
     (λ lists. go (subst (λ (u : Text). ActsFor lines u old new keys words now (batch_call batch) reply keys' words') as_superuser (subst (λ (x : KmsCall). ActsFor lines user old new keys words now x reply keys' words') same_call (acts lists)))))
@@ -379,7 +370,8 @@ served lines old new w words now batch note c user keys keys' names tickets note
         → ServeHappens lines old new (parts keys names tickets notes batches replies) words now (Some batch) (line.Replied number (Some reply)) (parts keys' names tickets notes batches replies') words'
     go a =
         let fits = batch-fits (service_of (running keys)) words now batch (Rose old.faults new.faults) reply a.drawn a.logged (service_of (running keys')) (verdict lines superuser (batch_call batch)) a.serves in
-        let kept : replies' ≡ replies ++ ToBatch batch (result_of reply) ∷ [] = more ∙ (λ i. replies ++ ToBatch (same_note i) (result (more-room (length batch.sent) room reply le fits) i) ∷ []) in
+        let answer_is : answer ≡ reply_for batch reply = result (subst (λ (b : BatchNote). ReplyFits b reply) (sym same_note) fits) ∙ ap (λ (b : BatchNote). reply_for b reply) same_note in
+        let kept : replies' ≡ replies ++ ToBatch (reply_for batch reply) ∷ [] = more ∙ ap (λ (r : ReplyState). replies ++ ToBatch r ∷ []) answer_is in
         record {
           drawn = a.drawn;
           logged = of_keys a.logged;
@@ -389,13 +381,80 @@ served lines old new w words now batch note c user keys keys' names tickets note
             commands = a.logged;
             serves = a.serves;
             logged_is = refl;
-            reply_is = ap (λ (k : ℕ). line.Replied k (Some reply)) (count ∙ more-by-one replies replies' (ToBatch batch (result_of reply)) kept);
+            reply_is = ap (λ (k : ℕ). line.Replied k (Some reply)) (count ∙ more-by-one replies replies' (ToBatch (reply_for batch reply)) kept);
             left = ap (λ (l : List KeptReply). world_of (parts keys' names tickets notes batches l)) kept;
           });
           rest = a.rest;
           disk = inl (record { commands = a.logged; logged_is = refl; log = batch-logs old new keys.store keys'.store (service_of (running keys)) words now batch reply (service_of (running keys')) a.logged a.disk; names = refl });
           lists = a.lists;
         }
+
+-- a delivery, and a batch that is given up
+
+module _ (old new : DiskState) (keys : RunningKms) (names names' : RunningNames) (tickets : List Ticket) (notes : List AskNote) (batches : List BatchNote) (replies : List KeptReply) where
+  abbrev before_update : RunningWorld
+  before_update = parts keys names tickets notes batches replies
+
+  abbrev after_update : RunningWorld
+  after_update = parts keys names' tickets notes batches replies
+
+  abbrev UpdateHappens : (NameState → UpdateDeed) → Line → Type 0
+  UpdateHappens d outcome =
+      (words : ℕ → ℕ) → Does old new before_update after_update words words NoCommand (OwnOfUpdated (names_service names) d outcome (names_service names'))
+      (λ drawn logged. Updates (world_of before_update) d (Rose old.faults new.faults) outcome drawn logged (world_of after_update))
+
+  -- the operation that may be written, with the line of the result
+  own-updated : (d : NameState → UpdateDeed) (result : Result Delivered NameRefusal) (logged : List EditOp) → NameLogs old new names names' (OwnOfUpdate (names_service names) d result (names_service names')) logged
+      → NameLogs old new names names' (OwnOfUpdated (names_service names) d (update_line result) (names_service names')) logged
+  own-updated d result logged l = record {
+    stands = l.stands;
+    moments = λ tells ops s. weaker (λ c left. own-weaker _ _ names s.used ops c (λ k op own. record { result = result; reply_is = refl; own = own }) left) (l.moments tells ops s);
+    run = l.run;
+  }
+
+  updated : (d : NameState → UpdateDeed) (result : Result Delivered NameRefusal) (outcome : Line) → UpdateActs old new names d result names' → outcome ≡ update_line result → UpdateHappens d outcome
+  updated d result outcome acts is =
+      subst (UpdateHappens d) (sym is) (λ words. record {
+        drawn = 0;
+        logged = of_names acts.logged;
+        acts = record { result = result; names = names_service names'; ops = acts.logged; serves = acts.serves; logged_is = refl; reply_is = refl; none_drawn = refl; left = refl };
+        rest = λ k. ap words (omega arith);
+        disk = inr (record { ops = acts.logged; logged_is = refl; log = own-updated d result acts.logged acts.disk; keys = refl });
+        lists = refl;
+      })
+
+-- by the reply that is kept under a number
+pub delivered : (old new : DiskState) (w : RunningWorld) (keys : RunningKms) (names names' : RunningNames) (tickets : List Ticket) (notes : List AskNote) (batches : List BatchNote) (replies : List KeptReply) (read : Option KeptReply) (reply : ReplyState)
+    (result : Result Delivered NameRefusal) (outcome : Line) → parts keys names tickets notes batches replies ≡ w → Some reply ≡ option_and_then batch_reply_of read → UpdateActs old new names (deliver_deed reply) result names' → outcome ≡ update_line result
+    → DeliverHappens old new w read outcome (parts keys names' tickets notes batches replies)
+delivered old new w keys names names' tickets notes batches replies read reply result outcome view at acts is =
+    subst (λ (v : RunningWorld). DeliverHappens old new v read outcome (parts keys names' tickets notes batches replies)) view (go read at)
+  where
+    go : (o : Option KeptReply) → Some reply ≡ option_and_then batch_reply_of o → DeliverHappens old new (parts keys names tickets notes batches replies) o outcome (parts keys names' tickets notes batches replies)
+    go None at = absurd cc
+    go (Some (ToAsk id answer)) at = absurd cc
+    go (Some (ToBatch other)) at =
+        subst (λ (r : ReplyState). DeliverHappens old new (parts keys names tickets notes batches replies) (Some (ToBatch r)) outcome (parts keys names' tickets notes batches replies)) (some-is reply other at)
+        (updated old new keys names names' tickets notes batches replies (deliver_deed reply) result outcome acts is)
+
+pub deliver-unknown : (d : DiskState) (w w' : RunningWorld) (read : Option KeptReply) → None ≡ option_and_then batch_reply_of read → w' ≡ w → DeliverHappens d d w read line.Unknown w'
+deliver-unknown d w w' None none same = λ words. does-nothing d w w' words _ _ _ same (record { reply_is = refl; quiet = (refl, refl); same = ap world_of same })
+deliver-unknown d w w' (Some (ToAsk id answer)) none same = λ words. does-nothing d w w' words _ _ _ same (record { reply_is = refl; quiet = (refl, refl); same = ap world_of same })
+deliver-unknown d w w' (Some (ToBatch reply)) none same = absurd cc
+
+-- by the batch that is kept under a number
+pub given-up : (old new : DiskState) (w : RunningWorld) (keys : RunningKms) (names names' : RunningNames) (tickets : List Ticket) (notes : List AskNote) (batches : List BatchNote) (replies : List KeptReply) (read : Option BatchNote) (batch : BatchNote)
+    (result : Result Delivered NameRefusal) (outcome : Line) → parts keys names tickets notes batches replies ≡ w → Some batch ≡ read → UpdateActs old new names (give_up_deed batch) result names' → outcome ≡ update_line result
+    → GiveUpHappens old new w read outcome (parts keys names' tickets notes batches replies)
+given-up old new w keys names names' tickets notes batches replies read batch result outcome view at acts is =
+    subst (λ (v : RunningWorld). GiveUpHappens old new v read outcome (parts keys names' tickets notes batches replies)) view
+    (subst (λ (o : Option BatchNote). GiveUpHappens old new (parts keys names tickets notes batches replies) o outcome (parts keys names' tickets notes batches replies)) at
+    (updated old new keys names names' tickets notes batches replies (give_up_deed batch) result outcome acts is))
+
+pub give-up-unknown : (d : DiskState) (w w' : RunningWorld) (read : Option BatchNote) → None ≡ read → w' ≡ w → GiveUpHappens d d w read line.Unknown w'
+give-up-unknown d w w' read none same =
+    subst (λ (o : Option BatchNote). GiveUpHappens d d w o line.Unknown w') none
+    (λ words. does-nothing d w w' words _ _ _ same (record { reply_is = refl; quiet = (refl, refl); same = ap world_of same }))
 
 -- a draw
 

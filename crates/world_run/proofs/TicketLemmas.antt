@@ -32,7 +32,7 @@ use Rattle.world_run.specs.World.{WorldState, numbered}
 use Rattle.world_run.specs.Step.{DepositActs, GivesTicket, LacksRoom, after_ticket}
 use Rattle.world_run.specs.Ledger.{Draw, Hidden, behind_words, deposited_under, draw_under, hidden_after, moved_on, with_queued}
 use Rattle.world_run.specs.Promise.{In}
-use Rattle.world_run.specs.Linked.{DrawsFit, IsDrawn, IsOldBirth, IsRising, LinkedWorld, Pairs, QueuesLinked, ReadyLinked, TicketLinked, TicketsLinked}
+use Rattle.world_run.specs.Linked.{DrawsFit, IsDrawn, IsOldBirth, IsRising, LinkedDraws, Pairs, QueuesLinked, ReadyLinked, TicketLinked, TicketsLinked}
 use Rattle.world_run.proofs.DrawLemmas.{rising-most, rising-once, words-of-dek}
 use Rattle.world_run.proofs.Members.{each-in, found-in, in-more, numbered-in, some-is}
 use Rattle.world_run.proofs.PairLemmas.{pairs-more, rising-more}
@@ -108,7 +108,7 @@ ticket-linked s ticket table ready given = go (lowest (limit s.ready) s.ready.qu
     go (Some q) is given = subst (TicketLinked s.table s.ready.queues) (some-is (ticket_for s q.birth) ticket given) (for-queue q (lowest-in (limit s.ready) s.ready.queues q is))
 
 -- it is kept
-linked-ticket : (w : WorldState) (h : Hidden) (o : Option Ticket) → IsService w.keys → ticket_of w.keys.keys ≡ o → LinkedWorld w h → LinkedWorld (after_ticket o w) h
+linked-ticket : (w : WorldState) (h : Hidden) (o : Option Ticket) → IsService w.keys → ticket_of w.keys.keys ≡ o → LinkedDraws w h → LinkedDraws (after_ticket o w) h
 linked-ticket w h None fit is l = l
 linked-ticket w h (Some ticket) fit is l = record {
   files = l.files;
@@ -120,16 +120,17 @@ linked-ticket w h (Some ticket) fit is l = record {
     | inl old ↦ l.tickets other old
     | inr same ↦ subst (TicketLinked w.keys.keys.table w.keys.keys.ready.queues) (sym same) (ticket-linked w.keys.keys ticket fit.table fit.ready is)
   ];
-  batches = record { sent = l.batches.sent; back = l.batches.back };
+  batches = record { sent = l.batches.sent; sessions = l.batches.sessions; back = l.batches.back };
+  versions = l.versions;
 }
 
 -- the world after the event
 
-ticket-still : (w : WorldState) (h : Hidden) (drawn : ℕ) (o : Option Ticket) → LinkedWorld (after_ticket o w) h → StillLinked w h drawn (after_ticket o w)
+ticket-still : (w : WorldState) (h : Hidden) (drawn : ℕ) (o : Option Ticket) → LinkedDraws (after_ticket o w) h → StillLinked w h drawn (after_ticket o w)
 ticket-still w h drawn None l = linked-still w h drawn l
 ticket-still w h drawn (Some ticket) l = linked-still (after_ticket (Some ticket) w) h drawn l
 
-pub ticket-keeps : (w : WorldState) (h : Hidden) (outcome : Line) (drawn : ℕ) (logged : Acknowledged) (w' : WorldState) → IsService w.keys → LinkedWorld w h → GivesTicket w outcome drawn logged w' ⊎ LacksRoom w outcome drawn logged w'
+pub ticket-keeps : (w : WorldState) (h : Hidden) (outcome : Line) (drawn : ℕ) (logged : Acknowledged) (w' : WorldState) → IsService w.keys → LinkedDraws w h → GivesTicket w outcome drawn logged w' ⊎ LacksRoom w outcome drawn logged w'
     → StillLinked w h drawn w'
 ticket-keeps w h outcome drawn logged w' fit l (inl g) =
     subst (StillLinked w h drawn) (sym g.left) (ticket-still w h drawn (ticket_of w.keys.keys) (linked-ticket w h (ticket_of w.keys.keys) fit refl l))
@@ -169,7 +170,7 @@ in-queued new queued birth d i = go (birth == new.birth) i
     go false j = inl j
 
 module _ (w : WorldState) (h : Hidden) (words : ℕ → ℕ) (ticket : Ticket) (drawn : ℕ) (member : In ticket w.kept.tickets) (drawn_is : drawn ≡ words_of_draw (length ticket.material))
-    (has : has_queue w.keys.keys.ready.queues ticket.birth ≡ true) (l : LinkedWorld w h) where
+    (has : has_queue w.keys.keys.ready.queues ticket.birth ≡ true) (l : LinkedDraws w h) where
   abbrev row_list : List KeyRow
   row_list = w.keys.keys.table.rows
 
@@ -256,13 +257,13 @@ module _ (w : WorldState) (h : Hidden) (words : ℕ → ℕ) (ticket : Ticket) (
 
   linked-deposit : StaysLinked h (with_ready w (with_sealed w.keys.keys.ready (sealed_with ticket words))) hidden_then
   linked-deposit = (
-    record { files = l.files; replies = l.replies; draws = deposited-draws; ledger = l.ledger; queues = deposited-queues; tickets = deposited-tickets; batches = l.batches },
+    record { files = l.files; replies = l.replies; draws = deposited-draws; ledger = l.ledger; queues = deposited-queues; tickets = deposited-tickets; batches = l.batches; versions = l.versions },
     λ apart. apart-with h hidden_then h.queued (λ d. d ≡ new_draw) was-drawn once free (omega arith) apart,
   )
 
 -- the world after a deposit with this answer
 answered-deposit : (w : WorldState) (h : Hidden) (words : ℕ → ℕ) (number : ℕ) (ticket : Ticket) (drawn : ℕ) (a : Deposit) → numbered w.kept.tickets number ≡ Some ticket → drawn ≡ words_of_draw (length ticket.material)
-    → deposit_answer w.keys.keys (sealed_with ticket words) ≡ a → LinkedWorld w h
+    → deposit_answer w.keys.keys (sealed_with ticket words) ≡ a → LinkedDraws w h
     → (w' : WorldState) → w' ≡ with_ready w (queues_with w.keys.keys.ready (sealed_with ticket words) a) → StaysLinked h w' (hidden_after w words (event.Deposit number) (line.Deposit a) drawn w' h)
 answered-deposit w h words number ticket drawn Kept at drawn_is kept l w' left =
     subst (λ (v : WorldState). StaysLinked h v (record (behind_words drawn h) { queued = deposited_under (numbered w.kept.tickets number) words h.place h.queued })) (sym left)
@@ -275,7 +276,7 @@ answered-deposit w h words number ticket drawn (Stale opening birth version) at 
     subst (λ (v : WorldState). StaysLinked h v (moved_on w.keys.keys.ready.queues v.keys.keys.ready.queues drawn h)) (sym left)
     (linked-keys w h (with_ready w w.keys.keys.ready).keys drawn (same-service w.keys) l, apart-moved w.keys.keys.ready.queues w.keys.keys.ready.queues drawn h)
 
-pub deposit-keeps : (w : WorldState) (h : Hidden) (words : ℕ → ℕ) (number : ℕ) (outcome : Line) (drawn : ℕ) (logged : Acknowledged) (w' : WorldState) (o : Option Ticket) → LinkedWorld w h → numbered w.kept.tickets number ≡ o
+pub deposit-keeps : (w : WorldState) (h : Hidden) (words : ℕ → ℕ) (number : ℕ) (outcome : Line) (drawn : ℕ) (logged : Acknowledged) (w' : WorldState) (o : Option Ticket) → LinkedDraws w h → numbered w.kept.tickets number ≡ o
     → DepositActs w words o outcome drawn logged w' → StaysLinked h w' (hidden_after w words (event.Deposit number) outcome drawn w' h)
 deposit-keeps w h words number outcome drawn logged w' None l at u =
     subst (λ (t : Line). StaysLinked h w' (hidden_after w words (event.Deposit number) t drawn w' h)) (sym u.reply_is)

@@ -9,18 +9,22 @@ use Rattle.key_rows.specs.Table.{Table}
 use Rattle.kms_core.specs.Draws.{words_of_draw}
 use Rattle.kms_core.specs.State.{IsService, ServiceState, service_after_opening, settled}
 use Rattle.edit_ops.specs.declared.ops.EditOp.{EditOp}
-use Rattle.edit_ops.specs.declared.ops.EditOp.TheVariants.{Opened, Mkdir, File, Remove, Rename, Zone, Allow, Disallow, Snap, Unsnap, Submit, Cancel, Complete}
+use Rattle.edit_ops.specs.declared.ops.EditOp.TheVariants.{Opened, Mkdir, File, Remove, Rename, Zone, Allow, Disallow, Snap, Unsnap, Submit, Update, Cancel, Complete}
 use Rattle.name_store.specs.Store.{is_opening}
 use Rattle.name_store.specs.Table.{NameTable, after_table, settled_table}
+use Rattle.name_store.proofs.StatusLemmas.{fit-of}
+use Rattle.zone_table.specs.Statuses.{StatusesFit}
 use Rattle.name_core.specs.declared.asks.OpenAsk.{OpenAsk}
 use Rattle.name_core.specs.State.{IsNames, IsWaiting, NameService, NameState, next_id, settled as settled_names, started}
-use Rattle.world_run.specs.declared.kept.BatchResult.TheVariants as batch_result
+use Rattle.reenc_update.specs.declared.reply.BatchResult.{BatchResult}
+use Rattle.reenc_update.specs.declared.reply.BatchResult.TheVariants as batch_result
+use Rattle.reenc_walk.specs.declared.sent.BatchNote.{BatchNote}
 use Rattle.world_run.specs.declared.kept.KeptReply.{KeptReply}
 use Rattle.world_run.specs.declared.kept.KeptReply.TheVariants.{ToAsk, ToBatch}
 use Rattle.world_run.specs.World.{Kept, WorldState, with_note, with_reply}
 use Rattle.world_run.specs.Ledger.{Draw, Hidden, Ledger, behind_words, drawn_before, left_in, moved_on, past_of}
 use Rattle.world_run.specs.Promise.{Apart, In}
-use Rattle.world_run.specs.Linked.{BatchesLinked, DrawsFit, FilesLinked, HasDraw, IsDrawn, IsOldBirth, IsRising, KeyLinked, LedgerFits, LinkedWorld, Pairs, QueuesLinked, ReadyLinked, RepliesLinked, Replied, ReplyCameBack, TicketLinked, TicketsLinked, WordsApart, key_in_reply}
+use Rattle.world_run.specs.Linked.{BatchesLinked, DrawsFit, FilesLinked, HasDraw, IsDrawn, IsOldBirth, IsRising, KeyLinked, KeysCameBack, LedgerFits, LinkedDraws, Pairs, QueuesLinked, ReadyLinked, Replied, RepliesLinked, ReplyCameBack, TicketLinked, TicketsLinked, WordsApart, key_in_reply}
 use Rattle.world_run.proofs.Laters.{KeysLater, LaterAt, draw-later, later-opened, later-settled, opens-later, then-later}
 use Rattle.world_run.proofs.Members.{in-more, numbered-in, numbered-more, numbered-within, some-is}
 use Rattle.world_run.proofs.PairLemmas.{drop-as-many, first-once, in-drop, pairs-drop, pairs-long, pairs-then, pairs-with, rising-drop}
@@ -28,14 +32,15 @@ use Rattle.world_run.proofs.QueueLaters.{Shrinks, none-shrinks}
 use Rattle.world_run.proofs.RowLemmas.{InPlace, in-place}
 use Rattle.world_run.proofs.RowsAfter.{files-opened, rows-after}
 use Rattle.world_run.proofs.ServiceLaters.{ServiceLater, StateLater}
+use Rattle.world_run.proofs.VersionLemmas.{below-later, versions-later}
 
 -- the world is linked again, and draws that were apart still are
 abbrev pub StaysLinked : Hidden → WorldState → Hidden → Type 0
-StaysLinked h w h' = LinkedWorld w h' × (WordsApart h → WordsApart h')
+StaysLinked h w h' = LinkedDraws w h' × (WordsApart h → WordsApart h')
 
 -- the world is linked with what is hidden after an event that only takes ready keys out of queues, and draws words
 abbrev pub StillLinked : WorldState → Hidden → ℕ → WorldState → Type 0
-StillLinked w h drawn w' = LinkedWorld w' (moved_on w.keys.keys.ready.queues w'.keys.keys.ready.queues drawn h)
+StillLinked w h drawn w' = LinkedDraws w' (moved_on w.keys.keys.ready.queues w'.keys.keys.ready.queues drawn h)
 
 -- draws of which fewer are left
 
@@ -123,17 +128,30 @@ has-later h IsBirth olds keys id e draws later d =
 
 pub files-later : (h : Hidden) (IsBirth : ℕ → Type 0) (olds keys : List KeyRow) (names : NameTable) → DrawsFit h IsBirth → ((b : ℕ) → IsBirth b → LaterAt olds keys b) → FilesLinked h.ledger olds names → FilesLinked h.ledger keys names
 files-later h IsBirth olds keys names draws later f =
-    record { files = λ row e i is. has-later h IsBirth olds keys row.id e draws later (f.files row e i is); zones = f.zones; statuses = f.statuses }
+    record { files = λ row e i is. has-later h IsBirth olds keys row.id e draws later (f.files row e i is); zones = f.zones; statuses = f.statuses; distinct = f.distinct }
+
+back-later : (h : Hidden) (IsBirth : ℕ → Type 0) (olds keys : List KeyRow) (note : BatchNote) (result : BatchResult) → DrawsFit h IsBirth → ((b : ℕ) → IsBirth b → LaterAt olds keys b)
+    → KeysCameBack h.ledger olds note result → KeysCameBack h.ledger keys note result
+back-later h IsBirth olds keys note batch_result.Refused draws later back = tt
+back-later h IsBirth olds keys note (batch_result.Ready edeks) draws later back = λ place x e sent got.
+    let was = back place x e sent got in
+    record {
+      came = record { of_key = was.came.of_key; has = has-later h IsBirth olds keys x.id e draws later was.came.has };
+      of_session = was.of_session;
+      not_below = below-later h IsBirth olds keys note.session e draws later was.not_below;
+    }
 
 reply-later : (h : Hidden) (IsBirth : ℕ → Type 0) (olds keys : List KeyRow) (r : KeptReply) → DrawsFit h IsBirth → ((b : ℕ) → IsBirth b → LaterAt olds keys b) → ReplyCameBack h.ledger olds r → ReplyCameBack h.ledger keys r
 reply-later h IsBirth olds keys (ToAsk id answer) draws later back = tt
-reply-later h IsBirth olds keys (ToBatch batch (batch_result.Refused why)) draws later back = tt
-reply-later h IsBirth olds keys (ToBatch batch (batch_result.Ready edeks)) draws later back = λ place x e sent got.
-    let was = back place x e sent got in record { of_key = was.of_key; has = has-later h IsBirth olds keys x.id e draws later was.has }
+reply-later h IsBirth olds keys (ToBatch reply) draws later back = (back.0, back-later h IsBirth olds keys reply.note reply.result draws later back.1)
 
 batches-later : (h : Hidden) (IsBirth : ℕ → Type 0) (olds keys : List KeyRow) (kept : Kept) → DrawsFit h IsBirth → ((b : ℕ) → IsBirth b → LaterAt olds keys b) → BatchesLinked h.ledger olds kept → BatchesLinked h.ledger keys kept
 batches-later h IsBirth olds keys kept draws later l =
-    record { sent = λ batch x i j. has-later h IsBirth olds keys x.id x.edek draws later (l.sent batch x i j); back = λ r i. reply-later h IsBirth olds keys r draws later (l.back r i) }
+    record {
+      sent = λ batch x i j. has-later h IsBirth olds keys x.id x.edek draws later (l.sent batch x i j);
+      sessions = l.sessions;
+      back = λ r i. reply-later h IsBirth olds keys r draws later (l.back r i);
+    }
 
 replies-later : (h : Hidden) (IsBirth : ℕ → Type 0) (olds keys : List KeyRow) (replies : List KeptReply) → DrawsFit h IsBirth → ((b : ℕ) → IsBirth b → LaterAt olds keys b)
     → RepliesLinked olds replies h.replied → RepliesLinked keys replies h.replied
@@ -167,7 +185,7 @@ tickets-later t u before after tickets later linked ticket i =
     was : TicketLinked t before ticket
     was = linked ticket i
 
-pub linked-keys : (w : WorldState) (h : Hidden) (keys : ServiceState) (drawn : ℕ) → ServiceLater w.keys keys → LinkedWorld w h → StillLinked w h drawn (record w { keys = keys })
+pub linked-keys : (w : WorldState) (h : Hidden) (keys : ServiceState) (drawn : ℕ) → ServiceLater w.keys keys → LinkedDraws w h → StillLinked w h drawn (record w { keys = keys })
 linked-keys w h keys drawn later l =
     let IsBirth : ℕ → Type 0 = IsOldBirth w.keys.keys.table in
     let olds : List KeyRow = w.keys.keys.table.rows in
@@ -182,10 +200,11 @@ linked-keys w h keys drawn later l =
       queues = queues-moved h IsBirth olds rows before after drawn l.draws later.keys.rows later.shrinks l.queues;
       tickets = tickets-later w.keys.keys.table keys.keys.table before after w.kept.tickets later l.tickets;
       batches = batches-later h IsBirth olds rows w.kept l.draws later.keys.rows l.batches;
+      versions = versions-later h IsBirth olds rows l.draws later.keys.rows l.versions;
     }
 
 -- words are drawn, and the queues are the same
-linked-words : (w : WorldState) (h : Hidden) (drawn : ℕ) → LinkedWorld w h → LinkedWorld w (behind_words drawn h)
+linked-words : (w : WorldState) (h : Hidden) (drawn : ℕ) → LinkedDraws w h → LinkedDraws w (behind_words drawn h)
 linked-words w h drawn l =
     record {
       files = l.files;
@@ -195,13 +214,14 @@ linked-words w h drawn l =
       queues = record { opens = l.queues.opens; rising = l.queues.rising; not_replied = l.queues.not_replied; not_entered = l.queues.not_entered };
       tickets = l.tickets;
       batches = l.batches;
+      versions = l.versions;
     }
 
-pub linked-still : (w : WorldState) (h : Hidden) (drawn : ℕ) → LinkedWorld w h → StillLinked w h drawn w
-linked-still w h drawn l = subst (LinkedWorld w) (sym (moved-same w.keys.keys.ready.queues drawn h)) (linked-words w h drawn l)
+pub linked-still : (w : WorldState) (h : Hidden) (drawn : ℕ) → LinkedDraws w h → StillLinked w h drawn w
+linked-still w h drawn l = subst (LinkedDraws w) (sym (moved-same w.keys.keys.ready.queues drawn h)) (linked-words w h drawn l)
 
 -- the keys that a start finds, with the pending command kept or dropped
-pub linked-restart : (w : WorldState) (h : Hidden) (drawn : ℕ) (kept : Bool) (table : Table) → table ≡ (settled kept w.keys).table → IsService w.keys → LinkedWorld w h
+pub linked-restart : (w : WorldState) (h : Hidden) (drawn : ℕ) (kept : Bool) (table : Table) → table ≡ (settled kept w.keys).table → IsService w.keys → LinkedDraws w h
     → StillLinked w h drawn (record w { keys = service_after_opening w.keys.keys.ready table })
 linked-restart w h drawn kept table is fit l =
     let then : ServiceState = service_after_opening w.keys.keys.ready table in
@@ -223,6 +243,15 @@ rows-settled kept s fit = go kept s.pending fit.waits
     go true (Some op) waits = rows-after s.names.table op (in-place s.names.table.rows fit.table.rules) waits.pending.allowed
     go false (Some op) waits = in-place s.names.table.rows fit.table.rules
 
+-- and the statuses fit them
+pub statuses-settled : (kept : Bool) (s : NameService) → IsNames s → StatusesFit (settled_names kept s).table.rows (settled_names kept s).table.statuses
+statuses-settled kept s fit = go kept s.pending fit.waits
+  where
+    go : (b : Bool) (o : Option EditOp) → IfSome o (IsWaiting s.names) → StatusesFit (settled_table b o s.names.table).rows (settled_table b o s.names.table).statuses
+    go b None waits = fit.table.statuses
+    go true (Some op) waits = (fit-of s.names.table s.names.table op op refl refl fit.table waits.pending.allowed).1
+    go false (Some op) waits = fit.table.statuses
+
 -- the opening is the same after an operation that is not an opening
 same-opening : (t : NameTable) (op : EditOp) → is_opening op ≡ false → (after_table t op).opening ≡ t.opening
 same-opening t (Opened opening) h = absurd cc
@@ -236,6 +265,7 @@ same-opening t (Disallow p) h = refl
 same-opening t (Snap p name) h = refl
 same-opening t (Unsnap p name) h = refl
 same-opening t (Submit session p noted) h = refl
+same-opening t (Update session failed mark files) h = refl
 same-opening t (Cancel session) h = refl
 same-opening t (Complete session) h = refl
 
@@ -262,11 +292,11 @@ ledger-more ledger replies replied asks next more over f =
     record { one_draw = f.one_draw; one_file = f.one_file; below = λ id d i. let h = f.below id d i in omega (arith, h, over); recent = f.recent; not_open = f.not_open; its_ask = f.its_ask }
 
 pub linked-names : (w : WorldState) (h : Hidden) (names : NameService) → ((kept : Bool) → FilesLinked h.ledger w.keys.keys.table.rows (settled_names kept names).table)
-    → LedgerFits h.ledger w.kept.replies h.replied names.names.asks (next_id names.names) → LinkedWorld w h → LinkedWorld (record w { names = names }) h
-linked-names w h names files fits l = record { files = files; replies = l.replies; draws = l.draws; ledger = fits; queues = l.queues; tickets = l.tickets; batches = l.batches }
+    → LedgerFits h.ledger w.kept.replies h.replied names.names.asks (next_id names.names) → LinkedDraws w h → LinkedDraws (record w { names = names }) h
+linked-names w h names files fits l = record { files = files; replies = l.replies; draws = l.draws; ledger = fits; queues = l.queues; tickets = l.tickets; batches = l.batches; versions = l.versions }
 
 -- the one that a start finds, with the pending operation kept or dropped
-pub linked-reopened : (w : WorldState) (h : Hidden) (kept : Bool) (table : NameTable) → table ≡ (settled_names kept w.names).table → IsNames w.names → LinkedWorld w h → LinkedWorld (record w { names = started w.names.names.batch table }) h
+pub linked-reopened : (w : WorldState) (h : Hidden) (kept : Bool) (table : NameTable) → table ≡ (settled_names kept w.names).table → IsNames w.names → LinkedDraws w h → LinkedDraws (record w { names = started w.names.names.batch table }) h
 linked-reopened w h kept table is fit l =
     linked-names w h (started w.names.names.batch table) (λ again. files-opened h.ledger w.keys.keys.table.rows table (table.opening + 1) (subst (FilesLinked h.ledger w.keys.keys.table.rows) (sym is) (l.files kept))) (
     record {
@@ -302,7 +332,7 @@ asks-more ledger replies replied asks q next new f =
     }
 
 pub linked-ask : (w : WorldState) (h : Hidden) (q : OpenAsk) (names : NameState) → names.table ≡ w.names.names.table → names.asks ≡ w.names.names.asks ++ q ∷ [] → next_id names ≡ next_id w.names.names + 1
-    → q.id ≡ next_id w.names.names → LinkedWorld w h → LinkedWorld (with_note (record { id = q.id; want = q.want }) (record w { names = record w.names { names = names } })) h
+    → q.id ≡ next_id w.names.names → LinkedDraws w h → LinkedDraws (with_note (record { id = q.id; want = q.want }) (record w { names = record w.names { names = names } })) h
 linked-ask w h q names table asks next new l =
     record {
       files = λ kept. subst (λ (t : NameTable). FilesLinked h.ledger w.keys.keys.table.rows (settled_table kept w.names.pending t)) (sym table) (l.files kept);
@@ -313,7 +343,8 @@ linked-ask w h q names table asks next new l =
           (asks-more h.ledger w.kept.replies h.replied w.names.names.asks q (next_id w.names.names) new l.ledger));
       queues = l.queues;
       tickets = l.tickets;
-      batches = record { sent = l.batches.sent; back = l.batches.back };
+      batches = record { sent = l.batches.sent; sessions = l.batches.sessions; back = l.batches.back };
+      versions = l.versions;
     }
 
 -- a new draw, and a draw that leaves its queue
@@ -494,7 +525,7 @@ module _ (w : WorldState) (h : Hidden) (keys : ServiceState) (drawn : ℕ) (r : 
         not_entered = q.not_entered;
       }
 
-  pub linked-reply : LinkedWorld w h → LinkedWorld (with_reply r (record w { keys = keys })) (AfterReply h old_queues new_queues drawn o)
+  pub linked-reply : LinkedDraws w h → LinkedDraws (with_reply r (record w { keys = keys })) (AfterReply h old_queues new_queues drawn o)
   linked-reply l =
       let m = linked-keys w h keys drawn later l in
       record {
@@ -506,6 +537,8 @@ module _ (w : WorldState) (h : Hidden) (keys : ServiceState) (drawn : ℕ) (r : 
         tickets = m.tickets;
         batches = record {
           sent = m.batches.sent;
+          sessions = m.batches.sessions;
           back = λ q i. elim (in-more q r w.kept.replies i) [ inl old ↦ m.batches.back q old | inr is ↦ subst (ReplyCameBack h.ledger keys.keys.table.rows) (sym is) n.back ];
         };
+        versions = m.versions;
       }

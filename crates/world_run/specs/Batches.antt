@@ -1,9 +1,8 @@
 -- Batches of files that a walk gives, and the call of the key management service for one.
-use Rattle.std.specs.Prelude.{ℕ, ◌≤◌, List, [], ◌∷◌, ◌++◌, length, map, Result, Ok, Err, ⊤}
+use Rattle.std.specs.Prelude.{ℕ, List, [], ◌∷◌, ◌++◌, length, map, Option, None, Some, Result, Ok, Err}
 use Rattle.hk_base.specs.declared.names.KeyName.{KeyName}
 use Rattle.kms_calls.specs.declared.calls.KmsCall.{KmsCall}
 use Rattle.kms_calls.specs.declared.calls.KmsCall.TheVariants as key_call
-use Rattle.kms_calls.specs.declared.calls.KmsRefusal.TheVariants as key_refusal
 use Rattle.kms_calls.specs.declared.calls.KmsReply.{KmsReply}
 use Rattle.kms_calls.specs.declared.calls.KmsReply.TheVariants as key_reply
 use Rattle.kms_calls.specs.declared.calls.RawEdek.{RawEdek}
@@ -15,8 +14,11 @@ use Rattle.reenc_walk.specs.declared.sent.BatchNote.{BatchNote}
 use Rattle.reenc_walk.specs.declared.sent.Sent.{Sent}
 use Rattle.hk_events.specs.declared.event.Line.{Line}
 use Rattle.hk_events.specs.declared.event.Line.TheVariants as line
-use Rattle.world_run.specs.declared.kept.BatchResult.{BatchResult}
-use Rattle.world_run.specs.declared.kept.BatchResult.TheVariants as batch_result
+use Rattle.reenc_update.specs.declared.reply.BatchResult.{BatchResult}
+use Rattle.reenc_update.specs.declared.reply.BatchResult.TheVariants as batch_result
+use Rattle.reenc_update.specs.Replies.{Fits, ReplyState}
+use Rattle.world_run.specs.declared.kept.KeptReply.{KeptReply}
+use Rattle.world_run.specs.declared.kept.KeptReply.TheVariants.{ToAsk, ToBatch}
 use Rattle.world_run.specs.World.{WorldState, with_batch}
 
 -- the answer of a walk: a batch is kept
@@ -53,10 +55,17 @@ batch_call batch = key_call.Batch (key_of_sent batch.sent) (raw_keys batch.sent)
 -- what the reply means for the batch; a Batch call has no other replies
 abbrev pub result_of : KmsReply → BatchResult
 result_of (key_reply.Ready edeks) = batch_result.Ready edeks
-result_of (key_reply.Refused why) = batch_result.Refused why
-result_of _ = batch_result.Refused key_refusal.BadRequest
+result_of _ = batch_result.Refused
 
--- the reply has at most this number of encrypted keys
-abbrev pub KeysFit : ℕ → KmsReply → Type 0
-KeysFit count (key_reply.Ready edeks) = length edeks ≤ count
-KeysFit count _ = ⊤
+-- the reply is to the call for the batch
+abbrev pub reply_for : BatchNote → KmsReply → ReplyState
+reply_for batch reply = record { note = batch; result = result_of reply }
+
+-- the batch and what a kept reply means for it, if the reply is to the call for a batch
+abbrev pub batch_reply_of : KeptReply → Option ReplyState
+batch_reply_of (ToAsk id answer) = None
+batch_reply_of (ToBatch reply) = Some reply
+
+-- the reply has one encrypted key for each file of the batch, of the same key, or it is a refusal
+abbrev pub ReplyFits : BatchNote → KmsReply → Type 0
+ReplyFits batch reply = Fits batch.sent (result_of reply)

@@ -23,8 +23,8 @@ use Rattle.hk_events.specs.declared.event.Event.{Event}
 use Rattle.hk_events.specs.declared.event.Line.{Line}
 use Rattle.world_run.specs.declared.kept.KeptReply.{KeptReply}
 use Rattle.world_run.specs.Acknowledged.{Acknowledged, nothing_acknowledged, of_keys, of_names}
-use Rattle.world_run.specs.Step.{DepositActs, DrawActs, FinishReply, NamesAct, PathActs, ServeActs, Step, WalkAt, WantActs}
-use Rattle.world_run.specs.Own.{OwnKeysOfEvent, OwnOfEvent, OwnOfNamesCall, OwnOfPath, OwnOfReply, OwnOfWalkAt}
+use Rattle.world_run.specs.Step.{DeliverReply, DepositActs, DrawActs, FinishReply, GiveUpBatch, NamesAct, PathActs, ServeActs, Step, WalkAt, WantActs}
+use Rattle.world_run.specs.Own.{OwnKeysOfEvent, OwnOfDelivery, OwnOfEvent, OwnOfGivingUp, OwnOfNamesCall, OwnOfPath, OwnOfReply, OwnOfWalkAt}
 use Rattle.world_run.specs.World.{RunningWorld, next_batch, world_of}
 
 -- The key log grew by the acknowledged commands, and the namesystem is unchanged.
@@ -85,6 +85,18 @@ WalkHappens old new r path result r' =
 abbrev pub ServeHappens : List PropLine → DiskState → DiskState → RunningWorld → (ℕ → ℕ) → ℕ → Option BatchNote → Line → RunningWorld → (ℕ → ℕ) → Type 0
 ServeHappens lines old new r words now batch result r' words' =
     Does old new r r' words words' NoCommand NothingMore (λ drawn logged. ServeActs lines (world_of r) words now batch (Rose old.faults new.faults) result drawn logged (world_of r'))
+
+-- a delivery, and a giving up
+
+abbrev pub DeliverHappens : DiskState → DiskState → RunningWorld → Option KeptReply → Line → RunningWorld → Type 0
+DeliverHappens old new r reply result r' =
+    (words : ℕ → ℕ) → Does old new r r' words words NoCommand (OwnOfDelivery (world_of r).names reply result (world_of r').names)
+    (λ drawn logged. DeliverReply (world_of r) reply (Rose old.faults new.faults) result drawn logged (world_of r'))
+
+abbrev pub GiveUpHappens : DiskState → DiskState → RunningWorld → Option BatchNote → Line → RunningWorld → Type 0
+GiveUpHappens old new r batch result r' =
+    (words : ℕ → ℕ) → Does old new r r' words words NoCommand (OwnOfGivingUp (world_of r).names batch result (world_of r').names)
+    (λ drawn logged. GiveUpBatch (world_of r) batch (Rose old.faults new.faults) result drawn logged (world_of r'))
 
 -- the parts of a draw
 

@@ -10,11 +10,11 @@ use Rattle.world_run.specs.Promise.{FilesApart, FilesOpen}
 
 -- two files that were never written are such files, with an empty ledger
 abbrev pub EmptyFilesAreSound : Type 0
-EmptyFilesAreSound = (c : Image) → length (c 0) ≤ 9 → length (c 1) ≤ 9 → SoundFiles (record { ledger = []; place = 0 }) c
+EmptyFilesAreSound = (c : Image) → length (c 0) ≤ 9 → length (c 1) ≤ 9 → SoundFiles (record { ledger = []; place = 0; starts = [] }) c
 
 -- without draws, draws are apart
 abbrev pub NoDrawsAreApart : Type 0
-NoDrawsAreApart = WordsApart (drawn_before (record { ledger = []; place = 0 }))
+NoDrawsAreApart = WordsApart (drawn_before (record { ledger = []; place = 0; starts = [] }))
 
 -- draws that are apart in a run are apart in what the next run finds of it
 abbrev pub PastDrawsAreApart : Type 0
@@ -33,4 +33,4 @@ SoundFilesAreWhole = (past : Past) (c : Image) (at : ℕ) → SoundFiles past c 
 abbrev pub SoundFilesOpen : Type 0
 SoundFilesOpen =
     (past : Past) (c : Image) (s : SoundFiles past c) (found found_names : Bool)
-    → FilesOpen past.ledger (settled_table found s.more s.table).rows (settled_log found_names s.more_ops s.made).table
+    → FilesOpen past (settled_table found s.more s.table).rows (settled_log found_names s.more_ops s.made).table

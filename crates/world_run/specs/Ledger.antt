@@ -1,5 +1,8 @@
--- What is stored nowhere: which data encryption key was drawn for which file, and which showed the version noted by a re-encryption.
-use Rattle.std.specs.Prelude.{ℕ, ◌+◌, ◌-◌, ◌==◌, if◌then◌else◌, drop, Bool, true, false, List, [], ◌∷◌, ◌++◌, length, Option, None, Some}
+-- What is stored nowhere: which data encryption key was drawn for which file, which showed the version noted by a re-encryption, and
+-- which files a zone had when its re-encryption was submitted.
+use Rattle.std.specs.Prelude.{ℕ, ◌+◌, ◌-◌, ◌==◌, if◌then◌else◌, drop, Bool, true, false, List, [], ◌∷◌, ◌++◌, length, map, Option, None, Some}
+use Rattle.std.specs.List.{filter, find}
+use Rattle.std.specs.Option.{option_map_or}
 use Rattle.hk_base.specs.declared.names.Dek.{Dek}
 use Rattle.hk_base.specs.declared.names.Iv.{Iv}
 use Rattle.hk_base.specs.declared.names.KeyName.{KeyName}
@@ -15,7 +18,10 @@ use Rattle.kms_core.specs.Calls.{birth_of, current_material, current_version, ro
 use Rattle.name_calls.specs.declared.calls.AskNote.{AskNote}
 use Rattle.edit_ops.specs.declared.ops.EditOp.{EditOp}
 use Rattle.edit_ops.specs.declared.ops.EditOp.TheVariants.{File, Submit}
-use Rattle.name_core.specs.State.{NameService}
+use Rattle.inode_tree.specs.Rows.{Entry}
+use Rattle.inode_tree.specs.ZoneFiles.{is_file_of}
+use Rattle.name_core.specs.State.{NameService, settled as settled_names}
+use Rattle.name_store.specs.Table.{NameTable}
 use Rattle.name_calls.specs.declared.calls.NameReply.TheVariants.{Done}
 use Rattle.name_calls.specs.declared.calls.NameRefusal.TheVariants.{StoreFault}
 use Rattle.name_calls.specs.declared.calls.Want.{Want}
@@ -26,6 +32,7 @@ use Rattle.hk_events.specs.declared.event.Line.{Line}
 use Rattle.hk_events.specs.declared.event.Line.TheVariants as line
 use Rattle.world_run.specs.declared.kept.KeptReply.{KeptReply}
 use Rattle.world_run.specs.declared.kept.KeptReply.TheVariants.{ToAsk, ToBatch}
+use Rattle.zone_table.specs.declared.statuses.StatusRow.{StatusRow}
 use Rattle.world_run.specs.World.{WorldState, numbered}
 
 -- A data encryption key that was drawn: where its words begin in the stream of random words, the birth and the version
@@ -40,26 +47,33 @@ pub record Draw : Type 0 where
 abbrev pub Ledger : Type 0
 Ledger = List (ℕ × Draw)
 
+-- for each id that was entered, the ids of the files that its zone had when its re-encryption was submitted: none for the id of a file
+abbrev pub Starts : Type 0
+Starts = List (ℕ × List ℕ)
+
 -- the number of words drawn so far; for each birth the draws of the ready keys in its queue, in order; for each kept reply the draw
--- of its key, if it has one; and which draw the file or the re-encryption of each id got
+-- of its key, if it has one; which draw the file or the re-encryption of each id got; and which files each re-encryption began with
 pub record Hidden : Type 0 where
   pub place : ℕ
   pub queued : ℕ → List Draw
   pub replied : List (Option Draw)
   pub ledger : Ledger
+  pub starts : Starts
 
--- what is hidden of earlier runs: which draw the file or the re-encryption of each id got, and the number of words drawn by then
+-- what is hidden of earlier runs: which draw the file or the re-encryption of each id got, the number of words drawn by then, and which
+-- files each re-encryption began with
 pub record Past : Type 0 where
   pub ledger : Ledger
   pub place : ℕ
+  pub starts : Starts
 
 -- the rest of what is hidden, after the queues and the kept replies are lost
 abbrev pub past_of : Hidden → Past
-past_of h = record { ledger = h.ledger; place = h.place }
+past_of h = record { ledger = h.ledger; place = h.place; starts = h.starts }
 
 -- before the first event
 abbrev pub drawn_before : Past → Hidden
-drawn_before past = record { place = past.place; queued = λ birth. []; replied = []; ledger = past.ledger }
+drawn_before past = record { place = past.place; queued = λ birth. []; replied = []; ledger = past.ledger; starts = past.starts }
 
 -- the draw of a generate of one key
 abbrev pub draw_of : KmsState → (ℕ → ℕ) → ℕ → KeyName → Draw
@@ -129,7 +143,7 @@ makes_entry id _ = false
 abbrev pub id_of_reply : Option KeptReply → ℕ
 id_of_reply None = 0
 id_of_reply (Some (ToAsk id answer)) = id
-id_of_reply (Some (ToBatch batch answer)) = 0
+id_of_reply (Some (ToBatch reply)) = 0
 
 -- A finish enters its draw if it is done, and if the disk failed at its record: the file, or the re-encryption, is pending then.
 abbrev pub enters : ℕ → Line → NameService → Bool
@@ -141,6 +155,21 @@ abbrev pub entered : Bool → Ledger → Ledger
 entered true entry = entry
 entered false entry = []
 
+-- the ids of the files of a zone
+abbrev pub files_of_zone : List Entry → ℕ → List ℕ
+files_of_zone rows zone = map (λ (e : Entry). e.row.id) (filter (is_file_of rows zone) rows)
+
+abbrev pub is_session : ℕ → StatusRow → Bool
+is_session session s = s.session == session
+
+-- the ids of the files of the zone whose last re-encryption has this id: none if no zone has
+abbrev pub files_under : NameTable → ℕ → List ℕ
+files_under t session = option_map_or (λ (s : StatusRow). files_of_zone t.rows s.zone) (find (is_session session) t.statuses) []
+
+-- for each of these entries, the files that its re-encryption begins with
+abbrev pub starts_of : NameTable → Ledger → Starts
+starts_of t entries = map (λ (entry : ℕ × Draw). (entry.0, files_under t entry.0)) entries
+
 -- `drawn` more words were drawn
 abbrev pub behind_words : ℕ → Hidden → Hidden
 behind_words drawn h = record h { place = h.place + drawn }
@@ -150,8 +179,8 @@ abbrev pub moved_on : List Queue → List Queue → ℕ → Hidden → Hidden
 moved_on before after drawn h = record (behind_words drawn h) { queued = left_in before after h.queued }
 
 -- What is hidden after an event with this answer, and this world after it: a draw keeps what was drawn for its reply, a finish
--- enters the draw of the reply that it used, if it enters one, and a deposit that is kept queues its draw. The reply to the call for a
--- batch has no draw.
+-- enters the draw of the reply that it used, if it enters one, and the files of the zone if it submits one, and a deposit that is kept
+-- queues its draw. The reply to the call for a batch has no draw.
 abbrev pub hidden_after : WorldState → (ℕ → ℕ) → Event → Line → ℕ → WorldState → Hidden → Hidden
 hidden_after w words (event.Draw number) (line.Replied n result) drawn w' h =
     record (moved_on w.keys.keys.ready.queues w'.keys.keys.ready.queues drawn h) { replied = h.replied ++ draw_noted w.keys.keys words h (numbered w.kept.notes number) result ∷ [] }
@@ -159,9 +188,8 @@ hidden_after w words (event.Deposit number) (line.Deposit Kept) drawn w' h =
     record (behind_words drawn h) { queued = deposited_under (numbered w.kept.tickets number) words h.place h.queued }
 hidden_after w words (event.Finish number) result drawn w' h =
     let kept = numbered w.kept.replies number in
-    record (moved_on w.keys.keys.ready.queues w'.keys.keys.ready.queues drawn h) {
-      ledger = h.ledger ++ entered (enters (id_of_reply kept) result w'.names) (entry_of kept (numbered h.replied number));
-    }
+    let entry = entered (enters (id_of_reply kept) result w'.names) (entry_of kept (numbered h.replied number)) in
+    record (moved_on w.keys.keys.ready.queues w'.keys.keys.ready.queues drawn h) { ledger = h.ledger ++ entry; starts = h.starts ++ starts_of (settled_names true w'.names).table entry }
 hidden_after w words (event.Serve number) (line.Replied n result) drawn w' h =
     record (moved_on w.keys.keys.ready.queues w'.keys.keys.ready.queues drawn h) { replied = h.replied ++ None ∷ [] }
 hidden_after w words _ _ drawn w' h = moved_on w.keys.keys.ready.queues w'.keys.keys.ready.queues drawn h

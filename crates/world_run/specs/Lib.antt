@@ -1,5 +1,6 @@
 pub mod Acknowledged
 pub mod Batches
+pub mod Covered
 pub mod Does
 pub mod Keeps
 pub mod Ledger

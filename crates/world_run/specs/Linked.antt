@@ -1,8 +1,9 @@
 -- What stays true from event to event, and gives the promise on zone files.
-use Rattle.std.specs.Prelude.{◌≡◌, ◌⊎◌, ◌+◌, ◌*◌, ◌^◌, ◌<◌, ◌≤◌, ℕ, ⊤, Bool, List, [], ◌∷◌, length, true, slice_get, Option, None, Some}
+use Rattle.std.specs.Prelude.{◌≡◌, ◌≢◌, ◌⊎◌, ◌+◌, ◌*◌, ◌^◌, ◌<◌, ◌≤◌, ℕ, ⊤, Bool, List, [], ◌∷◌, length, true, slice_get, Option, None, Some}
 use Rattle.std.specs.List.{AllByRecursion}
 use Rattle.hk_base.specs.Disk.{DiskState, Image, IsImage}
 use Rattle.hk_base.specs.declared.names.Edek.{Edek}
+use Rattle.hk_base.specs.declared.names.KeyName.{KeyName}
 use Rattle.hk_base.specs.declared.names.VersionName.{VersionName}
 use Rattle.eek_queues.specs.Queues.{Queue, has_queue, ready_in}
 use Rattle.eek_seal.specs.declared.tickets.Ticket.{Ticket}
@@ -24,12 +25,15 @@ use Rattle.name_calls.specs.declared.calls.KeyAnswer.TheVariants.{Given, Refused
 use Rattle.name_core.specs.State.{IsNames, next_id, settled as settled_names}
 use Rattle.world_run.specs.declared.kept.KeptReply.{KeptReply}
 use Rattle.world_run.specs.declared.kept.KeptReply.TheVariants.{ToAsk, ToBatch}
-use Rattle.world_run.specs.declared.kept.BatchResult.TheVariants as batch_result
+use Rattle.reenc_update.specs.Replies.{Fits}
+use Rattle.reenc_update.specs.declared.reply.BatchResult.{BatchResult}
+use Rattle.reenc_update.specs.declared.reply.BatchResult.TheVariants as batch_result
 use Rattle.reenc_walk.specs.declared.sent.BatchNote.{BatchNote}
 use Rattle.reenc_walk.specs.declared.sent.Sent.{Sent}
 use Rattle.zone_table.specs.declared.statuses.StatusRow.{StatusRow}
 use Rattle.world_run.specs.World.{Kept, WorldState, numbered}
-use Rattle.world_run.specs.Ledger.{Draw, Hidden, Ledger, Past, drawn_before}
+use Rattle.world_run.specs.Ledger.{Draw, Hidden, Ledger, Past, drawn_before, past_of}
+use Rattle.world_run.specs.Covered.{CoveredBy}
 use Rattle.world_run.specs.Promise.{Apart, FilesApart, FitsZone, In, edek_of}
 
 -- what is true of each service by itself
@@ -57,11 +61,26 @@ pub record HasNoted (ledger : Ledger) (session : ℕ) (noted : VersionName) : Ty
 abbrev pub StatusesLinked : Ledger → List StatusRow → Type 0
 StatusesLinked ledger statuses = (s : StatusRow) → In s statuses → HasNoted ledger s.session s.noted
 
+-- another re-encryption, of another zone
+pub record IsOther (s t : StatusRow) : Type 0 where
+  pub session : s.session ≢ t.session
+  pub zone : s.zone ≢ t.zone
+
+-- no two re-encryptions have one id or one zone
+abbrev pub AreDistinct : List StatusRow → Type 0
+AreDistinct [] = ⊤
+AreDistinct (s ∷ ss) = AllByRecursion (IsOther s) ss × AreDistinct ss
+
+-- a draw of the ledger, while its key exists, has that key's name and one of its versions
+abbrev pub VersionsStand : Ledger → List KeyRow → Type 0
+VersionsStand ledger keys = (id : ℕ) (d : Draw) (row : KeyRow) → In (id, d) ledger → In row keys → row.birth ≡ d.birth → (row.name ≡ d.version.key) × (d.version.number < length row.materials)
+
 -- each file that the table keeps has a draw, each live entry fits its zone, and each re-encryption has a draw
 pub record FilesLinked (ledger : Ledger) (keys : List KeyRow) (names : NameTable) : Type 0 where
   pub files : (row : Row) (e : Edek) → In row (kept_rows names) → edek_of row.kind ≡ Some e → HasDraw ledger keys row.id e
   pub zones : (x : Entry) → In x names.rows → FitsZone (key_of_zone names.rows x.path) x.row.kind
   pub statuses : StatusesLinked ledger names.statuses
+  pub distinct : AreDistinct names.statuses
 
 -- the key of a kept reply, and its draw
 abbrev pub KeyLinked : List KeyRow → Option Edek → Option Draw → Type 0
@@ -77,12 +96,12 @@ given (Given edek) = edek
 -- the encrypted key that a kept reply gives, if it gives one
 abbrev pub key_in_reply : KeptReply → Option Edek
 key_in_reply (ToAsk id answer) = given answer
-key_in_reply (ToBatch batch answer) = None
+key_in_reply (ToBatch reply) = None
 
 -- the reply is to the ask of this id
 abbrev pub IsReplyTo : ℕ → KeptReply → Type 0
 IsReplyTo id (ToAsk ask_id answer) = ask_id ≡ id
-IsReplyTo id (ToBatch batch answer) = ⊥
+IsReplyTo id (ToBatch reply) = ⊥
 
 -- a reply and its draw, if it has one, kept under one number
 abbrev pub Replied : List KeptReply → List (Option Draw) → KeptReply → Option Draw → Type 0
@@ -172,25 +191,46 @@ pub record TicketLinked (keys : Table) (queues : List Queue) (t : Ticket) : Type
 abbrev pub TicketsLinked : Table → List Queue → List Ticket → Type 0
 TicketsLinked keys queues tickets = (t : Ticket) → In t tickets → TicketLinked keys queues t
 
+-- the draw of the re-encryption of this id is of this key
+pub record OfSession (ledger : Ledger) (session : ℕ) (key : KeyName) : Type 0 where
+  pub draw : Draw
+  pub entered : In (session, draw) ledger
+  pub of_key : draw.version.key ≡ key
+
+-- the encrypted key is not of an earlier version than the draw of the re-encryption of this id, while the key of that draw exists
+abbrev pub NotBelow : Ledger → List KeyRow → ℕ → Edek → Type 0
+NotBelow ledger keys session e = (d : Draw) (row : KeyRow) → In (session, d) ledger → In row keys → row.birth ≡ d.birth → d.version.number ≤ e.version.number
+
 -- an encrypted key that came back for a file, under the same key as the one that was sent: it is that of the file's draw
 pub record CameBack (ledger : Ledger) (keys : List KeyRow) (x : Sent) (e : Edek) : Type 0 where
   pub of_key : e.version.key ≡ x.edek.version.key
   pub has : HasDraw ledger keys x.id e
 
--- each key of a reply to the call for a batch came back for the file at its place
+-- an encrypted key that came back in a re-encryption, for a file that was sent
+pub record CameBackIn (ledger : Ledger) (keys : List KeyRow) (session : ℕ) (x : Sent) (e : Edek) : Type 0 where
+  pub came : CameBack ledger keys x e
+  pub of_session : OfSession ledger session e.version.key
+  pub not_below : NotBelow ledger keys session e
+
+-- each key of the result of a call for a batch came back for the file at its place
+abbrev pub KeysCameBack : Ledger → List KeyRow → BatchNote → BatchResult → Type 0
+KeysCameBack ledger keys note batch_result.Refused = ⊤
+KeysCameBack ledger keys note (batch_result.Ready edeks) =
+    (place : ℕ) (x : Sent) (e : Edek) → slice_get note.sent place ≡ Some x → slice_get edeks place ≡ Some e → CameBackIn ledger keys note.session x e
+
+-- as many came back as were sent, each of the same key
 abbrev pub ReplyCameBack : Ledger → List KeyRow → KeptReply → Type 0
 ReplyCameBack ledger keys (ToAsk id answer) = ⊤
-ReplyCameBack ledger keys (ToBatch batch (batch_result.Refused why)) = ⊤
-ReplyCameBack ledger keys (ToBatch batch (batch_result.Ready edeks)) =
-    (place : ℕ) (x : Sent) (e : Edek) → slice_get batch.sent place ≡ Some x → slice_get edeks place ≡ Some e → CameBack ledger keys x e
+ReplyCameBack ledger keys (ToBatch reply) = Fits reply.note.sent reply.result × KeysCameBack ledger keys reply.note reply.result
 
--- the encrypted keys of kept batches, and those that came back for them
+-- the encrypted keys of kept batches, each of the key of its re-encryption, and those that came back for them
 pub record BatchesLinked (ledger : Ledger) (keys : List KeyRow) (kept : Kept) : Type 0 where
   pub sent : (batch : BatchNote) (x : Sent) → In batch kept.batches → In x batch.sent → HasDraw ledger keys x.id x.edek
+  pub sessions : (batch : BatchNote) (x : Sent) → In batch kept.batches → In x batch.sent → OfSession ledger batch.session x.edek.version.key
   pub back : (r : KeptReply) → In r kept.replies → ReplyCameBack ledger keys r
 
--- From event to event, with and without the pending operation of the namesystem.
-pub record LinkedWorld (w : WorldState) (h : Hidden) : Type 0 where
+-- Files, asks, replies, ready keys, tickets and batches have their draws, with and without the pending operation of the namesystem.
+pub record LinkedDraws (w : WorldState) (h : Hidden) : Type 0 where
   pub files : (kept : Bool) → FilesLinked h.ledger w.keys.keys.table.rows (settled_names kept w.names).table
   pub replies : RepliesLinked w.keys.keys.table.rows w.kept.replies h.replied
   pub draws : DrawsFit h (IsOldBirth w.keys.keys.table)
@@ -198,13 +238,22 @@ pub record LinkedWorld (w : WorldState) (h : Hidden) : Type 0 where
   pub queues : QueuesLinked w.keys.keys.table.rows w.keys.keys.ready.queues h
   pub tickets : TicketsLinked w.keys.keys.table w.keys.keys.ready.queues w.kept.tickets
   pub batches : BatchesLinked h.ledger w.keys.keys.table.rows w.kept
+  pub versions : VersionsStand h.ledger w.keys.keys.table.rows
+
+-- From event to event: also the re-encryptions cover their files, with and without the pending operation.
+pub record LinkedWorld (w : WorldState) (h : Hidden) : Type 0 where
+  pub draws : LinkedDraws w h
+  pub covered : (kept : Bool) → CoveredBy (past_of h) w.keys.keys.table.rows (settled_names kept w.names).table (settled_names kept w.names).walks
 
 -- What is true of two tables that are found in the files, while nothing is kept: files are linked, the births of the ledger are of
--- openings that the key log records, and its ids of openings that the edit log records.
+-- openings that the key log records, its ids of openings that the edit log records, and its versions of the keys that exist; and the
+-- re-encryptions cover their files.
 pub record LinkedTables (past : Past) (keys : Table) (names : NameTable) : Type 0 where
   pub files : FilesLinked past.ledger keys.rows names
   pub draws : DrawsFit (drawn_before past) (IsRecordedBirth keys)
   pub fits : LedgerFits past.ledger [] [] [] ((names.opening + 1) * 2 ^ 32)
+  pub versions : VersionsStand past.ledger keys.rows
+  pub covered : CoveredBy past keys.rows names []
 
 -- Files that a run may start from, with what is hidden of earlier runs: two logs, and after each there may be one more record,
 -- which applies. The two tables are linked with those records and without them.

@@ -17,10 +17,14 @@ use Rattle.name_calls.specs.declared.calls.NameCall.TheVariants as call
 use Rattle.name_calls.specs.declared.calls.NameRefusal.{NameRefusal}
 use Rattle.name_calls.specs.declared.calls.NameReply.{NameReply}
 use Rattle.name_calls.specs.declared.paths.NPath.{NPath}
+use Rattle.name_calls.specs.declared.status.Delivered.{Delivered}
+use Rattle.reenc_walk.specs.declared.sent.BatchNote.{BatchNote}
 use Rattle.name_core.specs.declared.walks.Walked.{Walked}
 use Rattle.name_core.specs.Service.{OwnOf, OwnOfFinish}
+use Rattle.name_core.specs.Updates.{UpdateDeed, deliver_deed, give_up_deed}
+use Rattle.name_core.specs.Updating.{OwnOfUpdate}
 use Rattle.name_core.specs.Walking.{OwnOfWalk}
-use Rattle.name_core.specs.State.{NameService}
+use Rattle.name_core.specs.State.{NameService, NameState}
 use Rattle.hk_events.specs.declared.event.Event.{Event}
 use Rattle.hk_events.specs.declared.event.Event.TheVariants as event
 use Rattle.hk_events.specs.declared.event.Line.{Line}
@@ -31,7 +35,7 @@ use Rattle.world_run.specs.Acknowledged.{Acknowledged, Survives}
 use Rattle.world_run.specs.Batches.{walk_line}
 use Rattle.world_run.specs.RenamePaths.{read_rename_paths, rename_along}
 use Rattle.world_run.specs.SnapPaths.{read_snap_path, snap_at, unsnap_at}
-use Rattle.world_run.specs.Step.{delete_with, finish_line}
+use Rattle.world_run.specs.Step.{delete_with, finish_line, update_line}
 use Rattle.world_run.specs.World.{WorldState, next_batch, numbered}
 
 -- the key log
@@ -77,7 +81,7 @@ pub record OwnOfFinishedAsk (s : NameService) (id : ℕ) (answer : KeyAnswer) (o
 abbrev pub OwnOfReply : NameService → Option KeptReply → Line → NameService → Bool → EditOp → Type 0
 OwnOfReply s None outcome s' kept op = ⊥
 OwnOfReply s (Some (ToAsk id answer)) outcome s' kept op = OwnOfFinishedAsk s id answer outcome s' kept op
-OwnOfReply s (Some (ToBatch batch answer)) outcome s' kept op = ⊥
+OwnOfReply s (Some (ToBatch reply)) outcome s' kept op = ⊥
 
 -- the operation that a walk of the zone at a path may write there with this answer, if its batch would be kept under this number
 pub record OwnOfWalked (s : NameService) (path : NPath) (number : ℕ) (outcome : Line) (s' : NameService) (kept : Bool) (op : EditOp) : Type 0 where
@@ -88,6 +92,21 @@ pub record OwnOfWalked (s : NameService) (path : NPath) (number : ℕ) (outcome 
 abbrev pub OwnOfWalkAt : NameService → Option NPath → ℕ → Line → NameService → Bool → EditOp → Type 0
 OwnOfWalkAt s None number outcome s' kept op = ⊥
 OwnOfWalkAt s (Some path) number outcome s' kept op = OwnOfWalked s path number outcome s' kept op
+
+-- the operation that a delivery or a giving up may write there with this answer
+pub record OwnOfUpdated (s : NameService) (d : NameState → UpdateDeed) (outcome : Line) (s' : NameService) (kept : Bool) (op : EditOp) : Type 0 where
+  pub result : Result Delivered NameRefusal
+  pub reply_is : outcome ≡ update_line result
+  pub own : OwnOfUpdate s d result s' kept op
+
+abbrev pub OwnOfDelivery : NameService → Option KeptReply → Line → NameService → Bool → EditOp → Type 0
+OwnOfDelivery s None outcome s' kept op = ⊥
+OwnOfDelivery s (Some (ToAsk id answer)) outcome s' kept op = ⊥
+OwnOfDelivery s (Some (ToBatch reply)) outcome s' kept op = OwnOfUpdated s (deliver_deed reply) outcome s' kept op
+
+abbrev pub OwnOfGivingUp : NameService → Option BatchNote → Line → NameService → Bool → EditOp → Type 0
+OwnOfGivingUp s None outcome s' kept op = ⊥
+OwnOfGivingUp s (Some batch) outcome s' kept op = OwnOfUpdated s (give_up_deed batch) outcome s' kept op
 
 -- the operation that an event with this answer, and this world after it, may write there
 abbrev pub OwnOfEvent : WorldState → Event → Line → WorldState → Bool → EditOp → Type 0
@@ -115,6 +134,8 @@ OwnOfEvent w (event.Draw number) outcome w' kept op = NothingMore kept op
 OwnOfEvent w (event.Finish number) outcome w' kept op = OwnOfReply w.names (numbered w.kept.replies number) outcome w'.names kept op
 OwnOfEvent w (event.Walk path) outcome w' kept op = OwnOfWalkAt w.names (read_path path) (next_batch w) outcome w'.names kept op
 OwnOfEvent w (event.Serve number) outcome w' kept op = NothingMore kept op
+OwnOfEvent w (event.Deliver number) outcome w' kept op = OwnOfDelivery w.names (numbered w.kept.replies number) outcome w'.names kept op
+OwnOfEvent w (event.GiveUp number) outcome w' kept op = OwnOfGivingUp w.names (numbered w.kept.batches number) outcome w'.names kept op
 
 -- and a restart that failed
 abbrev pub OwnOfRestart : Event → Bool → EditOp → Type 0

@@ -1,29 +1,26 @@
 -- The promise on files in encryption zones, live and in snapshots.
-use Rattle.std.specs.Prelude.{◌≡◌, ◌⊎◌, ◌+◌, ◌≤◌, ℕ, ⊤, Bool, List, [], ◌∷◌, length, Option, None, Some}
+use Rattle.std.specs.Prelude.{◌≡◌, ◌⊎◌, ◌+◌, ◌≤◌, ℕ, ⊤, Bool, true, false, List, [], ◌∷◌, length, Option, None, Some}
 use Rattle.hk_base.specs.declared.names.Edek.{Edek}
 use Rattle.hk_base.specs.declared.names.KeyName.{KeyName}
 use Rattle.inode_tree.specs.declared.rows.Kind.{Kind}
 use Rattle.inode_tree.specs.declared.rows.Kind.TheVariants.{Dir, File}
 use Rattle.inode_tree.specs.declared.rows.Row.{Row}
 use Rattle.inode_tree.specs.Rows.{Entry}
+pub use Rattle.inode_tree.specs.ZoneFiles.{edek_of}
 use Rattle.key_rows.specs.declared.rows.KeyRow.{KeyRow}
 use Rattle.kms_core.specs.Draws.{words_of_draw}
 use Rattle.kms_core.specs.Opening.{unseals}
 use Rattle.kms_core.specs.State.{settled}
 use Rattle.name_store.specs.Table.{NameTable, kept_rows, key_of_zone}
 use Rattle.name_core.specs.State.{settled as settled_names}
+use Rattle.zone_table.specs.declared.statuses.StatusRow.{StatusRow}
 use Rattle.world_run.specs.World.{WorldState}
-use Rattle.world_run.specs.Ledger.{Draw, Hidden, Ledger}
+use Rattle.world_run.specs.Ledger.{Draw, Hidden, Ledger, Past, Starts, past_of}
 
 -- x is in the list
 abbrev pub In : {X : Type 0} → X → List X → Type 0
 In x [] = ⊥
 In x (y ∷ ys) = (x ≡ y) ⊎ In x ys
-
--- the encrypted key of a file
-abbrev pub edek_of : Kind → Option Edek
-edek_of (Dir key) = None
-edek_of (File edek) = edek
 
 -- the words of one draw end before those of the other begin
 abbrev pub EndsBefore : Draw → Draw → Type 0
@@ -47,14 +44,35 @@ pub record OpensToItsDraw (ledger : Ledger) (rows : List KeyRow) (id : ℕ) (ede
   pub of_key : edek.version.key ≡ draw.version.key
   pub opens : (row : KeyRow) → In row rows → row.birth ≡ draw.birth → (row.name ≡ draw.version.key) × (unseals rows edek ≡ Some draw.dek)
 
+-- the file with this id lay in the zone of the re-encryption when that was submitted
+abbrev pub WasThere : Starts → ℕ → ℕ → Type 0
+WasThere starts session id = (ids : List ℕ) × In (session, ids) starts × In id ids
+
+-- the re-encryption was not cancelled, and the key of the version that it noted still exists: a row with the birth of its draw
+pub record Counts (ledger : Ledger) (keys : List KeyRow) (s : StatusRow) : Type 0 where
+  pub uncancelled : s.cancelled ≡ false
+  pub draw : Draw
+  pub entered : In (s.session, draw) ledger
+  pub row : KeyRow
+  pub stands : In row keys
+  pub born : row.birth ≡ draw.birth
+
+-- the file has an encrypted key of the noted key, on a version not below the noted one
+abbrev pub IsReencrypted : StatusRow → Entry → Type 0
+IsReencrypted s x = (e : Edek) × (edek_of x.row.kind ≡ Some e) × (e.version.key ≡ s.noted.key) × (s.noted.number ≤ e.version.number)
+
 -- The promise on zone files, for a table of the namesystem and rows of keys.
-pub record FilesOpen (ledger : Ledger) (keys : List KeyRow) (names : NameTable) : Type 0 where
+pub record FilesOpen (past : Past) (keys : List KeyRow) (names : NameTable) : Type 0 where
   -- the encrypted key of each file that the table keeps opens to the data key drawn for it
-  pub open_up : (file : Row) (edek : Edek) → In file (kept_rows names) → edek_of file.kind ≡ Some edek → OpensToItsDraw ledger keys file.id edek
+  pub open_up : (file : Row) (edek : Edek) → In file (kept_rows names) → edek_of file.kind ≡ Some edek → OpensToItsDraw past.ledger keys file.id edek
   -- the ledger has one draw for an id
-  pub one_draw : (id : ℕ) (d f : Draw) → In (id, d) ledger → In (id, f) ledger → d ≡ f
+  pub one_draw : (id : ℕ) (d f : Draw) → In (id, d) past.ledger → In (id, f) past.ledger → d ≡ f
   -- a live file has an encrypted key exactly if it is in a zone, and then of that zone's key
   pub of_zone : (file : Entry) → In file names.rows → FitsZone (key_of_zone names.rows file.path) file.row.kind
+  -- A completed re-encryption without a failure left no file behind: each that lay in the zone at its submission, and still exists, is
+  -- re-encrypted, if the key still exists.
+  pub completed :
+      (s : StatusRow) (file : Entry) → In s names.statuses → Counts past.ledger keys s → s.completed ≡ true → s.failed ≡ 0 → In file names.rows → WasThere past.starts s.session file.row.id → IsReencrypted s file
 
 -- The draws of two files have no word in common.
 pub record FilesApart (ledger : Ledger) : Type 0 where
@@ -62,4 +80,4 @@ pub record FilesApart (ledger : Ledger) : Type 0 where
 
 -- with and without the pending command, and with and without the pending operation
 abbrev pub ZoneFilesOpen : WorldState → Hidden → Type 0
-ZoneFilesOpen w h = (kept_keys kept_names : Bool) → FilesOpen h.ledger (settled kept_keys w.keys).table.rows (settled_names kept_names w.names).table
+ZoneFilesOpen w h = (kept_keys kept_names : Bool) → FilesOpen (past_of h) (settled kept_keys w.keys).table.rows (settled_names kept_names w.names).table

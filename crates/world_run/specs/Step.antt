@@ -30,6 +30,7 @@ use Rattle.name_calls.specs.declared.calls.Ask.{Ask}
 use Rattle.name_calls.specs.declared.calls.Ask.TheVariants as ask
 use Rattle.name_calls.specs.declared.calls.AskNote.{AskNote}
 use Rattle.name_calls.specs.declared.calls.KeyAnswer.{KeyAnswer}
+use Rattle.name_calls.specs.declared.status.Delivered.{Delivered}
 use Rattle.name_calls.specs.declared.calls.Want.{Want}
 use Rattle.name_calls.specs.declared.calls.Want.TheVariants as want
 use Rattle.name_calls.specs.Answers.{answer_of}
@@ -39,6 +40,8 @@ use Rattle.kms_core.specs.Ready.{deposit_answer, deposited, ticket_of}
 use Rattle.name_core.specs.Asks.{Asks}
 use Rattle.name_core.specs.Calls.{superuser}
 use Rattle.name_core.specs.Service.{FinishServes, NameServes}
+use Rattle.name_core.specs.Updates.{UpdateDeed, deliver_deed, give_up_deed}
+use Rattle.name_core.specs.Updating.{UpdateServes}
 use Rattle.name_core.specs.Walking.{WalkServes}
 use Rattle.name_core.specs.State.{NameService, NameState, settled as settled_names, started}
 use Rattle.name_core.specs.declared.walks.Walked.{Walked}
@@ -50,7 +53,7 @@ use Rattle.hk_events.specs.declared.event.Line.TheVariants as line
 use Rattle.world_run.specs.declared.kept.KeptReply.{KeptReply}
 use Rattle.world_run.specs.declared.kept.KeptReply.TheVariants.{ToAsk, ToBatch}
 use Rattle.world_run.specs.Acknowledged.{Acknowledged, nothing_acknowledged, of_keys, of_names}
-use Rattle.world_run.specs.Batches.{after_walk, batch_call, result_of, walk_line}
+use Rattle.world_run.specs.Batches.{after_walk, batch_call, reply_for, walk_line}
 use Rattle.world_run.specs.RenamePaths.{read_rename_paths, rename_along}
 use Rattle.world_run.specs.SnapPaths.{read_snap_path, snap_at, unsnap_at}
 use Rattle.world_run.specs.World.{WorldState, next_batch, next_note, next_reply, next_ticket, numbered, with_names, with_note, with_reply, with_ticket}
@@ -230,12 +233,12 @@ pub record FinishActs (w : WorldState) (id : ℕ) (answer : KeyAnswer) (fault : 
 -- the ask that a kept reply answers, and what the reply means for it
 abbrev pub ask_of : KeptReply → Option (ℕ × KeyAnswer)
 ask_of (ToAsk id answer) = Some (id, answer)
-ask_of (ToBatch batch answer) = None
+ask_of (ToBatch reply) = None
 
 abbrev pub FinishReply : WorldState → Option KeptReply → Type 0 → Line → ℕ → Acknowledged → WorldState → Type 0
 FinishReply w None fault outcome drawn logged w' = IsUnknown w outcome drawn logged w'
 FinishReply w (Some (ToAsk id answer)) fault outcome drawn logged w' = FinishActs w id answer fault outcome drawn logged w'
-FinishReply w (Some (ToBatch batch answer)) fault outcome drawn logged w' = IsUnknown w outcome drawn logged w'
+FinishReply w (Some (ToBatch reply)) fault outcome drawn logged w' = IsUnknown w outcome drawn logged w'
 
 -- a walk of the zone at a path, whose batch is kept
 
@@ -262,11 +265,36 @@ pub record ServeBatch (lines : List PropLine) (w : WorldState) (words : ℕ → 
   pub serves : ServesUser lines superuser w.keys words now (batch_call batch) fault reply drawn commands keys
   pub logged_is : logged ≡ of_keys commands
   pub reply_is : outcome ≡ line.Replied (next_reply w) (Some reply)
-  pub left : w' ≡ with_reply (ToBatch batch (result_of reply)) (record w { keys = keys })
+  pub left : w' ≡ with_reply (ToBatch (reply_for batch reply)) (record w { keys = keys })
 
 abbrev pub ServeActs : List PropLine → WorldState → (ℕ → ℕ) → ℕ → Option BatchNote → Type 0 → Line → ℕ → Acknowledged → WorldState → Type 0
 ServeActs lines w words now None fault outcome drawn logged w' = IsUnknown w outcome drawn logged w'
 ServeActs lines w words now (Some batch) fault outcome drawn logged w' = ServeBatch lines w words now batch fault outcome drawn logged w' ⊎ LacksRoom w outcome drawn logged w'
+
+-- a delivery of a kept reply to the call for a batch, and the giving up of a kept batch
+
+abbrev pub update_line : Result Delivered NameRefusal → Line
+update_line (Ok delivered) = line.Delivered delivered
+update_line (Err why) = line.Refused why
+
+pub record Updates (w : WorldState) (d : NameState → UpdateDeed) (fault : Type 0) (outcome : Line) (drawn : ℕ) (logged : Acknowledged) (w' : WorldState) : Type 0 where
+  pub result : Result Delivered NameRefusal
+  pub names : NameService
+  pub ops : List EditOp
+  pub serves : UpdateServes w.names d fault result ops names
+  pub logged_is : logged ≡ of_names ops
+  pub reply_is : outcome ≡ update_line result
+  pub none_drawn : drawn ≡ 0
+  pub left : w' ≡ record w { names = names }
+
+abbrev pub DeliverReply : WorldState → Option KeptReply → Type 0 → Line → ℕ → Acknowledged → WorldState → Type 0
+DeliverReply w None fault outcome drawn logged w' = IsUnknown w outcome drawn logged w'
+DeliverReply w (Some (ToAsk id answer)) fault outcome drawn logged w' = IsUnknown w outcome drawn logged w'
+DeliverReply w (Some (ToBatch reply)) fault outcome drawn logged w' = Updates w (deliver_deed reply) fault outcome drawn logged w'
+
+abbrev pub GiveUpBatch : WorldState → Option BatchNote → Type 0 → Line → ℕ → Acknowledged → WorldState → Type 0
+GiveUpBatch w None fault outcome drawn logged w' = IsUnknown w outcome drawn logged w'
+GiveUpBatch w (Some batch) fault outcome drawn logged w' = Updates w (give_up_deed batch) fault outcome drawn logged w'
 
 -- a ticket, which is kept if one is given
 
@@ -325,3 +353,5 @@ Step lines w words now (event.Draw number) fault tells outcome drawn logged w' =
 Step lines w words now (event.Finish number) fault tells outcome drawn logged w' = FinishReply w (numbered w.kept.replies number) fault outcome drawn logged w'
 Step lines w words now (event.Walk path) fault tells outcome drawn logged w' = WalkAt w (read_path path) fault outcome drawn logged w'
 Step lines w words now (event.Serve number) fault tells outcome drawn logged w' = ServeActs lines w words now (numbered w.kept.batches number) fault outcome drawn logged w'
+Step lines w words now (event.Deliver number) fault tells outcome drawn logged w' = DeliverReply w (numbered w.kept.replies number) fault outcome drawn logged w'
+Step lines w words now (event.GiveUp number) fault tells outcome drawn logged w' = GiveUpBatch w (numbered w.kept.batches number) fault outcome drawn logged w'

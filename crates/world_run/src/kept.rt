@@ -1,39 +1,24 @@
 //! Tickets, notes, batches and replies that are kept between events.
 ghost use Rattle.std.specs.Prelude.{◌≡◌, ◌+◌, ◌<◌, Ok, length, option_map, vec_capacity, vec_len};
 ghost use Rattle.std.specs.Option.{option_and_then};
-ghost use Rattle.world_run.specs.Batches.{batches_after, walk_line};
+ghost use Rattle.world_run.specs.Batches.{batch_reply_of, batches_after, walk_line};
 ghost use Rattle.world_run.specs.Step.{ask_of};
 ghost use Rattle.world_run.specs.World.{numbered};
 
-use crate::keys::NewKeys;
 use hk_events::Line;
-use kms_calls::KmsRefusal;
 use kms_core::Ticket;
 use name_calls::{AskNote, KeyAnswer};
 use name_core::Walked;
+use reenc_update::BatchReply;
 use reenc_walk::BatchNote;
 
 /// A reply of the key management service, as far as a later event needs it.
 #[derive(Drop)]
 pub enum KeptReply {
     /// The reply to the call that an ask wanted: the id of the ask, and what the reply means for it.
-    ToAsk {
-        id: u64,
-        answer: KeyAnswer,
-    },
-    /// The reply to the call for a batch: the batch, and what the reply means for it.
-    ToBatch {
-        note: BatchNote,
-        result: BatchResult,
-    },
-}
-
-/// What the reply to the call for a batch means for it.
-#[derive(Drop)]
-pub enum BatchResult {
-    Refused(KmsRefusal),
-    /// The new encrypted key of each file of the batch, in the same order.
-    Ready(NewKeys),
+    ToAsk { id: u64, answer: KeyAnswer },
+    /// The reply to the call for a batch.
+    ToBatch(BatchReply),
 }
 
 /// Returns the ticket with a number, from 1, or `None` if there is none.
@@ -81,7 +66,7 @@ fn ask_of(reply: &KeptReply) -> Option<(u64, KeyAnswer)>
 {
     match reply {
         KeptReply::ToAsk { id, answer } => Some((*id, *answer)),
-        KeptReply::ToBatch { .. } => None,
+        KeptReply::ToBatch(_) => None,
     }
 }
 
@@ -93,6 +78,26 @@ pub fn ask_answered(replies: &Vec<KeptReply>, number: u32) -> Option<(u64, KeyAn
     match reply_numbered(replies, number) {
         None => None,
         Some(reply) => ask_of(reply),
+    }
+}
+
+fn batch_reply_of(reply: &KeptReply) -> Option<&BatchReply>
+    ensures { option_map (λ reply. reply.now) result ≡ batch_reply_of reply.now }
+{
+    match reply {
+        KeptReply::ToAsk { .. } => None,
+        KeptReply::ToBatch(reply) => Some(reply),
+    }
+}
+
+/// Returns the reply with a number, if it is to the call for a batch. Returns `None` if there is no
+/// such reply, or if it is to an ask.
+pub fn batch_answered(replies: &Vec<KeptReply>, number: u32) -> Option<&BatchReply>
+    ensures { option_map (λ reply. reply.now) result ≡ option_and_then batch_reply_of (numbered replies.now.items number) }
+{
+    match reply_numbered(replies, number) {
+        None => None,
+        Some(reply) => batch_reply_of(reply),
     }
 }
 

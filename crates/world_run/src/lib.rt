@@ -4,7 +4,6 @@
 
 mod fault;
 mod kept;
-mod keys;
 mod laws;
 mod rename_paths;
 mod serve;
@@ -13,7 +12,6 @@ mod world;
 
 pub use fault::WorldFault;
 pub use hk_events::{Event, Line};
-pub use kept::{BatchResult, KeptReply};
-pub use keys::NewKeys;
+pub use kept::KeptReply;
 pub use laws::sound_files_may_be_started_from;
 pub use world::World;

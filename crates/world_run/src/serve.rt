@@ -1,12 +1,13 @@
 //! What the call for a kept batch needs. All of its memory is taken before the call.
 ghost use Rattle.std.specs.Prelude.{◌≡◌, ◌≤◌, [], length, vec_capacity, IfOk};
+ghost use Rattle.std.specs.Str.{bytes_eq};
 ghost use Rattle.kms_core.specs.Laws.{sent_of};
-ghost use Rattle.world_run.specs.Batches.{KeysFit, batch_call, raw_keys, result_of};
+ghost use Rattle.reenc_update.specs.Replies.{are_of_keys};
+ghost use Rattle.world_run.specs.Batches.{ReplyFits, batch_call, raw_keys, reply_for};
 
-use crate::kept::BatchResult;
-use crate::keys::NewKeys;
-use hk_base::{ByteList, Edek, KeyName, NoMemory};
-use kms_calls::{KmsCall, KmsRefusal, KmsReply, RawEdek, RawEdekList};
+use hk_base::{ByteList, Edek, KeyName, Listing, NoMemory};
+use kms_calls::{KmsCall, KmsReply, RawEdek, RawEdekList};
+use reenc_update::{BatchReply, BatchResult};
 use reenc_walk::{BatchNote, Sent};
 use std::alloc::Global;
 
@@ -88,24 +89,52 @@ fn bytes_of(alloc: Global, bytes: &[u8]) -> Result<ByteList, NoMemory>
     Ok(ByteList::of(Vec::from_slice(alloc, bytes)?))
 }
 
-/// Returns what a reply means for a batch. Its keys are copied into `room`, which must have room for
-/// them, so no memory is taken.
-pub fn result_of(room: Vec<Edek>, reply: &KmsReply) -> BatchResult
+/// Pairs a batch and what the reply to its call means for it: a refusal, unless the reply has one
+/// key for each file of the batch, of the same key. The keys are copied into `room`, so no memory is
+/// taken.
+pub fn reply_for(note: BatchNote, room: Vec<Edek>, reply: &KmsReply) -> BatchReply
     requires empty { room.items ≡ [] }
-    ensures { KeysFit (vec_capacity room) reply.now → result ≡ result_of reply.now }
+    requires room { length note.sent ≤ vec_capacity room }
+    ensures { ReplyFits note reply.now → result ≡ reply_for note reply.now }
 {
-    match reply {
-        KmsReply::Ready(keys) => BatchResult::Ready(copy_keys(room, keys.as_slice())),
-        KmsReply::Refused(why) => BatchResult::Refused(*why),
-        _ => BatchResult::Refused(KmsRefusal::BadRequest),
+    let keys = match reply {
+        KmsReply::Ready(keys) => keys.as_slice(),
+        _ => return BatchReply::new(note, BatchResult::Refused),
+    };
+    if !are_of_keys(note.sent.as_slice(), keys) {
+        return BatchReply::new(note, BatchResult::Refused);
     }
+    let keys = copy_keys(room, keys);
+    BatchReply::new(note, BatchResult::Ready(keys))
 }
 
-fn copy_keys(room: Vec<Edek>, keys: &[Edek]) -> NewKeys
+/// Returns whether there is one encrypted key for each file, of the same key as the one that was sent.
+fn are_of_keys(sent: &[Sent], keys: &[Edek]) -> bool
+    ensures { result ≡ are_of_keys sent.now keys.now }
+{
+    if sent.len() != keys.len() {
+        return false;
+    }
+    for k in 0..sent.len() {
+        if !is_of_same_key(&keys[k], &sent[k].edek) {
+            return false;
+        }
+    }
+    true
+}
+
+fn is_of_same_key(edek: &Edek, other: &Edek) -> bool
+    ensures { result ≡ bytes_eq edek.now.version.key other.now.version.key }
+{
+    edek.version.key.as_bytes() == other.version.key.as_bytes()
+}
+
+fn copy_keys(room: Vec<Edek>, keys: &[Edek]) -> Listing<Edek>
     requires empty { room.items ≡ [] }
-    ensures { length keys.now ≤ vec_capacity room → result ≡ keys.now }
+    requires room { length keys.now ≤ vec_capacity room }
+    ensures { result ≡ keys.now }
 {
     let mut copied = room;
     let _ = copied.extend_from_slice(keys);
-    NewKeys::of(copied)
+    Listing::of(copied)
 }

@@ -12,21 +12,22 @@ ghost use Rattle.name_core.specs.Calls.{superuser};
 ghost use Rattle.prop_text.specs.declared.lines.PropLine.{PropLine};
 ghost use Rattle.hk_events.specs.declared.event.Event.TheVariants as event;
 ghost use Rattle.world_run.specs.Acknowledged.{Acknowledged, HoldsLogs, nothing_acknowledged};
-ghost use Rattle.world_run.specs.Does.{CallHappens, DepositHappens, DrawHappens, FinishHappens, Happens, PathHappens, ServeHappens, WalkHappens, WantHappens};
+ghost use Rattle.world_run.specs.Does.{CallHappens, DeliverHappens, DepositHappens, DrawHappens, FinishHappens, GiveUpHappens, Happens, PathHappens, ServeHappens, WalkHappens, WantHappens};
 ghost use Rattle.world_run.specs.Keeps.{Begins, Fails, Steps};
 ghost use Rattle.world_run.specs.Linked.{ServicesFit};
 ghost use Rattle.world_run.specs.Starts.{OpensBoth};
 ghost use Rattle.world_run.specs.RenamePaths.{read_rename_paths, rename_along};
 ghost use Rattle.world_run.specs.SnapPaths.{read_snap_path, snap_at, unsnap_at};
-ghost use Rattle.world_run.specs.Step.{AskActs, AskAt, GivesTicket, LacksRoom, Refuses, delete_with, finish_line, unread_refusal, unread_reply, zone_with};
+ghost use Rattle.world_run.specs.Step.{AskActs, AskAt, GivesTicket, LacksRoom, Refuses, delete_with, finish_line, unread_refusal, unread_reply, update_line, zone_with};
 ghost use Rattle.world_run.specs.World.{numbered, world_of};
 
 use crate::fault::WorldFault;
 use crate::kept::{
-    KeptReply, again, ask_answered, batch_numbered, keep_batch, note_numbered, ticket_numbered,
+    KeptReply, again, ask_answered, batch_answered, batch_numbered, keep_batch, note_numbered,
+    ticket_numbered,
 };
 use crate::rename_paths::RenamePaths;
-use crate::serve::{prepare, result_of};
+use crate::serve::{prepare, reply_for};
 use crate::snap_path::SnapPath;
 use frame_log::StartFault;
 use hk_base::{ByteList, Disk, KeyName, NoMemory, Text, VersionName, Words};
@@ -35,8 +36,8 @@ use kms_acls::Acls;
 use kms_calls::{KmsCall, KmsRefusal, KmsReply};
 use kms_core::{Kms, Ticket, draw_sealed};
 use name_calls::{
-    Answered, Ask, AskNote, KeyAnswer, NPath, NameCall, NameRefusal, NameReply, PathFault,
-    ReadPath, Want,
+    Answered, Ask, AskNote, Delivered, KeyAnswer, NPath, NameCall, NameRefusal, NameReply,
+    PathFault, ReadPath, Want,
 };
 use name_core::Name;
 use prop_text::{Props, Sizes};
@@ -107,6 +108,16 @@ fn finish_line(finished: Result<(), NameRefusal>) -> Line
 {
     match finished {
         Ok(()) => Line::Name(NameReply::Done),
+        Err(why) => Line::Refused(why),
+    }
+}
+
+/// Returns the answer to a delivery or a giving up.
+fn update_line(delivered: Result<Delivered, NameRefusal>) -> Line
+    ensures { result ≡ update_line delivered }
+{
+    match delivered {
+        Ok(delivered) => Line::Delivered(delivered),
         Err(why) => Line::Refused(why),
     }
 }
@@ -271,6 +282,8 @@ impl World {
             Event::Finish { reply } => Ok(self.finish(disk, reply)),
             Event::Walk { path } => Ok(self.walk(disk, &path)),
             Event::Serve { batch } => Ok(self.serve(disk, words, now, batch)),
+            Event::Deliver { reply } => Ok(self.deliver(disk, reply)),
+            Event::GiveUp { batch } => Ok(self.give_up(disk, batch)),
         }
     }
 
@@ -665,15 +678,34 @@ impl World {
         let reply = self
             .keys
             .act(disk, words, now, &self.superuser, serving.call);
-        let result = result_of(serving.room, &reply);
-        self.replies.push_reserved(KeptReply::ToBatch {
-            note: serving.note,
-            result,
-        });
+        let kept = reply_for(serving.note, serving.room, &reply);
+        self.replies.push_reserved(KeptReply::ToBatch(kept));
         let number = self.replies.as_slice().len() as u64;
         Line::Replied {
             number,
             reply: Some(reply),
+        }
+    }
+
+    /// Delivers the kept reply with a number, if it is to the call for a batch.
+    fn deliver<D: Disk>(&mut self, disk: &mut D, number: u32) -> Line
+        requires stands { Tells (D.state disk.old) → ((done : Acknowledged) × HoldsLogs (D.state disk.old) self.old done) }
+        ensures { DeliverHappens (D.state disk.old) (D.state disk.new) self.old (numbered self.old.kept.replies number) result self.new }
+    {
+        match batch_answered(&self.replies, number) {
+            None => Line::Unknown,
+            Some(reply) => update_line(self.names.deliver(disk, reply)),
+        }
+    }
+
+    /// Gives up the kept batch with a number.
+    fn give_up<D: Disk>(&mut self, disk: &mut D, number: u32) -> Line
+        requires stands { Tells (D.state disk.old) → ((done : Acknowledged) × HoldsLogs (D.state disk.old) self.old done) }
+        ensures { GiveUpHappens (D.state disk.old) (D.state disk.new) self.old (numbered self.old.kept.batches number) result self.new }
+    {
+        match batch_numbered(&self.batches, number) {
+            None => Line::Unknown,
+            Some(batch) => update_line(self.names.give_up(disk, batch)),
         }
     }
 }

@@ -121,3 +121,13 @@ pub returns-in-Serve : goal.returns-in-Serve
 returns-in-Serve g c lines lists =
     so-happens lines (g.D.Disk.state c.args.disk.now) (g.D.Disk.state c.serve.new.disk) c.args.self.now c.serve.new.self (g.W.Words.to_come c.args.words.now) (g.W.Words.to_come c.serve.new.words) c.args.now c.args.event (event.Serve c.in-Serve.batch) c.serve.result c.in-Serve.is
     (c.serve.ensures lines lists)
+
+pub returns-in-Deliver : goal.returns-in-Deliver
+returns-in-Deliver g c lines lists =
+    so-happens lines (g.D.Disk.state c.args.disk.now) (g.D.Disk.state c.deliver.new.disk) c.args.self.now c.deliver.new.self (g.W.Words.to_come c.args.words.now) (g.W.Words.to_come c.args.words.now) c.args.now c.args.event (event.Deliver c.in-Deliver.reply) c.deliver.result c.in-Deliver.is
+    (c.deliver.ensures (g.W.Words.to_come c.args.words.now))
+
+pub returns-in-GiveUp : goal.returns-in-GiveUp
+returns-in-GiveUp g c lines lists =
+    so-happens lines (g.D.Disk.state c.args.disk.now) (g.D.Disk.state c.give_up.new.disk) c.args.self.now c.give_up.new.self (g.W.Words.to_come c.args.words.now) (g.W.Words.to_come c.args.words.now) c.args.now c.args.event (event.GiveUp c.in-GiveUp.batch) c.give_up.result c.in-GiveUp.is
+    (c.give_up.ensures (g.W.Words.to_come c.args.words.now))

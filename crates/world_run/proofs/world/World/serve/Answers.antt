@@ -1,4 +1,4 @@
-use Rattle.std.proofs.Common.{◌∙◌, ◌∷◌, ◌++◌, [], List, ap, length, refl, vec_capacity}
+use Rattle.std.proofs.Common.{◌∙◌, ◌∷◌, ◌++◌, [], List, ap, length, refl}
 use Rattle.world_run.specs.declared.kept.KeptReply.{KeptReply}
 use Rattle.world_run.specs.declared.kept.KeptReply.TheVariants.{ToBatch}
 use Rattle.world_run.specs.World.{RunningWorld, numbered}
@@ -25,7 +25,7 @@ returns-in-Err-reserve g c lines lists =
 pub returns : goal.returns
 returns g c lines lists =
     served lines (g.D.Disk.state c.args.disk.now) (g.D.Disk.state c.act-reply.new.disk) c.args.self.now (g.W.Words.to_come c.args.words.now) c.args.now c.in-Some.batch.now c.in-Ok.serving.note c.in-Ok.serving.call c.self.inside.superuser
-    c.self.inside.keys c.act-reply.new.self c.self.inside.names c.self.inside.tickets.items c.self.inside.notes.items c.self.inside.batches.items c.self.inside.replies.items c.push_reserved.new.self.items c.act-reply.result c.result_of-result.result
-    (vec_capacity c.in-Ok.serving.room) c.args.number (length c.as_slice.result.now) (g.W.Words.to_come c.act-reply.new.words) c.self.view_is
-    (c.in-Some.ensures ∙ ap (λ (w : RunningWorld). numbered w.kept.batches c.args.number) c.self.view_is) c.in-Ok.ensures.note c.in-Ok.ensures.call c.self.invariant c.in-Ok.ensures.room (c.act-reply.ensures lines) c.result_of-result.ensures
-    (c.push_reserved.ensures.items ∙ ap (λ (l : List KeptReply). l ++ ToBatch c.in-Ok.serving.note c.result_of-result.result ∷ []) c.reserve.ensures.items) (ap (λ (l : List KeptReply). length l) c.as_slice.ensures.value) lists
+    c.self.inside.keys c.act-reply.new.self c.self.inside.names c.self.inside.tickets.items c.self.inside.notes.items c.self.inside.batches.items c.self.inside.replies.items c.push_reserved.new.self.items c.act-reply.result c.reply_for-kept.result
+    c.args.number (length c.as_slice.result.now) (g.W.Words.to_come c.act-reply.new.words) c.self.view_is
+    (c.in-Some.ensures ∙ ap (λ (w : RunningWorld). numbered w.kept.batches c.args.number) c.self.view_is) c.in-Ok.ensures.note c.in-Ok.ensures.call c.self.invariant (c.act-reply.ensures lines) c.reply_for-kept.ensures
+    (c.push_reserved.ensures.items ∙ ap (λ (l : List KeptReply). l ++ ToBatch c.reply_for-kept.result ∷ []) c.reserve.ensures.items) (ap (λ (l : List KeptReply). length l) c.as_slice.ensures.value) lists
