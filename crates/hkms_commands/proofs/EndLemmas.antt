@@ -232,6 +232,8 @@ which_restart (event.Draw n) file r = absurd r
 which_restart (event.Finish n) file r = absurd r
 which_restart (event.Walk path) file r = absurd r
 which_restart (event.Serve n) file r = absurd r
+which_restart (event.Deliver n) file r = absurd r
+which_restart (event.GiveUp n) file r = absurd r
 
 -- the last opening of its log is used
 spent_is : (left : Option (List ℕ)) (lines : List (List ℕ)) (e : Event) (file : ℕ) (w : WorldState) (kept : Bool) → is_restart e file → ComesNext left lines e → last_opening w e kept ≡ 4294967295 → IsSpent left lines w

@@ -158,6 +158,8 @@ knows (event.Draw n) T t = tt
 knows (event.Finish n) T t = tt
 knows (event.Walk path) T t = tt
 knows (event.Serve n) T t = tt
+knows (event.Deliver n) T t = tt
+knows (event.GiveUp n) T t = tt
 
 -- a step is alike beside the same values
 same_step : (props : List PropLine) (T U : Type 0) (w v : WorldState) (words others : ℕ → ℕ) (f g after now drawn : ℕ) (e : Event) (answer : Line) (logged : Acknowledged) (w' : WorldState)

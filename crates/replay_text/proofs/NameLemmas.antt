@@ -50,6 +50,8 @@ no_name_line more no_path no_two no_zones (event.Draw number) x = two_verbs _ _ 
 no_name_line more no_path no_two no_zones (event.Finish number) x = two_verbs _ _ _ (codes "nn") (codes "finish") (apart _ _ refl) refl x.fields_are
 no_name_line more no_path no_two no_zones (event.Walk path) x = two_verbs _ _ _ (codes "nn") (codes "walk") (apart _ _ refl) refl x.fields_are
 no_name_line more no_path no_two no_zones (event.Serve number) x = two_verbs _ _ _ (codes "nn") (codes "serve") (apart _ _ refl) refl x.fields_are
+no_name_line more no_path no_two no_zones (event.Deliver number) x = two_verbs _ _ _ (codes "nn") (codes "deliver") (apart _ _ refl) refl x.fields_are
+no_name_line more no_path no_two no_zones (event.GiveUp number) x = two_verbs _ _ _ (codes "nn") (codes "giveup") (apart _ _ refl) refl x.fields_are
 
 -- two fields after `nn` have no path
 two_fields : (user verb : List ℕ) → NoZones (codes "nn" ∷ user ∷ verb ∷ []) → (e : Event) → ¬ SpellsEvent (codes "nn" ∷ user ∷ verb ∷ []) e

@@ -498,6 +498,8 @@ kind (event.Draw n) = OfNumber (codes "draw")
 kind (event.Finish n) = OfNumber (codes "finish")
 kind (event.Walk path) = OnWalk
 kind (event.Serve n) = OfNumber (codes "serve")
+kind (event.Deliver n) = OfNumber (codes "deliver")
+kind (event.GiveUp n) = OfNumber (codes "giveup")
 
 kind_is : (fields : List (List ℕ)) (e : Event) → SpellsEvent fields e → kind_of fields ≡ kind e
 kind_is fields (event.Kms user c) x = ap kind_of x.fields_are
@@ -525,6 +527,8 @@ kind_is fields (event.Draw n) x = ap kind_of x.fields_are
 kind_is fields (event.Finish n) x = ap kind_of x.fields_are
 kind_is fields (event.Walk path) x = ap kind_of x.fields_are
 kind_is fields (event.Serve n) x = ap kind_of x.fields_are
+kind_is fields (event.Deliver n) x = ap kind_of x.fields_are
+kind_is fields (event.GiveUp n) x = ap kind_of x.fields_are
 
 -- the event of a word
 abbrev restart_event : List ℕ → Event
@@ -569,6 +573,10 @@ number_event verb n =
     then event.Finish n
     else if bytes_eq verb (codes "serve")
     then event.Serve n
+    else if bytes_eq verb (codes "deliver")
+    then event.Deliver n
+    else if bytes_eq verb (codes "giveup")
+    then event.GiveUp n
     else event.Deposit n
 
 -- the event of the fields of a line of this kind
@@ -610,6 +618,8 @@ says fields (event.Draw n) x = (n, (x, refl))
 says fields (event.Finish n) x = (n, (x, refl))
 says fields (event.Walk path) x = (path, (x, refl))
 says fields (event.Serve n) x = (n, (x, refl))
+says fields (event.Deliver n) x = (n, (x, refl))
+says fields (event.GiveUp n) x = (n, (x, refl))
 
 says_once : (k : Kind) (fields : List (List ℕ)) (a b : Event) → Says k fields a → Says k fields b → a ≡ b
 says_once Call fields a b (user, (c, (x, is))) (other, (d, (y, also))) = is ∙ kms_once fields user other c d x y ∙ sym also
@@ -672,6 +682,8 @@ begins fields (event.Draw number) x = record { first = 100; front = codes "raw";
 begins fields (event.Finish number) x = record { first = 102; front = codes "inish"; more = decimal number ∷ []; begin = x.fields_are; no_comment = λ e. omega (arith, e) }
 begins fields (event.Walk path) x = record { first = 119; front = codes "alk"; more = x.path_field ∷ []; begin = x.fields_are; no_comment = λ e. omega (arith, e) }
 begins fields (event.Serve number) x = record { first = 115; front = codes "erve"; more = decimal number ∷ []; begin = x.fields_are; no_comment = λ e. omega (arith, e) }
+begins fields (event.Deliver number) x = record { first = 100; front = codes "eliver"; more = decimal number ∷ []; begin = x.fields_are; no_comment = λ e. omega (arith, e) }
+begins fields (event.GiveUp number) x = record { first = 103; front = codes "iveup"; more = decimal number ∷ []; begin = x.fields_are; no_comment = λ e. omega (arith, e) }
 
 -- the first byte of a line begins its first field
 first_byte : (b c : ℕ) (fields : List (List ℕ)) (more : List ℕ) (rest : List (List ℕ)) → onto_first b fields ≡ (c ∷ more) ∷ rest → b ≡ c

@@ -276,6 +276,8 @@ SpellsEvent fields (event.Draw ask) = SpellsKept (codes "draw") fields ask
 SpellsEvent fields (event.Finish reply) = SpellsKept (codes "finish") fields reply
 SpellsEvent fields (event.Walk path) = SpellsWalk fields path
 SpellsEvent fields (event.Serve batch) = SpellsKept (codes "serve") fields batch
+SpellsEvent fields (event.Deliver reply) = SpellsKept (codes "deliver") fields reply
+SpellsEvent fields (event.GiveUp batch) = SpellsKept (codes "giveup") fields batch
 
 -- the line is the text of the event
 pub record Spells (line : List ℕ) (event : Event) : Type 0 where
@@ -303,6 +305,16 @@ abbrev pub IsTwoFieldEvent : List ℕ → List ℕ → List ℕ → List ℕ →
 IsTwoFieldEvent verb user path second e =
     ((verb ≡ codes "rename") × (e ≡ event.Rename user path second)) ⊎ ((verb ≡ codes "snap") × (e ≡ event.Snap user path second))
     ⊎ ((verb ≡ codes "unsnap") × (e ≡ event.Unsnap user path second))
+
+-- the verbs that take a number alone, and the event of each
+abbrev pub IsNumberVerb : List ℕ → Type 0
+IsNumberVerb verb =
+    (verb ≡ codes "deposit") ⊎ (verb ≡ codes "draw") ⊎ (verb ≡ codes "finish") ⊎ (verb ≡ codes "serve") ⊎ (verb ≡ codes "deliver") ⊎ (verb ≡ codes "giveup")
+
+abbrev pub IsNumberEvent : List ℕ → ℕ → Event → Type 0
+IsNumberEvent verb number e =
+    ((verb ≡ codes "deposit") × (e ≡ event.Deposit number)) ⊎ ((verb ≡ codes "draw") × (e ≡ event.Draw number)) ⊎ ((verb ≡ codes "finish") × (e ≡ event.Finish number))
+    ⊎ ((verb ≡ codes "serve") × (e ≡ event.Serve number)) ⊎ ((verb ≡ codes "deliver") × (e ≡ event.Deliver number)) ⊎ ((verb ≡ codes "giveup") × (e ≡ event.GiveUp number))
 
 -- the line is empty or a comment: its first byte is '#'
 abbrev pub IsQuiet : List ℕ → Type 0

@@ -18,6 +18,8 @@ use Rattle.name_calls.specs.declared.calls.NameRefusal.TheVariants as why
 use Rattle.name_calls.specs.declared.status.State.{State}
 use Rattle.name_calls.specs.declared.status.State.TheVariants as state
 use Rattle.name_calls.specs.declared.status.ZoneStatus.{ZoneStatus}
+use Rattle.name_calls.specs.declared.status.Delivered.{Delivered}
+use Rattle.name_calls.specs.declared.status.Delivered.TheVariants as delivered
 use Rattle.name_calls.specs.declared.calls.Want.{Want}
 use Rattle.name_calls.specs.declared.calls.Want.TheVariants as want
 use Rattle.eek_seal.specs.declared.deposit.Deposit.{Deposit}
@@ -195,6 +197,11 @@ deposit_text deposit.Kept = codes "kept"
 deposit_text (deposit.Stale opening birth number) = codes "stale " ++ decimal opening ++ codes " " ++ decimal birth ++ codes " " ++ decimal number
 deposit_text deposit.Full = codes "full"
 
+-- what became of a reply or of a batch that was given up: how many files were changed, skipped and failed, or the zone's last session
+abbrev pub delivered_text : Delivered → List ℕ
+delivered_text (delivered.Applied changed skipped failed) = codes "applied " ++ decimal changed ++ codes " " ++ decimal skipped ++ codes " " ++ decimal failed
+delivered_text (delivered.Ignored session) = codes "ignored " ++ decimal session
+
 abbrev pub outcome_text : Line → List ℕ
 outcome_text (line.Kms reply) = answer_text reply
 outcome_text (line.Ticket number version wanted) = ticket_text number version wanted
@@ -207,6 +214,7 @@ outcome_text (line.Replied number reply) = codes "reply " ++ decimal number ++ c
 outcome_text (line.Batch number files) = codes "batch " ++ decimal number ++ codes " " ++ decimal files
 outcome_text (line.NoneLeft outstanding) = codes "noneleft " ++ decimal outstanding
 outcome_text line.Completed = codes "completed"
+outcome_text (line.Delivered outcome) = delivered_text outcome
 outcome_text (line.Refused why) = codes "refused " ++ name_refusal_text why
 outcome_text line.Unknown = codes "unknown"
 

@@ -1,9 +1,8 @@
-//! Lines of deposits, asks, draws, finishes, walks and serves.
-ghost use Rattle.std.specs.Prelude.{◌≡◌, ◌<◌, ◌^◌, ◌∷◌, [], ℕ, List, IfOk, MatchOption, codes};
-ghost use Rattle.std.specs.Fmt.{decimal};
-ghost use Rattle.replay_text.specs.Events.{SpellsAskPath, SpellsAskZone, SpellsEvent, SpellsKept, SpellsWalk, fields_of};
+//! Lines of asks and walks.
+ghost use Rattle.std.specs.Prelude.{◌∷◌, ℕ, List, IfOk, MatchOption, codes};
+ghost use Rattle.replay_text.specs.Events.{SpellsAskPath, SpellsAskZone, SpellsEvent, SpellsWalk, fields_of};
 
-use crate::fields::{cut, only_field, read_escaped, read_small_number, read_user};
+use crate::fields::{cut, only_field, read_escaped, read_user};
 use hk_base::{KeyName, NoMemory};
 use hk_events::Event;
 use std::alloc::Global;
@@ -87,36 +86,6 @@ fn read_zone(alloc: Global, user: &[u8], fields: &[u8]) -> Result<Option<Event>,
     Ok(Some(Event::AskZone { user, path, key }))
 }
 
-/// Reads `deposit T`, from after `deposit`.
-pub fn read_deposit(fields: &[u8]) -> Option<Event>
-    ensures { MatchOption result ((ticket : ℕ) → ¬ SpellsKept (codes "deposit") (codes "deposit" ∷ fields_of fields.now) ticket) (SpellsEvent (codes "deposit" ∷ fields_of fields.now)) }
-{
-    let Some(ticket) = only_number(fields) else {
-        return None;
-    };
-    Some(Event::Deposit { ticket })
-}
-
-/// Reads `draw A`, from after `draw`.
-pub fn read_draw(fields: &[u8]) -> Option<Event>
-    ensures { MatchOption result ((ask : ℕ) → ¬ SpellsKept (codes "draw") (codes "draw" ∷ fields_of fields.now) ask) (SpellsEvent (codes "draw" ∷ fields_of fields.now)) }
-{
-    let Some(ask) = only_number(fields) else {
-        return None;
-    };
-    Some(Event::Draw { ask })
-}
-
-/// Reads `finish R`, from after `finish`.
-pub fn read_finish(fields: &[u8]) -> Option<Event>
-    ensures { MatchOption result ((reply : ℕ) → ¬ SpellsKept (codes "finish") (codes "finish" ∷ fields_of fields.now) reply) (SpellsEvent (codes "finish" ∷ fields_of fields.now)) }
-{
-    let Some(reply) = only_number(fields) else {
-        return None;
-    };
-    Some(Event::Finish { reply })
-}
-
 /// Reads `walk P`, from after `walk`.
 pub fn read_walk(alloc: Global, fields: &[u8]) -> Result<Option<Event>, NoMemory>
     ensures { IfOk result (λ found. MatchOption found ((path : List ℕ) → ¬ SpellsWalk (codes "walk" ∷ fields_of fields.now) path) (SpellsEvent (codes "walk" ∷ fields_of fields.now))) }
@@ -128,25 +97,4 @@ pub fn read_walk(alloc: Global, fields: &[u8]) -> Result<Option<Event>, NoMemory
         return Ok(None);
     };
     Ok(Some(Event::Walk { path }))
-}
-
-/// Reads `serve B`, from after `serve`.
-pub fn read_serve(fields: &[u8]) -> Option<Event>
-    ensures { MatchOption result ((batch : ℕ) → ¬ SpellsKept (codes "serve") (codes "serve" ∷ fields_of fields.now) batch) (SpellsEvent (codes "serve" ∷ fields_of fields.now)) }
-{
-    let Some(batch) = only_number(fields) else {
-        return None;
-    };
-    Some(Event::Serve { batch })
-}
-
-/// Returns the number below 2^32 that the only field spells. Returns `None` for several fields or
-/// another spelling.
-fn only_number(fields: &[u8]) -> Option<u32>
-    ensures { MatchOption result ((n : ℕ) → n < 2 ^ 32 → ¬ (fields_of fields.now ≡ decimal n ∷ [])) (λ n. (n < 2 ^ 32) × (fields_of fields.now ≡ decimal n ∷ [])) }
-{
-    let Some(field) = only_field(fields) else {
-        return None;
-    };
-    read_small_number(field)
 }

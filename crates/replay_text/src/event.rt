@@ -5,9 +5,10 @@ ghost use Rattle.replay_text.specs.Events.{IsBad, IsPathEvent, IsPathVerb, IsQui
 ghost use Rattle.hk_events.specs.declared.event.Event.{Event};
 ghost use Rattle.hk_events.specs.declared.event.Event.TheVariants as event;
 
-use crate::asks::{read_ask, read_deposit, read_draw, read_finish, read_serve, read_walk};
+use crate::asks::{read_ask, read_walk};
 use crate::calls::read_call;
 use crate::fields::{cut, only_field, read_escaped, read_user};
+use crate::numbers::read_number_event;
 use hk_base::{ByteList, NoMemory, Text};
 use hk_events::Event;
 use std::alloc::Global;
@@ -50,9 +51,6 @@ fn read_spelled(alloc: Global, line: &[u8]) -> Result<Option<Event>, NoMemory>
     if first == b"kms".as_slice() {
         return read_kms_event(alloc, rest);
     }
-    if first == b"deposit".as_slice() {
-        return Ok(read_deposit(rest));
-    }
     if first == b"restart".as_slice() {
         return Ok(read_restart(rest));
     }
@@ -62,19 +60,10 @@ fn read_spelled(alloc: Global, line: &[u8]) -> Result<Option<Event>, NoMemory>
     if first == b"ask".as_slice() {
         return read_ask(alloc, rest);
     }
-    if first == b"draw".as_slice() {
-        return Ok(read_draw(rest));
-    }
-    if first == b"finish".as_slice() {
-        return Ok(read_finish(rest));
-    }
     if first == b"walk".as_slice() {
         return read_walk(alloc, rest);
     }
-    if first == b"serve".as_slice() {
-        return Ok(read_serve(rest));
-    }
-    Ok(None)
+    Ok(read_number_event(first, rest))
 }
 
 /// Returns the event of a line that is one field.

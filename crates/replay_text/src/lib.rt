@@ -8,6 +8,7 @@ mod event;
 mod fields;
 mod laws;
 mod lists;
+mod numbers;
 mod status;
 mod transcript;
 

@@ -1,11 +1,12 @@
-//! How far the re-encryption of a zone is, as an answer.
+//! How far the re-encryption of a zone is, and what became of a batch, as answers.
 ghost use Rattle.std.specs.Prelude.{◌≡◌, ◌++◌, OnOk, codes, drop};
+ghost use Rattle.std.specs.Fmt.{decimal};
 ghost use Rattle.hk_base.specs.Names.{version_text};
-ghost use Rattle.replay_text.specs.Transcript.{counts_text, escaped_relative_path, mark_text, state_text, status_text, yes_or_no};
+ghost use Rattle.replay_text.specs.Transcript.{counts_text, delivered_text, escaped_relative_path, mark_text, state_text, status_text, yes_or_no};
 
 use crate::transcript::{write_escaped, write_number};
 use hk_base::{ByteList, NoMemory};
-use name_calls::{NPath, State, ZoneStatus};
+use name_calls::{Delivered, NPath, State, ZoneStatus};
 use std::alloc::Global;
 
 /// Appends the answer to a call for the status of a zone.
@@ -91,4 +92,43 @@ fn after_first_byte(bytes: &[u8]) -> &[u8]
         return bytes;
     }
     &bytes[1..]
+}
+
+/// Appends the answer to a delivery or a giving up.
+pub(crate) fn write_delivered(delivered: Delivered, out: &mut ByteList) -> Result<(), NoMemory>
+    ensures { OnOk result (out.new ≡ out.old ++ delivered_text delivered) }
+{
+    match delivered {
+        Delivered::Applied {
+            changed,
+            skipped,
+            failed,
+        } => write_applied(changed, skipped, failed, out),
+        Delivered::Ignored { session } => write_ignored(session, out),
+    }
+}
+
+/// Appends how many files of a batch were changed, skipped and failed.
+fn write_applied(
+    changed: u32,
+    skipped: u32,
+    failed: u32,
+    out: &mut ByteList,
+) -> Result<(), NoMemory>
+    ensures { OnOk result (out.new ≡ out.old ++ codes "applied " ++ decimal changed ++ codes " " ++ decimal skipped ++ codes " " ++ decimal failed) }
+{
+    out.append(b"applied ")?;
+    write_number(changed as u64, out)?;
+    out.push(b' ')?;
+    write_number(skipped as u64, out)?;
+    out.push(b' ')?;
+    write_number(failed as u64, out)
+}
+
+/// Appends the last session of a zone whose batch is not outstanding.
+fn write_ignored(session: u64, out: &mut ByteList) -> Result<(), NoMemory>
+    ensures { OnOk result (out.new ≡ out.old ++ codes "ignored " ++ decimal session) }
+{
+    out.append(b"ignored ")?;
+    write_number(session, out)
 }

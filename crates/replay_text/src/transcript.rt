@@ -9,7 +9,7 @@ ghost use Rattle.replay_text.specs.declared.transcript.TheConstants.{ESCAPED};
 ghost use Rattle.kms_calls.specs.Refusals.{refusal_text};
 ghost use Rattle.replay_text.specs.Transcript.{answer_text, child_part, deposit_text, edek_field, edek_part, edek_text, escaped_path, kept_text, key_text, line_text, material_text, meta_part, meta_text, name_part, name_refusal_text, name_text, refusal_name, row_front, shown_part, outcome_text, ticket_text, want_text, zone_part, zone_text};
 
-use crate::status::write_status;
+use crate::status::{write_delivered, write_status};
 use eek_seal::Deposit;
 use hk_base::{ByteList, Dek, Edek, KeyName, NoMemory, VersionName};
 use hk_events::Line;
@@ -87,6 +87,7 @@ fn write_outcome(alloc: Global, outcome: &Line, out: &mut ByteList) -> Result<()
         Line::Batch { number, files } => write_batch(*number, *files, out),
         Line::NoneLeft { outstanding } => write_none_left(*outstanding, out),
         Line::Completed => out.append(b"completed"),
+        Line::Delivered(delivered) => write_delivered(*delivered, out),
         Line::Refused(why) => write_refused(why, out),
         Line::Unknown => out.append(b"unknown"),
     }

@@ -3,9 +3,14 @@ use Rattle.std.proofs.Common.{◌≡◌, ℕ, ◌+◌, ◌*◌, ◌^◌, ◌≤�
 use Rattle.std.specs.Bool.{⊤}
 use Rattle.std.specs.List.{AllByRecursion}
 use Rattle.hk_base.specs.declared.names.Edek.{Edek}
+use Rattle.edit_ops.specs.declared.files.FileKey.{FileKey}
 use Rattle.edit_ops.specs.declared.ops.EditOp.{EditOp}
 use Rattle.edit_ops.specs.declared.ops.EditOp.TheVariants as op
 use Rattle.inode_tree.specs.Rows.{Entry}
+use Rattle.reenc_update.specs.declared.changes.Changes.{Changes}
+use Rattle.reenc_update.specs.Changes.{all_failed, changes_of}
+use Rattle.reenc_update.specs.Replies.{ReplyState}
+use Rattle.reenc_walk.specs.declared.sent.BatchNote.{BatchNote}
 use Rattle.reenc_walk.specs.Files.{walk_list}
 use Rattle.reenc_walk.specs.Walks.{outstanding}
 use Rattle.zone_table.specs.declared.statuses.StatusRow.{StatusRow}
@@ -21,12 +26,15 @@ use Rattle.name_calls.specs.declared.calls.NameCall.TheVariants as call
 use Rattle.name_calls.specs.declared.calls.NameRefusal.{NameRefusal}
 use Rattle.name_calls.specs.declared.calls.NameReply.{NameReply}
 use Rattle.name_calls.specs.declared.paths.NPath.{NPath}
+use Rattle.name_calls.specs.declared.status.Delivered.{Delivered}
 use Rattle.name_core.specs.State.{NameService, NameState, next_id, settled, started}
 use Rattle.name_core.specs.Asks.{Finishes, closed, finish_causes, finish_op, open_ask, ask_opened, unless_stopped}
 use Rattle.name_core.specs.Calls.{NameActs, NoRoom, Plain, causes, deed, done_with, early_causes, first_cause, numbered, path_causes, unless_refused}
 use Rattle.name_core.specs.Service.{FinishServes, FinishServesAt, FinishServesOpen, NameServes, ServesBy, ServesUnless, is_change}
 use Rattle.name_core.specs.Steps.{Keeps}
-use Rattle.name_core.specs.Laws.{AnyFault, IsStep, Called, Asked, Finished, Walks, Reaches}
+use Rattle.name_core.specs.Laws.{AnyFault, IsStep, Called, Asked, Delivers, Finished, GivesUp, Walks, Reaches}
+use Rattle.name_core.specs.Updates.{UpdateDeed, applied, deliver_deed, give_up_deed, ignored, is_outstanding, mark_by, update_deed, update_op}
+use Rattle.name_core.specs.Updating.{NameUpdates, UpdateServes}
 use Rattle.name_core.specs.Walking.{NameWalks, WalkServes, WalkServesUnless, unless_not_walked}
 use Rattle.name_core.specs.Walks.{WalkDeed, deed_by_files, deed_by_status, none_left, session_at, status_at, walk_causes, walk_deed, walk_of}
 use Rattle.name_core.specs.declared.walks.Walked.{Walked}
@@ -36,16 +44,18 @@ use Rattle.name_core.proofs.AskLaws.{ids_stay_below}
 use Rattle.name_core.proofs.AskLemmas.{each-append, each-without, open-holds}
 use Rattle.name_core.proofs.KeepLemmas.{keeps-settled, same-opening, settled-next, with_ask}
 use Rattle.name_core.proofs.Layers.{Asking, Same, Opened, asking}
+use Rattle.run_laws.proofs.SentFiles.{AreFiles, delivered-files}
 
 abbrev pub Alone : NameState → NameService
 Alone s = record { names = s; pending = None }
 
 -- A property of tables, and one of open asks that each ask has whose id is n or above. Changes keep the first: those of calls that `Spares`
--- allows, those of finishes of asks that have the second, and those of walks.
+-- allows, those of finishes of asks that have the second, those of walks, and updates of files that have encrypted keys.
 pub record Invariant (Holds : NameTable → Type 0) (P : OpenAsk → Type 0) (Spares : NameState → NameCall → Type 0) (n : ℕ) : Type 0 where
   pub called : (s : NameState) (c : NameCall) (o : EditOp) → Keeps (Alone s) → n ≤ next_id s → Spares s c → first_cause (causes s c) ≡ None → (deed s c).logs ≡ Some o → Holds s.table → Holds (after_table s.table o)
   pub finished : (t : NameTable) (q : OpenAsk) (edek : Option Edek) → P q → first_cause (finish_causes t.rows t.statuses q edek q.ask) ≡ None → Holds t → Holds (after_table t (finish_op q.id edek q.ask))
   pub completed : (t : NameTable) (session : ℕ) → Holds t → Holds (after_table t (op.Complete session))
+  pub updated : (t : NameTable) (session failed : ℕ) (mark : Option NPath) (files : List FileKey) → AreFiles t.rows files → Holds t → Holds (after_table t (op.Update session failed mark files))
   pub later_asks : (q : OpenAsk) → n ≤ q.id → P q
 
 -- what stays true from step to step, whether the pending operation will be kept or dropped
@@ -60,6 +70,8 @@ SparesStep Spares s s' (Called user c result logged did) = (kept : Bool) → Spa
 SparesStep Spares s s' (Asked user a result asks same) = ⊤
 SparesStep Spares s s' (Finished id given result logged did) = ⊤
 SparesStep Spares s s' (Walks p result logged did) = ⊤
+SparesStep Spares s s' (Delivers reply result logged did) = ⊤
+SparesStep Spares s s' (GivesUp note result logged did) = ⊤
 
 module _ (Holds : NameTable → Type 0) (P : OpenAsk → Type 0) (Spares : NameState → NameCall → Type 0) (n : ℕ) (inv : Invariant Holds P Spares n) where
   abbrev Still : NameService → Type 0
@@ -217,11 +229,51 @@ module _ (Holds : NameTable → Type 0) (P : OpenAsk → Type 0) (Spares : NameS
       early None (inr (kept, inl w)) = at s' (Alone w.changed) w.left (moves-on (settled kept s) p result w.changed w.walks (settles kept s k h))
       early None (inr (kept, inr u)) = at s' (record { names = settled kept s; pending = Some u.op }) u.left ((walked-well (settled kept s) p (settles kept s k h)).1 u.op u.writes)
 
+  -- deliveries, and batches given up
+
+  -- the state that an update leaves, and the one in which its operation is pending
+  abbrev StillUpdated : UpdateDeed → Type 0
+  StillUpdated d = Still (Alone (done_with d.logs d.state)) × ((o : EditOp) → d.logs ≡ Some o → Still (record { names = d.state; pending = Some o }))
+
+  updates-well : (s : NameState) (note : BatchNote) (changes : Changes) → AreFiles s.table.rows changes.files → Still (Alone s) → StillUpdated (update_deed s note changes)
+  updates-well s note changes files h = go (is_outstanding s note)
+    where
+      left : NameState
+      left = record s { updating = Some note.sent }
+
+      go : (found : Bool) → StillUpdated (if found then applied s note changes else ignored s note)
+      go true =
+          let o = update_op s note changes in
+          let t = takes left o (inv.updated s.table note.session changes.failed (mark_by s note) changes.files files (h.table true)) refl (record { later = h.later; asks = h.asks; table = h.table }) in
+          (t.0, λ p is. let same : o ≡ p = cc in subst (λ (x : EditOp). Still (record { names = left; pending = Some x })) same t.1)
+      go false = (h, λ o is. absurd cc)
+
+  goes-on : (s : NameState) (d : NameState → UpdateDeed) (result : Result Delivered NameRefusal) (s' : NameState) → StillUpdated (d s) → NameUpdates s d result s' → Still (Alone s) → Still (Alone s')
+  goes-on s d result s' well (NoRoom, may, is) h = at (Alone s') (Alone s) (ap Alone (ap (λ o. o.state) is)) h
+  goes-on s d result s' well (Plain, may, is) h = at (Alone s') (Alone (done_with (d s).logs (d s).state)) (ap Alone (ap (λ o. o.state) is)) well.0
+
+  updates : (s : NameService) (d : NameState → UpdateDeed) (result : Result Delivered NameRefusal) (logged : List EditOp) (s' : NameService) → ((s : NameState) → Still (Alone s) → StillUpdated (d s))
+      → UpdateServes s d AnyFault result logged s' → Keeps s → Still s → Still s'
+  updates s d result logged s' well (inl waits) k h = at s' s waits.ends.same h
+  updates s d result logged s' well (inr (kept, inl w)) k h =
+      let now = settles kept s k h in at s' (Alone w.changed) w.left (goes-on (settled kept s) d result w.changed (well (settled kept s) now) w.updates now)
+  updates s d result logged s' well (inr (kept, inr u)) k h =
+      at s' (record { names = (d (settled kept s)).state; pending = Some u.op }) u.left ((well (settled kept s) (settles kept s k h)).1 u.op u.writes)
+
+  delivers-well : (reply : ReplyState) (s : NameState) → Still (Alone s) → StillUpdated (deliver_deed reply s)
+  delivers-well reply s h =
+      updates-well s reply.note (changes_of s.table.rows reply.note.zone reply.note.sent reply.result) (delivered-files s.table.rows reply.note.zone reply.note.sent reply.result) h
+
+  gives-up-well : (note : BatchNote) (s : NameState) → Still (Alone s) → StillUpdated (give_up_deed note s)
+  gives-up-well note s h = updates-well s note (all_failed note.sent) tt h
+
   pub step : (s s' : NameService) (did : IsStep s s') → SparesStep Spares s s' did → Keeps s → Still s → Still s'
   step s s' (Called user c result logged did) spares k h = serves s user c result logged s' spares did k h
   step s s' (Asked user q result did same) spares k h = asks s s' user q same (asking s.names user q result s'.names did) h
   step s s' (Finished id given result logged did) spares k h = ends s id given result logged s' did k h
   step s s' (Walks p result logged did) spares k h = walks s p result logged s' did k h
+  step s s' (Delivers reply result logged did) spares k h = updates s (deliver_deed reply) result logged s' (delivers-well reply) did k h
+  step s s' (GivesUp note result logged did) spares k h = updates s (give_up_deed note) result logged s' (gives-up-well note) did k h
 
   -- if all steps may be made
   pub steps : ((s s' : NameService) (did : IsStep s s') → SparesStep Spares s s' did) → (s : NameService) (between : List NameService) (t : NameService) → Reaches s between t → Keeps s → Still s → Still t
@@ -245,6 +297,8 @@ any-step s s' (Called user c result logged did) = λ kept. tt
 any-step s s' (Asked user a result asks same) = tt
 any-step s s' (Finished id given result logged did) = tt
 any-step s s' (Walks p result logged did) = tt
+any-step s s' (Delivers reply result logged did) = tt
+any-step s s' (GivesUp note result logged did) = tt
 
 -- a property of open asks, and of each ask with an id that is not used yet, stays true of open asks; used ids stay used
 pub asks-keep : (P : OpenAsk → Type 0) (n : ℕ) → ((q : OpenAsk) → n ≤ q.id → P q) → (s s' : NameService) → IsStep s s' → Keeps s → n ≤ next_id s.names → AllByRecursion P s.names.asks
@@ -253,7 +307,7 @@ asks-keep P n later s s' did k used asks = (still.later, still.asks)
   where
     still : Stays (λ t. ⊤) P n s'
     still =
-        step (λ t. ⊤) P AnyCall n (record { called = λ s c o k new spares free logs h. tt; finished = λ t q edek only free h. tt; completed = λ t session h. tt; later_asks = later }) s s' did (any-step s s' did) k
+        step (λ t. ⊤) P AnyCall n (record { called = λ s c o k new spares free logs h. tt; finished = λ t q edek only free h. tt; completed = λ t session h. tt; updated = λ t session failed mark files are h. tt; later_asks = later }) s s' did (any-step s s' did) k
         (record { later = used; asks = asks; table = λ kept. tt })
 
 -- ids are in order in a namesystem that is opened again

@@ -26,7 +26,7 @@ use Rattle.name_calls.specs.declared.calls.Want.{Want}
 use Rattle.name_calls.specs.declared.calls.Want.TheVariants as want
 use Rattle.name_core.specs.Asks.{Asks}
 use Rattle.name_core.specs.Calls.{superuser}
-use Rattle.name_core.specs.Laws.{AnyFault, Asked, Called, Finished, IsStep, Walks}
+use Rattle.name_core.specs.Laws.{AnyFault, Asked, Called, Delivers, Finished, GivesUp, IsStep, Walks}
 use Rattle.name_core.specs.Walking.{WalkServes}
 use Rattle.name_core.specs.declared.walks.Walked.{Walked}
 use Rattle.name_core.specs.declared.walks.Walked.TheVariants as walk
@@ -37,9 +37,9 @@ use Rattle.hk_events.specs.declared.event.Event.TheVariants as event
 use Rattle.hk_events.specs.declared.event.Line.{Line}
 use Rattle.world_run.specs.declared.kept.KeptReply.{KeptReply}
 use Rattle.world_run.specs.declared.kept.KeptReply.TheVariants.{ToAsk, ToBatch}
-use Rattle.world_run.specs.Batches.{after_walk, batch_call, result_of}
+use Rattle.world_run.specs.Batches.{after_walk, batch_call, reply_for}
 use Rattle.world_run.specs.Acknowledged.{Acknowledged}
-use Rattle.world_run.specs.Step.{AskAt, DepositActs, DrawActs, FinishReply, NamesAct, PathActs, ServeActs, Step, WalkAt, WantActs, after_ask, after_ticket, delete_with, kept_reply, zone_with}
+use Rattle.world_run.specs.Step.{AskAt, DeliverReply, DepositActs, DrawActs, FinishReply, GiveUpBatch, NamesAct, PathActs, ServeActs, Step, WalkAt, WantActs, after_ask, after_ticket, delete_with, kept_reply, zone_with}
 use Rattle.world_run.specs.RenamePaths.{read_rename_paths, rename_along}
 use Rattle.world_run.specs.SnapPaths.{read_snap_path, snap_at, unsnap_at}
 use Rattle.world_run.specs.World.{Kept, WorldState, numbered, with_names, with_reply, with_ticket}
@@ -78,6 +78,8 @@ IsOf e (Called user c outcome logged serves) = call_of e ≡ Some c
 IsOf e (Asked user a outcome asks same) = ⊤
 IsOf e (Finished id given outcome logged serves) = ⊤
 IsOf e (Walks p outcome logged serves) = ⊤
+IsOf e (Delivers reply outcome logged serves) = ⊤
+IsOf e (GivesUp note outcome logged serves) = ⊤
 
 -- in an event the namesystem is unchanged, or takes a step, or is opened again from its log
 pub data Turns (e : Event) (s s' : NameService) : Type 0 where
@@ -143,7 +145,7 @@ module _ (e : Event) where
 
   finish-moves : (w : WorldState) (o : Option KeptReply) (outcome : Line) (drawn : ℕ) (logged : Acknowledged) (w' : WorldState) → FinishReply w o AnyFault outcome drawn logged w' → Moves e w w'
   finish-moves w None outcome drawn logged w' u = rests w w' u.same
-  finish-moves w (Some (ToBatch batch answer)) outcome drawn logged w' u = rests w w' u.same
+  finish-moves w (Some (ToBatch reply)) outcome drawn logged w' u = rests w w' u.same
   finish-moves w (Some (ToAsk id answer)) outcome drawn logged w' f = at w (record w { names = f.names }) w' f.left (turns w f.names (Stepped (Finished id answer f.result f.ops f.finishes) tt))
 
   walk-moves : (w : WorldState) (o : Option NPath) (outcome : Line) (drawn : ℕ) (logged : Acknowledged) (w' : WorldState) → WalkAt w o AnyFault outcome drawn logged w' → Moves e w w'
@@ -162,11 +164,20 @@ module _ (e : Event) where
       → ServeActs lines w words now o AnyFault outcome drawn logged w' → Moves e w w'
   serve-moves lines w words now None outcome drawn logged w' u = rests w w' u.same
   serve-moves lines w words now (Some batch) outcome drawn logged w' (inr full) = rests w w' full.same
-  serve-moves lines w words now (Some batch) outcome drawn logged w' (inl d) = at w (with_reply (ToBatch batch (result_of d.reply)) (record w { keys = d.keys })) w' d.left (record {
+  serve-moves lines w words now (Some batch) outcome drawn logged w' (inl d) = at w (with_reply (ToBatch (reply_for batch d.reply)) (record w { keys = d.keys })) w' d.left (record {
     names = Rests refl;
-    kept = record { notes = λ n x h. h; replies = λ n x h. numbered-stays w.kept.replies (ToBatch batch (result_of d.reply)) n x h };
+    kept = record { notes = λ n x h. h; replies = λ n x h. numbered-stays w.kept.replies (ToBatch (reply_for batch d.reply)) n x h };
     ready = user_keeps_ready lines superuser w.keys words now (batch_call batch) AnyFault d.reply drawn d.commands d.keys d.serves;
   })
+
+  deliver-moves : (w : WorldState) (o : Option KeptReply) (outcome : Line) (drawn : ℕ) (logged : Acknowledged) (w' : WorldState) → DeliverReply w o AnyFault outcome drawn logged w' → Moves e w w'
+  deliver-moves w None outcome drawn logged w' u = rests w w' u.same
+  deliver-moves w (Some (ToAsk id answer)) outcome drawn logged w' u = rests w w' u.same
+  deliver-moves w (Some (ToBatch reply)) outcome drawn logged w' d = at w (record w { names = d.names }) w' d.left (turns w d.names (Stepped (Delivers reply d.result d.ops d.serves) tt))
+
+  give-up-moves : (w : WorldState) (o : Option BatchNote) (outcome : Line) (drawn : ℕ) (logged : Acknowledged) (w' : WorldState) → GiveUpBatch w o AnyFault outcome drawn logged w' → Moves e w w'
+  give-up-moves w None outcome drawn logged w' u = rests w w' u.same
+  give-up-moves w (Some batch) outcome drawn logged w' g = at w (record w { names = g.names }) w' g.left (turns w g.names (Stepped (GivesUp batch g.result g.ops g.serves) tt))
 
   -- the ticket that is kept, if one is given
   ticket-moves : (w : WorldState) (o : Option Ticket) (w' : WorldState) → w' ≡ after_ticket o w → Moves e w w'
@@ -219,6 +230,8 @@ step-moves lines w words now (event.Draw number) outcome drawn logged w' s = dra
 step-moves lines w words now (event.Finish number) outcome drawn logged w' s = finish-moves (event.Finish number) w (numbered w.kept.replies number) outcome drawn logged w' s
 step-moves lines w words now (event.Walk p) outcome drawn logged w' s = walk-moves (event.Walk p) w (read_path p) outcome drawn logged w' s
 step-moves lines w words now (event.Serve number) outcome drawn logged w' s = serve-moves (event.Serve number) lines w words now (numbered w.kept.batches number) outcome drawn logged w' s
+step-moves lines w words now (event.Deliver number) outcome drawn logged w' s = deliver-moves (event.Deliver number) w (numbered w.kept.replies number) outcome drawn logged w' s
+step-moves lines w words now (event.GiveUp number) outcome drawn logged w' s = give-up-moves (event.GiveUp number) w (numbered w.kept.batches number) outcome drawn logged w' s
 
 pub moves : (w : WorldState) (e : Event) (outcome : Line) (w' : WorldState) → Happens w e outcome w' → Moves e w w'
 moves w e outcome w' h = step-moves h.lines w h.words h.now e outcome h.drawn h.logged w' h.step

@@ -3,6 +3,7 @@ pub mod DrawnKeys
 pub mod EventSteps
 pub mod RefusalLaw
 pub mod RunLaw
+pub mod SentFiles
 pub mod SnapshotLaw
 pub mod ZoneMarks
 pub mod ZoneSteps

@@ -2,7 +2,8 @@
 use Rattle.std.proofs.Common.{◌≡◌, ℕ, ◌<◌, inl, inr, Bool, true, false, cond, List, [], ◌∷◌, Option, Some, None, Ok, Err, IfSome, is_some, refl, sym, ap, ◌∙◌, subst, arith}
 use Rattle.std.specs.Prelude.{not, nat_le, is_none, length, ◌==◌}
 use Rattle.std.specs.Option.{option_and_then, option_map}
-use Rattle.std.specs.List.{All, AllByRecursion}
+use Rattle.std.specs.List.{All, AllByRecursion, list_all}
+use Rattle.std.proofs.lemmas.Bool.{and_parts}
 use Rattle.std.proofs.lemmas.Bool.Decides.{nat_tests}
 use Rattle.std.proofs.lemmas.Slice.Eq.{bytes_eq-Decides}
 use Rattle.hk_base.specs.declared.names.Edek.{Edek}
@@ -15,7 +16,7 @@ use Rattle.zone_table.specs.declared.statuses.StatusRow.{StatusRow}
 use Rattle.zone_table.specs.Statuses.{zone_goes_on}
 use Rattle.name_store.specs.Causes.{id_at, mark_at}
 use Rattle.name_store.specs.Store.{is_opening}
-use Rattle.name_store.specs.Table.{fits_zone, key_of_zone, may_use_all, settled_table, uses}
+use Rattle.name_store.specs.Table.{fits_zone, ids_once, key_of_zone, may_update, may_use_all, settled_table, uses}
 use Rattle.name_store.proofs.CauseLemmas.{allowed, id-may-be-used, markable}
 use Rattle.name_core.specs.declared.asks.OpenAsk.{OpenAsk}
 use Rattle.name_calls.specs.declared.calls.Ask.{Ask}
@@ -34,7 +35,8 @@ use Rattle.name_core.proofs.AskLemmas.{each-append, each-both, each-map, no-key,
 use Rattle.name_core.proofs.KeepLemmas.{keeps-of}
 use Rattle.name_core.proofs.RowLemmas.{BelowId, zone-row, zone-stands}
 use Rattle.run_laws.specs.Names.{Answers, RefusedForItsZone}
-use Rattle.run_laws.proofs.ZoneMarks.{HasKey, LeavesZone, keys-stay, zone-holds}
+use Rattle.run_laws.proofs.SentFiles.{updated-files}
+use Rattle.run_laws.proofs.ZoneMarks.{HasKey, LeavesZone, keys-stay, not-zones, zone-holds}
 use Rattle.run_laws.proofs.AskSteps.{AnyCall, Stays, any-step, steps}
 use Rattle.run_laws.proofs.ZoneSteps.{Begun, KeepsKey, zone-stays}
 
@@ -102,6 +104,10 @@ module _ (s : NameService) (k : Ask) (names : IsNames s) where
   leaves (op.Snap p name) w = tt
   leaves (op.Unsnap p name) w = tt
   leaves (op.Submit session p noted) w = tt
+  leaves (op.Update session failed mark files) w =
+      let fits = (allowed s.names.table (op.Update session failed mark files) refl w.pending.allowed).fits in
+      let may = (and_parts (ids_once files) (list_all (may_update s.names.table session) files) fits).1 in
+      not-zones under key marked rows files (updated-files s.names.table session files may) has-key
   leaves (op.Cancel session) w = tt
   leaves (op.Complete session) w = tt
 

@@ -133,6 +133,8 @@ asks-so w (event.Draw n) a number note w' is h = absurd cc
 asks-so w (event.Finish n) a number note w' is h = absurd cc
 asks-so w (event.Walk p) a number note w' is h = absurd cc
 asks-so w (event.Serve n) a number note w' is h = absurd cc
+asks-so w (event.Deliver n) a number note w' is h = absurd cc
+asks-so w (event.GiveUp n) a number note w' is h = absurd cc
 
 since-ask : (w : WorldState) (a : Ask) (number : ℕ) (note : AskNote) (w' : WorldState) → IsNames w.names → (acc : Accepts w a number note w') → Since note.id (record w.names { names = acc.names }) w'.names
 since-ask w a number note w' names acc =

@@ -10,7 +10,7 @@ use Rattle.name_store.specs.Store.{is_opening}
 use Rattle.name_store.specs.Table.{NameTable, after_table}
 use Rattle.name_core.specs.Asks.{finish_op}
 use Rattle.name_core.specs.Calls.{causes, deed, first_cause}
-use Rattle.name_core.specs.Laws.{Asked, Called, Finished, IsNotCalled, IsStep, Walks, removes_snapshot}
+use Rattle.name_core.specs.Laws.{Asked, Called, Delivers, Finished, GivesUp, IsNotCalled, IsStep, Walks, removes_snapshot}
 use Rattle.name_core.specs.State.{IsNames, NameService, NameState}
 use Rattle.name_core.specs.Steps.{Keeps}
 use Rattle.name_core.proofs.AllowedLemmas.{allowed-call, no-opening}
@@ -54,6 +54,7 @@ module _ (dir : ℕ) (name : List ℕ) (was : Snapshot) where
     called = λ s c o k new spares free logs h. has-called s c o k spares free logs h;
     finished = λ t q edek only free h. has-finished t q.id edek q.ask h;
     completed = λ t session h. record { opened = h.opened; stands = h.stands };
+    updated = λ t session failed mark files are_files h. record { opened = h.opened; stands = h.stands };
     later_asks = λ q later. tt;
   }
 
@@ -68,6 +69,8 @@ module _ (dir : ℕ) (name : List ℕ) (was : Snapshot) where
   spares-step e s s' (Asked user a reply asks same) its spares = tt
   spares-step e s s' (Finished id given reply logged did) its spares = tt
   spares-step e s s' (Walks p reply logged did) its spares = tt
+  spares-step e s s' (Delivers given reply logged did) its spares = tt
+  spares-step e s s' (GivesUp note reply logged did) its spares = tt
 
   still-turn : (e : Event) (s s' : NameService) → Turns e s s' → IfSome (call_of e) (λ c. IsNotCalled s c dir name) → Still s → Still s'
   still-turn e s s' (Rests is) spares h = subst Still (sym is) h

@@ -1,21 +1,30 @@
 -- Rows with the id of a zone keep its key while operations take effect.
-use Rattle.std.proofs.Common.{◌≡◌, ℕ, Bool, true, false, cond, ◌&&◌, is_some, nat_lt, List, [], ◌∷◌, length, get_or, map, Option, Some, None, IfSome, refl, sym, ap, ◌∙◌}
+use Rattle.std.proofs.Common.{◌≡◌, ℕ, Bool, true, false, cond, ◌&&◌, is_some, nat_lt, List, [], ◌∷◌, length, get_or, map, Option, Some, None, IfSome, refl, sym, ap, ◌∙◌, arith}
 use Rattle.std.specs.Prelude.{◌==◌, not}
 use Rattle.std.specs.Bool.{⊤}
-use Rattle.std.specs.List.{All}
+use Rattle.std.specs.List.{All, AllByRecursion}
+use Rattle.std.specs.Option.{option_and_then}
 use Rattle.std.proofs.lemmas.Bool.{and_parts}
+use Rattle.std.proofs.lemmas.Bool.Decides.{nat_tests}
 use Rattle.std.proofs.lemmas.List.Elements.{All-filter, All-head, All-map, All-tail}
 use Rattle.hk_base.specs.declared.names.KeyName.{KeyName}
-use Rattle.inode_tree.specs.declared.rows.Kind.TheVariants.{Dir}
+use Rattle.inode_tree.specs.declared.rows.Kind.{Kind}
+use Rattle.inode_tree.specs.declared.rows.Kind.TheVariants.{Dir, File}
 use Rattle.name_calls.specs.Paths.{is_prefix, same_path}
 use Rattle.inode_tree.specs.Moves.{in_order, moved}
-use Rattle.inode_tree.specs.Rows.{Entry, is_dir_at, is_marked, is_zone_over, longer, mark_of, row_at, with_kind, zone_of}
+use Rattle.inode_tree.specs.Rows.{Entry, entry_of, is_dir_at, is_marked, is_zone_over, longer, mark_of, row_at, set_kind, with_kind, zone_of}
+use Rattle.inode_tree.specs.ZoneFiles.{edek_of}
 use Rattle.inode_tree.proofs.Seeks.{same-is}
 use Rattle.inode_tree.proofs.ZoneLemmas.{prefix-itself}
+use Rattle.edit_ops.specs.declared.files.FileKey.{FileKey}
 use Rattle.edit_ops.specs.declared.ops.EditOp.{EditOp}
 use Rattle.edit_ops.specs.declared.ops.EditOp.TheVariants as op
-use Rattle.name_store.specs.Table.{NameTable, after_table, id_of, new_directory, new_file}
+use Rattle.name_store.specs.Table.{NameTable, after_table, id_of, new_directory, new_file, with_edeks}
 use Rattle.name_core.proofs.RowLemmas.{all-put}
+use Rattle.run_laws.proofs.SentFiles.{AreFiles, has_file}
+
+eq-yes : (a b : ℕ) → (a == b) ≡ true → a ≡ b
+eq-yes a b h = grind (arith, nat_tests)
 
 -- a property of each marked row is true of the row of a zone
 pub zone-holds : (P : Entry → Type 0) (p : List (List ℕ)) (rows : List Entry) → All (λ (e : Entry). is_marked e.row ≡ true → P e) rows → IfSome (zone_of rows p) P
@@ -43,7 +52,7 @@ all-order P (e ∷ es) h = all-put P e (in_order es) (All-head P e es h) (all-or
 abbrev pub HasKey : Option ℕ → Option KeyName → Entry → Type 0
 HasKey under key e = under ≡ Some e.row.id → mark_of e.row.kind ≡ key
 
--- an operation that makes no row with the id of the zone, and marks only a directory outside all zones
+-- an operation that makes no row with the id of the zone, gives it no encrypted key, and marks only a directory outside all zones
 abbrev pub LeavesZone : Option ℕ → List Entry → EditOp → Type 0
 LeavesZone under rows (op.Opened opening) = ⊤
 LeavesZone under rows (op.Mkdir id p) = under ≡ Some id → ⊥
@@ -56,6 +65,7 @@ LeavesZone under rows (op.Disallow p) = ⊤
 LeavesZone under rows (op.Snap p name) = ⊤
 LeavesZone under rows (op.Unsnap p name) = ⊤
 LeavesZone under rows (op.Submit session p noted) = ⊤
+LeavesZone under rows (op.Update session failed mark files) = AllByRecursion (λ (f : FileKey). under ≡ Some f.id → ⊥) files
 LeavesZone under rows (op.Cancel session) = ⊤
 LeavesZone under rows (op.Complete session) = ⊤
 
@@ -85,6 +95,44 @@ module _ (under : Option ℕ) (key : Option KeyName) (marked : (i : ℕ) → und
       go true here rest dir is = let f : true ≡ false = sym (over here is) ∙ (outside x rows p none).0 in absurd cc
       go false here rest dir is = rest dir is
 
+  -- the zone is no file with an encrypted key
+  not-a-file : (rows : List Entry) (f : FileKey) → All (HasKey under key) rows → has_file rows f ≡ true → under ≡ Some f.id → ⊥
+  not-a-file [] f h is at = absurd cc
+  not-a-file (x ∷ rows) f h is at = go (x.row.id == f.id) refl is (λ file. not-a-file rows f (All-tail (HasKey under key) x rows h) file at)
+    where
+      no-mark : (kind : Kind) → is_some (edek_of kind) ≡ true → is_some (mark_of kind) ≡ false
+      no-mark (Dir mark) file = absurd cc
+      no-mark (File edek) file = refl
+
+      go : (t : Bool) → (x.row.id == f.id) ≡ t → is_some (option_and_then (λ (e : Entry). edek_of e.row.kind) (cond t (Some x) (entry_of rows f.id))) ≡ true
+          → (has_file rows f ≡ true → ⊥) → ⊥
+      go true here file rest =
+          let same : x.row.id ≡ f.id = eq-yes x.row.id f.id here in
+          let its : under ≡ Some x.row.id = at ∙ ap (λ (i : ℕ). Some i) (sym same) in
+          let none = no-mark x.row.kind file in
+          let some : is_some (mark_of x.row.kind) ≡ true = ap is_some (All-head (HasKey under key) x rows h its) ∙ marked x.row.id its in
+          let both : true ≡ false = sym some ∙ none in
+          absurd cc
+      go false other file rest = rest file
+
+  -- files that have encrypted keys are not the zone
+  pub not-zones : (rows : List Entry) (files : List FileKey) → AreFiles rows files → All (HasKey under key) rows → AllByRecursion (λ (f : FileKey). under ≡ Some f.id → ⊥) files
+  not-zones rows [] are h = tt
+  not-zones rows (f ∷ fs) are h = (not-a-file rows f h are.0, not-zones rows fs are.1 h)
+
+  -- the rows keep the key of the zone after others got encrypted keys
+  edeks-stay : (files : List FileKey) (rows : List Entry) → AllByRecursion (λ (f : FileKey). under ≡ Some f.id → ⊥) files → All (HasKey under key) rows → All (HasKey under key) (with_edeks files rows)
+  edeks-stay [] rows apart h = h
+  edeks-stay (f ∷ fs) rows apart h =
+      edeks-stay fs (set_kind rows f.id (File (Some f.edek))) apart.1 (All-map (HasKey under key) (with_kind f.id (File (Some f.edek))) rows (λ i d b. with-edek (get_or rows i d) (h i d b)))
+    where
+      with-edek : (e : Entry) → HasKey under key e → HasKey under key (with_kind f.id (File (Some f.edek)) e)
+      with-edek e has = go (e.row.id == f.id)
+        where
+          go : (t : Bool) → HasKey under key (cond t (record e { row = record { id = f.id; kind = File (Some f.edek) } }) e)
+          go true = λ is. absurd (apart.0 is)
+          go false = has
+
   -- the rows keep the key of the zone after such an operation
   pub keys-stay : (t : NameTable) (o : EditOp) → LeavesZone under t.rows o → All (HasKey under key) t.rows → All (HasKey under key) (after_table t o).rows
   keys-stay t (op.Opened opening) leaves h = h
@@ -97,6 +145,7 @@ module _ (under : Option ℕ) (key : Option KeyName) (marked : (i : ℕ) → und
   keys-stay t (op.Snap p name) leaves h = h
   keys-stay t (op.Unsnap p name) leaves h = h
   keys-stay t (op.Submit session p noted) leaves h = h
+  keys-stay t (op.Update session failed mark files) leaves h = edeks-stay files t.rows leaves h
   keys-stay t (op.Cancel session) leaves h = h
   keys-stay t (op.Complete session) leaves h = h
   keys-stay t (op.Zone p k) leaves h = All-map (HasKey under key) (with_kind id (Dir (Some k))) t.rows (λ i d b. with-kind (get_or t.rows i d) (h i d b))

@@ -18,7 +18,7 @@ use Rattle.name_core.specs.State.{NameState, next_id}
 use Rattle.name_core.specs.Walks.{session_at}
 use Rattle.name_core.proofs.AllowedLemmas.{may-make-zone}
 use Rattle.run_laws.proofs.AskSteps.{AnyCall, Invariant}
-use Rattle.run_laws.proofs.ZoneMarks.{HasKey, LeavesZone, keys-stay}
+use Rattle.run_laws.proofs.ZoneMarks.{HasKey, LeavesZone, keys-stay, not-zones}
 
 -- A zone with its key, if there is one, and a property of open asks: each ask whose id is n or above has it, and none with the id of the
 -- zone, which is below n.
@@ -66,5 +66,6 @@ module _ (under : Option ℕ) (key : Option KeyName) (P : OpenAsk → Type 0) (n
     called = λ s c o k new spares free logs h. keys-stay under key begun.marked s.table o (leaves-called s c o new logs) h;
     finished = λ t q edek only free h. keys-stay under key begun.marked t (finish_op q.id edek q.ask) (leaves-finished t q edek q.ask only free) h;
     completed = λ t session h. h;
+    updated = λ t session failed mark files are_files h. keys-stay under key begun.marked t (op.Update session failed mark files) (not-zones under key begun.marked t.rows files are_files h) h;
     later_asks = begun.later_asks;
   }
