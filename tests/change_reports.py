@@ -12,7 +12,7 @@ def states_after(possible, answer, change):
     gives None if it is refused."""
     changed = [change(state) for state in possible]
     done = [state for state in changed if state is not None]
-    if answer in ('done', 'completed') or answer.startswith('version '):
+    if answer in ('done', 'completed') or answer.startswith(('version ', 'applied ')):
         return done
     # A change that was refused since the disk failed may be there.
     if answer in FAULTS:
@@ -20,15 +20,17 @@ def states_after(possible, answer, change):
     return [state for state, after in zip(possible, changed) if after is None]
 
 
-def find_fault(run, before, changes, skipped):
+def find_fault(run, before, changes, skipped, known):
     """What is wrong with a run, or None. A state is the list of the answers to some questions. After some calls that are
     skipped, the first run makes the changes from the state `before` on, then a call that settles and is refused, then it
-    asks the questions. On each image they are asked alone."""
+    asks the questions. On each image they are asked alone. The answers to the changes are among the known ones, if there are any."""
     if run.first.status not in (0, 5) or not run.images or any(image.status != 0 for image in run.images):
         return 'a status'
     if run.first.status == 5:
         return None if all(image.answers == before for image in run.images) else 'an image after a failed start'
     answers = run.first.answers[skipped:]
+    if known and not set(answers[:len(changes)]) <= set(known):
+        return 'the answer to a change'
     possible = [before]
     for answer, change in zip(answers, changes):
         possible = states_after(possible, answer, change)
@@ -45,7 +47,7 @@ def find_fault(run, before, changes, skipped):
     return None
 
 
-def check(report, before, changes, least_started, least_images, skipped=0):
+def check(report, before, changes, least_started, least_images, skipped=0, known=()):
     """Prints what is wrong with the runs of a report, and returns the exit status of the check."""
     runs = read_runs(report)
     started = sum(1 for run in runs if run.first.status == 0)
@@ -55,7 +57,7 @@ def check(report, before, changes, least_started, least_images, skipped=0):
         failures += 1
         print(f'{started} runs that started, {images} images: too few')
     for run in runs:
-        fault = find_fault(run, before, changes, skipped)
+        fault = find_fault(run, before, changes, skipped, known)
         if fault is not None:
             failures += 1
             print(f'{run.title}: {fault}: {run.first.answers}, then {[image.answers for image in run.images]}')

@@ -91,6 +91,20 @@ if [ "$answers" != "$wanted" ]; then
 fi
 rm -rf "$room"
 
+# A batch has 1,000 files at most, so that 1,001 are delivered in two.
+# files FIRST LAST: the lines that make a file for each of these numbers, which are those of their asks and replies
+files() {
+    for ((k = $1; k <= $2; k++)); do
+        printf 'ask a create /z/%04d\ndraw %d\nfinish %d\n' "$k" "$k" "$k"
+    done
+}
+{
+    printf '%s\n' 'kms a create k 128 -' 'nn a mkdir /z' 'ask hdfs zone /z k' 'draw 1' 'finish 1'
+    files 2 1002
+    printf '%s\n' 'kms a roll k -' 'ask hdfs submit /z' 'draw 1003' 'finish 1003' 'walk /z' 'walk /z' 'serve 1' 'serve 2' 'deliver 1004' 'deliver 1005' \
+        'walk /z' 'nn hdfs status /z'
+} | expect 'a zone of 1,001 files' 0 '3020 status Completed k@1 1001 0 no 1002'
+
 # Bytes that come one at a time are read as bytes that come together.
 while IFS= read -r -n 1 -d '' byte; do
     printf '%s' "$byte"

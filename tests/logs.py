@@ -20,6 +20,7 @@ KINDS = {
         9: ("snap", "tt"),
         10: ("unsnap", "tt"),
         11: ("submit", "8tn2"),
+        12: ("update", "844mf"),
         13: ("cancel", "8"),
         14: ("complete", "8"),
     },
@@ -38,17 +39,20 @@ def number(record, count):
 
 
 def field(record, kind):
-    """A name, a text, the rest of the record, an encrypted key that may be absent, or a number of 2, 4 or 8 bytes."""
+    """A name, a text, the rest of the record, a text or an encrypted key that may be absent, files with encrypted keys, an
+    encrypted key, or a number of 2, 4 or 8 bytes."""
     if kind == "n":
         return take(record, number(record, 1)).decode()
     if kind == "t":
         return repr(take(record, number(record, 2)).decode())
     if kind == "r":
         return record.read().hex()
-    if kind != "e":
+    if kind in "em":
+        return field(record, {"e": "k", "m": "t"}[kind]) if number(record, 1) else "none"
+    if kind == "f":
+        return " ".join(f"{number(record, 8)}:{field(record, 'k')}" for _ in range(number(record, 4))) or "none"
+    if kind != "k":
         return str(number(record, int(kind)))
-    if number(record, 1) == 0:
-        return "none"
     name, version, vector = field(record, "n"), number(record, 2), take(record, 16).hex()
     return f"{name}@{version}:{vector}:{take(record, number(record, 1)).hex()}"
 

@@ -60,6 +60,43 @@ expect 'the edit log' 0 "8 opened 1
 144 remove '/g'
 end 154"
 
+# A re-encryption, and what it gave a file.
+cp -r "$room" "$folder/first"
+fresh
+answers=$(cd "$room" && "$hkms" replay <<END
+kms a create k 128 2b7e151628aed2a6abf7158809cf4f3c
+nn a mkdir /z
+ask hdfs zone /z k
+draw 1
+finish 1
+ask a create /z/f
+draw 2
+finish 2
+kms a roll k 000102030405060708090a0b0c0d0e0f
+ask hdfs submit /z
+draw 3
+finish 3
+walk /z
+serve 1
+deliver 4
+walk /z
+nn a info /z/f
+END
+)
+old=$(sed -n 's/^7 reply 2 ready //p' <<<"$answers")
+new=$(sed -n 's/^17 file [0-9]* \/z //p' <<<"$answers")
+[ "${old:4:32}" = "${new:4:32}" ] || { echo "tests/logs.sh: the vector of the file changed: $old and $new"; failures=$((failures + 1)); }
+read_log names.log
+expect 'the edit log of a re-encryption' 0 "8 opened 1
+18 mkdir $first '/z'
+36 zone '/z' k
+48 file $((first + 2)) '/z/f' $old
+106 submit $((first + 3)) '/z' k 1
+128 update $((first + 3)) 1 0 '/f' $((first + 2)):$new
+204 complete $((first + 3))
+end 218"
+room=$folder/first
+
 # A record of no kind is found, at its place, and a file that is no log.
 printf '\x05' | dd of="$room/names.log" bs=1 seek=149 conv=notrunc status=none
 read_log names.log

@@ -327,6 +327,17 @@ snap() { printf '09%s%s' "$(path "$1")" "$(path "$2")"; }
 unsnap() { printf '0a%s%s' "$(path "$1")" "$(path "$2")"; }
 # submit COUNTER PATH KEY NUMBER, cancel COUNTER, complete COUNTER
 submit() { printf '0b00000001%08x%s01%s%04x' "$1" "$(path "$2")" "$(printf %s "$3" | od -An -tx1 | tr -d ' \n')" "$4"; }
+# update COUNTER FAILED MARK FILE ..: what a delivery changed; no mark is `-`, and a FILE is what new_key writes
+update() {
+    local session=$1 failed=$2 mark=$3
+    shift 3
+    printf '0c00000001%08x%08x%08x' "$session" "$#" "$failed"
+    [ "$mark" = - ] && printf 00 || printf '01%s' "$(path "$mark")"
+    printf '%08x' "$#"
+    printf %s "$@"
+}
+# new_key COUNTER KEY NUMBER: a file and its new encrypted key
+new_key() { printf '00000001%08x01%s%04x%032x10%032x' "$1" "$(printf %s "$2" | od -An -tx1 | tr -d ' \n')" "$3" 1 3; }
 cancel() { printf '0d00000001%08x' "$1"; }
 complete() { printf '0e00000001%08x' "$1"; }
 path() { printf '%04x%s' "${#1}" "$(printf %s "$1" | od -An -v -tx1 | tr -d ' \n')"; }
@@ -429,7 +440,21 @@ refuses 'the cancellation of a completed re-encryption' "$opened" "$z" "$marked"
 refuses 'the completion of a cancelled re-encryption' "$opened" "$z" "$marked" "$begun" "$(cancel 3)" "$(complete 3)"
 refuses 'the completion of a re-encryption whose zone was removed' "$opened" "$z" "$marked" "$begun" "$(remove /z)" "$(complete 3)"
 refuses 'a rename in a zone that is being re-encrypted' "$opened" "$z" "$marked" "$(file 4 /z/f k)" "$begun" "$(rename /z/f /z/g)"
-refuses 'an update, which is no record yet' "$opened" "$z" "$marked" "$begun" "0c000000010000000300000000000000000000000000"
+f=$(file 4 /z/f k) g=$(file 5 /z/g k) going=$(submit 6 /z k 1)
+refuses 'an update of no re-encryption' "$opened" "$z" "$marked" "$f" "$going" "$(update 5 0 - "$(new_key 4 k 1)")"
+refuses 'an update of a completed re-encryption' "$opened" "$z" "$marked" "$f" "$going" "$(complete 6)" "$(update 6 0 - "$(new_key 4 k 1)")"
+refuses 'an update of a cancelled re-encryption' "$opened" "$z" "$marked" "$f" "$going" "$(cancel 6)" "$(update 6 1 -)"
+refuses 'an update of a zone that was removed' "$opened" "$z" "$marked" "$f" "$going" "$(remove /z)" "$(update 6 1 -)"
+refuses 'an update of an earlier re-encryption' "$opened" "$z" "$marked" "$f" "$going" "$(complete 6)" "$(submit 7 /z k 1)" "$(update 6 0 - "$(new_key 4 k 1)")"
+refuses 'an update of no file' "$opened" "$z" "$marked" "$f" "$going" "$(update 6 0 - "$(new_key 5 k 1)")"
+refuses 'an update of a file that was removed' "$opened" "$z" "$marked" "$f" "$going" "$(remove /z/f)" "$(update 6 0 - "$(new_key 4 k 1)")"
+refuses 'an update of a directory' "$opened" "$z" "$marked" "$(dir 4 /z/f)" "$going" "$(update 6 0 - "$(new_key 4 k 1)")"
+refuses 'an update of the directory of the zone' "$opened" "$z" "$marked" "$f" "$going" "$(update 6 0 - "$(new_key 2 k 1)")"
+refuses 'an update of a file outside the zones' "$opened" "$z" "$marked" "$(file 4 /f)" "$going" "$(update 6 0 - "$(new_key 4 k 1)")"
+refuses 'an update of a file in another zone' "$opened" "$z" "$marked" "$(dir 3 /y)" "$(zone /y k)" "$(file 4 /y/f k)" "$going" "$(update 6 0 - "$(new_key 4 k 1)")"
+refuses 'an update with a key of another name' "$opened" "$z" "$marked" "$f" "$going" "$(update 6 0 - "$(new_key 4 j 1)")"
+refuses 'an update of a file twice' "$opened" "$z" "$marked" "$f" "$g" "$going" "$(update 6 0 - "$(new_key 4 k 1)" "$(new_key 5 k 1)" "$(new_key 4 k 2)")"
+refuses 'an update whose last file is not there' "$opened" "$z" "$marked" "$f" "$g" "$going" "$(update 6 0 - "$(new_key 4 k 1)" "$(new_key 5 k 1)" "$(new_key 8 k 1)")"
 refuses 'a record of no kind' "$opened" "$d" 00
 refuses 'a record with a byte behind it' "$opened" "$d" "$(remove /d)00"
 
@@ -495,6 +520,26 @@ expect 'a log of re-encryptions made by hand' 0 '1 status Submitted k@7 0 0 no -
 4 status Completed j@0 0 0 no -
 5 refused N19 NotSubmitted'
 
+# Updates: the counts and the mark add up, a mark that is absent stays as it was, and a file may get a key of any version, and again.
+make_log "$opened" "$z" "$marked" "$f" "$g" "$going" "$(update 6 2 -)" "$(update 6 0 /f "$(new_key 4 k 1)" "$(new_key 5 k 0)")" "$(update 6 4294967295 -)" "$(rename /z /y)" \
+    "$(update 6 0 - "$(new_key 5 k 65535)")" "$(dir 7 /d)" "$(update 6 1 /.reserved/g)"
+run_here <<'EOT'
+nn hdfs status /y
+nn a info /y/f
+nn a info /y/g
+walk /y
+walk /y
+nn hdfs cancel /y
+nn hdfs status /y
+EOT
+expect 'a log of updates made by hand' 0 '1 status Processing k@1 3 4294967298 no .reserved/g
+2 file 4294967300 /y k@1:00000000000000000000000000000001:00000000000000000000000000000003
+3 file 4294967301 /y k@65535:00000000000000000000000000000001:00000000000000000000000000000003
+4 batch 1 2
+5 noneleft 1
+6 done
+7 status Completed k@1 3 4294967298 yes .reserved/g'
+
 # ---- a log of all kinds of records, cut at each length, and with each byte changed
 
 run <<'EOT'
@@ -520,13 +565,17 @@ nn hdfs cancel /z
 ask hdfs submit /z
 draw 4
 finish 4
+kms a roll k 000102030405060708090a0b0c0d0e0f
+walk /z
+serve 1
+deliver 5
 nn a delete /z/g
 walk /z
 EOT
 output=$(stat -c %s "$room/names.log")
-expect 'the log of all kinds of records' 0 283
+expect 'the log of all kinds of records' 0 359
 cp "$room/names.log" "$folder/all"
-gates=(8 18 36 48 106 124 134 144 157 170 180 198 220 234 256 268 282)
+gates=(8 18 36 48 106 124 134 144 157 170 180 198 220 234 256 332 344 358)
 
 room=$quick
 # Runs the program on a log that is made of standard input.
@@ -535,7 +584,7 @@ run_on() {
     run_here <<<'nn a list /'
 }
 
-for ((length = 0; length <= 282; length++)); do
+for ((length = 0; length <= 358; length++)); do
     head -c "$length" "$folder/all" >"$folder/cut"
     run_on <"$folder/cut"
     if [ "$length" -le 9 ]; then
@@ -554,7 +603,7 @@ for gate in "${gates[@]}"; do
 done
 
 whole=$(digits "$folder/all")
-for ((at = 0; at < 283; at++)); do
+for ((at = 0; at < 359; at++)); do
     for change in 1 255; do
         changed=$(printf %02x $((16#${whole:2 * at:2} ^ change)))
         bytes "${whole:0:2 * at}$changed${whole:2 * at + 2}" >"$folder/changed"

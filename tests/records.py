@@ -53,6 +53,14 @@ def submit(session, path, key, number=0):
     return b"\x0b" + session.to_bytes(8, "big") + path_bytes(path) + bytes([len(key)]) + key + number.to_bytes(2, "big")
 
 
+def update(session, files, failed=0, mark=None, changed=None, count=None):
+    """Returns the record of an update. Each of the files is an id and an encrypted key; the record has their number twice."""
+    changed, count = (len(files) if it is None else it for it in (changed, count))
+    text = b"\x0c" + session.to_bytes(8, "big") + changed.to_bytes(4, "big") + failed.to_bytes(4, "big")
+    text += (b"\x00" if mark is None else b"\x01" + path_bytes(mark)) + count.to_bytes(4, "big")
+    return text + b"".join(number.to_bytes(8, "big") + key for number, key in files)
+
+
 def cancel(session):
     return b"\x0d" + session.to_bytes(8, "big")
 
@@ -145,6 +153,41 @@ for name in (b"k", b"a.b-c_D9", b"K" * 64):
     ):
         expect("a submission", run(log(records)[0], b"nn hdfs status /z\n"), (0, f"1 status {wanted}\n"))
 
+# Updates: the files get their new keys, the counts add up, and the mark stays if it does not move. A mark may begin with .reserved.
+SUBMITTED = BASE + [submit(row_id(5), b"/z", b"k", 1)]
+NEW = edek(b"k", bytes(range(24)), 1)
+NEW_EDEK = "k@1:" + bytes(16).hex() + ":" + bytes(range(24)).hex()
+for updates, wanted_edek, wanted in (
+    ([update(row_id(5), [(row_id(4), NEW)], 0, b"/g")], NEW_EDEK, "Processing k@1 1 0 no g"),
+    ([update(row_id(5), [(row_id(4), NEW)], 7, b"/.reserved/g")], NEW_EDEK, "Processing k@1 1 7 no .reserved/g"),
+    ([update(row_id(5), [], 3, b"/g")], EDEK, "Processing k@1 0 3 no g"),
+    ([update(row_id(5), [], 2**32 - 1, b"/g"), update(row_id(5), [(row_id(4), NEW)], 1)], NEW_EDEK, f"Processing k@1 1 {2**32} no g"),
+    (
+        [update(row_id(5), [(row_id(4), NEW)], 0, b"/g"), update(row_id(5), [(row_id(4), edek(b"k"))], 0, b"/h/i")],
+        EDEK,
+        "Processing k@1 2 0 no h/i",
+    ),
+    ([update(row_id(5), [(row_id(4), NEW)], 0, b"/g"), cancel(row_id(5))], NEW_EDEK, "Completed k@1 1 0 yes g"),
+    ([update(row_id(5), [(row_id(4), NEW)], 0, b"/g"), complete(row_id(5))], NEW_EDEK, "Completed k@1 1 0 no g"),
+):
+    expect(
+        "an update",
+        run(log(SUBMITTED + updates)[0], b"nn a info /z/g\nnn hdfs status /z\n"),
+        (0, f"1 file {row_id(4)} /z {wanted_edek}\n2 status {wanted}\n"),
+    )
+
+# An update has at most 1,000 files.
+MANY = [opened(1), mkdir(row_id(1), b"/z"), zone(b"/z", b"k")]
+MANY += [file(row_id(2 + number), b"/z/%d" % number, edek(b"k")) for number in range(1001)]
+MANY += [submit(row_id(2000), b"/z", b"k", 1)]
+LAST = [(row_id(2 + number), NEW) for number in range(1, 1001)]
+expect(
+    "an update of 1,000 files",
+    run(log(MANY + [update(row_id(2000), LAST, 0, b"/999")])[0], b"nn a info /z/1000\nnn a info /z/0\nnn hdfs status /z\n"),
+    (0, f"1 file {row_id(1002)} /z {NEW_EDEK}\n2 file {row_id(2)} /z {EDEK}\n3 status Processing k@1 1000 0 no 999\n"),
+)
+is_damaged("an update of 1,001 files", MANY + [update(row_id(2000), [(row_id(2), NEW)] + LAST, 0, b"/999")])
+
 # Only a gate of 1 opens a record.
 for gate in range(256):
     wanted = "1 list d/\n" if gate == 1 else "1 list\n"
@@ -184,6 +227,25 @@ for name, records in {
     "the same opening": [opened(1)],
 }.items():
     is_damaged(name, BASE + records)
+# Updates that don't apply.
+OTHER = [mkdir(row_id(6), b"/y"), zone(b"/y", b"k"), file(row_id(7), b"/y/g", edek(b"k"))]
+for name, records in {
+    "an update of a session that was not submitted": [update(row_id(6), [(row_id(4), NEW)])],
+    "an update of a session that was cancelled": [cancel(row_id(5)), update(row_id(5), [(row_id(4), NEW)])],
+    "an update of a session that was completed": [complete(row_id(5)), update(row_id(5), [], 1)],
+    "an update of a session before the last one": [cancel(row_id(5)), submit(row_id(6), b"/z", b"k"), update(row_id(5), [], 1)],
+    "an update with a file twice": [update(row_id(5), [(row_id(4), NEW), (row_id(4), NEW)])],
+    "an update of a directory": [update(row_id(5), [(row_id(3), NEW)])],
+    "an update of a file outside of zones": [update(row_id(5), [(row_id(2), NEW)])],
+    "an update of no file": [update(row_id(5), [(row_id(6), NEW)])],
+    "an update of a file that was removed": [remove(b"/z/g"), update(row_id(5), [(row_id(4), NEW)])],
+    "an update of a file of another zone": OTHER + [update(row_id(5), [(row_id(7), NEW)])],
+    "an update of a file of another zone after one that applies": OTHER + [update(row_id(5), [(row_id(4), NEW), (row_id(7), NEW)])],
+    "an update with a key of another key": [update(row_id(5), [(row_id(4), edek(b"j"))])],
+    "an update of a zone that was removed": [remove(b"/z"), update(row_id(5), [], 1)],
+}.items():
+    is_damaged(name, SUBMITTED + records)
+
 is_damaged("a directory before the first opening", [mkdir(row_id(1), b"/z")])
 is_damaged("a first opening of 2", [opened(2)])
 
@@ -222,11 +284,33 @@ for name, record in {
     is_damaged(name, BASE + [record])
 
 submission = submit(row_id(5), b"/z", b"k")
-for before, record in ((BASE, submission), (BASE + [submission], cancel(row_id(5))), (BASE + [submission], complete(row_id(5)))):
+for before, record in (
+    (BASE, submission),
+    (BASE + [submission], update(row_id(5), [], 1)),
+    (BASE + [submission], update(row_id(5), [(row_id(4), NEW)], 0, b"/g")),
+    (BASE + [submission], cancel(row_id(5))),
+    (BASE + [submission], complete(row_id(5))),
+):
     expect(f"{record.hex()} whole", run(log(before + [record])[0]), (0, "1 list d/ f z/\n"))
     for length in range(1, len(record)):
         is_damaged(f"{record.hex()} cut to {length} bytes", before + [record[:length]])
     is_damaged(f"{record.hex()} with a byte more", before + [record + b"\x00"])
+
+for name, record in {
+    "an update of fewer files than changed": update(row_id(5), [(row_id(4), NEW)], changed=2),
+    "an update of more files than changed": update(row_id(5), [(row_id(4), NEW)], changed=0),
+    "an update of no files where one changed": update(row_id(5), [], 1, changed=1),
+    "an update with fewer files than it counts": update(row_id(5), [(row_id(4), NEW)], changed=2, count=2),
+    "an update with more files than it counts": update(row_id(5), [(row_id(4), NEW)], changed=0, count=0),
+    "an update with a mark without its slash": update(row_id(5), [(row_id(4), NEW)], 0, b"g"),
+    "an update with a mark without bytes": update(row_id(5), [(row_id(4), NEW)], 0, b""),
+    "an update with an empty name in its mark": update(row_id(5), [(row_id(4), NEW)], 0, b"/g//h"),
+    "an update with .snapshot in its mark": update(row_id(5), [(row_id(4), NEW)], 0, b"/.snapshot"),
+    "an update with a byte 2 for its mark": update(row_id(5), []).replace(bytes(8) + b"\x00", bytes(8) + b"\x02", 1),
+    "an update with sealed bytes of another length": update(row_id(5), [(row_id(4), edek(b"k", bytes(17)))]),
+    "an update with the name of a key that is none": update(row_id(5), [(row_id(4), edek(b"/"))]),
+}.items():
+    is_damaged(name, SUBMITTED + [record])
 
 # Paths at their limits: 100 names and 8,000 bytes.
 rows, above, longest = [opened(1)], b"", b"/" + b"a" * 79

@@ -221,15 +221,27 @@ expect 'a re-encryption' 0 '1 version k@0 H
 18 noneleft 1
 19 refused N10 UnderReencryption
 20 refused N18 AlreadySubmitted
-21 done
-22 status Completed k@1 0 0 yes -
-23 done
-24 ask 4 4294967301 generate k
-25 reply 5 ready k@1:H:H
-26 done
+21 applied 1 0 0
+22 file 4294967299 /vault k@1:H:H
+23 status Processing k@1 1 0 no plan
+24 ignored 4294967300
+25 completed
+26 status Completed k@1 1 0 no plan
 27 done
-28 completed
-29 status Completed k@1 0 0 no -'
+28 version k@2 H
+29 ask 4 4294967301 generate k
+30 reply 5 ready k@2:H:H
+31 done
+32 batch 2 1
+33 applied 0 0 1
+34 completed
+35 status Completed k@2 0 1 no plan%20B
+36 file 4294967299 /vault k@1:H:H
+37 ask 5 4294967302 generate k
+38 reply 6 ready k@2:H:H
+39 done
+40 done
+41 status Completed k@2 0 0 yes -'
 
 run_masked examples/create.events
 expect 'created keys' 0 '1 version payroll@0 H

@@ -56,7 +56,9 @@ reencryptions=(
     'nn a status' 'nn a status /z ' 'nn a status /z s' 'nn a Status /z' 'nn a status /ä' 'nn a:b status /z' 'status /z'
     'ask a submit' 'ask a submit /z k' 'ask a submit  /z' 'ask a submit /z ' 'ask a submit /%zz' 'ask  submit /z' 'ask a Submit /z' 'nn a submit /z'
     'walk' 'walk /z ' 'walk /z k' 'walk  /z' 'Walk /z' 'walk /%4' 'walk /a:b' 'nn a walk /z' 'walk a /z'
-    'serve' 'serve ' 'serve 01' 'serve 4294967296' 'serve +1' 'serve  1' 'serve 1 ' 'serve 1 2' 'Serve 1' 'nn a serve 1' 'deliver 1' 'giveup 1'
+    'serve' 'serve ' 'serve 01' 'serve 4294967296' 'serve +1' 'serve  1' 'serve 1 ' 'serve 1 2' 'Serve 1' 'nn a serve 1'
+    'deliver' 'deliver ' 'deliver 01' 'deliver 4294967296' 'deliver +1' 'deliver  1' 'deliver 1 ' 'deliver 1 2' 'Deliver 1' 'nn a deliver 1' 'delivers 1'
+    'giveup' 'giveup ' 'giveup 00' 'giveup 4294967296' 'giveup -1' 'giveup  1' 'giveup 1 ' 'giveup 1 2' 'GiveUp 1' 'nn a giveup 1' 'give up 1'
 )
 numbers=(
     'draw 4294967296' 'draw 01' 'draw +1' 'draw' 'draw ' 'draw  1' 'draw 1 '
