@@ -10,11 +10,11 @@ ghost use Rattle.name_core.specs.Asks.{Asks, ask_causes, ask_gone, closed, finis
 ghost use Rattle.name_core.specs.Calls.{NameActs, causes, deed, first_cause, mkdir_causes};
 ghost use Rattle.name_core.specs.Service.{NameActsOnDisk, FinishActs, Starts, is_change};
 ghost use Rattle.name_core.specs.declared.asks.OpenAsk.{OpenAsk};
-ghost use Rattle.name_core.specs.Steps.{ActsOn, ActsSettled, FinishesSettled, HasWanted, IsAtEnd, IsUnsettled, MayBegin, MayUpdate, MayWrite, Settling, Takes, UpdatesSettled, WalksSettled, Writes, delivered_answer, finish_answer, outstanding_under, refusal_of, answer_of_store, walk_answer};
-ghost use Rattle.name_core.specs.Updates.{UpdateDeed, applied, deliver_deed, give_up_deed, ignored, is_outstanding, update_op};
-ghost use Rattle.name_core.specs.Updating.{UpdateActs};
+ghost use Rattle.name_core.specs.Steps.{ActsOn, ActsSettled, FinishesSettled, HasWanted, IsAtEnd, IsUnsettled, MayBegin, MayWrite, Settling, Takes, WalksSettled, Writes, finish_answer, outstanding_under, refusal_of, answer_of_store, walk_answer};
 ghost use Rattle.name_core.specs.Walking.{WalkActs};
 ghost use Rattle.name_core.specs.Walks.{session_at, walk_causes};
+
+mod deliveries;
 
 use crate::asks::{OpenAsk, OpenAsks};
 use crate::batch_size::BatchSize;
@@ -23,22 +23,17 @@ use crate::rules::{
     early_refusal, finish_op, id_at, ids_used, is_change, is_superuser, path_asked, path_refusal,
     to_be_deleted, to_be_finished, wanted,
 };
-use crate::updates::{
-    applied_answer, is_outstanding, last_session, mark_by, retire_by, retire_kept,
-};
+use crate::updates::{last_session, retire_by, retire_kept};
 use crate::walks::{Walked, outstanding, take};
 use edit_ops::EditOp;
 use frame_log::{StartFault, StoreRefusal};
 use hk_base::{Disk, Edek, KeyName, NoMemory, Text};
-use name_calls::{
-    Answered, Ask, AskNote, Delivered, KeyAnswer, NPath, NameCall, NameRefusal, NameReply,
-};
+use name_calls::{Answered, Ask, AskNote, KeyAnswer, NPath, NameCall, NameRefusal, NameReply};
 use name_store::{
     NameStore, has_most_rows, to_be_allowed, to_be_disallowed, to_be_going_on, to_be_made,
     to_be_snapped, to_be_submitted, to_be_unsnapped, to_be_zone,
 };
-use reenc_update::{BatchReply, Changes, all_failed, changes_of};
-use reenc_walk::{BatchNote, SentList, Walk, Walker};
+use reenc_walk::{SentList, Walk, Walker};
 use std::alloc::Global;
 use std::marker::Model;
 
@@ -670,164 +665,6 @@ impl Name {
     }
 }
 
-impl Name {
-    /// Delivers what the key management service replied to the call for a batch. Each file that is
-    /// still in the zone with the encrypted key that was sent gets the one that came back. If the
-    /// service refused the call, each file of the batch counts as failed. The batch is then no longer
-    /// outstanding. If it is not outstanding, nothing changes.
-    ///
-    /// The pending operation is settled first. The only refusals are `NoMemory` and `StoreFault`. After
-    /// `StoreFault` at its own record the update is pending, and the batch is still outstanding.
-    pub fn deliver<D: Disk>(
-        &mut self,
-        disk: &mut D,
-        reply: &BatchReply,
-    ) -> Result<Delivered, NameRefusal>
-        requires stands { Tells (D.state disk.old) → ((ops : List EditOp) × IsNamesystemOf (D.state disk.old) self.old ops) }
-        ensures { UpdateActs (D.state disk.old) (D.state disk.new) self.old (deliver_deed reply.now) result self.new }
-    {
-        match self.settle(disk) {
-            Err(_) => Err(NameRefusal::StoreFault),
-            Ok(()) => self.deliver_settled(disk, reply),
-        }
-    }
-
-    /// Delivers a reply while nothing is pending.
-    fn deliver_settled<D: Disk>(
-        &mut self,
-        disk: &mut D,
-        reply: &BatchReply,
-    ) -> Result<Delivered, NameRefusal>
-        requires settled { self.old.store.log.pending ≡ None }
-        requires stands { Tells (D.state disk.old) → ((ops : List EditOp) × IsNamesystemOf (D.state disk.old) self.old ops) }
-        ensures { UpdatesSettled (D.state disk.old) (D.state disk.new) self.old (deliver_deed reply.now) result self.new }
-    {
-        self.invariants();
-        // Its keys fit its files.
-        let _ = reply.result();
-        let note = reply.note();
-        if !self.is_outstanding(note) {
-            return Ok(self.ignored(note));
-        }
-        match changes_of(self.alloc, self.store.tree(), reply) {
-            Err(_) => Err(NameRefusal::NoMemory),
-            Ok(changes) => self.update(disk, note, changes),
-        }
-    }
-
-    /// Gives up a batch: each file of it counts as failed, and it is no longer outstanding. If it is not
-    /// outstanding, nothing changes. It settles the pending operation first, and is refused, as
-    /// `deliver` does.
-    pub fn give_up<D: Disk>(
-        &mut self,
-        disk: &mut D,
-        note: &BatchNote,
-    ) -> Result<Delivered, NameRefusal>
-        requires stands { Tells (D.state disk.old) → ((ops : List EditOp) × IsNamesystemOf (D.state disk.old) self.old ops) }
-        ensures { UpdateActs (D.state disk.old) (D.state disk.new) self.old (give_up_deed note.now) result self.new }
-    {
-        match self.settle(disk) {
-            Err(_) => Err(NameRefusal::StoreFault),
-            Ok(()) => self.give_up_settled(disk, note),
-        }
-    }
-
-    /// Gives up a batch while nothing is pending.
-    fn give_up_settled<D: Disk>(
-        &mut self,
-        disk: &mut D,
-        note: &BatchNote,
-    ) -> Result<Delivered, NameRefusal>
-        requires settled { self.old.store.log.pending ≡ None }
-        requires stands { Tells (D.state disk.old) → ((ops : List EditOp) × IsNamesystemOf (D.state disk.old) self.old ops) }
-        ensures { UpdatesSettled (D.state disk.old) (D.state disk.new) self.old (give_up_deed note.now) result self.new }
-    {
-        if !self.is_outstanding(note) {
-            return Ok(self.ignored(note));
-        }
-        let changes = all_failed(self.alloc, note);
-        self.update(disk, note, changes)
-    }
-
-    fn is_outstanding(&self, note: &BatchNote) -> bool
-        ensures { result ≡ is_outstanding (names_of self.now) note.now }
-    {
-        is_outstanding(&self.walks, self.store.statuses(), note)
-    }
-
-    /// Returns the answer for a batch that is not outstanding.
-    fn ignored(&self, note: &BatchNote) -> Delivered
-        ensures { result ≡ (ignored (names_of self.now) note.now).answer }
-    {
-        Delivered::Ignored {
-            session: last_session(self.store.statuses(), note.zone),
-        }
-    }
-
-    /// Writes what becomes of an outstanding batch while nothing is pending, and retires the batch.
-    fn update<D: Disk>(
-        &mut self,
-        disk: &mut D,
-        note: &BatchNote,
-        changes: Changes,
-    ) -> Result<Delivered, NameRefusal>
-        requires may { MayUpdate (names_of self.old) note.now changes }
-        requires settled { self.old.store.log.pending ≡ None }
-        requires stands { Tells (D.state disk.old) → ((ops : List EditOp) × IsNamesystemOf (D.state disk.old) self.old ops) }
-        ensures { (d : NameState → UpdateDeed) → d (names_of self.old) ≡ applied (names_of self.old) note.now changes → UpdatesSettled (D.state disk.old) (D.state disk.new) self.old d result self.new }
-    {
-        self.invariants();
-        let answer = applied_answer(&changes);
-        match self.update_op(note, changes) {
-            Err(_) => Err(NameRefusal::NoMemory),
-            Ok(op) => delivered(answer, self.write_update(disk, &op, note)),
-        }
-    }
-
-    /// Returns the operation of an update.
-    fn update_op(&self, note: &BatchNote, changes: Changes) -> Result<EditOp, NoMemory>
-        requires { is_outstanding (names_of self.now) note.now ≡ true }
-        ensures { IfOk result (λ op. op ≡ update_op (names_of self.now) note.now changes) }
-    {
-        let mark = mark_by(&self.walks, note)?;
-        Ok(EditOp::Update {
-            session: note.session,
-            failed: changes.failed,
-            mark,
-            files: changes.files,
-        })
-    }
-
-    /// Writes an update of a batch after all checks, while nothing is pending.
-    fn write_update<D: Disk>(
-        &mut self,
-        disk: &mut D,
-        op: &EditOp,
-        note: &BatchNote,
-    ) -> Result<(), StoreRefusal>
-        requires may { MayWrite (names_of self.old) op.now (record (names_of self.old) { updating = Some note.now.sent }) }
-        requires settled { self.old.store.log.pending ≡ None }
-        requires stands { Tells (D.state disk.old) → ((ops : List EditOp) × IsNamesystemOf (D.state disk.old) self.old ops) }
-        ensures { Writes (D.state disk.old) (D.state disk.new) self.old (record (names_of self.old) { updating = Some note.now.sent }) op.now result self.new }
-    {
-        let Ok(sent) = note.sent.copy(self.alloc) else {
-            return Err(StoreRefusal::NoMemory);
-        };
-        match self.store.commit(self.alloc, disk, op) {
-            Err(StoreRefusal::NoMemory) => Err(StoreRefusal::NoMemory),
-            Err(StoreRefusal::StoreFault) => {
-                self.updating = Some(sent);
-                Err(StoreRefusal::StoreFault)
-            }
-            Ok(()) => {
-                self.updating = Some(sent);
-                retire_by(&mut self.walks, &self.updating, op);
-                Ok(())
-            }
-        }
-    }
-}
-
 /// Returns the refusal of the namesystem for a refusal of the store.
 fn refusal(why: StoreRefusal) -> NameRefusal
     ensures { result ≡ refusal_of why }
@@ -865,16 +702,5 @@ fn completed(written: Result<(), StoreRefusal>) -> Result<Walked, NameRefusal>
     match written {
         Ok(()) => Ok(Walked::Completed),
         Err(fault) => Err(refusal(fault)),
-    }
-}
-
-/// Returns the answer to an update, given the one that it gets if its operation is written, and the
-/// result of writing it.
-fn delivered(answer: Delivered, written: Result<(), StoreRefusal>) -> Result<Delivered, NameRefusal>
-    ensures { result ≡ delivered_answer answer written }
-{
-    match written {
-        Ok(()) => Ok(answer),
-        Err(refused) => Err(refusal(refused)),
     }
 }
