@@ -13,6 +13,12 @@ pub mod CoveredWalks
 pub mod CoveredWorld
 pub mod CrashLemmas
 pub mod DrawLemmas
+pub mod DriveBatches
+pub mod DriveFiles
+pub mod DriveNames
+pub mod DriveRuns
+pub mod DriveSteps
+pub mod DriveUpdates
 pub mod EdekRows
 pub mod FinishLemmas
 pub mod KeepLemmas

@@ -33,7 +33,7 @@ path-stays : (fs : List FileKey) (x : Entry) → (rekeyed fs x).path ≡ x.path
 path-stays [] x = refl
 path-stays (f ∷ fs) x = path-stays fs (with_kind f.id (File (Some f.edek)) x) ∙ path-rekeyed f.id f.edek x
 
-id-stays : (fs : List FileKey) (x : Entry) → (rekeyed fs x).row.id ≡ x.row.id
+pub id-stays : (fs : List FileKey) (x : Entry) → (rekeyed fs x).row.id ≡ x.row.id
 id-stays [] x = refl
 id-stays (f ∷ fs) x = id-stays fs (with_kind f.id (File (Some f.edek)) x) ∙ id-rekeyed f.id f.edek x
 
@@ -82,7 +82,7 @@ not-dir (File edek) h = refl
 abbrev pub AreKeyed : List Entry → List FileKey → Type 0
 AreKeyed rows files = (f : FileKey) (x : Entry) → In f files → In x rows → x.row.id ≡ f.id → is_some (edek_of x.row.kind) ≡ true
 
-all-files : (rows : List Entry) (files : List FileKey) → AreKeyed rows files → AllFiles files rows
+pub all-files : (rows : List Entry) (files : List FileKey) → AreKeyed rows files → AllFiles files rows
 all-files rows files keyed =
     in-each (λ (f : FileKey). AreFiles f.id rows) files (λ f i. in-each (IsFileAt f.id) rows (λ x j same. not-dir x.row.kind (keyed f x i j (eq-yes x.row.id f.id same))))
 

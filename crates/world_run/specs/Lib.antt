@@ -2,6 +2,7 @@ pub mod Acknowledged
 pub mod Batches
 pub mod Covered
 pub mod Does
+pub mod Drives
 pub mod Keeps
 pub mod Ledger
 pub mod Laws

@@ -2,6 +2,7 @@
 //! disk, and the events that happen to them.
 #![tactic(auto)]
 
+mod drive;
 mod fault;
 mod kept;
 mod laws;

@@ -230,7 +230,7 @@ impl World {
     }
 
     /// Recalls what both services keep by themselves.
-    fn fits(&self)
+    pub(crate) fn fits(&self)
         ensures fits { ServicesFit (world_of self.now) }
         // The key log is that of file 0.
         ensures keys_file { self.now.keys.store.log.file ≡ 0 }
@@ -239,6 +239,11 @@ impl World {
     {
         let _ = self.keys.count();
         self.names.invariants();
+    }
+
+    /// Returns the allocator that the world was started with.
+    pub(crate) fn alloc(&self) -> Global {
+        self.alloc
     }
 
     fn happen<D: Disk, W: Words>(
