@@ -1,6 +1,8 @@
 mod BeganLemmas
+mod ChainLemmas
 pub mod EndLemmas
 mod FollowLemmas
+mod HeadlineLemmas
 pub mod HistoryLemmas
 mod LastLemmas
 pub mod LivedLemmas
@@ -9,3 +11,4 @@ mod PipeLemmas
 mod PropsLemmas
 pub mod SplitLemmas
 pub mod StageLemmas
+mod VerdictLemmas

@@ -1,14 +1,23 @@
 -- What follows of what was done at an order.
-use Rattle.std.proofs.Common.{◌≡◌, ◌≢◌, ◌⊎◌, inl, inr, ℕ, List, refl, sym, ◌∙◌, arith}
-use Rattle.std.specs.Prelude.{IfErr, Ok, Err, Option, Result, string_bytes}
-use Rattle.clap.specs.Words.{Text, fault_of}
+use Rattle.std.proofs.Common.{◌≡◌, ◌≢◌, ◌⊎◌, inl, inr, ℕ, List, refl, ap, sym, ◌∙◌, subst, arith}
+use Rattle.std.specs.Prelude.{IfErr, IfOk, Ok, Err, Option, Result, string_bytes}
+use Rattle.clap.specs.Words.{IsAmong, Text, fault_of}
+use Rattle.clap.specs.declared.error.ErrorKind.TheVariants.{DisplayHelp, DisplayVersion}
 use Rattle.command_line.specs.Line as line
-use Rattle.command_line.specs.Orders.{IsHelp, IsMistake, IsVersion, ShownAs}
+use Rattle.command_line.specs.Orders.{Answers, IsHelp, IsMistake, IsVersion, Names, ShownAs}
 use Rattle.command_line.specs.declared.order.Order.{Order}
 use Rattle.command_line.specs.declared.order.Order.TheVariants.{Replay, Pipe, Help, Version}
 use Rattle.command_line.specs.declared.order.OrderFault.{OrderFault}
 use Rattle.command_line.specs.declared.order.OrderFault.TheVariants.{Usage, NoMemory}
+use Rattle.hk_base.specs.Disk.{DiskState, Tells}
+use Rattle.world_run.specs.Ledger.{Past}
+use Rattle.world_run.specs.Linked.{StartsSound}
+use Rattle.hkms_commands.specs.declared.replay.ReplayEnd.{ReplayEnd}
+use Rattle.hkms_commands.specs.Headline.{KeepsFiles}
 use Rattle.hkms_commands.specs.Orders.{Obeys, Shows, ShowsText, WantsMemory}
+use Rattle.hkms_commands.specs.Replay.{status_of}
+use Rattle.hkms_commands.specs.Replay.{Replay as Replays}
+use Rattle.hkms_commands.proofs.HeadlineLemmas.{Ends, Unmoved, replay_keeps, unmoved_keeps}
 
 abbrev OrderRead : Type 0
 OrderRead = Result Order OrderFault
@@ -47,3 +56,35 @@ usage_only (Ok (Help text)) words replays pipes same written now status usage ob
 usage_only (Ok (Version text)) words replays pipes same written now status usage obeys no_replay no_pipe two = absurd (not_shown _ 0 written now status (λ h. absurd cc) obeys.1 two)
 usage_only (Err Usage) words replays pipes same written now status usage obeys no_replay no_pipe two = usage refl
 usage_only (Err NoMemory) words replays pipes same written now status usage obeys no_replay no_pipe two = absurd (not_shown _ 6 written now status (λ h. absurd cc) obeys.1 two)
+
+-- words that name an order give it, or there is no memory to read them
+pub named_so : (order : OrderRead) (words : List Text) → IfOk order (λ o. Answers o words) → IfErr order (λ fault. fault ≡ Usage → IsMistake (fault_of line.hkms words)) → (o : Order) → Names o words
+    → (order ≡ Ok o) ⊎ (order ≡ Err NoMemory)
+named_so (Err NoMemory) words answers usage o names = inr refl
+named_so (Err Usage) words answers usage o names = absurd ((usage refl).0 names.no_fault)
+named_so (Ok a) words (inl read) usage o names = let same : a ≡ o = cc (sym read.1 ∙ names.command) in inl (ap Ok same)
+named_so (Ok a) words (inr (inl help)) usage o names = absurd (subst (IsAmong DisplayHelp) names.no_fault help.1)
+named_so (Ok a) words (inr (inr version)) usage o names = absurd (subst (IsAmong DisplayVersion) names.no_fault version.1)
+
+-- words that name the replay keep the promise on files
+module _ (past : Past) (old new : DiskState) (tells : Tells old) (sound : StartsSound old past) (same_disk same_acls same_input same_rand same_clock pipes at_end : Type 0) (acls acls' : Option (List ℕ)) (words words' : ℕ → ℕ) (left written now : Option (List ℕ)) (status : ℕ) where
+  abbrev Replayed : Type 0
+  Replayed = (how : ReplayEnd) × (status ≡ status_of how) × Replays same_disk (same_input × same_rand) old new acls acls' words words' left written now how × at_end
+
+  abbrev Same : Type 0
+  Same = same_disk × same_acls × same_input × same_rand × same_clock
+
+  abbrev Keeps : Type 0
+  Keeps = KeepsFiles (same_input × same_rand) past old new acls acls' words words' left written now status
+
+  replayed_keeps : Ends old new → (same_disk → Unmoved old new) → Replayed → Keeps
+  replayed_keeps ends idle r = replay_keeps past old new tells sound same_disk (same_input × same_rand) acls acls' words words' left written now r.0 status ends r.1 idle r.2
+
+  unread_keeps : (same_disk → Unmoved old new) → WantsMemory Same written now status → Keeps
+  unread_keeps idle w = inl (unmoved_keeps past old new tells sound (w.0.2, w.0.3) (idle w.0.0))
+
+  pub order_keeps : (order : OrderRead) → Ends old new → (same_disk → Unmoved old new) → (order ≡ Ok Replay) ⊎ (order ≡ Err NoMemory)
+      → Obeys order ((how : ReplayEnd) × (status ≡ status_of how) × Replays same_disk (same_input × same_rand) old new acls acls' words words' left written now how × at_end) pipes (same_disk × same_acls × same_input × same_rand × same_clock) written now status
+      → KeepsFiles (same_input × same_rand) past old new acls acls' words words' left written now status
+  order_keeps order ends idle (inl is) obeys = replayed_keeps ends idle (subst (λ (o : OrderRead). Obeys o Replayed pipes Same written now status) is obeys)
+  order_keeps order ends idle (inr is) obeys = unread_keeps idle (subst (λ (o : OrderRead). Obeys o Replayed pipes Same written now status) is obeys)

@@ -7,3 +7,5 @@ pub mod Replay
 pub mod Steps
 pub mod Pipe
 pub mod Orders
+pub mod Headline
+pub mod Laws

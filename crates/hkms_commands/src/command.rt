@@ -2,11 +2,15 @@
 ghost use Rattle.std.specs.Prelude.{◌≡◌, ◌⊎◌, ◌<◌};
 ghost use Rattle.std.specs.Io.KnownBytes.{IsAtEnd};
 ghost use Rattle.clap.specs.Words.{fault_of};
+ghost use Rattle.hk_base.specs.Disk.{Tells};
 ghost use Rattle.hk_base.specs.Faults.{Rose};
 ghost use Rattle.command_line.specs.Line as line;
 ghost use Rattle.command_line.specs.Orders.{AsksForHelp, AsksForVersion, IsMistake, Names};
 ghost use Rattle.command_line.specs.declared.order.Order.TheVariants as order;
 ghost use Rattle.hkms_commands.specs.declared.replay.ReplayEnd.{ReplayEnd};
+ghost use Rattle.world_run.specs.Ledger.{Past};
+ghost use Rattle.world_run.specs.Linked.{StartsSound};
+ghost use Rattle.hkms_commands.specs.Headline.{KeepsFiles};
 ghost use Rattle.hkms_commands.specs.Orders.{Obeys, Refuses, Shows, ShowsText, WantsMemory};
 ghost use Rattle.hkms_commands.specs.Pipe.{Pipe};
 ghost use Rattle.hkms_commands.specs.Replay.{Replay, status_of};
@@ -86,6 +90,8 @@ pub fn hkms<A: Source, S: Source, K: Sink, D: Disk, W: Words, C: Clock>(
     ensures replay { Names order.Replay words.now →
         ((how : ReplayEnd) × (result ≡ status_of how) × Replay (disk.new ≡ disk.old) ((input.new ≡ input.old) × (rand.new ≡ rand.old)) (D.state disk.old) (D.state disk.new) (A.left acls.old) (A.left acls.new) (W.to_come rand.old) (W.to_come rand.new) (S.left input.old) (K.written out.old) (K.written out.new) how × (result ≡ 0 → IsAtEnd (S.left input.new)))
         ⊎ WantsMemory ((disk.new ≡ disk.old) × (acls.new ≡ acls.old) × (input.new ≡ input.old) × (rand.new ≡ rand.old) × (clock.new ≡ clock.old)) (K.written out.old) (K.written out.new) result }
+    ensures headline { Names order.Replay words.now → Tells (D.state disk.old) → (past : Past) → StartsSound (D.state disk.old) past →
+        KeepsFiles ((input.new ≡ input.old) × (rand.new ≡ rand.old)) past (D.state disk.old) (D.state disk.new) (A.left acls.old) (A.left acls.new) (W.to_come rand.old) (W.to_come rand.new) (S.left input.old) (K.written out.old) (K.written out.new) result }
     ensures pipe { Names order.Pipe words.now →
         Pipe (disk.new ≡ disk.old) ((input.new ≡ input.old) × (out.new ≡ out.old) × (rand.new ≡ rand.old) × (clock.new ≡ clock.old)) (D.state disk.old) (D.state disk.new) (A.left acls.old) (A.left acls.new) (W.to_come rand.old) (W.to_come rand.new) (S.left input.old) (S.left input.new) (K.written out.old) (K.written out.new) result
         ⊎ WantsMemory ((disk.new ≡ disk.old) × (acls.new ≡ acls.old) × (input.new ≡ input.old) × (rand.new ≡ rand.old) × (clock.new ≡ clock.old)) (K.written out.old) (K.written out.new) result }

@@ -3,6 +3,7 @@
 #![tactic(auto)]
 
 mod command;
+mod laws;
 mod lines;
 mod pipe;
 mod props;
@@ -10,5 +11,6 @@ mod replay;
 mod stage;
 
 pub use command::hkms;
+pub use laws::runs_follow_one_another;
 pub use pipe::run_pipe;
 pub use replay::run_replay;

@@ -6,6 +6,9 @@ ghost use Rattle.hk_base.specs.Faults.{Rose};
 ghost use Rattle.hk_base.specs.Reading.{ahead};
 ghost use Rattle.prop_text.specs.declared.lines.PropLine.{PropLine};
 ghost use Rattle.world_run.specs.Acknowledged.{Acknowledged, HoldsLogs};
+ghost use Rattle.world_run.specs.Ledger.{Past};
+ghost use Rattle.world_run.specs.Linked.{StartsSound};
+ghost use Rattle.hkms_commands.specs.Headline.{KeepsFiles};
 ghost use Rattle.hkms_commands.specs.Replay.{Replay, ReplayUnder, damaged_in, ended_by, ended_by_props, ended_by_text, last_line, status_of};
 ghost use Rattle.hkms_commands.specs.Steps.{Caused, Closes, HasLists, LinePlayed, Next, Ran, RanToEnd, WritesLast};
 ghost use Rattle.hkms_commands.specs.declared.replay.ReplayEnd.{ReplayEnd};
@@ -389,6 +392,8 @@ pub fn run_replay<A: Source, S: Source, D: Disk, K: Sink, W: Words>(
     rand: &mut W,
 ) -> u8
     ensures replay { (how : ReplayEnd) × (result ≡ status_of how) × Replay (disk.new ≡ disk.old) ((input.new ≡ input.old) × (rand.new ≡ rand.old)) (D.state disk.old) (D.state disk.new) (A.left acls.old) (A.left acls.new) (W.to_come rand.old) (W.to_come rand.new) (S.left input.old) (K.written out.old) (K.written out.new) how }
+    ensures headline { Tells (D.state disk.old) → (past : Past) → StartsSound (D.state disk.old) past →
+        KeepsFiles ((input.new ≡ input.old) × (rand.new ≡ rand.old)) past (D.state disk.old) (D.state disk.new) (A.left acls.old) (A.left acls.new) (W.to_come rand.old) (W.to_come rand.new) (S.left input.old) (K.written out.old) (K.written out.new) result }
     ensures end { result ≡ 0 → IsAtEnd (S.left input.new) }
     ensures read { result ≡ 7 → Rose (S.faults input.old) (S.faults input.new) ⊎ Rose (A.faults acls.old) (A.faults acls.new) }
     ensures write { result ≡ 8 → Rose (K.faults out.old) (K.faults out.new) }

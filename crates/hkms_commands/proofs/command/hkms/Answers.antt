@@ -1,5 +1,7 @@
-use Rattle.std.proofs.Common.{⊎_elim}
-use Rattle.hkms_commands.proofs.OrderLemmas.{helps_so, usage_only, versions_so}
+use Rattle.std.proofs.Common.{◌≡◌, ⊎_elim}
+use Rattle.command_line.specs.declared.order.Order.TheVariants.{Replay}
+use Rattle.hkms_commands.proofs.HeadlineLemmas.{unmoved}
+use Rattle.hkms_commands.proofs.OrderLemmas.{helps_so, named_so, order_keeps, usage_only, versions_so}
 use Rattle.hkms_commands.proofs.PipeLemmas.{pipe_is_no_usage, replay_is_no_usage}
 use Rattle.hkms_commands.proofs.command.hkms.Goals as goal
 
@@ -11,3 +13,10 @@ pub returns-clause-help : goal.returns-clause-help
 returns-clause-help g c =
     ⊎_elim (λ help. helps_so c.read_order-order.result _ _ _ _ _ c.obey.result (c.read_order-order.ensures.help help) c.obey.ensures.obeys)
     (λ version. versions_so c.read_order-order.result _ _ _ _ _ c.obey.result (c.read_order-order.ensures.version version) c.obey.ensures.obeys)
+
+pub returns-clause-headline : goal.returns-clause-headline
+returns-clause-headline g c names tells past sound =
+    order_keeps past (g.D.Disk.state c.args.disk.now) (g.D.Disk.state c.obey.new.disk) tells sound (c.obey.new.disk ≡ c.args.disk.now) (c.obey.new.acls ≡ c.args.acls.now) (c.obey.new.input ≡ c.args.input.now)
+    (c.obey.new.rand ≡ c.args.rand.now) (c.obey.new.clock ≡ c.args.clock.now) _ _ _ _ _ _ _ _ _ c.obey.result c.read_order-order.result
+    (record { only = g.met.D.Disk.only_now c.args.disk.now; counts = g.met.D.Disk.counts_now c.obey.new.disk }) (unmoved g.D.Disk.state c.args.disk.now c.obey.new.disk (g.met.D.Disk.only_now c.args.disk.now))
+    (named_so c.read_order-order.result c.args.words.now c.read_order-order.ensures.ok c.read_order-order.ensures.usage Replay names) c.obey.ensures.obeys

@@ -1,6 +1,7 @@
-use Rattle.std.proofs.Common.{refl, subst}
+use Rattle.std.proofs.Common.{◌≡◌, refl, subst}
 use Rattle.hkms_commands.specs.declared.replay.ReplayEnd.{ReplayEnd}
 use Rattle.hkms_commands.specs.Steps.{Closes}
+use Rattle.hkms_commands.proofs.HeadlineLemmas.{replay_keeps, unmoved}
 use Rattle.hkms_commands.proofs.LastLemmas.{bad_properties, has_read}
 use Rattle.hkms_commands.proofs.replay.run_replay.Goals as goal
 
@@ -14,3 +15,17 @@ returns-in-Err-clause-replay g c = (
 
 pub returns-clause-replay : goal.returns-clause-replay
 returns-clause-replay g c = (c.replay_under.result, c.status_of-2.ensures, has_read _ _ _ _ _ _ _ _ _ _ _ _ _ c.in-Ok.ensures.read c.replay_under.ensures.replay)
+
+pub returns-in-Err-clause-headline : goal.returns-in-Err-clause-headline
+returns-in-Err-clause-headline g c tells past sound =
+    let r = returns-in-Err-clause-replay g c in
+    replay_keeps past (g.D.Disk.state c.args.disk.now) (g.D.Disk.state c.args.disk.now) tells sound (c.args.disk.now ≡ c.args.disk.now) ((c.args.input.now ≡ c.args.input.now) × (c.args.rand.now ≡ c.args.rand.now)) _ _ _ _ _ _ _ r.0 _
+    (record { only = g.met.D.Disk.only_now c.args.disk.now; counts = g.met.D.Disk.counts_now c.args.disk.now }) r.1 (unmoved g.D.Disk.state c.args.disk.now c.args.disk.now (g.met.D.Disk.only_now c.args.disk.now)) r.2
+
+pub returns-clause-headline : goal.returns-clause-headline
+returns-clause-headline g c tells past sound =
+    let r = returns-clause-replay g c in
+    replay_keeps past (g.D.Disk.state c.args.disk.now) (g.D.Disk.state c.replay_under.new.disk) tells sound (c.replay_under.new.disk ≡ c.args.disk.now)
+    ((c.replay_under.new.input ≡ c.args.input.now) × (c.replay_under.new.rand ≡ c.args.rand.now)) _ _ _ _ _ _ _ r.0 _
+    (record { only = g.met.D.Disk.only_now c.args.disk.now; counts = g.met.D.Disk.counts_now c.replay_under.new.disk }) r.1
+    (unmoved g.D.Disk.state c.args.disk.now c.replay_under.new.disk (g.met.D.Disk.only_now c.args.disk.now)) r.2
