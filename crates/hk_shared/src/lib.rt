@@ -1,0 +1,10 @@
+//! Both services, each in a cell that threads share. docs/threads.md has the whole picture.
+#![tactic(auto)]
+
+mod movable;
+mod opening;
+mod shared;
+
+pub use movable::both_are_shared;
+pub use opening::Opening;
+pub use shared::{Closed, Shared};

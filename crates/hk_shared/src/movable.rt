@@ -1,0 +1,17 @@
+//! Threads may share both cells.
+use crate::shared::Shared;
+use hist_cell::Naming;
+use hk_base::{Clock, Disk, Words};
+
+fn shares<T: Sync>(_x: &T) {}
+
+/// Does nothing: threads may share both cells.
+pub fn both_are_shared<
+    D: Disk + Send,
+    W: Words + Send,
+    C: Clock + Send,
+    M: Naming + Send + Sync,
+    N: Naming + Send + Sync,
+>(shared: &Shared<D, W, C, M, N>) {
+    shares(shared)
+}

@@ -1,0 +1,3 @@
+pub mod AskLemmas
+pub mod ReplyLemmas
+pub mod RunLemmas

@@ -1,0 +1,25 @@
+-- After each call the namesystem runs on its disk, and after a start.
+use Rattle.std.proofs.Common.{◌≡◌, ℕ, Bool, List, [], ◌∷◌, ◌++◌, sym, ◌∙◌}
+use Rattle.std.specs.declared.result.Result.{Result}
+use Rattle.hk_base.specs.Disk.{DiskState, RunOn}
+use Rattle.hk_base.specs.declared.texts.Text.{Text}
+use Rattle.edit_ops.specs.declared.ops.EditOp.{EditOp}
+use Rattle.name_calls.specs.declared.calls.Ask.{Ask}
+use Rattle.name_calls.specs.declared.calls.AskNote.{AskNote}
+use Rattle.name_calls.specs.declared.calls.NameRefusal.{NameRefusal}
+use Rattle.name_store.specs.Table.{next_opening}
+use Rattle.name_core.specs.Asks.{Asks}
+use Rattle.name_core.specs.Service.{Logs, Starts}
+use Rattle.name_core.specs.State.{RunningNames, names_of}
+use Rattle.name_cell.specs.Views.{NamesRunOn}
+use Rattle.name_cell.proofs.AskLemmas.{ask-stands}
+
+pub runs_after_start : (batch : ℕ) (old new : DiskState) (r : RunningNames) → Starts batch old new r → RunOn 1 old new → NamesRunOn new r
+runs_after_start batch old new r starts run tells = let found = starts.log (sym run.tells ∙ tells) in (found.0 ++ next_opening starts.found ∷ [], found.3)
+
+pub runs_after_logs : (old new : DiskState) (r r' : RunningNames) (own : Bool → EditOp → Type 0) (logged : List EditOp) → Logs old new r r' own logged → NamesRunOn old r → NamesRunOn new r'
+runs_after_logs old new r r' own logged l runs tells = (let was = sym l.run.tells ∙ tells in let ops = runs was in (ops.0 ++ logged, l.stands was ops.0 ops.1))
+
+pub runs_after_ask : (d : DiskState) (r r' : RunningNames) (user : Text) (a : Ask) (answer : Result AskNote NameRefusal) → r'.store ≡ r.store → Asks (names_of r) user a answer (names_of r')
+    → NamesRunOn d r → NamesRunOn d r'
+runs_after_ask d r r' user a answer store asks runs tells = let ops = runs tells in (ops.0, ask-stands d r r' user a answer ops.0 store asks ops.1)

@@ -1,0 +1,7 @@
+use Rattle.name_cell.proofs.calls.close_names.Goals as goal
+
+pub returns : goal.returns
+returns g c = record {
+  closes = (c.close-side.result, c.close-side.ensures, c.into_parts.ensures.names, c.into_parts.ensures.disk);
+  runs = c.into_parts.ensures.runs;
+}
