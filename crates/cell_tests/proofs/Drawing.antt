@@ -1,8 +1,8 @@
--- What a call adds to the numbers that were issued.
-use Rattle.std.proofs.Common.{◌≡◌, ℕ, List, [], ◌∷◌, ◌++◌, Option, Some, sym, ◌∙◌, subst, inl, inr, append_assoc}
+-- What a call, or another pass, adds to the numbers that were issued.
+use Rattle.std.proofs.Common.{◌≡◌, ℕ, List, [], ◌∷◌, ◌++◌, Option, Some, None, IfSome, sym, ◌∙◌, subst, inl, inr, append_assoc}
 use Rattle.hist_cell.specs.declared.views.Entry.{Entry}
 use Rattle.hist_cell.specs.declared.views.Known.{Known}
-use Rattle.hist_cell.specs.History.{MakesEntry}
+use Rattle.hist_cell.specs.History.{MakesEntry, Meets}
 use Rattle.cell_tests.specs.declared.issuer.Issuer.{Issuer}
 use Rattle.cell_tests.specs.declared.issuer.IssuerCall.{IssuerCall}
 use Rattle.cell_tests.specs.declared.issuer.IssuerCall.TheVariants.{Issue, Redeem}
@@ -17,3 +17,7 @@ issues v w n r is a = subst (Issued n) (sym a.seen) (issued_end n (v.seen ++ a.b
 
 pub still : (v w : Known IssuerCall (Option ℕ) Issuer) (n : ℕ) (q : IssuerCall) (r : Option ℕ) → MakesEntry Steps Allows v q r w → Issued n v.seen → Issued n w.seen
 still v w n q r a i = Allows-grows v.seen w.seen (Redeem n) (a.between ++ a.entry ∷ [], sym (append_assoc v.seen a.between (a.entry ∷ [])) ∙ sym a.seen) i
+
+pub met : (v w into : Known IssuerCall (Option ℕ) Issuer) (number : Option ℕ) (n : ℕ) → number ≡ Some n → Meets v w into → IfSome number (λ k. Issued k w.seen) → Issued n into.seen
+met v w into None n is m i = absurd (cc is)
+met v w into (Some k) n is m i = (let same : k ≡ n = cc is in subst (λ j. Issued j into.seen) same (Allows-grows w.seen into.seen (Redeem k) m.that i))

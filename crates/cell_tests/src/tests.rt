@@ -122,3 +122,33 @@ fn ten_thousand_calls(rt: HostRuntime) -> Result<(), Fail> {
     assert!(rt; count == 10_000 && seen == 10_000 && sum == 49_995_000);
     Ok(())
 }
+
+// Counts by two passes, of which one is then met and the other one is dropped.
+fn count_and_drop<N: Naming, R: Wait>(
+    rt: &R,
+    opened: Opened<Counter>,
+    calls: u32,
+) -> (u64, u64, u64)
+    requires name { opened.table ≡ N.table }
+{
+    let (cell, mut mine) = opened.named::<N>();
+    let one = cell.split(rt, &mut mine);
+    let two = cell.split(rt, &mut mine);
+    let (kept, _) = count_up(rt, &cell, one, calls);
+    let (lost, _) = count_up(rt, &cell, two, calls);
+    cell.meet(rt, &mut mine, kept);
+    drop(lost);
+    let met = mine.count();
+    cell.act(rt, &mut mine, 1);
+    let seen = mine.count();
+    (met, seen, cell.close(mine).count)
+}
+
+// The calls of a pass that is dropped stay in the history.
+#[test]
+fn a_dropped_pass_leaves_its_calls(rt: HostRuntime) -> Result<(), Fail> {
+    let opened = Opened::new(rt.alloc(), Counter { count: 0 })?;
+    let (met, seen, count) = count_and_drop::<Brand, _>(&rt, opened, 100);
+    assert!(rt; met == 100 && seen == 201 && count == 201);
+    Ok(())
+}

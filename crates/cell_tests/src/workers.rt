@@ -46,7 +46,25 @@ pub fn work<N: Naming, M: Naming, R: Wait>(
     }
 }
 
-/// Lets two threads work, and returns both services and the numbers drawn.
+/// Meets the pass of a worker into another one, and gives back the number that the worker drew.
+pub fn meet_and_give_back<N: Naming, R: Wait>(
+    rt: &R,
+    issuer: &Cell<Issuer, N>,
+    pass: &mut Pass<Issuer, N>,
+    other: Pass<Issuer, N>,
+    number: Option<u64>,
+)
+    requires drawn { IfSome number (λ n. Issued n other.seen) }
+{
+    issuer.meet(rt, pass, other);
+    let Some(number) = number else {
+        return;
+    };
+    issuer.act(rt, pass, IssuerCall::Redeem(number));
+}
+
+/// Lets two threads work, gives back the numbers that they drew, and returns both services and the
+/// numbers.
 pub fn run_workers<N: Naming + Send + Sync, M: Naming + Send + Sync, R: Threads + Wait + Sync>(
     rt: &R,
     issuer: Opened<Issuer>,
@@ -72,8 +90,8 @@ pub fn run_workers<N: Naming + Send + Sync, M: Naming + Send + Sync, R: Threads 
         || work(rt, &issuer, &counter, first),
         || work(rt, &issuer, &counter, second),
     );
-    issuer.meet(rt, &mut one, a.numbers);
-    issuer.meet(rt, &mut one, b.numbers);
+    meet_and_give_back(rt, &issuer, &mut one, a.numbers, a.number);
+    meet_and_give_back(rt, &issuer, &mut one, b.numbers, b.number);
     counter.meet(rt, &mut two, a.counts);
     counter.meet(rt, &mut two, b.counts);
     (issuer.close(one), counter.close(two), a.number, b.number)
