@@ -1,0 +1,5 @@
+pub mod Operations
+pub mod Rows
+pub mod Orders
+pub mod Requests
+pub mod Laws
