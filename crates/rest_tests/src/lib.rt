@@ -1,10 +1,12 @@
-//! Tests of bodies, replies and messages: what the responses to requests don't show.
+//! Tests of bodies, replies, messages and orders: what the responses to requests don't show.
 #![tactic(auto)]
 
 #[cfg(test)]
 mod bodies;
 #[cfg(test)]
 mod messages;
+#[cfg(test)]
+mod orders;
 #[cfg(test)]
 mod replies;
 #[cfg(test)]
