@@ -146,12 +146,8 @@ class Key:
     is_deleted: bool = False
 
 
-class Keys:
-    """The keys that were ever made, by birth."""
-
-    def __init__(self):
-        self.opening, self.last_birth, self.by_birth = 0, 0, {}
-        self.kinds = {1: self.open, 2: self.create, 3: self.roll, 4: self.delete}
+class Replayed:
+    """What the records of a log make. `kinds` has the method for each kind of record."""
 
     def apply(self, payload):
         record = Reader(payload)
@@ -160,6 +156,14 @@ class Keys:
         need(kind == 1 or self.opening > 0, "a record comes before the first opening")
         self.kinds[kind](record)
         record.end()
+
+
+class Keys(Replayed):
+    """The keys that were ever made, by birth."""
+
+    def __init__(self):
+        self.opening, self.last_birth, self.by_birth = 0, 0, {}
+        self.kinds = {1: self.open, 2: self.create, 3: self.roll, 4: self.delete}
 
     def open(self, record):
         self.opening += 1
@@ -228,7 +232,7 @@ def is_below(path, above):
     return path[: len(above)] == above
 
 
-class Names:
+class Names(Replayed):
     """The rows by path, and by the id of a directory its snapshots, if they are allowed, and the status of its zone. Each snapshot
     has rows by their paths down from the directory. Besides: each file as it was made, by its id, and each re-encryption that was
     completed, with the files of its zone then."""
@@ -239,14 +243,6 @@ class Names:
         self.kinds = {1: self.open, 2: self.mkdir, 3: self.file, 4: self.remove, 5: self.rename, 6: self.zone, 7: self.allow}
         self.kinds |= {8: self.disallow, 9: self.snap, 10: self.unsnap, 11: self.submit, 12: self.update}
         self.kinds |= {13: self.cancel, 14: self.complete}
-
-    def apply(self, payload):
-        record = Reader(payload)
-        kind = record.number(1)
-        need(kind in self.kinds, "a record is of no kind")
-        need(kind == 1 or self.opening > 0, "a record comes before the first opening")
-        self.kinds[kind](record)
-        record.end()
 
     # What is asked of the rows.
 
