@@ -31,6 +31,7 @@ pub mod NameKeeps
 pub mod PairLemmas
 pub mod PastLemmas
 pub mod QueueLaters
+pub mod ReadyLemmas
 pub mod RekeyedFiles
 pub mod RenameLemmas
 pub mod RestartLemmas

@@ -9,6 +9,7 @@ pub mod Laws
 pub mod Linked
 pub mod Own
 pub mod Promise
+pub mod Ready
 pub mod RenamePaths
 pub mod SnapPaths
 pub mod Starts

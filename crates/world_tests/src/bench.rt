@@ -39,7 +39,7 @@ impl Model for Bench {
     ghost use Rattle.disk_kinds.specs.Plain.{state_of};
     ghost use Rattle.prop_text.specs.declared.lines.PropLine.{PropLine};
     ghost use Rattle.world_run.specs.World.{RunningWorld};
-    ghost use Rattle.world_tests.specs.Ready.{IsReady};
+    ghost use Rattle.world_run.specs.Ready.{IsReady};
 
     ghost Value = { RunningWorld };
 

@@ -1,5 +1,5 @@
 use Rattle.disk_kinds.specs.Plain.{state_of}
-use Rattle.world_tests.proofs.ReadyLemmas.{ready-after-drive}
+use Rattle.world_run.proofs.ReadyLemmas.{ready-after-drive}
 use Rattle.world_tests.proofs.bench.Bench.drive.Goals as goal
 
 pub invariant_of-self : goal.invariant_of-self

@@ -1,6 +1,6 @@
 use Rattle.std.proofs.Common.{refl}
 use Rattle.disk_kinds.specs.Plain.{state_of}
-use Rattle.world_tests.proofs.ReadyLemmas.{ready-at-start}
+use Rattle.world_run.proofs.ReadyLemmas.{ready-at-start}
 use Rattle.world_tests.proofs.bench.Bench.start.Goals as goal
 
 pub invariant_of-result : goal.invariant_of-result

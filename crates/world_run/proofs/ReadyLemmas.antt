@@ -19,7 +19,7 @@ use Rattle.world_run.specs.Acknowledged.{also}
 use Rattle.world_run.specs.Drives.{Course, Drives, IsCourse, Leads, Standing, standing_after}
 use Rattle.world_run.specs.Keeps.{Begins, Fails, Steps}
 use Rattle.world_run.specs.World.{RunningWorld}
-use Rattle.world_tests.specs.Ready.{IsReady}
+use Rattle.world_run.specs.Ready.{IsReady}
 
 pub ready-at-start : (sizes : SizeValues) (lines : List PropLine) (old new : DiskState) (r : RunningWorld) → Tells old → Begins sizes old new r → AreListsOf r.keys.acls lines → (lines : List PropLine) × IsReady lines new r
 ready-at-start sizes lines old new r telling begins lists =
