@@ -41,11 +41,11 @@ sealed_by : (ticket : Ticket) (words : ℕ → ℕ) (x : SealedKey) → x ≡ se
 sealed_by ticket words x is = subst (λ (y : SealedKey). IsSealedWith ticket y) (sym is) (record { opening = refl; birth = refl; version = refl; sealed = refl })
 
 module _ {D W : Type 0} (state : D → DiskState) (to_come : W → ℕ → ℕ) where
-  made_none : (v : KmsKnown D W) → LegalOf (KmsSteps {D = D} {W = W} state to_come) (KmsAllows {S = KmsView D W}) v.start v.seen → MakesAll state to_come v [] v
+  pub made_none : (v : KmsKnown D W) → LegalOf (KmsSteps {D = D} {W = W} state to_come) (KmsAllows {S = KmsView D W}) v.start v.seen → MakesAll state to_come v [] v
   made_none v legal = record { begins = ([], append-nil v.seen); mine = sym (append-nil (own v.number v.seen)); legal = legal; same = (refl, refl, refl) }
 
   -- one more entry after those that were made
-  made_more : (v w x : KmsKnown D W) (made : List (KmsEntry D W)) (q : KmsAct) (r : KmsActed) → MakesAll state to_come v made w → (a : Makes state to_come w q r x)
+  pub made_more : (v w x : KmsKnown D W) (made : List (KmsEntry D W)) (q : KmsAct) (r : KmsActed) → MakesAll state to_come v made w → (a : Makes state to_come w q r x)
       → MakesAll state to_come v (made ++ a.entry ∷ []) x
   made_more v w x made q r m a = record {
     begins = (
@@ -61,7 +61,7 @@ module _ {D W : Type 0} (state : D → DiskState) (to_come : W → ℕ → ℕ) 
   }
 
   -- an entry, and then those that were made after it
-  made_first : (v w x : KmsKnown D W) (made : List (KmsEntry D W)) (q : KmsAct) (r : KmsActed) → (a : Makes state to_come v q r w) → MakesAll state to_come w made x
+  pub made_first : (v w x : KmsKnown D W) (made : List (KmsEntry D W)) (q : KmsAct) (r : KmsActed) → (a : Makes state to_come v q r w) → MakesAll state to_come w made x
       → MakesAll state to_come v (a.entry ∷ made) x
   made_first v w x made q r a m = record {
     begins = (

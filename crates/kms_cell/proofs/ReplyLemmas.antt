@@ -30,7 +30,8 @@ module _ {Q R S : Type 0} (step : S → Q → R → S → Type 0) (allows : List
   last_step (Some s) es e legal = last_after [] s es e legal
 
 module _ {D W : Type 0} (state : D → DiskState) (to_come : W → ℕ → ℕ) where
-  made_step : (v w : KmsKnown D W) (q : KmsAct) (r : KmsActed) → Makes state to_come v q r w → (s : KmsView D W) × (t : KmsView D W) × KmsSteps state to_come s q r t
+  -- the entry of a call is a step from some state
+  pub made_step : (v w : KmsKnown D W) (q : KmsAct) (r : KmsActed) → Makes state to_come v q r w → (s : KmsView D W) × (t : KmsView D W) × KmsSteps state to_come s q r t
   made_step v w q r a =
       let last = last_step (KmsSteps state to_come) (KmsAllows {S = KmsView D W}) w.start (v.seen ++ a.between) a.entry
       (subst (LegalOf (KmsSteps state to_come) (KmsAllows {S = KmsView D W}) w.start) a.seen a.legal) in (

@@ -10,7 +10,7 @@ use Rattle.eek_seal.specs.declared.tickets.Ticket.{Ticket}
 use Rattle.kms_calls.specs.declared.calls.KmsCall.{KmsCall}
 use Rattle.kms_calls.specs.declared.calls.KmsReply.{KmsReply}
 use Rattle.kms_core.specs.Ready.{deposit_answer, queues_with, ticket_of}
-use Rattle.kms_core.specs.State.{keys_of}
+use Rattle.kms_core.specs.State.{IsService, keys_of, service_of}
 use Rattle.kms_core.specs.Users.{ActsFor, running}
 use Rattle.kms_cell.specs.Views.{KmsView}
 use Rattle.kms_cell.specs.declared.acts.KmsAct.{KmsAct}
@@ -18,10 +18,12 @@ use Rattle.kms_cell.specs.declared.acts.KmsAct.TheVariants as act
 use Rattle.kms_cell.specs.declared.acts.KmsActed.{KmsActed}
 use Rattle.kms_cell.specs.declared.acts.KmsActed.TheVariants as acted
 
--- A call of a user, at some moment, under the lines that the service's lists agree with. Three things are open: memory may run out; the disk
--- may fail, if its count of faults rose; and the pending command was kept or not.
+-- A call of a user, at some moment, of a service that keeps its rules, under the lines that its lists agree with; there are such lines. Three
+-- things are open: memory may run out; the disk may fail, if its count of faults rose; and the pending command was kept or not.
 pub record CallSteps {D W : Type 0} (state : D → DiskState) (to_come : W → ℕ → ℕ) (v : KmsView D W) (user : Text) (c : KmsCall) (reply : KmsReply) (v' : KmsView D W) : Type 0 where
   pub now : ℕ
+  pub rules : IsService (service_of (running v.kms))
+  pub has_lines : (lines : List PropLine) × AreListsOf v.kms.acls lines
   pub acts : (lines : List PropLine) → AreListsOf v.kms.acls lines
       → ActsFor lines user (state v.disk) (state v'.disk) v.kms (to_come v.words) now c reply v'.kms (to_come v'.words)
 

@@ -68,6 +68,8 @@ impl<D: Disk, W: Words, C: Clock> KmsSide<D, W, C> {
     fn call(&mut self, user: Text, call: KmsCall) -> KmsReply
         ensures { CallSteps D.state W.to_come self.old user call result self.new }
     {
+        // The service keeps its rules.
+        let _ = self.kms.count();
         let now = self.clock.now_ms();
         self.kms
             .act(&mut self.disk, &mut self.words, now, &user, call)

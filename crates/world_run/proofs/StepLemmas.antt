@@ -74,7 +74,7 @@ use Rattle.world_run.specs.World.{RunningWorld, WorldState, next_ticket, numbere
 use Rattle.world_run.proofs.AskLemmas.{ask-stands}
 use Rattle.world_run.proofs.KeyLemmas.{batch-logs, call-logs, generate-logs, metadata-logs}
 use Rattle.world_run.proofs.Members.{some-is}
-use Rattle.world_run.proofs.ServeKeeps.{batch-fits}
+use Rattle.batch_calls.proofs.FitLemmas.{batch-fits}
 
 abbrev pub parts : RunningKms → RunningNames → List Ticket → List AskNote → List BatchNote → List KeptReply → RunningWorld
 parts keys names tickets notes batches replies = record { keys = keys; names = names; kept = record { tickets = tickets; notes = notes; batches = batches; replies = replies } }

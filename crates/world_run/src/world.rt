@@ -27,8 +27,9 @@ use crate::kept::{
     ticket_numbered,
 };
 use crate::rename_paths::RenamePaths;
-use crate::serve::{prepare, reply_for};
+use crate::serve::prepare;
 use crate::snap_path::SnapPath;
+use batch_calls::reply_for;
 use frame_log::StartFault;
 use hk_base::{ByteList, Disk, KeyName, NoMemory, Text, VersionName, Words};
 use hk_events::{Event, Line};

@@ -1,6 +1,6 @@
 use Rattle.std.proofs.Common.{◌≡◌, drop}
 use Rattle.reenc_update.specs.Replies.{are_of_keys}
-use Rattle.world_run.proofs.serve.are_of_keys.Given as goal
+use Rattle.batch_calls.proofs.reply.are_of_keys.Given as goal
 
 -- the files from the k-th on decide
 abbrev pub invariant-loop-k : goal.invariant-loop-k

@@ -1,8 +1,8 @@
 use Rattle.std.proofs.Common.{◌∙◌, ap, sym}
 use Rattle.std.proofs.lemmas.List.{take_all}
-use Rattle.world_run.specs.Batches.{raw_keys}
-use Rattle.world_run.proofs.ServeKeeps.{one-more-raw}
-use Rattle.world_run.proofs.serve.raw_keys.Goals as goal
+use Rattle.batch_calls.specs.Batches.{raw_keys}
+use Rattle.batch_calls.proofs.FitLemmas.{one-more-raw}
+use Rattle.batch_calls.proofs.call.raw_keys.Goals as goal
 
 pub loop-file-preserved : goal.loop-file-preserved
 loop-file-preserved c =

@@ -1,6 +1,6 @@
 use Rattle.std.proofs.Common.{◌∙◌, ap, arith, length, sym}
 use Rattle.reenc_update.proofs.ChangeLemmas.{fits-length}
-use Rattle.world_run.proofs.serve.reply_for.Goals as goal
+use Rattle.batch_calls.proofs.reply.reply_for.Goals as goal
 
 -- there are as many keys as files, for which there is room
 pub copy_keys-keys-requires-clause-room : goal.copy_keys-keys-requires-clause-room
