@@ -3,13 +3,13 @@
 
 mod asks;
 mod calls;
+mod delivered;
 mod edeks;
 mod event;
 mod fields;
 mod laws;
 mod lists;
 mod numbers;
-mod status;
 mod transcript;
 
 pub use event::{LineFault, read_event};
