@@ -19,4 +19,4 @@ pub use kept::LazyRouter;
 pub use laws::requests_have_one_answer;
 pub use operation::Operation;
 pub use requests::{to_call, to_call_with};
-pub use responses::{respond, respond_fault};
+pub use responses::{refusal_status, respond, respond_fault};

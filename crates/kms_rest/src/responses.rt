@@ -17,7 +17,7 @@ const BAD_METHOD: &str =
     "{\"RemoteException\":{\"exception\":\"BadMethod\",\"message\":\"BadMethod\"}}";
 
 /// Returns the status of a refusal (RFC 9110).
-fn refusal_status(why: &KmsRefusal) -> u16
+pub fn refusal_status(why: &KmsRefusal) -> u16
     ensures status { result ≡ spec.refusal_status why.now }
     ensures known { IsStatus result }
 {

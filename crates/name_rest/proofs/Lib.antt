@@ -1,3 +1,4 @@
 pub mod TableLemmas
 pub mod RouteLemmas
 pub mod AnswerLemmas
+mod BodyLemmas

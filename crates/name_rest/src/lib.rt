@@ -1,7 +1,8 @@
-//! The namesystem over REST: the order of a request, a call of the namesystem or an ask. Messages are
-//! read by `http_wire`.
+//! The namesystem over REST: the order of a request, a call of the namesystem or an ask, and the
+//! response of a reply. Messages are read and written by `http_wire`.
 #![tactic(auto)]
 
+mod bodies;
 mod faults;
 mod kept;
 mod laws;
@@ -10,10 +11,13 @@ mod order;
 mod orders;
 mod query;
 mod requests;
+mod responses;
 mod routes;
 
 pub use faults::NameRestFault;
+pub use http_wire::Response;
 pub use kept::LazyRouter;
 pub use laws::requests_have_one_answer;
 pub use order::NameOrder;
 pub use requests::{to_name, to_name_with};
+pub use responses::{respond_name, respond_name_fault};

@@ -1,6 +1,8 @@
-//! Tests of bodies, replies, messages and orders: what the responses to requests don't show.
+//! Tests of bodies, replies, answers, messages and orders: what the responses to requests don't show.
 #![tactic(auto)]
 
+#[cfg(test)]
+mod answers;
 #[cfg(test)]
 mod bodies;
 #[cfg(test)]
