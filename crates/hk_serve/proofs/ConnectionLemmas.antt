@@ -6,8 +6,6 @@ use Rattle.std.specs.List.{AllByRecursion}
 use Rattle.std.proofs.KnownBytes.{Appends-nil, Appends-trans}
 use Rattle.std.proofs.lemmas.Grind.{flat_map-append}
 use Rattle.std.proofs.lemmas.List.Sums.{sum_by-append}
-use Rattle.kms_calls.specs.declared.calls.KmsCall.{KmsCall}
-use Rattle.kms_calls.specs.declared.calls.KmsReply.{KmsReply}
 use Rattle.http_wire.specs.Message.{Message}
 use Rattle.http_wire.specs.Reading.{ahead}
 use Rattle.http_wire.specs.Requests.{Takes}
@@ -15,14 +13,12 @@ use Rattle.hk_base.specs.declared.ended.Ended.{Ended}
 use Rattle.hk_serve.specs.Ends.{Ends}
 use Rattle.hk_serve.specs.Exchanges.{AsksInOrder, Exchange, Leaves, ReadsInOrder, Stand, WentOn, bytes_in, response_of, responses_of}
 use Rattle.hk_serve.specs.Served.{Served}
+use Rattle.hk_serve.specs.Transactions.{Answering}
 use Rattle.hk_serve.specs.Turns.{Answered, GoesOn, Turns}
 use Rattle.hk_serve.proofs.RequestLemmas.{requests_answered}
 
-abbrev Answers : Type 0 → Type 1
-Answers D = D → List ℕ → KmsCall → KmsReply → D → Type 0
-
 -- what is known between two requests
-pub record SoFar {D : Type 0} (answers : D → List ℕ → KmsCall → KmsReply → D → Type 0) (old now : Stand D) (bytes : ℕ) : Type 0 where
+pub record SoFar {D : Type 0} (answers : Answering D) (old now : Stand D) (bytes : ℕ) : Type 0 where
   pub exchanges : List Exchange
   pub went_on : WentOn answers old exchanges now
   pub counted : bytes_in exchanges ≡ bytes
@@ -35,7 +31,7 @@ reads_more : (old mid new : Option (List ℕ)) (exchanges : List Exchange) (last
 reads_more old mid new [] last same takes = (new, (subst (λ (o : Option (List ℕ)). Takes o new last.request) same takes, refl))
 reads_more old mid new (exchange ∷ more) last reads takes = (reads.0, (reads.1.0, reads_more reads.0 mid new more last reads.1.1 takes))
 
-asks_more : {D : Type 0} (answers : Answers D) (old mid new : D) (exchanges : List Exchange) (last : Exchange) → AsksInOrder answers old exchanges mid → Leaves answers mid last.outcome new → AsksInOrder answers old (exchanges ++ last ∷ []) new
+asks_more : {D : Type 0} (answers : Answering D) (old mid new : D) (exchanges : List Exchange) (last : Exchange) → AsksInOrder answers old exchanges mid → Leaves answers mid last.outcome new → AsksInOrder answers old (exchanges ++ last ∷ []) new
 asks_more {D} answers old mid new [] last same leaves = (new, (subst (λ (d : D). Leaves answers d last.outcome new) same leaves, refl))
 asks_more answers old mid new (exchange ∷ more) last asks leaves = (asks.0, (asks.1.0, asks_more answers asks.0 mid new more last asks.1.1 leaves))
 
@@ -49,14 +45,14 @@ bytes_more exchanges last =
     let f = λ (exchange : Exchange). exchange.request.size in
     omega (arith, sum_by-append f exchanges (last ∷ []))
 
-pub nothing_yet : {D : Type 0} (answers : Answers D) (old : Stand D) → SoFar answers old old 0
+pub nothing_yet : {D : Type 0} (answers : Answering D) (old : Stand D) → SoFar answers old old 0
 nothing_yet answers old = record {
   exchanges = [];
   went_on = record { read = refl; come = tt; asked = refl; wrote = Appends-nil old.written; kept = tt; few = omega arith };
   counted = refl;
 }
 
-pub one_more : {D : Type 0} (answers : Answers D) (old now new : Stand D) (bytes bytes' : ℕ) → SoFar answers old now bytes → GoesOn answers bytes bytes' now new → SoFar answers old new bytes'
+pub one_more : {D : Type 0} (answers : Answering D) (old now new : Stand D) (bytes bytes' : ℕ) → SoFar answers old now bytes → GoesOn answers bytes bytes' now new → SoFar answers old new bytes'
 one_more answers old now new bytes bytes' so_far on =
     let went = so_far.went_on in
     let all = so_far.exchanges in
@@ -74,7 +70,7 @@ one_more answers old now new bytes bytes' so_far on =
       counted = counted;
     }
 
-pub served : {D : Type 0} (answers : Answers D) (old now new : Stand D) (bytes : ℕ) (how : Ended) → SoFar answers old now bytes → Ends answers bytes now new how → Served answers old new how
+pub served : {D : Type 0} (answers : Answering D) (old now new : Stand D) (bytes : ℕ) (how : Ended) → SoFar answers old now bytes → Ends answers bytes now new how → Served answers old new how
 served answers old now new bytes how so_far ends =
     let here = subst (λ (n : ℕ). Ends answers n now new how) (sym so_far.counted) ends in
     record {
@@ -86,7 +82,7 @@ served answers old now new bytes how so_far ends =
     }
 
 -- a request was read and answered
-pub turned : {D : Type 0} (answers : Answers D) (bytes bytes' : ℕ) (old new : Stand D) (request : Message) (result : Option Ended)
+pub turned : {D : Type 0} (answers : Answering D) (bytes bytes' : ℕ) (old new : Stand D) (request : Message) (result : Option Ended)
     → Takes old.ahead new.ahead request → Answered answers request bytes bytes' old.desk new.desk old.written new.written result → Turns answers bytes bytes' old result new
 turned answers bytes bytes' old new request None takes answered = record {
   exchange = record { request = request; outcome = answered.outcome };
@@ -109,7 +105,7 @@ nothing_ahead scratch None none = refl
 nothing_ahead scratch (Some bytes) none = ap (λ (s : List ℕ). Some (s ++ bytes)) none
 
 -- nothing was read before
-pub from_start : {D : Type 0} (answers : Answers D) (scratch : List ℕ) (left written : Option (List ℕ)) (desk : D) (new : Stand D) (how : Ended) → scratch ≡ []
+pub from_start : {D : Type 0} (answers : Answering D) (scratch : List ℕ) (left written : Option (List ℕ)) (desk : D) (new : Stand D) (how : Ended) → scratch ≡ []
     → Served answers (record { ahead = ahead scratch left; desk = desk; written = written }) new how → Served answers (record { ahead = left; desk = desk; written = written }) new how
 from_start {D} answers scratch left written desk new how none served =
     subst (λ (o : Option (List ℕ)). Served {D = D} answers (record { ahead = o; desk = desk; written = written }) new how) (nothing_ahead scratch left none) served

@@ -3,4 +3,3 @@ pub mod LawLemmas
 pub mod RequestLemmas
 pub mod ResponseLemmas
 pub mod ViewLemmas
-pub mod WorldLemmas

@@ -3,8 +3,6 @@ use Rattle.std.proofs.Common.{◌≡◌, inl, inr, ℕ, true, false, List, [], �
 use Rattle.std.specs.Prelude.{Option, None, Some, Result, MatchBool}
 use Rattle.std.specs.Io.KnownBytes.{Consumes}
 use Rattle.std.specs.List.{AllByRecursion}
-use Rattle.kms_calls.specs.declared.calls.KmsCall.{KmsCall}
-use Rattle.kms_calls.specs.declared.calls.KmsReply.{KmsReply}
 use Rattle.http_wire.specs.declared.faults.WireFault.{WireFault}
 use Rattle.http_wire.specs.declared.faults.WireFault.TheVariants as wire
 use Rattle.http_wire.specs.Message.{Message}
@@ -14,6 +12,7 @@ use Rattle.hk_base.specs.declared.ended.Ended.TheVariants as ended
 use Rattle.hk_serve.specs.Ends.{Ends, EndsThere}
 use Rattle.hk_serve.specs.Exchanges.{Exchange, ReadsInOrder, Stand}
 use Rattle.hk_serve.specs.Served.{AreRequestsOf, BeginsWith, IsOfWire, last_request}
+use Rattle.hk_serve.specs.Transactions.{Answering}
 
 -- known bytes stay known
 rest_left : (all used : List ℕ) (new : Option (List ℕ)) → Consumes (Some all) new used → (rest : List ℕ) × ((new ≡ Some rest) × (all ≡ used ++ rest))
@@ -57,9 +56,6 @@ front_answered (exchange ∷ more) all now tail reads behind =
 
 -- ---- the end of the connection
 
-abbrev Answers : Type 0 → Type 1
-Answers D = D → List ℕ → KmsCall → KmsReply → D → Type 0
-
 of_bytes : (fault : WireFault) → IsOfWire fault → IsOfBytes (Err fault)
 of_bytes wire.BadHead is = tt
 of_bytes wire.HeadTooLong is = tt
@@ -95,7 +91,7 @@ last_front here new message takes rest tells =
 of_wire : {D : Type 0} (here new : Stand D) (there : EndsThere here new ended.Wire) → IsOfWire there.fault
 of_wire here new there = elim (there.ends) [ inl early ↦ inl early.0 | inr answered ↦ inr answered.0 ]
 
-pub requests_answered : {D : Type 0} (answers : Answers D) (bytes : ℕ) (exchanges : List Exchange) (old here new : Stand D) (how : End) (ends : Ends answers bytes here new how)
+pub requests_answered : {D : Type 0} (answers : Answering D) (bytes : ℕ) (exchanges : List Exchange) (old here new : Stand D) (how : End) (ends : Ends answers bytes here new how)
     → ReadsInOrder old.ahead exchanges here.ahead → AllByRecursion (λ (exchange : Exchange). exchange.request.keep ≡ true) exchanges
     → (all : List ℕ) → old.ahead ≡ Some all → AreRequestsOf all (map request_of exchanges ++ last_request ends) how
 requests_answered answers bytes exchanges old here new ended.End (inl behind) reads kept all is = absurd behind.ends

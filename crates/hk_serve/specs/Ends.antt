@@ -2,8 +2,6 @@
 use Rattle.std.specs.Prelude.{◌≡◌, ◌⊎◌, ℕ, ◌+◌, ◌≤◌, ◌^◌, true, false, List, [], codes, Option, ⊤}
 use Rattle.std.specs.Io.KnownBytes.{Appends}
 use Rattle.hk_base.specs.Writing.{WroteFront}
-use Rattle.kms_calls.specs.declared.calls.KmsCall.{KmsCall}
-use Rattle.kms_calls.specs.declared.calls.KmsReply.{KmsReply}
 use Rattle.http_wire.specs.declared.faults.WireFault.{WireFault}
 use Rattle.http_wire.specs.declared.faults.WireFault.TheVariants as wire
 use Rattle.http_wire.specs.Requests.{Stops, Takes}
@@ -11,6 +9,7 @@ use Rattle.http_wire.specs.Responses.{response_text}
 use Rattle.hk_base.specs.declared.ended.Ended.{Ended}
 use Rattle.hk_base.specs.declared.ended.Ended.TheVariants as ended
 use Rattle.hk_serve.specs.Exchanges.{ComesOf, Exchange, Leaves, Stand, response_of}
+use Rattle.hk_serve.specs.Transactions.{Answering}
 
 -- the status of the response to bytes that are not a request, or 0 if there is no response
 abbrev pub wire_status : WireFault → ℕ
@@ -73,7 +72,7 @@ EndsAfter bytes exchange written now ended.Wire = ⊥
 EndsAfter bytes exchange written now ended.ReadFault = ⊥
 
 -- The connection ended after a last request. `bytes` counts those of the requests before it.
-pub record EndsBehind {D : Type 0} (answers : D → List ℕ → KmsCall → KmsReply → D → Type 0) (bytes : ℕ) (old new : Stand D) (how : Ended) : Type 0 where
+pub record EndsBehind {D : Type 0} (answers : Answering D) (bytes : ℕ) (old new : Stand D) (how : Ended) : Type 0 where
   pub last : Exchange
   pub takes : Takes old.ahead new.ahead last.request
   pub comes : ComesOf last.request last.outcome
@@ -87,5 +86,5 @@ pub record EndsThere {D : Type 0} (old new : Stand D) (how : Ended) : Type 0 whe
   pub unasked : new.desk ≡ old.desk
   pub ends : EndsFor fault old.written new.written how
 
-abbrev pub Ends : {D : Type 0} → (D → List ℕ → KmsCall → KmsReply → D → Type 0) → ℕ → Stand D → Stand D → Ended → Type 0
+abbrev pub Ends : {D : Type 0} → Answering D → ℕ → Stand D → Stand D → Ended → Type 0
 Ends answers bytes old new how = EndsBehind answers bytes old new how ⊎ EndsThere old new how

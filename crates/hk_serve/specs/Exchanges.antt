@@ -1,62 +1,58 @@
 -- The requests of a connection, and the outcome of each.
-use Rattle.std.specs.Prelude.{◌≡◌, ℕ, ◌<◌, ◌^◌, Bool, true, false, List, [], ◌∷◌, Option, Ok, Err, sum_by, flat_map}
+use Rattle.std.specs.Prelude.{◌≡◌, ℕ, ◌<◌, ◌^◌, true, List, [], ◌∷◌, Option, Ok, Err, sum_by, flat_map}
 use Rattle.std.specs.List.{AllByRecursion}
 use Rattle.std.specs.Io.KnownBytes.{Appends}
-use Rattle.kms_calls.specs.declared.calls.KmsCall.{KmsCall}
-use Rattle.kms_calls.specs.declared.calls.KmsCall.TheVariants as call
-use Rattle.kms_calls.specs.declared.calls.KmsReply.{KmsReply}
-use Rattle.kms_json.specs.Replies.{reply_text}
 use Rattle.http_wire.specs.Message.{Message}
 use Rattle.http_wire.specs.Requests.{Takes}
 use Rattle.http_wire.specs.Responses.{response_text}
 use Rattle.kms_rest.specs.declared.faults.RestFault.{RestFault}
+use Rattle.kms_rest.specs.declared.faults.RestFault.TheVariants as keys_fault
 use Rattle.kms_rest.specs.Requests.{Says}
-use Rattle.kms_rest.specs.Responses.{fault_status, fault_text, reply_status}
+use Rattle.kms_rest.specs.Responses.{fault_status, fault_text}
+use Rattle.name_rest.specs.declared.faults.NameRestFault.{NameRestFault}
+use Rattle.name_rest.specs.Requests as names_requests
+use Rattle.name_rest.specs.Responses as names
+use Rattle.hk_serve.specs.Transactions.{Answering, OfKeys, OfNames, Transaction, transaction_response}
 
--- the outcome of a request: a call that the desk replied to, or why it is not a call
+-- why a request is for neither service: a fault of the service that its path belongs to
+pub data ServiceFault : Type 0 where
+  KeysFault : (fault : RestFault) → ServiceFault
+  NamesFault : (fault : NameRestFault) → ServiceFault
+
+-- the outcome of a request: a transaction of a user, or why it is not one
 pub data Outcome : Type 0 where
-  Replied : (user : List ℕ) (asked : KmsCall) (reply : KmsReply) → Outcome
-  NoCall : (fault : RestFault) → Outcome
+  Replied : (user : List ℕ) (done : Transaction) → Outcome
+  NoCall : (fault : ServiceFault) → Outcome
 
 -- a request and its outcome
 pub record Exchange : Type 0 where
   pub request : Message
   pub outcome : Outcome
 
+-- the key management service has no route with the path of the request, so the request is for the namesystem
+abbrev pub IsForNames : Message → Type 0
+IsForNames request = Says request (Err keys_fault.NoRoute)
+
 -- the outcome belongs to the request
 abbrev pub ComesOf : Message → Outcome → Type 0
-ComesOf request (Replied user asked reply) = Says request (Ok (user, asked))
-ComesOf request (NoCall fault) = Says request (Err fault)
+ComesOf request (Replied user (OfKeys asked reply)) = Says request (Ok (user, asked))
+ComesOf request (Replied user (OfNames asked reply)) = IsForNames request × names_requests.Says request (Ok (user, asked))
+ComesOf request (NoCall (KeysFault fault)) = Says request (Err fault) × ¬ (fault ≡ keys_fault.NoRoute)
+ComesOf request (NoCall (NamesFault fault)) = IsForNames request × names_requests.Says request (Err fault)
 
--- whether a call creates a key
-abbrev pub creates : KmsCall → Bool
-creates (call.Create name bits material description) = true
-creates (call.Roll name material) = false
-creates (call.Delete name) = false
-creates (call.Invalidate name) = false
-creates (call.Metadata name) = false
-creates (call.Metadatas names) = false
-creates call.Names = false
-creates (call.Current name) = false
-creates (call.Versions name) = false
-creates (call.Version version) = false
-creates (call.Generate name count) = false
-creates (call.Decrypt name sent) = false
-creates (call.Reencrypt name sent) = false
-creates (call.Batch name sent) = false
-
--- the response for an outcome, with status 201 if a key was created
+-- the response for an outcome
 abbrev pub response_of : Outcome → List ℕ
-response_of (Replied user asked reply) = response_text (reply_status reply (creates asked)) (reply_text reply)
-response_of (NoCall fault) = response_text (fault_status fault) (fault_text fault)
+response_of (Replied user done) = transaction_response done
+response_of (NoCall (KeysFault fault)) = response_text (fault_status fault) (fault_text fault)
+response_of (NoCall (NamesFault fault)) = response_text (names.fault_status fault) (names.fault_text fault)
 
--- how the desk changes: it answers the call, or is unchanged if there is no call
-abbrev pub Leaves : {D : Type 0} → (D → List ℕ → KmsCall → KmsReply → D → Type 0) → D → Outcome → D → Type 0
-Leaves answers old (Replied user asked reply) new = answers old user asked reply new
+-- how the desk changes: by the transaction, or not at all if there is none
+abbrev pub Leaves : {D : Type 0} → Answering D → D → Outcome → D → Type 0
+Leaves answers old (Replied user done) new = answers old user done new
 Leaves answers old (NoCall fault) new = new ≡ old
 
--- the desk answers the calls of the exchanges in order
-abbrev pub AsksInOrder : {D : Type 0} → (D → List ℕ → KmsCall → KmsReply → D → Type 0) → D → List Exchange → D → Type 0
+-- the desk answers the exchanges in order
+abbrev pub AsksInOrder : {D : Type 0} → Answering D → D → List Exchange → D → Type 0
 AsksInOrder answers old [] new = new ≡ old
 AsksInOrder {D} answers old (exchange ∷ more) new = (next : D) × (Leaves answers old exchange.outcome next × AsksInOrder answers next more new)
 
@@ -82,7 +78,7 @@ pub record Stand (D : Type 0) : Type 0 where
 
 -- Requests were read and answered whole, and the connection goes on after each: it is kept, and they had fewer than
 -- 2^40 bytes together.
-pub record WentOn {D : Type 0} (answers : D → List ℕ → KmsCall → KmsReply → D → Type 0) (old : Stand D) (exchanges : List Exchange) (new : Stand D) : Type 0 where
+pub record WentOn {D : Type 0} (answers : Answering D) (old : Stand D) (exchanges : List Exchange) (new : Stand D) : Type 0 where
   pub read : ReadsInOrder old.ahead exchanges new.ahead
   pub come : AllByRecursion (λ exchange. ComesOf exchange.request exchange.outcome) exchanges
   pub asked : AsksInOrder answers old.desk exchanges new.desk

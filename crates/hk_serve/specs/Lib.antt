@@ -2,5 +2,5 @@ pub mod Ends
 pub mod Exchanges
 pub mod Laws
 pub mod Served
+pub mod Transactions
 pub mod Turns
-pub mod Worlds

@@ -1,8 +1,6 @@
 -- A whole connection.
 use Rattle.std.specs.Prelude.{◌≡◌, ◌⊎◌, ℕ, List, [], ◌∷◌, ◌++◌, map, None, Some, Ok}
 use Rattle.std.proofs.Common.{inl, inr}
-use Rattle.kms_calls.specs.declared.calls.KmsCall.{KmsCall}
-use Rattle.kms_calls.specs.declared.calls.KmsReply.{KmsReply}
 use Rattle.http_wire.specs.declared.faults.WireFault.{WireFault}
 use Rattle.http_wire.specs.declared.faults.WireFault.TheVariants as wire
 use Rattle.http_wire.specs.Message.{Message}
@@ -11,6 +9,7 @@ use Rattle.hk_base.specs.declared.ended.Ended.{Ended}
 use Rattle.hk_base.specs.declared.ended.Ended.TheVariants as ended
 use Rattle.hk_serve.specs.Ends.{Ends, IsAnswered}
 use Rattle.hk_serve.specs.Exchanges.{Exchange, Stand, WentOn, bytes_in}
+use Rattle.hk_serve.specs.Transactions.{Answering}
 
 -- the bytes begin with these requests
 abbrev pub BeginsWith : List ℕ → List Message → Type 0
@@ -33,12 +32,12 @@ AreRequestsOf all requests ended.WriteFault = BeginsWith all requests
 AreRequestsOf all requests ended.NoMemory = BeginsWith all requests
 
 -- the request that ended the connection, if one did
-abbrev pub last_request : {D : Type 0} {answers : D → List ℕ → KmsCall → KmsReply → D → Type 0} {bytes : ℕ} {old new : Stand D} {how : Ended} → Ends answers bytes old new how → List Message
+abbrev pub last_request : {D : Type 0} {answers : Answering D} {bytes : ℕ} {old new : Stand D} {how : Ended} → Ends answers bytes old new how → List Message
 last_request (inl behind) = behind.last.request ∷ []
 last_request (inr there) = []
 
 -- A connection was served: requests were answered, and then it ended.
-pub record Served {D : Type 0} (answers : D → List ℕ → KmsCall → KmsReply → D → Type 0) (old new : Stand D) (how : Ended) : Type 0 where
+pub record Served {D : Type 0} (answers : Answering D) (old new : Stand D) (how : Ended) : Type 0 where
   pub exchanges : List Exchange
   pub here : Stand D
   pub went_on : WentOn answers old exchanges here

@@ -2,8 +2,6 @@
 use Rattle.std.specs.Prelude.{◌≡◌, ℕ, ◌+◌, ◌≤◌, ◌<◌, ◌^◌, true, false, List, Option, None, Some}
 use Rattle.std.specs.Io.KnownBytes.{Appends}
 use Rattle.hk_base.specs.Writing.{WroteFront}
-use Rattle.kms_calls.specs.declared.calls.KmsCall.{KmsCall}
-use Rattle.kms_calls.specs.declared.calls.KmsReply.{KmsReply}
 use Rattle.http_wire.specs.declared.faults.SendFault.{SendFault}
 use Rattle.http_wire.specs.declared.faults.SendFault.TheVariants as send
 use Rattle.http_wire.specs.Message.{Message}
@@ -14,6 +12,7 @@ use Rattle.hk_base.specs.declared.ended.Ended.{Ended}
 use Rattle.hk_base.specs.declared.ended.Ended.TheVariants as ended
 use Rattle.hk_serve.specs.Ends.{Ends, EndsAfter}
 use Rattle.hk_serve.specs.Exchanges.{ComesOf, Exchange, Leaves, Outcome, Stand, response_of}
+use Rattle.hk_serve.specs.Transactions.{Answering}
 
 -- The response belongs to an outcome.
 pub record Responds (outcome : Outcome) (response : Response) : Type 0 where
@@ -37,14 +36,14 @@ AnswersSo exchange bytes bytes' written now None = GoesOnAfter exchange.request 
 AnswersSo exchange bytes bytes' written now (Some how) = EndsAfter (bytes + exchange.request.size) exchange written now how
 
 -- A request was answered.
-pub record Answered {D : Type 0} (answers : D → List ℕ → KmsCall → KmsReply → D → Type 0) (request : Message) (bytes bytes' : ℕ) (desk desk' : D) (written now : Option (List ℕ)) (result : Option Ended) : Type 0 where
+pub record Answered {D : Type 0} (answers : Answering D) (request : Message) (bytes bytes' : ℕ) (desk desk' : D) (written now : Option (List ℕ)) (result : Option Ended) : Type 0 where
   pub outcome : Outcome
   pub comes : ComesOf request outcome
   pub leaves : Leaves answers desk outcome desk'
   pub response : AnswersSo (record { request = request; outcome = outcome }) bytes bytes' written now result
 
 -- A request was read and answered, and the connection goes on.
-pub record GoesOn {D : Type 0} (answers : D → List ℕ → KmsCall → KmsReply → D → Type 0) (bytes bytes' : ℕ) (old new : Stand D) : Type 0 where
+pub record GoesOn {D : Type 0} (answers : Answering D) (bytes bytes' : ℕ) (old new : Stand D) : Type 0 where
   pub exchange : Exchange
   pub takes : Takes old.ahead new.ahead exchange.request
   pub comes : ComesOf exchange.request exchange.outcome
@@ -53,7 +52,7 @@ pub record GoesOn {D : Type 0} (answers : D → List ℕ → KmsCall → KmsRepl
   pub wrote : Appends old.written new.written (response_of exchange.outcome)
 
 -- the change of a connection by one request, or by the lack of one
-abbrev pub Turns : {D : Type 0} → (D → List ℕ → KmsCall → KmsReply → D → Type 0) → ℕ → ℕ → Stand D → Option Ended → Stand D → Type 0
+abbrev pub Turns : {D : Type 0} → Answering D → ℕ → ℕ → Stand D → Option Ended → Stand D → Type 0
 Turns answers bytes bytes' old None new = GoesOn answers bytes bytes' old new
 Turns answers bytes bytes' old (Some how) new = Ends answers bytes old new how
 

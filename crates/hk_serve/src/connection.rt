@@ -1,20 +1,19 @@
 //! Serving a connection.
-ghost use Rattle.std.specs.Prelude.{◌≡◌, ◌≤◌, ◌<◌, ◌^◌, ◌∷◌, [], ℕ, List, None, Some, IfOk};
+ghost use Rattle.std.specs.Prelude.{◌≡◌, ◌≤◌, ◌<◌, ◌^◌, ◌↔◌, [], ℕ, List, Err, Some, IfOk, IsTrue};
 ghost use Rattle.hk_base.specs.Faults.{Rose};
-ghost use Rattle.kms_calls.specs.declared.calls.KmsReply.{KmsReply};
 ghost use Rattle.http_wire.specs.Reading.{ahead};
-ghost use Rattle.http_wire.specs.Responses.{IsStatus, response_text};
-ghost use Rattle.hk_serve.specs.Ends.{Ends};
-ghost use Rattle.hk_serve.specs.Exchanges.{ComesOf, Leaves, Outcome, Stand, Replied, NoCall, creates};
+ghost use Rattle.kms_rest.specs.Requests.{Says};
+ghost use Rattle.hk_serve.specs.Exchanges.{ComesOf, IsForNames, Leaves, Outcome};
 ghost use Rattle.hk_serve.specs.Served.{Served};
 ghost use Rattle.hk_serve.specs.Turns.{Answered, Responds, GoesOnAfter, Turns};
 
+use crate::asks::{ask_keys, ask_names};
 use crate::desk::Desk;
 use crate::refusals::{ended_by, stop};
-use hk_base::{Ended, NoMemory, Sink, Source, Text};
-use http_wire::{Request, Scratch, read_request, write_response};
-use kms_calls::KmsCall;
-use kms_rest::{LazyRouter, Response, respond, respond_fault, to_call_with};
+use hk_base::{Ended, NoMemory, Sink, Source};
+use http_wire::{Request, Response, Scratch, read_request, write_response};
+use kms_rest::{LazyRouter as KeysRouter, RestFault, respond_fault, to_call_with};
+use name_rest::{LazyRouter as NamesRouter, respond_name_fault, to_name_with};
 use std::alloc::Global;
 
 /// The number of bytes at which a connection ends: 2^40 in all its requests.
@@ -25,31 +24,16 @@ const LONGEST_CONNECTION: u64 = 1 << 40;
 struct Connection {
     alloc: Global,
     scratch: Scratch,
-    router: LazyRouter,
+    keys: KeysRouter,
+    names: NamesRouter,
     /// The length of its requests so far.
     bytes: u64,
 }
 
-fn creates(call: &KmsCall) -> bool
-    ensures { result ≡ creates call.now }
+fn is_no_route(fault: RestFault) -> bool
+    ensures { IsTrue result ↔ (fault ≡ RestFault.NoRoute) }
 {
-    matches!(call, KmsCall::Create { .. })
-}
-
-/// Passes a call to the desk, and returns the response of its reply.
-fn ask<E: Desk>(
-    alloc: Global,
-    desk: &mut E,
-    user: Text,
-    call: KmsCall,
-) -> Result<Response, NoMemory>
-    requires { E.ready desk.old }
-    ensures asked { (reply : KmsReply) × (E.answers desk.old user call reply desk.new × IfOk result (Responds (Replied user call reply))) }
-    ensures ready { E.ready desk.new }
-{
-    let created = creates(&call);
-    let reply = desk.kms(user, call);
-    respond(alloc, &reply, created)
+    matches!(fault, RestFault::NoRoute)
 }
 
 impl Connection {
@@ -60,12 +44,14 @@ impl Connection {
         Connection {
             alloc,
             scratch: Scratch::new(),
-            router: LazyRouter::new(alloc),
+            keys: KeysRouter::new(alloc),
+            names: NamesRouter::new(alloc),
             bytes: 0,
         }
     }
 
-    /// Returns the response to a request. If the request is a call, it is passed to the desk.
+    /// Returns the response to a request. If the request is a call or an order, it is passed to the
+    /// desk. It is one of the namesystem if the key management service has no route with its path.
     fn response_to<E: Desk>(
         &mut self,
         request: &Request,
@@ -76,9 +62,46 @@ impl Connection {
         ensures ready { E.ready desk.new }
         ensures same { (self.new.scratch ≡ self.old.scratch) × (self.new.bytes ≡ self.old.bytes) }
     {
-        match to_call_with(self.alloc, &mut self.router, request) {
-            Ok((user, call)) => ask(self.alloc, desk, user, call),
-            Err(fault) => respond_fault(self.alloc, fault),
+        match to_call_with(self.alloc, &mut self.keys, request) {
+            Ok((user, call)) => ask_keys(self.alloc, desk, user, call),
+            Err(fault) => self.response_without_call(request, desk, fault),
+        }
+    }
+
+    /// Returns the response to a request that is not a call of the key management service.
+    fn response_without_call<E: Desk>(
+        &mut self,
+        request: &Request,
+        desk: &mut E,
+        fault: RestFault,
+    ) -> Result<Response, NoMemory>
+        requires ready { E.ready desk.old }
+        requires says { Says request.now (Err fault) }
+        ensures comes { (outcome : Outcome) × (ComesOf request.now outcome × (Leaves E.answers desk.old outcome desk.new × IfOk result (Responds outcome))) }
+        ensures ready { E.ready desk.new }
+        ensures same { (self.new.scratch ≡ self.old.scratch) × (self.new.bytes ≡ self.old.bytes) }
+    {
+        if is_no_route(fault) {
+            return self.names_response_to(request, desk);
+        }
+        respond_fault(self.alloc, fault)
+    }
+
+    /// Returns the response to a request of the namesystem.
+    fn names_response_to<E: Desk>(
+        &mut self,
+        request: &Request,
+        desk: &mut E,
+    ) -> Result<Response, NoMemory>
+        requires ready { E.ready desk.old }
+        requires names { IsForNames request.now }
+        ensures comes { (outcome : Outcome) × (ComesOf request.now outcome × (Leaves E.answers desk.old outcome desk.new × IfOk result (Responds outcome))) }
+        ensures ready { E.ready desk.new }
+        ensures same { (self.new.scratch ≡ self.old.scratch) × (self.new.bytes ≡ self.old.bytes) }
+    {
+        match to_name_with(self.alloc, &mut self.names, request) {
+            Ok((user, order)) => ask_names(self.alloc, desk, user, order),
+            Err(fault) => respond_name_fault(self.alloc, fault),
         }
     }
 
@@ -175,9 +198,10 @@ impl Connection {
 }
 
 /// Serves the requests of a connection in order (RFC 9112). It reads a request from the source, passes
-/// its call to the desk, and writes the response to the sink before it reads the next request. The desk
-/// gets no other calls. A request that is not a call is answered without the desk. If there is no
-/// memory to read its call, the answer is K13 with status 503.
+/// its call or order to the desk, and writes the response to the sink before it reads the next request.
+/// The desk gets no others. A request is one of the namesystem if the key management service has no
+/// route with its path. A request that is neither a call nor an order is answered without the desk. If
+/// there is no memory to read it, the answer is K13 or N22 with status 503.
 ///
 /// The connection ends:
 /// - at the end of the input;
@@ -187,7 +211,7 @@ impl Connection {
 /// - if the source or the sink fails. A prefix of the response may have been written;
 /// - if there is no memory for a request or for a response. Nothing more is written.
 ///
-/// A call that the desk answered keeps its effect even if its response was not written.
+/// A call or an order that the desk answered keeps its effect even if its response was not written.
 pub fn serve_conn<S: Source, K: Sink, E: Desk>(
     alloc: Global,
     source: &mut S,

@@ -1,22 +1,31 @@
-//! The service of a connection.
+//! The services of a connection.
 ghost use Rattle.std.specs.Prelude.{ℕ, List};
-ghost use Rattle.kms_calls.specs.declared.calls.KmsCall.{KmsCall};
 ghost use Rattle.kms_calls.specs.declared.calls.KmsReply.{KmsReply};
+ghost use Rattle.name_calls.specs.declared.calls.NameReply.{NameReply};
+ghost use Rattle.hk_serve.specs.Transactions.{OfKeys, OfNames, Transaction};
 
 use hk_base::Text;
 use kms_calls::{KmsCall, KmsReply};
+use name_calls::NameReply;
+use name_rest::NameOrder;
 
-/// Answers the calls of a connection.
+/// Answers the calls and the orders of a connection.
 pub trait Desk {
-    /// What holds of the desk before each call.
+    /// What holds of the desk before each call or order.
     ghost ready: { Self → Type 0 };
 
-    /// The replies that it may give to a call of a user, and its states after them.
-    ghost answers: { Self → List ℕ → KmsCall → KmsReply → Self → Type 0 };
+    /// The transactions of a user that may happen, and its states after them.
+    ghost answers: { Self → List ℕ → Transaction → Self → Type 0 };
 
-    /// Answers a call of a user. A refusal is also a reply.
+    /// Answers a call of the key management service by a user. A refusal is also a reply.
     fn kms(&mut self, user: Text, call: KmsCall) -> KmsReply
         requires { ready self.old }
-        ensures answers { answers self.old user call result self.new }
+        ensures answers { answers self.old user (OfKeys call result) self.new }
+        ensures ready { ready self.new };
+
+    /// Answers an order of the namesystem by a user. A refusal is also a reply.
+    fn name(&mut self, user: Text, order: NameOrder) -> NameReply
+        requires { ready self.old }
+        ensures answers { answers self.old user (OfNames order result) self.new }
         ensures ready { ready self.new };
 }

@@ -1,36 +1,39 @@
 //! Both services as a desk.
-ghost use Rattle.std.specs.Prelude.{◌≡◌, ◌≤◌, ℕ, List, Ok};
+ghost use Rattle.std.specs.Prelude.{◌≡◌, ◌≤◌, ℕ, List};
 ghost use Rattle.hk_base.specs.Faults.{Rose};
 ghost use Rattle.kms_calls.specs.declared.calls.KmsReply.{KmsReply};
 ghost use Rattle.http_wire.specs.Reading.{ahead};
 ghost use Rattle.hk_serve.specs.Served.{Served};
-ghost use Rattle.hk_serve.specs.Worlds.{Happens, IsReady, WorldView};
+ghost use Rattle.world_desk.specs.Worlds.{Happens, IsReady};
 
-use crate::connection::serve_conn;
-use crate::desk::Desk;
+use crate::orders::{answer, answer_order};
 use hk_base::{Clock, Disk, Ended, Sink, Source, Text, Words};
 use hk_events::{Event, Line};
+use hk_serve::{Desk, serve_conn};
 use kms_calls::{KmsCall, KmsReply};
+use name_calls::NameReply;
+use name_rest::NameOrder;
 use std::alloc::Global;
-use world_run::{World, WorldFault};
+use world_run::World;
 
 /// Both services as a desk, with the disk that they were started on, random words, and the clock that
-/// gives each call its time.
+/// gives the events of each call or order their time.
 #[derive(Drop)]
 pub struct WorldDesk<'a, D, W, C> {
+    alloc: Global,
     world: &'a mut World,
     disk: &'a mut D,
     words: &'a mut W,
     clock: &'a mut C,
 }
 
-/// Returns the reply in the answer to a call.
-fn reply_in(answer: Result<Line, WorldFault>) -> KmsReply
-    requires { (reply : KmsReply) × (answer ≡ Ok (Line.Kms reply)) }
-    ensures { answer ≡ Ok (Line.Kms result) }
+/// Returns the reply in the answer to a call of the key management service.
+fn reply_in(answer: Line) -> KmsReply
+    requires { (reply : KmsReply) × (answer ≡ Line.Kms reply) }
+    ensures { answer ≡ Line.Kms result }
 {
     match answer {
-        Ok(Line::Kms(reply)) => reply,
+        Line::Kms(reply) => reply,
         _ => unreachable!(),
     }
 }
@@ -38,6 +41,7 @@ fn reply_in(answer: Result<Line, WorldFault>) -> KmsReply
 impl<'a, D, W, C> WorldDesk<'a, D, W, C> {
     /// Creates a desk over these.
     pub fn new(
+        alloc: Global,
         world: &'a mut World,
         disk: &'a mut D,
         words: &'a mut W,
@@ -49,6 +53,7 @@ impl<'a, D, W, C> WorldDesk<'a, D, W, C> {
         ensures clock { (result.clock.ghost_name ≡ clock.entry.ghost_name) × (result.clock.now ≡ clock.old) }
     {
         WorldDesk {
+            alloc,
             world,
             disk,
             words,
@@ -60,15 +65,20 @@ impl<'a, D, W, C> WorldDesk<'a, D, W, C> {
 impl<'a, D: Disk, W: Words, C: Clock> Desk for WorldDesk<'a, D, W, C> {
     ghost ready = { λ d. IsReady D.state (record { disk = d.disk.now; world = d.world.now; words = d.words.now }) };
 
-    ghost answers = { λ old user asked reply new. ((new.world.ghost_name ≡ old.world.ghost_name) × ((new.disk.ghost_name ≡ old.disk.ghost_name) × ((new.words.ghost_name ≡ old.words.ghost_name) × (new.clock.ghost_name ≡ old.clock.ghost_name))))
-        × Happens D.state W.to_come (record { disk = old.disk.now; world = old.world.now; words = old.words.now }) user asked reply (record { disk = new.disk.now; world = new.world.now; words = new.words.now }) };
+    ghost answers = { λ old user done new. ((new.world.ghost_name ≡ old.world.ghost_name) × ((new.disk.ghost_name ≡ old.disk.ghost_name) × ((new.words.ghost_name ≡ old.words.ghost_name) × (new.clock.ghost_name ≡ old.clock.ghost_name))))
+        × Happens D.state W.to_come (record { disk = old.disk.now; world = old.world.now; words = old.words.now }) user done (record { disk = new.disk.now; world = new.world.now; words = new.words.now }) };
 
     fn kms(&mut self, user: Text, call: KmsCall) -> KmsReply {
         let now = self.clock.now_ms();
-        let answer = self
-            .world
-            .step(self.disk, self.words, now, Event::Kms { user, call });
-        reply_in(answer)
+        let event = Event::Kms { user, call };
+        reply_in(answer(self.world, self.disk, self.words, now, event))
+    }
+
+    fn name(&mut self, user: Text, order: NameOrder) -> NameReply {
+        let now = self.clock.now_ms();
+        answer_order(
+            self.alloc, self.world, self.disk, self.words, now, user, &order,
+        )
     }
 }
 
@@ -96,8 +106,16 @@ fn serve_desk<'a, S: Source, K: Sink, D: Disk, W: Words, C: Clock>(
     serve_conn(alloc, source, sink, desk)
 }
 
-/// Serves the requests of a connection with both services, as `serve_conn` does. Each call is an event
-/// at the time of the clock. Always pass the disk that the services were started on.
+/// Serves the requests of a connection with both services, as `serve_conn` does. A call of the key
+/// management service, or of the namesystem, is one event of the world. To create a file, to make a
+/// zone or to submit a re-encryption takes up to three: the ask, the call of the key management service
+/// that it wants, and the finish. All events of an order happen at one time of the clock.
+///
+/// A re-encryption that was submitted is driven to its end before the reply; what came of it doesn't
+/// change the reply. If there is no memory for an event, no further one happens, and the reply is N22.
+/// An ask that was accepted stays open then.
+///
+/// Always pass the disk that the services were started on.
 pub fn serve_world<S: Source, K: Sink, D: Disk, W: Words, C: Clock>(
     alloc: Global,
     source: &mut S,
@@ -119,6 +137,6 @@ pub fn serve_world<S: Source, K: Sink, D: Disk, W: Words, C: Clock>(
     ensures write_later { K.faults sink.old ≤ K.faults sink.new }
     ensures write_fault { result ≡ Ended.WriteFault → Rose (K.faults sink.old) (K.faults sink.new) }
 {
-    let mut desk = WorldDesk::new(world, disk, words, clock);
+    let mut desk = WorldDesk::new(alloc, world, disk, words, clock);
     serve_desk(alloc, source, sink, &mut desk)
 }
