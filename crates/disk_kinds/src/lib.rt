@@ -5,6 +5,7 @@
 mod adapters;
 mod calls;
 mod file_disk;
+mod log_file;
 mod mem_disk;
 mod mem_sink;
 mod mem_source;
@@ -15,6 +16,7 @@ mod words;
 pub use adapters::{FileSource, Reading, WallClock, Writing, open_source};
 pub use calls::CallPlan;
 pub use file_disk::FileDisk;
+pub use log_file::LogFile;
 pub use mem_disk::MemDisk;
 pub use mem_sink::MemSink;
 pub use mem_source::MemSource;

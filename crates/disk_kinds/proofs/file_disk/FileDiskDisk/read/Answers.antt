@@ -1,9 +1,5 @@
-use Rattle.std.proofs.Common.{rules}
 use Rattle.disk_kinds.proofs.OpaqueLemmas.{opaque_call}
 use Rattle.disk_kinds.proofs.file_disk.FileDiskDisk.read.Goals as goal
 
-pub returns-in-Ok-clause-call : goal.returns-in-Ok-clause-call
-returns-in-Ok-clause-call c = search (rules, opaque_call)
-
-pub returns-in-Err-clause-call : goal.returns-in-Err-clause-call
-returns-in-Err-clause-call c = search (rules, opaque_call)
+pub returns-clause-call : goal.returns-clause-call
+returns-clause-call c = opaque_call c.args.file c.args.self.now.faults c.counted.new.faults c.counted.ensures.later

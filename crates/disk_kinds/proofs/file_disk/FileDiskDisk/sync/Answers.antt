@@ -1,12 +1,7 @@
-use Rattle.std.proofs.Common.{rules}
+use Rattle.std.proofs.Common.{arith}
 use Rattle.disk_kinds.proofs.OpaqueLemmas.{opaque_call}
 use Rattle.disk_kinds.proofs.file_disk.FileDiskDisk.sync.Goals as goal
 
-pub returns-then-is_lost-clause-call : goal.returns-then-is_lost-clause-call
-returns-then-is_lost-clause-call c = search (rules, opaque_call)
-
-pub returns-in-Ok-clause-call : goal.returns-in-Ok-clause-call
-returns-in-Ok-clause-call c = search (rules, opaque_call)
-
-pub returns-in-Err-clause-call : goal.returns-in-Err-clause-call
-returns-in-Err-clause-call c = search (rules, opaque_call)
+pub returns-clause-call : goal.returns-clause-call
+returns-clause-call c =
+    opaque_call c.args.file c.args.self.now.faults c.counted.new.faults (omega (arith, c.counted.ensures.later, c.sync_file-outcome.ensures))
