@@ -1,0 +1,13 @@
+//! Yards and doors: over real files and TCP, and in memory for tests.
+#![tactic(auto)]
+
+mod counts;
+mod file_yard;
+mod mem_door;
+mod mem_yard;
+mod tcp_door;
+
+pub use file_yard::FileYard;
+pub use mem_door::{MemClient, MemDoor, MemLeft};
+pub use mem_yard::{MemFile, MemYard};
+pub use tcp_door::TcpDoor;

@@ -1,0 +1,45 @@
+//! A door: connections come in here, and are left here when they have ended.
+ghost use Rattle.std.specs.Prelude.{◌≡◌, ◌≤◌, ◌<◌, ℕ, IfOk, OnErr};
+ghost use Rattle.hk_base.specs.Faults.{HasCause};
+ghost use Rattle.server_parts.specs.Doors.{DoorState, with_accepted, with_left};
+
+use hk_base::{Ended, Failed, Sink, Source};
+
+/// Where connections come in, and where each is left when it has ended.
+///
+/// A connection is a source and a sink, which may move to a thread of their own. The door counts the
+/// connections that it accepted and those that were left. It may promise which ones these were; a
+/// door over a network does not.
+pub trait Door {
+    /// The input of a connection.
+    type In: Source + Send + Drop;
+    /// The output of a connection.
+    type Out: Sink + Send + Drop;
+
+    /// The connections so far, as proofs see them.
+    ghost state: { Self → DoorState Self.In Self.Out };
+
+    /// The number of faults so far.
+    ghost faults: { Self → ℕ };
+
+    /// Starts to listen on a port.
+    fn open(&mut self, port: u16) -> Result<(), Failed>
+        ensures same { state self.new ≡ state self.old }
+        ensures cause { HasCause (faults self.old) (faults self.new) result };
+
+    /// Waits for the next connection. Neither of its ends has counted a fault yet.
+    fn accept(&mut self) -> Result<(Self::In, Self::Out), Failed>
+        ensures some { IfOk result (λ ends. state self.new ≡ with_accepted (state self.old) ends) }
+        ensures none { OnErr result (state self.new ≡ state self.old) }
+        ensures fresh { IfOk result (λ ends. (Self.In.faults ends.0 ≡ 0) × (Self.Out.faults ends.1 ≡ 0)) }
+        ensures cause { HasCause (faults self.old) (faults self.new) result };
+
+    /// Takes back both ends of a connection and how it ended. This cannot fail.
+    fn leave(&mut self, input: Self::In, out: Self::Out, ended: Ended)
+        requires { (state self.old).left < (state self.old).accepted }
+        ensures gone { state self.new ≡ with_left (state self.old) (record { input = input; out = out; ended = ended }) }
+        ensures faults { faults self.new ≡ faults self.old };
+
+    /// No more connections were left than accepted.
+    ghost no_more_left: { (door : Self) → (state door).left ≤ (state door).accepted };
+}
