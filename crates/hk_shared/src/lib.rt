@@ -4,7 +4,9 @@
 mod movable;
 mod opening;
 mod shared;
+mod turns;
 
 pub use movable::both_are_shared;
 pub use opening::Opening;
 pub use shared::{Closed, Shared};
+pub use turns::superuser;

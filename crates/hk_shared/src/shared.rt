@@ -1,7 +1,6 @@
 //! Both cells.
 ghost use Rattle.std.specs.Prelude.{◌≡◌};
 ghost use Rattle.hist_cell.specs.History.{Closes};
-ghost use Rattle.kms_cell.specs.Fills.{FillsTurn};
 ghost use Rattle.kms_cell.specs.Steps.{KmsSteps};
 ghost use Rattle.kms_cell.specs.Tickets.{KmsAllows};
 ghost use Rattle.kms_cell.specs.Views.{KmsView, RunsOn};
@@ -10,12 +9,11 @@ ghost use Rattle.name_cell.specs.Steps.{NameSteps};
 ghost use Rattle.name_cell.specs.Views.{NameView, NamesRunOn};
 
 use hist_cell::Naming;
-use hk_base::{Clock, Disk, Gate, Words};
-use kms_cell::{FillTurn, KmsCell, KmsPass, close_keys, fill_turn};
+use hk_base::{Clock, Disk, Words};
+use kms_cell::{KmsCell, KmsPass, close_keys};
 use kms_core::Kms;
 use name_cell::{NameCell, NamePass, close_names};
 use name_core::Name;
-use std::sync::Wait;
 
 /// Both services, each in a cell of its own. Both disks are of one type.
 #[derive(Drop)]
@@ -33,21 +31,23 @@ pub struct Closed<D> {
     pub names_disk: D,
 }
 
-impl<D: Disk, W: Words, C: Clock, M: Naming, N: Naming> Shared<D, W, C, M, N> {
-    /// Fills a low queue of ready keys, if there is one, as `fill_turn` does over the cell of the keys.
-    /// It may wait for the gate and the lock.
-    pub fn fill_turn<R: Wait, V: Words, G: Gate>(
-        &self,
-        rt: &R,
-        pass: &mut KmsPass<D, W, C, M>,
-        words: &mut V,
-        gate: &G,
-    ) -> FillTurn
-        ensures { FillsTurn D.state W.to_come (V.to_come words.old) (V.to_come words.new) pass.old result pass.new }
+impl<D> Closed<D> {
+    /// Drops both services and returns their disks.
+    pub fn into_disks(self) -> (D, D)
+        ensures keys { result.0 ≡ self.keys_disk }
+        ensures names { result.1 ≡ self.names_disk }
     {
-        fill_turn(rt, &self.keys, pass, words, gate)
+        let Closed {
+            kms: _,
+            keys_disk,
+            names: _,
+            names_disk,
+        } = self;
+        (keys_disk, names_disk)
     }
+}
 
+impl<D: Disk, W: Words, C: Clock, M: Naming, N: Naming> Shared<D, W, C, M, N> {
     /// Ends both cells and returns the services and their disks, each after its whole history. Other passes
     /// may have been dropped.
     pub fn close(self, keys: KmsPass<D, W, C, M>, names: NamePass<D, N>) -> Closed<D>
