@@ -1,27 +1,23 @@
 -- A connection over a desk is also one over a second state that changes with the desk.
 use Rattle.std.proofs.Common.{◌≡◌, inl, inr, refl, sym, subst, ℕ, List, [], ◌∷◌, ◌++◌, map}
 use Rattle.std.specs.Prelude.{Some}
-use Rattle.kms_calls.specs.declared.calls.KmsCall.{KmsCall}
-use Rattle.kms_calls.specs.declared.calls.KmsReply.{KmsReply}
 use Rattle.hk_base.specs.declared.ended.Ended.{Ended}
 use Rattle.hk_serve.specs.Ends.{Ends}
 use Rattle.hk_serve.specs.Exchanges.{AsksInOrder, Exchange, Leaves, NoCall, Outcome, Replied, Stand, WentOn, bytes_in}
 use Rattle.hk_serve.specs.Served.{AreRequestsOf, Served, last_request}
-
-abbrev Answers : Type 0 → Type 1
-Answers D = D → List ℕ → KmsCall → KmsReply → D → Type 0
+use Rattle.hk_serve.specs.Transactions.{Answering, Transaction}
 
 -- each answer of the desk is also one of the second state, and the two are still a pair
-abbrev pub Pairs : {D V : Type 0} → (D → V → Type 0) → Answers D → Answers V → Type 0
-Pairs {D} {V} pair answers happens = (old new : D) (user : List ℕ) (asked : KmsCall) (reply : KmsReply) (v : V) → pair old v → answers old user asked reply new → (w : V) × happens v user asked reply w × pair new w
+abbrev pub Pairs : {D V : Type 0} → (D → V → Type 0) → Answering D → Answering V → Type 0
+Pairs {D} {V} pair answers happens = (old new : D) (user : List ℕ) (done : Transaction) (v : V) → pair old v → answers old user done new → (w : V) × happens v user done w × pair new w
 
 -- the second state in the place of the desk
 abbrev pub with_desk : {D V : Type 0} → Stand D → V → Stand V
 with_desk stand v = record { ahead = stand.ahead; desk = v; written = stand.written }
 
-module _ {D V : Type 0} (pair : D → V → Type 0) (answers : Answers D) (happens : Answers V) (pairs : Pairs pair answers happens) where
+module _ {D V : Type 0} (pair : D → V → Type 0) (answers : Answering D) (happens : Answering V) (pairs : Pairs pair answers happens) where
   leaves_paired : (old new : D) (outcome : Outcome) (v : V) → pair old v → Leaves answers old outcome new → (w : V) × Leaves happens v outcome w × pair new w
-  leaves_paired old new (Replied user asked reply) v here leaves = pairs old new user asked reply v here leaves
+  leaves_paired old new (Replied user done) v here leaves = pairs old new user done v here leaves
   leaves_paired old new (NoCall fault) v here leaves = (v, refl, subst (λ (d : D). pair d v) (sym leaves) here)
 
   asks_paired : (exchanges : List Exchange) (old new : D) (v : V) → pair old v → AsksInOrder answers old exchanges new → (w : V) × AsksInOrder happens v exchanges w × pair new w

@@ -1,32 +1,50 @@
--- A connection over the cell.
-use Rattle.std.specs.Prelude.{◌≡◌, ℕ, List, [], ◌∷◌, ◌++◌, Option}
+-- A connection over both cells.
+use Rattle.std.specs.Prelude.{◌≡◌, ℕ, List, [], ◌++◌, Option}
 use Rattle.hk_base.specs.Disk.{DiskState}
 use Rattle.hk_base.specs.declared.ended.Ended.{Ended}
-use Rattle.kms_calls.specs.declared.calls.KmsCall.{KmsCall}
-use Rattle.kms_calls.specs.declared.calls.KmsReply.{KmsReply}
 use Rattle.http_wire.specs.Reading.{ahead}
 use Rattle.hist_cell.specs.declared.views.Entry.{Entry}
 use Rattle.hk_serve.specs.Served.{Served}
-use Rattle.kms_cell.specs.Entries.{KmsKnown, Makes}
+use Rattle.hk_serve.specs.Transactions.{Transaction}
+use Rattle.kms_cell.specs.Entries.{KmsEntry, KmsKnown}
 use Rattle.kms_cell.specs.declared.acts.KmsAct.{KmsAct}
-use Rattle.kms_cell.specs.declared.acts.KmsAct.TheVariants as act
 use Rattle.kms_cell.specs.declared.acts.KmsActed.{KmsActed}
-use Rattle.kms_cell.specs.declared.acts.KmsActed.TheVariants as acted
+use Rattle.name_cell.specs.Entries.{NameEntry, NameKnown}
+use Rattle.name_cell.specs.declared.acts.NameAct.{NameAct}
+use Rattle.name_cell.specs.declared.acts.NameActed.{NameActed}
+use Rattle.cell_desk.specs.Entries.{KeysMake, NamesMake, calls_of}
+use Rattle.cell_desk.specs.Orders.{TakesCalls}
 
--- A call of a user is one entry of the legal history, after all that the pass had seen.
-abbrev pub MakesCall : {D W : Type 0} → (D → DiskState) → (W → ℕ → ℕ) → KmsKnown D W → List ℕ → KmsCall → KmsReply → KmsKnown D W → Type 0
-MakesCall {D = D} {W = W} state to_come v user asked reply w = Makes {D = D} {W = W} state to_come v (act.Call user asked) (acted.Call reply) w
+-- what the passes of a connection know of both histories
+pub record BothKnown (D W : Type 0) : Type 0 where
+  pub keys : KmsKnown D W
+  pub names : NameKnown D
 
-module _ {S : Type 0} where
-  -- one more entry, which has this call of a user and this reply
-  pub record Adds (es : List (Entry KmsAct KmsActed S)) (user : List ℕ) (asked : KmsCall) (reply : KmsReply) (es' : List (Entry KmsAct KmsActed S)) : Type 0 where
-    pub entry : Entry KmsAct KmsActed S
-    pub call_is : entry.call ≡ act.Call user asked
-    pub reply_is : entry.reply ≡ acted.Call reply
-    pub added : es' ≡ es ++ entry ∷ []
+-- A transaction of a user is these entries of both legal histories, after all that the passes had seen.
+pub record MakesOrder {D W : Type 0} (state : D → DiskState) (to_come : W → ℕ → ℕ) (v : BothKnown D W) (user : List ℕ) (done : Transaction) (w : BothKnown D W) : Type 0 where
+  pub keys : List (KmsEntry D W)
+  pub names : List (NameEntry D)
+  pub makes_keys : KeysMake state to_come v.keys keys w.keys
+  pub makes_names : NamesMake state v.names names w.names
+  pub takes : TakesCalls user done (calls_of keys) (calls_of names)
 
-  -- A connection was served by these entries: each request that is a call has one, in order, with its call and the reply that it was
+-- entries of both histories
+pub record BothEntries (S T : Type 0) : Type 0 where
+  pub keys : List (Entry KmsAct KmsActed S)
+  pub names : List (Entry NameAct NameActed T)
+
+module _ {S T : Type 0} where
+  -- more entries, which are those of a transaction of a user
+  pub record AddsOrder (es : BothEntries S T) (user : List ℕ) (done : Transaction) (es' : BothEntries S T) : Type 0 where
+    pub keys : List (Entry KmsAct KmsActed S)
+    pub names : List (Entry NameAct NameActed T)
+    pub takes : TakesCalls user done (calls_of keys) (calls_of names)
+    pub added_keys : es'.keys ≡ es.keys ++ keys
+    pub added_names : es'.names ≡ es.names ++ names
+
+  -- A connection was served by these entries: each request that is a call or an order has its own, in order, with the reply that it was
   -- answered with, and there are no others. Bytes that were read past the last request are unused.
-  pub record ServedBy (source written : Option (List ℕ)) (made : List (Entry KmsAct KmsActed S)) (source' written' : Option (List ℕ)) (how : Ended) : Type 0 where
+  pub record ServedByCells (source written : Option (List ℕ)) (keys : List (Entry KmsAct KmsActed S)) (names : List (Entry NameAct NameActed T)) (source' written' : Option (List ℕ)) (how : Ended) : Type 0 where
     pub unused : List ℕ
-    pub served : Served Adds (record { ahead = source; desk = []; written = written }) (record { ahead = ahead unused source'; desk = made; written = written' }) how
+    pub served : Served AddsOrder (record { ahead = source; desk = record { keys = []; names = [] }; written = written })
+        (record { ahead = ahead unused source'; desk = record { keys = keys; names = names }; written = written' }) how

@@ -1,1 +1,3 @@
 pub mod Connections
+pub mod Entries
+pub mod Orders

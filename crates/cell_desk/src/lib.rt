@@ -1,8 +1,11 @@
-//! Connections to the key management service in its cell. docs/threads.md has the whole picture.
+//! Connections to both services in their cells. docs/threads.md has the whole picture.
 #![tactic(auto)]
 
+mod asks;
 mod desk;
+mod notices;
 mod serve;
 
 pub use desk::CellDesk;
-pub use serve::serve_cell;
+pub use notices::{NoNotices, Notices};
+pub use serve::serve_cells;

@@ -1,0 +1,17 @@
+use Rattle.cell_desk.specs.Connections.{BothKnown}
+use Rattle.cell_desk.proofs.ServeLemmas.{served_by_entries, served_over}
+use Rattle.cell_desk.proofs.serve.serve_cells.Goals as goal
+
+pub returns-clause-served : goal.returns-clause-served
+returns-clause-served g c =
+    let before : BothKnown _ _ = record { keys = c.args.keys; names = c.args.names } in
+    served_over g.D.Disk.state g.W.Words.to_come before c.new-desk.result c.serve_conn-ended.new.desk c.into_passes-keys.result.0 c.into_passes-keys.result.1 _ _ _ _ c.serve_conn-ended.result
+    c.new-desk.ensures c.into_passes-keys.ensures.keys c.into_passes-keys.ensures.names c.serve_conn-ended.ensures.served
+
+pub returns-clause-entries : goal.returns-clause-entries
+returns-clause-entries g c =
+    let before : BothKnown _ _ = record { keys = c.args.keys; names = c.args.names } in
+    let after : BothKnown _ _ = record { keys = c.into_passes-keys.result.0; names = c.into_passes-keys.result.1 } in
+    let served = served_over g.D.Disk.state g.W.Words.to_come before c.new-desk.result c.serve_conn-ended.new.desk c.into_passes-keys.result.0 c.into_passes-keys.result.1 _ _ _ _ c.serve_conn-ended.result
+    c.new-desk.ensures c.into_passes-keys.ensures.keys c.into_passes-keys.ensures.names c.serve_conn-ended.ensures.served in
+    served_by_entries g.D.Disk.state g.W.Words.to_come before after _ _ _ _ served.0 c.serve_conn-ended.result c.count.ensures.legal c.count-2.ensures.legal served.1
