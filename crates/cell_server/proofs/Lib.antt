@@ -1,0 +1,4 @@
+pub mod GoingLemmas
+pub mod MadeLemmas
+pub mod RoundLemmas
+pub mod ServeLemmas

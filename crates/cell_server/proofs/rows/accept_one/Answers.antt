@@ -1,0 +1,19 @@
+use Rattle.std.proofs.Common.{ap, sym, subst, ◌∙◌}
+use Rattle.hist_cell.specs.History.{Splits}
+use Rattle.server_parts.specs.Doors.{with_accepted}
+use Rattle.cell_server.specs.Connections.{Going, ServesEnds, Start}
+use Rattle.cell_server.proofs.GoingLemmas.{going_accepts}
+use Rattle.cell_server.proofs.rows.accept_one.Goals as goal
+
+pub returns-clause-goes_on : goal.returns-clause-goes_on
+returns-clause-goes_on g c door0 keys0 names0 going =
+    let serves = ServesEnds g.A.In.Source.left g.A.In.Source.faults g.A.Out.Sink.written g.A.Out.Sink.faults in
+    subst (λ q. Going serves door0 keys0 names0 (g.A.Door.state c.accept.new.self) c.split-their_keys.new.pass c.split-their_names.new.pass q)
+    (sym c.push_back_reserved.ensures.items)
+    (going_accepts serves (g.A.Door.state c.args.door.now) c.args.keys.now c.args.names.now c.args.queue.now.items
+    (g.A.Door.state c.accept.new.self) c.split-their_keys.new.pass c.split-their_names.new.pass c.begin-begun.result
+    (c.in_ok-input.ensures.some ∙ ap (λ (s : Start _ _ _ _). with_accepted (g.A.Door.state c.args.door.now) (s.input, s.out)) (sym c.begin-begun.ensures))
+    c.split-their_keys.ensures.same c.split-their_names.ensures.same
+    (subst (λ (s : Start _ _ _ _). Splits c.args.keys.now s.keys) (sym c.begin-begun.ensures) c.split-their_keys.ensures.new)
+    (subst (λ (s : Start _ _ _ _). Splits c.args.names.now s.names) (sym c.begin-begun.ensures) c.split-their_names.ensures.new)
+    door0 keys0 names0 going)

@@ -1,0 +1,235 @@
+//! Serving connections beside the workers, with a door and passes that the caller lends.
+ghost use Rattle.std.specs.Prelude.{◌≡◌, ◌+◌, []};
+ghost use Rattle.std.specs.Thread.{IsSend, IsSync};
+ghost use Rattle.hk_base.specs.Faults.{Rose};
+ghost use Rattle.cell_server.specs.Connections.{Connections, Going, HasOut, ServesEnds};
+
+use crate::clerk::Clerk;
+use crate::ends::ServeEnd;
+use crate::outlets::{Outlets, open_channels};
+use crate::rows::{MOST, Queue, accept_all, drain};
+use crate::workers::Crew;
+use cell_desk::Notices;
+use hist_cell::Naming;
+use hk_base::{Clock, Disk, Gate, Words};
+use hk_shared::Shared;
+use kms_cell::KmsPass;
+use name_cell::NamePass;
+use server_parts::Door;
+use std::alloc::{AllocError, Global};
+use std::collections::VecDeque;
+use std::sync::Wait;
+use std::thread;
+use std::thread::{Scope, Threads};
+
+// No more connections were left than accepted.
+fn no_more_left<A: Door>(_door: &A)
+    ensures { HasOut (A.state _door.now) 0 }
+{}
+
+/// Accepts `conns` connections, and serves each in a thread of its own, at most 16 at a time. Each is
+/// left at the door once it has ended, in the order in which they came, and its passes are then met
+/// into those of the caller. If the door fails or allocation fails, no more are accepted.
+fn serve_connections<
+    's,
+    E,
+    R: Threads + Wait + Sync + 's,
+    D: Disk + Send + 's,
+    W: Words + Send + 's,
+    C: Clock + Send + 's,
+    M: Naming + Send + Sync + 's,
+    N: Naming + Send + Sync + 's,
+    G: Gate + Sync + 's,
+    H: Notices + Sync + 's,
+    A: Door,
+>(
+    clerk: &'s Clerk<'s, R, D, W, C, M, N, G, H>,
+    scope: &Scope<'s, E>,
+    door: &mut A,
+    keys: &mut KmsPass<D, W, C, M>,
+    names: &mut NamePass<D, N>,
+    conns: u32,
+) -> ServeEnd
+where
+    A::In: 's,
+    A::Out: 's,
+    ensures going { Going (ServesEnds A.In.left A.In.faults A.Out.written A.Out.faults)
+        (A.state door.old) keys.old names.old (A.state door.new) keys.new names.new [] }
+    ensures accepted { result ≡ ServeEnd.Served → (A.state door.new).accepted ≡ (A.state door.old).accepted + conns }
+    ensures cause { result ≡ ServeEnd.DoorFault → Rose (A.faults door.old) (A.faults door.new) }
+{
+    no_more_left(door);
+    let opened: Result<Queue<A, D, W, C, M, N>, AllocError> = VecDeque::with_capacity(
+        clerk.alloc,
+        MOST,
+    );
+    let Ok(mut queue) = opened else {
+        return ServeEnd::NoMemory;
+    };
+    let accepted = accept_all(clerk, scope, door, keys, names, &mut queue, conns);
+    drain(clerk, door, keys, names, &mut queue);
+    queue.destroy_empty();
+    match accepted {
+        Ok(()) => ServeEnd::Served,
+        Err(_) => ServeEnd::DoorFault,
+    }
+}
+
+/// Serves connections beside the workers. Once all were left the channels to the workers are closed,
+/// and what the workers' passes know is met.
+fn serve_beside<
+    's,
+    E,
+    R: Threads + Wait + Sync + 's,
+    D: Disk + Send + 's,
+    W: Words + Send + 's,
+    C: Clock + Send + 's,
+    M: Naming + Send + Sync + 's,
+    N: Naming + Send + Sync + 's,
+    G: Gate + Sync + 's,
+    A: Door,
+    V: Words + Send + Drop + 's,
+>(
+    clerk: &'s Clerk<'s, R, D, W, C, M, N, G, Outlets<D, W, C, M>>,
+    crew: &'s Crew<'s, R, D, W, C, M, N, G>,
+    scope: &Scope<'s, E>,
+    door: &mut A,
+    keys: &mut KmsPass<D, W, C, M>,
+    names: &mut NamePass<D, N>,
+    conns: u32,
+    first: V,
+    second: V,
+) -> ServeEnd
+where
+    A::In: 's,
+    A::Out: 's,
+    ensures connections { Connections (ServesEnds A.In.left A.In.faults A.Out.written A.Out.faults)
+        (A.state door.old) keys.old names.old (A.state door.new) keys.new names.new }
+    ensures accepted { result ≡ ServeEnd.Served → (A.state door.new).accepted ≡ (A.state door.old).accepted + conns }
+    ensures cause { result ≡ ServeEnd.DoorFault → Rose (A.faults door.old) (A.faults door.new) }
+{
+    let their_keys = clerk.shared.keys.split(clerk.rt, keys);
+    let their_names = clerk.shared.names.split(clerk.rt, names);
+    let begun = scope.spawn(
+        move || -> (KmsPass<D, W, C, M>, NamePass<D, N>)
+            requires { IsSync R.row × IsSend D.row × IsSend W.row × IsSend C.row × IsSend M.row × IsSync M.row × IsSend N.row × IsSync N.row × IsSync G.row × IsSend V.row }
+        { crew.run(their_keys, their_names, first, second) },
+    );
+    let end = serve_connections(clerk, scope, door, keys, names, conns);
+    clerk.notices.close(clerk.rt);
+    // Where no thread could be made, the workers run here.
+    let (their_keys, their_names) = match begun {
+        Ok(thread) => thread.join(clerk.rt),
+        Err(refused) => (refused.value)(),
+    };
+    clerk.meet(keys, names, their_keys, their_names);
+    end
+}
+
+// What is lent ends here, so that the caller's clauses know how.
+fn end_of<A, K, N>(_door: &mut A, _keys: &mut K, _names: &mut N, end: ServeEnd) -> ServeEnd
+    ensures result { result ≡ end }
+    ensures same { (_door.new ≡ _door.old) × (_keys.new ≡ _keys.old) × (_names.new ≡ _names.old) }
+{
+    end
+}
+
+/// Accepts `conns` connections, and serves each in a thread of its own, at most 16 at a time. Each is
+/// left at the door once it has ended, in the order in which they came. Beside them run two fillers,
+/// which draw from `first` and `second`, two batch workers and an updater. All passes that were given
+/// out are met in the end. If the door fails or allocation fails, no more are accepted.
+pub fn serve_with_workers<
+    R: Threads + Wait + Sync,
+    D: Disk + Send,
+    W: Words + Send,
+    C: Clock + Send,
+    M: Naming + Send + Sync,
+    N: Naming + Send + Sync,
+    G: Gate + Sync,
+    A: Door,
+    V: Words + Send + Drop,
+>(
+    rt: &R,
+    alloc: Global,
+    shared: &Shared<D, W, C, M, N>,
+    keys: &mut KmsPass<D, W, C, M>,
+    names: &mut NamePass<D, N>,
+    door: &mut A,
+    conns: u32,
+    first: V,
+    second: V,
+    gate: &G,
+) -> ServeEnd
+    ensures connections { Connections (ServesEnds A.In.left A.In.faults A.Out.written A.Out.faults)
+        (A.state door.old) keys.old names.old (A.state door.new) keys.new names.new }
+    ensures accepted { result ≡ ServeEnd.Served → (A.state door.new).accepted ≡ (A.state door.old).accepted + conns }
+    ensures cause { result ≡ ServeEnd.DoorFault → Rose (A.faults door.old) (A.faults door.new) }
+{
+    let Ok((outlets, inlets)) = open_channels(alloc) else {
+        return ServeEnd::NoMemory;
+    };
+    let clerk = Clerk {
+        rt,
+        alloc,
+        shared,
+        gate,
+        notices: &outlets,
+    };
+    let crew = Crew {
+        rt,
+        alloc,
+        shared,
+        gate,
+        outlets: &outlets,
+        inlets: &inlets,
+    };
+    serve_in_scope(&clerk, &crew, door, keys, names, conns, first, second)
+}
+
+fn serve_in_scope<
+    R: Threads + Wait + Sync,
+    D: Disk + Send,
+    W: Words + Send,
+    C: Clock + Send,
+    M: Naming + Send + Sync,
+    N: Naming + Send + Sync,
+    G: Gate + Sync,
+    A: Door,
+    V: Words + Send + Drop,
+>(
+    clerk: &Clerk<'_, R, D, W, C, M, N, G, Outlets<D, W, C, M>>,
+    crew: &Crew<'_, R, D, W, C, M, N, G>,
+    door: &mut A,
+    keys: &mut KmsPass<D, W, C, M>,
+    names: &mut NamePass<D, N>,
+    conns: u32,
+    first: V,
+    second: V,
+) -> ServeEnd
+    ensures connections { Connections (ServesEnds A.In.left A.In.faults A.Out.written A.Out.faults)
+        (A.state door.old) keys.old names.old (A.state door.new) keys.new names.new }
+    ensures accepted { result ≡ ServeEnd.Served → (A.state door.new).accepted ≡ (A.state door.old).accepted + conns }
+    ensures cause { result ≡ ServeEnd.DoorFault → Rose (A.faults door.old) (A.faults door.new) }
+{
+    let served = thread::scope(
+        thread::scope_env(),
+        clerk.rt,
+        move |scope| -> (
+            &mut A,
+            &mut KmsPass<D, W, C, M>,
+            &mut NamePass<D, N>,
+            ServeEnd,
+        )
+            ensures { (result.0.ghost_name ≡ door.entry.ghost_name) × (result.1.ghost_name ≡ keys.entry.ghost_name) × (result.2.ghost_name ≡ names.entry.ghost_name)
+                × Connections (ServesEnds A.In.left A.In.faults A.Out.written A.Out.faults)
+                (A.state door.entry.now) keys.entry.now names.entry.now (A.state result.0.now) result.1.now result.2.now
+                × (result.3 ≡ ServeEnd.Served → (A.state result.0.now).accepted ≡ (A.state door.entry.now).accepted + conns)
+                × (result.3 ≡ ServeEnd.DoorFault → Rose (A.faults door.entry.now) (A.faults result.0.now)) }
+        {
+            let end = serve_beside(clerk, crew, scope, door, keys, names, conns, first, second);
+            (door, keys, names, end)
+        },
+    );
+    let (door, keys, names, end) = served;
+    end_of(door, keys, names, end)
+}

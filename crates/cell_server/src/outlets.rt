@@ -1,0 +1,127 @@
+//! What connections and workers tell the workers.
+use cell_desk::Notices;
+use crossbeam_channel::{Receiver, SendError, Sender, unbounded};
+use hist_cell::Naming;
+use hk_base::{Clock, Disk, NoMemory, Words};
+use kms_cell::KmsPass;
+use name_calls::NPath;
+use reenc_update::BatchReply;
+use std::alloc::Global;
+use std::sync::{Mutex, Wait};
+
+/// How many threads fill queues.
+const FILLERS: usize = 2;
+
+/// The sending end of a channel. Threads share it, and any of them can close the channel.
+#[derive(Drop)]
+pub struct Outlet<T: Drop> {
+    sender: Mutex<Option<Sender<T>>>,
+}
+
+impl<T: Drop> Outlet<T> {
+    /// Opens a channel that holds any number of messages.
+    pub fn open(alloc: Global) -> Result<(Outlet<T>, Receiver<T>), NoMemory> {
+        let (sender, receiver) = unbounded(alloc)?;
+        let outlet = Outlet {
+            sender: Mutex::new(Some(sender)),
+        };
+        Ok((outlet, receiver))
+    }
+
+    /// Sends a message. Returns the message if the channel is closed or allocation fails.
+    pub fn send<R: Wait>(&self, rt: &R, message: T) -> Result<(), T> {
+        let sender = self.sender.lock(rt);
+        match sender.as_ref() {
+            None => Err(message),
+            Some(sender) => match sender.send(rt, message) {
+                Ok(()) => Ok(()),
+                Err(SendError::Disconnected(message)) => Err(message),
+                Err(SendError::OutOfMemory(message)) => Err(message),
+            },
+        }
+    }
+
+    /// Returns whether the channel is open and fewer than `count` messages wait in it.
+    pub fn has_fewer<R: Wait>(&self, rt: &R, count: usize) -> bool {
+        match self.sender.lock(rt).as_ref() {
+            None => false,
+            Some(sender) => sender.len() < count,
+        }
+    }
+
+    /// Closes the channel. Its receivers still get what was sent.
+    pub fn close<R: Wait>(&self, rt: &R) {
+        let sender = self.sender.lock(rt).take();
+        drop(sender);
+    }
+}
+
+/// What came of a batch of a zone, and a pass that has seen the call for it.
+#[derive(Drop)]
+pub struct Update<D: Disk, W: Words, C: Clock, M: Naming> {
+    pub zone: NPath,
+    pub reply: BatchReply,
+    pub keys: KmsPass<D, W, C, M>,
+}
+
+/// Where connections and workers send what workers shall do.
+#[derive(Drop)]
+pub struct Outlets<D: Disk, W: Words, C: Clock, M: Naming> {
+    /// Some queue may be low.
+    pub low: Outlet<()>,
+    /// The zone at a path is to be walked through.
+    pub tasks: Outlet<NPath>,
+    /// What came of a batch is to be delivered.
+    pub updates: Outlet<Update<D, W, C, M>>,
+}
+
+/// Where workers receive it.
+#[derive(Drop)]
+pub struct Inlets<D: Disk, W: Words, C: Clock, M: Naming> {
+    pub low: Receiver<()>,
+    pub tasks: Receiver<NPath>,
+    pub updates: Receiver<Update<D, W, C, M>>,
+}
+
+/// Opens the channels to the workers.
+pub fn open_channels<D: Disk, W: Words, C: Clock, M: Naming>(
+    alloc: Global,
+) -> Result<(Outlets<D, W, C, M>, Inlets<D, W, C, M>), NoMemory> {
+    let (low, lows) = Outlet::open(alloc)?;
+    let (tasks, zones) = Outlet::open(alloc)?;
+    let (updates, replies) = Outlet::open(alloc)?;
+    let outlets = Outlets {
+        low,
+        tasks,
+        updates,
+    };
+    let inlets = Inlets {
+        low: lows,
+        tasks: zones,
+        updates: replies,
+    };
+    Ok((outlets, inlets))
+}
+
+impl<D: Disk, W: Words, C: Clock, M: Naming> Outlets<D, W, C, M> {
+    /// Closes all channels, so that the workers end.
+    pub fn close<R: Wait>(&self, rt: &R) {
+        self.low.close(rt);
+        self.tasks.close(rt);
+        self.updates.close(rt);
+    }
+}
+
+impl<D: Disk, W: Words, C: Clock, M: Naming> Notices for Outlets<D, W, C, M> {
+    // A wake-up that waits already stands for later ones too.
+    fn low<R: Wait>(&self, rt: &R) {
+        if self.low.has_fewer(rt, FILLERS) {
+            let _ = self.low.send(rt, ());
+        }
+    }
+
+    // A zone that cannot be sent is left to the last round.
+    fn submitted<R: Wait>(&self, rt: &R, zone: NPath) {
+        let _ = self.tasks.send(rt, zone);
+    }
+}

@@ -1,0 +1,107 @@
+//! A whole server.
+ghost use Rattle.std.specs.Prelude.{◌≡◌};
+ghost use Rattle.hk_base.specs.Faults.{Rose};
+ghost use Rattle.cell_server.specs.Connections.{ServesEnds};
+ghost use Rattle.cell_server.specs.Serves.{ServesAll};
+
+use crate::connections::serve_with_workers;
+use crate::ends::ServeEnd;
+use crate::round::last_round;
+use hist_cell::Naming;
+use hk_base::{Clock, Disk, Gate, Words};
+use hk_shared::Shared;
+use kms_cell::KmsPass;
+use name_cell::NamePass;
+use server_parts::Door;
+use std::alloc::Global;
+use std::sync::Wait;
+use std::thread::Threads;
+
+/// Serves connections at a door that is open, and then makes the last round.
+fn serve_opened<
+    R: Threads + Wait + Sync,
+    D: Disk + Send,
+    W: Words + Send,
+    C: Clock + Send,
+    M: Naming + Send + Sync,
+    N: Naming + Send + Sync,
+    G: Gate + Sync,
+    A: Door,
+    V: Words + Send + Drop,
+>(
+    rt: &R,
+    alloc: Global,
+    shared: &Shared<D, W, C, M, N>,
+    keys: &mut KmsPass<D, W, C, M>,
+    names: &mut NamePass<D, N>,
+    door: &mut A,
+    conns: u32,
+    first: V,
+    second: V,
+    gate: &G,
+) -> ServeEnd
+    ensures serves { ServesAll (ServesEnds A.In.left A.In.faults A.Out.written A.Out.faults) D.state W.to_come
+        (A.state door.old) keys.old names.old conns result (A.state door.new) keys.new names.new }
+    ensures cause { result ≡ ServeEnd.DoorFault → Rose (A.faults door.old) (A.faults door.new) }
+{
+    let end = serve_with_workers(
+        rt, alloc, shared, keys, names, door, conns, first, second, gate,
+    );
+    // The histories that the passes have seen are legal.
+    let _ = keys.count();
+    let _ = names.count();
+    match end {
+        ServeEnd::Served => match last_round(rt, alloc, shared, keys, names, gate) {
+            Ok(()) => ServeEnd::Served,
+            Err(_) => ServeEnd::NoMemory,
+        },
+        ServeEnd::DoorFault => ServeEnd::DoorFault,
+        ServeEnd::NoMemory => ServeEnd::NoMemory,
+    }
+}
+
+/// Serves both services over connections: opens the door on `port`, and accepts `conns` connections.
+/// Each is served in a thread of its own, at most 16 at a time, and left at the door once it has ended,
+/// in the order in which they came. Beside them run two fillers, which draw from `first` and `second`,
+/// two batch workers and an updater. If all connections were served, a last round then finishes the
+/// re-encryptions that the workers left. It may wait for the door, the connections, the gate and the
+/// locks.
+pub fn serve_all<
+    R: Threads + Wait + Sync,
+    D: Disk + Send,
+    W: Words + Send,
+    C: Clock + Send,
+    M: Naming + Send + Sync,
+    N: Naming + Send + Sync,
+    G: Gate + Sync,
+    A: Door,
+    V: Words + Send + Drop,
+>(
+    rt: &R,
+    alloc: Global,
+    shared: &Shared<D, W, C, M, N>,
+    keys: &mut KmsPass<D, W, C, M>,
+    names: &mut NamePass<D, N>,
+    door: &mut A,
+    port: u16,
+    conns: u32,
+    first: V,
+    second: V,
+    gate: &G,
+) -> ServeEnd
+    ensures serves { ServesAll (ServesEnds A.In.left A.In.faults A.Out.written A.Out.faults) D.state W.to_come
+        (A.state door.old) keys.old names.old conns result (A.state door.new) keys.new names.new }
+    ensures cause { result ≡ ServeEnd.DoorFault → Rose (A.faults door.old) (A.faults door.new) }
+{
+    match door.open(port) {
+        Ok(()) => serve_opened(
+            rt, alloc, shared, keys, names, door, conns, first, second, gate,
+        ),
+        Err(_) => {
+            // The histories that the passes have seen are legal.
+            let _ = keys.count();
+            let _ = names.count();
+            ServeEnd::DoorFault
+        }
+    }
+}

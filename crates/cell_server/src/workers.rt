@@ -1,0 +1,240 @@
+//! The workers beside the connections: two fillers, two batch workers and an updater. Each ends once the
+//! channels are closed and what was sent before is done.
+ghost use Rattle.std.specs.Thread.{IsSend, IsSync};
+
+use crate::asks::{going_zones, list_zones};
+use crate::outlets::{Inlets, Outlets, Update};
+use crate::paths::copy_of;
+use crate::walks::batch_of;
+use hist_cell::Naming;
+use hk_base::{Clock, Disk, Gate, NoMemory, Words};
+use hk_shared::Shared;
+use kms_cell::{FillTurn, KmsPass};
+use name_calls::NPath;
+use name_cell::NamePass;
+use std::alloc::Global;
+use std::sync::Wait;
+use std::thread::{Threads, join};
+
+/// What workers share.
+#[derive(Drop)]
+pub struct Crew<'a, R, D: Disk, W: Words, C: Clock, M: Naming, N: Naming, G> {
+    pub rt: &'a R,
+    pub alloc: Global,
+    pub shared: &'a Shared<D, W, C, M, N>,
+    pub gate: &'a G,
+    pub outlets: &'a Outlets<D, W, C, M>,
+    pub inlets: &'a Inlets<D, W, C, M>,
+}
+
+impl<'a, R: Wait, D: Disk, W: Words, C: Clock, M: Naming, N: Naming, G: Gate> Crew<
+    'a,
+    R,
+    D,
+    W,
+    C,
+    M,
+    N,
+    G,
+> {
+    /// Fills queues until none is low.
+    fn fill_all<V: Words>(&self, keys: &mut KmsPass<D, W, C, M>, words: &mut V) {
+        for _ in self.rt.forever() {
+            match self.shared.fill_turn(self.rt, keys, words, self.gate) {
+                FillTurn::NothingLow => return,
+                _ => {}
+            }
+        }
+    }
+
+    /// Fills queues whenever one may be low.
+    fn fill<V: Words + Drop>(&self, keys: KmsPass<D, W, C, M>, words: V) -> KmsPass<D, W, C, M> {
+        let mut keys = keys;
+        let mut words = words;
+        for _ in self.rt.forever() {
+            match self.inlets.low.recv(self.rt) {
+                Ok(()) => self.fill_all(&mut keys, &mut words),
+                Err(_) => return keys,
+            }
+        }
+        unreachable!()
+    }
+
+    /// Delivers what came of a batch, and then sends the path of its zone again. If the delivery is
+    /// refused, it is not tried again, and the batch stays outstanding.
+    fn deliver(&self, names: &mut NamePass<D, N>, update: Update<D, W, C, M>) {
+        let Update { zone, reply, keys } = update;
+        match self
+            .shared
+            .update_turn(self.rt, names, keys, reply, self.gate)
+        {
+            Ok(_) => {
+                let _ = self.outlets.tasks.send(self.rt, zone);
+            }
+            Err(_) => {}
+        }
+    }
+
+    /// Walks through a zone once. If there is a batch, it is served and sent to the updater, or
+    /// delivered here if that fails.
+    fn walk(&self, keys: &mut KmsPass<D, W, C, M>, names: &mut NamePass<D, N>, zone: NPath) {
+        let Ok(path) = copy_of(self.alloc, &zone) else {
+            return;
+        };
+        let gave = self.shared.walk_turn(self.rt, names, path);
+        let Some(batch) = batch_of(gave) else {
+            return;
+        };
+        let reply = self
+            .shared
+            .serve_turn(self.rt, self.alloc, keys, batch, self.gate);
+        let lent = self.shared.keys.split(self.rt, keys);
+        let update = Update {
+            zone,
+            reply,
+            keys: lent,
+        };
+        match self.outlets.updates.send(self.rt, update) {
+            Ok(()) => {}
+            Err(update) => self.deliver(names, update),
+        }
+    }
+
+    /// Walks through the zones that it is sent.
+    fn walk_all(
+        &self,
+        keys: KmsPass<D, W, C, M>,
+        names: NamePass<D, N>,
+    ) -> (KmsPass<D, W, C, M>, NamePass<D, N>) {
+        let mut keys = keys;
+        let mut names = names;
+        for _ in self.rt.forever() {
+            match self.inlets.tasks.recv(self.rt) {
+                Ok(zone) => self.walk(&mut keys, &mut names, zone),
+                Err(_) => return (keys, names),
+            }
+        }
+        unreachable!()
+    }
+
+    /// Delivers what it is sent.
+    fn update_all(&self, names: NamePass<D, N>) -> NamePass<D, N> {
+        let mut names = names;
+        for _ in self.rt.forever() {
+            match self.inlets.updates.recv(self.rt) {
+                Ok(update) => self.deliver(&mut names, update),
+                Err(_) => return names,
+            }
+        }
+        unreachable!()
+    }
+
+    /// Sends the path of each zone that is still being re-encrypted, as far as there is memory.
+    fn send_going(&self, names: &mut NamePass<D, N>) -> Result<(), NoMemory> {
+        let zones = list_zones(self.rt, self.alloc, self.shared, names)?;
+        let going = going_zones(self.rt, self.alloc, self.shared, names, zones.as_slice())?;
+        for zone in going.as_slice() {
+            let path = copy_of(self.alloc, zone)?;
+            let _ = self.outlets.tasks.send(self.rt, path);
+        }
+        Ok(())
+    }
+}
+
+impl<
+    'a,
+    R: Threads + Wait + Sync,
+    D: Disk + Send,
+    W: Words + Send,
+    C: Clock + Send,
+    M: Naming + Send + Sync,
+    N: Naming + Send + Sync,
+    G: Gate + Sync,
+> Crew<'a, R, D, W, C, M, N, G> {
+    /// Two fillers, each with words of its own.
+    fn fillers<V: Words + Send + Drop>(
+        &self,
+        keys: KmsPass<D, W, C, M>,
+        first: V,
+        second: V,
+    ) -> KmsPass<D, W, C, M> {
+        let mut keys = keys;
+        let other = self.shared.keys.split(self.rt, &mut keys);
+        let (keys, other) = join(
+            self.rt,
+            move || self.fill(keys, first),
+            move || self.fill(other, second),
+        );
+        let mut keys = keys;
+        self.shared.keys.meet(self.rt, &mut keys, other);
+        keys
+    }
+
+    /// Two batch workers.
+    fn batch_workers(
+        &self,
+        keys: KmsPass<D, W, C, M>,
+        names: NamePass<D, N>,
+    ) -> (KmsPass<D, W, C, M>, NamePass<D, N>) {
+        let mut keys = keys;
+        let mut names = names;
+        let other_keys = self.shared.keys.split(self.rt, &mut keys);
+        let other_names = self.shared.names.split(self.rt, &mut names);
+        let (one, other) = join(
+            self.rt,
+            move || self.walk_all(keys, names),
+            move || self.walk_all(other_keys, other_names),
+        );
+        let (mut keys, mut names) = one;
+        self.shared.keys.meet(self.rt, &mut keys, other.0);
+        self.shared.names.meet(self.rt, &mut names, other.1);
+        (keys, names)
+    }
+
+    /// The updater and the batch workers.
+    fn reencrypt(
+        &self,
+        keys: KmsPass<D, W, C, M>,
+        names: NamePass<D, N>,
+    ) -> (KmsPass<D, W, C, M>, NamePass<D, N>) {
+        let mut names = names;
+        let other = self.shared.names.split(self.rt, &mut names);
+        let (other, passes) = join(
+            self.rt,
+            move || self.update_all(other),
+            move || -> (KmsPass<D, W, C, M>, NamePass<D, N>)
+                requires { IsSync R.row × IsSend D.row × IsSend W.row × IsSend C.row × IsSend M.row × IsSync M.row × IsSend N.row × IsSync N.row × IsSync G.row }
+            { self.batch_workers(keys, names) },
+        );
+        let (keys, mut names) = passes;
+        self.shared.names.meet(self.rt, &mut names, other);
+        (keys, names)
+    }
+
+    /// Runs all workers until the channels are closed. First the zones that are still being
+    /// re-encrypted are sent. A worker for which no thread can be made runs after the others.
+    pub fn run<V: Words + Send + Drop>(
+        &self,
+        keys: KmsPass<D, W, C, M>,
+        names: NamePass<D, N>,
+        first: V,
+        second: V,
+    ) -> (KmsPass<D, W, C, M>, NamePass<D, N>) {
+        let mut keys = keys;
+        let mut names = names;
+        let _ = self.send_going(&mut names);
+        let other = self.shared.keys.split(self.rt, &mut keys);
+        let (other, passes) = join(
+            self.rt,
+            move || -> KmsPass<D, W, C, M>
+                requires { IsSync R.row × IsSend D.row × IsSend W.row × IsSend C.row × IsSend M.row × IsSync M.row × IsSend N.row × IsSync N.row × IsSync G.row × IsSend V.row }
+            { self.fillers(other, first, second) },
+            move || -> (KmsPass<D, W, C, M>, NamePass<D, N>)
+                requires { IsSync R.row × IsSend D.row × IsSend W.row × IsSend C.row × IsSend M.row × IsSync M.row × IsSend N.row × IsSync N.row × IsSync G.row }
+            { self.reencrypt(keys, names) },
+        );
+        let (mut keys, names) = passes;
+        self.shared.keys.meet(self.rt, &mut keys, other);
+        (keys, names)
+    }
+}
