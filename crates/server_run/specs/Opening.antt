@@ -1,0 +1,83 @@
+-- Opening both logs, each on the disk that a yard gives for it.
+use Rattle.std.specs.Prelude.{◌≡◌, ◌≤◌, ◌⊎◌, ℕ, ⊤, IsTrue, List}
+use Rattle.hk_base.specs.Disk.{DiskState}
+use Rattle.hk_base.specs.Faults.{Rose}
+use Rattle.frame_log.specs.declared.fault.StartFault.{StartFault}
+use Rattle.frame_log.specs.declared.fault.StartFault.TheVariants as start
+use Rattle.kms_store.specs.Store as keys
+use Rattle.name_store.specs.Store as names
+use Rattle.kms_core.specs.Service.{Starts as KeysStart}
+use Rattle.kms_core.specs.State.{no_queues}
+use Rattle.kms_core.specs.Users.{RunningKms, running}
+use Rattle.name_core.specs.Service.{Starts as NamesStart}
+use Rattle.name_core.specs.State.{RunningNames}
+use Rattle.server_parts.specs.Yards.{Taken, YardState}
+use Rattle.prop_text.specs.declared.props.Props.{Props}
+use Rattle.prop_text.specs.SizeValues.{SizeValues}
+use Rattle.kms_acls.specs.Agreement.{AreListsOf}
+use Rattle.kms_acls.specs.Lists.{Lists}
+use Rattle.server_run.specs.declared.opening.OpenFault.{OpenFault}
+use Rattle.server_run.specs.declared.opening.OpenFault.TheVariants as open_fault
+use Rattle.kms_cell.specs.Views.{KmsView}
+use Rattle.name_cell.specs.Views.{NameView}
+
+-- The disk of the key log was taken, and the service was started on it.
+pub record KeysOpened {D : Type 0} (state : D → DiskState) (old new : YardState) (disk : D) (kms : RunningKms) : Type 0 where
+  pub first : D
+  pub taken : Taken 0 old new (state first)
+  pub tells : (state disk).tells ≡ (state first).tells
+  pub starts : KeysStart (state first) (state disk) (running kms)
+
+-- The disk of the edit log was taken, and the namesystem was started on it. Its batches have at most this number of files.
+pub record NamesOpened {D : Type 0} (state : D → DiskState) (batch : ℕ) (old new : YardState) (disk : D) (names : RunningNames) : Type 0 where
+  pub first : D
+  pub taken : Taken 1 old new (state first)
+  pub tells : (state disk).tells ≡ (state first).tells
+  pub starts : NamesStart batch (state first) (state disk) names
+
+-- Why a log wasn't opened. `damaged` and `spent` say when the bytes of its file are.
+abbrev pub HasCause : (damaged : ℕ → Type 0) → (spent : Type 0) → YardState → YardState → StartFault → Type 0
+HasCause damaged spent old new (start.Damaged at) = IsTrue old.tells → damaged at
+HasCause damaged spent old new start.Spent = IsTrue old.tells → spent
+HasCause damaged spent old new start.StoreFault = Rose old.faults new.faults
+HasCause damaged spent old new start.NoMemory = ⊤
+
+-- A log wasn't opened, and its disk lies in the yard. The other disk is where it was.
+pub record NotOpened (file other : ℕ) (damaged : List ℕ → ℕ → Type 0) (spent : List ℕ → Type 0) (old new : YardState) (fault : StartFault) : Type 0 where
+  pub back : IsTrue (new.lies file)
+  pub other_lies : new.lies other ≡ old.lies other
+  pub later : old.faults ≤ new.faults
+  pub cause : HasCause (damaged (old.reads file)) (spent (old.reads file)) old new fault
+
+abbrev pub KeysNotOpened : YardState → YardState → StartFault → Type 0
+KeysNotOpened = NotOpened 0 1 keys.IsDamagedAt keys.SpentKeys
+
+abbrev pub NamesNotOpened : YardState → YardState → StartFault → Type 0
+NamesNotOpened = NotOpened 1 0 names.IsDamagedAt names.SpentNames
+
+-- Neither log is open, and both disks lie in the yard. The log of this file couldn't be opened.
+pub record NoneOpened (old new : YardState) (file : ℕ) (fault : StartFault) : Type 0 where
+  pub keys_back : IsTrue (new.lies 0)
+  pub names_back : IsTrue (new.lies 1)
+  pub later : old.faults ≤ new.faults
+  pub cause : ((file ≡ 0) × HasCause (keys.IsDamagedAt (old.reads 0)) (keys.SpentKeys (old.reads 0)) old new fault)
+      ⊎ ((file ≡ 1) × HasCause (names.IsDamagedAt (old.reads 1)) (names.SpentNames (old.reads 1)) old new fault)
+
+-- Why the services weren't opened. For want of memory the disks may be gone with the services.
+abbrev pub LogFails : YardState → YardState → OpenFault → Type 0
+LogFails old new (open_fault.Log file fault) = NoneOpened old new file fault
+LogFails old new open_fault.NoMemory = old.faults ≤ new.faults
+
+-- Both services were started, each on its own disk, with these lists and sizes.
+pub record LogsOpened {D : Type 0} (state : D → DiskState) (lists : Lists) (sizes : SizeValues) (old new : YardState) (keys_disk : D) (kms : RunningKms) (names_disk : D) (names : RunningNames) : Type 0 where
+  pub mid : YardState
+  pub keys_opened : KeysOpened state old mid keys_disk kms
+  pub lists_are : kms.acls ≡ lists
+  pub queues : kms.ready ≡ no_queues sizes
+  pub names_opened : NamesOpened state sizes.batch mid new names_disk names
+
+-- The same, with the lists and the sizes of properties. The key management service draws from these words.
+pub record BothOpened {D W : Type 0} (state : D → DiskState) (props : Props) (old new : YardState) (words : W) (k : KmsView D W) (n : NameView D) : Type 0 where
+  pub lists : AreListsOf k.kms.acls props.lines
+  pub logs : LogsOpened state k.kms.acls props.sizes old new k.disk k.kms n.disk n.names
+  pub words_are : k.words ≡ words

@@ -1,0 +1,148 @@
+//! A run of the server.
+ghost use Rattle.std.specs.Prelude.{◌≡◌, ◌⊎◌, IsTrue};
+ghost use Rattle.hk_base.specs.Faults.{Rose};
+ghost use Rattle.kms_cell.specs.Views.{KmsView, RunsOn};
+ghost use Rattle.name_cell.specs.Views.{NameView, NamesRunOn};
+ghost use Rattle.cell_server.specs.Connections.{ServesEnds};
+ghost use Rattle.server_run.specs.Opening.{BothOpened};
+ghost use Rattle.server_run.specs.Runs.{EndsAs, RanInCells, end_of};
+
+use crate::opening::{KEYS, NAMES, OpenFault, open_services};
+use cell_server::{ServeEnd, serve_all};
+use frame_log::StartFault;
+use hist_cell::Naming;
+use hk_base::{Clock, Disk, Gate, Point, Words};
+use hk_shared::{Closed, Opening};
+use prop_text::Props;
+use server_parts::{Door, Yard};
+use std::alloc::Global;
+use std::marker::Brand;
+use std::sync::Wait;
+use std::thread::Threads;
+
+/// How a run of the server ended.
+#[derive(Clone, Copy, Debug, PartialEq, Eq)]
+pub enum RunEnd {
+    /// All connections were served.
+    Served,
+    /// The door failed.
+    DoorFault,
+    /// Allocation failed.
+    NoMemory,
+    /// The log on this file could not be opened.
+    NotOpened { file: u8, fault: StartFault },
+}
+
+/// What a server serves with: the port, the number of connections after which it ends, and the random
+/// words of its two fillers.
+#[derive(Drop)]
+pub struct ServerPlan<V: Words + Drop> {
+    pub port: u16,
+    pub conns: u32,
+    pub first: V,
+    pub second: V,
+}
+
+/// A gate that never waits.
+#[derive(Clone, Copy, Drop)]
+struct OpenGate;
+
+impl Gate for OpenGate {
+    fn pass<R: Wait>(&self, _rt: &R, _point: Point) {}
+}
+
+/// Names both cells, serves with them, and closes them.
+fn serve_named<
+    M: Naming + Send + Sync,
+    N: Naming + Send + Sync,
+    R: Threads + Wait + Sync,
+    D: Disk + Send + Drop,
+    W: Words + Send + Drop,
+    C: Clock + Send + Drop,
+    V: Words + Send + Drop,
+    A: Door,
+>(
+    rt: &R,
+    alloc: Global,
+    opening: Opening<D, W, C>,
+    door: &mut A,
+    plan: ServerPlan<V>,
+) -> (Closed<D>, ServeEnd)
+    requires keys { opening.keys.table ≡ M.table }
+    requires names { opening.names.table ≡ N.table }
+    ensures ran { (last_k : KmsView D W) × (last_n : NameView D)
+        × RanInCells D.state W.to_come (ServesEnds A.In.left A.In.faults A.Out.written A.Out.faults) plan.conns (A.state door.old) (A.state door.new) result.1
+        opening.keys.core opening.names.core last_k last_n
+        × (result.0.keys_disk ≡ last_k.disk) × (result.0.names_disk ≡ last_n.disk) × RunsOn (D.state last_k.disk) last_k.kms × NamesRunOn (D.state last_n.disk) last_n.names }
+    ensures cause { result.1 ≡ ServeEnd.DoorFault → Rose (A.faults door.old) (A.faults door.new) }
+{
+    let (shared, mut keys, mut names) = opening.named::<M, N>();
+    let ServerPlan {
+        port,
+        conns,
+        first,
+        second,
+    } = plan;
+    let end = serve_all(
+        rt, alloc, &shared, &mut keys, &mut names, door, port, conns, first, second, &OpenGate,
+    );
+    (shared.close(keys, names), end)
+}
+
+/// How the run ends if the serving ended so.
+fn run_end(end: ServeEnd) -> RunEnd
+    ensures { result ≡ end_of end }
+{
+    match end {
+        ServeEnd::Served => RunEnd::Served,
+        ServeEnd::DoorFault => RunEnd::DoorFault,
+        ServeEnd::NoMemory => RunEnd::NoMemory,
+    }
+}
+
+/// Opens the key log and then the edit log, each on the disk that the yard gives for it, under
+/// properties that were read. It serves as many connections as the plan says, by `serve_all`, and then
+/// gives both disks back. The key management service draws from `words`, and its calls happen at the
+/// times that the clock shows. It may wait, for connections and for threads.
+///
+/// - `NotOpened` if a log can't be opened; both disks then lie in the yard, and no connection was
+///   accepted.
+/// - `DoorFault` only if the door's count of faults rose.
+/// - `NoMemory` if allocation fails, in the server or before. If it fails while the cells are made, the
+///   disks are dropped with their services, and are not given back.
+pub fn run_server<
+    R: Threads + Wait + Sync,
+    Y: Yard,
+    W: Words + Send + Drop,
+    C: Clock + Send + Drop,
+    V: Words + Send + Drop,
+    A: Door,
+>(
+    rt: &R,
+    alloc: Global,
+    props: &Props,
+    yard: &mut Y,
+    words: W,
+    clock: C,
+    door: &mut A,
+    plan: ServerPlan<V>,
+) -> RunEnd
+    requires keys { IsTrue ((Y.state yard.old).lies 0) }
+    requires names { IsTrue ((Y.state yard.old).lies 1) }
+    ensures ends { EndsAs Y.Own.state W.to_come (ServesEnds A.In.left A.In.faults A.Out.written A.Out.faults) props.now words plan.conns
+        (Y.state yard.old) (Y.state yard.new) (A.state door.old) (A.state door.new) result }
+    ensures door_fault { result ≡ RunEnd.DoorFault → Rose (A.faults door.old) (A.faults door.new) }
+{
+    let opening = match open_services(alloc, yard, props, words, clock) {
+        Ok(opening) => opening,
+        Err(OpenFault::Log { file, fault }) => return RunEnd::NotOpened { file, fault },
+        Err(OpenFault::NoMemory) => return RunEnd::NoMemory,
+    };
+    let (closed, end) = serve_named::<Brand, Brand, R, Y::Own, W, C, V, A>(
+        rt, alloc, opening, door, plan,
+    );
+    let (keys, names) = closed.into_disks();
+    yard.give(KEYS, keys);
+    yard.give(NAMES, names);
+    run_end(end)
+}
