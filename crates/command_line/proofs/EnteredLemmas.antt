@@ -1,13 +1,16 @@
--- If no mistake is found, a command is entered.
-use Rattle.std.proofs.Common.{refl, List, [], ◌∷◌, ◌≡◌, Bool, true, false, ◌&&◌, IsSome, Some, None, cond}
-use Rattle.std.specs.Prelude.{Option, find, is_some, not, option_map}
+-- If clap finds no mistake, a command is entered: it has an order, or a number in its options is the fault.
+use Rattle.std.proofs.Common.{refl, codes, List, [], ◌∷◌, ◌≡◌, ℕ, Bool, true, false, ◌&&◌, Some, None, cond, ap, ◌∙◌}
+use Rattle.std.specs.Prelude.{Option, find, if◌then◌else◌, is_some, not, option_map}
+use Rattle.std.specs.Str.{bytes_eq}
 use Rattle.clap.specs.Kinds.{Kinds, check_kinds, or_else}
 use Rattle.clap.specs.Faults.{defaults_fault, entered_fault, settle_fault, walk_fault}
 use Rattle.clap.specs.Simple.{App, Shape, argument_words, built, entered, label_of, names_of, rows_at}
-use Rattle.clap.specs.Walk.{answers_to, nothing_held, settled, walk, walk_from}
+use Rattle.clap.specs.Walk.{Row, answers_to, nothing_held, settled, walk, walk_from}
 use Rattle.clap.specs.Words.{Text, fault_of, subcommand_of}
+use Rattle.clap.specs.declared.error.ErrorKind.TheVariants.{ValueValidation}
 use Rattle.command_line.specs.Line as line
-use Rattle.command_line.specs.Orders.{order_at, order_named}
+use Rattle.command_line.specs.Orders.{conns_at, line_fault, number_fault, numbers_fault, order_at, port_at, serve_order}
+use Rattle.command_line.specs.declared.order.Order.{Order}
 
 second : (a b : Kinds) → or_else a b ≡ [] → b ≡ []
 second [] b e = e
@@ -30,32 +33,65 @@ named a words required e =
     let checks = second (defaults_fault (settled b.top.rules end.held).rows b.top.rules) _ defaults in
     wanted (is_some (entered b end.stopped)) _ b.top.subcommand_required _ required checks
 
--- each command has an order
-abbrev EachHasAnOrder : List Shape → Type 0
-EachHasAnOrder [] = Unit {0}
-EachHasAnOrder (s ∷ rest) = IsSome (order_named s.name) × EachHasAnOrder rest
+-- a command without an order has a fault in its numbers
+abbrev HasFaultOrOrder : Option (Text × List Row) → Type 0
+HasFaultOrOrder entered = order_at entered ≡ None → numbers_fault entered ≡ ValueValidation ∷ []
 
-of_found : (test : Shape → Bool) (commands : List Shape) (words : List Text) → EachHasAnOrder commands → is_some (find test commands) ≡ true
-    → IsSome (order_at (option_map (λ s. rows_at s words) (find test commands)))
+-- each command is known
+abbrev EachIsKnown : List Shape → Type 0
+EachIsKnown [] = Unit {0}
+EachIsKnown (s ∷ rest) = ((rows : List Row) → HasFaultOrOrder (Some (s.name, rows))) × EachIsKnown rest
+
+of_found : (test : Shape → Bool) (commands : List Shape) (words : List Text) → EachIsKnown commands → is_some (find test commands) ≡ true
+    → HasFaultOrOrder (option_map (λ s. rows_at s words) (find test commands))
 of_found test [] words h e = cc
 of_found test (s ∷ rest) words h e = by (of_found test rest words h.1) (test s) e
   where
-    by : (is_some (find test rest) ≡ true → IsSome (order_at (option_map (λ s. rows_at s words) (find test rest)))) → (b : Bool) → is_some (cond b (Some s) (find test rest)) ≡ true
-        → IsSome (order_at (option_map (λ s. rows_at s words) (cond b (Some s) (find test rest))))
-    by later true e = h.0
+    by : (is_some (find test rest) ≡ true → HasFaultOrOrder (option_map (λ s. rows_at s words) (find test rest))) → (b : Bool) → is_some (cond b (Some s) (find test rest)) ≡ true
+        → HasFaultOrOrder (option_map (λ s. rows_at s words) (cond b (Some s) (find test rest)))
+    by later true e = h.0 (rows_at s words).1
     by later false e = later e
 
 mapped : (o : Option Shape) (words : List Text) → is_some (option_map (λ s. rows_at s words) o) ≡ true → is_some o ≡ true
 mapped None words e = e
 mapped (Some s) words e = refl
 
-of_entered : (a : App) (stop : Option (Text × List Text)) → EachHasAnOrder a.subs → is_some (entered a stop) ≡ true → IsSome (order_at (entered a stop))
+of_entered : (a : App) (stop : Option (Text × List Text)) → EachIsKnown a.subs → is_some (entered a stop) ≡ true → HasFaultOrOrder (entered a stop)
 of_entered a None h e = cc
 of_entered a (Some p) h e =
     of_found (λ s. answers_to p.0 (label_of s)) a.subs p.1 h (mapped (find (λ s. answers_to p.0 (label_of s)) a.subs) p.1 e)
 
-of_named : (a : App) (words : List Text) → EachHasAnOrder (built a).subs → is_some (subcommand_of a words) ≡ true → IsSome (order_at (subcommand_of a words))
+of_named : (a : App) (words : List Text) → EachIsKnown (built a).subs → is_some (subcommand_of a words) ≡ true → HasFaultOrOrder (subcommand_of a words)
 of_named a words h e = of_entered (built a) (walk (built a).top.rules (names_of (built a)) nothing_held (argument_words a words)).stopped h e
 
-pub an_order_is_entered : (words : List Text) → fault_of line.hkms words ≡ [] → IsSome (order_at (subcommand_of line.hkms words))
-an_order_is_entered words e = of_named line.hkms words (refl, (refl, tt)) (named line.hkms words refl e)
+not_served : (port conns : Option ℕ) → serve_order port conns ≡ None → or_else (number_fault port) (number_fault conns) ≡ ValueValidation ∷ []
+not_served (Some port) (Some conns) e = cc
+not_served (Some port) None e = refl
+not_served None conns e = refl
+
+known : EachIsKnown (built line.hkms).subs
+known = ((λ rows e. cc), ((λ rows e. cc), ((λ rows e. not_served _ _ e), tt)))
+
+-- words in which clap finds no fault, and which have no order, have a number that is refused
+pub a_number_is_refused : (words : List Text) → fault_of line.hkms words ≡ [] → order_at (subcommand_of line.hkms words) ≡ None → line_fault words ≡ ValueValidation ∷ []
+a_number_is_refused words e none =
+    ap (λ (kinds : Kinds). or_else kinds (numbers_fault (subcommand_of line.hkms words))) e ∙ of_named line.hkms words known (named line.hkms words refl e) none
+
+served : (port conns : Option ℕ) (order : Order) → serve_order port conns ≡ Some order → or_else (number_fault port) (number_fault conns) ≡ []
+served (Some port) (Some conns) order e = refl
+served (Some port) None order e = cc
+served None conns order e = cc
+
+numbers_pass : (entered : Option (Text × List Row)) (order : Order) → order_at entered ≡ Some order → numbers_fault entered ≡ []
+numbers_pass None order e = refl
+numbers_pass (Some command) order e = by (bytes_eq command.0 (codes "serve")) _ e
+  where
+    by : (b : Bool) (other : Option Order) → (if b then serve_order (port_at command.1) (conns_at command.1) else other) ≡ Some order
+        → (if b then or_else (number_fault (port_at command.1)) (number_fault (conns_at command.1)) else []) ≡ []
+    by true other e = served (port_at command.1) (conns_at command.1) order e
+    by false other e = refl
+
+-- words in which clap finds no fault, and which have an order, have no fault
+pub no_number_is_refused : (words : List Text) (order : Order) → fault_of line.hkms words ≡ [] → order_at (subcommand_of line.hkms words) ≡ Some order → line_fault words ≡ []
+no_number_is_refused words order e is =
+    ap (λ (kinds : Kinds). or_else kinds (numbers_fault (subcommand_of line.hkms words))) e ∙ numbers_pass (subcommand_of line.hkms words) order is

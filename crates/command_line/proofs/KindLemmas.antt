@@ -8,7 +8,7 @@ use Rattle.clap.specs.Facts.{parser_of_value, unwrap_or_range}
 use Rattle.clap.specs.ValueTests.{accepts}
 use Rattle.clap.specs.Values.{refused_kind}
 use Rattle.clap.specs.Walk.{Held, Names, Row, Rule, Step, Text, Waiting, Walk, action_of, answers_to, arg_by_id, arg_by_index, arg_by_long, arg_by_short, attached_value, has_row, is_pending, most_values, nothing_held, reacted, settled, subcommand_met, takes_several, takes_values, value, values_or_missing, walk, walk_from, walked, with_default, word_met, idle, option, positional, next, trailing, subcommand}
-use Rattle.clap.specs.Simple.{App, Shape, argument_words, built, entered, label_of, names_of}
+use Rattle.clap.specs.Simple.{App, Shape, argument_words, built, entered, label_of, names_of, subcommand_of}
 use Rattle.clap.specs.Kinds.{Kinds, IsAmong, check_kinds, or_else, range_kinds, request_kinds, value_kinds, values_kinds}
 use Rattle.clap.specs.Faults.{values_fault, count_fault, repeat_fault, set_fault, action_fault, use_fault, settle_fault, react_fault, option_fault, long_fault, short_fault, bundle_step_fault, flags_fault, bundle_fault, flag_word_fault, other_fault, word_fault, positional_fault, stray_fault, step_fault, turn_fault, walk_fault, given_default_fault, default_fault, defaults_fault, level_fault, entered_fault, fault_of}
 use Rattle.clap.specs.declared.builder.value_parser.ValueParser.{ValueParser}
@@ -17,6 +17,7 @@ use Rattle.clap.specs.declared.builder.ArgAction.TheVariants.{Set, Append, SetTr
 use Rattle.clap.specs.declared.error.ErrorKind.{ErrorKind}
 use Rattle.clap.specs.declared.error.ErrorKind.TheVariants.{DisplayHelp, DisplayVersion}
 use Rattle.command_line.specs.Line as line
+use Rattle.command_line.specs.Orders.{conns_at, line_fault, number_fault, numbers_fault, port_at}
 
 -- none of the kinds is help or version
 abbrev NotShown : Kinds → Type 0
@@ -206,11 +207,24 @@ entered-single a stop =
     (λ p. single-option (λ s. level_fault s [] nothing_held p.1 false []) (find (λ s. answers_to p.0 (label_of s)) a.subs) []
     (λ s. level-single s [] nothing_held p.1 false [] (inr refl) tt) tt) tt
 
-pub fault-single : (a : App) (words : List Text) → (built a).top.disable_help_subcommand ≡ true → IsSingle (fault_of a words)
+fault-single : (a : App) (words : List Text) → (built a).top.disable_help_subcommand ≡ true → IsSingle (fault_of a words)
 fault-single a words e =
     let b = built a in
     let stop = (walk b.top.rules (names_of b) nothing_held (argument_words a words)).stopped in
     level-single b.top (names_of b) nothing_held (argument_words a words) (is_some (entered b stop)) (entered_fault b stop) (inl e) (entered-single b stop)
+
+number-single : (number : Option ℕ) → IsSingle (number_fault number)
+number-single (Some n) = tt
+number-single None = tt
+
+numbers-single : (entered : Option (Text × List Row)) → IsSingle (numbers_fault entered)
+numbers-single None = tt
+numbers-single (Some command) =
+    single-if (bytes_eq command.0 (codes "serve")) _ [] (single-or (number_fault (port_at command.1)) (number_fault (conns_at command.1)) (number-single (port_at command.1)) (number-single (conns_at command.1))) tt
+
+line-single : (words : List Text) → IsSingle (line_fault words)
+line-single words =
+    single-or (fault_of line.hkms words) (numbers_fault (subcommand_of line.hkms words)) (fault-single line.hkms words refl) (numbers-single (subcommand_of line.hkms words))
 
 -- a kind that is shown is the only one
 alone : (ks : Kinds) (k j : ErrorKind) → IsSingle ks → IsAmong k ks → IsAmong j ks → (j ≡ DisplayHelp) ⊎ (j ≡ DisplayVersion) → k ≡ j
@@ -226,5 +240,13 @@ alone (x ∷ y ∷ ks) k j p a b s = absurd (not_shown (x ∷ y ∷ ks) j p b s)
     not_shown (x ∷ ks) j p (inl e) (inr s) = p.1 (sym e ∙ s)
     not_shown (x ∷ ks) j p (inr b) s = not_shown ks j p.2 b s
 
-pub shown_alone : (words : List Text) (k j : ErrorKind) → IsAmong k (fault_of line.hkms words) → IsAmong j (fault_of line.hkms words) → (j ≡ DisplayHelp) ⊎ (j ≡ DisplayVersion) → k ≡ j
-shown_alone words k j a b s = alone (fault_of line.hkms words) k j (fault-single line.hkms words refl) a b s
+pub shown_alone : (words : List Text) (k j : ErrorKind) → IsAmong k (line_fault words) → IsAmong j (line_fault words) → (j ≡ DisplayHelp) ⊎ (j ≡ DisplayVersion) → k ≡ j
+shown_alone words k j a b s = alone (line_fault words) k j (line-single words) a b s
+
+-- the kinds that clap finds are those of the words
+pub found_by_clap : (words : List Text) (k : ErrorKind) → IsAmong k (fault_of line.hkms words) → IsAmong k (line_fault words)
+found_by_clap words k a = first (fault_of line.hkms words) (numbers_fault (subcommand_of line.hkms words)) a
+  where
+    first : (kinds others : Kinds) → IsAmong k kinds → IsAmong k (or_else kinds others)
+    first [] others a = absurd a
+    first (j ∷ kinds) others a = a

@@ -1,3 +1,4 @@
 mod EnteredLemmas
 mod KindLemmas
+mod NumberLemmas
 mod OrderLemmas

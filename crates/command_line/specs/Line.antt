@@ -1,6 +1,8 @@
 -- The program's commands, as clap's parse of its words sees them.
-use Rattle.std.specs.Prelude.{codes, true}
-use Rattle.clap.specs.Words.{App, Text, new_app, with_subcommand}
+use Rattle.std.specs.Prelude.{codes, pos, true, Some}
+use Rattle.clap.specs.Words.{App, Rule, Text, new_app, new_rule, with_rule, with_subcommand}
+use Rattle.clap.specs.declared.builder.value_parser.ValueParser.{ValueParser}
+use Rattle.clap.specs.declared.builder.value_parser.ValueParser.TheVariants as parser
 
 -- the program's own name is not among the words, a command is required, and there is no command `help`
 abbrev pub top : App
@@ -14,6 +16,25 @@ top =
 abbrev pub with_plain : App → Text → App
 with_plain program name = with_subcommand program (new_app name).top
 
+-- an option `--name N`, whose value passes this parser
+abbrev pub number_option : Text → ValueParser → Rule
+number_option name numbers = record (new_rule name) { long = Some name; value_names = 1; parser = Some numbers }
+
+-- clap reads a port as a number from 1 to 65,535
+abbrev pub port : Rule
+port = number_option (codes "port") (parser.Signed (pos 1) (pos 65535))
+
+-- clap reads a number of connections as one from 1 to 4,294,967,295
+abbrev pub conns : Rule
+conns = number_option (codes "conns") (parser.Signed (pos 1) (pos 4294967295))
+
+abbrev pub serve : App
+serve = with_rule (with_rule (new_app (codes "serve")) port) conns
+
+-- one more command, which is `serve`
+abbrev pub with_serve : App → App
+with_serve program = with_subcommand program serve.top
+
 -- the program with its commands
 abbrev pub hkms : App
-hkms = with_plain (with_plain top (codes "replay")) (codes "pipe")
+hkms = with_serve (with_plain (with_plain top (codes "replay")) (codes "pipe"))

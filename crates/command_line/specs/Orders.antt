@@ -1,28 +1,74 @@
 -- The orders that the words of a command line give.
-use Rattle.std.specs.Prelude.{◌≡◌, ◌≢◌, ◌⊎◌, List, [], ◌∷◌, codes, Option, Some, None, if◌then◌else◌, option_and_then, Result, MatchResult}
+use Rattle.std.specs.Prelude.{◌≡◌, ◌≢◌, ◌≤◌, ◌⊎◌, ◌&&◌, ℕ, List, [], ◌∷◌, ◌++◌, codes, nat_le, Option, Some, None, if◌then◌else◌, option_and_then, Result, MatchResult}
+use Rattle.std.specs.Fmt.{decimal}
+use Rattle.std.specs.Option.{option_map_or}
 use Rattle.std.specs.Str.{bytes_eq}
-use Rattle.clap.specs.Words.{Kinds, IsAmong, Row, Text, fault_of, subcommand_of}
+use Rattle.std.specs.Str.Parse.{digits_value}
+use Rattle.clap.specs.Kinds.{or_else}
+use Rattle.clap.specs.Words.{Kinds, IsAmong, Row, Text, fault_of, first_of, subcommand_of}
 use Rattle.clap.specs.declared.error.ErrorKind.{ErrorKind}
-use Rattle.clap.specs.declared.error.ErrorKind.TheVariants.{DisplayHelp, DisplayVersion}
+use Rattle.clap.specs.declared.error.ErrorKind.TheVariants.{DisplayHelp, DisplayVersion, ValueValidation}
 use Rattle.command_line.specs.Line as line
 use Rattle.command_line.specs.declared.order.Order.{Order}
-use Rattle.command_line.specs.declared.order.Order.TheVariants.{Replay, Pipe, Help, Version}
+use Rattle.command_line.specs.declared.order.Order.TheVariants.{Replay, Pipe, Serve, Help, Version}
 use Rattle.command_line.specs.declared.order.OrderFault.{OrderFault}
 use Rattle.command_line.specs.declared.order.OrderFault.TheVariants.{NoMemory}
 
--- the order of a command with this name
-abbrev pub order_named : Text → Option Order
-order_named name =
-    if bytes_eq name (codes "replay") then Some Replay
-    else (if bytes_eq name (codes "pipe") then Some Pipe else None)
+-- the number, if it is one from 1 to `most`
+abbrev pub in_range : ℕ → ℕ → Option ℕ
+in_range most number = if nat_le 1 number && nat_le number most then Some number else None
+
+-- the number from 1 to `most` that a text writes in decimal, without a sign or a leading zero
+abbrev pub number_at : ℕ → Text → Option ℕ
+number_at most text =
+    let number = digits_value 10 text in
+    if bytes_eq text (decimal number) then in_range most number else None
+
+-- the number of an option, which is `absent` if the option was not given
+abbrev pub number_or : ℕ → ℕ → Option Text → Option ℕ
+number_or absent most value = option_map_or (number_at most) value (Some absent)
+
+-- the port, and the number of connections, that are given to `serve`
+abbrev pub port_at : List Row → Option ℕ
+port_at rows = number_or 9600 65535 (first_of (codes "port") rows)
+
+abbrev pub conns_at : List Row → Option ℕ
+conns_at rows = number_or 4294967295 4294967295 (first_of (codes "conns") rows)
+
+abbrev pub serve_order : Option ℕ → Option ℕ → Option Order
+serve_order (Some port) (Some conns) = Some (Serve port conns)
+serve_order (Some port) None = None
+serve_order None conns = None
+
+-- the order of a command with this name and these options
+abbrev pub order_named : Text → List Row → Option Order
+order_named name rows =
+    if bytes_eq name (codes "serve") then serve_order (port_at rows) (conns_at rows)
+    else (if bytes_eq name (codes "replay") then Some Replay
+    else (if bytes_eq name (codes "pipe") then Some Pipe else None))
 
 -- the order of the command that a parse entered
 abbrev pub order_at : Option (Text × List Row) → Option Order
-order_at entered = option_and_then (λ command. order_named command.0) entered
+order_at entered = option_and_then (λ command. order_named command.0 command.1) entered
 
--- By clap's own reading, the words name the command of this order and have no fault.
+-- the fault of a value that is no number of its option
+abbrev pub number_fault : Option ℕ → Kinds
+number_fault (Some number) = []
+number_fault None = ValueValidation ∷ []
+
+-- the faults of the numbers of the command that a parse entered
+abbrev pub numbers_fault : Option (Text × List Row) → Kinds
+numbers_fault None = []
+numbers_fault (Some command) =
+    if bytes_eq command.0 (codes "serve") then or_else (number_fault (port_at command.1)) (number_fault (conns_at command.1)) else []
+
+-- The faults of the words: those that clap finds, or else those of the numbers. Clap takes `+1` and `01` for numbers, too.
+abbrev pub line_fault : List Text → Kinds
+line_fault words = or_else (fault_of line.hkms words) (numbers_fault (subcommand_of line.hkms words))
+
+-- The words have no fault, and name the command of this order.
 pub record Names (order : Order) (words : List Text) : Type 0 where
-  pub no_fault : fault_of line.hkms words ≡ []
+  pub no_fault : line_fault words ≡ []
   pub command : order_at (subcommand_of line.hkms words) ≡ Some order
 
 -- the order shows a text
@@ -34,13 +80,13 @@ abbrev pub IsVersion : Order → Type 0
 IsVersion (Version text) = Unit {0}
 IsVersion _ = ⊥
 
--- The order is what clap's own reading of the words says: it finds no fault and enters the command of the order,
--- or it is asked for help or for the version.
+-- The order is what the words say: they have no fault and enter the command of the order, or they ask for help or for
+-- the version.
 abbrev pub Answers : Order → List Text → Type 0
 Answers order words =
-    ((fault_of line.hkms words ≡ []) × (order_at (subcommand_of line.hkms words) ≡ Some order))
-    ⊎ ((IsHelp order × IsAmong DisplayHelp (fault_of line.hkms words))
-    ⊎ (IsVersion order × IsAmong DisplayVersion (fault_of line.hkms words)))
+    ((line_fault words ≡ []) × (order_at (subcommand_of line.hkms words) ≡ Some order))
+    ⊎ ((IsHelp order × IsAmong DisplayHelp (line_fault words))
+    ⊎ (IsVersion order × IsAmong DisplayVersion (line_fault words)))
 
 -- the order shows the text of an error of this kind
 abbrev pub IsShown : Order → ErrorKind → Type 0
@@ -50,14 +96,26 @@ IsShown order kind = (IsHelp order × (kind ≡ DisplayHelp)) ⊎ (IsVersion ord
 abbrev pub HasMistake : Kinds → Type 0
 HasMistake kinds = (k : ErrorKind) × IsAmong k kinds × (k ≢ DisplayHelp) × (k ≢ DisplayVersion)
 
--- clap refuses the words, and not because help or the version was asked for
+-- there are faults, and none of them is that help or the version was asked for
 abbrev pub IsMistake : Kinds → Type 0
 IsMistake kinds = (kinds ≢ []) × ((k : ErrorKind) → IsAmong k kinds → (k ≢ DisplayHelp) × (k ≢ DisplayVersion))
 
--- the words that name a command, and nothing else
+-- the words of an option with this number: none if it is the number of an absent option, or its name and the number
+abbrev pub IsOption : Text → ℕ → ℕ → ℕ → List Text → Type 0
+IsOption name absent most number words =
+    ((words ≡ []) × (number ≡ absent)) ⊎ ((1 ≤ number) × (number ≤ most) × (words ≡ name ∷ decimal number ∷ []))
+
+-- the word `serve` and the words of its options, in either order
+abbrev pub IsServe : List Text → List Text → List Text → Type 0
+IsServe port conns words = (words ≡ codes "serve" ∷ (port ++ conns)) ⊎ (words ≡ codes "serve" ∷ (conns ++ port))
+
+-- the words that name a command with its options, and nothing else
 abbrev pub IsSpelled : Order → List Text → Type 0
 IsSpelled Replay words = words ≡ codes "replay" ∷ []
 IsSpelled Pipe words = words ≡ codes "pipe" ∷ []
+IsSpelled (Serve port conns) words =
+    (port_words : List Text) × (conns_words : List Text) × IsOption (codes "--port") 9600 65535 port port_words
+    × IsOption (codes "--conns") 4294967295 4294967295 conns conns_words × IsServe port_words conns_words words
 IsSpelled (Help text) words = ⊥
 IsSpelled (Version text) words = ⊥
 
@@ -65,10 +123,14 @@ IsSpelled (Version text) words = ⊥
 abbrev pub IsHelpFlag : Text → Type 0
 IsHelpFlag word = (word ≡ codes "--help") ⊎ (word ≡ codes "-h")
 
+-- the word is the name of a command
+abbrev pub IsCommand : Text → Type 0
+IsCommand word = (word ≡ codes "replay") ⊎ ((word ≡ codes "pipe") ⊎ (word ≡ codes "serve"))
+
 -- the words that ask for help with the program or with a command, and for nothing else
 abbrev pub AsksForHelp : List Text → Type 0
 AsksForHelp words =
-    (flag : Text) × IsHelpFlag flag × ((words ≡ flag ∷ []) ⊎ ((words ≡ codes "replay" ∷ flag ∷ []) ⊎ (words ≡ codes "pipe" ∷ flag ∷ [])))
+    (flag : Text) × IsHelpFlag flag × ((words ≡ flag ∷ []) ⊎ ((command : Text) × IsCommand command × (words ≡ command ∷ flag ∷ [])))
 
 -- the words that ask for the version, and for nothing else
 abbrev pub AsksForVersion : List Text → Type 0

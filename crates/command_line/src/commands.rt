@@ -1,10 +1,11 @@
 //! The commands of the program, as declared to `clap`.
-ghost use Rattle.std.specs.Prelude.{◌≡◌, IfOk};
-ghost use Rattle.clap.specs.Words.{app_of};
+ghost use Rattle.std.specs.Prelude.{◌≡◌, IfOk, false};
+ghost use Rattle.clap.specs.Words.{app_of, rule_of};
 ghost use Rattle.command_line.specs.Line as line;
 
 use crate::help;
-use clap::Command;
+use clap::builder::ValueParser;
+use clap::{Arg, Command, value_parser};
 use std::alloc::{AllocError, Global};
 
 /// Declares the program without its commands. A command is required, and `help` is not a command.
@@ -35,11 +36,45 @@ fn with_plain<'a>(
     program.subcommand(command)
 }
 
+/// Declares an option that takes one of these numbers.
+fn number_option<'a>(
+    alloc: Global,
+    name: &'a str,
+    help: &'a str,
+    numbers: ValueParser<'a>,
+) -> Arg<'a>
+    ensures rule { rule_of result ≡ line.number_option name.entry.now numbers.entry }
+    ensures local { result.global ≡ false }
+{
+    Arg::new(alloc, name)
+        .long(name)
+        .value_name("N")
+        .help(help)
+        .value_parser(numbers)
+}
+
+/// Adds the command `serve`.
+fn with_serve<'a>(alloc: Global, program: Command<'a>) -> Result<Command<'a>, AllocError>
+    ensures { IfOk result (λ r. app_of r ≡ line.with_serve (app_of program.entry)) }
+{
+    let ports = value_parser!(u16).range(1..);
+    let port = number_option(alloc, "port", help::PORT, ports);
+    let counts = value_parser!(u32).range(1..);
+    let conns = number_option(alloc, "conns", help::CONNS, counts);
+    let plain = Command::new(alloc, "serve")
+        .about(help::SERVE)
+        .after_help(help::SERVE_NOTES);
+    let half = plain.arg(port)?;
+    let serve = half.arg(conns)?;
+    program.subcommand(serve)
+}
+
 /// Declares the program with its commands.
 pub(crate) fn hkms<'a>(alloc: Global) -> Result<Command<'a>, AllocError>
     ensures { IfOk result (λ r. app_of r ≡ line.hkms) }
 {
     let program = top(alloc)?;
     let half = with_plain(alloc, program, "replay", help::REPLAY, help::REPLAY_NOTES)?;
-    with_plain(alloc, half, "pipe", help::PIPE, help::PIPE_NOTES)
+    let most = with_plain(alloc, half, "pipe", help::PIPE, help::PIPE_NOTES)?;
+    with_serve(alloc, most)
 }

@@ -6,8 +6,8 @@ pub(crate) const VERSION: &str = "0.1.0";
 /// What the program is.
 pub(crate) const PROGRAM: &str = "Hadoop key management server for HDFS encryption zones";
 
-/// The files and the exit statuses of both commands.
-pub(crate) const PROGRAM_NOTES: &str = "Both commands use these files of the current folder:
+/// The files and the exit statuses of the commands.
+pub(crate) const PROGRAM_NOTES: &str = "Each command uses these files of the current folder:
   keys.log             the keys; a change is written here before it is answered
   names.log            directories, files and zones, written in the same way
   kms-acls.properties  access control lists: who may do what with which key
@@ -16,7 +16,8 @@ kms-acls.properties, everybody may do everything. One process at a time can use
 the logs of a folder.
 
 Exit status:
-   0  the input was read to its end, or a request closed the connection
+   0  the input was read to its end, or a request closed the connection, or all
+      connections of 'serve' were served
    2  the command line has a mistake; nothing was read, and no log was made
    3  the input or kms-acls.properties has a mistake
    4  keys.log or names.log is damaged
@@ -24,9 +25,11 @@ Exit status:
    6  there was no memory
    7  the input, kms-acls.properties or /dev/urandom cannot be read
    8  the output cannot be written
+   9  the port of 'serve' cannot be opened, or accepting a connection failed
   10  a log was opened 4,294,967,295 times, and cannot be opened again
 
-'hkms replay --help' and 'hkms pipe --help' say what a command reads and writes.";
+'hkms replay --help', 'hkms pipe --help' and 'hkms serve --help' say what a
+command reads and writes.";
 
 /// The purpose of `replay`, in one line.
 pub(crate) const REPLAY: &str = "Runs the calls of an event text and writes their answers";
@@ -73,9 +76,10 @@ pub(crate) const PIPE: &str = "Answers the HTTP requests of one connection";
 /// The input, the output and the exit statuses of `pipe`.
 pub(crate) const PIPE_NOTES: &str =
     "Standard input has what a client sends on a connection of HTTP/1.1: requests of
-the Hadoop KMS REST API, version 1, such as
+the Hadoop KMS REST API, version 1, and of the namesystem, such as
 
     GET /kms/v1/keys/names?user.name=alice HTTP/1.1
+    GET /nn/v1/list?path=/&user.name=alice HTTP/1.1
 
 Standard output gets the response to each request, in their order, and nothing
 else. The user is the one that the request names; no password is asked for. A
@@ -95,3 +99,48 @@ Exit status:
 A head has at most 16,384 bytes and 64 fields, and a body 4,194,304 bytes.
 docs/rest.md has the bodies and the messages. The files are those of the current
 folder: see 'hkms --help'.";
+
+/// The purpose of `serve`, in one line.
+pub(crate) const SERVE: &str = "Answers the HTTP requests of connections to a port";
+
+/// What the option `--port` gives.
+pub(crate) const PORT: &str = "Port of 127.0.0.1, from 1 to 65535 [default: 9600]";
+
+/// What the option `--conns` gives.
+pub(crate) const CONNS: &str = "Connections to serve, from 1 to 4294967295 [default: 4294967295]";
+
+/// The connections and the exit statuses of `serve`.
+pub(crate) const SERVE_NOTES: &str =
+    "It listens on a port of 127.0.0.1. Clients send requests of HTTP/1.1: those of
+the Hadoop KMS REST API, version 1, and of the namesystem, such as
+
+    GET /kms/v1/keys/names?user.name=alice HTTP/1.1
+    GET /nn/v1/list?path=/&user.name=alice HTTP/1.1
+
+The user is the one that the request names; no password is asked for. Queues of
+ready keys are filled, and zones re-encrypted, in the background. At most 16
+connections are served at a time: the next one waits until the oldest of them
+ends. A fault of a connection ends that connection alone.
+
+Standard error gets a line when it listens, and a line when it ends. Standard
+input is not read. What ends it:
+
+  Status  Last line            Cause
+     0    none                 all connections that --conns says were served
+     3    acl line N refused   line N of kms-acls.properties has a mistake
+          acl line N repeated  it has a name that an earlier line has
+          acl line N unknown   it has a name that does not exist
+          acl too long         kms-acls.properties is over 1,048,576 bytes
+     4    damaged keys AT      keys.log is damaged at byte AT
+          damaged names AT     names.log is damaged at byte AT
+     5    store fault          a log cannot be opened, or another process has it
+     6    no memory            there was no memory
+     7    read fault           kms-acls.properties cannot be read
+          no random source     /dev/urandom cannot be read
+     8    none                 the output cannot be written
+     9    door fault           the port cannot be opened, or accepting failed
+    10    openings spent       a log was opened 4,294,967,295 times
+
+The last line goes to standard output. What was answered before that stands.
+docs/rest.md has the requests, the bodies and the messages. The files are those
+of the current folder: see 'hkms --help'.";

@@ -1,10 +1,17 @@
-//! The commands that single words name. The function does nothing: its contract is the law.
+//! What words name which order. The functions do nothing: their contracts are the laws.
 ghost use Rattle.std.specs.Prelude.{codes, [], ◌∷◌};
 ghost use Rattle.command_line.specs.Orders.{Names};
 ghost use Rattle.command_line.specs.declared.order.Order.TheVariants as order;
 
-/// As clap reads them, the word `replay` names the replay, and the word `pipe` the connection.
+/// As clap reads them, the word `replay` names the replay, the word `pipe` the connection, and the
+/// word `serve` the server on port 9600, which ends after 4,294,967,295 connections.
 pub fn commands_alone_are_named()
     ensures replay { Names order.Replay (codes "replay" ∷ []) }
     ensures pipe { Names order.Pipe (codes "pipe" ∷ []) }
+    ensures serve { Names (order.Serve 9600 4294967295) (codes "serve" ∷ []) }
+{}
+
+/// `--port` gives the port of `serve`, and `--conns` the number of connections.
+pub fn options_are_named()
+    ensures { Names (order.Serve 1 2) (codes "serve" ∷ codes "--port" ∷ codes "1" ∷ codes "--conns" ∷ codes "2" ∷ []) }
 {}

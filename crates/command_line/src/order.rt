@@ -8,6 +8,13 @@ pub enum Order {
     Replay,
     /// Answer the HTTP requests of the input.
     Pipe,
+    /// Serve connections on this port of 127.0.0.1, and end after this number of them.
+    Serve {
+        /// From 1 to 65,535.
+        port: u16,
+        /// From 1 to 4,294,967,295.
+        conns: u32,
+    },
     /// Write this help text to standard output and end with status 0. It ends with a line feed.
     Help(String),
     /// Write this text, the program's name and version, to standard output and end with status 0.

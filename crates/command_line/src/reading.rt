@@ -1,27 +1,77 @@
 //! Parsing a command line.
-ghost use Rattle.std.specs.Prelude.{◌≡◌, ◌≢◌, ◌⊎◌, IfErr, IfOk, IsSome, Some, Ok, Err, map};
-ghost use Rattle.clap.specs.Words.{fault_of, kind_of, subcommand_rows_of};
-ghost use Rattle.command_line.specs.Line as line;
-ghost use Rattle.command_line.specs.Orders.{Answers, AsksForHelp, AsksForVersion, HasMistake, IsHelp, IsMistake, IsShown, IsSpelled, IsVersion, ShownAs, order_at};
+ghost use Rattle.std.specs.Prelude.{◌≡◌, ◌≢◌, ◌⊎◌, ◌≤◌, IfErr, IfOk, IfSome, Ok, Err, map, option_map};
+ghost use Rattle.clap.specs.Words.{first_of, found_of, kind_of, rows_of, subcommand_rows_of};
+ghost use Rattle.command_line.specs.Orders.{Answers, AsksForHelp, AsksForVersion, HasMistake, IsHelp, IsMistake, IsShown, IsSpelled, IsVersion, ShownAs, in_range, line_fault, number_at, number_or, order_at, order_named};
 ghost use Rattle.command_line.specs.declared.order.Order.{Order as AnOrder};
 
 use crate::commands::hkms;
 use crate::order::{Order, OrderFault};
 use clap::error::ErrorKind;
 use clap::{ArgMatches, Error};
-use hk_base::Text;
+use hk_base::{Text, read_number};
 use std::alloc::{AllocError, Global};
 use std::convert::AsStr;
 
-/// Returns the order that the matches name.
-fn order_of(matches: &ArgMatches) -> Order
-    requires { IsSome (order_at (subcommand_rows_of matches.now)) }
-    ensures { order_at (subcommand_rows_of matches.now) ≡ Some result }
+/// The port of `serve` without an option.
+const DEFAULT_PORT: u32 = 9600;
+
+/// Returns the number if it is one from 1 to `most`.
+fn in_range(number: u64, most: u32) -> Option<u32>
+    ensures value { result ≡ in_range most number }
+    ensures most { IfSome result (λ number. number ≤ most) }
 {
-    match matches.subcommand_name() {
-        Some(name) if name == "pipe" => Order::Pipe,
-        _ => Order::Replay,
+    if number < 1 || number > u64::from(most) {
+        return None;
     }
+    Some(number as u32)
+}
+
+/// Parses a number from 1 to `most`, without a sign and without leading zeros.
+fn number_at(text: &str, most: u32) -> Option<u32>
+    ensures value { result ≡ number_at most text.now }
+    ensures most { IfSome result (λ number. number ≤ most) }
+{
+    match read_number(text.as_bytes()) {
+        Some(number) => in_range(number, most),
+        None => None,
+    }
+}
+
+/// Returns the number of an option, from 1 to `most`, or `absent` if the option was not given.
+fn number_or(options: &ArgMatches, name: &str, absent: u32, most: u32) -> Option<u32>
+    requires { absent ≤ most }
+    ensures value { result ≡ number_or absent most (first_of name.now (rows_of (found_of options.now))) }
+    ensures most { IfSome result (λ number. number ≤ most) }
+{
+    match options.get_str(name) {
+        Some(text) => number_at(text, most),
+        None => Some(absent),
+    }
+}
+
+/// Returns the order of the command with this name and these options.
+fn order_named(name: &str, options: &ArgMatches) -> Option<Order>
+    ensures { result ≡ order_named name.now (rows_of (found_of options.now)) }
+{
+    if name == "serve" {
+        let port = number_or(options, "port", DEFAULT_PORT, 65_535)? as u16;
+        let conns = number_or(options, "conns", u32::MAX, u32::MAX)?;
+        Some(Order::Serve { port, conns })
+    } else if name == "replay" {
+        Some(Order::Replay)
+    } else if name == "pipe" {
+        Some(Order::Pipe)
+    } else {
+        None
+    }
+}
+
+/// Returns the order that the matches name, unless a number in them is written in another form.
+fn order_of(matches: &ArgMatches) -> Option<Order>
+    ensures { result ≡ order_at (subcommand_rows_of matches.now) }
+{
+    let (name, options) = matches.subcommand()?;
+    order_named(name, options)
 }
 
 /// Returns the text of an error.
@@ -47,11 +97,11 @@ fn without_matches(alloc: Global, error: &Error) -> Result<Order, OrderFault>
 /// Does what `read_order` does, for words of any type.
 fn read<'a, S: AsStr>(alloc: Global, words: &'a [S]) -> Result<Order, OrderFault>
     ensures ok { IfOk result (λ order. Answers order (map S.text words.entry.now)) }
-    ensures usage { IfErr result (λ fault. fault ≡ OrderFault.Usage → HasMistake (fault_of line.hkms (map S.text words.entry.now))) }
+    ensures usage { IfErr result (λ fault. fault ≡ OrderFault.Usage → HasMistake (line_fault (map S.text words.entry.now))) }
 {
     let command = hkms(alloc)?;
     match command.try_get_matches_from(words) {
-        Ok(matches) => Ok(order_of(&matches)),
+        Ok(matches) => order_of(&matches).ok_or(OrderFault::Usage),
         Err(error) => without_matches(alloc, &error),
     }
 }
@@ -65,14 +115,15 @@ fn texts_of<'w>(alloc: Global, words: &'w [Text]) -> Result<Vec<&'w str>, AllocE
 
 /// Parses the words of a command line, without the program's own name.
 ///
-/// `replay` and `pipe` are commands, of one word each. `--help` or `-h`, alone or after a command,
-/// asks for a help text, and `--version` or `-V` for the version. Other words are refused as
-/// `OrderFault::Usage`. The first fault that `clap` finds decides. `OrderFault::NoMemory` may come
-/// in place of any other answer.
+/// `replay` and `pipe` are commands, of one word each. `serve` is a command with the options
+/// `--port N` and `--conns N`, whose numbers are decimal, without a sign or a leading zero. `--help`
+/// or `-h`, alone or after a command, asks for a help text, and `--version` or `-V` for the version.
+/// Other words are refused as `OrderFault::Usage`. The first fault that `clap` finds decides.
+/// `OrderFault::NoMemory` may come in place of any other answer.
 pub fn read_order(alloc: Global, words: &[Text]) -> Result<Order, OrderFault>
     ensures ok { IfOk result (λ order. Answers order words.now) }
-    ensures usage { IfErr result (λ fault. fault ≡ OrderFault.Usage → IsMistake (fault_of line.hkms words.now)) }
-    ensures mistake { IsMistake (fault_of line.hkms words.now) → (result ≡ Err OrderFault.Usage) ⊎ (result ≡ Err OrderFault.NoMemory) }
+    ensures usage { IfErr result (λ fault. fault ≡ OrderFault.Usage → IsMistake (line_fault words.now)) }
+    ensures mistake { IsMistake (line_fault words.now) → (result ≡ Err OrderFault.Usage) ⊎ (result ≡ Err OrderFault.NoMemory) }
     ensures named { (order : AnOrder) → IsSpelled order words.now → (result ≡ Ok order) ⊎ (result ≡ Err OrderFault.NoMemory) }
     ensures help { AsksForHelp words.now → ShownAs IsHelp result }
     ensures version { AsksForVersion words.now → ShownAs IsVersion result }
