@@ -1,23 +1,27 @@
 -- What a run keeps of zone files and of verdicts follows from what holds of its lines that were played.
 use Rattle.std.proofs.Common.{◌≡◌, inl, inr, ⊎_elim, ℕ, ◌≤◌, List, [], ◌∷◌, ◌++◌, Option, refl, ap, sym, ◌∙◌, subst, append_assoc, append-nil, arith}
 use Rattle.hk_base.specs.Disk.{DiskState, Image, IsImage, Tells}
+use Rattle.hk_base.specs.declared.ended.Ended.{Ended}
 use Rattle.hk_events.specs.declared.event.Event.{Event}
 use Rattle.hk_events.specs.declared.event.Event.TheVariants as event
 use Rattle.hk_events.specs.declared.event.Line.{Line}
+use Rattle.key_rows.specs.Table.{Table}
 use Rattle.kms_store.specs.Store.{settled_table}
+use Rattle.name_store.specs.Table.{NameTable}
 use Rattle.prop_text.specs.declared.lines.PropLine.{PropLine}
 use Rattle.prop_text.specs.declared.props.Props.{Props}
 use Rattle.world_run.specs.Acknowledged.{Acknowledged, LeavesBoth}
 use Rattle.world_run.specs.Keeps.{LeftByStarts}
 use Rattle.world_run.specs.Ledger.{Draw, Hidden, Ledger, Past, Starts, drawn_before, hidden_after, past_of}
-use Rattle.world_run.specs.Linked.{DrawsApart, LinkedTables, SoundFiles, StartsSound}
+use Rattle.world_run.specs.Linked.{DrawsApart, LinkedTables, SoundFiles, StartsSound, WordsApart}
 use Rattle.world_run.specs.Promise.{In}
 use Rattle.world_run.specs.World.{WorldState, first_world}
 use Rattle.world_run.proofs.LawLemmas.{sound-open}
 use Rattle.world_run.proofs.PastLemmas.{deposit-past, draw-past, serve-past}
 use Rattle.hkms_commands.specs.declared.replay.ReplayEnd.{ReplayEnd}
-use Rattle.hkms_commands.specs.Headline.{HasVerdict, Headline, ImageKept, IsKnownLater, IsPart, KeepsFiles, NothingHappened, WorldKept, known_after}
-use Rattle.hkms_commands.specs.Logs.{HiddenBefore, OnDisk, SurvivesLast, SurvivesUntil, opened_logs}
+use Rattle.hkms_commands.specs.Headline.{ConnectionKeepsFiles, HasVerdict, Headline, ImageKept, IsKnownLater, IsPart, KeepsFiles, NothingHappened, WorldKept, known_after}
+use Rattle.hkms_commands.specs.Logs.{HiddenBefore, NoRestart, OnDisk, SurvivesLast, SurvivesUntil, opened_logs}
+use Rattle.hkms_commands.specs.Pipe.{Converses, Pipe, PipeUnder}
 use Rattle.hkms_commands.specs.PlayedLines.{PlayedLine, events_of_lines, lines_in}
 use Rattle.hkms_commands.specs.Replay.{CutAt, Played, Replay, ReplayUnder, status_of}
 use Rattle.hkms_commands.specs.Run.{EventRuns, FilesOpen, Happened, History, IsHidden, Runs, StayApart, SurvivesIn, behind, drawn_in, faults_after, hidden_in, world_after}
@@ -151,25 +155,31 @@ module _ (old : DiskState) (past : Past) (sound : StartsSound old past) (first :
   sound_start : (history : History) → SoundFiles past c → SoundIn past first words history c
   sound_start history s = ([], nothing history, s)
 
--- lines were played
+-- events happened
 
 -- what the disk tells of its first moment, and of its last
 pub record Ends (old new : DiskState) : Type 0 where
   pub only : (c : Image) → old.left_since old.moment c → IsImage old c
   pub counts : (t : ℕ) (c : Image) → t ≤ new.moment → IsImage new c → new.left_since t c
 
-module _ (past : Past) (props : Props) (old new : DiskState) (words : ℕ → ℕ) (left : Option (List ℕ)) (stop : ReplayEnd) (lines : List PlayedLine) (p : Played props old new words left stop lines) (tells : Tells old) (sound : StartsSound old past) (ends : Ends old new) where
-  abbrev pub first : WorldState
-  first = first_world props.sizes p.table p.names
+-- what a run of events keeps of its disk and of zone files, where some restarts may have been cut short
+pub record Kept (props : Props) (old new : DiskState) (words : ℕ → ℕ) (table : Table) (names : NameTable) (history : History) (Cut : Event → Type 0) : Type 0 where
+  pub before : ℕ
+  pub runs : Runs props.lines (Tells old) (first_world props.sizes table names) words before history
+  pub on_disk : Tells old → OnDisk old new words props.sizes table names history Cut
+  pub promise : Tells old → (h : Hidden) → HiddenBefore old h → FilesOpen h (first_world props.sizes table names) words history
+  pub apart : Tells old → (h : Hidden) → HiddenBefore old h → WordsApart h → StayApart h (first_world props.sizes table names) words history
 
-  abbrev pub history : History
-  history = events_of_lines lines
+module _ (past : Past) (props : Props) (old new : DiskState) (words : ℕ → ℕ) (table : Table) (names : NameTable) (history : History) (Cut : Event → Type 0)
+    (k : Kept props old new words table names history Cut) (tells : Tells old) (sound : StartsSound old past) (ends : Ends old new) where
+  abbrev first : WorldState
+  first = first_world props.sizes table names
 
-  disk : OnDisk old new words props.sizes p.table p.names history (CutAt stop left (lines_in lines))
-  disk = p.on_disk tells
+  disk : OnDisk old new words props.sizes table names history Cut
+  disk = k.on_disk tells
 
   abbrev done : Acknowledged
-  done = opened_logs disk.commands p.table disk.ops p.names
+  done = opened_logs disk.commands table disk.ops names
 
   before : HiddenBefore old (drawn_before past)
   before = record { past = past; sound = sound; is = refl }
@@ -177,25 +187,35 @@ module _ (past : Past) (props : Props) (old new : DiskState) (words : ℕ → �
   worlds : (part : History) → IsPart part history → WorldKept (known_after past first words part) (world_after first part)
   worlds part is =
       world_kept (world_after first part) (hidden_in (drawn_before past) first words part)
-      (hidden_at (drawn_before past) first words part is.0 (subst (FilesOpen (drawn_before past) first words) is.1 (p.promise tells (drawn_before past) before)))
+      (hidden_at (drawn_before past) first words part is.0 (subst (FilesOpen (drawn_before past) first words) is.1 (k.promise tells (drawn_before past) before)))
 
   sound_since : (c : Image) → new.left_since old.moment c → SoundIn past first words history c
   sound_since c since = ⊎_elim
       (λ at_start. sound_start old past sound first words done c history (sound c (ends.only c at_start)))
-      (λ now. ⊎_elim (λ (opening : LeftByStarts old c). sound_start old past sound first words done c history (opening.sound past sound)) (λ run. sound_until old past sound first words done c (CutAt stop left (lines_in lines)) history run) now)
+      (λ now. ⊎_elim (λ (opening : LeftByStarts old c). sound_start old past sound first words done c history (opening.sound past sound)) (λ run. sound_until old past sound first words done c Cut history run) now)
       (disk.moments.before old.moment c (omega arith) since)
 
   pub headline_of : Headline past props.lines old new words first history
   headline_of = record {
     worlds = worlds;
     images = λ c since. let s = sound_since c since in (s.0, s.1, image_kept (known_after past first words s.0) c s.2);
-    verdicts = judged_at props.lines (Tells old) first words p.before history p.runs;
-    again = λ c is. sound_last old past sound first words done c (CutAt stop left (lines_in lines)) history (disk.last c is);
+    verdicts = judged_at props.lines (Tells old) first words k.before history k.runs;
+    again = λ c is. sound_last old past sound first words done c Cut history (disk.last c is);
     grows = λ part is. subst (λ (l : History). IsKnownLater (known_after past first words part) (known_after past first words l)) (sym is.1) (grows_to (drawn_before past) first words part is.0);
-    apart = λ apart part is. apart_at (drawn_before past) first words part is.0 (subst (StayApart (drawn_before past) first words) is.1 (p.apart tells (drawn_before past) before apart));
+    apart = λ apart part is. apart_at (drawn_before past) first words part is.0 (subst (StayApart (drawn_before past) first words) is.1 (k.apart tells (drawn_before past) before apart));
   }
 
--- a replay as a whole
+-- lines that were played, and a connection that was served
+
+played_kept : {props : Props} {old new : DiskState} {words : ℕ → ℕ} {left : Option (List ℕ)} {stop : ReplayEnd} {lines : List PlayedLine} → (p : Played props old new words left stop lines)
+    → Kept props old new words p.table p.names (events_of_lines lines) (CutAt stop left (lines_in lines))
+played_kept p = record { before = p.before; runs = p.runs; on_disk = p.on_disk; promise = p.promise; apart = p.apart }
+
+served_kept : {props : Props} {old new : DiskState} {words words' : ℕ → ℕ} {left left' written now : Option (List ℕ)} {how : Ended} → (s : Converses props old new words words' left left' written now how)
+    → Kept props old new words s.table s.names s.history NoRestart
+served_kept s = record { before = s.before; runs = s.runs; on_disk = s.on_disk; promise = s.promise; apart = s.apart }
+
+-- a replay or a connection as a whole
 
 -- nothing was done to the disk
 pub record Unmoved (old new : DiskState) : Type 0 where
@@ -237,5 +257,21 @@ module _ (past : Past) (old new : DiskState) (tells : Tells old) (sound : Starts
         how = how;
         status_is = is;
         run = on;
-        keeps = headline_of past read.props old new words left on.stop on.played_lines on.played tells sound ends;
+        keeps = headline_of past read.props old new words on.played.table on.played.names (events_of_lines on.played_lines) (CutAt on.stop left (lines_in on.played_lines)) (played_kept on.played) tells sound ends;
+      })
+
+  pub connection_keeps : (same_disk same kept : Type 0) (acls acls' : Option (List ℕ)) (words words' : ℕ → ℕ) (left left' written now : Option (List ℕ)) (status : ℕ) → Ends old new
+      → (same_disk → Unmoved old new) → (same → kept) → Pipe same_disk same old new acls acls' words words' left left' written now status → ConnectionKeepsFiles kept past old new acls acls' words words' left left' written now status
+  connection_keeps same_disk same kept acls acls' words words' left left' written now status ends idle part (inl bad) = inl (unmoved_keeps (part bad.untouched.1) (idle bad.untouched.0))
+  connection_keeps same_disk same kept acls acls' words words' left left' written now status ends idle part (inr read) = under read.pipe
+    where
+      under : PipeUnder read.props same old new words words' left left' written now status → ConnectionKeepsFiles kept past old new acls acls' words words' left left' written now status
+      under (inl not) = inl (unopened_keeps (part not.untouched) ends (not.not_opened.any_moment tells) not.not_opened.run.later)
+      under (inr on) = let s = on.converses in inr (record {
+        props = read.props;
+        read = read.read;
+        how = on.how;
+        status_is = on.status_is;
+        connection = s;
+        keeps = headline_of past read.props old new words s.table s.names s.history NoRestart (served_kept s) tells sound ends;
       })

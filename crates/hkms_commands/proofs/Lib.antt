@@ -9,6 +9,8 @@ pub mod LivedLemmas
 mod OrderLemmas
 mod PipeLemmas
 mod PropsLemmas
+mod SeedLemmas
+pub mod ServeLemmas
 pub mod SplitLemmas
 pub mod StageLemmas
 mod VerdictLemmas

@@ -1,64 +1,67 @@
 -- What follows of what was done at an order.
-use Rattle.std.proofs.Common.{◌≡◌, ◌≢◌, ◌⊎◌, inl, inr, ℕ, List, refl, ap, sym, ◌∙◌, subst, arith}
+use Rattle.std.proofs.Common.{◌≡◌, ◌≢◌, ◌⊎◌, ⊎_elim, inl, inr, ℕ, List, refl, ap, sym, ◌∙◌, subst, arith}
 use Rattle.std.specs.Prelude.{IfErr, IfOk, Ok, Err, Option, Result, string_bytes}
-use Rattle.clap.specs.Words.{IsAmong, Text, fault_of}
+use Rattle.clap.specs.Words.{IsAmong, Text}
 use Rattle.clap.specs.declared.error.ErrorKind.TheVariants.{DisplayHelp, DisplayVersion}
-use Rattle.command_line.specs.Line as line
-use Rattle.command_line.specs.Orders.{Answers, IsHelp, IsMistake, IsVersion, Names, ShownAs}
+use Rattle.command_line.specs.Orders.{Answers, IsHelp, IsMistake, IsVersion, Names, ShownAs, line_fault}
 use Rattle.command_line.specs.declared.order.Order.{Order}
-use Rattle.command_line.specs.declared.order.Order.TheVariants.{Replay, Pipe, Help, Version}
+use Rattle.command_line.specs.declared.order.Order.TheVariants.{Replay, Pipe, Serve, Help, Version}
 use Rattle.command_line.specs.declared.order.OrderFault.{OrderFault}
 use Rattle.command_line.specs.declared.order.OrderFault.TheVariants.{Usage, NoMemory}
 use Rattle.hk_base.specs.Disk.{DiskState, Tells}
 use Rattle.world_run.specs.Ledger.{Past}
 use Rattle.world_run.specs.Linked.{StartsSound}
 use Rattle.hkms_commands.specs.declared.replay.ReplayEnd.{ReplayEnd}
-use Rattle.hkms_commands.specs.Headline.{KeepsFiles}
+use Rattle.hkms_commands.specs.Headline.{ConnectionKeepsFiles, KeepsFiles}
 use Rattle.hkms_commands.specs.Orders.{Obeys, Shows, ShowsText, WantsMemory}
+use Rattle.hkms_commands.specs.Pipe.{Pipe as Pipes}
 use Rattle.hkms_commands.specs.Replay.{status_of}
 use Rattle.hkms_commands.specs.Replay.{Replay as Replays}
-use Rattle.hkms_commands.proofs.HeadlineLemmas.{Ends, Unmoved, replay_keeps, unmoved_keeps}
+use Rattle.hkms_commands.proofs.HeadlineLemmas.{Ends, Unmoved, connection_keeps, replay_keeps, unmoved_keeps}
 
-abbrev OrderRead : Type 0
+abbrev pub OrderRead : Type 0
 OrderRead = Result Order OrderFault
 
-pub helps_so : (order : OrderRead) (replays pipes same : Type 0) (written now : Option (List ℕ)) (status : ℕ) → ShownAs IsHelp order → Obeys order replays pipes same written now status
+pub helps_so : (order : OrderRead) (replays pipes : Type 0) (serves : ℕ → ℕ → Type 0) (same : Type 0) (written now : Option (List ℕ)) (status : ℕ) → ShownAs IsHelp order → Obeys order replays pipes serves same written now status
     → ShowsText same written now status ⊎ WantsMemory same written now status
-helps_so (Ok Replay) replays pipes same written now status is obeys = absurd is
-helps_so (Ok Pipe) replays pipes same written now status is obeys = absurd is
-helps_so (Ok (Help text)) replays pipes same written now status is obeys = inl (record { text = string_bytes text; untouched = obeys.0; shows = obeys.1 })
-helps_so (Ok (Version text)) replays pipes same written now status is obeys = absurd is
-helps_so (Err Usage) replays pipes same written now status is obeys = absurd cc
-helps_so (Err NoMemory) replays pipes same written now status is obeys = inr obeys
+helps_so (Ok Replay) replays pipes serves same written now status is obeys = absurd is
+helps_so (Ok Pipe) replays pipes serves same written now status is obeys = absurd is
+helps_so (Ok (Serve port conns)) replays pipes serves same written now status is obeys = absurd is
+helps_so (Ok (Help text)) replays pipes serves same written now status is obeys = inl (record { text = string_bytes text; untouched = obeys.0; shows = obeys.1 })
+helps_so (Ok (Version text)) replays pipes serves same written now status is obeys = absurd is
+helps_so (Err Usage) replays pipes serves same written now status is obeys = absurd cc
+helps_so (Err NoMemory) replays pipes serves same written now status is obeys = inr obeys
 
-pub versions_so : (order : OrderRead) (replays pipes same : Type 0) (written now : Option (List ℕ)) (status : ℕ) → ShownAs IsVersion order → Obeys order replays pipes same written now status
+pub versions_so : (order : OrderRead) (replays pipes : Type 0) (serves : ℕ → ℕ → Type 0) (same : Type 0) (written now : Option (List ℕ)) (status : ℕ) → ShownAs IsVersion order → Obeys order replays pipes serves same written now status
     → ShowsText same written now status ⊎ WantsMemory same written now status
-versions_so (Ok Replay) replays pipes same written now status is obeys = absurd is
-versions_so (Ok Pipe) replays pipes same written now status is obeys = absurd is
-versions_so (Ok (Help text)) replays pipes same written now status is obeys = absurd is
-versions_so (Ok (Version text)) replays pipes same written now status is obeys = inl (record { text = string_bytes text; untouched = obeys.0; shows = obeys.1 })
-versions_so (Err Usage) replays pipes same written now status is obeys = absurd cc
-versions_so (Err NoMemory) replays pipes same written now status is obeys = inr obeys
+versions_so (Ok Replay) replays pipes serves same written now status is obeys = absurd is
+versions_so (Ok Pipe) replays pipes serves same written now status is obeys = absurd is
+versions_so (Ok (Serve port conns)) replays pipes serves same written now status is obeys = absurd is
+versions_so (Ok (Help text)) replays pipes serves same written now status is obeys = absurd is
+versions_so (Ok (Version text)) replays pipes serves same written now status is obeys = inl (record { text = string_bytes text; untouched = obeys.0; shows = obeys.1 })
+versions_so (Err Usage) replays pipes serves same written now status is obeys = absurd cc
+versions_so (Err NoMemory) replays pipes serves same written now status is obeys = inr obeys
 
 not_both : (n : ℕ) → n ≡ 8 → n ≡ 2 → ⊥
 not_both n eight two = absurd (omega (arith, eight, two))
 
 -- a text with another status is not shown with 2
-not_shown : (text : List ℕ) (own : ℕ) (written now : Option (List ℕ)) (status : ℕ) → own ≢ 2 → Shows text own written now status → status ≢ 2
+pub not_shown : (text : List ℕ) (own : ℕ) (written now : Option (List ℕ)) (status : ℕ) → own ≢ 2 → Shows text own written now status → status ≢ 2
 not_shown text own written now status other (inl shown) two = other (sym shown.0 ∙ two)
 not_shown text own written now status other (inr failed) two = not_both status failed.0 two
 
-pub usage_only : (order : OrderRead) (words : List Text) (replays pipes same : Type 0) (written now : Option (List ℕ)) (status : ℕ) → IfErr order (λ fault. fault ≡ Usage → IsMistake (fault_of line.hkms words))
-    → Obeys order replays pipes same written now status → (replays → status ≢ 2) → (pipes → status ≢ 2) → status ≡ 2 → IsMistake (fault_of line.hkms words)
-usage_only (Ok Replay) words replays pipes same written now status usage obeys no_replay no_pipe two = absurd (no_replay obeys two)
-usage_only (Ok Pipe) words replays pipes same written now status usage obeys no_replay no_pipe two = absurd (no_pipe obeys two)
-usage_only (Ok (Help text)) words replays pipes same written now status usage obeys no_replay no_pipe two = absurd (not_shown _ 0 written now status (λ h. absurd cc) obeys.1 two)
-usage_only (Ok (Version text)) words replays pipes same written now status usage obeys no_replay no_pipe two = absurd (not_shown _ 0 written now status (λ h. absurd cc) obeys.1 two)
-usage_only (Err Usage) words replays pipes same written now status usage obeys no_replay no_pipe two = usage refl
-usage_only (Err NoMemory) words replays pipes same written now status usage obeys no_replay no_pipe two = absurd (not_shown _ 6 written now status (λ h. absurd cc) obeys.1 two)
+pub usage_only : (order : OrderRead) (words : List Text) (replays pipes : Type 0) (serves : ℕ → ℕ → Type 0) (same : Type 0) (written now : Option (List ℕ)) (status : ℕ) → IfErr order (λ fault. fault ≡ Usage → IsMistake (line_fault words))
+    → Obeys order replays pipes serves same written now status → (replays → status ≢ 2) → (pipes → status ≢ 2) → ((port conns : ℕ) → serves port conns → status ≢ 2) → status ≡ 2 → IsMistake (line_fault words)
+usage_only (Ok Replay) words replays pipes serves same written now status usage obeys no_replay no_pipe no_server two = absurd (no_replay obeys two)
+usage_only (Ok Pipe) words replays pipes serves same written now status usage obeys no_replay no_pipe no_server two = absurd (no_pipe obeys two)
+usage_only (Ok (Serve port conns)) words replays pipes serves same written now status usage obeys no_replay no_pipe no_server two = absurd (no_server port conns obeys two)
+usage_only (Ok (Help text)) words replays pipes serves same written now status usage obeys no_replay no_pipe no_server two = absurd (not_shown _ 0 written now status (λ h. absurd cc) obeys.1 two)
+usage_only (Ok (Version text)) words replays pipes serves same written now status usage obeys no_replay no_pipe no_server two = absurd (not_shown _ 0 written now status (λ h. absurd cc) obeys.1 two)
+usage_only (Err Usage) words replays pipes serves same written now status usage obeys no_replay no_pipe no_server two = usage refl
+usage_only (Err NoMemory) words replays pipes serves same written now status usage obeys no_replay no_pipe no_server two = absurd (not_shown _ 6 written now status (λ h. absurd cc) obeys.1 two)
 
 -- words that name an order give it, or there is no memory to read them
-pub named_so : (order : OrderRead) (words : List Text) → IfOk order (λ o. Answers o words) → IfErr order (λ fault. fault ≡ Usage → IsMistake (fault_of line.hkms words)) → (o : Order) → Names o words
+pub named_so : (order : OrderRead) (words : List Text) → IfOk order (λ o. Answers o words) → IfErr order (λ fault. fault ≡ Usage → IsMistake (line_fault words)) → (o : Order) → Names o words
     → (order ≡ Ok o) ⊎ (order ≡ Err NoMemory)
 named_so (Err NoMemory) words answers usage o names = inr refl
 named_so (Err Usage) words answers usage o names = absurd ((usage refl).0 names.no_fault)
@@ -66,8 +69,14 @@ named_so (Ok a) words (inl read) usage o names = let same : a ≡ o = cc (sym re
 named_so (Ok a) words (inr (inl help)) usage o names = absurd (subst (IsAmong DisplayHelp) names.no_fault help.1)
 named_so (Ok a) words (inr (inr version)) usage o names = absurd (subst (IsAmong DisplayVersion) names.no_fault version.1)
 
+-- an order that the words name is carried out, or there is no memory to read the words
+pub obeyed : (order : OrderRead) (o : Order) (replays pipes : Type 0) (serves : ℕ → ℕ → Type 0) (same : Type 0) (written now : Option (List ℕ)) (status : ℕ) → (order ≡ Ok o) ⊎ (order ≡ Err NoMemory) → Obeys order replays pipes serves same written now status
+    → Obeys (Ok o) replays pipes serves same written now status ⊎ WantsMemory same written now status
+obeyed order o replays pipes serves same written now status (inl is) obeys = inl (subst (λ (x : OrderRead). Obeys x replays pipes serves same written now status) is obeys)
+obeyed order o replays pipes serves same written now status (inr is) obeys = inr (subst (λ (x : OrderRead). Obeys x replays pipes serves same written now status) is obeys)
+
 -- words that name the replay keep the promise on files
-module _ (past : Past) (old new : DiskState) (tells : Tells old) (sound : StartsSound old past) (same_disk same_acls same_input same_rand same_clock pipes at_end : Type 0) (acls acls' : Option (List ℕ)) (words words' : ℕ → ℕ) (left written now : Option (List ℕ)) (status : ℕ) where
+module _ (past : Past) (old new : DiskState) (tells : Tells old) (sound : StartsSound old past) (same_disk same_acls same_input same_rand same_clock pipes at_end : Type 0) (serves : ℕ → ℕ → Type 0) (acls acls' : Option (List ℕ)) (words words' : ℕ → ℕ) (left written now : Option (List ℕ)) (status : ℕ) where
   abbrev Replayed : Type 0
   Replayed = (how : ReplayEnd) × (status ≡ status_of how) × Replays same_disk (same_input × same_rand) old new acls acls' words words' left written now how × at_end
 
@@ -84,7 +93,29 @@ module _ (past : Past) (old new : DiskState) (tells : Tells old) (sound : Starts
   unread_keeps idle w = inl (unmoved_keeps past old new tells sound (w.0.2, w.0.3) (idle w.0.0))
 
   pub order_keeps : (order : OrderRead) → Ends old new → (same_disk → Unmoved old new) → (order ≡ Ok Replay) ⊎ (order ≡ Err NoMemory)
-      → Obeys order ((how : ReplayEnd) × (status ≡ status_of how) × Replays same_disk (same_input × same_rand) old new acls acls' words words' left written now how × at_end) pipes (same_disk × same_acls × same_input × same_rand × same_clock) written now status
+      → Obeys order ((how : ReplayEnd) × (status ≡ status_of how) × Replays same_disk (same_input × same_rand) old new acls acls' words words' left written now how × at_end) pipes serves (same_disk × same_acls × same_input × same_rand × same_clock) written now status
       → KeepsFiles (same_input × same_rand) past old new acls acls' words words' left written now status
-  order_keeps order ends idle (inl is) obeys = replayed_keeps ends idle (subst (λ (o : OrderRead). Obeys o Replayed pipes Same written now status) is obeys)
-  order_keeps order ends idle (inr is) obeys = unread_keeps idle (subst (λ (o : OrderRead). Obeys o Replayed pipes Same written now status) is obeys)
+  order_keeps order ends idle named obeys = ⊎_elim (replayed_keeps ends idle) (unread_keeps idle) (obeyed order Replay Replayed pipes serves Same written now status named obeys)
+
+-- and so do those that name the connection
+module _ (past : Past) (old new : DiskState) (tells : Tells old) (sound : StartsSound old past) (same_disk same_acls same_input same_out same_rand same_clock replays : Type 0) (serves : ℕ → ℕ → Type 0) (acls acls' : Option (List ℕ)) (words words' : ℕ → ℕ) (left left' written now : Option (List ℕ)) (status : ℕ) where
+  abbrev Piped : Type 0
+  Piped = Pipes same_disk (same_input × same_out × same_rand × same_clock) old new acls acls' words words' left left' written now status
+
+  abbrev Unasked : Type 0
+  Unasked = same_disk × same_acls × same_input × same_rand × same_clock
+
+  abbrev KeepsToo : Type 0
+  KeepsToo = ConnectionKeepsFiles (same_input × same_rand × same_clock) past old new acls acls' words words' left left' written now status
+
+  piped_keeps : Ends old new → (same_disk → Unmoved old new) → Piped → KeepsToo
+  piped_keeps ends idle p = connection_keeps past old new tells sound same_disk (same_input × same_out × same_rand × same_clock) (same_input × same_rand × same_clock) acls acls' words words' left left' written now status ends idle
+      (λ same. (same.0, same.2, same.3)) p
+
+  unasked_keeps : (same_disk → Unmoved old new) → WantsMemory Unasked written now status → KeepsToo
+  unasked_keeps idle w = inl (unmoved_keeps past old new tells sound (w.0.2, w.0.3, w.0.4) (idle w.0.0))
+
+  pub pipe_order_keeps : (order : OrderRead) → Ends old new → (same_disk → Unmoved old new) → (order ≡ Ok Pipe) ⊎ (order ≡ Err NoMemory)
+      → Obeys order replays (Pipes same_disk (same_input × same_out × same_rand × same_clock) old new acls acls' words words' left left' written now status) serves (same_disk × same_acls × same_input × same_rand × same_clock) written now status
+      → ConnectionKeepsFiles (same_input × same_rand × same_clock) past old new acls acls' words words' left left' written now status
+  pipe_order_keeps order ends idle named obeys = ⊎_elim (piped_keeps ends idle) (unasked_keeps idle) (obeyed order Pipe replays Piped serves Unasked written now status named obeys)

@@ -1,26 +1,30 @@
--- The calls of a connection, and a connection as a whole.
-use Rattle.std.proofs.Common.{◌≡◌, ◌≢◌, inl, inr, ℕ, List, [], ◌∷◌, refl, ap, sym, ◌∙◌, subst, IsTrue, Bool, Option, arith}
+-- The transactions of a connection, and a connection as a whole.
+use Rattle.std.proofs.Common.{◌≡◌, ◌≢◌, inl, inr, ℕ, List, [], ◌∷◌, ◌++◌, append_assoc, refl, ap, sym, ◌∙◌, subst, IsTrue, Bool, None, Option, Some, arith}
+use Rattle.std.specs.List.{AllByRecursion}
+use Rattle.std.proofs.lemmas.List.{map-append}
 use Rattle.hk_base.specs.Disk.{DiskState, Tells}
-use Rattle.kms_calls.specs.declared.calls.KmsCall.{KmsCall}
-use Rattle.kms_calls.specs.declared.calls.KmsReply.{KmsReply}
+use Rattle.name_calls.specs.declared.paths.NPath.{NPath}
+use Rattle.name_calls.specs.Paths.{path_text}
 use Rattle.prop_text.specs.declared.lines.PropLine.{PropLine}
 use Rattle.prop_text.specs.declared.props.Props.{Props}
 use Rattle.hk_events.specs.declared.event.Event.TheVariants as event
-use Rattle.hk_events.specs.declared.event.Line.TheVariants as line
 use Rattle.world_run.specs.Acknowledged.{Acknowledged, LeavesBoth, RunBoth}
 use Rattle.world_run.specs.World.{RunningWorld, WorldState, first_world, world_of}
-use Rattle.world_run.specs.Keeps.{Begins, LeftByStarts, Steps}
+use Rattle.world_run.specs.Drives.{Course, IsCourse, Leading, Leads, Standing, next_event, standing_after}
+use Rattle.world_run.specs.Keeps.{Begins, LeftByStarts}
 use Rattle.hk_base.specs.declared.ended.Ended.{Ended}
 use Rattle.hk_base.specs.declared.ended.Ended.TheVariants as ended
 use Rattle.hk_serve.specs.Served.{Served}
-use Rattle.hk_serve.specs.Worlds.{Happens, WorldView}
+use Rattle.hk_serve.specs.Transactions.{Transaction}
+use Rattle.world_desk.specs.Orders.{AnsweredEvent, Follow, IsDrive, IsOrder, submitted}
+use Rattle.world_desk.specs.Worlds.{DrivesOn, Happens, LeadsOn, Passes, events_in}
 use Rattle.http_wire.specs.Reading.{ahead}
 use Rattle.hkms_commands.specs.declared.replay.ReplayEnd.{ReplayEnd}
 use Rattle.hkms_commands.specs.declared.replay.ReplayEnd.TheVariants as replayed
-use Rattle.hkms_commands.specs.Pipe.{Asks, Converses, Pipe, PipeUnder, connection_status}
+use Rattle.hkms_commands.specs.Pipe.{Asks, Converses, Pipe, PipeUnder, answered_in, connection_status}
 use Rattle.hkms_commands.specs.Logs.{NoRestart, opened_logs}
 use Rattle.hkms_commands.specs.Replay.{ended_by, ended_by_props, status_of}
-use Rattle.hkms_commands.specs.Run.{History, Runs, world_after}
+use Rattle.hkms_commands.specs.Run.{Happened, History, Runs, world_after}
 use Rattle.hkms_commands.specs.Steps.{HasLists}
 use Rattle.hkms_commands.proofs.BeganLemmas.{apart_kept, last_kept, promise_kept, survives_kept}
 use Rattle.hkms_commands.proofs.FollowLemmas.{ServedSo, served_so}
@@ -32,30 +36,105 @@ pub record Opened : Type 1 where
   pub services : RunningWorld
   pub words : ℕ → ℕ
 
--- the calls so far, under properties of these lines, and the state after them
-abbrev Talked : List PropLine → Opened → DiskState → RunningWorld → (ℕ → ℕ) → History → Type 0
-Talked props o now r words history = Lived props o.disk now o.services o.words r words history
+-- The events so far, under properties of these lines, have led to this standing.
+abbrev TalksAs : {D W : Type 0} → (D → DiskState) → (W → ℕ → ℕ) → List PropLine → Opened → Standing D W → History → Type 0
+TalksAs state to_come props o v history = Lived props o.disk (state v.disk) o.services o.words v.world (to_come v.words) history
 
--- one call more: what it adds to the history
-pub record CallMore (props : List PropLine) (o : Opened) (new : DiskState) (r : RunningWorld) (words : ℕ → ℕ) (earlier : History) (user : List ℕ) (asked : KmsCall) (reply : KmsReply) : Type 0 where
-  pub later : History
-  pub asks : Asks earlier user asked reply later
-  pub talked : Talked props o new r words later
+-- all events of a history happened at this moment
+abbrev AreAt : ℕ → History → Type 0
+AreAt now history = AllByRecursion (λ (h : Happened). h.now ≡ now) history
 
-call_more : (props : List PropLine) (o : Opened) (mid new : DiskState) (r s : RunningWorld) (words words' : ℕ → ℕ) (earlier : History) (now : ℕ) (user : List ℕ) (asked : KmsCall) (reply : KmsReply)
-    → Talked props o mid r words earlier → Steps props mid new r words now (event.Kms user asked) (line.Kms reply) s words' → CallMore props o new s words' earlier user asked reply
-call_more props o mid new r s words words' earlier now user asked reply so steps = record {
-  later = happened_in steps ∷ earlier;
-  asks = record { happened = happened_in steps; event_is = refl; reply_is = refl; grows = refl };
-  talked = lived_more props o.disk mid new o.services r s o.words words words' earlier now (event.Kms user asked) (line.Kms reply) so steps;
+all_at : (now : ℕ) (later earlier : History) → AreAt now later → AreAt now earlier → AreAt now (later ++ earlier)
+all_at now [] earlier here there = there
+all_at now (h ∷ later) earlier here there = (here.0, all_at now later earlier here.1 there)
+
+-- a course as a history
+pub record Grown {D W : Type 0} (state : D → DiskState) (to_come : W → ℕ → ℕ) (props : List PropLine) (o : Opened) (now : ℕ) (earlier : History) (events : List AnsweredEvent) (b : Standing D W) : Type 0 where
+  pub happened : History
+  pub at_once : AreAt now happened
+  pub answered : answered_in happened ≡ events
+  pub talked : TalksAs state to_come props o b (happened ++ earlier)
+
+grown : {D W : Type 0} (state : D → DiskState) (to_come : W → ℕ → ℕ) (props : List PropLine) (o : Opened) (now : ℕ) (earlier : History) (a : Standing D W) (course : Course D W)
+    → TalksAs state to_come props o a earlier → LeadsOn (Leads state to_come props now) a course → Grown state to_come props o now earlier (events_in course) (standing_after a course)
+grown state to_come props o now earlier a [] so leads = record { happened = []; at_once = tt; answered = refl; talked = so }
+grown state to_come props o now earlier a (p ∷ course) so leads =
+    let g = grown state to_come props o now earlier a course so leads.1 in
+    let b = standing_after a course in
+    record {
+      happened = happened_in leads.0 ∷ g.happened;
+      at_once = (refl, g.at_once);
+      answered = ap (λ (l : List AnsweredEvent). (p.event, p.answer) ∷ l) g.answered;
+      talked = lived_more props o.disk (state b.disk) (state p.after.disk) o.services b.world p.after.world o.words (to_come b.words) (to_come p.after.words) (g.happened ++ earlier) now p.event p.answer g.talked leads.0;
+    }
+
+-- a drive is a course, whose events follow one another
+leads_along : {D W : Type 0} (leads : Leading D W) (path : List ℕ) (a : Standing D W) (course : Course D W) → IsCourse leads path a course → LeadsOn leads a course
+leads_along leads path a [] is = tt
+leads_along leads path a (p ∷ course) is = (is.1, leads_along leads path a course is.2)
+
+follow_along : {D W : Type 0} (leads : Leading D W) (path : List ℕ) (a : Standing D W) (course : Course D W) → IsCourse leads path a course → Follow (event.Walk path) (next_event path) (events_in course)
+follow_along leads path a [] is = tt
+follow_along leads path a (p ∷ []) is = (is.0, tt)
+follow_along leads path a (p ∷ (q ∷ course)) is = (is.0, follow_along leads path a (q ∷ course) is.2)
+
+-- the drive after a submission, as a history
+pub record Driven {D W : Type 0} (state : D → DiskState) (to_come : W → ℕ → ℕ) (props : List PropLine) (o : Opened) (now : ℕ) (earlier : History) (zone : Option NPath) (b : Standing D W) : Type 0 where
+  pub happened : History
+  pub at_once : AreAt now happened
+  pub is_drive : IsDrive zone (answered_in happened)
+  pub talked : TalksAs state to_come props o b (happened ++ earlier)
+
+driven : {D W : Type 0} (state : D → DiskState) (to_come : W → ℕ → ℕ) (props : List PropLine) (o : Opened) (now : ℕ) (earlier : History) (zone : Option NPath) (a b : Standing D W)
+    → TalksAs state to_come props o a earlier → DrivesOn state to_come props now zone a b → Driven state to_come props o now earlier zone b
+driven {D} {W} state to_come props o now earlier None a b so same = record {
+  happened = [];
+  at_once = tt;
+  is_drive = refl;
+  talked = subst (λ (s : Standing D W). TalksAs state to_come props o s earlier) (sym same) so;
 }
+driven {D} {W} state to_come props o now earlier (Some zone) a b so drives =
+    let d = drives.1 in
+    let leads = Leads state to_come props now in
+    let g = grown state to_come props o now earlier a d.course so (leads_along leads (path_text zone) a d.course d.is_course) in
+    record {
+      happened = g.happened;
+      at_once = g.at_once;
+      is_drive = subst (λ (l : List AnsweredEvent). IsDrive (Some zone) l) (sym g.answered) (follow_along leads (path_text zone) a d.course d.is_course);
+      talked = subst (λ (s : Standing D W). TalksAs state to_come props o s (g.happened ++ earlier)) d.last g.talked;
+    }
 
--- the services talk as their history says
-abbrev TalksAs : {D W : Type 0} → (D → DiskState) → (W → ℕ → ℕ) → List PropLine → Opened → WorldView D W → History → Type 0
-TalksAs state to_come props o v history = Talked props o (state v.disk) v.world (to_come v.words) history
+-- one transaction more: what it adds to the history
+pub record AskedMore {D W : Type 0} (state : D → DiskState) (to_come : W → ℕ → ℕ) (props : List PropLine) (o : Opened) (earlier : History) (user : List ℕ) (done : Transaction) (b : Standing D W) : Type 0 where
+  pub later : History
+  pub asks : Asks earlier user done later
+  pub talked : TalksAs state to_come props o b later
+
+asked_more : {D W : Type 0} (state : D → DiskState) (to_come : W → ℕ → ℕ) (props : List PropLine) (o : Opened) (now : ℕ) (earlier : History) (user : List ℕ) (done : Transaction) (a b : Standing D W)
+    → TalksAs state to_come props o a earlier → Passes state to_come props now a user done b → AskedMore state to_come props o earlier user done b
+asked_more {D} {W} state to_come props o now earlier user done a b so passes =
+    let own = grown state to_come props o now earlier a passes.course so passes.leads_on in
+    let after = driven state to_come props o now (own.happened ++ earlier) (submitted done) (standing_after a passes.course) b own.talked passes.drives_on in
+    record {
+      later = (after.happened ++ own.happened) ++ earlier;
+      asks = record {
+        now = now;
+        happened = after.happened ++ own.happened;
+        at_once = all_at now after.happened own.happened after.at_once own.at_once;
+        events = record {
+          own = answered_in own.happened;
+          driven = answered_in after.happened;
+          events_are = map-append (λ (h : Happened). (h.event, h.reply)) after.happened own.happened;
+          is_order = subst (λ (l : List AnsweredEvent). IsOrder user done l) (sym own.answered) passes.is_order;
+          is_drive = after.is_drive;
+        };
+        grows = refl;
+      };
+      talked = subst (λ (l : History). TalksAs state to_come props o b l) (sym (append_assoc after.happened own.happened earlier)) after.talked;
+    }
 
 -- a connection was served, once both logs were opened
-pub converses : {D W : Type 0} (state : D → DiskState) (to_come : W → ℕ → ℕ) (props : Props) (old : DiskState) (v v' : WorldView D W) (left left' written now : Option (List ℕ)) (unused : List ℕ) (how : Ended)
+pub converses : {D W : Type 0} (state : D → DiskState) (to_come : W → ℕ → ℕ) (props : Props) (old : DiskState) (v v' : Standing D W) (left left' written now : Option (List ℕ)) (unused : List ℕ) (how : Ended)
     → Begins props.sizes old (state v.disk) v.world → (Tells old → LeavesBoth old (state v.disk) (LeftByStarts old)) → RunBoth old (state v.disk) → HasLists v.world props.lines
     → Served (Happens state to_come) (record { ahead = left; desk = v; written = written }) (record { ahead = ahead unused left'; desk = v'; written = now }) how
     → Converses props old (state v'.disk) (to_come v.words) (to_come v'.words) left left' written now how
@@ -107,16 +186,16 @@ converses {D} {W} state to_come props old v v' left left' written now unused how
 
     so : ServedSo Asks (TalksAs state to_come props.lines o) (record { ahead = left; desk = v; written = written }) (record { ahead = ahead unused left'; desk = v'; written = now }) how []
     so = served_so (Happens state to_come) Asks (TalksAs state to_come props.lines o)
-        (λ d e user asked reply next r happens.
-        let steps = happens.steps props.lines (has_lists v.world d.world props.lines r.lists has) in
-        let more = call_more props.lines o (state d.disk) (state next.disk) d.world next.world (to_come d.words) (to_come next.words) e happens.now user asked reply r steps in
+        (λ d e user done next r happens.
+        let passes = happens.passes props.lines (has_lists v.world d.world props.lines r.lists has) in
+        let more = asked_more state to_come props.lines o happens.now e user done d next r passes in
         (more.later, (more.asks, more.talked)))
         (record { ahead = left; desk = v; written = written }) (record { ahead = ahead unused left'; desk = v'; written = now }) how [] (lived_nothing props.lines mid v.world words words (λ k. refl)) served
 
     h : History
     h = so.then
 
-    talked : Talked props.lines o (state v'.disk) v'.world (to_come v'.words) h
+    talked : TalksAs state to_come props.lines o v' h
     talked = so.follows
 
     found : Tells old → Acknowledged

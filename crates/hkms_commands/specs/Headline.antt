@@ -2,6 +2,7 @@
 use Rattle.std.specs.Prelude.{◌≡◌, ◌⊎◌, ℕ, ⊤, Bool, List, ◌∷◌, ◌++◌, Option, None, Some, Result, Ok, Err}
 use Rattle.std.specs.Option.{option_map}
 use Rattle.hk_base.specs.Disk.{DiskState, Image}
+use Rattle.hk_base.specs.declared.ended.Ended.{Ended}
 use Rattle.hk_base.specs.declared.texts.Text.{Text}
 use Rattle.hk_events.specs.declared.event.Event.{Event}
 use Rattle.hk_events.specs.declared.event.Event.TheVariants as event
@@ -32,6 +33,7 @@ use Rattle.world_run.specs.Linked.{DrawsApart, SoundFiles, StartsSound, WordsApa
 use Rattle.world_run.specs.Promise.{FilesOpen, In}
 use Rattle.world_run.specs.World.{WorldState, first_world, numbered}
 use Rattle.hkms_commands.specs.declared.replay.ReplayEnd.{ReplayEnd}
+use Rattle.hkms_commands.specs.Pipe.{Converses, connection_status}
 use Rattle.hkms_commands.specs.PlayedLines.{events_of_lines}
 use Rattle.hkms_commands.specs.Properties.{ReadsProperties}
 use Rattle.hkms_commands.specs.Replay.{PlaysOn, status_of}
@@ -139,3 +141,17 @@ pub record RunKept (past : Past) (old new : DiskState) (acls acls' : Option (Lis
 abbrev pub KeepsFiles : Type 0 → Past → DiskState → DiskState → Option (List ℕ) → Option (List ℕ) → (ℕ → ℕ) → (ℕ → ℕ) → Option (List ℕ) → Option (List ℕ) → Option (List ℕ) → ℕ → Type 0
 KeepsFiles same past old new acls acls' words words' left written now status =
     NothingHappened same past old new ⊎ RunKept past old new acls acls' words words' left written now status
+
+-- The properties were read, and a connection was served under them (`Converses`). The history of its events keeps the promise.
+pub record ConnectionKept (past : Past) (old new : DiskState) (acls acls' : Option (List ℕ)) (words words' : ℕ → ℕ) (left left' written now : Option (List ℕ)) (status : ℕ) : Type 0 where
+  pub props : Props
+  pub read : ReadsProperties acls acls' props
+  pub how : Ended
+  pub status_is : status ≡ connection_status how
+  pub connection : Converses props old new words words' left left' written now how
+  pub keeps : Headline past props.lines old new words (first_world props.sizes connection.table connection.names) connection.history
+
+-- what a connection keeps, whatever its status
+abbrev pub ConnectionKeepsFiles : Type 0 → Past → DiskState → DiskState → Option (List ℕ) → Option (List ℕ) → (ℕ → ℕ) → (ℕ → ℕ) → Option (List ℕ) → Option (List ℕ) → Option (List ℕ) → Option (List ℕ) → ℕ → Type 0
+ConnectionKeepsFiles same past old new acls acls' words words' left left' written now status =
+    NothingHappened same past old new ⊎ ConnectionKept past old new acls acls' words words' left left' written now status

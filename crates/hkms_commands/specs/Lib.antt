@@ -7,5 +7,6 @@ pub mod Replay
 pub mod Steps
 pub mod Pipe
 pub mod Orders
+pub mod Serve
 pub mod Headline
 pub mod Laws

@@ -1,9 +1,9 @@
 -- What the words of a command line bring about.
-use Rattle.std.specs.Prelude.{◌≡◌, ◌⊎◌, ℕ, List, codes, Option, Result, Ok, Err, string_bytes}
+use Rattle.std.specs.Prelude.{◌≡◌, ◌⊎◌, ⊤, ℕ, List, codes, Option, Result, Ok, Err, string_bytes}
 use Rattle.std.specs.Io.KnownBytes.{Appends}
 use Rattle.hk_base.specs.Writing.{WroteFront}
 use Rattle.command_line.specs.declared.order.Order.{Order}
-use Rattle.command_line.specs.declared.order.Order.TheVariants.{Replay, Pipe, Help, Version}
+use Rattle.command_line.specs.declared.order.Order.TheVariants.{Replay, Pipe, Serve, Help, Version}
 use Rattle.command_line.specs.declared.order.OrderFault.{OrderFault}
 use Rattle.command_line.specs.declared.order.OrderFault.TheVariants.{Usage, NoMemory}
 
@@ -25,11 +25,17 @@ pub record ShowsText (same : Type 0) (written now : Option (List ℕ)) (status :
   pub untouched : same
   pub shows : Shows text 0 written now status
 
--- what is done at an order: a replay, a connection, or a text that is shown
-abbrev pub Obeys : Result Order OrderFault → Type 0 → Type 0 → Type 0 → Option (List ℕ) → Option (List ℕ) → ℕ → Type 0
-Obeys (Ok Replay) replays pipes same written now status = replays
-Obeys (Ok Pipe) replays pipes same written now status = pipes
-Obeys (Ok (Help text)) replays pipes same written now status = same × Shows (string_bytes text) 0 written now status
-Obeys (Ok (Version text)) replays pipes same written now status = same × Shows (string_bytes text) 0 written now status
-Obeys (Err Usage) replays pipes same written now status = Refuses same written now status
-Obeys (Err NoMemory) replays pipes same written now status = WantsMemory same written now status
+-- what is done at an order: a replay, a connection, a server at this port for so many connections, or a text that is shown
+abbrev pub Obeys : Result Order OrderFault → Type 0 → Type 0 → (ℕ → ℕ → Type 0) → Type 0 → Option (List ℕ) → Option (List ℕ) → ℕ → Type 0
+Obeys (Ok Replay) replays pipes serves same written now status = replays
+Obeys (Ok Pipe) replays pipes serves same written now status = pipes
+Obeys (Ok (Serve port conns)) replays pipes serves same written now status = serves port conns
+Obeys (Ok (Help text)) replays pipes serves same written now status = same × Shows (string_bytes text) 0 written now status
+Obeys (Ok (Version text)) replays pipes serves same written now status = same × Shows (string_bytes text) 0 written now status
+Obeys (Err Usage) replays pipes serves same written now status = Refuses same written now status
+Obeys (Err NoMemory) replays pipes serves same written now status = WantsMemory same written now status
+
+-- only a server has anything to do with a yard and a door: `idle` says that they are as they were
+abbrev pub LeavesServing : Result Order OrderFault → Type 0 → Type 0
+LeavesServing (Ok (Serve port conns)) idle = ⊤
+LeavesServing _ idle = idle

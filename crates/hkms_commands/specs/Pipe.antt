@@ -1,14 +1,11 @@
--- A connection to the key management service.
-use Rattle.std.specs.Prelude.{◌≡◌, ◌⊎◌, ◌≤◌, ℕ, List, [], ◌∷◌, Option}
+-- A connection to both services.
+use Rattle.std.specs.Prelude.{◌≡◌, ◌⊎◌, ◌≤◌, ℕ, List, [], ◌++◌, map, Option}
+use Rattle.std.specs.List.{AllByRecursion}
 use Rattle.hk_base.specs.Disk.{DiskState, Tells}
 use Rattle.frame_log.specs.declared.fault.StartFault.{StartFault}
-use Rattle.kms_calls.specs.declared.calls.KmsCall.{KmsCall}
-use Rattle.kms_calls.specs.declared.calls.KmsReply.{KmsReply}
 use Rattle.key_rows.specs.Table.{Table}
 use Rattle.name_store.specs.Table.{NameTable}
 use Rattle.prop_text.specs.declared.props.Props.{Props}
-use Rattle.hk_events.specs.declared.event.Event.TheVariants as event
-use Rattle.hk_events.specs.declared.event.Line.TheVariants as line
 use Rattle.world_run.specs.Starts.{FailsAt, OpensBoth}
 use Rattle.world_run.specs.World.{first_world}
 use Rattle.world_run.specs.Acknowledged.{also}
@@ -18,22 +15,30 @@ use Rattle.http_wire.specs.Reading.{ahead}
 use Rattle.hk_base.specs.declared.ended.Ended.{Ended}
 use Rattle.hk_base.specs.declared.ended.Ended.TheVariants.{End, Closed, TooLong, Wire, ReadFault, WriteFault, NoMemory}
 use Rattle.hk_serve.specs.Served.{Served}
+use Rattle.hk_serve.specs.Transactions.{Transaction}
+use Rattle.world_desk.specs.Orders.{AnsweredEvent, AreEventsOf}
 use Rattle.hkms_commands.specs.declared.props.PropsFault.{PropsFault}
 use Rattle.hkms_commands.specs.Properties.{HasPropsFault, ReadsProperties}
 use Rattle.hkms_commands.specs.Logs.{HiddenBefore, NoRestart, OnDisk, ReadsAs, opened_logs}
 use Rattle.hkms_commands.specs.Replay.{ended_by, ended_by_props, status_of}
 use Rattle.hkms_commands.specs.Run.{FilesOpen, Happened, History, Runs, StayApart, behind, drawn_in, faults_after, logged_in, world_after}
 
--- a call of a user is the next event of a history, with this reply
-pub record Asks (earlier : History) (user : List ℕ) (asked : KmsCall) (reply : KmsReply) (later : History) : Type 0 where
-  pub happened : Happened
-  pub event_is : happened.event ≡ event.Kms user asked
-  pub reply_is : happened.reply ≡ line.Kms reply
-  pub grows : later ≡ happened ∷ earlier
+-- the events of a history with their answers
+abbrev pub answered_in : History → List AnsweredEvent
+answered_in history = map (λ (h : Happened). (h.event, h.reply)) history
+
+-- A transaction of a user is the next events of a history, all at one moment: those of its call or its order, which have its reply, and
+-- after a submission those of the drive that it is followed by.
+pub record Asks (earlier : History) (user : List ℕ) (done : Transaction) (later : History) : Type 0 where
+  pub now : ℕ
+  pub happened : History
+  pub at_once : AllByRecursion (λ (h : Happened). h.now ≡ now) happened
+  pub events : AreEventsOf user done (answered_in happened)
+  pub grows : later ≡ happened ++ earlier
 
 -- Under these properties, a connection was served from the world on that the two logs were found to stand for: its requests are
--- those of the bytes that were left of the input, each call happens after those before it, and the responses were written after
--- the old output. Bytes that were read after the last request are unused. `words'` are to come now.
+-- those of the bytes that were left of the input, the events of each happen after those before it, and the responses were written
+-- after the old output. Bytes that were read after the last request are unused. `words'` are to come now.
 pub record Converses (props : Props) (old new : DiskState) (words words' : ℕ → ℕ) (left left' written now : Option (List ℕ)) (how : Ended) : Type 0 where
   pub table : Table
   pub names : NameTable
@@ -42,9 +47,9 @@ pub record Converses (props : Props) (old new : DiskState) (words words' : ℕ �
   pub unused : List ℕ
   pub served : Served Asks (record { ahead = left; desk = []; written = written }) (record { ahead = ahead unused left'; desk = history; written = now }) how
   pub runs : Runs props.lines (Tells old) (first_world props.sizes table names) words before history
-  -- the words to come are those after the words that its calls drew
+  -- the words to come are those after the words that its events drew
   pub rest : (k : ℕ) → words' k ≡ behind (drawn_in history) words k
-  -- the count of faults in the calls is the disk's: it begins at no fewer than the disk had, and ends at no more than it has
+  -- the count of faults in the events is the disk's: it begins at no fewer than the disk had, and ends at no more than it has
   pub began : old.faults ≤ before
   pub ended : faults_after before history ≤ new.faults
   pub on_disk : Tells old → OnDisk old new words props.sizes table names history NoRestart

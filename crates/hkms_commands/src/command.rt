@@ -1,29 +1,34 @@
 //! The command line.
-ghost use Rattle.std.specs.Prelude.{◌≡◌, ◌⊎◌, ◌<◌};
+ghost use Rattle.std.specs.Prelude.{◌≡◌, ◌≢◌, ◌⊎◌, ℕ, IsTrue};
 ghost use Rattle.std.specs.Io.KnownBytes.{IsAtEnd};
-ghost use Rattle.clap.specs.Words.{fault_of};
 ghost use Rattle.hk_base.specs.Disk.{Tells};
 ghost use Rattle.hk_base.specs.Faults.{Rose};
-ghost use Rattle.command_line.specs.Line as line;
-ghost use Rattle.command_line.specs.Orders.{AsksForHelp, AsksForVersion, IsMistake, Names};
+ghost use Rattle.command_line.specs.Orders.{AsksForHelp, AsksForVersion, IsMistake, Names, line_fault};
 ghost use Rattle.command_line.specs.declared.order.Order.TheVariants as order;
 ghost use Rattle.hkms_commands.specs.declared.replay.ReplayEnd.{ReplayEnd};
 ghost use Rattle.world_run.specs.Ledger.{Past};
 ghost use Rattle.world_run.specs.Linked.{StartsSound};
-ghost use Rattle.hkms_commands.specs.Headline.{KeepsFiles};
-ghost use Rattle.hkms_commands.specs.Orders.{Obeys, Refuses, Shows, ShowsText, WantsMemory};
+ghost use Rattle.hkms_commands.specs.Headline.{ConnectionKeepsFiles, KeepsFiles};
+ghost use Rattle.hkms_commands.specs.Orders.{LeavesServing, Obeys, Refuses, Shows, ShowsText, WantsMemory};
 ghost use Rattle.hkms_commands.specs.Pipe.{Pipe};
 ghost use Rattle.hkms_commands.specs.Replay.{Replay, status_of};
+ghost use Rattle.hkms_commands.specs.Serve.{Serves};
+ghost use Rattle.cell_server.specs.Connections.{ServesEnds};
 
 use crate::pipe::run_pipe;
 use crate::replay::run_replay;
+use crate::serve::run_serve;
 use command_line::{Order, OrderFault, read_order};
+use disk_kinds::ChaWords;
 use hk_base::{Clock, Disk, Sink, Source, Text, Words, write_all};
+use server_parts::{Door, Yard};
 use std::alloc::Global;
+use std::sync::Wait;
+use std::thread::Threads;
 
 /// Writes a text. Returns `status`, or 8 if the output fails.
-fn show<K: Sink>(out: &mut K, text: &[u8], status: u8) -> u8
-    requires { status < 8 }
+pub fn show<K: Sink>(out: &mut K, text: &[u8], status: u8) -> u8
+    requires { status ≢ 8 }
     ensures shows { Shows text.now status (K.written out.old) (K.written out.new) result }
     ensures write { result ≡ 8 → Rose (K.faults out.old) (K.faults out.new) }
 {
@@ -34,28 +39,51 @@ fn show<K: Sink>(out: &mut K, text: &[u8], status: u8) -> u8
 }
 
 /// Carries out an order, with the contract of `hkms`.
-fn obey<A: Source, S: Source, K: Sink, D: Disk, W: Words, C: Clock>(
+fn obey<
+    R: Threads + Wait + Sync,
+    A: Source,
+    S: Source,
+    K: Sink,
+    D: Disk,
+    Y: Yard,
+    W: Words,
+    C: Clock + Send,
+    P: Door,
+>(
+    rt: &R,
     alloc: Global,
     order: Result<Order, OrderFault>,
     acls: &mut A,
     input: &mut S,
     out: &mut K,
     disk: &mut D,
+    yard: &mut Y,
     rand: &mut W,
     clock: &mut C,
+    door: &mut P,
 ) -> u8
+    requires keys { IsTrue ((Y.state yard.old).lies 0) }
+    requires names { IsTrue ((Y.state yard.old).lies 1) }
     ensures obeys { Obeys order
         ((how : ReplayEnd) × (result ≡ status_of how) × Replay (disk.new ≡ disk.old) ((input.new ≡ input.old) × (rand.new ≡ rand.old)) (D.state disk.old) (D.state disk.new) (A.left acls.old) (A.left acls.new) (W.to_come rand.old) (W.to_come rand.new) (S.left input.old) (K.written out.old) (K.written out.new) how × (result ≡ 0 → IsAtEnd (S.left input.new)))
         (Pipe (disk.new ≡ disk.old) ((input.new ≡ input.old) × (out.new ≡ out.old) × (rand.new ≡ rand.old) × (clock.new ≡ clock.old)) (D.state disk.old) (D.state disk.new) (A.left acls.old) (A.left acls.new) (W.to_come rand.old) (W.to_come rand.new) (S.left input.old) (S.left input.new) (K.written out.old) (K.written out.new) result)
+        (λ port conns. (Serves Y.Own.state ⟦<ChaWords as Words>⟧.to_come (ServesEnds P.In.left P.In.faults P.Out.written P.Out.faults)
+        ((yard.new ≡ yard.old) × (door.new ≡ door.old) × (rand.new ≡ rand.old)) conns (A.left acls.old) (A.left acls.new) (W.to_come rand.old)
+        (Y.state yard.old) (Y.state yard.new) (P.state door.old) (P.state door.new) (K.written out.old) (K.written out.new) result × ((disk.new ≡ disk.old) × (input.new ≡ input.old))))
         ((disk.new ≡ disk.old) × (acls.new ≡ acls.old) × (input.new ≡ input.old) × (rand.new ≡ rand.old) × (clock.new ≡ clock.old))
         (K.written out.old) (K.written out.new) result }
     ensures read { result ≡ 7 → Rose (S.faults input.old) (S.faults input.new) ⊎ Rose (A.faults acls.old) (A.faults acls.new) }
     ensures write { result ≡ 8 → Rose (K.faults out.old) (K.faults out.new) }
-    ensures store { result ≡ 5 → Rose (D.state disk.old).faults (D.state disk.new).faults }
+    ensures idle { LeavesServing order ((yard.new ≡ yard.old) × (door.new ≡ door.old)) }
+    ensures store { result ≡ 5 → Rose (D.state disk.old).faults (D.state disk.new).faults ⊎ Rose (Y.state yard.old).faults (Y.state yard.new).faults }
+    ensures door { result ≡ 9 → Rose (P.faults door.old) (P.faults door.new) }
 {
     match order {
         Ok(Order::Replay) => run_replay(alloc, acls, input, out, disk, rand),
         Ok(Order::Pipe) => run_pipe(alloc, acls, input, out, disk, rand, clock),
+        Ok(Order::Serve { port, conns }) => {
+            run_serve(rt, alloc, acls, out, yard, rand, clock, door, port, conns)
+        }
         Ok(Order::Help(text)) => show(out, text.as_bytes(), 0),
         Ok(Order::Version(text)) => show(out, text.as_bytes(), 0),
         Err(OrderFault::Usage) => show(out, b"usage refused\n", 2),
@@ -65,25 +93,46 @@ fn obey<A: Source, S: Source, K: Sink, D: Disk, W: Words, C: Clock>(
 
 /// Carries out a command line and returns the exit status.
 ///
-/// `replay` replays the event lines of the input, and `pipe` serves the input as an HTTP connection.
-/// Both use the key log on file 0 of the disk, the edit log on file 1, and the properties of `acls`.
+/// `replay` replays the event lines of the input, and `pipe` serves the input as an HTTP connection to
+/// both services. Both use the key log on file 0 of the disk, the edit log on file 1, and the
+/// properties of `acls`. What they keep of files and keys, in every world and after every crash, is
+/// the headline, which `docs/headline.md` explains: the clauses `headline` and `headline_pipe`.
+///
+/// `serve` serves connections of the door with both services, over the same two logs, each on the disk
+/// that the yard gives for it. Both disks must lie in the yard.
+///
 /// Help and version are printed with status 0. A mistake in the words gives status 2 and the line
 /// `usage refused`. If allocation fails while the words are read, the status is 6 and the line is
-/// `no memory`. Anything but the two commands uses the output alone.
-pub fn hkms<A: Source, S: Source, K: Sink, D: Disk, W: Words, C: Clock>(
+/// `no memory`. Anything but the three commands uses the output alone.
+pub fn hkms<
+    R: Threads + Wait + Sync,
+    A: Source,
+    S: Source,
+    K: Sink,
+    D: Disk,
+    Y: Yard,
+    W: Words,
+    C: Clock + Send,
+    P: Door,
+>(
+    rt: &R,
     alloc: Global,
     words: &[Text],
     acls: &mut A,
     input: &mut S,
     out: &mut K,
     disk: &mut D,
+    yard: &mut Y,
     rand: &mut W,
     clock: &mut C,
+    door: &mut P,
 ) -> u8
-    ensures usage { IsMistake (fault_of line.hkms words.now) →
+    requires keys { IsTrue ((Y.state yard.old).lies 0) }
+    requires names { IsTrue ((Y.state yard.old).lies 1) }
+    ensures usage { IsMistake (line_fault words.now) →
         Refuses ((disk.new ≡ disk.old) × (acls.new ≡ acls.old) × (input.new ≡ input.old) × (rand.new ≡ rand.old) × (clock.new ≡ clock.old)) (K.written out.old) (K.written out.new) result
         ⊎ WantsMemory ((disk.new ≡ disk.old) × (acls.new ≡ acls.old) × (input.new ≡ input.old) × (rand.new ≡ rand.old) × (clock.new ≡ clock.old)) (K.written out.old) (K.written out.new) result }
-    ensures usage_only { result ≡ 2 → IsMistake (fault_of line.hkms words.now) }
+    ensures usage_only { result ≡ 2 → IsMistake (line_fault words.now) }
     ensures help { AsksForHelp words.now ⊎ AsksForVersion words.now →
         ShowsText ((disk.new ≡ disk.old) × (acls.new ≡ acls.old) × (input.new ≡ input.old) × (rand.new ≡ rand.old) × (clock.new ≡ clock.old)) (K.written out.old) (K.written out.new) result
         ⊎ WantsMemory ((disk.new ≡ disk.old) × (acls.new ≡ acls.old) × (input.new ≡ input.old) × (rand.new ≡ rand.old) × (clock.new ≡ clock.old)) (K.written out.old) (K.written out.new) result }
@@ -95,10 +144,21 @@ pub fn hkms<A: Source, S: Source, K: Sink, D: Disk, W: Words, C: Clock>(
     ensures pipe { Names order.Pipe words.now →
         Pipe (disk.new ≡ disk.old) ((input.new ≡ input.old) × (out.new ≡ out.old) × (rand.new ≡ rand.old) × (clock.new ≡ clock.old)) (D.state disk.old) (D.state disk.new) (A.left acls.old) (A.left acls.new) (W.to_come rand.old) (W.to_come rand.new) (S.left input.old) (S.left input.new) (K.written out.old) (K.written out.new) result
         ⊎ WantsMemory ((disk.new ≡ disk.old) × (acls.new ≡ acls.old) × (input.new ≡ input.old) × (rand.new ≡ rand.old) × (clock.new ≡ clock.old)) (K.written out.old) (K.written out.new) result }
+    ensures headline_pipe { Names order.Pipe words.now → Tells (D.state disk.old) → (past : Past) → StartsSound (D.state disk.old) past →
+        ConnectionKeepsFiles ((input.new ≡ input.old) × (rand.new ≡ rand.old) × (clock.new ≡ clock.old)) past (D.state disk.old) (D.state disk.new) (A.left acls.old) (A.left acls.new) (W.to_come rand.old) (W.to_come rand.new) (S.left input.old) (S.left input.new) (K.written out.old) (K.written out.new) result }
+    ensures serve { (port conns : ℕ) → Names (order.Serve port conns) words.now →
+        (Serves Y.Own.state ⟦<ChaWords as Words>⟧.to_come (ServesEnds P.In.left P.In.faults P.Out.written P.Out.faults)
+        ((yard.new ≡ yard.old) × (door.new ≡ door.old) × (rand.new ≡ rand.old)) conns (A.left acls.old) (A.left acls.new) (W.to_come rand.old)
+        (Y.state yard.old) (Y.state yard.new) (P.state door.old) (P.state door.new) (K.written out.old) (K.written out.new) result × ((disk.new ≡ disk.old) × (input.new ≡ input.old)))
+        ⊎ WantsMemory ((disk.new ≡ disk.old) × (acls.new ≡ acls.old) × (input.new ≡ input.old) × (rand.new ≡ rand.old) × (clock.new ≡ clock.old)) (K.written out.old) (K.written out.new) result }
+    ensures idle { ((port : ℕ) × (conns : ℕ) × Names (order.Serve port conns) words.now) ⊎ ((yard.new ≡ yard.old) × (door.new ≡ door.old)) }
     ensures read { result ≡ 7 → Rose (S.faults input.old) (S.faults input.new) ⊎ Rose (A.faults acls.old) (A.faults acls.new) }
     ensures write { result ≡ 8 → Rose (K.faults out.old) (K.faults out.new) }
-    ensures store { result ≡ 5 → Rose (D.state disk.old).faults (D.state disk.new).faults }
+    ensures store { result ≡ 5 → Rose (D.state disk.old).faults (D.state disk.new).faults ⊎ Rose (Y.state yard.old).faults (Y.state yard.new).faults }
+    ensures door { result ≡ 9 → Rose (P.faults door.old) (P.faults door.new) }
 {
     let order = read_order(alloc, words);
-    obey(alloc, order, acls, input, out, disk, rand, clock)
+    obey(
+        rt, alloc, order, acls, input, out, disk, yard, rand, clock, door,
+    )
 }

@@ -8,9 +8,11 @@ mod lines;
 mod pipe;
 mod props;
 mod replay;
+mod serve;
 mod stage;
 
 pub use command::hkms;
 pub use laws::runs_follow_one_another;
 pub use pipe::run_pipe;
 pub use replay::run_replay;
+pub use serve::run_serve;

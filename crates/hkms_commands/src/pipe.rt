@@ -1,19 +1,23 @@
 //! Serves an HTTP connection over the input and the output.
 ghost use Rattle.std.specs.Prelude.{◌≡◌, ◌⊎◌, ℕ, List};
+ghost use Rattle.hk_base.specs.Disk.{Tells};
 ghost use Rattle.hk_base.specs.Faults.{Rose};
 ghost use Rattle.http_wire.specs.Reading.{ahead};
+ghost use Rattle.world_run.specs.Ledger.{Past};
+ghost use Rattle.world_run.specs.Linked.{StartsSound};
 ghost use Rattle.world_run.specs.World.{RunningWorld};
 ghost use Rattle.hk_base.specs.declared.ended.Ended.{Ended};
 ghost use Rattle.hk_serve.specs.Served.{Served};
-ghost use Rattle.hk_serve.specs.Worlds.{Happens, IsReady};
+ghost use Rattle.world_desk.specs.Worlds.{Happens, IsReady};
+ghost use Rattle.hkms_commands.specs.Headline.{ConnectionKeepsFiles};
 ghost use Rattle.hkms_commands.specs.Pipe.{Pipe, PipeUnder, connection_status};
 
 use crate::props::read_properties;
 use crate::replay::{ended_by, ended_by_props, status_of};
-use hk_base::{Clock, Disk, Sink, Source, Words};
-use hk_serve::{Ended, serve_world};
+use hk_base::{Clock, Disk, Ended, Sink, Source, Words};
 use prop_text::Props;
 use std::alloc::Global;
+use world_desk::serve_world;
 use world_run::World;
 
 /// The exit status of a connection that ended so.
@@ -75,12 +79,13 @@ fn serve_in<S: Source, K: Sink, D: Disk, W: Words, C: Clock>(
     ended
 }
 
-/// Serves the HTTP/1.1 requests of the input over the key log on file 0 of a disk and the edit log on
-/// file 1, and writes only responses to the output.
+/// Serves the HTTP/1.1 requests of the input with both services, over the key log on file 0 of a disk
+/// and the edit log on file 1, and writes only responses to the output.
 ///
 /// It first reads the properties of the key management service, to their end or to the byte past
 /// 1,048,576, then opens both logs, and then reads the input. The properties say who may make which
-/// call. A call happens at the time that the clock shows.
+/// call on keys. The events of a request happen at the time that the clock shows. A re-encryption that
+/// a request submits is driven to its end before the response.
 ///
 /// Returns the exit status:
 ///
@@ -102,6 +107,8 @@ pub fn run_pipe<A: Source, S: Source, K: Sink, D: Disk, W: Words, C: Clock>(
     clock: &mut C,
 ) -> u8
     ensures pipe { Pipe (disk.new ≡ disk.old) ((input.new ≡ input.old) × (out.new ≡ out.old) × (rand.new ≡ rand.old) × (clock.new ≡ clock.old)) (D.state disk.old) (D.state disk.new) (A.left acls.old) (A.left acls.new) (W.to_come rand.old) (W.to_come rand.new) (S.left input.old) (S.left input.new) (K.written out.old) (K.written out.new) result }
+    ensures headline { Tells (D.state disk.old) → (past : Past) → StartsSound (D.state disk.old) past →
+        ConnectionKeepsFiles ((input.new ≡ input.old) × (rand.new ≡ rand.old) × (clock.new ≡ clock.old)) past (D.state disk.old) (D.state disk.new) (A.left acls.old) (A.left acls.new) (W.to_come rand.old) (W.to_come rand.new) (S.left input.old) (S.left input.new) (K.written out.old) (K.written out.new) result }
     ensures read { result ≡ 7 → Rose (S.faults input.old) (S.faults input.new) ⊎ Rose (A.faults acls.old) (A.faults acls.new) }
     ensures write { result ≡ 8 → Rose (K.faults out.old) (K.faults out.new) }
     ensures store { result ≡ 5 → Rose (D.state disk.old).faults (D.state disk.new).faults }

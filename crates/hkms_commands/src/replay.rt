@@ -235,7 +235,7 @@ impl ReplayRun {
 }
 
 /// Writes the last line if the end has one. Returns how the replay ends then.
-fn finish<K: Sink>(alloc: Global, out: &mut K, stop: ReplayEnd, count: u64) -> ReplayEnd
+pub fn finish<K: Sink>(alloc: Global, out: &mut K, stop: ReplayEnd, count: u64) -> ReplayEnd
     requires { count < 2 ^ 41 }
     ensures closes { Closes stop count (K.written out.old) (K.written out.new) result }
     ensures write { result ≡ ReplayEnd.WriteFault → (stop ≡ ReplayEnd.WriteFault) ⊎ Rose (K.faults out.old) (K.faults out.new) }

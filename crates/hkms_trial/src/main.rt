@@ -19,6 +19,8 @@ use report::Report;
 use std::alloc::Global;
 use std::process::ExitCode;
 use std::rt::Env;
+use std::sync::Wait;
+use std::thread::Threads;
 use std::{env, fs, io};
 use trial::Trial;
 
@@ -54,8 +56,8 @@ fn print_bytes(rt: &HostRuntime, bytes: &[u8]) -> Result<(), Failed> {
 }
 
 /// Runs a trial and prints its report.
-fn run_trial(rt: &HostRuntime, trial: &Trial) -> u8 {
-    let mut report = Report::new(rt.alloc());
+fn run_trial<T: Threads + Wait + Sync>(rt: &HostRuntime, threads: &T, trial: &Trial) -> u8 {
+    let mut report = Report::new(threads, rt.alloc());
     if report.trial(trial).is_err() {
         let _ = eprintln!(rt; "hkms_trial: out of memory");
         return 6;
@@ -67,9 +69,14 @@ fn run_trial(rt: &HostRuntime, trial: &Trial) -> u8 {
 }
 
 /// Reads a trial and runs it.
-fn run_file(rt: &HostRuntime, path: &str, file: &[u8]) -> u8 {
+fn run_file<T: Threads + Wait + Sync>(
+    rt: &HostRuntime,
+    threads: &T,
+    path: &str,
+    file: &[u8],
+) -> u8 {
     match reading::read_trial(rt.alloc(), file) {
-        Ok(trial) => run_trial(rt, &trial),
+        Ok(trial) => run_trial(rt, threads, &trial),
         Err(fault) => {
             let _ = eprintln!(rt; "hkms_trial: {path}: {fault}");
             2
@@ -78,9 +85,9 @@ fn run_file(rt: &HostRuntime, path: &str, file: &[u8]) -> u8 {
 }
 
 /// Runs the trial in the file at a path.
-fn run_path(rt: &HostRuntime, path: &str) -> u8 {
+fn run_path<T: Threads + Wait + Sync>(rt: &HostRuntime, threads: &T, path: &str) -> u8 {
     match fs::read(rt, path) {
-        Ok(file) => run_file(rt, path, file.as_slice()),
+        Ok(file) => run_file(rt, threads, path, file.as_slice()),
         Err(error) => {
             let _ = eprintln!(rt; "hkms_trial: {path}: {error}");
             2
@@ -102,7 +109,7 @@ fn main(rt: HostRuntime) -> ExitCode {
     };
     let status = match word.as_str() {
         "--help" => show_help(&rt),
-        path => run_path(&rt, path),
+        path => run_path(&rt, &rt, path),
     };
     ExitCode::from(status)
 }

@@ -3,8 +3,11 @@ use crate::calls::Calls;
 use crate::disk::TrialDisk;
 use crate::outside::{CountedWords, Noon, TrialSink, TrialSource};
 use crate::trial::{FaultAt, Part, Trial};
+use door_kinds::{MemDoor, MemYard};
 use hkms_commands::hkms;
 use std::alloc::{AllocError, Global};
+use std::sync::Wait;
+use std::thread::Threads;
 
 /// Properties under which every user may do everything.
 const PERMITTING: &[u8] = b"default.key.acl.MANAGEMENT=*\n\
@@ -63,18 +66,30 @@ impl Outside {
         })
     }
 
-    /// Runs the commands over a disk, and answers the status.
-    pub fn run(&mut self, alloc: Global, trial: &Trial, disk: &mut TrialDisk) -> u8 {
-        hkms(
+    /// Runs the commands over a disk, and answers the status. A server gets empty logs, and nobody
+    /// connects to it.
+    pub fn run<R: Threads + Wait + Sync>(
+        &mut self,
+        rt: &R,
+        alloc: Global,
+        trial: &Trial,
+        disk: &mut TrialDisk,
+    ) -> Result<u8, AllocError> {
+        let mut yard = MemYard::empty(alloc)?;
+        let mut door = MemDoor::closed(alloc)?;
+        Ok(hkms(
+            rt,
             alloc,
             trial.words.as_slice(),
             &mut self.properties,
             &mut self.input,
             &mut self.output,
             disk,
+            &mut yard,
             &mut self.words,
             &mut Noon,
-        )
+            &mut door,
+        ))
     }
 
     /// What was written.

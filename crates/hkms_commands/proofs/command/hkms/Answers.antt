@@ -1,22 +1,45 @@
 use Rattle.std.proofs.Common.{◌≡◌, ⊎_elim}
-use Rattle.command_line.specs.declared.order.Order.TheVariants.{Replay}
+use Rattle.command_line.specs.declared.order.Order.TheVariants.{Pipe, Replay, Serve}
 use Rattle.hkms_commands.proofs.HeadlineLemmas.{unmoved}
-use Rattle.hkms_commands.proofs.OrderLemmas.{helps_so, named_so, order_keeps, usage_only, versions_so}
+use Rattle.hkms_commands.proofs.OrderLemmas.{helps_so, named_so, obeyed, order_keeps, pipe_order_keeps, usage_only, versions_so}
 use Rattle.hkms_commands.proofs.PipeLemmas.{pipe_is_no_usage, replay_is_no_usage}
+use Rattle.hkms_commands.proofs.ServeLemmas.{server_is_no_usage, serving_named}
 use Rattle.hkms_commands.proofs.command.hkms.Goals as goal
 
 pub returns-clause-usage_only : goal.returns-clause-usage_only
-returns-clause-usage_only g c = usage_only c.read_order-order.result c.args.words.now _ _ _ _ _ c.obey.result c.read_order-order.ensures.usage c.obey.ensures.obeys (λ replays. replay_is_no_usage _ replays.0 replays.1)
-    (λ pipes. pipe_is_no_usage _ _ _ _ _ _ _ _ _ _ _ _ _ pipes)
+returns-clause-usage_only g c = usage_only c.read_order-order.result c.args.words.now _ _ _ _ _ _ c.obey.result c.read_order-order.ensures.usage c.obey.ensures.obeys (λ replays. replay_is_no_usage _ replays.0 replays.1)
+    (λ pipes. pipe_is_no_usage _ _ _ _ _ _ _ _ _ _ _ _ _ pipes) (λ port conns serves. server_is_no_usage _ _ _ _ _ _ _ _ _ _ _ _ _ _ _ serves.0)
 
 pub returns-clause-help : goal.returns-clause-help
 returns-clause-help g c =
-    ⊎_elim (λ help. helps_so c.read_order-order.result _ _ _ _ _ c.obey.result (c.read_order-order.ensures.help help) c.obey.ensures.obeys)
-    (λ version. versions_so c.read_order-order.result _ _ _ _ _ c.obey.result (c.read_order-order.ensures.version version) c.obey.ensures.obeys)
+    ⊎_elim (λ help. helps_so c.read_order-order.result _ _ _ _ _ _ c.obey.result (c.read_order-order.ensures.help help) c.obey.ensures.obeys)
+    (λ version. versions_so c.read_order-order.result _ _ _ _ _ _ c.obey.result (c.read_order-order.ensures.version version) c.obey.ensures.obeys)
 
 pub returns-clause-headline : goal.returns-clause-headline
 returns-clause-headline g c names tells past sound =
     order_keeps past (g.D.Disk.state c.args.disk.now) (g.D.Disk.state c.obey.new.disk) tells sound (c.obey.new.disk ≡ c.args.disk.now) (c.obey.new.acls ≡ c.args.acls.now) (c.obey.new.input ≡ c.args.input.now)
-    (c.obey.new.rand ≡ c.args.rand.now) (c.obey.new.clock ≡ c.args.clock.now) _ _ _ _ _ _ _ _ _ c.obey.result c.read_order-order.result
+    (c.obey.new.rand ≡ c.args.rand.now) (c.obey.new.clock ≡ c.args.clock.now) _ _ _ _ _ _ _ _ _ _ c.obey.result c.read_order-order.result
     (record { only = g.met.D.Disk.only_now c.args.disk.now; counts = g.met.D.Disk.counts_now c.obey.new.disk }) (unmoved g.D.Disk.state c.args.disk.now c.obey.new.disk (g.met.D.Disk.only_now c.args.disk.now))
     (named_so c.read_order-order.result c.args.words.now c.read_order-order.ensures.ok c.read_order-order.ensures.usage Replay names) c.obey.ensures.obeys
+
+pub returns-clause-headline_pipe : goal.returns-clause-headline_pipe
+returns-clause-headline_pipe g c names tells past sound =
+    pipe_order_keeps past (g.D.Disk.state c.args.disk.now) (g.D.Disk.state c.obey.new.disk) tells sound (c.obey.new.disk ≡ c.args.disk.now) (c.obey.new.acls ≡ c.args.acls.now) (c.obey.new.input ≡ c.args.input.now)
+    (c.obey.new.out ≡ c.args.out.now) (c.obey.new.rand ≡ c.args.rand.now) (c.obey.new.clock ≡ c.args.clock.now) _ _ _ _ _ _ _ _ _ _ c.obey.result c.read_order-order.result
+    (record { only = g.met.D.Disk.only_now c.args.disk.now; counts = g.met.D.Disk.counts_now c.obey.new.disk }) (unmoved g.D.Disk.state c.args.disk.now c.obey.new.disk (g.met.D.Disk.only_now c.args.disk.now))
+    (named_so c.read_order-order.result c.args.words.now c.read_order-order.ensures.ok c.read_order-order.ensures.usage Pipe names) c.obey.ensures.obeys
+
+pub returns-clause-idle : goal.returns-clause-idle
+returns-clause-idle g c = serving_named c.read_order-order.result c.args.words.now _ c.read_order-order.ensures.ok c.obey.ensures.idle
+
+pub returns-clause-replay : goal.returns-clause-replay
+returns-clause-replay g c names =
+    obeyed c.read_order-order.result Replay _ _ _ _ _ _ c.obey.result (named_so c.read_order-order.result c.args.words.now c.read_order-order.ensures.ok c.read_order-order.ensures.usage Replay names) c.obey.ensures.obeys
+
+pub returns-clause-pipe : goal.returns-clause-pipe
+returns-clause-pipe g c names =
+    obeyed c.read_order-order.result Pipe _ _ _ _ _ _ c.obey.result (named_so c.read_order-order.result c.args.words.now c.read_order-order.ensures.ok c.read_order-order.ensures.usage Pipe names) c.obey.ensures.obeys
+
+pub returns-clause-serve : goal.returns-clause-serve
+returns-clause-serve g c port conns names =
+    obeyed c.read_order-order.result (Serve port conns) _ _ _ _ _ _ c.obey.result (named_so c.read_order-order.result c.args.words.now c.read_order-order.ensures.ok c.read_order-order.ensures.usage (Serve port conns) names) c.obey.ensures.obeys

@@ -1,0 +1,50 @@
+-- What follows of what a server did.
+use Rattle.std.proofs.Common.{◌≡◌, ◌≢◌, ◌⊎◌, inl, inr, ℕ, List, arith}
+use Rattle.std.specs.Prelude.{IfOk, Ok, Err, Option}
+use Rattle.clap.specs.Words.{Text}
+use Rattle.rand_chacha.specs.ChaCha.{ChaCha}
+use Rattle.hk_base.specs.Disk.{DiskState}
+use Rattle.command_line.specs.Orders.{Answers, Names}
+use Rattle.command_line.specs.declared.order.Order.TheVariants.{Replay, Pipe, Serve, Help, Version}
+use Rattle.command_line.specs.declared.order.OrderFault.TheVariants.{Usage, NoMemory}
+use Rattle.server_parts.specs.Doors.{DoorState}
+use Rattle.server_parts.specs.Yards.{YardState}
+use Rattle.cell_server.specs.Connections.{Serving}
+use Rattle.server_run.specs.declared.run.RunEnd.{RunEnd}
+use Rattle.server_run.specs.declared.run.RunEnd.TheVariants as run_end
+use Rattle.hkms_commands.specs.declared.replay.ReplayEnd.{ReplayEnd}
+use Rattle.hkms_commands.specs.Orders.{LeavesServing}
+use Rattle.hkms_commands.specs.Serve.{Reports, ReportsRun, Serves}
+use Rattle.hkms_commands.proofs.OrderLemmas.{OrderRead, not_shown}
+use Rattle.hkms_commands.proofs.PipeLemmas.{replay_is_no_usage}
+
+-- no server has the status of refused words
+
+report_is_no_usage : (end : ReplayEnd) (written now : Option (List ℕ)) (status : ℕ) → Reports end written now status → status ≢ 2
+report_is_no_usage end written now status r = replay_is_no_usage status r.how r.status_is
+
+not_two : (n : ℕ) → n ≡ 0 → n ≢ 2
+not_two n zero two = absurd (omega (arith, zero, two))
+
+run_is_no_usage : (end : RunEnd) (written now : Option (List ℕ)) (status : ℕ) → ReportsRun end written now status → status ≢ 2
+run_is_no_usage run_end.Served written now status r = not_two status r.0
+run_is_no_usage run_end.DoorFault written now status r = not_shown _ 9 written now status (λ h. absurd cc) r
+run_is_no_usage run_end.NoMemory written now status r = report_is_no_usage _ written now status r
+run_is_no_usage (run_end.NotOpened file fault) written now status r = report_is_no_usage _ written now status r
+
+pub server_is_no_usage : {D I O : Type 0} (state : D → DiskState) (to_come : ChaCha → ℕ → ℕ) (serves : Serving I O D ChaCha) (same : Type 0) (conns : ℕ) (acls acls' : Option (List ℕ)) (words : ℕ → ℕ) (yard yard' : YardState)
+    (door door' : DoorState I O) (written now : Option (List ℕ)) (status : ℕ) → Serves state to_come serves same conns acls acls' words yard yard' door door' written now status → status ≢ 2
+server_is_no_usage state to_come serves same conns acls acls' words yard yard' door door' written now status (inl refused) = report_is_no_usage _ written now status refused.reports
+server_is_no_usage state to_come serves same conns acls acls' words yard yard' door door' written now status (inr ran) = run_is_no_usage ran.end written now status ran.reports
+
+-- words that give the order of a server name it
+pub serving_named : (order : OrderRead) (words : List Text) (idle : Type 0) → IfOk order (λ o. Answers o words) → LeavesServing order idle → ((port : ℕ) × (conns : ℕ) × Names (Serve port conns) words) ⊎ idle
+serving_named (Ok Replay) words idle answers leaves = inr leaves
+serving_named (Ok Pipe) words idle answers leaves = inr leaves
+serving_named (Ok (Serve port conns)) words idle (inl read) leaves = inl (port, conns, record { no_fault = read.0; command = read.1 })
+serving_named (Ok (Serve port conns)) words idle (inr (inl help)) leaves = absurd help.0
+serving_named (Ok (Serve port conns)) words idle (inr (inr version)) leaves = absurd version.0
+serving_named (Ok (Help text)) words idle answers leaves = inr leaves
+serving_named (Ok (Version text)) words idle answers leaves = inr leaves
+serving_named (Err Usage) words idle answers leaves = inr leaves
+serving_named (Err NoMemory) words idle answers leaves = inr leaves

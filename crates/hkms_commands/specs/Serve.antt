@@ -1,0 +1,58 @@
+-- The server.
+use Rattle.std.specs.Prelude.{◌≡◌, ◌⊎◌, ℕ, List, [], ◌∷◌, codes, Option}
+use Rattle.hk_base.specs.Disk.{DiskState}
+use Rattle.prop_text.specs.declared.props.Props.{Props}
+use Rattle.rand_chacha.specs.ChaCha.{ChaCha}
+use Rattle.server_parts.specs.Doors.{DoorState}
+use Rattle.server_parts.specs.Yards.{YardState}
+use Rattle.cell_server.specs.Connections.{Serving}
+use Rattle.server_run.specs.Runs.{EndsAs}
+use Rattle.server_run.specs.declared.run.RunEnd.{RunEnd}
+use Rattle.server_run.specs.declared.run.RunEnd.TheVariants as run_end
+use Rattle.hkms_commands.specs.declared.props.PropsFault.{PropsFault}
+use Rattle.hkms_commands.specs.declared.replay.ReplayEnd.{ReplayEnd}
+use Rattle.hkms_commands.specs.declared.replay.ReplayEnd.TheVariants as replay_end
+use Rattle.hkms_commands.specs.Orders.{Shows}
+use Rattle.hkms_commands.specs.Properties.{HasPropsFault, ReadsProperties}
+use Rattle.hkms_commands.specs.Replay.{ended_by, ended_by_props, status_of}
+use Rattle.hkms_commands.specs.Steps.{Closes}
+
+-- the generator that has the next eight words as its seed
+abbrev pub generator_of : (ℕ → ℕ) → ChaCha
+generator_of words = record { key = words 0 ∷ words 1 ∷ words 2 ∷ words 3 ∷ words 4 ∷ words 5 ∷ words 6 ∷ words 7 ∷ []; stream = 0; word_pos = 0 }
+
+-- The last line of such an end was written, as at a replay that played no line, and the status is that end's. The end may be another one if the
+-- line could not be made or written.
+pub record Reports (end : ReplayEnd) (written now : Option (List ℕ)) (status : ℕ) : Type 0 where
+  pub how : ReplayEnd
+  pub closes : Closes end 0 written now how
+  pub status_is : status ≡ status_of how
+
+-- what is written when the server has ended, and the status
+abbrev pub ReportsRun : RunEnd → Option (List ℕ) → Option (List ℕ) → ℕ → Type 0
+ReportsRun run_end.Served written now status = (status ≡ 0) × (now ≡ written)
+ReportsRun run_end.DoorFault written now status = Shows (codes "door fault\n") 9 written now status
+ReportsRun run_end.NoMemory written now status = Reports replay_end.NoMemory written now status
+ReportsRun (run_end.NotOpened file fault) written now status = Reports (ended_by file fault) written now status
+
+-- The properties could not be read, and nothing else was done: `same` says that all else is as it was.
+pub record RefusesToServe (same : Type 0) (acls written now : Option (List ℕ)) (status : ℕ) : Type 0 where
+  pub fault : PropsFault
+  pub has_fault : HasPropsFault acls fault
+  pub untouched : same
+  pub reports : Reports (ended_by_props fault) written now status
+
+module _ {D I O : Type 0} (state : D → DiskState) (to_come : ChaCha → ℕ → ℕ) (serves : Serving I O D ChaCha) where
+  -- The properties were read, and the server ran under them. The key management service drew from a generator of its own.
+  pub record ServesUnder (conns : ℕ) (acls acls' : Option (List ℕ)) (words : ℕ → ℕ) (yard yard' : YardState) (door door' : DoorState I O) (written now : Option (List ℕ)) (status : ℕ) : Type 0 where
+    pub props : Props
+    pub read : ReadsProperties acls acls' props
+    pub end : RunEnd
+    pub ends : EndsAs state to_come serves props (generator_of words) conns yard yard' door door' end
+    pub reports : ReportsRun end written now status
+
+  -- The properties were read first, then both logs were opened, and then connections were served. `same` says that the yard, the door and the
+  -- random words are as they were.
+  abbrev pub Serves : Type 0 → ℕ → Option (List ℕ) → Option (List ℕ) → (ℕ → ℕ) → YardState → YardState → DoorState I O → DoorState I O → Option (List ℕ) → Option (List ℕ) → ℕ → Type 0
+  Serves same conns acls acls' words yard yard' door door' written now status =
+      RefusesToServe same acls written now status ⊎ ServesUnder conns acls acls' words yard yard' door door' written now status
