@@ -12,6 +12,11 @@ entries() {
     awk -v part="$1" '$0 == part { inside = 1; next } /^$/ { inside = 0 } inside'
 }
 
+# The options of a command in its text of help, without help itself.
+own_options() {
+    entries Options: | grep -v -- --help | sed 's/^ */  /'
+}
+
 # The text after the options.
 notes() {
     awk '/^Options:$/ { options = 1 } options && /^$/ && !after { after = 1; next } after'
@@ -37,7 +42,7 @@ page_list() {
 
 # The manual page, made of the texts of help.
 page() {
-    local command
+    local command options
     cat <<END
 .\\" Made by tests/manual.sh --write from the texts of hkms --help.
 .TH HKMS 1 "" "$("$hkms" --version)" "User Commands"
@@ -49,6 +54,9 @@ hkms \\- $("$hkms" --help | head -n 1)
 .br
 .B hkms pipe
 < \\fIREQUESTS\\fR > \\fIRESPONSES\\fR
+.br
+.B hkms serve
+[\\-\\-port \\fIN\\fR] [\\-\\-conns \\fIN\\fR]
 .SH COMMANDS
 $("$hkms" --help | entries Commands: | page_list)
 .SH OPTIONS
@@ -56,8 +64,10 @@ $("$hkms" --help | entries Options: | page_list)
 .SH FILES AND EXIT STATUS
 $("$hkms" --help | notes | page_text)
 END
-    for command in replay pipe; do
+    for command in replay pipe serve; do
         printf '.SH HKMS %s\n' "${command^^}"
+        options=$("$hkms" "$command" --help | own_options | page_list)
+        [ -z "$options" ] || printf '%s\n.PP\n' "$options"
         "$hkms" "$command" --help | notes | page_text
     done
 }

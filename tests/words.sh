@@ -39,12 +39,14 @@ for word in --help -h; do
     shows 'Usage: hkms <COMMAND>'
     shows '  replay  Runs the calls of an event text and writes their answers'
     shows '  pipe    Answers the HTTP requests of one connection'
+    shows '  serve   Answers the HTTP requests of connections to a port'
     shows '  -h, --help     Print help'
     shows '  -V, --version  Print version'
     shows '  keys.log             the keys; a change is written here before it is answered'
     shows '  names.log            directories, files and zones, written in the same way'
     shows '  kms-acls.properties  access control lists: who may do what with which key'
     shows '   2  the command line has a mistake; nothing was read, and no log was made'
+    shows "   9  the port of 'serve' cannot be opened, or accepting a connection failed"
 
     helps replay "$word"
     shows 'Runs the calls of an event text and writes their answers'
@@ -57,7 +59,15 @@ for word in --help -h; do
     shows 'Answers the HTTP requests of one connection'
     shows 'Usage: hkms pipe'
     shows '    GET /kms/v1/keys/names?user.name=alice HTTP/1.1'
+    shows '    GET /nn/v1/list?path=/&user.name=alice HTTP/1.1'
     shows '   4  keys.log or names.log is damaged'
+
+    helps serve "$word"
+    shows 'Answers the HTTP requests of connections to a port'
+    shows 'Usage: hkms serve [OPTIONS]'
+    shows '      --port <N>   Port of 127.0.0.1, from 1 to 65535 [default: 9600]'
+    shows '      --conns <N>  Connections to serve, from 1 to 4294967295 [default: 4294967295]'
+    shows '     9    door fault           the port cannot be opened, or accepting failed'
 done
 
 for word in --version -V; do
@@ -84,7 +94,32 @@ refuses replay pipe
 refuses replay replay
 refuses pipe 9600
 refuses pipe ''
+refuses pipe --port 9600
 refuses replay load --help
+refuses serve 9600
+refuses serve replay
+refuses serve -p 9600
+refuses serve --ports 9600
+refuses serve --port
+refuses serve --port --conns 2
+refuses serve --port 1 --port 2
+refuses serve --conns=1 --conns=1
+refuses --port 9600 serve
+
+# What is no number of an option: the port is at most 65535, and the connections are at most 4294967295.
+for number in 0 -1 +1 01 1.0 1e1 0x1 65536 4294967296 18446744073709551617 9600x ' 1' '1 ' '' one; do
+    refuses serve "--port=$number"
+    refuses serve --port "$number"
+done
+for number in 0 -1 +1 01 4294967296 18446744073709551617 '' many; do
+    refuses serve "--conns=$number"
+    refuses serve --port 1 --conns "$number"
+done
+
+# Help comes before a number that is refused only for how it is written, and after one that is none.
+helps serve --port +1 --help
+shows 'Usage: hkms serve [OPTIONS]'
+refuses serve --port x --help
 
 # Help is not a command, and a command has no version.
 refuses help
@@ -92,6 +127,7 @@ refuses help replay
 refuses replay help
 refuses replay --version
 refuses pipe -V
+refuses serve --version
 
 # Words that are not ASCII.
 refuses $'r\xc3\xa9play'
