@@ -10,4 +10,4 @@ mod tcp_door;
 pub use file_yard::FileYard;
 pub use mem_door::{MemClient, MemDoor, MemLeft};
 pub use mem_yard::{MemFile, MemYard};
-pub use tcp_door::TcpDoor;
+pub use tcp_door::{TcpDoor, TcpSource};

@@ -3,10 +3,10 @@ ghost use Rattle.std.specs.Prelude.{◌≡◌, ◌≤◌, ◌<◌, ◌-◌, ◌^
 ghost use Rattle.door_kinds.specs.Doors.{opaque_door};
 
 use disk_kinds::{Reading, Writing};
-use hk_base::{Ended, Failed};
+use hk_base::{Ended, Failed, Source};
 use server_parts::Door;
 use std::io::{self, ErrorKind};
-use std::net::{Ipv4Addr, Net, SocketAddr, SocketAddrV4, TcpListener, TcpStream};
+use std::net::{Ipv4Addr, Net, Shutdown, SocketAddr, SocketAddrV4, TcpListener, TcpStream};
 use std::time::Duration;
 
 /// How many connections in a row may be given up by their peers before they are accepted.
@@ -16,7 +16,8 @@ const TRIES: u32 = 1000;
 const LONGEST_WAIT: u64 = 60;
 
 /// A door that listens on a port of 127.0.0.1. A read or a write of a connection fails if it waits
-/// longer than a minute. A connection is closed when it is left. It counts errors, up to 2^64 - 1. Contracts promise nothing about what a peer sends or receives.
+/// longer than a minute. A connection is shut down once a read of it has failed or has found the end,
+/// and closed when it is left. It counts errors, up to 2^64 - 1. Contracts promise nothing about what a peer sends or receives.
 #[derive(Drop)]
 pub struct TcpDoor<'n, N: Net<Listener = TcpListener, Stream = TcpStream>> {
     net: &'n N,
@@ -25,6 +26,37 @@ pub struct TcpDoor<'n, N: Net<Listener = TcpListener, Stream = TcpStream>> {
     left: u64,
     pub faults: u64,
     ghost order: { left ≤ accepted },
+}
+
+/// The input of a connection over TCP. Once a read has failed or has found the end, no request of it
+/// will be answered, so the connection is shut down at once and its peer does not wait.
+#[derive(Drop)]
+pub struct TcpSource {
+    reading: Reading<TcpStream>,
+}
+
+/// Returns whether a read of up to `wanted` bytes failed or found the end.
+fn is_over(read: &Result<usize, Failed>, wanted: usize) -> bool {
+    match read {
+        Ok(count) => *count == 0 && wanted > 0,
+        Err(_) => true,
+    }
+}
+
+impl Source for TcpSource {
+    ghost use Rattle.std.specs.Prelude.{None};
+
+    ghost left = { λ _. None };
+
+    ghost faults = { λ s. s.reading.faults };
+
+    fn read(&mut self, buf: &mut [u8]) -> Result<usize, Failed> {
+        let read = self.reading.read(buf);
+        if is_over(&read, buf.len()) {
+            let _ = self.reading.inner.shutdown(Shutdown::Both);
+        }
+        read
+    }
 }
 
 /// Accepts the next connection whose peer has not given it up.
@@ -44,8 +76,8 @@ fn accept_tried(listener: &TcpListener) -> io::Result<TcpStream> {
 
 /// Accepts a connection, as a source and a sink. What is written is sent at once (`TCP_NODELAY`). A
 /// read or a write that waits longer than a minute fails.
-fn accept_ends(listener: &TcpListener) -> io::Result<(Reading<TcpStream>, Writing<TcpStream>)>
-    ensures { IfOk result (λ ends. (ends.0.faults ≡ 0) × (ends.1.faults ≡ 0)) }
+fn accept_ends(listener: &TcpListener) -> io::Result<(TcpSource, Writing<TcpStream>)>
+    ensures { IfOk result (λ ends. (ends.0.reading.faults ≡ 0) × (ends.1.faults ≡ 0)) }
 {
     let stream = accept_tried(listener)?;
     let longest = Some(Duration::from_secs(LONGEST_WAIT));
@@ -53,16 +85,19 @@ fn accept_ends(listener: &TcpListener) -> io::Result<(Reading<TcpStream>, Writin
     stream.set_read_timeout(longest)?;
     stream.set_write_timeout(longest)?;
     let out = stream.try_clone()?;
-    Ok((Reading::new(stream), Writing::new(out)))
+    let source = TcpSource {
+        reading: Reading::new(stream),
+    };
+    Ok((source, Writing::new(out)))
 }
 
 /// Accepts a connection if the door listens and its count has room.
 fn next_ends(
     listener: &Option<TcpListener>,
     accepted: u64,
-) -> Result<(Reading<TcpStream>, Writing<TcpStream>), Failed>
+) -> Result<(TcpSource, Writing<TcpStream>), Failed>
     ensures room { OnOk result (accepted < 2 ^ 64 - 1) }
-    ensures fresh { IfOk result (λ ends. (ends.0.faults ≡ 0) × (ends.1.faults ≡ 0)) }
+    ensures fresh { IfOk result (λ ends. (ends.0.reading.faults ≡ 0) × (ends.1.faults ≡ 0)) }
 {
     let Some(listener) = listener else {
         return Err(Failed);
@@ -98,7 +133,7 @@ impl<'n, N: Net<Listener = TcpListener, Stream = TcpStream>> TcpDoor<'n, N> {
 }
 
 impl<'n, N: Net<Listener = TcpListener, Stream = TcpStream>> Door for TcpDoor<'n, N> {
-    type In = Reading<TcpStream>;
+    type In = TcpSource;
 
     type Out = Writing<TcpStream>;
 
@@ -122,7 +157,7 @@ impl<'n, N: Net<Listener = TcpListener, Stream = TcpStream>> Door for TcpDoor<'n
         }
     }
 
-    fn accept(&mut self) -> Result<(Reading<TcpStream>, Writing<TcpStream>), Failed> {
+    fn accept(&mut self) -> Result<(TcpSource, Writing<TcpStream>), Failed> {
         match next_ends(&self.listener, self.accepted) {
             Ok(ends) => {
                 self.accepted += 1;
@@ -135,7 +170,7 @@ impl<'n, N: Net<Listener = TcpListener, Stream = TcpStream>> Door for TcpDoor<'n
         }
     }
 
-    fn leave(&mut self, _input: Reading<TcpStream>, _out: Writing<TcpStream>, _ended: Ended) {
+    fn leave(&mut self, _input: TcpSource, _out: Writing<TcpStream>, _ended: Ended) {
         // Dropping both ends closes the connection.
         self.left += 1;
     }
