@@ -16,14 +16,6 @@ block() {
             s#/usr/local/bin/hkms#$hkms#; s#\(nowait.[0-9]*\) hkms #\1 $(id -un) #"
 }
 
-# same NAME WANTED GOT
-same() {
-    if [ "$2" != "$3" ]; then
-        printf 'tests/activation.sh: %s: got\n%s\nwanted:\n%s\n' "$1" "$3" "$2"
-        failures=$((failures + 1))
-    fi
-}
-
 # serve COMMAND..: starts a server, and waits for its socket.
 serve() {
     "$@" >"$room/server.log" 2>&1 &

@@ -7,14 +7,6 @@ for tool in curl python3; do
     command -v "$tool" >/dev/null || { echo "tests/pipe.sh: skipped, the command $tool is not here"; exit 0; }
 done
 
-# same NAME WANTED GOT
-same() {
-    if [ "$2" != "$3" ]; then
-        printf 'tests/pipe.sh: %s: got\n%s\nwanted:\n%s\n' "$1" "$3" "$2"
-        failures=$((failures + 1))
-    fi
-}
-
 # The service runs in a folder of its own. The first run builds the program.
 fresh
 (cd "$room" && "$hkms" pipe) </dev/null

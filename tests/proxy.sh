@@ -26,14 +26,6 @@ ask() {
     curl -s --unix-socket "$room/tls.sock" --insecure --cert "$room/$who.pem" --key "$room/$who.key" -w ' %{http_code}' "$@"
 }
 
-# same NAME WANTED GOT
-same() {
-    if [ "$2" != "$3" ]; then
-        printf 'tests/proxy.sh: %s: got\n%s\nwanted:\n%s\n' "$1" "$3" "$2"
-        failures=$((failures + 1))
-    fi
-}
-
 fresh
 mkdir "$room/data"
 printf '%s\n' hadoop.kms.acl.GET_KEYS=alice 'default.key.acl.MANAGEMENT=*' >"$room/data/kms-acls.properties"

@@ -16,6 +16,14 @@ expect() {
     fi
 }
 
+# same NAME WANTED GOT: compares two texts.
+same() {
+    if [ "$2" != "$3" ]; then
+        printf '%s: %s: got\n%s\nwanted:\n%s\n' "$0" "$1" "$3" "$2"
+        failures=$((failures + 1))
+    fi
+}
+
 # Makes an empty folder.
 fresh() {
     room=$(mktemp -d -p "$folder") || exit 1

@@ -8,14 +8,6 @@ for tool in curl python3 openssl; do
     command -v "$tool" >/dev/null || { echo "tests/serve.sh: skipped, the command $tool is not here"; exit 0; }
 done
 
-# same NAME WANTED GOT
-same() {
-    if [ "$2" != "$3" ]; then
-        printf 'tests/serve.sh: %s: got\n%s\nwanted:\n%s\n' "$1" "$3" "$2"
-        failures=$((failures + 1))
-    fi
-}
-
 # A port that nobody has.
 free_port() {
     python3 -c 'import socket; s = socket.socket(); s.bind(("127.0.0.1", 0)); print(s.getsockname()[1])'
@@ -75,6 +67,19 @@ done
 same 'a list' '{"answer":"list a b c d e"} 200' "$(ask GET '/nn/v1/list?path=/z&user.name=alice')"
 same 'a file that exists' '{"RemoteException":{"exception":"Exists","message":"N3 Exists"}} 409' "$(ask POST '/nn/v1/create?path=/z/a&user.name=alice')"
 same 'no route' '{"RemoteException":{"exception":"NoRoute","message":"NoRoute"}} 404' "$(ask GET '/nn/v1/other?user.name=a')"
+
+# ---- a client that sends no more gets its response, and then the end
+
+closed=$(timeout 20 python3 -c '
+import socket, sys
+s = socket.create_connection(("127.0.0.1", int(sys.argv[1])))
+s.sendall(b"GET /kms/v1/keys/names?user.name=a HTTP/1.1\r\n\r\n")
+s.shutdown(socket.SHUT_WR)
+got = b""
+while part := s.recv(4096):
+    got += part
+print(got.decode().splitlines()[-1])' "$port")
+same 'the end of a connection' '["k"]' "$closed"
 
 # ---- a second server for the folder, and one for the port
 
