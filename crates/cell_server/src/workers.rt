@@ -54,7 +54,10 @@ impl<'a, R: Wait, D: Disk, W: Words, C: Clock, M: Naming, N: Naming, G: Gate> Cr
         for _ in self.rt.forever() {
             match self.inlets.low.recv(self.rt) {
                 Ok(()) => self.fill_all(&mut keys, &mut words),
-                Err(_) => return keys,
+                Err(_) => {
+                    drop(words);
+                    return keys;
+                }
             }
         }
         unreachable!()
@@ -68,10 +71,8 @@ impl<'a, R: Wait, D: Disk, W: Words, C: Clock, M: Naming, N: Naming, G: Gate> Cr
             .shared
             .update_turn(self.rt, names, keys, reply, self.gate)
         {
-            Ok(_) => {
-                let _ = self.outlets.tasks.send(self.rt, zone);
-            }
-            Err(_) => {}
+            Ok(_) => drop(self.outlets.tasks.send(self.rt, zone)),
+            Err(_) => drop(zone),
         }
     }
 
@@ -79,10 +80,12 @@ impl<'a, R: Wait, D: Disk, W: Words, C: Clock, M: Naming, N: Naming, G: Gate> Cr
     /// delivered here if that fails.
     fn walk(&self, keys: &mut KmsPass<D, W, C, M>, names: &mut NamePass<D, N>, zone: NPath) {
         let Ok(path) = copy_of(self.alloc, &zone) else {
+            drop(zone);
             return;
         };
         let gave = self.shared.walk_turn(self.rt, names, path);
         let Some(batch) = batch_of(gave) else {
+            drop(zone);
             return;
         };
         let reply = self
@@ -132,10 +135,23 @@ impl<'a, R: Wait, D: Disk, W: Words, C: Clock, M: Naming, N: Naming, G: Gate> Cr
     /// Sends the path of each zone that is still being re-encrypted, as far as there is memory.
     fn send_going(&self, names: &mut NamePass<D, N>) -> Result<(), NoMemory> {
         let zones = list_zones(self.rt, self.alloc, self.shared, names)?;
-        let going = going_zones(self.rt, self.alloc, self.shared, names, zones.as_slice())?;
-        for zone in going.as_slice() {
+        let going = going_zones(self.rt, self.alloc, self.shared, names, zones.as_slice());
+        drop(zones);
+        match going {
+            Err(why) => Err(why),
+            Ok(going) => {
+                let sent = self.send_all(going.as_slice());
+                drop(going);
+                sent
+            }
+        }
+    }
+
+    /// Sends these paths.
+    fn send_all(&self, zones: &[NPath]) -> Result<(), NoMemory> {
+        for zone in zones {
             let path = copy_of(self.alloc, zone)?;
-            let _ = self.outlets.tasks.send(self.rt, path);
+            drop(self.outlets.tasks.send(self.rt, path));
         }
         Ok(())
     }

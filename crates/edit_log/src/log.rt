@@ -3,7 +3,7 @@ use crate::copies::operation_of;
 use crate::reader::OpReader;
 use edit_ops::EditOp;
 use frame_log::{Log, LogFault, StartFault, StoreRefusal};
-use hk_base::{ByteList, Disk};
+use hk_base::{ByteList, Disk, put};
 use std::alloc::Global;
 use std::marker::Model;
 
@@ -111,7 +111,9 @@ impl EditLog {
             return Err(StartFault::Spent);
         }
         let next = EditOp::Opened { opening: last + 1 };
-        match self.commit(alloc, disk, &next) {
+        let done = self.commit(alloc, disk, &next);
+        drop(next);
+        match done {
             Ok(()) => Ok(()),
             Err(StoreRefusal::StoreFault) => Err(StartFault::StoreFault),
             Err(StoreRefusal::NoMemory) => Err(StartFault::NoMemory),
@@ -150,13 +152,19 @@ impl EditLog {
         op.write(&mut record)?;
         let copy = operation_of(alloc, record.as_slice())?;
         match self.log.append(alloc, disk, record.as_slice()) {
-            Ok(_) => return Ok(()),
+            Ok(_) => {
+                drop(copy);
+                return Ok(());
+            }
             Err(LogFault::StoreFault) => {
-                self.pending = Some(copy);
+                put(&mut self.pending, Some(copy));
                 return Err(StoreRefusal::StoreFault);
             }
             // An append never finds the log damaged.
-            Err(_) => return Err(StoreRefusal::NoMemory),
+            Err(_) => {
+                drop(copy);
+                return Err(StoreRefusal::NoMemory);
+            }
         }
     }
 
@@ -207,6 +215,7 @@ impl EditLog {
         if kept {
             return Ok(pending);
         }
+        drop(pending);
         Ok(None)
     }
 }

@@ -2,7 +2,7 @@
 ghost use Rattle.std.specs.Prelude.{◌≡◌, [], IfOk, Some};
 
 use crate::shared::Shared;
-use hist_cell::{Naming, Opened};
+use hist_cell::{Core, Naming, Opened};
 use hk_base::{Clock, Disk, NoMemory, Words};
 use kms_cell::{KmsPass, KmsSide};
 use name_cell::{NamePass, NameSide};
@@ -15,6 +15,32 @@ pub struct Opening<D: Disk, W: Words, C: Clock> {
     pub names: Opened<NameSide<D>>,
 }
 
+/// Creates a cell of each core. Returns `NoMemory` if allocation fails; both cores are then dropped.
+fn both<A: Core + Drop, B: Core + Drop>(
+    alloc: Global,
+    first: A,
+    second: B,
+) -> Result<(Opened<A>, Opened<B>), NoMemory>
+    requires first { A.sound first }
+    requires second { B.sound second }
+    ensures { IfOk result (λ o. (o.0.core ≡ first) × (o.1.core ≡ second)) }
+{
+    let one = match Opened::new(alloc, first) {
+        Ok(one) => one,
+        Err(_) => {
+            drop(second);
+            return Err(NoMemory);
+        }
+    };
+    match Opened::new(alloc, second) {
+        Ok(other) => Ok((one, other)),
+        Err(_) => {
+            drop(one);
+            Err(NoMemory)
+        }
+    }
+}
+
 impl<D: Disk + Drop, W: Words + Drop, C: Clock + Drop> Opening<D, W, C> {
     /// Creates a cell of each service, with an empty history. Returns `NoMemory` if allocation fails;
     /// both services are then dropped.
@@ -25,9 +51,10 @@ impl<D: Disk + Drop, W: Words + Drop, C: Clock + Drop> Opening<D, W, C> {
     ) -> Result<Opening<D, W, C>, NoMemory>
         ensures { IfOk result (λ o. (o.keys.core ≡ keys) × (o.names.core ≡ names)) }
     {
-        let keys = Opened::new(alloc, keys)?;
-        let names = Opened::new(alloc, names)?;
-        Ok(Opening { keys, names })
+        match both(alloc, keys, names) {
+            Ok((keys, names)) => Ok(Opening { keys, names }),
+            Err(why) => Err(why),
+        }
     }
 
     /// Names both cells. The first pass of each has seen nothing.

@@ -38,11 +38,13 @@ impl<D> Closed<D> {
         ensures names { result.1 ≡ self.names_disk }
     {
         let Closed {
-            kms: _,
+            kms,
             keys_disk,
-            names: _,
+            names,
             names_disk,
         } = self;
+        drop(kms);
+        drop(names);
         (keys_disk, names_disk)
     }
 }

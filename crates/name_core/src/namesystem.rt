@@ -27,7 +27,7 @@ use crate::updates::{last_session, retire_by, retire_kept};
 use crate::walks::{Walked, outstanding, take};
 use edit_ops::EditOp;
 use frame_log::{StartFault, StoreRefusal};
-use hk_base::{Disk, Edek, KeyName, NoMemory, Text};
+use hk_base::{Disk, Edek, KeyName, NoMemory, Text, put};
 use name_calls::{Answered, Ask, AskNote, KeyAnswer, NPath, NameCall, NameRefusal, NameReply};
 use name_store::{
     NameStore, has_most_rows, to_be_allowed, to_be_disallowed, to_be_going_on, to_be_made,
@@ -110,7 +110,7 @@ impl Name {
         match Name::start(alloc, disk, self.batch.files()) {
             Err(fault) => Err(fault),
             Ok(name) => {
-                *self = name;
+                put(self, name);
                 Ok(())
             }
         }
@@ -149,12 +149,15 @@ impl Name {
         ensures { NameActsOnDisk (D.state disk.old) (D.state disk.new) self.old user.now call result self.new }
     {
         if let Some(why) = early_refusal(user, &call) {
+            drop(call);
             return NameReply::Refused(why);
         }
         if is_change(&call) {
             return self.change(disk, call);
         }
-        self.read(&call)
+        let reply = self.read(&call);
+        drop(call);
+        reply
     }
 
     /// Answers a call that changes nothing.
@@ -220,11 +223,14 @@ impl Name {
     {
         self.invariants();
         if let Some(why) = self.change_refusal(&call) {
+            drop(call);
             return NameReply::Refused(why);
         }
         let ids = ids_used(&call);
         let op = self.op_of(call);
-        reply_of(self.write(disk, &op, ids))
+        let written = self.write(disk, &op, ids);
+        drop(op);
+        reply_of(written)
     }
 
     /// Returns why a change is refused while nothing is pending.

@@ -130,10 +130,14 @@ impl World {
         'events: for _ in 0..u64::MAX {
             let answer = self.answer(disk, words, now, event);
             match next_event(alloc, zone, &answer) {
-                Some(next) => event = next,
+                Some(next) => {
+                    drop(answer);
+                    event = next;
+                }
                 None => return result_of(answer),
             }
         }
+        drop(event);
         Err(NameRefusal::NoMemory)
     }
 

@@ -265,28 +265,92 @@ impl World {
             Event::Deposit { ticket } => Ok(self.deposit(words, ticket)),
             Event::RestartKms => self.restart_keys(disk),
             Event::RestartName => self.restart_names(disk),
-            Event::Mkdir { user, path } => Ok(self.mkdir(disk, &user, &path)),
+            Event::Mkdir { user, path } => {
+                let line = self.mkdir(disk, &user, &path);
+                drop(user);
+                drop(path);
+                Ok(line)
+            }
             Event::Delete {
                 user,
                 path,
                 recursive,
-            } => Ok(self.delete(disk, &user, &path, recursive)),
-            Event::Rename { user, path, to } => Ok(self.rename(disk, &user, &path, &to)),
-            Event::Info { user, path } => Ok(self.info(disk, &user, &path)),
-            Event::List { user, path } => Ok(self.list(disk, &user, &path)),
-            Event::Allow { user, path } => Ok(self.allow(disk, &user, &path)),
-            Event::Disallow { user, path } => Ok(self.disallow(disk, &user, &path)),
-            Event::Snap { user, path, name } => Ok(self.snap(disk, &user, &path, name)),
-            Event::Unsnap { user, path, name } => Ok(self.unsnap(disk, &user, &path, name)),
-            Event::Cancel { user, path } => Ok(self.cancel(disk, &user, &path)),
-            Event::Status { user, path } => Ok(self.status(disk, &user, &path)),
-            Event::Zones { user } => Ok(self.call(disk, &user, NameCall::Zones)),
+            } => {
+                let line = self.delete(disk, &user, &path, recursive);
+                drop(user);
+                drop(path);
+                Ok(line)
+            }
+            Event::Rename { user, path, to } => {
+                let line = self.rename(disk, &user, &path, &to);
+                drop(user);
+                drop(path);
+                drop(to);
+                Ok(line)
+            }
+            Event::Info { user, path } => {
+                let line = self.info(disk, &user, &path);
+                drop(user);
+                drop(path);
+                Ok(line)
+            }
+            Event::List { user, path } => {
+                let line = self.list(disk, &user, &path);
+                drop(user);
+                drop(path);
+                Ok(line)
+            }
+            Event::Allow { user, path } => {
+                let line = self.allow(disk, &user, &path);
+                drop(user);
+                drop(path);
+                Ok(line)
+            }
+            Event::Disallow { user, path } => {
+                let line = self.disallow(disk, &user, &path);
+                drop(user);
+                drop(path);
+                Ok(line)
+            }
+            Event::Snap { user, path, name } => {
+                let line = self.snap(disk, &user, &path, name);
+                drop(user);
+                drop(path);
+                Ok(line)
+            }
+            Event::Unsnap { user, path, name } => {
+                let line = self.unsnap(disk, &user, &path, name);
+                drop(user);
+                drop(path);
+                Ok(line)
+            }
+            Event::Cancel { user, path } => {
+                let line = self.cancel(disk, &user, &path);
+                drop(user);
+                drop(path);
+                Ok(line)
+            }
+            Event::Status { user, path } => {
+                let line = self.status(disk, &user, &path);
+                drop(user);
+                drop(path);
+                Ok(line)
+            }
+            Event::Zones { user } => {
+                let line = self.call(disk, &user, NameCall::Zones);
+                drop(user);
+                Ok(line)
+            }
             Event::AskCreate { user, path } => Ok(self.ask_create(user, path)),
             Event::AskZone { user, path, key } => Ok(self.ask_zone(user, path, key)),
             Event::AskSubmit { user, path } => Ok(self.ask_submit(user, path)),
             Event::Draw { ask } => Ok(self.draw(disk, words, now, ask)),
             Event::Finish { reply } => Ok(self.finish(disk, reply)),
-            Event::Walk { path } => Ok(self.walk(disk, &path)),
+            Event::Walk { path } => {
+                let line = self.walk(disk, &path);
+                drop(path);
+                Ok(line)
+            }
             Event::Serve { batch } => Ok(self.serve(disk, words, now, batch)),
             Event::Deliver { reply } => Ok(self.deliver(disk, reply)),
             Event::GiveUp { batch } => Ok(self.give_up(disk, batch)),

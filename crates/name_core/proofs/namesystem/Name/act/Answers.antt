@@ -15,5 +15,5 @@ returns-then-is_change g c =
 
 pub returns : goal.returns
 returns g c =
-    acts-reading (g.D.Disk.state c.args.disk.now) c.args.self.now c.args.user.now c.args.call c.read.result (sym c.early_refusal.ensures ∙ c.in_default.is)
-    (sym c.is_change.ensures ∙ c.if-is_change.false) c.read.ensures
+    acts-reading (g.D.Disk.state c.args.disk.now) c.args.self.now c.args.user.now c.args.call c.read-reply.result (sym c.early_refusal.ensures ∙ c.in_default.is)
+    (sym c.is_change.ensures ∙ c.if-is_change.false) c.read-reply.ensures

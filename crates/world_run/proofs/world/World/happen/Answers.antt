@@ -29,63 +29,63 @@ returns-in-RestartName g c =
 
 pub returns-in-Mkdir : goal.returns-in-Mkdir
 returns-in-Mkdir g c lines lists =
-    so-happens lines (g.D.Disk.state c.args.disk.now) (g.D.Disk.state c.mkdir.new.disk) c.args.self.now c.mkdir.new.self (g.W.Words.to_come c.args.words.now) (g.W.Words.to_come c.args.words.now) c.args.now c.args.event (event.Mkdir c.in-Mkdir.user c.in-Mkdir.path) c.mkdir.result c.in-Mkdir.is
-    (c.mkdir.ensures (g.W.Words.to_come c.args.words.now))
+    so-happens lines (g.D.Disk.state c.args.disk.now) (g.D.Disk.state c.mkdir-line.new.disk) c.args.self.now c.mkdir-line.new.self (g.W.Words.to_come c.args.words.now) (g.W.Words.to_come c.args.words.now) c.args.now c.args.event (event.Mkdir c.in-Mkdir.user c.in-Mkdir.path) c.mkdir-line.result c.in-Mkdir.is
+    (c.mkdir-line.ensures (g.W.Words.to_come c.args.words.now))
 
 pub returns-in-Delete : goal.returns-in-Delete
 returns-in-Delete g c lines lists =
-    so-happens lines (g.D.Disk.state c.args.disk.now) (g.D.Disk.state c.delete.new.disk) c.args.self.now c.delete.new.self (g.W.Words.to_come c.args.words.now) (g.W.Words.to_come c.args.words.now) c.args.now c.args.event (event.Delete c.in-Delete.user c.in-Delete.path c.in-Delete.recursive) c.delete.result c.in-Delete.is
-    (c.delete.ensures (g.W.Words.to_come c.args.words.now))
+    so-happens lines (g.D.Disk.state c.args.disk.now) (g.D.Disk.state c.delete-line.new.disk) c.args.self.now c.delete-line.new.self (g.W.Words.to_come c.args.words.now) (g.W.Words.to_come c.args.words.now) c.args.now c.args.event (event.Delete c.in-Delete.user c.in-Delete.path c.in-Delete.recursive) c.delete-line.result c.in-Delete.is
+    (c.delete-line.ensures (g.W.Words.to_come c.args.words.now))
 
 pub returns-in-Rename : goal.returns-in-Rename
 returns-in-Rename g c lines lists =
-    so-happens lines (g.D.Disk.state c.args.disk.now) (g.D.Disk.state c.rename.new.disk) c.args.self.now c.rename.new.self (g.W.Words.to_come c.args.words.now) (g.W.Words.to_come c.args.words.now) c.args.now c.args.event (event.Rename c.in-Rename.user c.in-Rename.path c.in-Rename.to) c.rename.result c.in-Rename.is
-    (c.rename.ensures (g.W.Words.to_come c.args.words.now))
+    so-happens lines (g.D.Disk.state c.args.disk.now) (g.D.Disk.state c.rename-line.new.disk) c.args.self.now c.rename-line.new.self (g.W.Words.to_come c.args.words.now) (g.W.Words.to_come c.args.words.now) c.args.now c.args.event (event.Rename c.in-Rename.user c.in-Rename.path c.in-Rename.to) c.rename-line.result c.in-Rename.is
+    (c.rename-line.ensures (g.W.Words.to_come c.args.words.now))
 
 pub returns-in-Info : goal.returns-in-Info
 returns-in-Info g c lines lists =
-    so-happens lines (g.D.Disk.state c.args.disk.now) (g.D.Disk.state c.info.new.disk) c.args.self.now c.info.new.self (g.W.Words.to_come c.args.words.now) (g.W.Words.to_come c.args.words.now) c.args.now c.args.event (event.Info c.in-Info.user c.in-Info.path) c.info.result c.in-Info.is
-    (c.info.ensures (g.W.Words.to_come c.args.words.now))
+    so-happens lines (g.D.Disk.state c.args.disk.now) (g.D.Disk.state c.info-line.new.disk) c.args.self.now c.info-line.new.self (g.W.Words.to_come c.args.words.now) (g.W.Words.to_come c.args.words.now) c.args.now c.args.event (event.Info c.in-Info.user c.in-Info.path) c.info-line.result c.in-Info.is
+    (c.info-line.ensures (g.W.Words.to_come c.args.words.now))
 
 pub returns-in-List : goal.returns-in-List
 returns-in-List g c lines lists =
-    so-happens lines (g.D.Disk.state c.args.disk.now) (g.D.Disk.state c.list.new.disk) c.args.self.now c.list.new.self (g.W.Words.to_come c.args.words.now) (g.W.Words.to_come c.args.words.now) c.args.now c.args.event (event.List c.in-List.user c.in-List.path) c.list.result c.in-List.is
-    (c.list.ensures (g.W.Words.to_come c.args.words.now))
+    so-happens lines (g.D.Disk.state c.args.disk.now) (g.D.Disk.state c.list-line.new.disk) c.args.self.now c.list-line.new.self (g.W.Words.to_come c.args.words.now) (g.W.Words.to_come c.args.words.now) c.args.now c.args.event (event.List c.in-List.user c.in-List.path) c.list-line.result c.in-List.is
+    (c.list-line.ensures (g.W.Words.to_come c.args.words.now))
 
 pub returns-in-Allow : goal.returns-in-Allow
 returns-in-Allow g c lines lists =
-    so-happens lines (g.D.Disk.state c.args.disk.now) (g.D.Disk.state c.allow.new.disk) c.args.self.now c.allow.new.self (g.W.Words.to_come c.args.words.now) (g.W.Words.to_come c.args.words.now) c.args.now c.args.event (event.Allow c.in-Allow.user c.in-Allow.path) c.allow.result c.in-Allow.is
-    (c.allow.ensures (g.W.Words.to_come c.args.words.now))
+    so-happens lines (g.D.Disk.state c.args.disk.now) (g.D.Disk.state c.allow-line.new.disk) c.args.self.now c.allow-line.new.self (g.W.Words.to_come c.args.words.now) (g.W.Words.to_come c.args.words.now) c.args.now c.args.event (event.Allow c.in-Allow.user c.in-Allow.path) c.allow-line.result c.in-Allow.is
+    (c.allow-line.ensures (g.W.Words.to_come c.args.words.now))
 
 pub returns-in-Disallow : goal.returns-in-Disallow
 returns-in-Disallow g c lines lists =
-    so-happens lines (g.D.Disk.state c.args.disk.now) (g.D.Disk.state c.disallow.new.disk) c.args.self.now c.disallow.new.self (g.W.Words.to_come c.args.words.now) (g.W.Words.to_come c.args.words.now) c.args.now c.args.event (event.Disallow c.in-Disallow.user c.in-Disallow.path) c.disallow.result c.in-Disallow.is
-    (c.disallow.ensures (g.W.Words.to_come c.args.words.now))
+    so-happens lines (g.D.Disk.state c.args.disk.now) (g.D.Disk.state c.disallow-line.new.disk) c.args.self.now c.disallow-line.new.self (g.W.Words.to_come c.args.words.now) (g.W.Words.to_come c.args.words.now) c.args.now c.args.event (event.Disallow c.in-Disallow.user c.in-Disallow.path) c.disallow-line.result c.in-Disallow.is
+    (c.disallow-line.ensures (g.W.Words.to_come c.args.words.now))
 
 pub returns-in-Snap : goal.returns-in-Snap
 returns-in-Snap g c lines lists =
-    so-happens lines (g.D.Disk.state c.args.disk.now) (g.D.Disk.state c.snap.new.disk) c.args.self.now c.snap.new.self (g.W.Words.to_come c.args.words.now) (g.W.Words.to_come c.args.words.now) c.args.now c.args.event (event.Snap c.in-Snap.user c.in-Snap.path c.in-Snap.name) c.snap.result c.in-Snap.is
-    (c.snap.ensures (g.W.Words.to_come c.args.words.now))
+    so-happens lines (g.D.Disk.state c.args.disk.now) (g.D.Disk.state c.snap-line.new.disk) c.args.self.now c.snap-line.new.self (g.W.Words.to_come c.args.words.now) (g.W.Words.to_come c.args.words.now) c.args.now c.args.event (event.Snap c.in-Snap.user c.in-Snap.path c.in-Snap.name) c.snap-line.result c.in-Snap.is
+    (c.snap-line.ensures (g.W.Words.to_come c.args.words.now))
 
 pub returns-in-Unsnap : goal.returns-in-Unsnap
 returns-in-Unsnap g c lines lists =
-    so-happens lines (g.D.Disk.state c.args.disk.now) (g.D.Disk.state c.unsnap.new.disk) c.args.self.now c.unsnap.new.self (g.W.Words.to_come c.args.words.now) (g.W.Words.to_come c.args.words.now) c.args.now c.args.event (event.Unsnap c.in-Unsnap.user c.in-Unsnap.path c.in-Unsnap.name) c.unsnap.result c.in-Unsnap.is
-    (c.unsnap.ensures (g.W.Words.to_come c.args.words.now))
+    so-happens lines (g.D.Disk.state c.args.disk.now) (g.D.Disk.state c.unsnap-line.new.disk) c.args.self.now c.unsnap-line.new.self (g.W.Words.to_come c.args.words.now) (g.W.Words.to_come c.args.words.now) c.args.now c.args.event (event.Unsnap c.in-Unsnap.user c.in-Unsnap.path c.in-Unsnap.name) c.unsnap-line.result c.in-Unsnap.is
+    (c.unsnap-line.ensures (g.W.Words.to_come c.args.words.now))
 
 pub returns-in-Cancel : goal.returns-in-Cancel
 returns-in-Cancel g c lines lists =
-    so-happens lines (g.D.Disk.state c.args.disk.now) (g.D.Disk.state c.cancel.new.disk) c.args.self.now c.cancel.new.self (g.W.Words.to_come c.args.words.now) (g.W.Words.to_come c.args.words.now) c.args.now c.args.event (event.Cancel c.in-Cancel.user c.in-Cancel.path) c.cancel.result c.in-Cancel.is
-    (c.cancel.ensures (g.W.Words.to_come c.args.words.now))
+    so-happens lines (g.D.Disk.state c.args.disk.now) (g.D.Disk.state c.cancel-line.new.disk) c.args.self.now c.cancel-line.new.self (g.W.Words.to_come c.args.words.now) (g.W.Words.to_come c.args.words.now) c.args.now c.args.event (event.Cancel c.in-Cancel.user c.in-Cancel.path) c.cancel-line.result c.in-Cancel.is
+    (c.cancel-line.ensures (g.W.Words.to_come c.args.words.now))
 
 pub returns-in-Status : goal.returns-in-Status
 returns-in-Status g c lines lists =
-    so-happens lines (g.D.Disk.state c.args.disk.now) (g.D.Disk.state c.status.new.disk) c.args.self.now c.status.new.self (g.W.Words.to_come c.args.words.now) (g.W.Words.to_come c.args.words.now) c.args.now c.args.event (event.Status c.in-Status.user c.in-Status.path) c.status.result c.in-Status.is
-    (c.status.ensures (g.W.Words.to_come c.args.words.now))
+    so-happens lines (g.D.Disk.state c.args.disk.now) (g.D.Disk.state c.status-line.new.disk) c.args.self.now c.status-line.new.self (g.W.Words.to_come c.args.words.now) (g.W.Words.to_come c.args.words.now) c.args.now c.args.event (event.Status c.in-Status.user c.in-Status.path) c.status-line.result c.in-Status.is
+    (c.status-line.ensures (g.W.Words.to_come c.args.words.now))
 
 pub returns-in-Zones : goal.returns-in-Zones
 returns-in-Zones g c lines lists =
-    so-happens lines (g.D.Disk.state c.args.disk.now) (g.D.Disk.state c.call.new.disk) c.args.self.now c.call.new.self (g.W.Words.to_come c.args.words.now) (g.W.Words.to_come c.args.words.now) c.args.now c.args.event (event.Zones c.in-Zones.user) c.call.result c.in-Zones.is
-    (c.call.ensures (g.W.Words.to_come c.args.words.now))
+    so-happens lines (g.D.Disk.state c.args.disk.now) (g.D.Disk.state c.call-line.new.disk) c.args.self.now c.call-line.new.self (g.W.Words.to_come c.args.words.now) (g.W.Words.to_come c.args.words.now) c.args.now c.args.event (event.Zones c.in-Zones.user) c.call-line.result c.in-Zones.is
+    (c.call-line.ensures (g.W.Words.to_come c.args.words.now))
 
 pub returns-in-AskCreate : goal.returns-in-AskCreate
 returns-in-AskCreate g c lines lists =
@@ -114,8 +114,8 @@ returns-in-Finish g c lines lists =
 
 pub returns-in-Walk : goal.returns-in-Walk
 returns-in-Walk g c lines lists =
-    so-happens lines (g.D.Disk.state c.args.disk.now) (g.D.Disk.state c.walk.new.disk) c.args.self.now c.walk.new.self (g.W.Words.to_come c.args.words.now) (g.W.Words.to_come c.args.words.now) c.args.now c.args.event (event.Walk c.in-Walk.path) c.walk.result c.in-Walk.is
-    (c.walk.ensures (g.W.Words.to_come c.args.words.now))
+    so-happens lines (g.D.Disk.state c.args.disk.now) (g.D.Disk.state c.walk-line.new.disk) c.args.self.now c.walk-line.new.self (g.W.Words.to_come c.args.words.now) (g.W.Words.to_come c.args.words.now) c.args.now c.args.event (event.Walk c.in-Walk.path) c.walk-line.result c.in-Walk.is
+    (c.walk-line.ensures (g.W.Words.to_come c.args.words.now))
 
 pub returns-in-Serve : goal.returns-in-Serve
 returns-in-Serve g c lines lists =
