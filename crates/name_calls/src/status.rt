@@ -18,7 +18,8 @@ pub enum State {
 pub struct ZoneStatus {
     /// The id of the re-encryption: that of the ask by which it was submitted.
     pub session: u64,
-    /// The version of the zone's key that was the present one at the submission.
+    /// The version of the encrypted key that was drawn for the submission: the current version of the zone's key at
+    /// that draw. The key may have a later one when the submission is finished.
     pub noted: VersionName,
     pub state: State,
     /// Whether it was cancelled.

@@ -16,7 +16,8 @@ pub struct StatusRow {
     pub zone: u64,
     /// The id of the ask by which the zone was submitted.
     pub session: u64,
-    /// The version of the zone's key that was the present one at the submission.
+    /// The version of the encrypted key that was drawn for the submission: the current version of the zone's key at
+    /// that draw.
     pub noted: VersionName,
     /// Whether it has ended: no file was left, or it was cancelled.
     pub completed: bool,
@@ -213,9 +214,9 @@ impl Statuses {
     }
 
     /// Adds the status of a zone that is submitted under a session, in the place of its earlier one
-    /// if it has one. `noted` is the version of the zone's key that is the present one. Returns
-    /// `NoMemory` if allocation fails; the statuses are then unchanged. It can't fail if there is
-    /// room for one more.
+    /// if it has one. `noted` is the version of the encrypted key that was drawn for the submission.
+    /// Returns `NoMemory` if allocation fails; the statuses are then unchanged. It can't fail if there
+    /// is room for one more.
     pub fn submit(&mut self, zone: u64, session: u64, noted: VersionName) -> Result<(), NoMemory>
         ensures ok { OnOk result (self.new.rows ≡ with_status (new_status zone session noted) self.old.rows) }
         ensures err { OnErr result (self.new.rows ≡ self.old.rows) }
