@@ -40,7 +40,9 @@ pub(crate) fn open<D: Disk>(
     match log.open(alloc, disk, last) {
         Ok(()) => {
             let next = EditOp::Opened { opening: last + 1 };
-            names.apply(&next)?;
+            let applied = names.apply(&next);
+            drop(next);
+            applied?;
             return Ok(());
         }
         Err(fault) => return Err(fault),

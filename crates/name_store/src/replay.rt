@@ -44,11 +44,14 @@ fn take_placed(names: &mut Names, used: &mut UsedIds, placed: PlacedOp) -> Resul
     ensures fault { IsErrOf result StoreFault → ⊥ }
     ensures spent { IsErrOf result Spent → ⊥ }
 {
-    let taken = take(names, used, &placed.op)?;
-    if !taken {
-        return Err(StartFault::Damaged { at: placed.at });
+    let at = placed.at;
+    let taken = take(names, used, &placed.op);
+    drop(placed);
+    match taken {
+        Ok(true) => Ok(()),
+        Ok(false) => Err(StartFault::Damaged { at }),
+        Err(why) => Err(StartFault::from(why)),
     }
-    Ok(())
 }
 
 /// Makes the table of the operations that a reader returns. `Damaged` has the offset of the first record
