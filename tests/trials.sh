@@ -6,8 +6,7 @@
 set -u
 . "$(dirname "${BASH_SOURCE[0]}")/room.bash"
 
-crate=$PWD/crates/hkms_trial
-trial=$crate/out/hkms_trial
+trial=$PWD/crates/hkms_trial/out/hkms_trial
 stamp=$trial.built
 results=$folder/results
 mkdir "$results" || exit 1
@@ -24,12 +23,9 @@ is_old() {
         [ -n "$(find crates.txt crates/*/src crates/*/specs crates/*/proofs -newer "$stamp" -type f -print -quit 2>/dev/null)" ]
 }
 
-# Builds it, over the crates of the program itself.
 build() {
-    [ "$("$hkms" build </dev/null)" = 'usage refused' ] || return 1
     : >"$folder/started"
-    (cd "$crate" && rt run -- --help) </dev/null >"$folder/log" 2>&1
-    grep -qx 'usage: hkms_trial FILE' "$folder/log" || { cat "$folder/log"; return 1; }
+    tools/build_program hkms_trial </dev/null >"$folder/log" 2>&1 || { cat "$folder/log"; return 1; }
     mv "$folder/started" "$stamp"
 }
 
