@@ -15,7 +15,7 @@ def guess_seconds(root, uses, names):
     for name in names:
         proofs = sum(count_lines(f"{root}/crates/{name}/{part}", ".antt") for part in ("specs", "proofs"))
         below = sum(code[it] for it in all_below(uses, name)) - code[name]
-        found[name] = 10 + 0.15 * code[name] + 0.02 * proofs + 0.01 * below
+        found[name] = 8 + 0.1 * code[name] + 0.015 * proofs + 0.006 * below
     return found
 
 
@@ -78,5 +78,5 @@ class Progress:
     def tell(self):
         ended = self.count - len(self.seconds) + len(self.proved)
         took = round((time.monotonic() - self.began) / 60)
-        left = max(1, round(self.seconds_left() / 60)) if ended < self.count else 0
-        print(f"hkms: {ended} of {self.count} crates are proved: {took} min so far, about {left} min left", file=sys.stderr, flush=True)
+        left = f", about {max(1, round(self.seconds_left() / 60))} min left" if ended < self.count else ""
+        print(f"hkms: {ended} of {self.count} crates are proved: {took} min so far{left}", file=sys.stderr, flush=True)
