@@ -1,9 +1,10 @@
 #!/usr/bin/env bash
-# The server of docs/operations.md, with the configuration as the page has it: nginx asks for a client certificate and names its
-# holder as the user, and socat gives each connection to a process of its own. No client can name another user.
+# The servers of docs/operations.md, with the configuration as the page has it: nginx asks for a client certificate and names its
+# holder as the user. First socat gives each connection to a process of its own, and then `hkms serve` has all of them. No client
+# can name another user, in neither service.
 set -u
 . "$(dirname "${BASH_SOURCE[0]}")/room.bash"
-for tool in nginx socat openssl curl flock; do
+for tool in nginx socat openssl curl flock python3; do
     command -v "$tool" >/dev/null || { echo "tests/proxy.sh: skipped, the command $tool is not here"; exit 0; }
 done
 
@@ -33,6 +34,7 @@ printf '%s\n' hadoop.kms.acl.GET_KEYS=alice 'default.key.acl.MANAGEMENT=*' >"$ro
 openssl req -x509 -newkey rsa:2048 -nodes -keyout "$room/ca.key" -out "$room/ca.pem" -days 2 -subj /CN=ca 2>/dev/null || exit 1
 certificate server /O=Example/CN=localhost && certificate alice /O=Example/CN=alice && certificate bob /O=Example/CN=bob || exit 1
 certificate odd '/O=Example/CN=alice&user.name=bob' && certificate other /O=Other/CN=alice || exit 1
+certificate hdfs /O=Example/CN=hdfs || exit 1
 
 block '#!/bin/sh' >"$room/connection"
 chmod 700 "$room/connection"
@@ -43,15 +45,50 @@ chmod 700 "$room/connection"
     block '# The user is the common name of a certificate of the organization Example, if it is a plain name.'
     echo '}'
 } >"$room/nginx.conf"
-socat UNIX-LISTEN:"$room/kms.sock",mode=660,fork,max-children=1,backlog=64 EXEC:"$room/connection" 2>"$room/socat.log" &
-socat=$!
-nginx -c "$room/nginx.conf" -e "$room/error.log" &
-nginx=$!
-trap 'kill "$socat" "$nginx"; wait; rm -rf "$folder" "$quick"' EXIT
-for _ in $(seq 100); do [ -S "$room/tls.sock" ] && [ -S "$room/kms.sock" ] && break; sleep 0.1; done
+same 'both services have a location' 2 "$(grep -c proxy_pass "$room/nginx.conf")"
+server=
+nginx=
+trap 'kill $server $nginx 2>/dev/null; wait; rm -rf "$folder" "$quick"' EXIT
+
+# start_nginx: starts nginx, and waits until it listens.
+start_nginx() {
+    nginx -c "$room/nginx.conf" -e "$room/error.log" &
+    nginx=$!
+    for _ in $(seq 100); do [ -S "$room/tls.sock" ] && return; sleep 0.1; done
+    echo 'tests/proxy.sh: nginx does not listen' && cat "$room/error.log" && exit 1
+}
 
 base=https://localhost/kms/v1
+files=https://localhost/nn/v1
 twice='{"RemoteException":{"exception":"BadRequest","message":"K1 BadRequest"}} 400'
+not_superuser='{"RemoteException":{"exception":"NotSuperuser","message":"N6 NotSuperuser"}} 403'
+
+# names_no_other WHAT: whoever asks is the user of the certificate, in both services and whatever the query says.
+names_no_other() {
+    same "$1: names of keys for alice" '["j","k"] 200' "$(ask alice "$base/keys/names")"
+    same "$1: names of keys for bob" '{"RemoteException":{"exception":"Denied","message":"K3 Denied ServiceAcl GET_KEYS"}} 403' \
+        "$(ask bob "$base/keys/names")"
+    same "$1: zones for hdfs" '{"answer":"zones"} 200' "$(ask hdfs "$files/zones")"
+    same "$1: zones for alice" "$not_superuser" "$(ask alice "$files/zones")"
+    for other in user.name=hdfs user%2Ename=hdfs 'x=1&user.name=hdfs' user.name= doAs=hdfs; do
+        same "$1: keys, $other" "$twice" "$(ask bob "$base/keys/names?$other")"
+        same "$1: files, $other" "$twice" "$(ask alice "$files/zones?$other")"
+        same "$1: files, $other, a change" "$twice" "$(ask alice -X POST "$files/allow?path=/d&$other")"
+    done
+    same "$1: files, a query inside the path" '{"RemoteException":{"exception":"NoRoute","message":"NoRoute"}} 404' \
+        "$(ask alice "$files/zones%3Fuser.name=hdfs%26x=")"
+    same "$1: files, by the path of keys" "$not_superuser" "$(ask alice --path-as-is "$base/../../nn/v1/zones")"
+    same "$1: no location" 404 "$(ask alice -o /dev/null "https://localhost/other?user.name=hdfs" | tr -d ' ')"
+    for who in odd other; do
+        same "$1: files, the subject of $who" 403 "$(ask "$who" -o /dev/null "$files/zones?user.name=hdfs" | tr -d ' ')"
+    done
+    same "$1: HEAD" '405' "$(ask alice -I -o /dev/null -m 10 "$base/keys/names" | tr -d ' ')"
+}
+
+socat UNIX-LISTEN:"$room/kms.sock",mode=660,fork,max-children=1,backlog=64 EXEC:"$room/connection" 2>"$room/socat.log" &
+server=$!
+for _ in $(seq 100); do [ -S "$room/kms.sock" ] && break; sleep 0.1; done
+start_nginx
 same 'a create' '{"material":"K34VFiiu0qar9xWICc9PPA","name":"k@0"} 201' \
     "$(ask alice -d '{"name":"k","length":128,"material":"K34VFiiu0qar9xWICc9PPA"}' "$base/keys")"
 same 'names' '["k"] 200' "$(ask alice "$base/keys/names")"
@@ -68,5 +105,19 @@ for who in odd other; do
 done
 same 'no certificate' 400 "$(curl -s --unix-socket "$room/tls.sock" --insecure -o /dev/null -w '%{http_code}' "$base/keys/names")"
 same 'many at once' '20 ["j","k"] 200' "$(for _ in $(seq 20); do { ask alice "$base/keys/names"; echo; } & done | sort | uniq -c | sed 's/^ *//')"
+same 'a directory' ' 200' "$(ask alice -X POST "$files/mkdir?path=/d")"
+names_no_other pipe
+
+# The same over a server, as the page says: its port in place of the socket.
+kill "$server" "$nginx"
+wait
+rm -f "$room/tls.sock"
+port=$(python3 -c 'import socket; s = socket.socket(); s.bind(("127.0.0.1", 0)); print(s.getsockname()[1])')
+sed -i "s#proxy_pass http://unix:[^;]*;#proxy_pass http://127.0.0.1:$port;#" "$room/nginx.conf"
+(cd "$room/data" && exec "$hkms" serve --port "$port" 2>"$room/messages") &
+server=$!
+for _ in $(seq 300); do grep -q listening "$room/messages" && break; sleep 0.1; done
+start_nginx
+names_no_other serve
 
 exit $((failures > 0))
