@@ -1,10 +1,11 @@
 #!/usr/bin/env bash
 # `hkms serve`: curl against a server on a port of its own. Both services are called, also by many connections at once. The server
 # is killed under load and started again, and tests/headline.py reads its logs after each kill. It re-encrypts a zone while it
-# serves, and, where connections end it, after the last of them.
+# serves, and, where connections end it, after the last of them. The lines for curl of docs/rest.md and the backup of
+# docs/operations.md are run as the pages have them.
 set -u
 . "$(dirname "${BASH_SOURCE[0]}")/room.bash"
-for tool in curl python3 openssl; do
+for tool in curl python3 openssl flock; do
     command -v "$tool" >/dev/null || { echo "tests/serve.sh: skipped, the command $tool is not here"; exit 0; }
 done
 
@@ -158,5 +159,38 @@ expect 'the connections were served' 0 ''
 same 'it says that it ended' 1 "$(grep -c 'ended' "$room/messages")"
 same 'the last round completed it' Completed "$(cd "$room" && printf 'nn hdfs status /z\n' | "$hkms" replay | grep -o Completed)"
 python3 tests/headline.py "$room" >"$folder/report" || same 'the logs in the end' '' "$(cat "$folder/report")"
+
+# ---- the namesystem's lines for curl in docs/rest.md
+
+fresh
+printf 'default.key.acl.%s=*\n' MANAGEMENT GENERATE_EEK DECRYPT_EEK READ >"$room/kms-acls.properties"
+start
+ask POST '/kms/v1/keys?user.name=alice' '{"name":"k","length":128}' >/dev/null
+# shellcheck disable=SC2034
+N=http://127.0.0.1:$port/nn/v1
+lines=0
+while read -r line; do
+    lines=$((lines + 1))
+    wanted=200
+    [[ $line != *'/create?'* ]] || wanted=201
+    got=$(eval "curl -s -m 20 -o /dev/null -w '%{http_code}' ${line#curl }")
+    # The workers may have completed the re-encryption by then.
+    [[ $line != *'/cancel?'* || $got != 409 ]] || got=200
+    same "$line" "$wanted" "$got"
+done < <(sed -n 's/^| .* | `\(curl .*"$N.*\)` |$/\1/p' docs/rest.md)
+same 'each route of the namesystem has a line' 15 "$lines"
+
+# ---- the backup of docs/operations.md: nothing is copied beside the server, which a signal ends at once
+
+backup=$(mktemp -d -p "$folder")
+line=$(sed -n 's/^    \(flock -n keys.log cp .*\)$/\1/p' docs/operations.md)
+line=${line/\/backup\/hkms-1\//$backup}
+(cd "$room" && eval "$line") && same 'a backup beside the server' refused made
+same 'nothing was copied' '' "$(ls "$backup")"
+kill "$server"
+finish 2>/dev/null
+same 'the signal ended it' 143 "$status"
+(cd "$room" && eval "$line") || same 'a backup after the stop' made refused
+same 'the backup has the key' '1 names k' "$(cd "$backup" && printf 'kms alice names\n' | "$hkms" replay)"
 
 [ "$failures" -eq 0 ]
