@@ -35,10 +35,9 @@ asks_more : {D : Type 0} (answers : Answering D) (old mid new : D) (exchanges : 
 asks_more {D} answers old mid new [] last same leaves = (new, (subst (λ (d : D). Leaves answers d last.outcome new) same leaves, refl))
 asks_more answers old mid new (exchange ∷ more) last asks leaves = (asks.0, (asks.1.0, asks_more answers asks.0 mid new more last asks.1.1 leaves))
 
-responses_more : (exchanges : List Exchange) (last : Exchange) → responses_of exchanges ++ response_of last.outcome ≡ responses_of (exchanges ++ last ∷ [])
+responses_more : (exchanges : List Exchange) (last : Exchange) → responses_of exchanges ++ response_of last ≡ responses_of (exchanges ++ last ∷ [])
 responses_more exchanges last =
-    let f = λ (exchange : Exchange). response_of exchange.outcome in
-    ap (λ (l : List ℕ). responses_of exchanges ++ l) (sym (append-nil (response_of last.outcome))) ∙ sym (flat_map-append f exchanges (last ∷ []))
+    ap (λ (l : List ℕ). responses_of exchanges ++ l) (sym (append-nil (response_of last))) ∙ sym (flat_map-append response_of exchanges (last ∷ []))
 
 bytes_more : (exchanges : List Exchange) (last : Exchange) → bytes_in (exchanges ++ last ∷ []) ≡ bytes_in exchanges + last.request.size
 bytes_more exchanges last =

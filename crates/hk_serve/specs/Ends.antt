@@ -63,9 +63,9 @@ EndsFor fault written now ended.TooLong = ⊥
 -- how the connection ends after a request, if the requests up to it had this number of bytes: what is written of its
 -- response, and the end that goes with it
 abbrev pub EndsAfter : ℕ → Exchange → Option (List ℕ) → Option (List ℕ) → Ended → Type 0
-EndsAfter bytes exchange written now ended.Closed = (exchange.request.keep ≡ false) × Appends written now (response_of exchange.outcome)
-EndsAfter bytes exchange written now ended.TooLong = (exchange.request.keep ≡ true) × ((2 ^ 40 ≤ bytes) × Appends written now (response_of exchange.outcome))
-EndsAfter bytes exchange written now ended.WriteFault = WroteFront written now (response_of exchange.outcome)
+EndsAfter bytes exchange written now ended.Closed = (exchange.request.keep ≡ false) × Appends written now (response_of exchange)
+EndsAfter bytes exchange written now ended.TooLong = (exchange.request.keep ≡ true) × ((2 ^ 40 ≤ bytes) × Appends written now (response_of exchange))
+EndsAfter bytes exchange written now ended.WriteFault = WroteFront written now (response_of exchange)
 EndsAfter bytes exchange written now ended.NoMemory = now ≡ written
 EndsAfter bytes exchange written now ended.End = ⊥
 EndsAfter bytes exchange written now ended.Wire = ⊥

@@ -1,10 +1,10 @@
 -- The requests of a connection, and the outcome of each.
-use Rattle.std.specs.Prelude.{◌≡◌, ℕ, ◌<◌, ◌^◌, true, List, [], ◌∷◌, Option, Ok, Err, sum_by, flat_map}
+use Rattle.std.specs.Prelude.{◌≡◌, ℕ, ◌<◌, ◌^◌, Bool, true, false, List, [], ◌∷◌, Option, Ok, Err, sum_by, flat_map}
 use Rattle.std.specs.List.{AllByRecursion}
 use Rattle.std.specs.Io.KnownBytes.{Appends}
-use Rattle.http_wire.specs.Message.{Message}
+use Rattle.http_wire.specs.Message.{Message, is_head}
 use Rattle.http_wire.specs.Requests.{Takes}
-use Rattle.http_wire.specs.Responses.{response_text}
+use Rattle.http_wire.specs.Responses.{head_text, response_text}
 use Rattle.kms_rest.specs.declared.faults.RestFault.{RestFault}
 use Rattle.kms_rest.specs.declared.faults.RestFault.TheVariants as keys_fault
 use Rattle.kms_rest.specs.Requests.{Says}
@@ -12,7 +12,7 @@ use Rattle.kms_rest.specs.Responses.{fault_status, fault_text}
 use Rattle.name_rest.specs.declared.faults.NameRestFault.{NameRestFault}
 use Rattle.name_rest.specs.Requests as names_requests
 use Rattle.name_rest.specs.Responses as names
-use Rattle.hk_serve.specs.Transactions.{Answering, OfKeys, OfNames, Transaction, transaction_response}
+use Rattle.hk_serve.specs.Transactions.{Answering, OfKeys, OfNames, Transaction, transaction_body, transaction_status}
 
 -- why a request is for neither service: a fault of the service that its path belongs to
 pub data ServiceFault : Type 0 where
@@ -40,11 +40,26 @@ ComesOf request (Replied user (OfNames asked reply)) = IsForNames request × nam
 ComesOf request (NoCall (KeysFault fault)) = Says request (Err fault) × ¬ (fault ≡ keys_fault.NoRoute)
 ComesOf request (NoCall (NamesFault fault)) = IsForNames request × names_requests.Says request (Err fault)
 
--- the response for an outcome
-abbrev pub response_of : Outcome → List ℕ
-response_of (Replied user done) = transaction_response done
-response_of (NoCall (KeysFault fault)) = response_text (fault_status fault) (fault_text fault)
-response_of (NoCall (NamesFault fault)) = response_text (names.fault_status fault) (names.fault_text fault)
+-- the status of the response for an outcome
+abbrev pub status_of : Outcome → ℕ
+status_of (Replied user done) = transaction_status done
+status_of (NoCall (KeysFault fault)) = fault_status fault
+status_of (NoCall (NamesFault fault)) = names.fault_status fault
+
+-- the body of that response
+abbrev pub body_of : Outcome → List ℕ
+body_of (Replied user done) = transaction_body done
+body_of (NoCall (KeysFault fault)) = fault_text fault
+body_of (NoCall (NamesFault fault)) = names.fault_text fault
+
+-- what is sent of a response: its head alone, or all of it
+abbrev pub sent_text : Bool → ℕ → List ℕ → List ℕ
+sent_text true status body = head_text status body
+sent_text false status body = response_text status body
+
+-- the response to a request, without its body if the method is HEAD
+abbrev pub response_of : Exchange → List ℕ
+response_of exchange = sent_text (is_head exchange.request) (status_of exchange.outcome) (body_of exchange.outcome)
 
 -- how the desk changes: by the transaction, or not at all if there is none
 abbrev pub Leaves : {D : Type 0} → Answering D → D → Outcome → D → Type 0
@@ -67,7 +82,7 @@ bytes_in exchanges = sum_by (λ (exchange : Exchange). exchange.request.size) ex
 
 -- the responses, one after another
 abbrev pub responses_of : List Exchange → List ℕ
-responses_of exchanges = flat_map (λ (exchange : Exchange). response_of exchange.outcome) exchanges
+responses_of exchanges = flat_map response_of exchanges
 
 -- the state of a connection: the bytes still to come, the desk, and the bytes written, if source and
 -- sink are known

@@ -5,7 +5,6 @@ use Rattle.kms_calls.specs.declared.calls.KmsCall.TheVariants as call
 use Rattle.kms_calls.specs.declared.calls.KmsReply.{KmsReply}
 use Rattle.kms_json.specs.Replies.{reply_text}
 use Rattle.kms_rest.specs.Responses.{reply_status}
-use Rattle.http_wire.specs.Responses.{response_text}
 use Rattle.name_calls.specs.declared.calls.Ask.TheVariants as ask
 use Rattle.name_calls.specs.declared.calls.NameReply.{NameReply}
 use Rattle.name_rest.specs.declared.order.NameOrder.{NameOrder}
@@ -45,7 +44,12 @@ creates_file (order.Ask (ask.Zone path key)) = false
 creates_file (order.Ask (ask.Submit path)) = false
 creates_file (order.Call asked) = false
 
--- the response of a transaction, with status 201 if a key or a file was created
-abbrev pub transaction_response : Transaction → List ℕ
-transaction_response (OfKeys asked reply) = response_text (reply_status reply (creates asked)) (reply_text reply)
-transaction_response (OfNames asked reply) = response_text (names.reply_status reply (creates_file asked)) (names.reply_text reply)
+-- the status of the response of a transaction, which is 201 if a key or a file was created
+abbrev pub transaction_status : Transaction → ℕ
+transaction_status (OfKeys asked reply) = reply_status reply (creates asked)
+transaction_status (OfNames asked reply) = names.reply_status reply (creates_file asked)
+
+-- the body of that response
+abbrev pub transaction_body : Transaction → List ℕ
+transaction_body (OfKeys asked reply) = reply_text reply
+transaction_body (OfNames asked reply) = names.reply_text reply

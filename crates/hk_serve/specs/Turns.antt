@@ -6,18 +6,19 @@ use Rattle.http_wire.specs.declared.faults.SendFault.{SendFault}
 use Rattle.http_wire.specs.declared.faults.SendFault.TheVariants as send
 use Rattle.http_wire.specs.Message.{Message}
 use Rattle.http_wire.specs.Requests.{Takes}
-use Rattle.http_wire.specs.Responses.{IsStatus, response_text}
+use Rattle.http_wire.specs.Responses.{IsStatus}
 use Rattle.http_wire.specs.declared.responses.Response.{Response}
 use Rattle.hk_base.specs.declared.ended.Ended.{Ended}
 use Rattle.hk_base.specs.declared.ended.Ended.TheVariants as ended
 use Rattle.hk_serve.specs.Ends.{Ends, EndsAfter}
-use Rattle.hk_serve.specs.Exchanges.{ComesOf, Exchange, Leaves, Outcome, Stand, response_of}
+use Rattle.hk_serve.specs.Exchanges.{ComesOf, Exchange, Leaves, Outcome, Stand, body_of, response_of, status_of}
 use Rattle.hk_serve.specs.Transactions.{Answering}
 
 -- The response belongs to an outcome.
 pub record Responds (outcome : Outcome) (response : Response) : Type 0 where
   pub known : IsStatus response.status
-  pub text : response_text response.status response.body ≡ response_of outcome
+  pub status : response.status ≡ status_of outcome
+  pub body : response.body ≡ body_of outcome
 
 -- whether the connection goes on after a response was written, and how many bytes its requests had then
 abbrev pub GoesOnAfter : Message → ℕ → ℕ → Option Ended → Type 0
@@ -32,7 +33,7 @@ GoesOnAfter request bytes bytes' (Some ended.NoMemory) = ⊥
 
 -- what is written of the response to a request, and whether the connection goes on
 abbrev pub AnswersSo : Exchange → ℕ → ℕ → Option (List ℕ) → Option (List ℕ) → Option Ended → Type 0
-AnswersSo exchange bytes bytes' written now None = GoesOnAfter exchange.request bytes bytes' None × Appends written now (response_of exchange.outcome)
+AnswersSo exchange bytes bytes' written now None = GoesOnAfter exchange.request bytes bytes' None × Appends written now (response_of exchange)
 AnswersSo exchange bytes bytes' written now (Some how) = EndsAfter (bytes + exchange.request.size) exchange written now how
 
 -- A request was answered.
@@ -49,7 +50,7 @@ pub record GoesOn {D : Type 0} (answers : Answering D) (bytes bytes' : ℕ) (old
   pub comes : ComesOf exchange.request exchange.outcome
   pub leaves : Leaves answers old.desk exchange.outcome new.desk
   pub goes_on : GoesOnAfter exchange.request bytes bytes' None
-  pub wrote : Appends old.written new.written (response_of exchange.outcome)
+  pub wrote : Appends old.written new.written (response_of exchange)
 
 -- the change of a connection by one request, or by the lack of one
 abbrev pub Turns : {D : Type 0} → Answering D → ℕ → ℕ → Stand D → Option Ended → Stand D → Type 0

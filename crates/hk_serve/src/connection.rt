@@ -1,9 +1,12 @@
 //! Serving a connection.
-ghost use Rattle.std.specs.Prelude.{◌≡◌, ◌≤◌, ◌<◌, ◌^◌, ◌↔◌, [], ℕ, List, Err, Some, IfOk, IsTrue};
+ghost use Rattle.std.specs.Prelude.{◌≡◌, ◌≤◌, ◌<◌, ◌^◌, ◌↔◌, [], ℕ, List, Err, Some, IfOk, OnErr, OnOk, IsTrue};
+ghost use Rattle.std.specs.Io.KnownBytes.{Appends};
 ghost use Rattle.hk_base.specs.Faults.{Rose};
+ghost use Rattle.hk_base.specs.Writing.{WroteFront};
 ghost use Rattle.http_wire.specs.Reading.{ahead};
+ghost use Rattle.http_wire.specs.Responses.{IsStatus};
 ghost use Rattle.kms_rest.specs.Requests.{Says};
-ghost use Rattle.hk_serve.specs.Exchanges.{ComesOf, IsForNames, Leaves, Outcome};
+ghost use Rattle.hk_serve.specs.Exchanges.{ComesOf, IsForNames, Leaves, Outcome, sent_text};
 ghost use Rattle.hk_serve.specs.Served.{Served};
 ghost use Rattle.hk_serve.specs.Turns.{Answered, Responds, GoesOnAfter, Turns};
 
@@ -11,7 +14,7 @@ use crate::asks::{ask_keys, ask_names};
 use crate::desk::Desk;
 use crate::refusals::{ended_by, stop};
 use hk_base::{Ended, NoMemory, Sink, Source};
-use http_wire::{Request, Response, Scratch, read_request, write_response};
+use http_wire::{Request, Response, Scratch, SendFault, read_request, write_head, write_response};
 use kms_rest::{LazyRouter as KeysRouter, RestFault, respond_fault, to_call_with};
 use name_rest::{LazyRouter as NamesRouter, respond_name_fault, to_name_with};
 use std::alloc::Global;
@@ -34,6 +37,28 @@ fn is_no_route(fault: RestFault) -> bool
     ensures { IsTrue result ↔ (fault ≡ RestFault.NoRoute) }
 {
     matches!(fault, RestFault::NoRoute)
+}
+
+/// Writes a response, or its head alone.
+fn send<K: Sink>(
+    alloc: Global,
+    sink: &mut K,
+    head: bool,
+    response: &Response,
+) -> Result<(), SendFault>
+    requires { IsStatus response.now.status }
+    ensures ok { OnOk result (Appends (K.written sink.old) (K.written sink.new) (sent_text head response.now.status response.now.body)) }
+    ensures err { OnErr result (WroteFront (K.written sink.old) (K.written sink.new) (sent_text head response.now.status response.now.body)) }
+    ensures no_memory { result ≡ Err SendFault.NoMemory → K.written sink.new ≡ K.written sink.old }
+
+    ensures later { K.faults sink.old ≤ K.faults sink.new }
+    ensures write_fault { result ≡ Err SendFault.WriteFault → Rose (K.faults sink.old) (K.faults sink.new) }
+{
+    let body = response.body.as_slice();
+    if head {
+        return write_head(alloc, sink, response.status, body);
+    }
+    write_response(alloc, sink, response.status, body)
 }
 
 impl Connection {
@@ -140,7 +165,9 @@ impl Connection {
         let Ok(response) = self.response_to(request, desk) else {
             return Some(Ended::NoMemory);
         };
-        match write_response(self.alloc, sink, response.status, response.body.as_slice()) {
+        let sent = send(self.alloc, sink, request.is_head(), &response);
+        drop(response);
+        match sent {
             Ok(()) => self.after(request),
             Err(fault) => Some(ended_by(fault)),
         }
@@ -199,6 +226,7 @@ impl Connection {
 
 /// Serves the requests of a connection in order (RFC 9112). It reads a request from the source, passes
 /// its call or order to the desk, and writes the response to the sink before it reads the next request.
+/// A request with the method HEAD gets the head of its response alone (RFC 9110).
 /// The desk gets no others. A request is one of the namesystem if the key management service has no
 /// route with its path. A request that is neither a call nor an order is answered without the desk. If
 /// there is no memory to read it, the answer is K13 or N22 with status 503.

@@ -27,6 +27,14 @@ type_line (_ ∷ _) = codes "Content-Type: application/json" ++ crlf
 unfoldable pub length_line : List ℕ → List ℕ
 length_line body = codes "Content-Length: " ++ decimal (length body) ++ crlf
 
+-- the head of the response with this body, and then these bytes
+unfoldable pub text_with : ℕ → List ℕ → List ℕ → List ℕ
+text_with status body sent = status_line status ++ type_line body ++ length_line body ++ crlf ++ sent
+
 -- the whole response
-unfoldable pub response_text : ℕ → List ℕ → List ℕ
-response_text status body = status_line status ++ type_line body ++ length_line body ++ crlf ++ body
+abbrev pub response_text : ℕ → List ℕ → List ℕ
+response_text status body = text_with status body body
+
+-- the response to HEAD: the head of the response with this body, without the body (RFC 9110, section 9.3.2)
+abbrev pub head_text : ℕ → List ℕ → List ℕ
+head_text status body = text_with status body []

@@ -17,5 +17,5 @@ pub use faults::{SendFault, WireFault};
 pub use laws::requests_are_those_of_the_bytes;
 pub use request::Request;
 pub use requests::read_request;
-pub use responses::{Response, write_response};
+pub use responses::{Response, write_head, write_response};
 pub use scratch::Scratch;

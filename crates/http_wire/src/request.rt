@@ -29,6 +29,15 @@ impl Model for Request {
 }
 
 impl Request {
+    ghost use Rattle.http_wire.specs.Message.{is_head};
+
+    /// Returns whether the method is HEAD: the response then has no body (RFC 9110).
+    pub fn is_head(&self) -> bool
+        ensures { result ≡ is_head self.now }
+    {
+        self.method.as_slice() == b"HEAD".as_slice()
+    }
+
     /// Returns the target as text.
     pub fn target_text(&self) -> &str
         ensures text { result.now ≡ self.now.target }

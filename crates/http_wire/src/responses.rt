@@ -3,7 +3,7 @@ ghost use Rattle.std.specs.Prelude.{◌≡◌, ◌≤◌, ◌++◌, OnOk, OnErr,
 ghost use Rattle.std.specs.Io.KnownBytes.{Appends};
 ghost use Rattle.hk_base.specs.Faults.{Rose};
 ghost use Rattle.hk_base.specs.Writing.{WroteFront};
-ghost use Rattle.http_wire.specs.Responses.{IsStatus, phrase, status_line, type_line, length_line, response_text};
+ghost use Rattle.http_wire.specs.Responses.{IsStatus, head_text, length_line, phrase, response_text, status_line, text_with, type_line};
 
 use crate::faults::SendFault;
 use hk_base::{ByteList, NoMemory, Sink, write_all};
@@ -72,19 +72,44 @@ fn append_length(out: &mut ByteList, body: &[u8]) -> Result<(), NoMemory>
     out.append(b"\r\n")
 }
 
-/// Makes the text of a response.
-#[tactic(auto, unfolding(crate::specs::Responses::response_text))]
-fn text_of(alloc: Global, status: u16, body: &[u8]) -> Result<ByteList, NoMemory>
+/// Makes the text of a response that announces a body and has the bytes `sent` in its place.
+#[tactic(auto, unfolding(crate::specs::Responses::text_with))]
+fn text_of(alloc: Global, status: u16, body: &[u8], sent: &[u8]) -> Result<ByteList, NoMemory>
     requires { IsStatus status }
-    ensures { IfOk result (λ text. text ≡ response_text status body.now) }
+    ensures { IfOk result (λ text. text ≡ text_with status body.now sent.now) }
 {
     let mut text = ByteList::new(alloc);
     append_status(&mut text, status)?;
     append_type(&mut text, body)?;
     append_length(&mut text, body)?;
     text.append(b"\r\n")?;
-    text.append(body)?;
+    text.append(sent)?;
     Ok(text)
+}
+
+/// Writes a response that announces a body and has the bytes `sent` in its place.
+fn send<K: Sink>(
+    alloc: Global,
+    sink: &mut K,
+    status: u16,
+    body: &[u8],
+    sent: &[u8],
+) -> Result<(), SendFault>
+    requires { IsStatus status }
+    ensures ok { OnOk result (Appends (K.written sink.old) (K.written sink.new) (text_with status body.now sent.now)) }
+    ensures err { OnErr result (WroteFront (K.written sink.old) (K.written sink.new) (text_with status body.now sent.now)) }
+    ensures no_memory { result ≡ Err SendFault.NoMemory → K.written sink.new ≡ K.written sink.old }
+
+    ensures later { K.faults sink.old ≤ K.faults sink.new }
+    ensures write_fault { result ≡ Err SendFault.WriteFault → Rose (K.faults sink.old) (K.faults sink.new) }
+{
+    let Ok(text) = text_of(alloc, status, body, sent) else {
+        return Err(SendFault::NoMemory);
+    };
+    match write_all(sink, text.as_slice()) {
+        Ok(()) => Ok(()),
+        Err(_) => Err(SendFault::WriteFault),
+    }
 }
 
 /// Writes the response with this status and this body (RFC 9112). If the sink fails, a prefix of the
@@ -104,11 +129,24 @@ pub fn write_response<K: Sink>(
     ensures later { K.faults sink.old ≤ K.faults sink.new }
     ensures write_fault { result ≡ Err SendFault.WriteFault → Rose (K.faults sink.old) (K.faults sink.new) }
 {
-    let Ok(text) = text_of(alloc, status, body) else {
-        return Err(SendFault::NoMemory);
-    };
-    match write_all(sink, text.as_slice()) {
-        Ok(()) => Ok(()),
-        Err(_) => Err(SendFault::WriteFault),
-    }
+    send(alloc, sink, status, body, body)
+}
+
+/// Writes the response to a request with the method HEAD: that of `write_response`, with the length of
+/// this body and without the body (RFC 9110). It fails as `write_response` does.
+pub fn write_head<K: Sink>(
+    alloc: Global,
+    sink: &mut K,
+    status: u16,
+    body: &[u8],
+) -> Result<(), SendFault>
+    requires { IsStatus status }
+    ensures ok { OnOk result (Appends (K.written sink.old) (K.written sink.new) (head_text status body.now)) }
+    ensures err { OnErr result (WroteFront (K.written sink.old) (K.written sink.new) (head_text status body.now)) }
+    ensures no_memory { result ≡ Err SendFault.NoMemory → K.written sink.new ≡ K.written sink.old }
+
+    ensures later { K.faults sink.old ≤ K.faults sink.new }
+    ensures write_fault { result ≡ Err SendFault.WriteFault → Rose (K.faults sink.old) (K.faults sink.new) }
+{
+    send(alloc, sink, status, body, &[])
 }
