@@ -1,4 +1,4 @@
-mod EnteredLemmas
-mod KindLemmas
+pub mod EnteredLemmas
+pub mod KindLemmas
 mod NumberLemmas
-mod OrderLemmas
+pub mod OrderLemmas

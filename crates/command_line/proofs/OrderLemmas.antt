@@ -9,7 +9,7 @@ use Rattle.clap.proofs.OnLiterals.{clap_on_literals}
 use Rattle.clap.specs.declared.error.ErrorKind.{ErrorKind}
 use Rattle.clap.specs.declared.error.ErrorKind.TheVariants.{DisplayHelp, DisplayVersion, OutOfMemory, ValueValidation}
 use Rattle.command_line.specs.Line as line
-use Rattle.command_line.specs.Orders.{Answers, AsksForHelp, AsksForVersion, HasMistake, IsHelp, IsMistake, IsOption, IsServe, IsShown, IsSpelled, IsVersion, Names, ShownAs, line_fault, number_at, order_at, serve_order}
+use Rattle.command_line.specs.Orders.{Answers, FindsHelp, FindsVersion, HasMistake, IsHelp, IsMistake, IsOption, IsServe, IsShown, IsSpelled, IsVersion, Names, ShownAs, line_fault, number_at, order_at, serve_order}
 use Rattle.command_line.specs.declared.order.Order.{Order}
 use Rattle.command_line.specs.declared.order.Order.TheVariants.{Replay, Pipe, Serve, Help, Version}
 use Rattle.command_line.specs.declared.order.OrderFault.{OrderFault}
@@ -60,6 +60,14 @@ order_port : (t : Text) → IsNumberWord 65535 t → order_at (subcommand_of lin
 unfolding clap_on_literals
 order_port t w = rw (w.no_dashes, w.no_long, w.no_short) refl
 
+fault_port_joined : (t : Text) → IsNumberWord 65535 t → fault_of line.hkms (codes "serve" ∷ (codes "--port" ++ 61 ∷ t) ∷ []) ≡ []
+unfolding clap_on_literals
+fault_port_joined t w = rw w.accepted refl
+
+order_port_joined : (t : Text) → IsNumberWord 65535 t → order_at (subcommand_of line.hkms (codes "serve" ∷ (codes "--port" ++ 61 ∷ t) ∷ [])) ≡ serve_order (number_at 65535 t) (Some 4294967295)
+unfolding clap_on_literals
+order_port_joined t w = refl
+
 fault_conns : (u : Text) → IsNumberWord 4294967295 u → fault_of line.hkms (codes "serve" ∷ codes "--conns" ∷ u ∷ []) ≡ []
 unfolding clap_on_literals
 fault_conns u v = rw (v.no_dashes, v.no_long, v.no_short, v.accepted) refl
@@ -67,6 +75,14 @@ fault_conns u v = rw (v.no_dashes, v.no_long, v.no_short, v.accepted) refl
 order_conns : (u : Text) → IsNumberWord 4294967295 u → order_at (subcommand_of line.hkms (codes "serve" ∷ codes "--conns" ∷ u ∷ [])) ≡ serve_order (Some 9600) (number_at 4294967295 u)
 unfolding clap_on_literals
 order_conns u v = rw (v.no_dashes, v.no_long, v.no_short) refl
+
+fault_conns_joined : (u : Text) → IsNumberWord 4294967295 u → fault_of line.hkms (codes "serve" ∷ (codes "--conns" ++ 61 ∷ u) ∷ []) ≡ []
+unfolding clap_on_literals
+fault_conns_joined u v = rw v.accepted refl
+
+order_conns_joined : (u : Text) → IsNumberWord 4294967295 u → order_at (subcommand_of line.hkms (codes "serve" ∷ (codes "--conns" ++ 61 ∷ u) ∷ [])) ≡ serve_order (Some 9600) (number_at 4294967295 u)
+unfolding clap_on_literals
+order_conns_joined u v = refl
 
 fault_port_conns : (t u : Text) → IsNumberWord 65535 t → IsNumberWord 4294967295 u → fault_of line.hkms (codes "serve" ∷ codes "--port" ∷ t ∷ codes "--conns" ∷ u ∷ []) ≡ []
 unfolding clap_on_literals
@@ -76,6 +92,30 @@ order_port_conns : (t u : Text) → IsNumberWord 65535 t → IsNumberWord 429496
 unfolding clap_on_literals
 order_port_conns t u w v = rw (w.no_dashes, w.no_long, w.no_short, v.no_dashes, v.no_long, v.no_short) refl
 
+fault_port_conns_joined : (t u : Text) → IsNumberWord 65535 t → IsNumberWord 4294967295 u → fault_of line.hkms (codes "serve" ∷ codes "--port" ∷ t ∷ (codes "--conns" ++ 61 ∷ u) ∷ []) ≡ []
+unfolding clap_on_literals
+fault_port_conns_joined t u w v = rw (w.no_dashes, w.no_long, w.no_short, w.accepted, v.accepted) refl
+
+order_port_conns_joined : (t u : Text) → IsNumberWord 65535 t → IsNumberWord 4294967295 u → order_at (subcommand_of line.hkms (codes "serve" ∷ codes "--port" ∷ t ∷ (codes "--conns" ++ 61 ∷ u) ∷ [])) ≡ serve_order (number_at 65535 t) (number_at 4294967295 u)
+unfolding clap_on_literals
+order_port_conns_joined t u w v = rw (w.no_dashes, w.no_long, w.no_short) refl
+
+fault_port_joined_conns : (t u : Text) → IsNumberWord 65535 t → IsNumberWord 4294967295 u → fault_of line.hkms (codes "serve" ∷ (codes "--port" ++ 61 ∷ t) ∷ codes "--conns" ∷ u ∷ []) ≡ []
+unfolding clap_on_literals
+fault_port_joined_conns t u w v = rw (w.accepted, v.no_dashes, v.no_long, v.no_short, v.accepted) refl
+
+order_port_joined_conns : (t u : Text) → IsNumberWord 65535 t → IsNumberWord 4294967295 u → order_at (subcommand_of line.hkms (codes "serve" ∷ (codes "--port" ++ 61 ∷ t) ∷ codes "--conns" ∷ u ∷ [])) ≡ serve_order (number_at 65535 t) (number_at 4294967295 u)
+unfolding clap_on_literals
+order_port_joined_conns t u w v = rw (v.no_dashes, v.no_long, v.no_short) refl
+
+fault_port_joined_conns_joined : (t u : Text) → IsNumberWord 65535 t → IsNumberWord 4294967295 u → fault_of line.hkms (codes "serve" ∷ (codes "--port" ++ 61 ∷ t) ∷ (codes "--conns" ++ 61 ∷ u) ∷ []) ≡ []
+unfolding clap_on_literals
+fault_port_joined_conns_joined t u w v = rw (w.accepted, v.accepted) refl
+
+order_port_joined_conns_joined : (t u : Text) → IsNumberWord 65535 t → IsNumberWord 4294967295 u → order_at (subcommand_of line.hkms (codes "serve" ∷ (codes "--port" ++ 61 ∷ t) ∷ (codes "--conns" ++ 61 ∷ u) ∷ [])) ≡ serve_order (number_at 65535 t) (number_at 4294967295 u)
+unfolding clap_on_literals
+order_port_joined_conns_joined t u w v = refl
+
 fault_conns_port : (u t : Text) → IsNumberWord 4294967295 u → IsNumberWord 65535 t → fault_of line.hkms (codes "serve" ∷ codes "--conns" ∷ u ∷ codes "--port" ∷ t ∷ []) ≡ []
 unfolding clap_on_literals
 fault_conns_port u t v w = rw (v.no_dashes, v.no_long, v.no_short, v.accepted, w.no_dashes, w.no_long, w.no_short, w.accepted) refl
@@ -83,6 +123,30 @@ fault_conns_port u t v w = rw (v.no_dashes, v.no_long, v.no_short, v.accepted, w
 order_conns_port : (u t : Text) → IsNumberWord 4294967295 u → IsNumberWord 65535 t → order_at (subcommand_of line.hkms (codes "serve" ∷ codes "--conns" ∷ u ∷ codes "--port" ∷ t ∷ [])) ≡ serve_order (number_at 65535 t) (number_at 4294967295 u)
 unfolding clap_on_literals
 order_conns_port u t v w = rw (v.no_dashes, v.no_long, v.no_short, w.no_dashes, w.no_long, w.no_short) refl
+
+fault_conns_joined_port : (u t : Text) → IsNumberWord 4294967295 u → IsNumberWord 65535 t → fault_of line.hkms (codes "serve" ∷ (codes "--conns" ++ 61 ∷ u) ∷ codes "--port" ∷ t ∷ []) ≡ []
+unfolding clap_on_literals
+fault_conns_joined_port u t v w = rw (v.accepted, w.no_dashes, w.no_long, w.no_short, w.accepted) refl
+
+order_conns_joined_port : (u t : Text) → IsNumberWord 4294967295 u → IsNumberWord 65535 t → order_at (subcommand_of line.hkms (codes "serve" ∷ (codes "--conns" ++ 61 ∷ u) ∷ codes "--port" ∷ t ∷ [])) ≡ serve_order (number_at 65535 t) (number_at 4294967295 u)
+unfolding clap_on_literals
+order_conns_joined_port u t v w = rw (w.no_dashes, w.no_long, w.no_short) refl
+
+fault_conns_port_joined : (u t : Text) → IsNumberWord 4294967295 u → IsNumberWord 65535 t → fault_of line.hkms (codes "serve" ∷ codes "--conns" ∷ u ∷ (codes "--port" ++ 61 ∷ t) ∷ []) ≡ []
+unfolding clap_on_literals
+fault_conns_port_joined u t v w = rw (v.no_dashes, v.no_long, v.no_short, v.accepted, w.accepted) refl
+
+order_conns_port_joined : (u t : Text) → IsNumberWord 4294967295 u → IsNumberWord 65535 t → order_at (subcommand_of line.hkms (codes "serve" ∷ codes "--conns" ∷ u ∷ (codes "--port" ++ 61 ∷ t) ∷ [])) ≡ serve_order (number_at 65535 t) (number_at 4294967295 u)
+unfolding clap_on_literals
+order_conns_port_joined u t v w = rw (v.no_dashes, v.no_long, v.no_short) refl
+
+fault_conns_joined_port_joined : (u t : Text) → IsNumberWord 4294967295 u → IsNumberWord 65535 t → fault_of line.hkms (codes "serve" ∷ (codes "--conns" ++ 61 ∷ u) ∷ (codes "--port" ++ 61 ∷ t) ∷ []) ≡ []
+unfolding clap_on_literals
+fault_conns_joined_port_joined u t v w = rw (v.accepted, w.accepted) refl
+
+order_conns_joined_port_joined : (u t : Text) → IsNumberWord 4294967295 u → IsNumberWord 65535 t → order_at (subcommand_of line.hkms (codes "serve" ∷ (codes "--conns" ++ 61 ∷ u) ∷ (codes "--port" ++ 61 ∷ t) ∷ [])) ≡ serve_order (number_at 65535 t) (number_at 4294967295 u)
+unfolding clap_on_literals
+order_conns_joined_port_joined u t v w = refl
 
 port_word : (port : ℕ) → (1 ≤ port) × (port ≤ 65535) → IsNumberWord 65535 (decimal port)
 port_word port h = number_word 65535 port h.0 h.1 (omega arith)
@@ -102,18 +166,38 @@ serve_reads port conns words ps cs (inl (is, number)) (inl (has, count)) (inl e)
     reading_at words _ (Serve port conns) (e ∙ ap₂ (λ (x y : List Text). codes "serve" ∷ (x ++ y)) is has) fault_alone (order_alone ∙ ap₂ serve_order (ap Some (sym number)) (ap Some (sym count)))
 serve_reads port conns words ps cs (inl (is, number)) (inl (has, count)) (inr e) =
     reading_at words _ (Serve port conns) (e ∙ ap₂ (λ (x y : List Text). codes "serve" ∷ (y ++ x)) is has) fault_alone (order_alone ∙ ap₂ serve_order (ap Some (sym number)) (ap Some (sym count)))
-serve_reads port conns words ps cs (inl (is, number)) (inr (r, s, has)) (inl e) =
+serve_reads port conns words ps cs (inl (is, number)) (inr (r, s, inl has)) (inl e) =
     reading_at words _ (Serve port conns) (e ∙ ap₂ (λ (x y : List Text). codes "serve" ∷ (x ++ y)) is has) (fault_conns (decimal conns) (conns_word conns (r, s))) (order_conns (decimal conns) (conns_word conns (r, s)) ∙ ap₂ serve_order (ap Some (sym number)) (conns_number conns (r, s)))
-serve_reads port conns words ps cs (inl (is, number)) (inr (r, s, has)) (inr e) =
+serve_reads port conns words ps cs (inl (is, number)) (inr (r, s, inl has)) (inr e) =
     reading_at words _ (Serve port conns) (e ∙ ap₂ (λ (x y : List Text). codes "serve" ∷ (y ++ x)) is has) (fault_conns (decimal conns) (conns_word conns (r, s))) (order_conns (decimal conns) (conns_word conns (r, s)) ∙ ap₂ serve_order (ap Some (sym number)) (conns_number conns (r, s)))
-serve_reads port conns words ps cs (inr (p, q, is)) (inl (has, count)) (inl e) =
+serve_reads port conns words ps cs (inl (is, number)) (inr (r, s, inr has)) (inl e) =
+    reading_at words _ (Serve port conns) (e ∙ ap₂ (λ (x y : List Text). codes "serve" ∷ (x ++ y)) is has) (fault_conns_joined (decimal conns) (conns_word conns (r, s))) (order_conns_joined (decimal conns) (conns_word conns (r, s)) ∙ ap₂ serve_order (ap Some (sym number)) (conns_number conns (r, s)))
+serve_reads port conns words ps cs (inl (is, number)) (inr (r, s, inr has)) (inr e) =
+    reading_at words _ (Serve port conns) (e ∙ ap₂ (λ (x y : List Text). codes "serve" ∷ (y ++ x)) is has) (fault_conns_joined (decimal conns) (conns_word conns (r, s))) (order_conns_joined (decimal conns) (conns_word conns (r, s)) ∙ ap₂ serve_order (ap Some (sym number)) (conns_number conns (r, s)))
+serve_reads port conns words ps cs (inr (p, q, inl is)) (inl (has, count)) (inl e) =
     reading_at words _ (Serve port conns) (e ∙ ap₂ (λ (x y : List Text). codes "serve" ∷ (x ++ y)) is has) (fault_port (decimal port) (port_word port (p, q))) (order_port (decimal port) (port_word port (p, q)) ∙ ap₂ serve_order (port_number port (p, q)) (ap Some (sym count)))
-serve_reads port conns words ps cs (inr (p, q, is)) (inl (has, count)) (inr e) =
+serve_reads port conns words ps cs (inr (p, q, inl is)) (inl (has, count)) (inr e) =
     reading_at words _ (Serve port conns) (e ∙ ap₂ (λ (x y : List Text). codes "serve" ∷ (y ++ x)) is has) (fault_port (decimal port) (port_word port (p, q))) (order_port (decimal port) (port_word port (p, q)) ∙ ap₂ serve_order (port_number port (p, q)) (ap Some (sym count)))
-serve_reads port conns words ps cs (inr (p, q, is)) (inr (r, s, has)) (inl e) =
+serve_reads port conns words ps cs (inr (p, q, inl is)) (inr (r, s, inl has)) (inl e) =
     reading_at words _ (Serve port conns) (e ∙ ap₂ (λ (x y : List Text). codes "serve" ∷ (x ++ y)) is has) (fault_port_conns (decimal port) (decimal conns) (port_word port (p, q)) (conns_word conns (r, s))) (order_port_conns (decimal port) (decimal conns) (port_word port (p, q)) (conns_word conns (r, s)) ∙ ap₂ serve_order (port_number port (p, q)) (conns_number conns (r, s)))
-serve_reads port conns words ps cs (inr (p, q, is)) (inr (r, s, has)) (inr e) =
+serve_reads port conns words ps cs (inr (p, q, inl is)) (inr (r, s, inl has)) (inr e) =
     reading_at words _ (Serve port conns) (e ∙ ap₂ (λ (x y : List Text). codes "serve" ∷ (y ++ x)) is has) (fault_conns_port (decimal conns) (decimal port) (conns_word conns (r, s)) (port_word port (p, q))) (order_conns_port (decimal conns) (decimal port) (conns_word conns (r, s)) (port_word port (p, q)) ∙ ap₂ serve_order (port_number port (p, q)) (conns_number conns (r, s)))
+serve_reads port conns words ps cs (inr (p, q, inl is)) (inr (r, s, inr has)) (inl e) =
+    reading_at words _ (Serve port conns) (e ∙ ap₂ (λ (x y : List Text). codes "serve" ∷ (x ++ y)) is has) (fault_port_conns_joined (decimal port) (decimal conns) (port_word port (p, q)) (conns_word conns (r, s))) (order_port_conns_joined (decimal port) (decimal conns) (port_word port (p, q)) (conns_word conns (r, s)) ∙ ap₂ serve_order (port_number port (p, q)) (conns_number conns (r, s)))
+serve_reads port conns words ps cs (inr (p, q, inl is)) (inr (r, s, inr has)) (inr e) =
+    reading_at words _ (Serve port conns) (e ∙ ap₂ (λ (x y : List Text). codes "serve" ∷ (y ++ x)) is has) (fault_conns_joined_port (decimal conns) (decimal port) (conns_word conns (r, s)) (port_word port (p, q))) (order_conns_joined_port (decimal conns) (decimal port) (conns_word conns (r, s)) (port_word port (p, q)) ∙ ap₂ serve_order (port_number port (p, q)) (conns_number conns (r, s)))
+serve_reads port conns words ps cs (inr (p, q, inr is)) (inl (has, count)) (inl e) =
+    reading_at words _ (Serve port conns) (e ∙ ap₂ (λ (x y : List Text). codes "serve" ∷ (x ++ y)) is has) (fault_port_joined (decimal port) (port_word port (p, q))) (order_port_joined (decimal port) (port_word port (p, q)) ∙ ap₂ serve_order (port_number port (p, q)) (ap Some (sym count)))
+serve_reads port conns words ps cs (inr (p, q, inr is)) (inl (has, count)) (inr e) =
+    reading_at words _ (Serve port conns) (e ∙ ap₂ (λ (x y : List Text). codes "serve" ∷ (y ++ x)) is has) (fault_port_joined (decimal port) (port_word port (p, q))) (order_port_joined (decimal port) (port_word port (p, q)) ∙ ap₂ serve_order (port_number port (p, q)) (ap Some (sym count)))
+serve_reads port conns words ps cs (inr (p, q, inr is)) (inr (r, s, inl has)) (inl e) =
+    reading_at words _ (Serve port conns) (e ∙ ap₂ (λ (x y : List Text). codes "serve" ∷ (x ++ y)) is has) (fault_port_joined_conns (decimal port) (decimal conns) (port_word port (p, q)) (conns_word conns (r, s))) (order_port_joined_conns (decimal port) (decimal conns) (port_word port (p, q)) (conns_word conns (r, s)) ∙ ap₂ serve_order (port_number port (p, q)) (conns_number conns (r, s)))
+serve_reads port conns words ps cs (inr (p, q, inr is)) (inr (r, s, inl has)) (inr e) =
+    reading_at words _ (Serve port conns) (e ∙ ap₂ (λ (x y : List Text). codes "serve" ∷ (y ++ x)) is has) (fault_conns_port_joined (decimal conns) (decimal port) (conns_word conns (r, s)) (port_word port (p, q))) (order_conns_port_joined (decimal conns) (decimal port) (conns_word conns (r, s)) (port_word port (p, q)) ∙ ap₂ serve_order (port_number port (p, q)) (conns_number conns (r, s)))
+serve_reads port conns words ps cs (inr (p, q, inr is)) (inr (r, s, inr has)) (inl e) =
+    reading_at words _ (Serve port conns) (e ∙ ap₂ (λ (x y : List Text). codes "serve" ∷ (x ++ y)) is has) (fault_port_joined_conns_joined (decimal port) (decimal conns) (port_word port (p, q)) (conns_word conns (r, s))) (order_port_joined_conns_joined (decimal port) (decimal conns) (port_word port (p, q)) (conns_word conns (r, s)) ∙ ap₂ serve_order (port_number port (p, q)) (conns_number conns (r, s)))
+serve_reads port conns words ps cs (inr (p, q, inr is)) (inr (r, s, inr has)) (inr e) =
+    reading_at words _ (Serve port conns) (e ∙ ap₂ (λ (x y : List Text). codes "serve" ∷ (y ++ x)) is has) (fault_conns_joined_port_joined (decimal conns) (decimal port) (conns_word conns (r, s)) (port_word port (p, q))) (order_conns_joined_port_joined (decimal conns) (decimal port) (conns_word conns (r, s)) (port_word port (p, q)) ∙ ap₂ serve_order (port_number port (p, q)) (conns_number conns (r, s)))
 
 -- ---- what the clauses say
 
@@ -144,8 +228,8 @@ options_name =
     spelling_is_named (Serve 1 2) _ (
       codes "--port" ∷ codes "1" ∷ [],
       codes "--conns" ∷ codes "2" ∷ [],
-      inr (omega arith, omega arith, ap (λ x. codes "--port" ∷ x ∷ []) (sym (decimal_digit 1 (omega arith)))),
-      inr (omega arith, omega arith, ap (λ x. codes "--conns" ∷ x ∷ []) (sym (decimal_digit 2 (omega arith)))),
+      inr (omega arith, omega arith, inl (ap (λ x. codes "--port" ∷ x ∷ []) (sym (decimal_digit 1 (omega arith))))),
+      inr (omega arith, omega arith, inl (ap (λ x. codes "--conns" ∷ x ∷ []) (sym (decimal_digit 2 (omega arith))))),
       inl refl,
     )
 
@@ -203,51 +287,19 @@ mistake_from (Ok a) words (inl p) m = absurd (m.0 p.0)
 mistake_from (Ok a) words (inr (inl q)) m = absurd ((m.1 DisplayHelp q.1).0 refl)
 mistake_from (Ok a) words (inr (inr q)) m = absurd ((m.1 DisplayVersion q.1).1 refl)
 
--- how clap reads words that ask for a text, and for nothing else
-asked_for_help : (words : List Text) → AsksForHelp words → line_fault words ≡ DisplayHelp ∷ []
-unfolding clap_on_literals
-asked_for_help words (flag, inl f, inl w) = rw (w, f) refl
-asked_for_help words (flag, inr f, inl w) = rw (w, f) refl
-asked_for_help words (flag, inl f, inr (command, inl is, w)) = rw (w, is, f) refl
-asked_for_help words (flag, inr f, inr (command, inl is, w)) = rw (w, is, f) refl
-asked_for_help words (flag, inl f, inr (command, inr (inl is), w)) = rw (w, is, f) refl
-asked_for_help words (flag, inr f, inr (command, inr (inl is), w)) = rw (w, is, f) refl
-asked_for_help words (flag, inl f, inr (command, inr (inr is), w)) = rw (w, is, f) refl
-asked_for_help words (flag, inr f, inr (command, inr (inr is), w)) = rw (w, is, f) refl
-
-asked_for_version : (words : List Text) → AsksForVersion words → line_fault words ≡ DisplayVersion ∷ []
-unfolding clap_on_literals
-asked_for_version words (inl w) = rw w refl
-asked_for_version words (inr w) = rw w refl
-
+-- help and the version are not asked for at once, nor beside a mistake
 pub help_from : (r : Result Order OrderFault) (words : List Text) → IfOk r (λ o. Answers o words) → IfErr r (λ f. f ≡ Usage → HasMistake (line_fault words))
-    → AsksForHelp words → ShownAs IsHelp r
+    → FindsHelp words → ShownAs IsHelp r
 help_from (Err NoMemory) words h g a = refl
-help_from (Err Usage) words h g a = absurd (mistaken (subst HasMistake (asked_for_help words a) (g refl)))
-  where
-    mistaken : HasMistake (DisplayHelp ∷ []) → ⊥
-    mistaken (k, inl e, no_help, no_version) = no_help e
-    mistaken (k, inr e, no_help, no_version) = e
-help_from (Ok o) words (inl p) g a = let bad : [] ≡ DisplayHelp ∷ [] = sym p.0 ∙ asked_for_help words a in cc
+help_from (Err Usage) words h g a = let m = g refl in absurd (m.2 (shown_alone words m.0 DisplayHelp m.1 a (inl refl)))
+help_from (Ok o) words (inl p) g a = absurd (subst (IsAmong DisplayHelp) p.0 a)
 help_from (Ok o) words (inr (inl q)) g a = q.0
-help_from (Ok o) words (inr (inr q)) g a = absurd (other (subst (IsAmong DisplayVersion) (asked_for_help words a) q.1))
-  where
-    other : IsAmong DisplayVersion (DisplayHelp ∷ []) → ⊥
-    other (inl e) = cc
-    other (inr e) = e
+help_from (Ok o) words (inr (inr q)) g a = let bad : DisplayVersion ≡ DisplayHelp = shown_alone words DisplayVersion DisplayHelp q.1 a (inl refl) in cc
 
 pub version_from : (r : Result Order OrderFault) (words : List Text) → IfOk r (λ o. Answers o words) → IfErr r (λ f. f ≡ Usage → HasMistake (line_fault words))
-    → AsksForVersion words → ShownAs IsVersion r
+    → FindsVersion words → ShownAs IsVersion r
 version_from (Err NoMemory) words h g a = refl
-version_from (Err Usage) words h g a = absurd (mistaken (subst HasMistake (asked_for_version words a) (g refl)))
-  where
-    mistaken : HasMistake (DisplayVersion ∷ []) → ⊥
-    mistaken (k, inl e, no_help, no_version) = no_version e
-    mistaken (k, inr e, no_help, no_version) = e
-version_from (Ok o) words (inl p) g a = let bad : [] ≡ DisplayVersion ∷ [] = sym p.0 ∙ asked_for_version words a in cc
-version_from (Ok o) words (inr (inl q)) g a = absurd (other (subst (IsAmong DisplayHelp) (asked_for_version words a) q.1))
-  where
-    other : IsAmong DisplayHelp (DisplayVersion ∷ []) → ⊥
-    other (inl e) = cc
-    other (inr e) = e
+version_from (Err Usage) words h g a = let m = g refl in absurd (m.3 (shown_alone words m.0 DisplayVersion m.1 a (inr refl)))
+version_from (Ok o) words (inl p) g a = absurd (subst (IsAmong DisplayVersion) p.0 a)
+version_from (Ok o) words (inr (inl q)) g a = let bad : DisplayHelp ≡ DisplayVersion = shown_alone words DisplayHelp DisplayVersion q.1 a (inr refl) in cc
 version_from (Ok o) words (inr (inr q)) g a = q.0

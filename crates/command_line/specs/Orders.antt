@@ -100,10 +100,14 @@ HasMistake kinds = (k : ErrorKind) × IsAmong k kinds × (k ≢ DisplayHelp) × 
 abbrev pub IsMistake : Kinds → Type 0
 IsMistake kinds = (kinds ≢ []) × ((k : ErrorKind) → IsAmong k kinds → (k ≢ DisplayHelp) × (k ≢ DisplayVersion))
 
--- the words of an option with this number: none if it is the number of an absent option, or its name and the number
+-- the words that give an option its number: the name and the number, or one word of both with `=` between them
+abbrev pub IsGiven : Text → ℕ → List Text → Type 0
+IsGiven name number words = (words ≡ name ∷ decimal number ∷ []) ⊎ (words ≡ (name ++ 61 ∷ decimal number) ∷ [])
+
+-- the words of an option with this number: none if it is the number of an absent option, or those that give it
 abbrev pub IsOption : Text → ℕ → ℕ → ℕ → List Text → Type 0
 IsOption name absent most number words =
-    ((words ≡ []) × (number ≡ absent)) ⊎ ((1 ≤ number) × (number ≤ most) × (words ≡ name ∷ decimal number ∷ []))
+    ((words ≡ []) × (number ≡ absent)) ⊎ ((1 ≤ number) × (number ≤ most) × IsGiven name number words)
 
 -- the word `serve` and the words of its options, in either order
 abbrev pub IsServe : List Text → List Text → List Text → Type 0
@@ -127,14 +131,21 @@ IsHelpFlag word = (word ≡ codes "--help") ⊎ (word ≡ codes "-h")
 abbrev pub IsCommand : Text → Type 0
 IsCommand word = (word ≡ codes "replay") ⊎ ((word ≡ codes "pipe") ⊎ (word ≡ codes "serve"))
 
--- the words that ask for help with the program or with a command, and for nothing else
+-- the words begin with a request for help with the program or with a command, whatever follows
 abbrev pub AsksForHelp : List Text → Type 0
 AsksForHelp words =
-    (flag : Text) × IsHelpFlag flag × ((words ≡ flag ∷ []) ⊎ ((command : Text) × IsCommand command × (words ≡ command ∷ flag ∷ [])))
+    (flag : Text) × IsHelpFlag flag × (more : List Text) × ((words ≡ flag ∷ more) ⊎ ((command : Text) × IsCommand command × (words ≡ command ∷ flag ∷ more)))
 
--- the words that ask for the version, and for nothing else
+-- the words begin with a request for the version, whatever follows
 abbrev pub AsksForVersion : List Text → Type 0
-AsksForVersion words = (words ≡ codes "--version" ∷ []) ⊎ (words ≡ codes "-V" ∷ [])
+AsksForVersion words = (more : List Text) × ((words ≡ codes "--version" ∷ more) ⊎ (words ≡ codes "-V" ∷ more))
+
+-- clap finds a request for help in the words, or one for the version
+abbrev pub FindsHelp : List Text → Type 0
+FindsHelp words = IsAmong DisplayHelp (line_fault words)
+
+abbrev pub FindsVersion : List Text → Type 0
+FindsVersion words = IsAmong DisplayVersion (line_fault words)
 
 -- the answer shows a text of this kind, unless memory ran out
 abbrev pub ShownAs : (Order → Type 0) → Result Order OrderFault → Type 0

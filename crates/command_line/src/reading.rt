@@ -1,7 +1,7 @@
 //! Parsing a command line.
 ghost use Rattle.std.specs.Prelude.{◌≡◌, ◌≢◌, ◌⊎◌, ◌≤◌, IfErr, IfOk, IfSome, Ok, Err, map, option_map};
 ghost use Rattle.clap.specs.Words.{first_of, found_of, kind_of, rows_of, subcommand_rows_of};
-ghost use Rattle.command_line.specs.Orders.{Answers, AsksForHelp, AsksForVersion, HasMistake, IsHelp, IsMistake, IsShown, IsSpelled, IsVersion, ShownAs, in_range, line_fault, number_at, number_or, order_at, order_named};
+ghost use Rattle.command_line.specs.Orders.{Answers, FindsHelp, FindsVersion, HasMistake, IsHelp, IsMistake, IsShown, IsSpelled, IsVersion, ShownAs, in_range, line_fault, number_at, number_or, order_at, order_named};
 ghost use Rattle.command_line.specs.declared.order.Order.{Order as AnOrder};
 
 use crate::commands::hkms;
@@ -116,17 +116,18 @@ fn texts_of<'w>(alloc: Global, words: &'w [Text]) -> Result<Vec<&'w str>, AllocE
 /// Parses the words of a command line, without the program's own name.
 ///
 /// `replay` and `pipe` are commands, of one word each. `serve` is a command with the options
-/// `--port N` and `--conns N`, whose numbers are decimal, without a sign or a leading zero. `--help`
-/// or `-h`, alone or after a command, asks for a help text, and `--version` or `-V` for the version.
-/// Other words are refused as `OrderFault::Usage`. The first fault that `clap` finds decides.
+/// `--port N` and `--conns N`, or `--port=N` and `--conns=N`, whose numbers are decimal, without a sign
+/// or a leading zero. `--help` or `-h` asks for a help text, and `--version` or `-V` for the version; what
+/// follows them counts for nothing. Other words are refused as `OrderFault::Usage`. The first fault
+/// that `clap` finds decides.
 /// `OrderFault::NoMemory` may come in place of any other answer.
 pub fn read_order(alloc: Global, words: &[Text]) -> Result<Order, OrderFault>
     ensures ok { IfOk result (λ order. Answers order words.now) }
     ensures usage { IfErr result (λ fault. fault ≡ OrderFault.Usage → IsMistake (line_fault words.now)) }
     ensures mistake { IsMistake (line_fault words.now) → (result ≡ Err OrderFault.Usage) ⊎ (result ≡ Err OrderFault.NoMemory) }
     ensures named { (order : AnOrder) → IsSpelled order words.now → (result ≡ Ok order) ⊎ (result ≡ Err OrderFault.NoMemory) }
-    ensures help { AsksForHelp words.now → ShownAs IsHelp result }
-    ensures version { AsksForVersion words.now → ShownAs IsVersion result }
+    ensures help { FindsHelp words.now → ShownAs IsHelp result }
+    ensures version { FindsVersion words.now → ShownAs IsVersion result }
 {
     let texts = texts_of(alloc, words)?;
     read(alloc, texts.as_slice())
