@@ -26,11 +26,11 @@ use Rattle.hkms_commands.specs.declared.replay.ReplayEnd.{ReplayEnd}
 use Rattle.hkms_commands.specs.declared.replay.ReplayEnd.TheVariants as ended
 use Rattle.hkms_commands.specs.declared.stage.LineOutcome.{LineOutcome}
 use Rattle.hkms_commands.specs.declared.stage.LineOutcome.TheVariants.{Played, BadLine, Unread, Untold, Unwritten, Unopened}
-use Rattle.hkms_commands.specs.Lines.{is_line, is_lf, lines_of, text_of}
+use Rattle.hkms_commands.specs.Lines.{is_line, is_lf, line_used, lines_of, text_of}
 use Rattle.hkms_commands.specs.Logs.{LeftByStop, ReadsAs, SurvivesStop}
 use Rattle.hkms_commands.specs.PlayedLines.{PlayedLine, events_of_lines, lines_in, transcript}
 use Rattle.hkms_commands.specs.Run.{History, hidden_in, logged_in, world_after}
-use Rattle.hkms_commands.specs.Replay.{BadNext, ComesNext, CutAt, HasProperties, IsCut, IsSpent, IsPrinted, NextSpells, ReadsAt, RestartStops, Starts, Stops, ended_by, longest_input}
+use Rattle.hkms_commands.specs.Replay.{BadNext, BeginsWithin, ComesNext, CutAt, HasProperties, IsCut, IsSpent, IsPrinted, NextSpells, ReadsAt, RestartStops, Starts, Stops, ended_by, longest_input}
 use Rattle.hkms_commands.specs.Steps.{Caused, HasLists, LinePlayed, Next, NextSo, PlaysEvent, PlaysSo, Ran, Read, Stand, StaysQuiet, StopsAtRestart, StopsReading, Untouched, View, counts, end_of_play}
 use Rattle.hkms_commands.proofs.HistoryLemmas.{Begin, Course, SoFar, count_more, course_event, course_quiet, course_untouched, event_line, quiet_line, so_far_event, so_far_quiet}
 use Rattle.hkms_commands.proofs.LivedLemmas.{Lived, has_lists, leaves_on, rests_after, run_on, tells_now, weaker}
@@ -64,13 +64,16 @@ next_is left before ahead lines line so is consumed all telling =
           ∙ ap (λ l. lines ++ l) (ap lines_of (append_assoc line (10 ∷ []) rest.0) ∙ split_ended line rest.0 is),
     )
 
--- the same of the last line
-last_is : (left before ahead : Option (List ℕ)) (lines : List (List ℕ)) (line : List ℕ) → IsAhead left before lines → is_line line ≡ true → Consumes before ahead line → IsAtEnd ahead
-    → (all : List ℕ) → left ≡ Some all → lines_of all ≡ lines ++ line ∷ []
-last_is left before ahead lines line so is consumed end all telling =
+-- the same of the last line, and the input is not too long
+last_is : (left before ahead : Option (List ℕ)) (lines : List (List ℕ)) (line : List ℕ) (used0 used : ℕ) → IsAhead left before lines → is_line line ≡ true → Consumes before ahead line → used0 ≡ length (text_of lines)
+    → used ≡ used0 + length line → used ≤ 2 ^ 40 → IsAtEnd ahead → (all : List ℕ) → left ≡ Some all → Stops ended.Done all (lines ++ line ∷ [])
+last_is left before ahead lines line used0 used so is consumed used0_is used_is bounded end all telling =
     let rest = after_text left ahead _ (Consumes-trans left before ahead _ _ so.consumed consumed) all telling in
     let none : rest.0 ≡ [] = subst IsAtEnd rest.1 end in
-    ap lines_of (rest.2 ∙ ap (λ r. (text_of lines ++ line) ++ r) none ∙ append-nil (text_of lines ++ line)) ∙ split_text lines line so.whole ∙ ap (λ l. lines ++ l) (split_last line is)
+    let whole : all ≡ text_of lines ++ line = rest.2 ∙ ap (λ r. (text_of lines ++ line) ++ r) none ∙ append-nil (text_of lines ++ line) in (
+      ap lines_of whole ∙ split_text lines line so.whole ∙ ap (λ l. lines ++ l) (split_last line is),
+      omega (arith, ap length whole, length-append (text_of lines) line, used0_is, used_is, bounded),
+    )
 
 -- the next line, ended or the last one
 record IsNext (left : Option (List ℕ)) (lines : List (List ℕ)) (line : List ℕ) : Type 0 where
@@ -86,14 +89,19 @@ too_long_is_bad (b ∷ bs) long = record {
   no_event = λ event spells. absurd (omega (arith, spells.short));
 }
 
-too_long : (left before ahead : Option (List ℕ)) (lines : List (List ℕ)) (line : List ℕ) → IsAhead left before lines → is_line line ≡ true → Consumes before ahead line → length line ≡ 1048577
+-- a bad line has a byte
+bad_has_byte : (line : List ℕ) → IsBad line → 0 < length line
+bad_has_byte [] bad = absurd (bad.not_quiet tt)
+bad_has_byte (b ∷ bs) bad = omega arith
+
+too_long : (left before ahead : Option (List ℕ)) (lines : List (List ℕ)) (line : List ℕ) → IsAhead left before lines → is_line line ≡ true → Consumes before ahead line → length line ≡ 1048577 → (0 < length line → BeginsWithin lines)
     → (all : List ℕ) → left ≡ Some all → BadNext all lines
-too_long left before ahead lines line so is consumed long all telling =
+too_long left before ahead lines line so is consumed long within all telling =
     let rest = after_text left ahead _ (Consumes-trans left before ahead _ _ so.consumed consumed) all telling in
     let more = parts rest.0 in
     let split : lines_of all ≡ lines ++ (line ++ more.0) ∷ more.1 =
     ap lines_of (rest.2 ∙ append_assoc (text_of lines) line rest.0) ∙ split_text lines (line ++ rest.0) so.whole ∙ ap (λ l. lines ++ l) (split_on line rest.0 more.0 more.1 is more.2) in
-    inl (line ++ more.0, more.1, split, too_long_is_bad (line ++ more.0) (omega (arith, length-append line more.0)))
+    inl (line ++ more.0, more.1, split, too_long_is_bad (line ++ more.0) (omega (arith, length-append line more.0)), within (omega arith))
 
 past : (left before ahead : Option (List ℕ)) (lines : List (List ℕ)) (line : List ℕ) (used0 used : ℕ) → IsAhead left before lines → is_line line ≡ true → Consumes before ahead line → used0 ≡ length (text_of lines)
     → used ≡ used0 + length line → used ≡ 2 ^ 40 → IsMore ahead → (all : List ℕ) → left ≡ Some all → BadNext all lines
@@ -373,10 +381,10 @@ the_end a b is = cc
 
 -- a line that was played, or not, ends the replay
 line_stops : (props : List PropLine) (old mid new : DiskState) (b : Begin) (s : Stand) (line : List ℕ) (last : Bool) (v : View) (count : ℕ) (stop : ReplayEnd) (so : SoFar props old mid b s) → LinePlayed props mid new s.view line last (Some stop) v s.count count
-    → is_line line ≡ true → IsNext b.left (lines_in so.played) line → (last ≡ true → (all : List ℕ) → b.left ≡ Some all → lines_of all ≡ lines_in so.played ++ line ∷ [])
-    → Ran props old new b.world b.words v.words b.left b.written v.written stop count
+    → is_line line ≡ true → IsNext b.left (lines_in so.played) line → (last ≡ true → (all : List ℕ) → b.left ≡ Some all → Stops ended.Done all (lines_in so.played ++ line ∷ []))
+    → (0 < length line → BeginsWithin (lines_in so.played)) → Ran props old new b.world b.words v.words b.left b.written v.written stop count
 unfolding IsPlain
-line_stops props old mid new b s line last v count stop so p is next whole = go p.play last p.plays p.result_is p.counted whole
+line_stops props old mid new b s line last v count stop so p is next whole within = go p.play last p.plays p.result_is p.counted whole
   where
     lines : List (List ℕ)
     lines = lines_in so.played
@@ -388,17 +396,17 @@ line_stops props old mid new b s line last v count stop so p is next whole = go 
     Goal n e = Ran props old new b.world b.words v.words b.left b.written v.written e n
 
     played : StaysQuiet mid new s.view line v ⊎ ((plays : PlaysEvent props mid new s.view line v) × Appends s.view.written v.written (line_text (s.view.events + 1) plays.reply))
-        → ((all : List ℕ) → b.left ≡ Some all → lines_of all ≡ lines ++ line ∷ []) → Goal (s.count + 1) ended.Done
+        → ((all : List ℕ) → b.left ≡ Some all → Stops ended.Done all (lines ++ line ∷ [])) → Goal (s.count + 1) ended.Done
     played (inl stays) whole = stops_quiet props old mid new b s ended.Done line v so stays is ((λ left lines w. tt), tt) whole
     played (inr (plays, wrote)) whole = stops_behind props old mid new b s ended.Done line v (line_text (s.view.events + 1) plays.reply) so plays is ((λ left lines w. tt), tt) wrote refl whole
 
     go : (play : LineOutcome) (last : Bool) → PlaysSo props mid new s.view line play v → Some stop ≡ end_of_play last play → count ≡ s.count + counts play
-        → (last ≡ true → (all : List ℕ) → b.left ≡ Some all → lines_of all ≡ lines ++ line ∷ []) → Ran props old new b.world b.words v.words b.left b.written v.written stop count
+        → (last ≡ true → (all : List ℕ) → b.left ≡ Some all → Stops ended.Done all (lines ++ line ∷ [])) → Ran props old new b.world b.words v.words b.left b.written v.written stop count
     go Played false p is_end n whole = absurd cc
     go Played true p is_end n whole = subst (λ (e : ReplayEnd). Goal count e) (sym (the_end stop ended.Done is_end)) (subst (λ (k : ℕ). Goal k ended.Done) (sym n) (played p (whole refl)))
     go BadLine last (bad, u) is_end n whole =
         subst (λ (e : ReplayEnd). Goal count e) (sym (the_end stop ended.BadLine (is_end ∙ bad_end last))) (subst (λ (k : ℕ). Goal k ended.BadLine) (sym (n ∙ omega arith))
-        (stops_before props old mid new b s ended.BadLine v so u ((λ left lines w. tt), tt) (λ all reply. let at = next.next all reply in inl (line, at.0, at.1, bad))))
+        (stops_before props old mid new b s ended.BadLine v so u ((λ left lines w. tt), tt) (λ all reply. let at = next.next all reply in inl (line, at.0, at.1, bad, within (bad_has_byte line bad)))))
       where
         bad_end : (l : Bool) → end_of_play l BadLine ≡ Some ended.BadLine
         bad_end true = refl
@@ -448,6 +456,10 @@ next_stops props old mid new b s s' stop so n = go n.how n.read n.next
     ahead : IsAhead b.left s.ahead lines
     ahead = ahead_of props old mid b s so
 
+    -- a line of which bytes were used begins within the longest input
+    begins_within : (used : List ℕ) → length n.line ≤ length used → s'.used ≡ s.used + length used → s'.used ≤ 2 ^ 40 → 0 < length n.line → BeginsWithin lines
+    begins_within used longer used_is bounded some = omega (arith, so.used_is, longer, used_is, bounded, some)
+
     ends : (e : ReplayEnd) → IsPlain e → StopsReading mid new s.view s'.view s.count s'.count e (Some stop)
         → ((all : List ℕ) → b.left ≡ Some all → Stops e all lines) → Ran props old new b.world b.words s'.view.words b.left b.written s'.view.written stop s'.count
     ends e plain r here =
@@ -461,11 +473,12 @@ next_stops props old mid new b s s' stop so n = go n.how n.read n.next
     go : (how : LineEnd) → Read s how n.line s' → NextSo props mid new s how n.line (Some stop) s' → Ran props old new b.world b.words s'.view.words b.left b.written s'.view.written stop s'.count
     go line_end.Line read played =
         line_stops props old mid new b s n.line false s'.view s'.count stop so played read.is_line
-        (record { next = λ all telling. next_is b.left s.ahead s'.ahead lines n.line ahead read.is_line (read.consumed (λ e. cc)) all telling }) (λ e. absurd cc)
+        (record { next = λ all telling. next_is b.left s.ahead s'.ahead lines n.line ahead read.is_line (read.consumed (λ e. cc)) all telling }) (λ e. absurd cc) (begins_within (line_used line_end.Line n.line) (omega (arith, length-append n.line (10 ∷ []))) (read.used (λ e. cc)) read.bounded)
     go line_end.End read played =
-        let whole = λ (all : List ℕ) (telling : b.left ≡ Some all). last_is b.left s.ahead s'.ahead lines n.line ahead read.is_line (read.consumed (λ e. cc)) (read.end refl) all telling in
-        line_stops props old mid new b s n.line true s'.view s'.count stop so played read.is_line (record { next = λ all telling. ([], whole all telling) }) (λ e. whole)
-    go line_end.TooLong read r = ends ended.BadLine ((λ left lines w. tt), tt) r (λ all telling. too_long b.left s.ahead s'.ahead lines n.line ahead read.is_line (read.consumed (λ e. cc)) (read.long refl) all telling)
+        let used = read.used (λ e. cc) in
+        let whole = λ (all : List ℕ) (telling : b.left ≡ Some all). last_is b.left s.ahead s'.ahead lines n.line s.used s'.used ahead read.is_line (read.consumed (λ e. cc)) so.used_is used read.bounded (read.end refl) all telling in
+        line_stops props old mid new b s n.line true s'.view s'.count stop so played read.is_line (record { next = λ all telling. ([], (whole all telling).0) }) (λ e. whole) (begins_within n.line (omega arith) used read.bounded)
+    go line_end.TooLong read r = ends ended.BadLine ((λ left lines w. tt), tt) r (λ all telling. too_long b.left s.ahead s'.ahead lines n.line ahead read.is_line (read.consumed (λ e. cc)) (read.long refl) (begins_within n.line (omega arith) (read.used (λ e. cc)) read.bounded) all telling)
     go line_end.Past read r =
         ends ended.BadLine ((λ left lines w. tt), tt) r (λ all telling. past b.left s.ahead s'.ahead lines n.line s.used s'.used ahead read.is_line (read.consumed (λ e. cc)) so.used_is (read.used (λ e. cc)) (read.past refl).0 (read.past refl).1 all telling)
     go line_end.Fault read r = ends ended.ReadFault ((λ left lines w. tt), tt) r (λ all telling. starts b.left s.ahead lines ahead all telling)

@@ -13,7 +13,7 @@ use Rattle.world_run.specs.Ledger.{Past}
 use Rattle.world_run.specs.Linked.{StartsSound}
 use Rattle.hkms_commands.specs.declared.replay.ReplayEnd.{ReplayEnd}
 use Rattle.hkms_commands.specs.Headline.{ConnectionKeepsFiles, KeepsFiles}
-use Rattle.hkms_commands.specs.Orders.{Obeys, Shows, ShowsText, WantsMemory}
+use Rattle.hkms_commands.specs.Orders.{ByLogs, Obeys, Shows, ShowsText, UsesDisk, UsesYard, WantsMemory}
 use Rattle.hkms_commands.specs.Pipe.{Pipe as Pipes}
 use Rattle.hkms_commands.specs.Replay.{status_of}
 use Rattle.hkms_commands.specs.Replay.{Replay as Replays}
@@ -119,3 +119,23 @@ module _ (past : Past) (old new : DiskState) (tells : Tells old) (sound : Starts
       → Obeys order replays (Pipes same_disk (same_input × same_out × same_rand × same_clock) old new acls acls' words words' left left' written now status) serves (same_disk × same_acls × same_input × same_rand × same_clock) written now status
       → ConnectionKeepsFiles (same_input × same_rand × same_clock) past old new acls acls' words words' left left' written now status
   pipe_order_keeps order ends idle named obeys = ⊎_elim (piped_keeps ends idle) (unasked_keeps idle) (obeyed order Pipe replays Piped serves Unasked written now status named obeys)
+
+-- what comes of an order comes of the words that name it
+pub by_logs : (order : OrderRead) (words : List Text) (on_disk in_yard : Type 0) → IfOk order (λ o. Answers o words) → ByLogs order on_disk in_yard → (UsesDisk words × on_disk) ⊎ (UsesYard words × in_yard)
+by_logs (Ok Replay) words on_disk in_yard (inl read) by = inl (inl (record { no_fault = read.0; command = read.1 }), by)
+by_logs (Ok Replay) words on_disk in_yard (inr (inl help)) by = absurd help.0
+by_logs (Ok Replay) words on_disk in_yard (inr (inr version)) by = absurd version.0
+by_logs (Ok Pipe) words on_disk in_yard (inl read) by = inl (inr (record { no_fault = read.0; command = read.1 }), by)
+by_logs (Ok Pipe) words on_disk in_yard (inr (inl help)) by = absurd help.0
+by_logs (Ok Pipe) words on_disk in_yard (inr (inr version)) by = absurd version.0
+by_logs (Ok (Serve port conns)) words on_disk in_yard (inl read) by = inr ((port, conns, record { no_fault = read.0; command = read.1 }), by)
+by_logs (Ok (Serve port conns)) words on_disk in_yard (inr (inl help)) by = absurd help.0
+by_logs (Ok (Serve port conns)) words on_disk in_yard (inr (inr version)) by = absurd version.0
+by_logs (Ok (Help text)) words on_disk in_yard answers by = absurd by
+by_logs (Ok (Version text)) words on_disk in_yard answers by = absurd by
+by_logs (Err fault) words on_disk in_yard answers by = absurd by
+
+-- if nothing comes of a command over the disk, it is of the server
+pub in_yard_alone : {U V T : Type 0} → (U × ⊥) ⊎ (V × T) → V × T
+in_yard_alone (inl none) = absurd none.1
+in_yard_alone (inr server) = server

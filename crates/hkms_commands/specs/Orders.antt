@@ -2,6 +2,8 @@
 use Rattle.std.specs.Prelude.{◌≡◌, ◌⊎◌, ⊤, ℕ, List, codes, Option, Result, Ok, Err, string_bytes}
 use Rattle.std.specs.Io.KnownBytes.{Appends}
 use Rattle.hk_base.specs.Writing.{WroteFront}
+use Rattle.clap.specs.Words.{Text}
+use Rattle.command_line.specs.Orders.{Names}
 use Rattle.command_line.specs.declared.order.Order.{Order}
 use Rattle.command_line.specs.declared.order.Order.TheVariants.{Replay, Pipe, Serve, Help, Version}
 use Rattle.command_line.specs.declared.order.OrderFault.{OrderFault}
@@ -39,3 +41,18 @@ Obeys (Err NoMemory) replays pipes serves same written now status = WantsMemory 
 abbrev pub LeavesServing : Result Order OrderFault → Type 0 → Type 0
 LeavesServing (Ok (Serve port conns)) idle = ⊤
 LeavesServing _ idle = idle
+
+-- the words name a command that reads the input, with both logs on the disk
+abbrev pub UsesDisk : List Text → Type 0
+UsesDisk words = Names Replay words ⊎ Names Pipe words
+
+-- the words name the server, with both logs in the yard
+abbrev pub UsesYard : List Text → Type 0
+UsesYard words = (port : ℕ) × (conns : ℕ) × Names (Serve port conns) words
+
+-- one thing of a command over the disk, another of one over the yard; no other order comes to this
+abbrev pub ByLogs : Result Order OrderFault → Type 0 → Type 0 → Type 0
+ByLogs (Ok Replay) on_disk in_yard = on_disk
+ByLogs (Ok Pipe) on_disk in_yard = on_disk
+ByLogs (Ok (Serve port conns)) on_disk in_yard = in_yard
+ByLogs _ on_disk in_yard = ⊥

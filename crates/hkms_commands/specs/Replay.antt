@@ -24,7 +24,7 @@ use Rattle.hkms_commands.specs.declared.replay.ReplayEnd.{ReplayEnd}
 use Rattle.hkms_commands.specs.declared.replay.ReplayEnd.TheVariants.{Done, AclRefused, AclRepeated, AclUnknown, AclTooLong, BadLine, DamagedKeys, DamagedNames, StoreFault, NoMemory, ReadFault, WriteFault, Spent}
 use Rattle.hkms_commands.specs.declared.props.PropsFault.{PropsFault}
 use Rattle.hkms_commands.specs.declared.props.PropsFault.TheVariants as props_fault
-use Rattle.hkms_commands.specs.Lines.{lines_of, is_lf}
+use Rattle.hkms_commands.specs.Lines.{is_lf, lines_of, text_of}
 use Rattle.hkms_commands.specs.Properties.{HasPropsFault, ReadsProperties}
 use Rattle.hkms_commands.specs.Logs.{HiddenBefore, OnDisk, ReadsAs, opened_logs}
 use Rattle.hkms_commands.specs.PlayedLines.{AreSpelled, PlayedLine, events_of_lines, lines_in, transcript}
@@ -43,10 +43,14 @@ pub record IsPast (all : List ℕ) (lines : ℕ) : Type 0 where
 abbrev pub Starts : List ℕ → List (List ℕ) → Type 0
 Starts all lines = (after : List (List ℕ)) × (lines_of all ≡ lines ++ after)
 
--- after these lines the next line is a bad one, or the text is too long there
+-- the line after these begins within the longest input
+abbrev pub BeginsWithin : List (List ℕ) → Type 0
+BeginsWithin lines = length (text_of lines) < longest_input
+
+-- after these lines the next line is a bad one, which begins within the longest input, or the text is too long there
 abbrev pub BadNext : List ℕ → List (List ℕ) → Type 0
 BadNext all lines =
-    ((bad : List ℕ) × (more : List (List ℕ)) × (lines_of all ≡ lines ++ bad ∷ more) × IsBad bad) ⊎ (Starts all lines × IsPast all (length lines))
+    ((bad : List ℕ) × (more : List (List ℕ)) × (lines_of all ≡ lines ++ bad ∷ more) × IsBad bad × BeginsWithin lines) ⊎ (Starts all lines × IsPast all (length lines))
 
 -- after these lines comes one that spells this event
 abbrev pub NextSpells : List ℕ → List (List ℕ) → Event → Type 0
@@ -89,7 +93,7 @@ last_line Spent lines = codes "openings spent\n"
 
 -- the place of the input at an end, after these lines
 abbrev pub Stops : ReplayEnd → List ℕ → List (List ℕ) → Type 0
-Stops Done all lines = lines_of all ≡ lines
+Stops Done all lines = (lines_of all ≡ lines) × (length all ≤ longest_input)
 Stops BadLine all lines = BadNext all lines
 Stops (DamagedKeys at) all lines = NextSpells all lines RestartKms
 Stops (DamagedNames at) all lines = NextSpells all lines RestartName

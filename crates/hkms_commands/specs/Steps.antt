@@ -121,6 +121,7 @@ pub record Read (before : Stand) (how : LineEnd) (line : List ℕ) (after : Stan
   pub is_line : IsTrue (is_line line)
   pub consumed : how ≢ line_end.NoMemory → Consumes before.ahead after.ahead (line_used how line)
   pub used : how ≢ line_end.NoMemory → after.used ≡ before.used + length (line_used how line)
+  pub bounded : after.used ≤ 2 ^ 40
   pub end : how ≡ line_end.End → IsAtEnd after.ahead
   pub long : how ≡ line_end.TooLong → length line ≡ 1048577
   pub past : how ≡ line_end.Past → (after.used ≡ 2 ^ 40) × IsMore after.ahead

@@ -3,13 +3,13 @@ ghost use Rattle.std.specs.Prelude.{◌≡◌, ◌≢◌, ◌⊎◌, ℕ, IsTrue
 ghost use Rattle.std.specs.Io.KnownBytes.{IsAtEnd};
 ghost use Rattle.hk_base.specs.Disk.{Tells};
 ghost use Rattle.hk_base.specs.Faults.{Rose};
-ghost use Rattle.command_line.specs.Orders.{AsksForHelp, AsksForVersion, IsMistake, Names, line_fault};
+ghost use Rattle.command_line.specs.Orders.{FindsHelp, FindsVersion, IsMistake, Names, line_fault};
 ghost use Rattle.command_line.specs.declared.order.Order.TheVariants as order;
 ghost use Rattle.hkms_commands.specs.declared.replay.ReplayEnd.{ReplayEnd};
 ghost use Rattle.world_run.specs.Ledger.{Past};
 ghost use Rattle.world_run.specs.Linked.{StartsSound};
 ghost use Rattle.hkms_commands.specs.Headline.{ConnectionKeepsFiles, KeepsFiles};
-ghost use Rattle.hkms_commands.specs.Orders.{LeavesServing, Obeys, Refuses, Shows, ShowsText, WantsMemory};
+ghost use Rattle.hkms_commands.specs.Orders.{ByLogs, LeavesServing, Obeys, Refuses, Shows, ShowsText, UsesDisk, UsesYard, WantsMemory};
 ghost use Rattle.hkms_commands.specs.Pipe.{Pipe};
 ghost use Rattle.hkms_commands.specs.Replay.{Replay, status_of};
 ghost use Rattle.hkms_commands.specs.Serve.{Serves};
@@ -72,11 +72,11 @@ fn obey<
         (Y.state yard.old) (Y.state yard.new) (P.state door.old) (P.state door.new) (K.written out.old) (K.written out.new) result × ((disk.new ≡ disk.old) × (input.new ≡ input.old))))
         ((disk.new ≡ disk.old) × (acls.new ≡ acls.old) × (input.new ≡ input.old) × (rand.new ≡ rand.old) × (clock.new ≡ clock.old))
         (K.written out.old) (K.written out.new) result }
-    ensures read { result ≡ 7 → Rose (S.faults input.old) (S.faults input.new) ⊎ Rose (A.faults acls.old) (A.faults acls.new) }
+    ensures read { result ≡ 7 → ByLogs order (Rose (S.faults input.old) (S.faults input.new) ⊎ Rose (A.faults acls.old) (A.faults acls.new)) (Rose (A.faults acls.old) (A.faults acls.new)) }
     ensures write { result ≡ 8 → Rose (K.faults out.old) (K.faults out.new) }
     ensures idle { LeavesServing order ((yard.new ≡ yard.old) × (door.new ≡ door.old)) }
-    ensures store { result ≡ 5 → Rose (D.state disk.old).faults (D.state disk.new).faults ⊎ Rose (Y.state yard.old).faults (Y.state yard.new).faults }
-    ensures door { result ≡ 9 → Rose (P.faults door.old) (P.faults door.new) }
+    ensures store { result ≡ 5 → ByLogs order (Rose (D.state disk.old).faults (D.state disk.new).faults) (Rose (Y.state yard.old).faults (Y.state yard.new).faults) }
+    ensures door { result ≡ 9 → ByLogs order ⊥ (Rose (P.faults door.old) (P.faults door.new)) }
 {
     match order {
         Ok(Order::Replay) => run_replay(alloc, acls, input, out, disk, rand),
@@ -101,9 +101,11 @@ fn obey<
 /// `serve` serves connections of the door with both services, over the same two logs, each on the disk
 /// that the yard gives for it. Both disks must lie in the yard.
 ///
-/// Help and version are printed with status 0. A mistake in the words gives status 2 and the line
-/// `usage refused`. If allocation fails while the words are read, the status is 6 and the line is
-/// `no memory`. Anything but the three commands uses the output alone.
+/// Help and version are printed with status 0, whatever other words there are. A mistake in the words
+/// gives status 2 and the line `usage refused`. If allocation fails while the words are read, the status
+/// is 6 and the line is `no memory`. Anything but the three commands uses the output alone. A status
+/// that tells of a fault comes only if the count of what the command uses rose: `replay` and `pipe`
+/// use the disk and the input, `serve` the yard and the door.
 pub fn hkms<
     R: Threads + Wait + Sync,
     A: Source,
@@ -133,7 +135,7 @@ pub fn hkms<
         Refuses ((disk.new ≡ disk.old) × (acls.new ≡ acls.old) × (input.new ≡ input.old) × (rand.new ≡ rand.old) × (clock.new ≡ clock.old)) (K.written out.old) (K.written out.new) result
         ⊎ WantsMemory ((disk.new ≡ disk.old) × (acls.new ≡ acls.old) × (input.new ≡ input.old) × (rand.new ≡ rand.old) × (clock.new ≡ clock.old)) (K.written out.old) (K.written out.new) result }
     ensures usage_only { result ≡ 2 → IsMistake (line_fault words.now) }
-    ensures help { AsksForHelp words.now ⊎ AsksForVersion words.now →
+    ensures help { FindsHelp words.now ⊎ FindsVersion words.now →
         ShowsText ((disk.new ≡ disk.old) × (acls.new ≡ acls.old) × (input.new ≡ input.old) × (rand.new ≡ rand.old) × (clock.new ≡ clock.old)) (K.written out.old) (K.written out.new) result
         ⊎ WantsMemory ((disk.new ≡ disk.old) × (acls.new ≡ acls.old) × (input.new ≡ input.old) × (rand.new ≡ rand.old) × (clock.new ≡ clock.old)) (K.written out.old) (K.written out.new) result }
     ensures replay { Names order.Replay words.now →
@@ -151,11 +153,11 @@ pub fn hkms<
         ((yard.new ≡ yard.old) × (door.new ≡ door.old) × (rand.new ≡ rand.old)) conns (A.left acls.old) (A.left acls.new) (W.to_come rand.old)
         (Y.state yard.old) (Y.state yard.new) (P.state door.old) (P.state door.new) (K.written out.old) (K.written out.new) result × ((disk.new ≡ disk.old) × (input.new ≡ input.old)))
         ⊎ WantsMemory ((disk.new ≡ disk.old) × (acls.new ≡ acls.old) × (input.new ≡ input.old) × (rand.new ≡ rand.old) × (clock.new ≡ clock.old)) (K.written out.old) (K.written out.new) result }
-    ensures idle { ((port : ℕ) × (conns : ℕ) × Names (order.Serve port conns) words.now) ⊎ ((yard.new ≡ yard.old) × (door.new ≡ door.old)) }
-    ensures read { result ≡ 7 → Rose (S.faults input.old) (S.faults input.new) ⊎ Rose (A.faults acls.old) (A.faults acls.new) }
+    ensures idle { UsesYard words.now ⊎ ((yard.new ≡ yard.old) × (door.new ≡ door.old)) }
+    ensures read { result ≡ 7 → (UsesDisk words.now × (Rose (S.faults input.old) (S.faults input.new) ⊎ Rose (A.faults acls.old) (A.faults acls.new))) ⊎ (UsesYard words.now × Rose (A.faults acls.old) (A.faults acls.new)) }
     ensures write { result ≡ 8 → Rose (K.faults out.old) (K.faults out.new) }
-    ensures store { result ≡ 5 → Rose (D.state disk.old).faults (D.state disk.new).faults ⊎ Rose (Y.state yard.old).faults (Y.state yard.new).faults }
-    ensures door { result ≡ 9 → Rose (P.faults door.old) (P.faults door.new) }
+    ensures store { result ≡ 5 → (UsesDisk words.now × Rose (D.state disk.old).faults (D.state disk.new).faults) ⊎ (UsesYard words.now × Rose (Y.state yard.old).faults (Y.state yard.new).faults) }
+    ensures door { result ≡ 9 → UsesYard words.now × Rose (P.faults door.old) (P.faults door.new) }
 {
     let order = read_order(alloc, words);
     obey(

@@ -1,7 +1,7 @@
 use Rattle.std.proofs.Common.{◌≡◌, ⊎_elim}
 use Rattle.command_line.specs.declared.order.Order.TheVariants.{Pipe, Replay, Serve}
 use Rattle.hkms_commands.proofs.HeadlineLemmas.{unmoved}
-use Rattle.hkms_commands.proofs.OrderLemmas.{helps_so, named_so, obeyed, order_keeps, pipe_order_keeps, usage_only, versions_so}
+use Rattle.hkms_commands.proofs.OrderLemmas.{by_logs, helps_so, in_yard_alone, named_so, obeyed, order_keeps, pipe_order_keeps, usage_only, versions_so}
 use Rattle.hkms_commands.proofs.PipeLemmas.{pipe_is_no_usage, replay_is_no_usage}
 use Rattle.hkms_commands.proofs.ServeLemmas.{server_is_no_usage, serving_named}
 use Rattle.hkms_commands.proofs.command.hkms.Goals as goal
@@ -43,3 +43,12 @@ returns-clause-pipe g c names =
 pub returns-clause-serve : goal.returns-clause-serve
 returns-clause-serve g c port conns names =
     obeyed c.read_order-order.result (Serve port conns) _ _ _ _ _ _ c.obey.result (named_so c.read_order-order.result c.args.words.now c.read_order-order.ensures.ok c.read_order-order.ensures.usage (Serve port conns) names) c.obey.ensures.obeys
+
+pub returns-clause-read : goal.returns-clause-read
+returns-clause-read g c seven = by_logs c.read_order-order.result c.args.words.now _ _ c.read_order-order.ensures.ok (c.obey.ensures.read seven)
+
+pub returns-clause-store : goal.returns-clause-store
+returns-clause-store g c five = by_logs c.read_order-order.result c.args.words.now _ _ c.read_order-order.ensures.ok (c.obey.ensures.store five)
+
+pub returns-clause-door : goal.returns-clause-door
+returns-clause-door g c nine = in_yard_alone (by_logs c.read_order-order.result c.args.words.now _ _ c.read_order-order.ensures.ok (c.obey.ensures.door nine))
