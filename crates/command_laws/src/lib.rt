@@ -15,15 +15,7 @@ use server_parts::{Door, Yard};
 /// complete. If the properties, the lines and both logs are good, no count of faults rises, and no
 /// restart finds the last opening of its log used, then all lines are played and the status is 0; or
 /// the status is 6.
-pub fn replays_are_complete<
-    A: Source,
-    S: Source,
-    K: Sink,
-    D: Disk,
-    W: Words,
-    C: Clock,
-    P: Door,
->(
+pub fn replays_are_complete<A: Source, S: Source, K: Sink, D: Disk, W: Words, C: Clock, P: Door>(
     acls: &A,
     acls_after: &A,
     input: &S,

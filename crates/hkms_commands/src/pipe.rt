@@ -117,5 +117,7 @@ pub fn run_pipe<A: Source, S: Source, K: Sink, D: Disk, W: Words, C: Clock>(
         Err(fault) => return status_of(ended_by_props(fault)),
         Ok(props) => props,
     };
-    pipe_under(alloc, &props, input, out, disk, rand, clock)
+    let status = pipe_under(alloc, &props, input, out, disk, rand, clock);
+    drop(props);
+    status
 }

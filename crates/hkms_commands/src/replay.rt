@@ -150,25 +150,6 @@ impl ReplayRun {
         }
     }
 
-    /// Plays the lines of the input until the replay ends, and writes its last line.
-    fn run_to_end<S: Source, D: Disk, K: Sink, W: Words>(
-        &mut self,
-        input: &mut S,
-        disk: &mut D,
-        out: &mut K,
-        words: &mut W,
-    ) -> ReplayEnd
-        requires fresh { (self.old.stage.events ≡ 0) × (self.old.count ≡ 0) × (self.old.reader.used ≡ 0) × (self.old.reader.bytes ≡ []) }
-        requires lists { (lines : List PropLine) × HasLists self.old.stage.world lines }
-        requires stands { Tells (D.state disk.old) → ((done : Acknowledged) × HoldsLogs (D.state disk.old) self.old.stage.world done) }
-        ensures ran { (lines : List PropLine) → HasLists self.old.stage.world lines → RanToEnd lines (D.state disk.old) (D.state disk.new) self.old.stage.world (W.to_come words.old) (W.to_come words.new) (S.left input.old) (K.written out.old) (K.written out.new) result }
-        ensures end { result ≡ ReplayEnd.Done → IsAtEnd (S.left input.new) }
-        ensures caused { Caused (S.faults input.old) (S.faults input.new) (K.faults out.old) (K.faults out.new) (D.state disk.old).faults (D.state disk.new).faults (Some result) }
-    {
-        let stop = self.run(input, disk, out, words);
-        finish(self.stage.alloc, out, stop, self.count)
-    }
-
     /// Reads the next line and plays it. Returns `None` if the replay goes on.
     fn next<S: Source, D: Disk, K: Sink, W: Words>(
         &mut self,
@@ -345,7 +326,7 @@ fn replay_under<S: Source, D: Disk, K: Sink, W: Words>(
     }
 }
 
-/// Replays the input in a world that was opened.
+/// Replays the input in a world that was opened, and writes the last line.
 fn replay_in<S: Source, D: Disk, K: Sink, W: Words>(
     alloc: Global,
     world: World,
@@ -361,9 +342,10 @@ fn replay_in<S: Source, D: Disk, K: Sink, W: Words>(
     ensures caused { Caused (S.faults input.old) (S.faults input.new) (K.faults out.old) (K.faults out.new) (D.state disk.old).faults (D.state disk.new).faults (Some result) }
 {
     let mut replaying = ReplayRun::new(alloc, world);
-    let ended = replaying.run_to_end(input, disk, out, rand);
+    let stop = replaying.run(input, disk, out, rand);
+    let count = replaying.count;
     drop(replaying);
-    ended
+    finish(alloc, out, stop, count)
 }
 
 /// Replays the event lines of the input over the key log on file 0 of a disk and the edit log on
@@ -403,5 +385,7 @@ pub fn run_replay<A: Source, S: Source, D: Disk, K: Sink, W: Words>(
         Err(fault) => return status_of(finish(alloc, out, ended_by_props(fault), 0)),
         Ok(props) => props,
     };
-    status_of(replay_under(alloc, &props, input, out, disk, rand))
+    let end = replay_under(alloc, &props, input, out, disk, rand);
+    drop(props);
+    status_of(end)
 }

@@ -136,5 +136,6 @@ pub fn run_serve<
     };
     let clock = LentClock { clock };
     let end = run_server(rt, alloc, &props, yard, words, clock, door, plan);
+    drop(props);
     report_run(alloc, out, end)
 }

@@ -12,7 +12,7 @@ returns-in-Err-clause-pipe g c = inl (record {
 })
 
 pub returns-clause-pipe : goal.returns-clause-pipe
-returns-clause-pipe g c = inr (record { props = c.in-Ok.props; read = c.in-Ok.ensures.read; pipe = c.pipe_under.ensures.pipe })
+returns-clause-pipe g c = inr (record { props = c.in-Ok.props; read = c.in-Ok.ensures.read; pipe = c.pipe_under-status.ensures.pipe })
 
 pub returns-in-Err-clause-headline : goal.returns-in-Err-clause-headline
 returns-in-Err-clause-headline g c tells past sound =
@@ -24,8 +24,8 @@ returns-in-Err-clause-headline g c tells past sound =
 
 pub returns-clause-headline : goal.returns-clause-headline
 returns-clause-headline g c tells past sound =
-    connection_keeps past (g.D.Disk.state c.args.disk.now) (g.D.Disk.state c.pipe_under.new.disk) tells sound (c.pipe_under.new.disk ≡ c.args.disk.now)
-    ((c.pipe_under.new.input ≡ c.args.input.now) × (c.pipe_under.new.out ≡ c.args.out.now) × (c.pipe_under.new.rand ≡ c.args.rand.now) × (c.pipe_under.new.clock ≡ c.args.clock.now))
-    ((c.pipe_under.new.input ≡ c.args.input.now) × (c.pipe_under.new.rand ≡ c.args.rand.now) × (c.pipe_under.new.clock ≡ c.args.clock.now)) _ _ _ _ _ _ _ _ _
-    (record { only = g.met.D.Disk.only_now c.args.disk.now; counts = g.met.D.Disk.counts_now c.pipe_under.new.disk }) (unmoved g.D.Disk.state c.args.disk.now c.pipe_under.new.disk (g.met.D.Disk.only_now c.args.disk.now))
+    connection_keeps past (g.D.Disk.state c.args.disk.now) (g.D.Disk.state c.pipe_under-status.new.disk) tells sound (c.pipe_under-status.new.disk ≡ c.args.disk.now)
+    ((c.pipe_under-status.new.input ≡ c.args.input.now) × (c.pipe_under-status.new.out ≡ c.args.out.now) × (c.pipe_under-status.new.rand ≡ c.args.rand.now) × (c.pipe_under-status.new.clock ≡ c.args.clock.now))
+    ((c.pipe_under-status.new.input ≡ c.args.input.now) × (c.pipe_under-status.new.rand ≡ c.args.rand.now) × (c.pipe_under-status.new.clock ≡ c.args.clock.now)) _ _ _ _ _ _ _ _ _
+    (record { only = g.met.D.Disk.only_now c.args.disk.now; counts = g.met.D.Disk.counts_now c.pipe_under-status.new.disk }) (unmoved g.D.Disk.state c.args.disk.now c.pipe_under-status.new.disk (g.met.D.Disk.only_now c.args.disk.now))
     (λ same. (same.0, same.2, same.3)) (returns-clause-pipe g c)

@@ -14,7 +14,7 @@ returns-in-Err-clause-replay g c = (
 )
 
 pub returns-clause-replay : goal.returns-clause-replay
-returns-clause-replay g c = (c.replay_under.result, c.status_of-2.ensures, has_read _ _ _ _ _ _ _ _ _ _ _ _ _ c.in-Ok.ensures.read c.replay_under.ensures.replay)
+returns-clause-replay g c = (c.replay_under-end.result, c.status_of-2.ensures, has_read _ _ _ _ _ _ _ _ _ _ _ _ _ c.in-Ok.ensures.read c.replay_under-end.ensures.replay)
 
 pub returns-in-Err-clause-headline : goal.returns-in-Err-clause-headline
 returns-in-Err-clause-headline g c tells past sound =
@@ -25,7 +25,7 @@ returns-in-Err-clause-headline g c tells past sound =
 pub returns-clause-headline : goal.returns-clause-headline
 returns-clause-headline g c tells past sound =
     let r = returns-clause-replay g c in
-    replay_keeps past (g.D.Disk.state c.args.disk.now) (g.D.Disk.state c.replay_under.new.disk) tells sound (c.replay_under.new.disk ≡ c.args.disk.now)
-    ((c.replay_under.new.input ≡ c.args.input.now) × (c.replay_under.new.rand ≡ c.args.rand.now)) _ _ _ _ _ _ _ r.0 _
-    (record { only = g.met.D.Disk.only_now c.args.disk.now; counts = g.met.D.Disk.counts_now c.replay_under.new.disk }) r.1
-    (unmoved g.D.Disk.state c.args.disk.now c.replay_under.new.disk (g.met.D.Disk.only_now c.args.disk.now)) r.2
+    replay_keeps past (g.D.Disk.state c.args.disk.now) (g.D.Disk.state c.replay_under-end.new.disk) tells sound (c.replay_under-end.new.disk ≡ c.args.disk.now)
+    ((c.replay_under-end.new.input ≡ c.args.input.now) × (c.replay_under-end.new.rand ≡ c.args.rand.now)) _ _ _ _ _ _ _ r.0 _
+    (record { only = g.met.D.Disk.only_now c.args.disk.now; counts = g.met.D.Disk.counts_now c.replay_under-end.new.disk }) r.1
+    (unmoved g.D.Disk.state c.args.disk.now c.replay_under-end.new.disk (g.met.D.Disk.only_now c.args.disk.now)) r.2
