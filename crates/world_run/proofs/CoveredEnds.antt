@@ -45,6 +45,8 @@ new-fits ledger rows s = record {
   some_file = λ b none. absurd none;
   entered = λ b y none. absurd none;
   in_order = tt;
+  up_to_last = λ b x none. absurd none;
+  none_shared = tt;
 }
 
 -- Without the walks, each goes on from the mark: what was awaited or ahead comes after it.
@@ -204,6 +206,8 @@ more-entries ledger more rows s w k = record {
   some_file = k.some_file;
   entered = λ b y i m. let e = k.entered b y i m in (e.0, in-left (y.id, e.0) ledger more e.1);
   in_order = k.in_order;
+  up_to_last = k.up_to_last;
+  none_shared = k.none_shared;
 }
 
 module _ (past : Past) (keys : List KeyRow) (t : NameTable) (walks : List WalkState) (session : ℕ) (p : NPath) (noted : VersionName) (d : Draw) (linked : FilesLinked past.ledger keys t)

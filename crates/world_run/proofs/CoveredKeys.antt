@@ -81,6 +81,8 @@ module _ (past : Past) (id : ℕ) (d : Draw) (ids : List ℕ) where
     some_file = c.some_file;
     entered = λ b y i j. drawn-too y.id (c.entered b y i j);
     in_order = c.in_order;
+    up_to_last = c.up_to_last;
+    none_shared = c.none_shared;
   }
 
   -- no status has the id, and each of the files has a draw

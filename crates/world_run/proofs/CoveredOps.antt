@@ -71,6 +71,10 @@ module _ (ledger : Ledger) (olds news : List Entry) (statuses : List StatusRow) 
     some_file = c.some_file;
     entered = c.entered;
     in_order = order-kept w.batches c.entered c.in_order;
+    up_to_last = λ b x i j file sent.
+        let q = sent-was b (λ y k. c.entered b y i k) x j file sent in
+        ap (is_after (Some b.last)) q.4 ∙ c.up_to_last b q.0 i q.1 q.2 q.3;
+    none_shared = c.none_shared;
   }
 
 module _ (past : Past) (keys : List KeyRow) (t u : NameTable) (walks : List WalkState) (keeps : KeepsFiles past.ledger t.rows u.rows u.statuses) (stays : (s : StatusRow) → In s u.statuses → In s t.statuses)

@@ -257,6 +257,11 @@ module _ (past : Past) (keys : List KeyRow) (names : NameTable) (walks : List Wa
     some_file = k.some_file;
     entered = k.entered;
     in_order = order-later s.zone v.batches k.in_order;
+    up_to_last = λ b x i j file m.
+        let o = was x j in
+        subst (λ (p : List (List ℕ)). is_after (Some b.last) p ≡ false) (sym (o.place s.zone))
+        (k.up_to_last b o.old i o.member (sym (o.file s.zone) ∙ file) (subst (λ (id : ℕ). In id (ids_sent b.sent)) o.id m));
+    none_shared = k.none_shared;
   }
 
   -- each status afterwards

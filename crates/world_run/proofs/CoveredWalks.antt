@@ -1,15 +1,17 @@
 -- A walk that takes a batch keeps re-encryptions covered.
-use Rattle.std.proofs.Common.{◌≡◌, ◌≢◌, ◌⊎◌, inl, inr, ◌≤◌, ℕ, Bool, true, false, not, cond, ◌&&◌, ◌||◌, List, [], ◌∷◌, ◌++◌, take, Option, Some, None, is_some, refl, sym, ap, ◌∙◌, subst, arith}
+use Rattle.std.proofs.Common.{◌≡◌, ◌≢◌, ◌⊎◌, inl, inr, ◌≤◌, ℕ, zero, suc, Bool, true, false, not, cond, ◌&&◌, ◌||◌, List, [], ◌∷◌, ◌++◌, take, drop, Option, Some, None, is_some, refl, sym, ap, ◌∙◌, subst, arith}
 use Rattle.std.specs.Prelude.{◌==◌}
 use Rattle.std.specs.Option.{option_map}
-use Rattle.std.proofs.lemmas.Bool.{cases_eq}
+use Rattle.std.specs.List.{filter}
+use Rattle.std.proofs.lemmas.Bool.{both_ways, cases_eq}
 use Rattle.std.proofs.lemmas.Bool.Decides.{nat_tests}
 use Rattle.key_rows.specs.declared.rows.KeyRow.{KeyRow}
 use Rattle.name_calls.specs.Paths.{is_before}
 use Rattle.name_calls.proofs.PathLemmas.{and-parts}
-use Rattle.inode_tree.specs.Rows.{Entry, IsRows, same_id, zone_id}
+use Rattle.inode_tree.specs.Rows.{AllAfter as ComesAfter, Entry, IsRising, IsRows, same_id, zone_id}
 use Rattle.inode_tree.specs.ZoneFiles.{edek_of, is_file_of, path_in}
 use Rattle.inode_tree.proofs.Ranks.{before-trans}
+use Rattle.inode_tree.proofs.Seeks.{not-before-itself}
 use Rattle.hk_base.specs.Names.{Encrypted}
 use Rattle.reenc_walk.specs.declared.batches.WalkedBatch.{WalkedBatch}
 use Rattle.reenc_walk.specs.declared.sent.Sent.{Sent}
@@ -24,11 +26,12 @@ use Rattle.name_core.specs.State.{NameState, is_walk_of, walk_under, with_walk}
 use Rattle.name_core.specs.Walks.{going_on, or_new_walk, taken, walk_of}
 use Rattle.name_core.proofs.WalkLemmas.{of-session}
 use Rattle.name_core.proofs.WalkOrder.{some-taken, under-going, under-with, walk-follows}
-use Rattle.world_run.specs.Covered.{AllAfter, CoveredBy, InOrder, IsAhead, IsAwaited, IsDone, WalkCovered, ids_sent}
+use Rattle.world_run.specs.Covered.{AllAfter, CoveredBy, InOrder, IsAhead, IsApart, IsAwaited, IsDone, NoneShared, WalkCovered, ids_sent}
 use Rattle.world_run.specs.Ledger.{Draw, Past}
 use Rattle.world_run.specs.Linked.{FilesLinked}
 use Rattle.world_run.specs.Promise.{In, IsReencrypted}
 use Rattle.world_run.proofs.Members.{filter-in, filter-map-in, found-in, in-filter, in-filter-map, in-left, in-map, in-more, in-right, in-take, map-in, some-is, take-or-drop}
+use Rattle.world_run.proofs.PairLemmas.{in-drop}
 use Rattle.world_run.proofs.RowLemmas.{in-place, one-of-id}
 use Rattle.world_run.proofs.StatusLemmas.{distinct-same}
 
@@ -122,6 +125,45 @@ sent-is e y is = go (edek_of e.row.kind) refl is
     go (Some k) has is =
         let same : (record { id = e.row.id; edek = k }) ≡ y = some-is (record { id = e.row.id; edek = k }) y is in
         (ap (λ (z : Sent). z.id) same, has ∙ ap (λ (z : Sent). Some z.edek) same)
+
+-- rows in path order are taken once
+
+after-in : (p : List (List ℕ)) (es : List Entry) (x : Entry) → ComesAfter p es → In x es → is_before p x.path ≡ true
+after-in p [] x a i = absurd i
+after-in p (e ∷ es) x a (inl is) = subst (λ (z : Entry). is_before p z.path ≡ true) (sym is) a.0
+after-in p (e ∷ es) x a (inr i) = after-in p es x a.1 i
+
+after-filter : (t : Entry → Bool) (p : List (List ℕ)) (es : List Entry) → ComesAfter p es → ComesAfter p (filter t es)
+after-filter t p [] a = tt
+after-filter t p (e ∷ es) a = go (t e) (after-filter t p es a.1)
+  where
+    go : (b : Bool) → ComesAfter p (filter t es) → ComesAfter p (cond b (e ∷ filter t es) (filter t es))
+    go true rest = (a.0, rest)
+    go false rest = rest
+
+rising-filter : (t : Entry → Bool) (es : List Entry) → IsRising es → IsRising (filter t es)
+rising-filter t [] r = tt
+rising-filter t (e ∷ es) r = go (t e) (rising-filter t es r.1)
+  where
+    go : (b : Bool) → IsRising (filter t es) → IsRising (cond b (e ∷ filter t es) (filter t es))
+    go true rest = (after-filter t e.path es r.0, rest)
+    go false rest = rest
+
+taken-once : (n : ℕ) (es : List Entry) (x : Entry) → IsRising es → In x (take n es) → In x (drop n es) → ⊥
+taken-once zero es x r i j = absurd i
+taken-once (suc n) [] x r i j = absurd i
+taken-once (suc n) (e ∷ es) x r (inl is) j =
+    both_ways (is_before x.path x.path) (not-before-itself x.path)
+    (subst (λ (z : Entry). is_before z.path x.path ≡ true) (sym is) (after-in e.path es x r.0 (in-drop n x es j)))
+taken-once (suc n) (e ∷ es) x r (inr i) j = taken-once n es x r.1 i j
+
+-- one more batch shares no file with the others, if each of them shares none with it
+shared-more : (b : WalkedBatch) (bs : List WalkedBatch) → ((c : WalkedBatch) → In c bs → IsApart c b) → NoneShared bs → NoneShared (bs ++ b ∷ [])
+shared-more b [] apart o = (λ c none. absurd none, tt)
+shared-more b (c ∷ cs) apart o = (
+  λ d i. elim (in-more d b cs i) [ inl old ↦ o.0 d old | inr is ↦ subst (IsApart c) (sym is) (apart c (inl refl)) ],
+  shared-more b cs (λ d i. apart d (inr i)) o.1,
+)
 
 -- one more batch comes last, if its files come after each other
 order-more : (rows : List Entry) (zone : ℕ) (b : WalkedBatch) (bs : List WalkedBatch) → ((c : WalkedBatch) → In c bs → AllAfter rows zone c.last (b ∷ [])) → InOrder rows zone bs → InOrder rows zone (bs ++ b ∷ [])
@@ -252,8 +294,38 @@ module _ (past : Past) (keys : List KeyRow) (names : NameTable) (walks : List Wa
       | inr is ↦ drawn y (subst (λ (c : WalkedBatch). In y c.sent) is m)
     ];
     in_order = order-more names.rows st.zone batch w.batches (λ c i b x j m file n. k.up_to_cursor c (path_in names.rows st.zone x.path) i (ahead x b j m n)) k.in_order;
+    up_to_last = λ b x i j file m. elim (in-more b batch w.batches i) [
+      | inl old ↦ k.up_to_last b x old j file m
+      | inr is ↦ subst (λ (c : WalkedBatch). is_after (Some c.last) (path_in names.rows st.zone x.path) ≡ false) (sym is)
+          (not-after x (id-row x j (subst (λ (c : WalkedBatch). In x.row.id (ids_sent c.sent)) is m)))
+    ];
+    none_shared = shared-more batch w.batches (λ c i. apart k c i) k.none_shared;
   }
     where
+      -- a file that was taken does not come after the last one
+      not-after : (x : Entry) → In x files → is_after (Some last) (path_in names.rows st.zone x.path) ≡ false
+      not-after x i = go (is_after (Some last) (path_in names.rows st.zone x.path)) refl
+        where
+          go : (b : Bool) → is_after (Some last) (path_in names.rows st.zone x.path) ≡ b → b ≡ false
+          go false later = refl
+          go true later =
+              let f = file-is x i in
+              let again : In x (walk_list names.rows st.zone (Some last)) =
+              filter-in (λ (e : Entry). is_file_of names.rows st.zone e && is_after (Some last) (path_in names.rows st.zone e.path)) x names.rows f.row
+              (join (is_file_of names.rows st.zone x) (is_after (Some last) (path_in names.rows st.zone x.path)) f.file later) in
+              absurd (taken-once size list x (rising-filter (λ (e : Entry). is_file_of names.rows st.zone e && is_after w.cursor (path_in names.rows st.zone e.path)) names.rows rules.rising) i
+              (subst (In x) (walk-follows names.rows st.zone rules w.cursor size there) again))
+
+      -- an earlier batch has not sent it
+      apart : Fits → (c : WalkedBatch) → In c w.batches → IsApart c batch
+      apart k c i id m n =
+          let y = in-map (λ (z : Sent). z.id) id batch.sent n in
+          let f = in-filter-map sent_of y.0 files y.1 in
+          let f_id : id ≡ f.0.row.id = y.2 ∙ sym (sent-is f.0 y.0 f.2).0 in
+          let is = file-is f.0 f.1 in
+          both_ways (is_after (Some c.last) (path_in names.rows st.zone f.0.path)) (k.up_to_last c f.0 i is.row is.file (subst (λ (n : ℕ). In n (ids_sent c.sent)) f_id m))
+          (k.up_to_cursor c (path_in names.rows st.zone f.0.path) i is.ahead)
+
       some-sent : batch.sent ≡ [] → ⊥
       some-sent none = let z = last-of [] files there in subst (λ (sent : List Sent). In z.0.row.id (ids_sent sent)) none (id-sent z.0 z.1)
 

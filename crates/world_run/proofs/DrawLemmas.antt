@@ -4,6 +4,7 @@ use Rattle.std.specs.Prelude.{nat_lt, ◌≢◌, drop, slice_get}
 use Rattle.eek_queues.specs.Queues.{ready_in}
 use Rattle.std.specs.Option.{option_map, option_and_then}
 use Rattle.std.specs.Str.{bytes_eq}
+use Rattle.std.proofs.lemmas.Bool.Decides.{nat_tests}
 use Rattle.std.proofs.lemmas.Slice.Eq.{bytes_eq-Decides}
 use Rattle.hk_base.specs.declared.names.Dek.{Dek}
 use Rattle.hk_base.specs.declared.names.Edek.{Edek}
@@ -15,20 +16,20 @@ use Rattle.kms_calls.specs.declared.calls.KmsRefusal.TheVariants.{NoSuchKey, Too
 use Rattle.kms_calls.specs.declared.calls.KmsReply.{KmsReply}
 use Rattle.kms_calls.specs.declared.calls.KmsReply.TheVariants as reply
 use Rattle.key_rows.specs.Sound.{IsRow, IsTable, NamesOnce, Rising}
-use Rattle.key_rows.specs.Table.{Table, current_of, find_name, is_named, material_of}
+use Rattle.key_rows.specs.Table.{Table, current_of, find_name, is_length, is_named, material_of}
 use Rattle.kms_core.specs.Calls.{KmsActs, NoRoom, Plain, birth_of, causes, current_material, current_version, deed, first_cause, generate_causes, generated, ready_of, row_of, unless_refused}
-use Rattle.kms_core.specs.Draws.{drawn as drawn_bytes, drawn_dek, drawn_edek, drawn_edeks, place_of_draw, words_of_draw}
+use Rattle.kms_core.specs.Draws.{drawn as drawn_bytes, drawn_dek, drawn_edek, drawn_edeks, drawn_iv, place_of_draw, words_of_draw}
 use Rattle.kms_core.specs.Laws.{dek_of_draw}
 use Rattle.kms_core.specs.Opening.{unseals}
 use Rattle.kms_core.specs.State.{KmsState}
 use Rattle.kms_core.proofs.DrawLemmas.{length-drawn}
 use Rattle.kms_core.proofs.KeyLemmas.{found_passes}
-use Rattle.kms_core.proofs.LawLemmas.{generated_opens}
+use Rattle.kms_core.proofs.LawLemmas.{generated_opens, standing_key}
 use Rattle.name_calls.specs.Answers.{answer_of}
 use Rattle.world_run.specs.Ledger.{draw_of}
-use Rattle.world_run.specs.Linked.{OpensTo, given}
+use Rattle.world_run.specs.Linked.{OpensTo, OpensUnder, given}
 use Rattle.world_run.specs.Promise.{In}
-use Rattle.world_run.proofs.Members.{each-in, found-in}
+use Rattle.world_run.proofs.Members.{each-in, found-in, got-in}
 use Rattle.world_run.proofs.QueueLaters.{handed-ready}
 
 -- members of a table of keys
@@ -51,7 +52,7 @@ same-bytes : (a b : List ℕ) → bytes_eq a b ≡ true → a ≡ b
 same-bytes a b h = (bytes_eq-Decides a b).0 h
 
 -- a row is found under its name
-only-named : (k : List ℕ) (rows : List KeyRow) (row : KeyRow) → NamesOnce rows → In row rows → is_named k row ≡ true → find_name rows k ≡ Some row
+pub only-named : (k : List ℕ) (rows : List KeyRow) (row : KeyRow) → NamesOnce rows → In row rows → is_named k row ≡ true → find_name rows k ≡ Some row
 only-named k [] row once i named = absurd i
 only-named k (y ∷ ys) row once (inl is) named =
     ap (λ b. cond b (Some y) (find (is_named k) ys)) (ap (is_named k) (sym is) ∙ named) ∙ ap Some (sym is)
@@ -193,11 +194,23 @@ generate-one s words now name result drawn s' (Plain, may, is) = go (first_cause
     go (Some why) cause is = inl (why, ap (λ o. o.reply) is)
     go None cause is = by-ready (ready_of s name) refl cause is
 
--- the key that was drawn
+-- the lengths of what is drawn
 
-row-stands : (o : Option KeyRow) → is_none o ≡ false → (row : KeyRow) × (o ≡ Some row)
-row-stands None h = absurd cc
-row-stands (Some row) h = (row, refl)
+pub iv-long : (words : ℕ → ℕ) → length (drawn_iv words 0) ≡ 16
+unfolding drawn_iv
+iv-long words = length-drawn words 0 4
+
+whole-words : (bits : ℕ) → is_length bits ≡ true → 4 * (bits / 8 / 4) ≡ bits / 8
+whole-words bits is = grind (arith, nat_tests, is)
+
+pub dek-long : (words : ℕ → ℕ) (bits : ℕ) (material : Dek) → is_length bits ≡ true → length material ≡ bits / 8 → length (drawn_dek words 0 (length material)) ≡ bits / 8
+dek-long words bits material known long = length-drawn words 4 (length material / 4) ∙ ap (λ (n : ℕ). 4 * (n / 4)) long ∙ whole-words bits known
+
+-- a material of a row has the row's length
+pub material-long : (row : KeyRow) (n : ℕ) (material : Dek) → IsRow row → slice_get row.materials n ≡ Some material → length material ≡ row.bits / 8
+material-long row n material is got = each-in (λ (m : Dek). length m ≡ row.bits / 8) row.materials material is.materials (got-in row.materials n material got)
+
+-- the key that was drawn
 
 pub record FreshKey (s : KmsState) (words : ℕ → ℕ) (place : ℕ) (name : List ℕ) (e : Edek) : Type 0 where
   pub of_draw : e.version ≡ (draw_of s words place name).version
@@ -217,7 +230,8 @@ rising-most low top (y ∷ ys) r x (inr i) = rising-most y.birth top ys r.1 x i
 pub fresh-key : (s : KmsState) (words : ℕ → ℕ) (place now : ℕ) (name : List ℕ) (e : Edek) (drawn : ℕ) (s' : KmsState) → IsTable s.table
     → KmsActs s words now (call.Generate name 1) (reply.Ready (e ∷ [])) drawn s' → OneDrawn s words name e drawn s' → FreshKey s words place name e
 fresh-key s words place now name e drawn s' table acts one =
-    let row = row-stands (row_of s name) one.stands in
+    let key_now = standing_key s name table one.stands in
+    let row : (r : KeyRow) × (row_of s name ≡ Some r) = (key_now.0, key_now.1.found) in
     let named : is_named name row.0 ≡ true = found_passes (is_named name) s.table.rows row.0 row.1 in
     let version : e.version ≡ current_of row.0 = ap (λ (k : Edek). k.version) one.drawn_is ∙ ap current_version row.1 in
     let key : e.version.key ≡ row.0.name = ap (λ (v : VersionName). v.key) version in
@@ -230,8 +244,12 @@ fresh-key s words place now name e drawn s' table acts one =
       of_draw = ap (λ (k : Edek). k.version) one.drawn_is;
       opens = λ other i birth.
           let is : other ≡ row.0 = rising-once 0 s.table.greatest s.table.rows table.births other row.0 i (found-in (is_named name) s.table.rows row.0 row.1) (birth ∙ ap birth_of row.1) in
-          subst (λ (r : KeyRow). unseals (r ∷ []) e ≡ Some (draw_of s words place name).dek) (sym is)
-          (opens-alone s.table.rows row.0 e (draw_of s words place name).dek found (ap (λ (k : List ℕ). is_named k row.0) (key ∙ same-bytes row.0.name name named) ∙ named) opened);
+          subst (λ (r : KeyRow). OpensUnder r (draw_of s words place name) e) (sym is)
+          (record {
+            opens = opens-alone s.table.rows row.0 e (draw_of s words place name).dek found (ap (λ (k : List ℕ). is_named k row.0) (key ∙ same-bytes row.0.name name named) ∙ named) opened;
+            long = dek-long words row.0.bits (current_material s name) key_now.1.sound.bits (material-long row.0 (length row.0.materials - 1) (current_material s name) key_now.1.sound key_now.1.got);
+            vector = ap (λ (k : Edek). length k.iv) one.drawn_is ∙ iv-long words;
+          });
       born = subst (λ (b : ℕ). b ≤ s.table.greatest) (sym (ap birth_of row.1)) (rising-most 0 s.table.greatest s.table.rows table.births row.0 (found-in (is_named name) s.table.rows row.0 row.1));
       recent = subst (λ (b : ℕ). 2 ^ 32 ≤ b) (sym (ap birth_of row.1)) (each-in IsRow s.table.rows row.0 table.rows (found-in (is_named name) s.table.rows row.0 row.1)).born;
     }

@@ -160,6 +160,7 @@ module _ (enter : Bool) (h : Hidden) (t : NameTable) (replies : List KeptReply) 
   entered-queues rows queues q =
       record {
         opens = q.opens;
+        current = q.current;
         rising = q.rising;
         not_replied = q.not_replied;
         not_entered = λ birth id d i j. elim (in-entry enter h.ledger ask_id o id d j) [ inl old ↦ q.not_entered birth id d i old | inr new ↦ q.not_replied birth d i (replied-so d new.1) ];

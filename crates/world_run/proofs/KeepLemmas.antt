@@ -138,7 +138,7 @@ module _ (w : WorldState) (h : Hidden) (words : ℕ → ℕ) (now : ℕ) (note :
   old_rows = w.keys.keys.table.rows
 
   keys-later : ServiceLater w.keys changed_keys
-  keys-later = acts-state w.keys.keys words now (key_call.Generate name 1) reply drawn changed fit.keys.births acts
+  keys-later = acts-state w.keys.keys words now (key_call.Generate name 1) reply drawn changed fit.keys.births fit.keys.table.births acts
 
   was-queued : (b : ℕ) (f : Draw) → In f (still_queued b) → In f (h.queued b)
   was-queued b f i = in-drop (length (ready_in old_queues b) - length (ready_in changed.ready.queues b)) f (h.queued b) i
@@ -354,7 +354,7 @@ pub keeps-linked : (lines : List PropLine) (w : WorldState) (words : ℕ → ℕ
 keeps-linked lines w words now (event.Kms user c) fault tells outcome drawn logged w' h knows fit s l =
     subst (StillLinked w h drawn) (sym s.left) (linked-keys w h s.keys drawn (user-state lines user w.keys words now c fault s.reply drawn s.commands s.keys fit.keys s.serves) l)
 keeps-linked lines w words now event.Ticket fault tells outcome drawn logged w' h knows fit s l = ticket-keeps w h outcome drawn logged w' fit.keys l s
-keeps-linked lines w words now (event.Deposit number) fault tells outcome drawn logged w' h knows fit s l = (deposit-keeps w h words number outcome drawn logged w' (numbered w.kept.tickets number) l refl s).0
+keeps-linked lines w words now (event.Deposit number) fault tells outcome drawn logged w' h knows fit s l = (deposit-keeps w h words number outcome drawn logged w' (numbered w.kept.tickets number) fit.keys l refl s).0
 keeps-linked lines w words now event.RestartKms fault tells outcome drawn logged w' h knows fit s l =
     subst (StillLinked w h drawn) (sym s.left) (linked-restart w h drawn (s.found knows).kept s.table (s.found knows).table_is fit.keys l)
 keeps-linked lines w words now event.RestartName fault tells outcome drawn logged w' h knows fit s l =
@@ -420,7 +420,7 @@ words-stay lines w words now e fault tells outcome drawn logged w' h fit s l f =
     go : (e : Event) → Step lines w words now e fault tells outcome drawn logged w' → WordsApart (hidden_after w words e outcome drawn w' h)
     go (event.Kms user c) s = moved
     go event.Ticket s = moved
-    go (event.Deposit number) s = (deposit-keeps w h words number outcome drawn logged w' (numbered w.kept.tickets number) l refl s).1 f
+    go (event.Deposit number) s = (deposit-keeps w h words number outcome drawn logged w' (numbered w.kept.tickets number) fit.keys l refl s).1 f
     go event.RestartKms s = moved
     go event.RestartName s = moved
     go (event.Mkdir user p) s = moved
@@ -479,7 +479,8 @@ files-open past replied keys names walks replies asks next once f fits covered =
             draw = d.draw;
             entered = d.entered;
             of_key = d.of_key;
-            opens = λ key j birth. let alone = d.opens key j birth in (opens-named key e d.draw.dek alone ∙ d.of_key, opens-among keys key e d.draw.dek once j alone);
+            opens = λ key j birth. let alone = (d.opens key j birth).opens in (opens-named key e d.draw.dek alone ∙ d.of_key, opens-among keys key e d.draw.dek once j alone);
+            long = λ key j birth. let so = d.opens key j birth in (so.long, so.vector);
           };
       one_draw = fits.one_draw;
       of_zone = f.zones;

@@ -28,13 +28,14 @@ use Rattle.world_run.proofs.Members.{in-map, in-more}
 -- a later row of a key: it has the name, and each material under its number
 pub record Grew (old row : KeyRow) : Type 0 where
   pub named : row.name ≡ old.name
+  pub bits : row.bits ≡ old.bits
   pub has : (n : ℕ) (m : Dek) → slice_get old.materials n ≡ Some m → slice_get row.materials n ≡ Some m
 
 grew-same : (row : KeyRow) → Grew row row
-grew-same row = record { named = refl; has = λ n m got. got }
+grew-same row = record { named = refl; bits = refl; has = λ n m got. got }
 
 grew-then : (old mid row : KeyRow) → Grew old mid → Grew mid row → Grew old row
-grew-then old mid row a z = record { named = z.named ∙ a.named; has = λ n m got. z.has n m (a.has n m got) }
+grew-then old mid row a z = record { named = z.named ∙ a.named; bits = z.bits ∙ a.bits; has = λ n m got. z.has n m (a.has n m got) }
 
 -- a row of the birth in the later table grew from one in the earlier
 abbrev pub LaterAt : List KeyRow → List KeyRow → ℕ → Type 0
@@ -68,7 +69,7 @@ grew-opens old row e dek g h = opens-more _ (material_of (old ∷ []) e.version)
         ∙ more (bytes_eq old.name e.version.key) x got
 
 longer : (m : Dek) (row : KeyRow) → Grew row (with_material m row)
-longer m row = record { named = refl; has = λ n x got. got-front row.materials m n x got }
+longer m row = record { named = refl; bits = refl; has = λ n x got. got-front row.materials m n x got }
 
 rolled-row : (birth : ℕ) (m : Dek) (row : KeyRow) → Grew row (rolled birth m row) × ((rolled birth m row).birth ≡ row.birth)
 rolled-row birth m row = go (is_born birth row)
@@ -105,7 +106,10 @@ later-after t (Roll birth number material) b n row p h =
 later-after t (Delete birth) b n row p h = (row, in-filter (λ r. not (is_born birth r)) row t.rows p, h, grew-same row)
 
 pub opens-later : (olds rows : List KeyRow) (d : Draw) (e : Edek) → LaterAt olds rows d.birth → OpensTo olds d e → OpensTo rows d e
-opens-later olds rows d e later h row p is = let q = later row p is in grew-opens q.0 row e d.dek q.3 (h q.0 q.1 q.2)
+opens-later olds rows d e later h row p is =
+    let q = later row p is in
+    let was = h q.0 q.1 q.2 in
+    record { opens = grew-opens q.0 row e d.dek q.3 was.opens; long = was.long ∙ ap (λ (n : ℕ). n / 8) (sym q.3.bits); vector = was.vector }
 
 -- tables that grew
 

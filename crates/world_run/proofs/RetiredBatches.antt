@@ -13,7 +13,7 @@ use Rattle.reenc_update.proofs.ChangeLemmas.{same-edek}
 use Rattle.zone_table.specs.declared.statuses.StatusRow.{StatusRow}
 use Rattle.zone_table.specs.Statuses.{or_mark, with_counts}
 use Rattle.zone_table.proofs.Marks.{eq-yes}
-use Rattle.world_run.specs.Covered.{AllAfter, InOrder, WalkCovered, ids_sent}
+use Rattle.world_run.specs.Covered.{AllAfter, InOrder, NoneShared, WalkCovered, ids_sent}
 use Rattle.world_run.specs.Ledger.{Ledger}
 use Rattle.world_run.specs.Promise.{In}
 use Rattle.world_run.proofs.Members.{some-is}
@@ -110,6 +110,24 @@ order-retired rows zone sent (c ∷ cs) o = go (is_of sent c) (order-retired row
     go true ih = o
     go false ih = ((λ b x i j file m. let w = was-retired sent cs b i in o.0 w.old x w.member j file (subst (λ (s : List Sent). In x.row.id (ids_sent s)) w.sent m)), ih)
 
+-- the files that they share: none
+
+shared-from : (bs : List WalkedBatch) → NoneShared bs → NoneShared (from_outstanding bs)
+shared-from [] o = o
+shared-from (c ∷ cs) o = go c.outstanding (shared-from cs o.1)
+  where
+    go : (k : Bool) → NoneShared (from_outstanding cs) → NoneShared (cond k (c ∷ cs) (from_outstanding cs))
+    go true ih = o
+    go false ih = ih
+
+shared-retired : (sent : List Sent) (bs : List WalkedBatch) → NoneShared bs → NoneShared (retired sent bs)
+shared-retired sent [] o = o
+shared-retired sent (c ∷ cs) o = go (is_of sent c) (shared-retired sent cs o.1)
+  where
+    go : (k : Bool) → NoneShared (retired sent cs) → NoneShared (cond k (record c { outstanding = false } ∷ cs) (c ∷ retired sent cs))
+    go true ih = o
+    go false ih = ((λ b i id m n. let w = was-retired sent cs b i in o.0 w.old w.member id m (subst (λ (s : List Sent). In id (ids_sent s)) w.sent n)), ih)
+
 -- the mark
 
 -- it is the last path of one of the batches
@@ -157,6 +175,11 @@ retire-fits ledger rows s w sent changed failed k = record {
   some_file = λ b i none. let was = was-batch sent w b i in k.some_file was.old was.member (sym was.sent ∙ none);
   entered = λ b y i m. let was = was-batch sent w b i in k.entered was.old y was.member (subst (In y) was.sent m);
   in_order = order-from rows s.zone (retired sent w.batches) (order-retired rows s.zone sent w.batches k.in_order);
+  up_to_last = λ b x i j file m.
+      let was = was-batch sent w b i in
+      subst (λ (q : List (List ℕ)). is_after (Some q) (path_in rows s.zone x.path) ≡ false) (sym was.last)
+      (k.up_to_last was.old x was.member j file (subst (λ (l : List Sent). In x.row.id (ids_sent l)) was.sent m));
+  none_shared = shared-from (retired sent w.batches) (shared-retired sent w.batches k.none_shared);
 }
   where
     none-yet : (q : List (List ℕ)) → None ≡ Some q → AllAfter rows s.zone q (retired sent w.batches)

@@ -38,7 +38,7 @@ use Rattle.batch_calls.proofs.FitLemmas.{batch-fits, neither, of-name}
 use Rattle.world_run.specs.Acknowledged.{Acknowledged}
 use Rattle.world_run.specs.Batches.{batch_call, key_of_sent, raw_keys, reply_for, result_of}
 use Rattle.world_run.specs.Ledger.{Draw, Hidden, Ledger, hidden_after, left_in, moved_on}
-use Rattle.world_run.specs.Linked.{CameBackIn, HasDraw, KeysCameBack, LinkedDraws, NotBelow, OfSession, ReplyCameBack, ServicesFit, VersionsStand}
+use Rattle.world_run.specs.Linked.{CameBackIn, HasDraw, KeysCameBack, LinkedDraws, NotBelow, OfSession, OpensUnder, ReplyCameBack, ServicesFit, VersionsStand}
 use Rattle.world_run.specs.Promise.{In}
 use Rattle.world_run.specs.Step.{ServeActs}
 use Rattle.world_run.specs.World.{WorldState, numbered}
@@ -75,15 +75,20 @@ module _ (ledger : Ledger) (session : ℕ) (s : KmsState) (name : KeyName) (x : 
   key-is : e.version.key ≡ name
   key-is = ap (λ (v : VersionName). v.key) (same.version ∙ ap current_version found) ∙ row-named
 
-  opened : (other : KeyRow) → In other s.table.rows → other.birth ≡ had.draw.birth → unseals (other ∷ []) e ≡ Some had.draw.dek
+  opened : (other : KeyRow) → In other s.table.rows → other.birth ≡ had.draw.birth → OpensUnder other had.draw e
   opened other i birth =
-      let by_sent : unseals (other ∷ []) x.edek ≡ Some had.draw.dek = had.opens other i birth in
+      let was = had.opens other i birth in
+      let by_sent : unseals (other ∷ []) x.edek ≡ Some had.draw.dek = was.opens in
       let name_is : other.name ≡ row.name = opens-named other x.edek had.draw.dek by_sent ∙ mine ∙ sym row-named in
       let is : other ≡ row = once-named s.table.rows other row table.names i (found-in (is_named name) s.table.rows row found) name_is in
       let dek_is : Some same.dek ≡ Some had.draw.dek = sym same.before ∙ opens-among s.table.rows other x.edek had.draw.dek table.names i by_sent in
-      subst (λ (r : KeyRow). unseals (r ∷ []) e ≡ Some had.draw.dek) (sym is)
-      (opens-alone s.table.rows row e had.draw.dek (ap (find_name s.table.rows) key-is ∙ found) (ap (λ (k : KeyName). is_named k row) key-is ∙ found_passes (is_named name) s.table.rows row found)
-      (same.after ∙ dek_is))
+      record {
+        opens = subst (λ (r : KeyRow). unseals (r ∷ []) e ≡ Some had.draw.dek) (sym is)
+            (opens-alone s.table.rows row e had.draw.dek (ap (find_name s.table.rows) key-is ∙ found) (ap (λ (k : KeyName). is_named k row) key-is ∙ found_passes (is_named name) s.table.rows row found)
+            (same.after ∙ dek_is));
+        long = was.long;
+        vector = ap length same.iv ∙ was.vector;
+      }
 
   -- its version is the last one of that key
   not-below : OneDraw ledger → VersionsStand ledger s.table.rows → NotBelow ledger s.table.rows session e

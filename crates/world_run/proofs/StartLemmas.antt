@@ -322,7 +322,7 @@ first-linked past sizes table names l = record {
     replies = record { as_many = refl; keys_open = λ r o at. absurd (none-replied r o at); one_reply = λ n m d at other. absurd (numbered-in [] n (Some d) at) };
     draws = draws-later (drawn_before past) (IsRecordedBirth table) (IsOldBirth (first_world sizes table names).keys.keys.table) (λ b h. inl h) l.draws;
     ledger = ledger-more past.ledger [] [] [] ((names.opening + 1) * 2 ^ 32) ((names.opening + 1) * 2 ^ 32 + 1) (omega arith) l.fits;
-    queues = record { opens = λ birth. tt; rising = λ birth. tt; not_replied = λ birth d i. absurd i; not_entered = λ birth id d i. absurd i };
+    queues = record { opens = λ birth. tt; current = tt; rising = λ birth. tt; not_replied = λ birth d i. absurd i; not_entered = λ birth id d i. absurd i };
     tickets = λ ticket i. absurd i;
     batches = record { sent = λ batch x i j. absurd i; sessions = λ batch x i j. absurd i; back = λ r i. absurd i };
     versions = l.versions;

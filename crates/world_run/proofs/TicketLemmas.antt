@@ -23,6 +23,7 @@ use Rattle.kms_core.specs.Draws.{sealed_with, words_of_draw}
 use Rattle.kms_core.specs.Opening.{unseals}
 use Rattle.kms_core.specs.Ready.{deposit_answer, edek_of_sealed, is_filled, is_present, newest_material, queues_with, stale_for, ticket_for, ticket_of, with_sealed}
 use Rattle.kms_core.specs.State.{AllReady, IsReadyFor, IsService, KmsState}
+use Rattle.kms_core.proofs.DepositLemmas.{all_deposited, present_newest}
 use Rattle.kms_core.proofs.KeyLemmas.{found_passes}
 use Rattle.hk_events.specs.declared.event.Event.TheVariants as event
 use Rattle.hk_events.specs.declared.event.Line.{Line}
@@ -33,7 +34,7 @@ use Rattle.world_run.specs.Step.{DepositActs, GivesTicket, LacksRoom, after_tick
 use Rattle.world_run.specs.Ledger.{Draw, Hidden, behind_words, deposited_under, draw_under, hidden_after, moved_on, with_queued}
 use Rattle.world_run.specs.Promise.{In}
 use Rattle.world_run.specs.Linked.{DrawsFit, IsDrawn, IsOldBirth, IsRising, LinkedDraws, Pairs, QueuesLinked, ReadyLinked, TicketLinked, TicketsLinked}
-use Rattle.world_run.proofs.DrawLemmas.{rising-most, rising-once, words-of-dek}
+use Rattle.world_run.proofs.DrawLemmas.{dek-long, iv-long, material-long, rising-most, rising-once, words-of-dek}
 use Rattle.world_run.proofs.Members.{each-in, found-in, in-more, numbered-in, some-is}
 use Rattle.world_run.proofs.PairLemmas.{pairs-more, rising-more}
 use Rattle.world_run.proofs.QueueLaters.{ready-other, set-has}
@@ -154,6 +155,14 @@ kept-queued s x kept = present (is_present s x) kept
     present true kept = queued (has_queue s.ready.queues x.birth) refl kept
     present false kept = absurd cc
 
+-- it is of the key now
+kept-present : (s : KmsState) (x : SealedKey) → deposit_answer s x ≡ Kept → is_present s x ≡ true
+kept-present s x kept = go (is_present s x) refl kept
+  where
+    go : (t : Bool) → is_present s x ≡ t → cond t (cond (is_filled s.ready x.birth) Full Kept) (stale_for s (row_of s x.version.key)) ≡ Kept → is_present s x ≡ true
+    go true is kept = is
+    go false is kept = absurd cc
+
 -- a key that was sealed with the material of its version opens
 opens-sealed : (row : KeyRow) (v : VersionName) (iv : Iv) (material dek : Dek) → row.name ≡ v.key → slice_get row.materials v.number ≡ Some material
     → unseals (row ∷ []) (record { version = v; iv = iv; sealed = seal material iv dek }) ≡ Some dek
@@ -170,12 +179,15 @@ in-queued new queued birth d i = go (birth == new.birth) i
     go false j = inl j
 
 module _ (w : WorldState) (h : Hidden) (words : ℕ → ℕ) (ticket : Ticket) (drawn : ℕ) (member : In ticket w.kept.tickets) (drawn_is : drawn ≡ words_of_draw (length ticket.material))
-    (has : has_queue w.keys.keys.ready.queues ticket.birth ≡ true) (l : LinkedDraws w h) where
+    (kept : deposit_answer w.keys.keys (sealed_with ticket words) ≡ Kept) (fit : IsService w.keys) (l : LinkedDraws w h) where
   abbrev row_list : List KeyRow
   row_list = w.keys.keys.table.rows
 
   abbrev old_queues : List Queue
   old_queues = w.keys.keys.ready.queues
+
+  has : has_queue old_queues ticket.birth ≡ true
+  has = kept-queued w.keys.keys (sealed_with ticket words) kept
 
   abbrev made_key : Edek
   made_key = edek_of_sealed (sealed_with ticket words)
@@ -208,7 +220,14 @@ module _ (w : WorldState) (h : Hidden) (words : ℕ → ℕ) (ticket : Ticket) (
   made-linked = record {
     of_birth = refl;
     of_version = refl;
-    opens = λ row i birth. let key = ticket-is.of_key row i birth in opens-sealed row ticket.version new_draw.iv ticket.material new_draw.dek key.0 key.1;
+    opens = λ row i birth.
+        let key = ticket-is.of_key row i birth in
+        let is = each-in IsRow row_list row fit.table.rows i in
+        record {
+          opens = opens-sealed row ticket.version new_draw.iv ticket.material new_draw.dek key.0 key.1;
+          long = dek-long words row.bits ticket.material is.bits (material-long row ticket.version.number ticket.material is key.1);
+          vector = iv-long words;
+        };
   }
 
   opens-so : (birth : ℕ) → Pairs (ReadyLinked row_list birth) (ready_in new_queues birth) (with_queued new_draw h.queued birth)
@@ -234,6 +253,7 @@ module _ (w : WorldState) (h : Hidden) (words : ℕ → ℕ) (ticket : Ticket) (
   deposited-queues : QueuesLinked row_list new_queues hidden_then
   deposited-queues = record {
     opens = opens-so;
+    current = all_deposited w.keys.keys (sealed_with ticket words) (present_newest w.keys.keys (sealed_with ticket words) fit.table (kept-present w.keys.keys (sealed_with ticket words) kept)) fit.ready;
     rising = rises;
     not_replied = λ birth d i j. elim (in-queued new_draw h.queued birth d i) [ inl old ↦ l.queues.not_replied birth d old j | inr is ↦ (free d is).not_replied j ];
     not_entered = λ birth id d i j. elim (in-queued new_draw h.queued birth d i) [ inl old ↦ l.queues.not_entered birth id d old j | inr is ↦ (free d is).not_entered id j ];
@@ -263,25 +283,25 @@ module _ (w : WorldState) (h : Hidden) (words : ℕ → ℕ) (ticket : Ticket) (
 
 -- the world after a deposit with this answer
 answered-deposit : (w : WorldState) (h : Hidden) (words : ℕ → ℕ) (number : ℕ) (ticket : Ticket) (drawn : ℕ) (a : Deposit) → numbered w.kept.tickets number ≡ Some ticket → drawn ≡ words_of_draw (length ticket.material)
-    → deposit_answer w.keys.keys (sealed_with ticket words) ≡ a → LinkedDraws w h
+    → deposit_answer w.keys.keys (sealed_with ticket words) ≡ a → IsService w.keys → LinkedDraws w h
     → (w' : WorldState) → w' ≡ with_ready w (queues_with w.keys.keys.ready (sealed_with ticket words) a) → StaysLinked h w' (hidden_after w words (event.Deposit number) (line.Deposit a) drawn w' h)
-answered-deposit w h words number ticket drawn Kept at drawn_is kept l w' left =
+answered-deposit w h words number ticket drawn Kept at drawn_is kept fit l w' left =
     subst (λ (v : WorldState). StaysLinked h v (record (behind_words drawn h) { queued = deposited_under (numbered w.kept.tickets number) words h.place h.queued })) (sym left)
     (subst (λ (o : Option Ticket). StaysLinked h (with_ready w (with_sealed w.keys.keys.ready (sealed_with ticket words))) (record (behind_words drawn h) { queued = deposited_under o words h.place h.queued })) (sym at)
-    (linked-deposit w h words ticket drawn (numbered-in w.kept.tickets number ticket at) drawn_is (kept-queued w.keys.keys (sealed_with ticket words) kept) l))
-answered-deposit w h words number ticket drawn Full at drawn_is full l w' left =
+    (linked-deposit w h words ticket drawn (numbered-in w.kept.tickets number ticket at) drawn_is kept fit l))
+answered-deposit w h words number ticket drawn Full at drawn_is full fit l w' left =
     subst (λ (v : WorldState). StaysLinked h v (moved_on w.keys.keys.ready.queues v.keys.keys.ready.queues drawn h)) (sym left)
     (linked-keys w h (with_ready w w.keys.keys.ready).keys drawn (same-service w.keys) l, apart-moved w.keys.keys.ready.queues w.keys.keys.ready.queues drawn h)
-answered-deposit w h words number ticket drawn (Stale opening birth version) at drawn_is stale l w' left =
+answered-deposit w h words number ticket drawn (Stale opening birth version) at drawn_is stale fit l w' left =
     subst (λ (v : WorldState). StaysLinked h v (moved_on w.keys.keys.ready.queues v.keys.keys.ready.queues drawn h)) (sym left)
     (linked-keys w h (with_ready w w.keys.keys.ready).keys drawn (same-service w.keys) l, apart-moved w.keys.keys.ready.queues w.keys.keys.ready.queues drawn h)
 
-pub deposit-keeps : (w : WorldState) (h : Hidden) (words : ℕ → ℕ) (number : ℕ) (outcome : Line) (drawn : ℕ) (logged : Acknowledged) (w' : WorldState) (o : Option Ticket) → LinkedDraws w h → numbered w.kept.tickets number ≡ o
+pub deposit-keeps : (w : WorldState) (h : Hidden) (words : ℕ → ℕ) (number : ℕ) (outcome : Line) (drawn : ℕ) (logged : Acknowledged) (w' : WorldState) (o : Option Ticket) → IsService w.keys → LinkedDraws w h → numbered w.kept.tickets number ≡ o
     → DepositActs w words o outcome drawn logged w' → StaysLinked h w' (hidden_after w words (event.Deposit number) outcome drawn w' h)
-deposit-keeps w h words number outcome drawn logged w' None l at u =
+deposit-keeps w h words number outcome drawn logged w' None fit l at u =
     subst (λ (t : Line). StaysLinked h w' (hidden_after w words (event.Deposit number) t drawn w' h)) (sym u.reply_is)
     (subst (λ (v : WorldState). StaysLinked h v (moved_on w.keys.keys.ready.queues v.keys.keys.ready.queues drawn h)) (sym u.same)
     (linked-still w h drawn l, apart-moved w.keys.keys.ready.queues w.keys.keys.ready.queues drawn h))
-deposit-keeps w h words number outcome drawn logged w' (Some ticket) l at d =
+deposit-keeps w h words number outcome drawn logged w' (Some ticket) fit l at d =
     subst (λ (t : Line). StaysLinked h w' (hidden_after w words (event.Deposit number) t drawn w' h)) (sym d.reply_is)
-    (answered-deposit w h words number ticket drawn (deposit_answer w.keys.keys (sealed_with ticket words)) at d.drawn_is refl l w' d.left)
+    (answered-deposit w h words number ticket drawn (deposit_answer w.keys.keys (sealed_with ticket words)) at d.drawn_is refl fit l w' d.left)

@@ -7,7 +7,7 @@ use Rattle.eek_seal.specs.declared.tickets.Ticket.{Ticket}
 use Rattle.key_rows.specs.declared.rows.KeyRow.{KeyRow}
 use Rattle.key_rows.specs.Table.{Table}
 use Rattle.kms_core.specs.Draws.{words_of_draw}
-use Rattle.kms_core.specs.State.{IsService, ServiceState, service_after_opening, settled}
+use Rattle.kms_core.specs.State.{AllReady, IsService, ServiceState, service_after_opening, settled}
 use Rattle.edit_ops.specs.declared.ops.EditOp.{EditOp}
 use Rattle.edit_ops.specs.declared.ops.EditOp.TheVariants.{Opened, Mkdir, File, Remove, Rename, Zone, Allow, Disallow, Snap, Unsnap, Submit, Update, Cancel, Complete}
 use Rattle.name_store.specs.Store.{is_opening}
@@ -99,9 +99,10 @@ ready-later : (olds rows : List KeyRow) (birth : ℕ) (e : Edek) (d : Draw) → 
 ready-later olds rows birth e d later r = record { of_birth = r.of_birth; of_version = r.of_version; opens = opens-later olds rows d e later r.opens }
 
 queues-moved : (h : Hidden) (IsBirth : ℕ → Type 0) (olds rows : List KeyRow) (before after : List Queue) (drawn : ℕ) → DrawsFit h IsBirth → ((b : ℕ) → IsBirth b → LaterAt olds rows b) → Shrinks before after
-    → QueuesLinked olds before h → QueuesLinked rows after (moved_on before after drawn h)
-queues-moved h IsBirth olds rows before after drawn f later shrinks q =
+    → (AllReady olds before → AllReady rows after) → QueuesLinked olds before h → QueuesLinked rows after (moved_on before after drawn h)
+queues-moved h IsBirth olds rows before after drawn f later shrinks current q =
     record {
+      current = current q.current;
       opens = λ birth. subst (λ (ready : List Edek). Pairs (ReadyLinked rows birth) ready (left birth)) (sym (shrinks birth).1)
           (subst (λ (ds : List Draw). Pairs (ReadyLinked rows birth) (drop (shrinks birth).0 (ready_in before birth)) ds) (sym (left-by birth))
           (pairs-drop (ReadyLinked rows birth) (shrinks birth).0 (ready_in before birth) (h.queued birth)
@@ -197,7 +198,7 @@ linked-keys w h keys drawn later l =
       replies = replies-later h IsBirth olds rows w.kept.replies l.draws later.keys.rows l.replies;
       draws = draws-moved before after drawn h IsBirth (IsOldBirth keys.keys.table) later.keys.births l.draws;
       ledger = l.ledger;
-      queues = queues-moved h IsBirth olds rows before after drawn l.draws later.keys.rows later.shrinks l.queues;
+      queues = queues-moved h IsBirth olds rows before after drawn l.draws later.keys.rows later.shrinks later.current l.queues;
       tickets = tickets-later w.keys.keys.table keys.keys.table before after w.kept.tickets later l.tickets;
       batches = batches-later h IsBirth olds rows w.kept l.draws later.keys.rows l.batches;
       versions = versions-later h IsBirth olds rows l.draws later.keys.rows l.versions;
@@ -211,7 +212,7 @@ linked-words w h drawn l =
       replies = l.replies;
       draws = record { below = λ x i. let t = l.draws.below x i in omega (arith, t); one_place = l.draws.one_place; born = l.draws.born; recent = l.draws.recent };
       ledger = l.ledger;
-      queues = record { opens = l.queues.opens; rising = l.queues.rising; not_replied = l.queues.not_replied; not_entered = l.queues.not_entered };
+      queues = record { opens = l.queues.opens; current = l.queues.current; rising = l.queues.rising; not_replied = l.queues.not_replied; not_entered = l.queues.not_entered };
       tickets = l.tickets;
       batches = l.batches;
       versions = l.versions;
@@ -229,6 +230,7 @@ linked-restart w h drawn kept table is fit l =
     linked-keys w h then drawn (record {
       keys = then-later w.keys.keys.table table then.keys.table found (later-opened w.keys.keys.ready table);
       shrinks = none-shrinks w.keys.keys.ready.queues;
+      current = λ each. tt;
       stays = λ same row i old has. let on = found.opening in absurd (omega (arith, same, on));
     }) l
 
@@ -520,6 +522,7 @@ module _ (w : WorldState) (h : Hidden) (keys : ServiceState) (drawn : ℕ) (r : 
   queues-reply q =
       record {
         opens = q.opens;
+        current = q.current;
         rising = q.rising;
         not_replied = λ birth d i j. elim (in-more (Some d) o h.replied j) [ inl old ↦ q.not_replied birth d i old | inr is ↦ (n.free d (sym is)).not_queued birth i ];
         not_entered = q.not_entered;

@@ -38,6 +38,15 @@ abbrev pub InOrder : List Entry → ℕ → List WalkedBatch → Type 0
 InOrder rows zone [] = ⊤
 InOrder rows zone (b ∷ bs) = AllAfter rows zone b.last bs × InOrder rows zone bs
 
+-- the two batches have sent no file in common
+abbrev pub IsApart : WalkedBatch → WalkedBatch → Type 0
+IsApart b c = (id : ℕ) → In id (ids_sent b.sent) → In id (ids_sent c.sent) → ⊥
+
+-- no file was sent in two batches
+abbrev pub NoneShared : List WalkedBatch → Type 0
+NoneShared [] = ⊤
+NoneShared (b ∷ bs) = ((c : WalkedBatch) → In c bs → IsApart b c) × NoneShared bs
+
 -- the walk of a re-encryption that goes on
 pub record WalkCovered (ledger : Ledger) (rows : List Entry) (s : StatusRow) (w : WalkState) : Type 0 where
   -- what comes after the cursor comes after the mark, and so do the files of an outstanding batch
@@ -51,6 +60,11 @@ pub record WalkCovered (ledger : Ledger) (rows : List Entry) (s : StatusRow) (w 
   pub some_file : (b : WalkedBatch) → In b w.batches → b.sent ≢ []
   pub entered : (b : WalkedBatch) (y : Sent) → In b w.batches → In y b.sent → (d : Draw) × In (y.id, d) ledger
   pub in_order : InOrder rows s.zone w.batches
+  -- a batch's own files that lie in the zone do not come after its last path, so no file was sent twice
+  pub up_to_last :
+      (b : WalkedBatch) (x : Entry) → In b w.batches → In x rows → is_file_of rows s.zone x ≡ true → In x.row.id (ids_sent b.sent)
+      → is_after (Some b.last) (path_in rows s.zone x.path) ≡ false
+  pub none_shared : NoneShared w.batches
 
 -- The re-encryptions of a table, with these walks. Of those that count, each file that was there at the submission and still exists is
 -- done, or, while the re-encryption goes on, it was sent in an outstanding batch or comes after the cursor.

@@ -1,5 +1,5 @@
 -- What stays true from event to event, and gives the promise on zone files.
-use Rattle.std.specs.Prelude.{◌≡◌, ◌≢◌, ◌⊎◌, ◌+◌, ◌*◌, ◌^◌, ◌<◌, ◌≤◌, ℕ, ⊤, Bool, List, [], ◌∷◌, length, true, slice_get, Option, None, Some}
+use Rattle.std.specs.Prelude.{◌≡◌, ◌≢◌, ◌⊎◌, ◌+◌, ◌*◌, ◌/◌, ◌^◌, ◌<◌, ◌≤◌, ℕ, ⊤, Bool, List, [], ◌∷◌, length, true, slice_get, Option, None, Some}
 use Rattle.std.specs.List.{AllByRecursion}
 use Rattle.hk_base.specs.Disk.{DiskState, Image, IsImage}
 use Rattle.hk_base.specs.declared.names.Edek.{Edek}
@@ -15,7 +15,7 @@ use Rattle.key_rows.specs.declared.rows.KeyRow.{KeyRow}
 use Rattle.key_rows.specs.Table.{Table}
 use Rattle.kms_core.specs.Draws.{words_of_draw}
 use Rattle.kms_core.specs.Opening.{unseals}
-use Rattle.kms_core.specs.State.{IsService}
+use Rattle.kms_core.specs.State.{AllReady, IsService}
 use Rattle.kms_store.specs.Store.{IsSoundLog, settled_table}
 use Rattle.name_store.specs.Table.{NameTable, Replayed, kept_rows, key_of_zone, settled_log}
 use Rattle.name_store.specs.Store.{IsSoundLog as IsSoundNames}
@@ -41,9 +41,16 @@ pub record ServicesFit (w : WorldState) : Type 0 where
   pub keys : IsService w.keys
   pub names : IsNames w.names
 
+-- The row opens the encrypted key to the data key drawn, which is as long as the row's materials. The initialization vector has 16
+-- bytes.
+pub record OpensUnder (row : KeyRow) (d : Draw) (e : Edek) : Type 0 where
+  pub opens : unseals (row ∷ []) e ≡ Some d.dek
+  pub long : length d.dek ≡ row.bits / 8
+  pub vector : length e.iv ≡ 16
+
 -- the row of the draw's birth, while it exists, opens the encrypted key to the data key drawn
 abbrev pub OpensTo : List KeyRow → Draw → Edek → Type 0
-OpensTo rows d e = (row : KeyRow) → In row rows → row.birth ≡ d.birth → unseals (row ∷ []) e ≡ Some d.dek
+OpensTo rows d e = (row : KeyRow) → In row rows → row.birth ≡ d.birth → OpensUnder row d e
 
 -- a file with this id and this encrypted key has a draw
 pub record HasDraw (ledger : Ledger) (rows : List KeyRow) (id : ℕ) (e : Edek) : Type 0 where
@@ -175,6 +182,8 @@ IsRising (d ∷ ds) = AllByRecursion (λ (f : Draw). d.place < f.place) ds × Is
 -- the ledger has it.
 pub record QueuesLinked (keys : List KeyRow) (queues : List Queue) (h : Hidden) : Type 0 where
   pub opens : (birth : ℕ) → Pairs (ReadyLinked keys birth) (ready_in queues birth) (h.queued birth)
+  -- each queue is of the birth of a key that exists, and its ready keys are of that key's current version
+  pub current : AllReady keys queues
   pub rising : (birth : ℕ) → IsRising (h.queued birth)
   pub not_replied : (birth : ℕ) (d : Draw) → In d (h.queued birth) → In (Some d) h.replied → ⊥
   pub not_entered : (birth id : ℕ) (d : Draw) → In d (h.queued birth) → In (id, d) h.ledger → ⊥

@@ -1,5 +1,5 @@
 -- The promise on files in encryption zones, live and in snapshots.
-use Rattle.std.specs.Prelude.{◌≡◌, ◌⊎◌, ◌+◌, ◌≤◌, ℕ, ⊤, Bool, true, false, List, [], ◌∷◌, length, Option, None, Some}
+use Rattle.std.specs.Prelude.{◌≡◌, ◌⊎◌, ◌+◌, ◌/◌, ◌≤◌, ℕ, ⊤, Bool, true, false, List, [], ◌∷◌, length, Option, None, Some}
 use Rattle.hk_base.specs.declared.names.Edek.{Edek}
 use Rattle.hk_base.specs.declared.names.KeyName.{KeyName}
 use Rattle.inode_tree.specs.declared.rows.Kind.{Kind}
@@ -37,12 +37,13 @@ FitsZone (Some key) (File None) = ⊥
 FitsZone (Some key) (File (Some edek)) = edek.version.key ≡ key
 
 -- The encrypted key of a file opens to the data key of a draw in the ledger, as long as the key exists under which that was drawn:
--- the row with the draw's birth has the name of that key.
+-- the row with the draw's birth has the name of that key. It has the lengths that a decryption asks for.
 pub record OpensToItsDraw (ledger : Ledger) (rows : List KeyRow) (id : ℕ) (edek : Edek) : Type 0 where
   pub draw : Draw
   pub entered : In (id, draw) ledger
   pub of_key : edek.version.key ≡ draw.version.key
   pub opens : (row : KeyRow) → In row rows → row.birth ≡ draw.birth → (row.name ≡ draw.version.key) × (unseals rows edek ≡ Some draw.dek)
+  pub long : (row : KeyRow) → In row rows → row.birth ≡ draw.birth → (length draw.dek ≡ row.bits / 8) × (length edek.iv ≡ 16)
 
 -- the file with this id lay in the zone of the re-encryption when that was submitted
 abbrev pub WasThere : Starts → ℕ → ℕ → Type 0
