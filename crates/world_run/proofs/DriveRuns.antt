@@ -18,7 +18,7 @@ use Rattle.hk_events.specs.declared.event.Event.TheVariants as event
 use Rattle.hk_events.specs.declared.event.Line.{Line}
 use Rattle.hk_events.specs.declared.event.Line.TheVariants as line
 use Rattle.world_run.specs.Acknowledged.{Acknowledged, HoldsLogs, also}
-use Rattle.world_run.specs.Drives.{Course, Drives, EndsAs, IsCourse, Leading, Leads, NoneFails, Standing, add_batch, batches_in, event_after, files_left, next_event, outstanding_in, result_of, standing_after}
+use Rattle.world_run.specs.Drives.{Course, Drives, EndsAs, FirstSettles, FirstWalks, IsCourse, Leading, Leads, NoneFails, Standing, add_batch, batches_in, event_after, files_left, next_event, outstanding_in, result_of, standing_after}
 use Rattle.world_run.specs.Keeps.{is_restart}
 use Rattle.world_run.specs.Linked.{ServicesFit}
 use Rattle.world_run.specs.Step.{Step}
@@ -118,7 +118,7 @@ no-end path line.Unknown e is = refl
 
 abbrev pub SoFarOf : {D W : Type 0} → NPath → Standing D W → Course D W → Type 0
 SoFarOf zone a [] = ⊤
-SoFarOf zone a (p ∷ earlier) = (kept : Bool) × SoFar (settled kept (world_of a.world).names) zone (batches_in (p ∷ earlier)) (world_of p.after.world) p.answer
+SoFarOf zone a (p ∷ earlier) = (kept : Bool) × SoFar (settled kept (world_of a.world).names) zone (batches_in (p ∷ earlier)) (world_of p.after.world) p.answer × FirstSettles kept zone a (p ∷ earlier)
 
 pub record Runs {D W : Type 0} (leads : Leading D W) (zone : NPath) (a : Standing D W) (course : Course D W) : Type 0 where
   pub is_course : IsCourse leads (path_text zone) a course
@@ -163,7 +163,7 @@ happens {D = D} {W = W} state to_come lines now zone a e b answer c ruled before
           runs = record {
             is_course = (is, subst (λ (s : Standing D W). Leads state to_come lines now s e answer c) (sym last) leads, tt);
             none_fails = (tt, tt);
-            so_far = subst (λ (s : Standing D W). (kept : Bool) × SoFar (settled kept (world_of s.world).names) zone (add_batch answer 0) (world_of c.world) answer) (sym last) so;
+            so_far = subst (λ (s : Standing D W). (kept : Bool) × SoFar (settled kept (world_of s.world).names) zone (add_batch answer 0) (world_of c.world) answer × FirstWalks kept (world_of s.world) zone answer (world_of c.world)) (sym last) so;
           };
         }
     go (p ∷ earlier) runs last is =
@@ -176,7 +176,7 @@ happens {D = D} {W = W} state to_come lines now zone a e b answer c ruled before
           runs = record {
             is_course = (is, subst (λ (s : Standing D W). Leads state to_come lines now s e answer c) (sym last) leads, runs.is_course);
             none_fails = (goes.fails_none, runs.none_fails);
-            so_far = (runs.so_far.0, goes.so_far);
+            so_far = (runs.so_far.0, goes.so_far, runs.so_far.2);
           };
         }
 
@@ -190,6 +190,7 @@ ended state to_come lines now zone a answer b came = record {
   result_is = refl;
   none_fails = came.runs.none_fails;
   kept = came.runs.so_far.0;
+  first = came.runs.so_far.2;
   few = came.runs.so_far.1.few;
   ends = ends (world_of b.world) zone _ _ (outstanding_in (settled came.runs.so_far.0 (world_of a.world).names) zone) answer came.runs.so_far.1.after;
 }
@@ -207,6 +208,7 @@ given-up {D = D} {W = W} state to_come lines now zone a e b before comes = go co
       result_is = refl;
       none_fails = tt;
       kept = true;
+      first = tt;
       few = some-room a.world.names.batch (files_left (settled true (world_of a.world).names) zone) before.names.size.0;
       ends = inr (refusal.NoMemory, refl);
     }
@@ -217,6 +219,7 @@ given-up {D = D} {W = W} state to_come lines now zone a e b before comes = go co
       result_is = sym (no-end (path_text zone) p.answer e is);
       none_fails = runs.none_fails;
       kept = runs.so_far.0;
+      first = runs.so_far.2;
       few = runs.so_far.1.few;
       ends = inr (refusal.NoMemory, refl);
     }

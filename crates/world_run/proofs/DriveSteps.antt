@@ -26,7 +26,7 @@ use Rattle.hk_events.specs.declared.event.Line.TheVariants as line
 use Rattle.world_run.specs.declared.kept.KeptReply.TheVariants.{ToBatch}
 use Rattle.world_run.specs.Acknowledged.{Acknowledged}
 use Rattle.world_run.specs.Batches.{after_walk, reply_for, walk_line}
-use Rattle.world_run.specs.Drives.{FailsNone, KeysFailNone, add_batch, files_left, outstanding_in}
+use Rattle.world_run.specs.Drives.{FailsNone, FirstWalks, KeysFailNone, SettlesAndWalks, add_batch, files_left, outstanding_in}
 use Rattle.world_run.specs.Step.{DeliverReply, ServeActs, WalkAt, update_line}
 use Rattle.world_run.specs.World.{WorldState, next_batch, next_reply, numbered}
 use Rattle.world_run.proofs.Members.{some-is}
@@ -195,19 +195,38 @@ some-room size left some = omega (arith, some)
 none-less : (size left : ℕ) → left ≡ left - 0 * size
 none-less size left = omega arith
 
+-- a walk changes the namesystem, whatever it gives
+after-names : (walked : Walked) (w : WorldState) → (after_walk (Ok walked) w).names ≡ w.names
+after-names (walk.Batch note) w = refl
+after-names (walk.NoneLeft waiting) w = refl
+after-names walk.Completed w = refl
+
+first-walked : (w : WorldState) (zone : NPath) (w' : WorldState) (kept : Bool) (walked : Walked) (answer : Line) (n : NameService)
+    → answer ≡ walk_line (Ok walked) (next_batch w) → w' ≡ after_walk (Ok walked) (record w { names = n }) → NameWalks (settled kept w.names) zone (Ok walked) n.names → n.pending ≡ None → SettlesAndWalks kept w zone answer w'
+first-walked w zone w' kept walked answer n is left walks free =
+    let same : w'.names ≡ n = ap (λ (v : WorldState). v.names) left ∙ after-names walked (record w { names = n }) in
+    record {
+      walked = walked;
+      answer_is = is;
+      walks = subst (λ (s : NameService). NameWalks (settled kept w.names) zone (Ok walked) s.names) (sym same) walks;
+      none_pending = ap (λ (s : NameService). s.pending) same ∙ free;
+    }
+
 -- The first walk settles what was pending. A walk that is refused may have kept it or dropped it.
 pub first-walk : (zone : NPath) (w : WorldState) (o : Option NPath) (fault : Type 0) (answer : Line) (drawn : ℕ) (logged : Acknowledged) (w' : WorldState)
-    → (o ≡ None) ⊎ (o ≡ Some zone) → IsNames w.names → IsNames w'.names → WalkAt w o fault answer drawn logged w' → (kept : Bool) × SoFar (settled kept w.names) zone (add_batch answer 0) w' answer
+    → (o ≡ None) ⊎ (o ≡ Some zone) → IsNames w.names → IsNames w'.names → WalkAt w o fault answer drawn logged w'
+    → (kept : Bool) × SoFar (settled kept w.names) zone (add_batch answer 0) w' answer × FirstWalks kept w zone answer w'
 first-walk zone w None fault answer drawn logged w' read before names r =
-    (true, refused (settled true w.names) zone 0 w' _ answer r.1.reply_is (some-room w.names.names.batch (files_left (settled true w.names) zone) before.size.0))
+    (true, refused (settled true w.names) zone 0 w' _ answer r.1.reply_is (some-room w.names.names.batch (files_left (settled true w.names) zone) before.size.0), inr (_, r.1.reply_is))
 first-walk zone w (Some p) fault answer drawn logged w' (inl none) before names r = absurd cc
 first-walk zone w (Some p) fault answer drawn logged w' (inr same) before names (inr r) =
-    (true, refused (settled true w.names) zone 0 w' _ answer r.1.reply_is (some-room w.names.names.batch (files_left (settled true w.names) zone) before.size.0))
+    (true, refused (settled true w.names) zone 0 w' _ answer r.1.reply_is (some-room w.names.names.batch (files_left (settled true w.names) zone) before.size.0), inr (_, r.1.reply_is))
 first-walk zone w (Some p) fault answer drawn logged w' (inr same) before names (inl a) = go a.result a.reply_is a.left (subst (λ (q : NPath). WalkServes w.names q fault a.result a.ops a.names) (some-is p zone same) a.walks)
   where
     go : (result : Result Walked NameRefusal) → answer ≡ walk_line result (next_batch w) → w' ≡ after_walk result (record w { names = a.names }) → WalkServes w.names zone fault result a.ops a.names
-        → (kept : Bool) × SoFar (settled kept w.names) zone (add_batch answer 0) w' answer
-    go (Err why) is left serves = (true, refused (settled true w.names) zone 0 w' why answer is (some-room w.names.names.batch (files_left (settled true w.names) zone) before.size.0))
+        → (kept : Bool) × SoFar (settled kept w.names) zone (add_batch answer 0) w' answer × FirstWalks kept w zone answer w'
+    go (Err why) is left serves =
+        (true, refused (settled true w.names) zone 0 w' why answer is (some-room w.names.names.batch (files_left (settled true w.names) zone) before.size.0), inr (why, is))
     go (Ok walked) is left serves =
         let h = has-walked w.names zone fault walked a.ops a.names serves in
         let found = settled h.kept w.names in
@@ -216,6 +235,7 @@ first-walk zone w (Some p) fault answer drawn logged w' (inr same) before names 
           subst (λ (l : Line). SoFar found zone (add_batch l 0) w' l) (sym is)
               (subst (λ (v : WorldState). SoFar found zone (add_batch (walk_line (Ok walked) (next_batch w)) 0) v (walk_line (Ok walked) (next_batch w))) (sym left)
               (given found zone 0 w found walked a.names h.free (subst (λ (v : WorldState). IsNames v.names) left names) refl (some-room found.batch (files_left found zone) before.size.0) stage h.walks)),
+          inl (first-walked w zone w' h.kept walked answer a.names is left h.walks h.free),
         )
 
 -- the call for a batch

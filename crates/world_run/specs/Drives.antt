@@ -13,6 +13,7 @@ use Rattle.name_calls.specs.declared.status.Delivered.TheVariants.{Applied}
 use Rattle.name_core.specs.declared.walks.Walked.{Walked}
 use Rattle.name_core.specs.declared.walks.Walked.TheVariants as walk
 use Rattle.name_core.specs.State.{NameState, settled}
+use Rattle.name_core.specs.Walking.{NameWalks}
 use Rattle.name_core.specs.Walks.{status_at, walk_of}
 use Rattle.name_store.specs.Causes.{id_at}
 use Rattle.prop_text.specs.declared.lines.PropLine.{PropLine}
@@ -22,8 +23,9 @@ use Rattle.hk_events.specs.declared.event.Event.{Event}
 use Rattle.hk_events.specs.declared.event.Event.TheVariants as event
 use Rattle.hk_events.specs.declared.event.Line.{Line}
 use Rattle.hk_events.specs.declared.event.Line.TheVariants as line
+use Rattle.world_run.specs.Batches.{walk_line}
 use Rattle.world_run.specs.Keeps.{Steps}
-use Rattle.world_run.specs.World.{RunningWorld, world_of}
+use Rattle.world_run.specs.World.{RunningWorld, WorldState, next_batch, world_of}
 
 -- both services, with their disk and their source of random words
 pub record Standing (D W : Type 0) : Type 0 where
@@ -130,6 +132,23 @@ last_walk (suc n) = walk.NoneLeft (suc n)
 abbrev pub EndsAs : ℕ → Result Walked NameRefusal → Type 0
 EndsAs count result = (result ≡ Ok (last_walk count)) ⊎ ((why : NameRefusal) × (result ≡ Err why))
 
+-- A walk settled the pending operation so, kept or dropped, and walked. Nothing is pending afterwards.
+pub record SettlesAndWalks (kept : Bool) (w : WorldState) (zone : NPath) (answer : Line) (w' : WorldState) : Type 0 where
+  pub walked : Walked
+  pub answer_is : answer ≡ walk_line (Ok walked) (next_batch w)
+  pub walks : NameWalks (settled kept w.names) zone (Ok walked) w'.names.names
+  pub none_pending : w'.names.pending ≡ None
+
+-- or it was refused, and the drive ends with it
+abbrev pub FirstWalks : Bool → WorldState → NPath → Line → WorldState → Type 0
+FirstWalks kept w zone answer w' = SettlesAndWalks kept w zone answer w' ⊎ ((why : NameRefusal) × (answer ≡ line.Refused why))
+
+-- the first event of the course did so
+abbrev pub FirstSettles : {D W : Type 0} → Bool → NPath → Standing D W → Course D W → Type 0
+FirstSettles kept zone a [] = ⊤
+FirstSettles kept zone a (p ∷ []) = FirstWalks kept (world_of a.world) zone p.answer (world_of p.after.world)
+FirstSettles kept zone a (p ∷ q ∷ earlier) = FirstSettles kept zone a (q ∷ earlier)
+
 -- A zone was driven from one standing to another. What is left to do at its beginning is counted after the first walk has settled the
 -- pending operation: kept or dropped.
 pub record Drives {D W : Type 0} (state : D → DiskState) (to_come : W → ℕ → ℕ) (lines : List PropLine) (now : ℕ) (zone : NPath) (a : Standing D W) (result : Result Walked NameRefusal) (b : Standing D W) : Type 0 where
@@ -139,6 +158,7 @@ pub record Drives {D W : Type 0} (state : D → DiskState) (to_come : W → ℕ 
   pub result_is : result ≡ result_after course
   pub none_fails : NoneFails course
   pub kept : Bool
+  pub first : FirstSettles kept zone a course
   -- no more batches were taken than the files left fill
   pub few : batches_in course * a.world.names.batch < files_left (settled kept (world_of a.world).names) zone + a.world.names.batch
   pub ends : EndsAs (outstanding_in (settled kept (world_of a.world).names) zone) result
