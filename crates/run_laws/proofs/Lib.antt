@@ -1,9 +1,12 @@
 pub mod AskSteps
 pub mod DrawnKeys
 pub mod EventSteps
+pub mod KeyLaws
 pub mod RefusalLaw
 pub mod RunLaw
 pub mod SentFiles
+pub mod ShownKeys
 pub mod SnapshotLaw
+pub mod WalkLaws
 pub mod ZoneMarks
 pub mod ZoneSteps

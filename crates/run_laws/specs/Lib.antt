@@ -1,2 +1,4 @@
+pub mod Keys
 pub mod Names
 pub mod Runs
+pub mod Walks

@@ -1,10 +1,13 @@
 //! Laws over several calls of the namesystem, and over runs of events of both services: what holds
 //! of an ask and its finish, whatever calls, asks, finishes, draws and restarts come between them,
-//! and of a snapshot. The functions do nothing: their contracts are the laws.
+//! and of a snapshot. Laws of linked worlds: what holds of the keys of zone files, of ready keys and
+//! of batches. The functions do nothing: their contracts are the laws.
 #![tactic(auto)]
 
+ghost use Rattle.run_laws.specs.Keys.{ReadyKeysAreCurrent, ShownKeysAreKept, ZoneFilesDecrypt};
 ghost use Rattle.run_laws.specs.Names.{RefusedForItsZone};
 ghost use Rattle.run_laws.specs.Runs.{RunsKeepSnapshots, RunsRefuseForTheZone};
+ghost use Rattle.run_laws.specs.Walks.{BatchesAreOnce, BatchesShareNoFile, RepeatedIsIgnored};
 
 /// A file whose reply has the key that its ask wanted is refused as `ZoneChanged` only if the zone
 /// of its path is not the one at the ask, whatever came between. The same holds for a zone that was
@@ -24,4 +27,27 @@ pub fn runs_refuse_for_the_zone()
 /// services included.
 pub fn runs_keep_snapshots()
     ensures { RunsKeepSnapshots }
+{}
+
+/// A user who may decrypt opens each zone file, live or in a snapshot: the decryption of its
+/// encrypted key answers the data key drawn for it, while the key exists under which that was drawn.
+/// It takes no memory, reads no disk and changes nothing. The encrypted key that an info shows is that
+/// of such a file.
+pub fn zone_files_are_decrypted()
+    ensures decrypted { ZoneFilesDecrypt }
+    ensures shown { ShownKeysAreKept }
+{}
+
+/// In a linked world each ready key is of the current version of the key with its queue's birth, and
+/// opens to the data key of its draw.
+pub fn ready_keys_are_current()
+    ensures { ReadyKeysAreCurrent }
+{}
+
+/// In a linked world two outstanding batches of a zone share no file, so none is outstanding twice.
+/// A delivery or a giving up that comes again after it was applied is ignored.
+pub fn batches_share_no_file()
+    ensures apart { BatchesShareNoFile }
+    ensures once { BatchesAreOnce }
+    ensures ignored { RepeatedIsIgnored }
 {}
