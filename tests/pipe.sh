@@ -79,6 +79,9 @@ pipe < <(printf 'POST /kms/v1/keys?user.name=a HTTP/1.1\r\nContent-Length: 41943
 same 'a body that is too long' $'3 HTTP/1.1 413 ' "$status $(head -n 1 <<<"$output" | cut -c 1-13)"
 pipe < <(printf 'GET /kms/v1/keys/names?user.name=a\r\n\r\n')
 same 'a line that is no request' $'3 HTTP/1.1 400 Bad Request\r' "$status $(head -n 1 <<<"$output")"
+pipe < <(printf 'HEAD /kms/v1/keys/names?user.name=a HTTP/1.1\r\n\r\nGET /kms/v1/keys/names?user.name=b HTTP/1.1\r\n\r\n')
+head=$'HTTP/1.1 405 Method Not Allowed\r\nContent-Type: application/json\r\nContent-Length: 67\r\n\r\n'
+same 'a request for a head, and one more' "0 $head$names" "$status $output"
 pipe </dev/null
 same 'no request' '0 ' "$status $output"
 
