@@ -1,5 +1,5 @@
 //! Adapters over the system's readers, writers and clock that count errors.
-ghost use Rattle.std.specs.Prelude.{◌≡◌, ◌≤◌, ◌<◌, ◌+◌, ◌-◌, ◌^◌, min, IfOk};
+ghost use Rattle.std.specs.Prelude.{◌≡◌, ◌≤◌, ◌<◌, ◌+◌, ◌-◌, ◌^◌, min, IfOk, IfSome};
 ghost use Rattle.std.specs.Io.{ReadsAtMost, WritesAtMost};
 ghost use Rattle.std.specs.Io.KnownBytes.{ReadConsumes, WriteAppends};
 
@@ -39,11 +39,32 @@ impl<R: Read + Drop> Reading<R> {
     }
 }
 
-/// Opens a file for reading.
-pub fn open_source<R: Files>(files: &R, path: &str) -> io::Result<Reading<R::File>>
-    ensures { IfOk result (λ source. source.faults ≡ 0) }
+/// Returns whether a path has an entry. A link counts as one, wherever it leads.
+fn has_entry<R: Files>(files: &R, path: &str) -> io::Result<bool> {
+    match fs::symlink_metadata(files, path) {
+        Ok(_) => Ok(true),
+        Err(error) => {
+            if error.kind() == ErrorKind::NotFound {
+                return Ok(false);
+            }
+            Err(error)
+        }
+    }
+}
+
+/// Opens a regular file, or a link to one, for reading. Returns `None` if the path has no entry. Fails
+/// if the entry is of another kind or can't be opened, as a link that leads nowhere.
+pub fn open_source<R: Files>(files: &R, path: &str) -> io::Result<Option<Reading<R::File>>>
+    ensures { IfOk result (λ source. IfSome source (λ source. source.faults ≡ 0)) }
 {
-    Ok(Reading::new(fs::open(files, path)?))
+    if !has_entry(files, path)? {
+        return Ok(None);
+    }
+    // To open a named pipe would wait for its writer.
+    if !fs::metadata(files, path)?.is_file() {
+        return Err(io::Error::new(ErrorKind::InvalidInput, "not a regular file"));
+    }
+    Ok(Some(Reading::new(fs::open(files, path)?)))
 }
 
 fn read_tried<R: Read>(inner: &mut R, buf: &mut [u8]) -> Result<usize, Failed>

@@ -1,20 +1,20 @@
 //! hkms: the Hadoop key management server.
 #![tactic(auto)]
 
-ghost use Rattle.std.specs.Prelude.{◌≡◌, ◌≢◌, ◌⊎◌, IfErr, IfOk, IsTrue, MatchResult};
-ghost use Rattle.std.specs.IoError.{error_kind};
+ghost use Rattle.std.specs.Prelude.{◌≡◌, ◌≢◌, IfErr, IfOk, IsTrue, MatchResult};
 ghost use Rattle.command_line.specs.Orders.{IsMistake, line_fault};
-ghost use Rattle.door_kinds.specs.Yards.{file_yard_state};
-ghost use Rattle.hkms_tool.specs.Starting.{EndsBy, EndsWith};
+ghost use Rattle.hkms_tool.specs.Starting.{EndsBy, EndsUnopened, EndsWith};
 
 mod announcing;
+mod opening;
 
 use announcing::Announcing;
 use command_line::{Order, OrderFault, read_order};
-use disk_kinds::{ChaWords, FileDisk, PlainDisk, Reading, WallClock, Writing, open_source};
-use door_kinds::{FileYard, MemDoor, MemYard, TcpDoor};
+use disk_kinds::{ChaWords, PlainDisk, Reading, WallClock, Writing};
+use door_kinds::{MemDoor, MemYard, TcpDoor};
 use hk_base::{Disk, Source, Text, write_all};
 use hkms_commands::hkms;
+use opening::{PROPERTIES, Unopened, fill_standard, open_disk, open_yard};
 use server_parts::{Door, Yard};
 use std::alloc::Global;
 use std::env;
@@ -41,21 +41,20 @@ fn random_seed<R: Files>(rt: &R) -> io::Result<[u8; 32]> {
     Ok(seed)
 }
 
-/// The file of the properties of the key management service, in the current folder.
-const PROPERTIES: &str = "kms-acls.properties";
+/// What a command writes to the output.
+#[derive(Clone, Copy)]
+enum Output {
+    /// Lines. The last one tells of a fault.
+    Lines,
+    /// Responses alone.
+    Responses,
+}
 
-/// The properties if there is no such file: every user may do everything.
-const PERMITTING: &[u8] = b"default.key.acl.MANAGEMENT=*\n\
-    default.key.acl.GENERATE_EEK=*\n\
-    default.key.acl.DECRYPT_EEK=*\n\
-    default.key.acl.READ=*\n";
-
-/// Tells of a fault that comes before the input is read, and answers the status: by a last line, but
-/// for a connection, whose output has responses alone.
-fn report_fault(rt: &HostRuntime, order: &Order, line: &[u8], status: u8) -> u8
+/// Tells of a fault that comes before the input is read, by a last line, and returns the status.
+fn report_fault(rt: &HostRuntime, output: Output, line: &[u8], status: u8) -> u8
     ensures { EndsWith status result }
 {
-    if matches!(order, Order::Pipe) {
+    if matches!(output, Output::Responses) {
         return status;
     }
     let mut out = Writing::new(rt.stdout());
@@ -67,13 +66,30 @@ fn report_fault(rt: &HostRuntime, order: &Order, line: &[u8], status: u8) -> u8
 
 /// Tells of an error that comes before the input is read, as `report_fault` does. A failed allocation
 /// has a line and a status of its own.
-fn report_error(rt: &HostRuntime, order: &Order, error: &io::Error, line: &[u8], status: u8) -> u8
+fn report_error(rt: &HostRuntime, output: Output, error: &io::Error, line: &[u8], status: u8) -> u8
     ensures { EndsBy status error.now result }
 {
     if error.kind() == ErrorKind::OutOfMemory {
-        return report_fault(rt, order, b"no memory\n", 6);
+        return report_fault(rt, output, b"no memory\n", 6);
     }
-    report_fault(rt, order, line, status)
+    report_fault(rt, output, line, status)
+}
+
+/// Tells that the properties or the logs could not be opened, also on standard error.
+fn report_unopened(rt: &HostRuntime, output: Output, unopened: &Unopened) -> u8
+    ensures ends { EndsUnopened unopened.now result }
+    ensures not_usage { result ≢ 2 }
+{
+    match unopened {
+        Unopened::Properties(error) => {
+            let _ = eprintln!(rt; "hkms: {PROPERTIES} cannot be opened here: {error}");
+            report_error(rt, output, error, b"read fault\n", 7)
+        }
+        Unopened::Logs(error) => {
+            let _ = eprintln!(rt; "hkms: keys.log and names.log cannot be opened here: {error}");
+            report_error(rt, output, error, b"store fault\n", 5)
+        }
+    }
 }
 
 /// Does what the words of the command line say, over a disk, a yard and a door.
@@ -116,7 +132,7 @@ fn run_over_disk<T: Threads + Wait + Sync, A: Source, D: Disk>(
     rt: &HostRuntime,
     threads: &T,
     words: &[Text],
-    order: &Order,
+    output: Output,
     seed: [u8; 32],
     acls: &mut A,
     disk: &mut D,
@@ -128,127 +144,55 @@ fn run_over_disk<T: Threads + Wait + Sync, A: Source, D: Disk>(
         (Ok(mut yard), Ok(mut door)) => {
             run_over(rt, threads, words, seed, acls, disk, &mut yard, &mut door)
         }
-        _ => report_fault(rt, order, b"no memory\n", 6),
+        _ => report_fault(rt, output, b"no memory\n", 6),
     }
 }
 
-/// Reports that the logs could not be opened.
-fn report_unopened(rt: &HostRuntime, order: &Order, error: &io::Error) -> u8
-    ensures { EndsBy 5 error.now result }
-{
-    let _ = eprintln!(rt; "hkms: keys.log and names.log cannot be opened here: {error}");
-    report_error(rt, order, error, b"store fault\n", 5)
-}
-
-/// Does what the words of the command line say, over the logs that were opened.
-fn run_on<T: Threads + Wait + Sync, A: Source>(
+/// Does what the words of the command line say, over the properties and the disk that were opened.
+fn run_opened<T: Threads + Wait + Sync, A: Source + Drop, D: Disk + Drop>(
     rt: &HostRuntime,
     threads: &T,
     words: &[Text],
-    order: &Order,
+    output: Output,
     seed: [u8; 32],
-    acls: &mut A,
-    opened: io::Result<FileDisk>,
+    opened: Result<(A, D), Unopened>,
 ) -> u8
     ensures usage { result ≡ 2 → IsMistake (line_fault words.now) }
-    ensures unopened { IfErr opened (λ error. EndsBy 5 error result) }
+    ensures unopened { IfErr opened (λ unopened. EndsUnopened unopened result) }
 {
     match opened {
-        Ok(mut disk) => run_over_disk(rt, threads, words, order, seed, acls, &mut disk),
-        Err(error) => report_unopened(rt, order, &error),
-    }
-}
-
-/// Serves, as the words of the command line say, over the logs of a yard. It says on standard error
-/// when it listens and when it ends.
-fn serve_over<T: Threads + Wait + Sync, A: Source, Y: Yard>(
-    rt: &HostRuntime,
-    threads: &T,
-    words: &[Text],
-    seed: [u8; 32],
-    acls: &mut A,
-    yard: &mut Y,
-) -> u8
-    requires keys { IsTrue ((Y.state yard.old).lies 0) }
-    requires names { IsTrue ((Y.state yard.old).lies 1) }
-    ensures { result ≡ 2 → IsMistake (line_fault words.now) }
-{
-    let mut disk = PlainDisk::new(rt.alloc());
-    let mut door = Announcing::new(rt, TcpDoor::new(rt));
-    let status = run_over(rt, threads, words, seed, acls, &mut disk, yard, &mut door);
-    let _ = eprintln!(rt; "hkms: ended with status {status}");
-    status
-}
-
-/// Serves over the logs that were opened.
-fn serve_on<T: Threads + Wait + Sync, A: Source>(
-    rt: &HostRuntime,
-    threads: &T,
-    words: &[Text],
-    order: &Order,
-    seed: [u8; 32],
-    acls: &mut A,
-    opened: io::Result<FileYard>,
-) -> u8
-    requires keys { IfOk opened (λ yard. IsTrue ((file_yard_state yard).lies 0)) }
-    requires names { IfOk opened (λ yard. IsTrue ((file_yard_state yard).lies 1)) }
-    ensures usage { result ≡ 2 → IsMistake (line_fault words.now) }
-    ensures unopened { IfErr opened (λ error. EndsBy 5 error result) }
-{
-    match opened {
-        Ok(mut yard) => serve_over(rt, threads, words, seed, acls, &mut yard),
-        Err(error) => report_unopened(rt, order, &error),
-    }
-}
-
-/// Does what the words of the command line say, over the logs of the current folder.
-fn run_here<T: Threads + Wait + Sync, A: Source>(
-    rt: &HostRuntime,
-    threads: &T,
-    words: &[Text],
-    order: &Order,
-    seed: [u8; 32],
-    acls: &mut A,
-) -> u8
-    ensures { result ≡ 2 → IsMistake (line_fault words.now) }
-{
-    if matches!(order, Order::Serve { .. }) {
-        let opened = FileYard::open(rt, rt.alloc(), ".");
-        return serve_on(rt, threads, words, order, seed, acls, opened);
-    }
-    let opened = FileDisk::open(rt, rt.alloc(), ".");
-    run_on(rt, threads, words, order, seed, acls, opened)
-}
-
-/// Does what the words of the command line say, with the properties that were opened. Without a file
-/// of properties every user may do everything.
-fn run_under<T: Threads + Wait + Sync, A: Source + Drop>(
-    rt: &HostRuntime,
-    threads: &T,
-    words: &[Text],
-    order: &Order,
-    seed: [u8; 32],
-    opened: io::Result<A>,
-) -> u8
-    ensures usage { result ≡ 2 → IsMistake (line_fault words.now) }
-    ensures unopened { IfErr opened (λ error. error_kind error ≢ ErrorKind.NotFound → EndsBy 7 error result) }
-{
-    match opened {
-        Ok(mut acls) => run_here(rt, threads, words, order, seed, &mut acls),
-        Err(error) => {
-            if error.kind() == ErrorKind::NotFound {
-                return run_here(
-                    rt,
-                    threads,
-                    words,
-                    order,
-                    seed,
-                    &mut Reading::new(PERMITTING),
-                );
-            }
-            let _ = eprintln!(rt; "hkms: {PROPERTIES} cannot be opened here: {error}");
-            report_error(rt, order, &error, b"read fault\n", 7)
+        Ok((mut acls, mut disk)) => {
+            run_over_disk(rt, threads, words, output, seed, &mut acls, &mut disk)
         }
+        Err(unopened) => report_unopened(rt, output, &unopened),
+    }
+}
+
+/// Serves, as the words of the command line say, over the properties and the yard that were opened. It
+/// says on standard error when it listens and when it ends.
+fn serve_opened<T: Threads + Wait + Sync, A: Source + Drop, Y: Yard + Drop>(
+    rt: &HostRuntime,
+    threads: &T,
+    words: &[Text],
+    seed: [u8; 32],
+    opened: Result<(A, Y), Unopened>,
+) -> u8
+    requires keys { IfOk opened (λ opened. IsTrue ((Y.state opened.1).lies 0)) }
+    requires names { IfOk opened (λ opened. IsTrue ((Y.state opened.1).lies 1)) }
+    ensures usage { result ≡ 2 → IsMistake (line_fault words.now) }
+    ensures unopened { IfErr opened (λ unopened. EndsUnopened unopened result) }
+{
+    match opened {
+        Ok((mut acls, mut yard)) => {
+            let mut disk = PlainDisk::new(rt.alloc());
+            let mut door = Announcing::new(rt, TcpDoor::new(rt));
+            let status = run_over(
+                rt, threads, words, seed, &mut acls, &mut disk, &mut yard, &mut door,
+            );
+            let _ = eprintln!(rt; "hkms: ended with status {status}");
+            status
+        }
+        Err(unopened) => report_unopened(rt, Output::Lines, &unopened),
     }
 }
 
@@ -257,31 +201,24 @@ fn run_without_files<T: Threads + Wait + Sync>(
     rt: &HostRuntime,
     threads: &T,
     words: &[Text],
-    order: &Order,
     seed: [u8; 32],
 ) -> u8
     ensures { result ≡ 2 → IsMistake (line_fault words.now) }
 {
     let mut acls = Reading::new(io::empty());
     let mut disk = PlainDisk::new(rt.alloc());
-    run_over_disk(rt, threads, words, order, seed, &mut acls, &mut disk)
+    run_over_disk(
+        rt,
+        threads,
+        words,
+        Output::Lines,
+        seed,
+        &mut acls,
+        &mut disk,
+    )
 }
 
 /// Does what the words of the command line say, with the files of the current folder.
-fn run_with_files<T: Threads + Wait + Sync>(
-    rt: &HostRuntime,
-    threads: &T,
-    words: &[Text],
-    order: &Order,
-    seed: [u8; 32],
-) -> u8
-    ensures { result ≡ 2 → IsMistake (line_fault words.now) }
-{
-    let opened = open_source(rt, PROPERTIES);
-    run_under(rt, threads, words, order, seed, opened)
-}
-
-/// Does what the words of the command line say.
 fn run<T: Threads + Wait + Sync>(
     rt: &HostRuntime,
     threads: &T,
@@ -290,14 +227,31 @@ fn run<T: Threads + Wait + Sync>(
 ) -> u8
     ensures { result ≡ 2 → IsMistake (line_fault words.now) }
 {
-    match read_order(rt.alloc(), words) {
-        Ok(Order::Replay) => run_with_files(rt, threads, words, &Order::Replay, seed),
-        Ok(Order::Pipe) => run_with_files(rt, threads, words, &Order::Pipe, seed),
-        Ok(Order::Serve { port, conns }) => {
-            run_with_files(rt, threads, words, &Order::Serve { port, conns }, seed)
+    let alloc = rt.alloc();
+    match read_order(alloc, words) {
+        Ok(Order::Replay) => {
+            run_opened(
+                rt,
+                threads,
+                words,
+                Output::Lines,
+                seed,
+                open_disk(rt, alloc),
+            )
         }
-        Err(OrderFault::NoMemory) => report_fault(rt, &Order::Replay, b"no memory\n", 6),
-        _ => run_without_files(rt, threads, words, &Order::Replay, seed),
+        Ok(Order::Pipe) => {
+            run_opened(
+                rt,
+                threads,
+                words,
+                Output::Responses,
+                seed,
+                open_disk(rt, alloc),
+            )
+        }
+        Ok(Order::Serve { .. }) => serve_opened(rt, threads, words, seed, open_yard(rt, alloc)),
+        Err(OrderFault::NoMemory) => report_fault(rt, Output::Lines, b"no memory\n", 6),
+        _ => run_without_files(rt, threads, words, seed),
     }
 }
 
@@ -315,15 +269,28 @@ fn run_words<T: Threads + Wait + Sync>(
 {
     match words {
         Ok(words) => run(rt, threads, words.as_slice(), seed),
-        Err(error) => report_error(rt, &Order::Replay, &error, b"usage refused\n", 2),
+        Err(error) => report_error(rt, Output::Lines, &error, b"usage refused\n", 2),
     }
 }
 
+/// Tells that the program can't begin.
+fn report_no_start(rt: &HostRuntime, line: &[u8]) -> ExitCode {
+    let mut out = Writing::new(rt.stdout());
+    let _ = write_all(&mut out, line);
+    ExitCode::from(7)
+}
+
 fn main(rt: HostRuntime) -> ExitCode {
+    // This comes first: a log that is opened as a standard descriptor would be written over.
+    let _standard = match fill_standard(&rt) {
+        Ok(standard) => standard,
+        Err(error) => {
+            let _ = eprintln!(rt; "hkms: /dev/null cannot be opened: {error}");
+            return report_no_start(&rt, b"read fault\n");
+        }
+    };
     let Ok(seed) = random_seed(&rt) else {
-        let mut out = Writing::new(rt.stdout());
-        let _ = write_all(&mut out, b"no random source\n");
-        return ExitCode::from(7);
+        return report_no_start(&rt, b"no random source\n");
     };
     let words = words_given(&rt);
     ExitCode::from(run_words(&rt, &rt, words, seed))
