@@ -1,3 +1,4 @@
+pub mod CloseLemmas
 pub mod GoingLemmas
 pub mod MadeLemmas
 pub mod RoundLemmas

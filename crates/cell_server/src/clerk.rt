@@ -6,10 +6,11 @@ ghost use Rattle.cell_server.specs.Connections.{EndsSo, ServesEnds};
 use crate::running::Done;
 use cell_desk::{Notices, serve_cells};
 use hist_cell::Naming;
-use hk_base::{Clock, Disk, Gate, Sink, Source, Words};
+use hk_base::{Clock, Disk, Gate, Words};
 use hk_shared::Shared;
 use kms_cell::KmsPass;
 use name_cell::NamePass;
+use server_parts::{CloseInput, CloseOutput};
 use std::alloc::Global;
 use std::sync::Wait;
 
@@ -34,8 +35,8 @@ impl<'a, R: Wait, D: Disk, W: Words, C: Clock, M: Naming, N: Naming, G: Gate, H:
     G,
     H,
 > {
-    /// Serves a connection with passes that have made no call.
-    pub fn serve<I: Source, O: Sink>(
+    /// Serves a connection with passes that have made no call, and closes both ends.
+    pub fn serve<I: CloseInput, O: CloseOutput>(
         &self,
         input: I,
         out: O,
@@ -60,6 +61,8 @@ impl<'a, R: Wait, D: Disk, W: Words, C: Clock, M: Naming, N: Naming, G: Gate, H:
             self.gate,
             self.notices,
         );
+        out.close_output();
+        input.close_input();
         Done {
             input,
             out,

@@ -9,6 +9,7 @@ use hist_cell::Naming;
 use hk_base::{Clock, Disk, Ended, Gate, Sink, Source, Words};
 use kms_cell::KmsPass;
 use name_cell::NamePass;
+use server_parts::{CloseInput, CloseOutput};
 use std::marker::Model;
 use std::snapshot::Snapshot;
 use std::sync::Wait;
@@ -72,7 +73,7 @@ impl<I: Source, O: Sink, D: Disk, W: Words, C: Clock, M: Naming, N: Naming> Mode
         (record { input = r.input.value; out = r.out.value; keys = r.keys.value; names = r.names.value }) done.input done.out done.keys done.names done.ended) };
 }
 
-impl<I: Source, O: Sink, D: Disk, W: Words, C: Clock, M: Naming, N: Naming> Running<
+impl<I: CloseInput, O: CloseOutput, D: Disk, W: Words, C: Clock, M: Naming, N: Naming> Running<
     I,
     O,
     D,

@@ -7,6 +7,7 @@ ghost use Rattle.disk_kinds.specs.Fakes.{FollowsPlan, NextFails};
 
 use crate::calls::CallPlan;
 use hk_base::{Failed, Sink};
+use server_parts::CloseOutput;
 use std::alloc::Global;
 use std::marker::Model;
 
@@ -100,4 +101,9 @@ impl Sink for MemSink {
             Err(_) => Err(self.plan.shortage()),
         }
     }
+}
+
+/// Closing does nothing, since no peer waits for it.
+impl CloseOutput for MemSink {
+    fn close_output(&mut self) {}
 }

@@ -8,6 +8,7 @@ ghost use Rattle.disk_kinds.specs.Fakes.{CallMade, NextFails};
 use crate::calls::CallPlan;
 use crate::pieces::copy_front;
 use hk_base::{Failed, Source};
+use server_parts::CloseInput;
 use std::marker::Model;
 
 /// A source of bytes in memory, with a plan of the calls that fail.
@@ -85,4 +86,9 @@ impl Source for MemSource {
         self.at += count;
         Ok(count)
     }
+}
+
+/// Closing does nothing, since no peer waits for it.
+impl CloseInput for MemSource {
+    fn close_input(&mut self) {}
 }

@@ -6,8 +6,10 @@ mod file_yard;
 mod mem_door;
 mod mem_yard;
 mod tcp_door;
+mod tcp_ends;
 
 pub use file_yard::FileYard;
 pub use mem_door::{MemClient, MemDoor, MemLeft};
 pub use mem_yard::{MemFile, MemYard};
-pub use tcp_door::{TcpDoor, TcpSource};
+pub use tcp_door::TcpDoor;
+pub use tcp_ends::{TcpSink, TcpSource};

@@ -1,26 +1,39 @@
 //! A door over TCP.
-ghost use Rattle.std.specs.Prelude.{◌≡◌, ◌≤◌, ◌<◌, ◌-◌, ◌^◌, IfOk, OnOk};
+ghost use Rattle.std.specs.Prelude.{◌≡◌, ◌≤◌, ◌<◌, ◌-◌, ◌^◌, IfOk, IfSome, OnOk};
 ghost use Rattle.door_kinds.specs.Doors.{opaque_door};
 
-use disk_kinds::{Reading, Writing};
-use hk_base::{Ended, Failed, Source};
+use crate::tcp_ends::{TcpSink, TcpSource, ends_of};
+use hk_base::{Ended, Failed};
 use server_parts::Door;
+use std::alloc::Global;
 use std::io::{self, ErrorKind};
-use std::net::{Ipv4Addr, Net, Shutdown, SocketAddr, SocketAddrV4, TcpListener, TcpStream};
-use std::time::Duration;
+use std::net::{Ipv4Addr, Net, SocketAddr, SocketAddrV4, TcpListener, TcpStream};
+use std::thread;
+use std::time::{Clock, Duration};
 
-/// How many connections in a row may be given up by their peers before they are accepted.
-const TRIES: u32 = 1000;
+/// How long to wait before the next accept after one that failed, in milliseconds.
+const PAUSE: u64 = 50;
 
-/// How long a read or a write of a connection may wait, in seconds.
-const LONGEST_WAIT: u64 = 60;
+/// Linux's numbers of the errors of an accept that leave the listener as it is. They tell of the
+/// connection that was to be accepted: EPERM, ENONET, EPROTO, ENOPROTOOPT, EOPNOTSUPP, ENETDOWN,
+/// ENETUNREACH, ECONNABORTED, EHOSTDOWN, EHOSTUNREACH; of a signal: EINTR; or of a lack of memory or
+/// descriptors: ENOMEM, ENFILE, EMFILE, ENOBUFS.
+const PASSING: [i32; 15] = [
+    1, 64, 71, 92, 95, 100, 101, 103, 112, 113, 4, 12, 23, 24, 105,
+];
 
 /// A door that listens on a port of 127.0.0.1. A read or a write of a connection fails if it waits
-/// longer than a minute. A connection is shut down once a read of it has failed or has found the end,
-/// and closed when it is left. It counts errors, up to 2^64 - 1. Contracts promise nothing about what a peer sends or receives.
+/// longer than a minute. The two ends of a connection have one descriptor, which is closed once both
+/// ends are. It counts errors, up to 2^64 - 1. Contracts promise nothing about what a peer sends or
+/// receives.
+///
+/// If the system lacks descriptors or memory for a connection, the door waits and accepts again. It
+/// closes a connection that it can't set up, and accepts the next one. An accept fails if the listener
+/// is lost.
 #[derive(Drop)]
-pub struct TcpDoor<'n, N: Net<Listener = TcpListener, Stream = TcpStream>> {
+pub struct TcpDoor<'n, N: Net<Listener = TcpListener, Stream = TcpStream> + Clock + Sync> {
     net: &'n N,
+    alloc: Global,
     listener: Option<TcpListener>,
     accepted: u64,
     left: u64,
@@ -28,76 +41,59 @@ pub struct TcpDoor<'n, N: Net<Listener = TcpListener, Stream = TcpStream>> {
     ghost order: { left ≤ accepted },
 }
 
-/// The input of a connection over TCP. Once a read has failed or has found the end, no request of it
-/// will be answered, so the connection is shut down at once and its peer does not wait.
-#[derive(Drop)]
-pub struct TcpSource {
-    reading: Reading<TcpStream>,
-}
-
-/// Returns whether a read of up to `wanted` bytes failed or found the end.
-fn is_over(read: &Result<usize, Failed>, wanted: usize) -> bool {
-    match read {
-        Ok(count) => *count == 0 && wanted > 0,
-        Err(_) => true,
+/// Returns whether accepting may go on after an error.
+fn is_passing(error: &io::Error) -> bool {
+    match error.raw_os_error() {
+        Some(number) => PASSING.contains(&number),
+        None => false,
     }
 }
 
-impl Source for TcpSource {
-    ghost use Rattle.std.specs.Prelude.{None};
-
-    ghost left = { λ _. None };
-
-    ghost faults = { λ s. s.reading.faults };
-
-    fn read(&mut self, buf: &mut [u8]) -> Result<usize, Failed> {
-        let read = self.reading.read(buf);
-        if is_over(&read, buf.len()) {
-            let _ = self.reading.inner.shutdown(Shutdown::Both);
-        }
-        read
-    }
-}
-
-/// Accepts the next connection whose peer has not given it up.
-fn accept_tried(listener: &TcpListener) -> io::Result<TcpStream> {
-    for _ in 0..TRIES {
-        match listener.accept() {
-            Ok((stream, _)) => return Ok(stream),
-            Err(error) => {
-                if error.kind() != ErrorKind::ConnectionAborted {
-                    return Err(error);
-                }
-            }
-        }
-    }
-    Err(io::Error::from(ErrorKind::ConnectionAborted))
-}
-
-/// Accepts a connection, as a source and a sink. What is written is sent at once (`TCP_NODELAY`). A
-/// read or a write that waits longer than a minute fails.
-fn accept_ends(listener: &TcpListener) -> io::Result<(TcpSource, Writing<TcpStream>)>
-    ensures { IfOk result (λ ends. (ends.0.reading.faults ≡ 0) × (ends.1.faults ≡ 0)) }
+/// Accepts a connection. Returns `None`, after a pause or at once, if the next try may succeed.
+fn try_accept<'n, C: Clock>(
+    clock: &'n C,
+    alloc: Global,
+    listener: &TcpListener,
+) -> io::Result<Option<(TcpSource<'n, C>, TcpSink)>>
+    ensures { IfOk result (λ ends. IfSome ends (λ ends. (ends.0.reading.faults ≡ 0) × (ends.1.writing.faults ≡ 0))) }
 {
-    let stream = accept_tried(listener)?;
-    let longest = Some(Duration::from_secs(LONGEST_WAIT));
-    stream.set_nodelay(true)?;
-    stream.set_read_timeout(longest)?;
-    stream.set_write_timeout(longest)?;
-    let out = stream.try_clone()?;
-    let source = TcpSource {
-        reading: Reading::new(stream),
-    };
-    Ok((source, Writing::new(out)))
+    match listener.accept() {
+        Ok((stream, _)) => Ok(ends_of(clock, alloc, stream)),
+        Err(error) => {
+            if !is_passing(&error) {
+                return Err(error);
+            }
+            thread::sleep(clock, Duration::from_millis(PAUSE));
+            Ok(None)
+        }
+    }
+}
+
+/// Accepts connections until one is set up.
+fn accept_ends<'n, C: Clock>(
+    clock: &'n C,
+    alloc: Global,
+    listener: &TcpListener,
+) -> io::Result<(TcpSource<'n, C>, TcpSink)>
+    ensures { IfOk result (λ ends. (ends.0.reading.faults ≡ 0) × (ends.1.writing.faults ≡ 0)) }
+{
+    for _ in 0..u64::MAX {
+        if let Some(ends) = try_accept(clock, alloc, listener)? {
+            return Ok(ends);
+        }
+    }
+    Err(io::Error::from(ErrorKind::TimedOut))
 }
 
 /// Accepts a connection if the door listens and its count has room.
-fn next_ends(
+fn next_ends<'n, C: Clock>(
+    clock: &'n C,
+    alloc: Global,
     listener: &Option<TcpListener>,
     accepted: u64,
-) -> Result<(TcpSource, Writing<TcpStream>), Failed>
+) -> Result<(TcpSource<'n, C>, TcpSink), Failed>
     ensures room { OnOk result (accepted < 2 ^ 64 - 1) }
-    ensures fresh { IfOk result (λ ends. (ends.0.reading.faults ≡ 0) × (ends.1.faults ≡ 0)) }
+    ensures fresh { IfOk result (λ ends. (ends.0.reading.faults ≡ 0) × (ends.1.writing.faults ≡ 0)) }
 {
     let Some(listener) = listener else {
         return Err(Failed);
@@ -105,19 +101,20 @@ fn next_ends(
     if accepted == u64::MAX {
         return Err(Failed);
     }
-    match accept_ends(listener) {
+    match accept_ends(clock, alloc, listener) {
         Ok(ends) => Ok(ends),
         Err(_) => Err(Failed),
     }
 }
 
-impl<'n, N: Net<Listener = TcpListener, Stream = TcpStream>> TcpDoor<'n, N> {
+impl<'n, N: Net<Listener = TcpListener, Stream = TcpStream> + Clock + Sync> TcpDoor<'n, N> {
     /// Creates a door that doesn't listen yet. Opening port 0 takes a free port.
-    pub fn new(net: &'n N) -> TcpDoor<'n, N>
+    pub fn new(net: &'n N, alloc: Global) -> TcpDoor<'n, N>
         ensures faults { result.faults ≡ 0 }
     {
         TcpDoor {
             net,
+            alloc,
             listener: None,
             accepted: 0,
             left: 0,
@@ -132,10 +129,11 @@ impl<'n, N: Net<Listener = TcpListener, Stream = TcpStream>> TcpDoor<'n, N> {
     }
 }
 
-impl<'n, N: Net<Listener = TcpListener, Stream = TcpStream>> Door for TcpDoor<'n, N> {
-    type In = TcpSource;
+impl<'n, N: Net<Listener = TcpListener, Stream = TcpStream> + Clock + Sync> Door
+    for TcpDoor<'n, N> {
+    type In = TcpSource<'n, N>;
 
-    type Out = Writing<TcpStream>;
+    type Out = TcpSink;
 
     ghost state = { λ d. opaque_door d.accepted d.left };
 
@@ -157,8 +155,8 @@ impl<'n, N: Net<Listener = TcpListener, Stream = TcpStream>> Door for TcpDoor<'n
         }
     }
 
-    fn accept(&mut self) -> Result<(TcpSource, Writing<TcpStream>), Failed> {
-        match next_ends(&self.listener, self.accepted) {
+    fn accept(&mut self) -> Result<(TcpSource<'n, N>, TcpSink), Failed> {
+        match next_ends(self.net, self.alloc, &self.listener, self.accepted) {
             Ok(ends) => {
                 self.accepted += 1;
                 Ok(ends)
@@ -170,7 +168,7 @@ impl<'n, N: Net<Listener = TcpListener, Stream = TcpStream>> Door for TcpDoor<'n
         }
     }
 
-    fn leave(&mut self, _input: TcpSource, _out: Writing<TcpStream>, _ended: Ended) {
+    fn leave(&mut self, _input: TcpSource<'n, N>, _out: TcpSink, _ended: Ended) {
         // Dropping both ends closes the connection.
         self.left += 1;
     }

@@ -185,7 +185,7 @@ fn serve_opened<T: Threads + Wait + Sync, A: Source + Drop, Y: Yard + Drop>(
     match opened {
         Ok((mut acls, mut yard)) => {
             let mut disk = PlainDisk::new(rt.alloc());
-            let mut door = Announcing::new(rt, TcpDoor::new(rt));
+            let mut door = Announcing::new(rt, TcpDoor::new(rt, rt.alloc()));
             let status = run_over(
                 rt, threads, words, seed, &mut acls, &mut disk, &mut yard, &mut door,
             );

@@ -3,18 +3,20 @@ ghost use Rattle.std.specs.Prelude.{◌≡◌, ◌≤◌, ◌<◌, ℕ, IfOk, On
 ghost use Rattle.hk_base.specs.Faults.{HasCause};
 ghost use Rattle.server_parts.specs.Doors.{DoorState, with_accepted, with_left};
 
-use hk_base::{Ended, Failed, Sink, Source};
+use crate::ends::{CloseInput, CloseOutput};
+use hk_base::{Ended, Failed};
 
 /// Where connections come in, and where each is left when it has ended.
 ///
-/// A connection is a source and a sink, which may move to a thread of their own. The door counts the
+/// A connection is a source and a sink, which may move to a thread of their own. Whoever serves it
+/// closes both once no more of its requests will be answered, the output first. The door counts the
 /// connections that it accepted and those that were left. It may promise which ones these were; a
 /// door over a network does not.
 pub trait Door {
     /// The input of a connection.
-    type In: Source + Send + Drop;
+    type In: CloseInput + Send + Drop;
     /// The output of a connection.
-    type Out: Sink + Send + Drop;
+    type Out: CloseOutput + Send + Drop;
 
     /// The connections so far, as proofs see them.
     ghost state: { Self → DoorState Self.In Self.Out };

@@ -3,7 +3,9 @@
 #![tactic(auto)]
 
 mod door;
+mod ends;
 mod yard;
 
 pub use door::Door;
+pub use ends::{CloseInput, CloseOutput};
 pub use yard::Yard;

@@ -8,6 +8,7 @@ use Rattle.name_cell.specs.Entries.{NameEntry}
 use Rattle.name_cell.specs.Steps.{NameSteps}
 use Rattle.cell_desk.specs.Connections.{ServedByCells}
 use Rattle.cell_desk.proofs.EntryLemmas.{made_own}
+use Rattle.cell_server.proofs.CloseLemmas.{serves_closed}
 use Rattle.cell_server.proofs.clerk.Clerk.serve.Goals as goal
 
 pub returns : goal.returns
@@ -17,17 +18,22 @@ returns g c =
     let all_keys = made_own (KmsSteps g.D.Disk.state g.W.Words.to_come) KmsAllows c.args.keys s.result.1 e.0 c.requires.keys e.2 in
     let all_names = made_own (NameSteps g.D.Disk.state) NameAllows c.args.names s.result.2 e.1 c.requires.names e.3 in
     record {
-      served = record {
-        served =
-            subst (λ (ks : List (KmsEntry _ _)). ServedByCells (g.I.Source.left c.args.input) (g.O.Sink.written c.args.out) ks (own c.args.names.number s.result.2.seen) (g.I.Source.left s.new.source) (g.O.Sink.written s.new.sink) s.result.0)
-            (sym all_keys)
-            (subst (λ (ns : List (NameEntry _)). ServedByCells (g.I.Source.left c.args.input) (g.O.Sink.written c.args.out) e.0 ns (g.I.Source.left s.new.source) (g.O.Sink.written s.new.sink) s.result.0)
-            (sym all_names) e.4);
-        read_later = s.ensures.read_later;
-        read_fault = s.ensures.read_fault;
-        write_later = s.ensures.write_later;
-        write_fault = s.ensures.write_fault;
-      };
+      served =
+          serves_closed g.I.Source.left g.I.Source.faults g.O.Sink.written g.O.Sink.faults
+          c.args.input c.args.out (own c.args.keys.number s.result.1.seen) (own c.args.names.number s.result.2.seen)
+          s.new.source s.new.sink s.result.0 c.close_input.new.self c.close_output.new.self
+          c.close_input.ensures.left c.close_input.ensures.faults c.close_output.ensures.written c.close_output.ensures.faults
+          (record {
+            served =
+                subst (λ (ks : List (KmsEntry _ _)). ServedByCells (g.I.Source.left c.args.input) (g.O.Sink.written c.args.out) ks (own c.args.names.number s.result.2.seen) (g.I.Source.left s.new.source) (g.O.Sink.written s.new.sink) s.result.0)
+                (sym all_keys)
+                (subst (λ (ns : List (NameEntry _)). ServedByCells (g.I.Source.left c.args.input) (g.O.Sink.written c.args.out) e.0 ns (g.I.Source.left s.new.source) (g.O.Sink.written s.new.sink) s.result.0)
+                (sym all_names) e.4);
+            read_later = s.ensures.read_later;
+            read_fault = s.ensures.read_fault;
+            write_later = s.ensures.write_later;
+            write_fault = s.ensures.write_fault;
+          });
       keys_number = e.2.same.0;
       keys_ended = e.2.same.1;
       names_number = e.3.same.0;
