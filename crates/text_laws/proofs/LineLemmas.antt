@@ -1,10 +1,10 @@
 -- What one line sets, and what lines set.
-use Rattle.std.proofs.Common.{◌≡◌, inl, inr, ℕ, ◌<◌, ◌≤◌, ◌^◌, List, [], ◌∷◌, refl, ap, ap₂, sym, ◌∙◌, Option, Some, None, true, false, arith}
+use Rattle.std.proofs.Common.{◌≡◌, inl, inr, ℕ, ◌<◌, ◌≤◌, ◌^◌, List, [], ◌∷◌, ap, ap₂, sym, ◌∙◌, Option, Some, None, true, false, arith}
 use Rattle.std.proofs.lemmas.Fmt.{decimal_is_IsNumeral}
 use Rattle.std.specs.Fmt.{decimal}
 use Rattle.std.specs.Str.Parse.{digits_value}
 use Rattle.prop_text.specs.Acls.{SpellsAcl, SpellsNames, SpellsParts}
-use Rattle.prop_text.specs.Properties.{SayAll, Says, Sets, SpellsGroup, SpellsList, SpellsSize, SpellsValue, acl_line, cut_at_equals, is_quiet, most, size_line}
+use Rattle.prop_text.specs.Properties.{SayAll, Says, Sets, SpellsGroup, SpellsList, SpellsSize, SpellsValue, acl_line, cut_at_equals, most, size_line}
 use Rattle.prop_text.specs.Names.{setting_of}
 use Rattle.prop_text.specs.declared.acls.Acl.{Acl}
 use Rattle.prop_text.specs.declared.lines.PropLine.{PropLine}
