@@ -8,16 +8,13 @@ ghost use Rattle.cell_desk.specs.Connections.{MakesOrder};
 ghost use Rattle.cell_desk.specs.Entries.{KeysMake, calls_of};
 ghost use Rattle.cell_desk.specs.Orders.{WantedCalls, finish_reply};
 
-use hist_cell::Naming;
-use hk_base::{ByteList, Clock, Disk, NoMemory, Text, Words};
-use hk_shared::{Shared, superuser};
+use hk_base::{ByteList, NoMemory, Text};
 use kms_calls::{KmsCall, KmsReply};
-use kms_cell::{KmsCell, KmsPass, call_keys};
 use name_calls::{Answered, Ask, NPath, NameRefusal, NameReply, Want};
-use name_cell::{NamePass, ask_names, finish_names};
 use name_rest::NameOrder;
 use std::alloc::Global;
 use std::sync::Wait;
+use turns::{Turns, superuser};
 
 /// Returns a copy of a path.
 fn copy_of(alloc: Global, path: &NPath) -> Result<NPath, NoMemory>
@@ -52,28 +49,28 @@ pub(crate) fn prepare(alloc: Global, ask: &Ask) -> Result<(Text, Option<NPath>),
 }
 
 /// Makes the call that a note wants, if it wants one.
-fn call_wanted<D: Disk, W: Words, C: Clock, M: Naming, R: Wait>(
+fn call_wanted<S: Turns, R: Wait>(
     rt: &R,
-    cell: &KmsCell<D, W, C, M>,
-    pass: &mut KmsPass<D, W, C, M>,
+    shared: &S,
+    pass: &mut S::Keys,
     caller: Text,
     want: Want,
 ) -> Option<KmsReply>
     requires { caller ≡ superuser }
-    ensures calls { (made : List (KmsEntry D W)) × KeysMake D.state W.to_come pass.old made pass.new × WantedCalls want result (calls_of made) }
+    ensures calls { (made : List (KmsEntry S.D S.W)) × KeysMake S.state S.to_come (S.keys_seen pass.old) made (S.keys_seen pass.new) × WantedCalls want result (calls_of made) }
     ensures answers { Answers want result }
 {
     // The history that the pass has seen is legal.
-    let _ = pass.count();
+    let _ = shared.count_keys(pass);
     match want {
         Want::Nothing => None,
         Want::Generate(name) => {
             let call = KmsCall::Generate { name, count: 1 };
-            Some(call_keys(rt, cell, pass, caller, call))
+            Some(shared.call_keys(rt, pass, caller, call))
         }
         Want::Metadata(name) => {
             let call = KmsCall::Metadata { name };
-            Some(call_keys(rt, cell, pass, caller, call))
+            Some(shared.call_keys(rt, pass, caller, call))
         }
     }
 }
@@ -88,25 +85,25 @@ fn finish_reply(finished: Result<(), NameRefusal>) -> NameReply
 }
 
 /// Carries out an ask of a user: makes it, makes the call that its note wants, and finishes it.
-pub(crate) fn carry_out<D: Disk, W: Words, C: Clock, M: Naming, N: Naming, R: Wait>(
+pub(crate) fn carry_out<S: Turns, R: Wait>(
     rt: &R,
-    shared: &Shared<D, W, C, M, N>,
-    keys: &mut KmsPass<D, W, C, M>,
-    names: &mut NamePass<D, N>,
+    shared: &S,
+    keys: &mut S::Keys,
+    names: &mut S::Names,
     caller: Text,
     user: Text,
     ask: Ask,
 ) -> NameReply
     requires { caller ≡ superuser }
-    ensures { MakesOrder D.state W.to_come (record { keys = keys.old; names = names.old }) user (OfNames (NameOrder.Ask ask) result) (record { keys = keys.new; names = names.new }) }
+    ensures { MakesOrder S.state S.to_come (record { keys = S.keys_seen keys.old; names = S.names_seen names.old }) user (OfNames (NameOrder.Ask ask) result) (record { keys = S.keys_seen keys.new; names = S.names_seen names.new }) }
 {
     // The history that the pass has seen is legal.
-    let _ = keys.count();
-    let note = match ask_names(rt, &shared.names, names, user, ask) {
+    let _ = shared.count_keys(keys);
+    let note = match shared.ask_names(rt, names, user, ask) {
         Ok(note) => note,
         Err(why) => return NameReply::Refused(why),
     };
-    let reply = call_wanted(rt, &shared.keys, keys, caller, note.want);
+    let reply = call_wanted(rt, shared, keys, caller, note.want);
     let answered = Answered { id: note.id, reply };
-    finish_reply(finish_names(rt, &shared.names, names, answered))
+    finish_reply(shared.finish_names(rt, names, answered))
 }

@@ -15,7 +15,7 @@ use Rattle.reenc_walk.specs.declared.sent.BatchNote.{BatchNote}
 use Rattle.reenc_update.specs.Replies.{ReplyState}
 use Rattle.name_core.specs.Calls.{superuser}
 use Rattle.name_core.specs.declared.walks.Walked.{Walked}
-use Rattle.hk_shared.specs.Turns.{ServesTurn, UpdatesTurn, WalksTurn}
+use Rattle.turns.specs.Turns.{ServesTurn, UpdatesTurn, WalksTurn}
 use Rattle.kms_cell.specs.Entries.{KmsEntry, KmsKnown}
 use Rattle.kms_cell.specs.Steps.{KmsSteps}
 use Rattle.kms_cell.specs.Tickets.{KmsAllows}

@@ -5,13 +5,11 @@ ghost use Rattle.cell_server.specs.Rounds.{AsksAbout, HadMemory, ListsZones, Sho
 ghost use Rattle.cell_desk.specs.Entries.{NamesMake};
 
 use crate::paths::copy_of;
-use hist_cell::Naming;
-use hk_base::{Clock, Disk, Listing, NoMemory, Words};
-use hk_shared::{Shared, superuser};
+use hk_base::{Listing, NoMemory};
 use name_calls::{NPath, NameCall, NameRefusal, NameReply, State, ZoneList, ZonePath};
-use name_cell::{NamePass, call_names};
 use std::alloc::Global;
 use std::sync::Wait;
+use turns::{Turns, superuser};
 
 /// Returns the zones that a reply lists.
 fn zones_in(alloc: Global, reply: NameReply) -> Result<ZoneList, NoMemory>
@@ -46,39 +44,39 @@ fn goes_on(reply: &NameReply) -> Result<bool, NoMemory>
 }
 
 /// Asks for the zones as the superuser. Returns `NoMemory` if allocation fails, here or in the service.
-pub fn list_zones<D: Disk, W: Words, C: Clock, M: Naming, N: Naming, R: Wait>(
+pub fn list_zones<S: Turns, R: Wait>(
     rt: &R,
     alloc: Global,
-    shared: &Shared<D, W, C, M, N>,
-    names: &mut NamePass<D, N>,
+    shared: &S,
+    names: &mut S::Names,
 ) -> Result<ZoneList, NoMemory>
-    ensures { (made : List (NameEntry D)) × NamesMake D.state names.old made names.new
+    ensures { (made : List (NameEntry S.D)) × NamesMake S.state (S.names_seen names.old) made (S.names_seen names.new)
         × IfOk result (λ zones. ListsZones zones made) }
 {
     // The history that the pass has seen is legal.
-    let _ = names.count();
+    let _ = shared.count_names(names);
     let user = superuser(alloc)?;
-    let reply = call_names(rt, &shared.names, names, user, NameCall::Zones);
+    let reply = shared.call_names(rt, names, user, NameCall::Zones);
     zones_in(alloc, reply)
 }
 
 /// Asks for the status of a zone as the superuser, and returns whether it is still being
 /// re-encrypted. Returns `NoMemory` if allocation fails, here or in the service.
-fn is_going<D: Disk, W: Words, C: Clock, M: Naming, N: Naming, R: Wait>(
+fn is_going<S: Turns, R: Wait>(
     rt: &R,
     alloc: Global,
-    shared: &Shared<D, W, C, M, N>,
-    names: &mut NamePass<D, N>,
+    shared: &S,
+    names: &mut S::Names,
     zone: &NPath,
 ) -> Result<bool, NoMemory>
-    ensures { (made : List (NameEntry D)) × NamesMake D.state names.old made names.new
+    ensures { (made : List (NameEntry S.D)) × NamesMake S.state (S.names_seen names.old) made (S.names_seen names.new)
         × IfOk result (λ going. ShowsStatus zone.now going made) }
 {
     // The history that the pass has seen is legal.
-    let _ = names.count();
+    let _ = shared.count_names(names);
     let user = superuser(alloc)?;
     let path = copy_of(alloc, zone)?;
-    let reply = call_names(rt, &shared.names, names, user, NameCall::Status { path });
+    let reply = shared.call_names(rt, names, user, NameCall::Status { path });
     goes_on(&reply)
 }
 
@@ -100,18 +98,18 @@ fn add_if(
 
 /// Asks for the status of each zone as the superuser, and returns the paths of those that are still
 /// being re-encrypted. Returns `NoMemory` if allocation fails, here or in the service.
-pub fn going_zones<D: Disk, W: Words, C: Clock, M: Naming, N: Naming, R: Wait>(
+pub fn going_zones<S: Turns, R: Wait>(
     rt: &R,
     alloc: Global,
-    shared: &Shared<D, W, C, M, N>,
-    names: &mut NamePass<D, N>,
+    shared: &S,
+    names: &mut S::Names,
     zones: &[ZonePath],
 ) -> Result<Listing<NPath>, NoMemory>
-    ensures { (made : List (NameEntry D)) × NamesMake D.state names.old made names.new
+    ensures { (made : List (NameEntry S.D)) × NamesMake S.state (S.names_seen names.old) made (S.names_seen names.new)
         × IfOk result (λ going. AsksAbout zones.now made going) }
 {
     // The history that the pass has seen is legal.
-    let _ = names.count();
+    let _ = shared.count_names(names);
     let mut going = Listing::new(alloc);
     for zone in zones {
         let shown = is_going(rt, alloc, shared, names, &zone.path)?;

@@ -5,48 +5,35 @@ ghost use Rattle.cell_server.specs.Connections.{EndsSo, ServesEnds};
 
 use crate::running::Done;
 use cell_desk::{Notices, serve_cells};
-use hist_cell::Naming;
-use hk_base::{Clock, Disk, Gate, Words};
-use hk_shared::Shared;
-use kms_cell::KmsPass;
-use name_cell::NamePass;
+use hk_base::Gate;
 use server_parts::{CloseInput, CloseOutput};
 use std::alloc::Global;
 use std::sync::Wait;
+use turns::Turns;
 
 /// What connections are served with, which their threads share.
 #[derive(Drop)]
-pub struct Clerk<'a, R, D: Disk, W: Words, C: Clock, M: Naming, N: Naming, G, H> {
+pub struct Clerk<'a, R, S, G, H> {
     pub rt: &'a R,
     pub alloc: Global,
-    pub shared: &'a Shared<D, W, C, M, N>,
+    pub shared: &'a S,
     pub gate: &'a G,
     pub notices: &'a H,
 }
 
-impl<'a, R: Wait, D: Disk, W: Words, C: Clock, M: Naming, N: Naming, G: Gate, H: Notices> Clerk<
-    'a,
-    R,
-    D,
-    W,
-    C,
-    M,
-    N,
-    G,
-    H,
-> {
+impl<'a, R: Wait, S: Turns, G: Gate, H: Notices> Clerk<'a, R, S, G, H> {
     /// Serves a connection with passes that have made no call, and closes both ends.
     pub fn serve<I: CloseInput, O: CloseOutput>(
         &self,
         input: I,
         out: O,
-        keys: KmsPass<D, W, C, M>,
-        names: NamePass<D, N>,
-    ) -> Done<I, O, D, W, C, M, N>
-        requires keys { own keys.number keys.seen ≡ [] }
-        requires names { own names.number names.seen ≡ [] }
-        ensures { EndsSo (ServesEnds I.left I.faults O.written O.faults) (record { input = input; out = out; keys = keys; names = names })
-            result.input result.out result.keys result.names result.ended }
+        keys: S::Keys,
+        names: S::Names,
+    ) -> Done<I, O, S::Keys, S::Names>
+        requires keys { own (S.keys_seen keys).number (S.keys_seen keys).seen ≡ [] }
+        requires names { own (S.names_seen names).number (S.names_seen names).seen ≡ [] }
+        ensures { EndsSo (ServesEnds I.left I.faults O.written O.faults) (record { input = input; out = out; keys = S.keys_seen keys; names = S.names_seen names })
+            result.input result.out (S.keys_seen result.keys) (S.names_seen result.names) result.ended }
     {
         let mut input = input;
         let mut out = out;
@@ -75,15 +62,15 @@ impl<'a, R: Wait, D: Disk, W: Words, C: Clock, M: Naming, N: Naming, G: Gate, H:
     /// Meets both passes of a connection or of workers.
     pub fn meet(
         &self,
-        keys: &mut KmsPass<D, W, C, M>,
-        names: &mut NamePass<D, N>,
-        their_keys: KmsPass<D, W, C, M>,
-        their_names: NamePass<D, N>,
+        keys: &mut S::Keys,
+        names: &mut S::Names,
+        their_keys: S::Keys,
+        their_names: S::Names,
     )
-        ensures keys { Meets keys.old their_keys keys.new }
-        ensures names { Meets names.old their_names names.new }
+        ensures keys { Meets (S.keys_seen keys.old) (S.keys_seen their_keys) (S.keys_seen keys.new) }
+        ensures names { Meets (S.names_seen names.old) (S.names_seen their_names) (S.names_seen names.new) }
     {
-        self.shared.keys.meet(self.rt, keys, their_keys);
-        self.shared.names.meet(self.rt, names, their_names);
+        self.shared.meet_keys(self.rt, keys, their_keys);
+        self.shared.meet_names(self.rt, names, their_names);
     }
 }

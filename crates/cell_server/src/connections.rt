@@ -10,17 +10,14 @@ use crate::outlets::{Outlets, open_channels};
 use crate::rows::{MOST, Queue, accept_all, drain};
 use crate::workers::Crew;
 use cell_desk::Notices;
-use hist_cell::Naming;
-use hk_base::{Clock, Disk, Gate, Words};
-use hk_shared::Shared;
-use kms_cell::KmsPass;
-use name_cell::NamePass;
+use hk_base::{Gate, Words};
 use server_parts::Door;
 use std::alloc::{AllocError, Global};
 use std::collections::VecDeque;
 use std::sync::Wait;
 use std::thread;
 use std::thread::{Scope, Threads};
+use turns::Turns;
 
 // No more connections were left than accepted.
 fn no_more_left<A: Door>(_door: &A)
@@ -34,35 +31,30 @@ fn serve_connections<
     's,
     E,
     R: Threads + Wait + Sync + 's,
-    D: Disk + Send + 's,
-    W: Words + Send + 's,
-    C: Clock + Send + 's,
-    M: Naming + Send + Sync + 's,
-    N: Naming + Send + Sync + 's,
+    K: Drop + Send + 's,
+    N: Drop + Send + 's,
+    S: Turns<Keys = K, Names = N> + Sync + 's,
     G: Gate + Sync + 's,
     H: Notices + Sync + 's,
     A: Door,
 >(
-    clerk: &'s Clerk<'s, R, D, W, C, M, N, G, H>,
+    clerk: &'s Clerk<'s, R, S, G, H>,
     scope: &Scope<'s, E>,
     door: &mut A,
-    keys: &mut KmsPass<D, W, C, M>,
-    names: &mut NamePass<D, N>,
+    keys: &mut K,
+    names: &mut N,
     conns: u32,
 ) -> ServeEnd
 where
     A::In: 's,
     A::Out: 's,
     ensures going { Going (ServesEnds A.In.left A.In.faults A.Out.written A.Out.faults)
-        (A.state door.old) keys.old names.old (A.state door.new) keys.new names.new [] }
+        (A.state door.old) (S.keys_seen keys.old) (S.names_seen names.old) (A.state door.new) (S.keys_seen keys.new) (S.names_seen names.new) [] }
     ensures accepted { result ≡ ServeEnd.Served → (A.state door.new).accepted ≡ (A.state door.old).accepted + conns }
     ensures cause { result ≡ ServeEnd.DoorFault → Rose (A.faults door.old) (A.faults door.new) }
 {
     no_more_left(door);
-    let opened: Result<Queue<A, D, W, C, M, N>, AllocError> = VecDeque::with_capacity(
-        clerk.alloc,
-        MOST,
-    );
+    let opened: Result<Queue<A, S>, AllocError> = VecDeque::with_capacity(clerk.alloc, MOST);
     let Ok(mut queue) = opened else {
         return ServeEnd::NoMemory;
     };
@@ -81,21 +73,19 @@ fn serve_beside<
     's,
     E,
     R: Threads + Wait + Sync + 's,
-    D: Disk + Send + 's,
-    W: Words + Send + 's,
-    C: Clock + Send + 's,
-    M: Naming + Send + Sync + 's,
-    N: Naming + Send + Sync + 's,
+    K: Drop + Send + 's,
+    N: Drop + Send + 's,
+    S: Turns<Keys = K, Names = N> + Sync + 's,
     G: Gate + Sync + 's,
     A: Door,
     V: Words + Send + Drop + 's,
 >(
-    clerk: &'s Clerk<'s, R, D, W, C, M, N, G, Outlets<D, W, C, M>>,
-    crew: &'s Crew<'s, R, D, W, C, M, N, G>,
+    clerk: &'s Clerk<'s, R, S, G, Outlets<K>>,
+    crew: &'s Crew<'s, R, S, G, K>,
     scope: &Scope<'s, E>,
     door: &mut A,
-    keys: &mut KmsPass<D, W, C, M>,
-    names: &mut NamePass<D, N>,
+    keys: &mut K,
+    names: &mut N,
     conns: u32,
     first: V,
     second: V,
@@ -104,15 +94,15 @@ where
     A::In: 's,
     A::Out: 's,
     ensures connections { Connections (ServesEnds A.In.left A.In.faults A.Out.written A.Out.faults)
-        (A.state door.old) keys.old names.old (A.state door.new) keys.new names.new }
+        (A.state door.old) (S.keys_seen keys.old) (S.names_seen names.old) (A.state door.new) (S.keys_seen keys.new) (S.names_seen names.new) }
     ensures accepted { result ≡ ServeEnd.Served → (A.state door.new).accepted ≡ (A.state door.old).accepted + conns }
     ensures cause { result ≡ ServeEnd.DoorFault → Rose (A.faults door.old) (A.faults door.new) }
 {
-    let their_keys = clerk.shared.keys.split(clerk.rt, keys);
-    let their_names = clerk.shared.names.split(clerk.rt, names);
+    let their_keys = clerk.shared.split_keys(clerk.rt, keys);
+    let their_names = clerk.shared.split_names(clerk.rt, names);
     let begun = scope.spawn(
-        move || -> (KmsPass<D, W, C, M>, NamePass<D, N>)
-            requires { IsSync R.row × IsSend D.row × IsSend W.row × IsSend C.row × IsSend M.row × IsSync M.row × IsSend N.row × IsSync N.row × IsSync G.row × IsSend V.row }
+        move || -> (K, N)
+            requires { IsSync R.row × IsSend K.row × IsSend N.row × IsSync S.row × IsSync G.row × IsSend V.row }
         { crew.run(their_keys, their_names, first, second) },
     );
     let end = serve_connections(clerk, scope, door, keys, names, conns);
@@ -140,20 +130,18 @@ fn end_of<A, K, N>(_door: &mut A, _keys: &mut K, _names: &mut N, end: ServeEnd) 
 /// out are met in the end. If the door fails or allocation fails, no more are accepted.
 pub fn serve_with_workers<
     R: Threads + Wait + Sync,
-    D: Disk + Send,
-    W: Words + Send,
-    C: Clock + Send,
-    M: Naming + Send + Sync,
-    N: Naming + Send + Sync,
+    K: Drop + Send,
+    N: Drop + Send,
+    S: Turns<Keys = K, Names = N> + Sync,
     G: Gate + Sync,
     A: Door,
     V: Words + Send + Drop,
 >(
     rt: &R,
     alloc: Global,
-    shared: &Shared<D, W, C, M, N>,
-    keys: &mut KmsPass<D, W, C, M>,
-    names: &mut NamePass<D, N>,
+    shared: &S,
+    keys: &mut K,
+    names: &mut N,
     door: &mut A,
     conns: u32,
     first: V,
@@ -161,7 +149,7 @@ pub fn serve_with_workers<
     gate: &G,
 ) -> ServeEnd
     ensures connections { Connections (ServesEnds A.In.left A.In.faults A.Out.written A.Out.faults)
-        (A.state door.old) keys.old names.old (A.state door.new) keys.new names.new }
+        (A.state door.old) (S.keys_seen keys.old) (S.names_seen names.old) (A.state door.new) (S.keys_seen keys.new) (S.names_seen names.new) }
     ensures accepted { result ≡ ServeEnd.Served → (A.state door.new).accepted ≡ (A.state door.old).accepted + conns }
     ensures cause { result ≡ ServeEnd.DoorFault → Rose (A.faults door.old) (A.faults door.new) }
 {
@@ -188,41 +176,34 @@ pub fn serve_with_workers<
 
 fn serve_in_scope<
     R: Threads + Wait + Sync,
-    D: Disk + Send,
-    W: Words + Send,
-    C: Clock + Send,
-    M: Naming + Send + Sync,
-    N: Naming + Send + Sync,
+    K: Drop + Send,
+    N: Drop + Send,
+    S: Turns<Keys = K, Names = N> + Sync,
     G: Gate + Sync,
     A: Door,
     V: Words + Send + Drop,
 >(
-    clerk: &Clerk<'_, R, D, W, C, M, N, G, Outlets<D, W, C, M>>,
-    crew: &Crew<'_, R, D, W, C, M, N, G>,
+    clerk: &Clerk<'_, R, S, G, Outlets<K>>,
+    crew: &Crew<'_, R, S, G, K>,
     door: &mut A,
-    keys: &mut KmsPass<D, W, C, M>,
-    names: &mut NamePass<D, N>,
+    keys: &mut K,
+    names: &mut N,
     conns: u32,
     first: V,
     second: V,
 ) -> ServeEnd
     ensures connections { Connections (ServesEnds A.In.left A.In.faults A.Out.written A.Out.faults)
-        (A.state door.old) keys.old names.old (A.state door.new) keys.new names.new }
+        (A.state door.old) (S.keys_seen keys.old) (S.names_seen names.old) (A.state door.new) (S.keys_seen keys.new) (S.names_seen names.new) }
     ensures accepted { result ≡ ServeEnd.Served → (A.state door.new).accepted ≡ (A.state door.old).accepted + conns }
     ensures cause { result ≡ ServeEnd.DoorFault → Rose (A.faults door.old) (A.faults door.new) }
 {
     let served = thread::scope(
         thread::scope_env(),
         clerk.rt,
-        move |scope| -> (
-            &mut A,
-            &mut KmsPass<D, W, C, M>,
-            &mut NamePass<D, N>,
-            ServeEnd,
-        )
+        move |scope| -> (&mut A, &mut K, &mut N, ServeEnd)
             ensures { (result.0.ghost_name ≡ door.entry.ghost_name) × (result.1.ghost_name ≡ keys.entry.ghost_name) × (result.2.ghost_name ≡ names.entry.ghost_name)
                 × Connections (ServesEnds A.In.left A.In.faults A.Out.written A.Out.faults)
-                (A.state door.entry.now) keys.entry.now names.entry.now (A.state result.0.now) result.1.now result.2.now
+                (A.state door.entry.now) (S.keys_seen keys.entry.now) (S.names_seen names.entry.now) (A.state result.0.now) (S.keys_seen result.1.now) (S.names_seen result.2.now)
                 × (result.3 ≡ ServeEnd.Served → (A.state result.0.now).accepted ≡ (A.state door.entry.now).accepted + conns)
                 × (result.3 ≡ ServeEnd.DoorFault → Rose (A.faults door.entry.now) (A.faults result.0.now)) }
         {

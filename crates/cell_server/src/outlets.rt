@@ -1,9 +1,7 @@
 //! What connections and workers tell the workers.
 use cell_desk::Notices;
 use crossbeam_channel::{Receiver, SendError, Sender, unbounded};
-use hist_cell::Naming;
-use hk_base::{Clock, Disk, NoMemory, Words};
-use kms_cell::KmsPass;
+use hk_base::NoMemory;
 use name_calls::NPath;
 use reenc_update::BatchReply;
 use std::alloc::Global;
@@ -58,35 +56,33 @@ impl<T: Drop> Outlet<T> {
 
 /// What came of a batch of a zone, and a pass that has seen the call for it.
 #[derive(Drop)]
-pub struct Update<D: Disk, W: Words, C: Clock, M: Naming> {
+pub struct Update<K> {
     pub zone: NPath,
     pub reply: BatchReply,
-    pub keys: KmsPass<D, W, C, M>,
+    pub keys: K,
 }
 
 /// Where connections and workers send what workers shall do.
 #[derive(Drop)]
-pub struct Outlets<D: Disk, W: Words, C: Clock, M: Naming> {
+pub struct Outlets<K: Drop> {
     /// Some queue may be low.
     pub low: Outlet<()>,
     /// The zone at a path is to be walked through.
     pub tasks: Outlet<NPath>,
     /// What came of a batch is to be delivered.
-    pub updates: Outlet<Update<D, W, C, M>>,
+    pub updates: Outlet<Update<K>>,
 }
 
 /// Where workers receive it.
 #[derive(Drop)]
-pub struct Inlets<D: Disk, W: Words, C: Clock, M: Naming> {
+pub struct Inlets<K: Drop> {
     pub low: Receiver<()>,
     pub tasks: Receiver<NPath>,
-    pub updates: Receiver<Update<D, W, C, M>>,
+    pub updates: Receiver<Update<K>>,
 }
 
 /// Opens the channels to the workers.
-pub fn open_channels<D: Disk, W: Words, C: Clock, M: Naming>(
-    alloc: Global,
-) -> Result<(Outlets<D, W, C, M>, Inlets<D, W, C, M>), NoMemory> {
+pub fn open_channels<K: Drop>(alloc: Global) -> Result<(Outlets<K>, Inlets<K>), NoMemory> {
     let (low, lows) = Outlet::open(alloc)?;
     let (tasks, zones) = Outlet::open(alloc)?;
     let (updates, replies) = Outlet::open(alloc)?;
@@ -103,7 +99,7 @@ pub fn open_channels<D: Disk, W: Words, C: Clock, M: Naming>(
     Ok((outlets, inlets))
 }
 
-impl<D: Disk, W: Words, C: Clock, M: Naming> Outlets<D, W, C, M> {
+impl<K: Drop> Outlets<K> {
     /// Closes all channels, so that the workers end.
     pub fn close<R: Wait>(&self, rt: &R) {
         self.low.close(rt);
@@ -112,7 +108,7 @@ impl<D: Disk, W: Words, C: Clock, M: Naming> Outlets<D, W, C, M> {
     }
 }
 
-impl<D: Disk, W: Words, C: Clock, M: Naming> Notices for Outlets<D, W, C, M> {
+impl<K: Drop> Notices for Outlets<K> {
     // A wake-up that waits already stands for later ones too.
     fn low<R: Wait>(&self, rt: &R) {
         if self.low.has_fewer(rt, FILLERS) {

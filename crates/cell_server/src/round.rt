@@ -6,32 +6,29 @@ ghost use Rattle.cell_server.specs.Rounds.{IsLastRound, MakesBoth};
 
 use crate::asks::{going_zones, list_zones};
 use crate::walks::walk_through_all;
-use hist_cell::Naming;
-use hk_base::{Clock, Disk, Gate, NoMemory, Words};
-use hk_shared::Shared;
-use kms_cell::KmsPass;
-use name_cell::NamePass;
+use hk_base::{Gate, NoMemory};
 use std::alloc::Global;
 use std::sync::Wait;
+use turns::Turns;
 
 /// Finishes re-encryptions that workers left: lists the zones and asks for the status of each, as the
 /// superuser, and then walks through each zone that is still being re-encrypted. Each batch is served
 /// and delivered before the next walk. The walks of a zone end if there is no further batch or a
 /// delivery is refused. Returns `NoMemory` if allocation fails outside a walk, or Zones or Status
 /// answers so. It may wait for the gate and the locks.
-pub fn last_round<D: Disk, W: Words, C: Clock, M: Naming, N: Naming, R: Wait, G: Gate>(
+pub fn last_round<S: Turns, R: Wait, G: Gate>(
     rt: &R,
     alloc: Global,
-    shared: &Shared<D, W, C, M, N>,
-    keys: &mut KmsPass<D, W, C, M>,
-    names: &mut NamePass<D, N>,
+    shared: &S,
+    keys: &mut S::Keys,
+    names: &mut S::Names,
     gate: &G,
 ) -> Result<(), NoMemory>
-    ensures { (made : List (NameEntry D)) × (called : List (KmsEntry D W))
-        × MakesBoth D.state W.to_come names.old keys.old made called names.new keys.new × OnOk result (IsLastRound made called) }
+    ensures { (made : List (NameEntry S.D)) × (called : List (KmsEntry S.D S.W))
+        × MakesBoth S.state S.to_come (S.names_seen names.old) (S.keys_seen keys.old) made called (S.names_seen names.new) (S.keys_seen keys.new) × OnOk result (IsLastRound made called) }
 {
     // The history that the pass has seen is legal.
-    let _ = keys.count();
+    let _ = shared.count_keys(keys);
     let zones = list_zones(rt, alloc, shared, names)?;
     let going = going_zones(rt, alloc, shared, names, zones.as_slice())?;
     walk_through_all(rt, alloc, shared, names, keys, going.as_slice(), gate)

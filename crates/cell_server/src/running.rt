@@ -5,106 +5,97 @@ ghost use Rattle.cell_server.specs.Connections.{EndsSo, ServesEnds};
 
 use crate::clerk::Clerk;
 use cell_desk::Notices;
-use hist_cell::Naming;
-use hk_base::{Clock, Disk, Ended, Gate, Sink, Source, Words};
-use kms_cell::KmsPass;
-use name_cell::NamePass;
+use hk_base::{Ended, Gate, Sink, Source};
 use server_parts::{CloseInput, CloseOutput};
 use std::marker::Model;
 use std::snapshot::Snapshot;
 use std::sync::Wait;
 use std::thread::{Promise, PromisedHandle, Scope, Threads};
+use turns::Turns;
 
 /// A connection that has ended: both ends, the passes that served it, and how it ended.
 #[derive(Drop)]
-pub struct Done<I, O, D: Disk, W: Words, C: Clock, M: Naming, N: Naming> {
+pub struct Done<I, O, K, N> {
     pub input: I,
     pub out: O,
-    pub keys: KmsPass<D, W, C, M>,
-    pub names: NamePass<D, N>,
+    pub keys: K,
+    pub names: N,
     pub ended: Ended,
 }
 
 /// What a connection began with, which its thread promises to have served.
 #[derive(Drop)]
-pub struct Begun<I, O, D: Disk, W: Words, C: Clock, M: Naming, N: Naming> {
+pub struct Begun<I, O, S: Turns> {
     pub input: Snapshot<I>,
     pub out: Snapshot<O>,
-    pub keys: Snapshot<KmsPass<D, W, C, M>>,
-    pub names: Snapshot<NamePass<D, N>>,
+    pub keys: Snapshot<S::Keys>,
+    pub names: Snapshot<S::Names>,
 }
 
-impl<I: Source, O: Sink, D: Disk, W: Words, C: Clock, M: Naming, N: Naming> Promise<
-    Done<I, O, D, W, C, M, N>,
-> for Begun<I, O, D, W, C, M, N> {
+impl<I: Source, O: Sink, S: Turns> Promise<Done<I, O, S::Keys, S::Names>> for Begun<I, O, S> {
     ghost use Rattle.cell_server.specs.Connections.{EndsSo, ServesEnds};
 
     ghost kept_by = { λ begun done. EndsSo (ServesEnds I.left I.faults O.written O.faults)
-        (record { input = begun.input.value; out = begun.out.value; keys = begun.keys.value; names = begun.names.value })
-        done.input done.out done.keys done.names done.ended };
+        (record { input = begun.input.value; out = begun.out.value; keys = S.keys_seen begun.keys.value; names = S.names_seen begun.names.value })
+        done.input done.out (S.keys_seen done.keys) (S.names_seen done.names) done.ended };
 }
 
 /// A connection that was begun. It cannot be dropped: its join returns both ends, the passes and how
 /// it ended. Contracts see what it began with.
-pub struct Running<I: Source, O: Sink, D: Disk, W: Words, C: Clock, M: Naming, N: Naming> {
+pub struct Running<I: Source, O: Sink, S: Turns> {
     input: Snapshot<I>,
     out: Snapshot<O>,
-    keys: Snapshot<KmsPass<D, W, C, M>>,
-    names: Snapshot<NamePass<D, N>>,
+    keys: Snapshot<S::Keys>,
+    names: Snapshot<S::Names>,
     /// Its thread, or the finished work if no thread could be made.
     work: Result<
-        PromisedHandle<Done<I, O, D, W, C, M, N>, Begun<I, O, D, W, C, M, N>>,
-        Done<I, O, D, W, C, M, N>,
+        PromisedHandle<Done<I, O, S::Keys, S::Names>, Begun<I, O, S>>,
+        Done<I, O, S::Keys, S::Names>,
     >,
 }
 
-impl<I: Source, O: Sink, D: Disk, W: Words, C: Clock, M: Naming, N: Naming> Model
-    for Running<I, O, D, W, C, M, N> {
+impl<I: Source, O: Sink, S: Turns> Model for Running<I, O, S> {
     ghost use Rattle.std.specs.Prelude.{◌≡◌, MatchResult};
     ghost use Rattle.cell_server.specs.Connections.{EndsSo, ServesEnds, Start};
 
-    ghost Value = { Start I O D W };
+    ghost Value = { Start I O S.D S.W };
 
-    ghost view = { λ r. record { input = r.input.value; out = r.out.value; keys = r.keys.value; names = r.names.value } };
+    ghost view = { λ r. record { input = r.input.value; out = r.out.value; keys = S.keys_seen r.keys.value; names = S.names_seen r.names.value } };
 
     ghost invariant = { λ r. MatchResult r.work
         (λ thread. (thread.promise.input.value ≡ r.input.value) × (thread.promise.out.value ≡ r.out.value) × (thread.promise.keys.value ≡ r.keys.value) × (thread.promise.names.value ≡ r.names.value))
         (λ done. EndsSo (ServesEnds I.left I.faults O.written O.faults)
-        (record { input = r.input.value; out = r.out.value; keys = r.keys.value; names = r.names.value }) done.input done.out done.keys done.names done.ended) };
+        (record { input = r.input.value; out = r.out.value; keys = S.keys_seen r.keys.value; names = S.names_seen r.names.value }) done.input done.out (S.keys_seen done.keys) (S.names_seen done.names) done.ended) };
 }
 
-impl<I: CloseInput, O: CloseOutput, D: Disk, W: Words, C: Clock, M: Naming, N: Naming> Running<
-    I,
-    O,
-    D,
-    W,
-    C,
-    M,
-    N,
-> {
+impl<
+    I: CloseInput + Send + Drop,
+    O: CloseOutput + Send + Drop,
+    K: Drop + Send,
+    N: Drop + Send,
+    S: Turns<Keys = K, Names = N> + Sync,
+> Running<I, O, S> {
     /// Serves a connection in a thread of its own, or here if no thread can be made. The passes must
     /// have made no call.
     pub fn begin<'s, E, R: Wait + Sync + 's, G: Gate + Sync + 's, H: Notices + Sync + 's>(
         scope: &Scope<'s, E>,
-        clerk: &'s Clerk<'s, R, D, W, C, M, N, G, H>,
+        clerk: &'s Clerk<'s, R, S, G, H>,
         input: I,
         out: O,
-        keys: KmsPass<D, W, C, M>,
-        names: NamePass<D, N>,
-    ) -> Running<I, O, D, W, C, M, N>
+        keys: K,
+        names: N,
+    ) -> Running<I, O, S>
     where
-        I: Send + Drop + 's,
-        O: Send + Drop + 's,
-        D: Send + 's,
-        W: Send + 's,
-        C: Send + 's,
-        M: Send + Sync + 's,
-        N: Send + Sync + 's,
-        requires keys { own keys.number keys.seen ≡ [] }
-        requires names { own names.number names.seen ≡ [] }
-        ensures { result ≡ record { input = input; out = out; keys = keys; names = names } }
+        I: 's,
+        O: 's,
+        K: 's,
+        N: 's,
+        S: 's,
+        requires keys { own (S.keys_seen keys).number (S.keys_seen keys).seen ≡ [] }
+        requires names { own (S.names_seen names).number (S.names_seen names).seen ≡ [] }
+        ensures { result ≡ record { input = input; out = out; keys = S.keys_seen keys; names = S.names_seen names } }
     {
-        let promise: Begun<I, O, D, W, C, M, N> = Begun {
+        let promise: Begun<I, O, S> = Begun {
             input: Snapshot::of(&input),
             out: Snapshot::of(&out),
             keys: Snapshot::of(&keys),
@@ -126,10 +117,12 @@ impl<I: CloseInput, O: CloseOutput, D: Disk, W: Words, C: Clock, M: Naming, N: N
             work,
         }
     }
+}
 
+impl<I: Source, O: Sink, S: Turns> Running<I, O, S> {
     /// Waits for the connection to end.
-    pub fn join<R: Threads>(self, rt: &R) -> Done<I, O, D, W, C, M, N>
-        ensures { EndsSo (ServesEnds I.left I.faults O.written O.faults) self result.input result.out result.keys result.names result.ended }
+    pub fn join<R: Threads>(self, rt: &R) -> Done<I, O, S::Keys, S::Names>
+        ensures { EndsSo (ServesEnds I.left I.faults O.written O.faults) self result.input result.out (S.keys_seen result.keys) (S.names_seen result.names) result.ended }
     {
         let Running {
             input: _,

@@ -7,49 +7,44 @@ ghost use Rattle.cell_server.specs.Serves.{ServesAll};
 use crate::connections::serve_with_workers;
 use crate::ends::ServeEnd;
 use crate::round::last_round;
-use hist_cell::Naming;
-use hk_base::{Clock, Disk, Gate, Words};
-use hk_shared::Shared;
-use kms_cell::KmsPass;
-use name_cell::NamePass;
+use hk_base::{Gate, Words};
 use server_parts::Door;
 use std::alloc::Global;
 use std::sync::Wait;
 use std::thread::Threads;
+use turns::Turns;
 
 /// Serves connections at a door that is open, and then makes the last round.
 fn serve_opened<
     R: Threads + Wait + Sync,
-    D: Disk + Send,
-    W: Words + Send,
-    C: Clock + Send,
-    M: Naming + Send + Sync,
-    N: Naming + Send + Sync,
+    K: Drop + Send,
+    N: Drop + Send,
+    S: Turns<Keys = K, Names = N> + Sync,
     G: Gate + Sync,
     A: Door,
     V: Words + Send + Drop,
 >(
     rt: &R,
     alloc: Global,
-    shared: &Shared<D, W, C, M, N>,
-    keys: &mut KmsPass<D, W, C, M>,
-    names: &mut NamePass<D, N>,
+    shared: &S,
+    keys: &mut K,
+    names: &mut N,
     door: &mut A,
     conns: u32,
     first: V,
     second: V,
     gate: &G,
 ) -> ServeEnd
-    ensures serves { ServesAll (ServesEnds A.In.left A.In.faults A.Out.written A.Out.faults) D.state W.to_come
-        (A.state door.old) keys.old names.old conns result (A.state door.new) keys.new names.new }
+    ensures serves { ServesAll (ServesEnds A.In.left A.In.faults A.Out.written A.Out.faults) S.state S.to_come
+        (A.state door.old) (S.keys_seen keys.old) (S.names_seen names.old) conns result (A.state door.new) (S.keys_seen keys.new) (S.names_seen names.new) }
     ensures cause { result ≡ ServeEnd.DoorFault → Rose (A.faults door.old) (A.faults door.new) }
 {
     let end = serve_with_workers(
         rt, alloc, shared, keys, names, door, conns, first, second, gate,
     );
     // The histories that the passes have seen are legal.
-    let _ = keys.count();
-    let _ = names.count();
+    let _ = shared.count_keys(keys);
+    let _ = shared.count_names(names);
     match end {
         ServeEnd::Served => match last_round(rt, alloc, shared, keys, names, gate) {
             Ok(()) => ServeEnd::Served,
@@ -68,20 +63,18 @@ fn serve_opened<
 /// locks.
 pub fn serve_all<
     R: Threads + Wait + Sync,
-    D: Disk + Send,
-    W: Words + Send,
-    C: Clock + Send,
-    M: Naming + Send + Sync,
-    N: Naming + Send + Sync,
+    K: Drop + Send,
+    N: Drop + Send,
+    S: Turns<Keys = K, Names = N> + Sync,
     G: Gate + Sync,
     A: Door,
     V: Words + Send + Drop,
 >(
     rt: &R,
     alloc: Global,
-    shared: &Shared<D, W, C, M, N>,
-    keys: &mut KmsPass<D, W, C, M>,
-    names: &mut NamePass<D, N>,
+    shared: &S,
+    keys: &mut K,
+    names: &mut N,
     door: &mut A,
     port: u16,
     conns: u32,
@@ -89,8 +82,8 @@ pub fn serve_all<
     second: V,
     gate: &G,
 ) -> ServeEnd
-    ensures serves { ServesAll (ServesEnds A.In.left A.In.faults A.Out.written A.Out.faults) D.state W.to_come
-        (A.state door.old) keys.old names.old conns result (A.state door.new) keys.new names.new }
+    ensures serves { ServesAll (ServesEnds A.In.left A.In.faults A.Out.written A.Out.faults) S.state S.to_come
+        (A.state door.old) (S.keys_seen keys.old) (S.names_seen names.old) conns result (A.state door.new) (S.keys_seen keys.new) (S.names_seen names.new) }
     ensures cause { result ≡ ServeEnd.DoorFault → Rose (A.faults door.old) (A.faults door.new) }
 {
     match door.open(port) {
@@ -99,8 +92,8 @@ pub fn serve_all<
         ),
         Err(_) => {
             // The histories that the passes have seen are legal.
-            let _ = keys.count();
-            let _ = names.count();
+            let _ = shared.count_keys(keys);
+            let _ = shared.count_names(names);
             ServeEnd::DoorFault
         }
     }

@@ -5,16 +5,13 @@ ghost use Rattle.name_cell.specs.Entries.{NameEntry};
 ghost use Rattle.cell_server.specs.Rounds.{MakesBoth, WalkedOn, Walks, WalksAll, batch_of};
 
 use crate::paths::copy_of;
-use hist_cell::Naming;
-use hk_base::{Clock, Disk, Gate, NoMemory, Words};
-use hk_shared::Shared;
-use kms_cell::KmsPass;
+use hk_base::{Gate, NoMemory};
 use name_calls::{NPath, NameRefusal};
-use name_cell::NamePass;
 use name_core::Walked;
 use reenc_walk::BatchNote;
 use std::alloc::Global;
 use std::sync::Wait;
+use turns::Turns;
 
 /// Returns the batch that a walk gave.
 pub fn batch_of(gave: Result<Walked, NameRefusal>) -> Option<BatchNote>
@@ -28,26 +25,26 @@ pub fn batch_of(gave: Result<Walked, NameRefusal>) -> Option<BatchNote>
 
 /// Walks through a zone once, has the batch served, if there is one, and delivers what came of it.
 /// Returns whether to walk on.
-fn walk_once<D: Disk, W: Words, C: Clock, M: Naming, N: Naming, R: Wait, G: Gate>(
+fn walk_once<S: Turns, R: Wait, G: Gate>(
     rt: &R,
     alloc: Global,
-    shared: &Shared<D, W, C, M, N>,
-    names: &mut NamePass<D, N>,
-    keys: &mut KmsPass<D, W, C, M>,
+    shared: &S,
+    names: &mut S::Names,
+    keys: &mut S::Keys,
     zone: NPath,
     gate: &G,
 ) -> bool
-    ensures { (made : List (NameEntry D)) × (called : List (KmsEntry D W))
-        × MakesBoth D.state W.to_come names.old keys.old made called names.new keys.new × WalkedOn result zone made called }
+    ensures { (made : List (NameEntry S.D)) × (called : List (KmsEntry S.D S.W))
+        × MakesBoth S.state S.to_come (S.names_seen names.old) (S.keys_seen keys.old) made called (S.names_seen names.new) (S.keys_seen keys.new) × WalkedOn result zone made called }
 {
     // The history that the pass has seen is legal.
-    let _ = keys.count();
+    let _ = shared.count_keys(keys);
     let gave = shared.walk_turn(rt, names, zone);
     let Some(batch) = batch_of(gave) else {
         return false;
     };
     let reply = shared.serve_turn(rt, alloc, keys, batch, gate);
-    let lent = shared.keys.split(rt, keys);
+    let lent = shared.split_keys(rt, keys);
     match shared.update_turn(rt, names, lent, reply, gate) {
         Ok(_) => true,
         Err(_) => false,
@@ -56,21 +53,21 @@ fn walk_once<D: Disk, W: Words, C: Clock, M: Naming, N: Naming, R: Wait, G: Gate
 
 /// Walks through a zone until there is no further batch, or a delivery is refused. Each batch is
 /// served and delivered before the next walk. Returns `NoMemory` if a copy of the path fails.
-fn walk_through<D: Disk, W: Words, C: Clock, M: Naming, N: Naming, R: Wait, G: Gate>(
+fn walk_through<S: Turns, R: Wait, G: Gate>(
     rt: &R,
     alloc: Global,
-    shared: &Shared<D, W, C, M, N>,
-    names: &mut NamePass<D, N>,
-    keys: &mut KmsPass<D, W, C, M>,
+    shared: &S,
+    names: &mut S::Names,
+    keys: &mut S::Keys,
     zone: &NPath,
     gate: &G,
 ) -> Result<(), NoMemory>
-    ensures { (made : List (NameEntry D)) × (called : List (KmsEntry D W))
-        × MakesBoth D.state W.to_come names.old keys.old made called names.new keys.new × OnOk result (Walks zone.now made called) }
+    ensures { (made : List (NameEntry S.D)) × (called : List (KmsEntry S.D S.W))
+        × MakesBoth S.state S.to_come (S.names_seen names.old) (S.keys_seen keys.old) made called (S.names_seen names.new) (S.keys_seen keys.new) × OnOk result (Walks zone.now made called) }
 {
     // The histories that the passes have seen are legal.
-    let _ = names.count();
-    let _ = keys.count();
+    let _ = shared.count_names(names);
+    let _ = shared.count_keys(keys);
     for _ in rt.forever() {
         let path = copy_of(alloc, zone)?;
         if !walk_once(rt, alloc, shared, names, keys, path, gate) {
@@ -81,21 +78,21 @@ fn walk_through<D: Disk, W: Words, C: Clock, M: Naming, N: Naming, R: Wait, G: G
 }
 
 /// Walks through these zones, one after another.
-pub fn walk_through_all<D: Disk, W: Words, C: Clock, M: Naming, N: Naming, R: Wait, G: Gate>(
+pub fn walk_through_all<S: Turns, R: Wait, G: Gate>(
     rt: &R,
     alloc: Global,
-    shared: &Shared<D, W, C, M, N>,
-    names: &mut NamePass<D, N>,
-    keys: &mut KmsPass<D, W, C, M>,
+    shared: &S,
+    names: &mut S::Names,
+    keys: &mut S::Keys,
     zones: &[NPath],
     gate: &G,
 ) -> Result<(), NoMemory>
-    ensures { (made : List (NameEntry D)) × (called : List (KmsEntry D W))
-        × MakesBoth D.state W.to_come names.old keys.old made called names.new keys.new × OnOk result (WalksAll zones.now made called) }
+    ensures { (made : List (NameEntry S.D)) × (called : List (KmsEntry S.D S.W))
+        × MakesBoth S.state S.to_come (S.names_seen names.old) (S.keys_seen keys.old) made called (S.names_seen names.new) (S.keys_seen keys.new) × OnOk result (WalksAll zones.now made called) }
 {
     // The histories that the passes have seen are legal.
-    let _ = names.count();
-    let _ = keys.count();
+    let _ = shared.count_names(names);
+    let _ = shared.count_keys(keys);
     for zone in zones {
         walk_through(rt, alloc, shared, names, keys, zone, gate)?;
     }

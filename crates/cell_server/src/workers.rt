@@ -6,39 +6,28 @@ use crate::asks::{going_zones, list_zones};
 use crate::outlets::{Inlets, Outlets, Update};
 use crate::paths::copy_of;
 use crate::walks::batch_of;
-use hist_cell::Naming;
-use hk_base::{Clock, Disk, Gate, NoMemory, Words};
-use hk_shared::Shared;
-use kms_cell::{FillTurn, KmsPass};
+use hk_base::{Gate, NoMemory, Words};
+use kms_cell::FillTurn;
 use name_calls::NPath;
-use name_cell::NamePass;
 use std::alloc::Global;
 use std::sync::Wait;
 use std::thread::{Threads, join};
+use turns::Turns;
 
 /// What workers share.
 #[derive(Drop)]
-pub struct Crew<'a, R, D: Disk, W: Words, C: Clock, M: Naming, N: Naming, G> {
+pub struct Crew<'a, R, S, G, K: Drop> {
     pub rt: &'a R,
     pub alloc: Global,
-    pub shared: &'a Shared<D, W, C, M, N>,
+    pub shared: &'a S,
     pub gate: &'a G,
-    pub outlets: &'a Outlets<D, W, C, M>,
-    pub inlets: &'a Inlets<D, W, C, M>,
+    pub outlets: &'a Outlets<K>,
+    pub inlets: &'a Inlets<K>,
 }
 
-impl<'a, R: Wait, D: Disk, W: Words, C: Clock, M: Naming, N: Naming, G: Gate> Crew<
-    'a,
-    R,
-    D,
-    W,
-    C,
-    M,
-    N,
-    G,
-> {
+impl<'a, R: Wait, K: Drop, S: Turns<Keys = K>, G: Gate> Crew<'a, R, S, G, K> {
     /// Fills queues until none is low.
-    fn fill_all<V: Words>(&self, keys: &mut KmsPass<D, W, C, M>, words: &mut V) {
+    fn fill_all<V: Words>(&self, keys: &mut K, words: &mut V) {
         for _ in self.rt.forever() {
             match self.shared.fill_turn(self.rt, keys, words, self.gate) {
                 FillTurn::NothingLow => return,
@@ -48,7 +37,7 @@ impl<'a, R: Wait, D: Disk, W: Words, C: Clock, M: Naming, N: Naming, G: Gate> Cr
     }
 
     /// Fills queues whenever one may be low.
-    fn fill<V: Words + Drop>(&self, keys: KmsPass<D, W, C, M>, words: V) -> KmsPass<D, W, C, M> {
+    fn fill<V: Words + Drop>(&self, keys: K, words: V) -> K {
         let mut keys = keys;
         let mut words = words;
         for _ in self.rt.forever() {
@@ -65,7 +54,7 @@ impl<'a, R: Wait, D: Disk, W: Words, C: Clock, M: Naming, N: Naming, G: Gate> Cr
 
     /// Delivers what came of a batch, and then sends the path of its zone again. If the delivery is
     /// refused, it is not tried again, and the batch stays outstanding.
-    fn deliver(&self, names: &mut NamePass<D, N>, update: Update<D, W, C, M>) {
+    fn deliver(&self, names: &mut S::Names, update: Update<K>) {
         let Update { zone, reply, keys } = update;
         match self
             .shared
@@ -78,7 +67,7 @@ impl<'a, R: Wait, D: Disk, W: Words, C: Clock, M: Naming, N: Naming, G: Gate> Cr
 
     /// Walks through a zone once. If there is a batch, it is served and sent to the updater, or
     /// delivered here if that fails.
-    fn walk(&self, keys: &mut KmsPass<D, W, C, M>, names: &mut NamePass<D, N>, zone: NPath) {
+    fn walk(&self, keys: &mut K, names: &mut S::Names, zone: NPath) {
         let Ok(path) = copy_of(self.alloc, &zone) else {
             drop(zone);
             return;
@@ -91,7 +80,7 @@ impl<'a, R: Wait, D: Disk, W: Words, C: Clock, M: Naming, N: Naming, G: Gate> Cr
         let reply = self
             .shared
             .serve_turn(self.rt, self.alloc, keys, batch, self.gate);
-        let lent = self.shared.keys.split(self.rt, keys);
+        let lent = self.shared.split_keys(self.rt, keys);
         let update = Update {
             zone,
             reply,
@@ -104,11 +93,7 @@ impl<'a, R: Wait, D: Disk, W: Words, C: Clock, M: Naming, N: Naming, G: Gate> Cr
     }
 
     /// Walks through the zones that it is sent.
-    fn walk_all(
-        &self,
-        keys: KmsPass<D, W, C, M>,
-        names: NamePass<D, N>,
-    ) -> (KmsPass<D, W, C, M>, NamePass<D, N>) {
+    fn walk_all(&self, keys: K, names: S::Names) -> (K, S::Names) {
         let mut keys = keys;
         let mut names = names;
         for _ in self.rt.forever() {
@@ -121,7 +106,7 @@ impl<'a, R: Wait, D: Disk, W: Words, C: Clock, M: Naming, N: Naming, G: Gate> Cr
     }
 
     /// Delivers what it is sent.
-    fn update_all(&self, names: NamePass<D, N>) -> NamePass<D, N> {
+    fn update_all(&self, names: S::Names) -> S::Names {
         let mut names = names;
         for _ in self.rt.forever() {
             match self.inlets.updates.recv(self.rt) {
@@ -133,7 +118,7 @@ impl<'a, R: Wait, D: Disk, W: Words, C: Clock, M: Naming, N: Naming, G: Gate> Cr
     }
 
     /// Sends the path of each zone that is still being re-encrypted, as far as there is memory.
-    fn send_going(&self, names: &mut NamePass<D, N>) -> Result<(), NoMemory> {
+    fn send_going(&self, names: &mut S::Names) -> Result<(), NoMemory> {
         let zones = list_zones(self.rt, self.alloc, self.shared, names)?;
         let going = going_zones(self.rt, self.alloc, self.shared, names, zones.as_slice());
         drop(zones);
@@ -160,97 +145,76 @@ impl<'a, R: Wait, D: Disk, W: Words, C: Clock, M: Naming, N: Naming, G: Gate> Cr
 impl<
     'a,
     R: Threads + Wait + Sync,
-    D: Disk + Send,
-    W: Words + Send,
-    C: Clock + Send,
-    M: Naming + Send + Sync,
-    N: Naming + Send + Sync,
+    K: Drop + Send,
+    N: Drop + Send,
+    S: Turns<Keys = K, Names = N> + Sync,
     G: Gate + Sync,
-> Crew<'a, R, D, W, C, M, N, G> {
+> Crew<'a, R, S, G, K> {
     /// Two fillers, each with words of its own.
-    fn fillers<V: Words + Send + Drop>(
-        &self,
-        keys: KmsPass<D, W, C, M>,
-        first: V,
-        second: V,
-    ) -> KmsPass<D, W, C, M> {
+    fn fillers<V: Words + Send + Drop>(&self, keys: K, first: V, second: V) -> K {
         let mut keys = keys;
-        let other = self.shared.keys.split(self.rt, &mut keys);
+        let other = self.shared.split_keys(self.rt, &mut keys);
         let (keys, other) = join(
             self.rt,
             move || self.fill(keys, first),
             move || self.fill(other, second),
         );
         let mut keys = keys;
-        self.shared.keys.meet(self.rt, &mut keys, other);
+        self.shared.meet_keys(self.rt, &mut keys, other);
         keys
     }
 
     /// Two batch workers.
-    fn batch_workers(
-        &self,
-        keys: KmsPass<D, W, C, M>,
-        names: NamePass<D, N>,
-    ) -> (KmsPass<D, W, C, M>, NamePass<D, N>) {
+    fn batch_workers(&self, keys: K, names: N) -> (K, N) {
         let mut keys = keys;
         let mut names = names;
-        let other_keys = self.shared.keys.split(self.rt, &mut keys);
-        let other_names = self.shared.names.split(self.rt, &mut names);
+        let other_keys = self.shared.split_keys(self.rt, &mut keys);
+        let other_names = self.shared.split_names(self.rt, &mut names);
         let (one, other) = join(
             self.rt,
             move || self.walk_all(keys, names),
             move || self.walk_all(other_keys, other_names),
         );
         let (mut keys, mut names) = one;
-        self.shared.keys.meet(self.rt, &mut keys, other.0);
-        self.shared.names.meet(self.rt, &mut names, other.1);
+        self.shared.meet_keys(self.rt, &mut keys, other.0);
+        self.shared.meet_names(self.rt, &mut names, other.1);
         (keys, names)
     }
 
     /// The updater and the batch workers.
-    fn reencrypt(
-        &self,
-        keys: KmsPass<D, W, C, M>,
-        names: NamePass<D, N>,
-    ) -> (KmsPass<D, W, C, M>, NamePass<D, N>) {
+    fn reencrypt(&self, keys: K, names: N) -> (K, N) {
         let mut names = names;
-        let other = self.shared.names.split(self.rt, &mut names);
+        let other = self.shared.split_names(self.rt, &mut names);
         let (other, passes) = join(
             self.rt,
             move || self.update_all(other),
-            move || -> (KmsPass<D, W, C, M>, NamePass<D, N>)
-                requires { IsSync R.row × IsSend D.row × IsSend W.row × IsSend C.row × IsSend M.row × IsSync M.row × IsSend N.row × IsSync N.row × IsSync G.row }
+            move || -> (K, N)
+                requires { IsSync R.row × IsSend K.row × IsSend N.row × IsSync S.row × IsSync G.row }
             { self.batch_workers(keys, names) },
         );
         let (keys, mut names) = passes;
-        self.shared.names.meet(self.rt, &mut names, other);
+        self.shared.meet_names(self.rt, &mut names, other);
         (keys, names)
     }
 
     /// Runs all workers until the channels are closed. First the zones that are still being
     /// re-encrypted are sent. A worker for which no thread can be made runs after the others.
-    pub fn run<V: Words + Send + Drop>(
-        &self,
-        keys: KmsPass<D, W, C, M>,
-        names: NamePass<D, N>,
-        first: V,
-        second: V,
-    ) -> (KmsPass<D, W, C, M>, NamePass<D, N>) {
+    pub fn run<V: Words + Send + Drop>(&self, keys: K, names: N, first: V, second: V) -> (K, N) {
         let mut keys = keys;
         let mut names = names;
         let _ = self.send_going(&mut names);
-        let other = self.shared.keys.split(self.rt, &mut keys);
+        let other = self.shared.split_keys(self.rt, &mut keys);
         let (other, passes) = join(
             self.rt,
-            move || -> KmsPass<D, W, C, M>
-                requires { IsSync R.row × IsSend D.row × IsSend W.row × IsSend C.row × IsSend M.row × IsSync M.row × IsSend N.row × IsSync N.row × IsSync G.row × IsSend V.row }
+            move || -> K
+                requires { IsSync R.row × IsSend K.row × IsSend N.row × IsSync S.row × IsSync G.row × IsSend V.row }
             { self.fillers(other, first, second) },
-            move || -> (KmsPass<D, W, C, M>, NamePass<D, N>)
-                requires { IsSync R.row × IsSend D.row × IsSend W.row × IsSend C.row × IsSend M.row × IsSync M.row × IsSend N.row × IsSync N.row × IsSync G.row }
+            move || -> (K, N)
+                requires { IsSync R.row × IsSend K.row × IsSend N.row × IsSync S.row × IsSync G.row }
             { self.reencrypt(keys, names) },
         );
         let (mut keys, names) = passes;
-        self.shared.keys.meet(self.rt, &mut keys, other);
+        self.shared.meet_keys(self.rt, &mut keys, other);
         (keys, names)
     }
 }

@@ -20,7 +20,7 @@ use Rattle.kms_cell.specs.Views.{KmsView}
 use Rattle.kms_cell.specs.declared.acts.KmsAct.TheVariants as act
 use Rattle.kms_cell.specs.declared.acts.KmsActed.TheVariants as acted
 use Rattle.kms_cell.proofs.ReplyLemmas.{made_step}
-use Rattle.hk_shared.specs.Turns.{ServesTurn}
+use Rattle.turns.specs.Turns.{ServesTurn}
 
 module _ {D W : Type 0} (state : D → DiskState) (to_come : W → ℕ → ℕ) where
   step_fits : (s t : KmsView D W) (user : Text) (batch : BatchNote) (reply : KmsReply) → CallSteps state to_come s user (batch_call batch) reply t → ReplyFits batch reply

@@ -1,12 +1,12 @@
 //! Both services, each in a cell that threads share. docs/threads.md has the whole picture.
 #![tactic(auto)]
 
+mod given;
 mod movable;
 mod opening;
 mod shared;
-mod turns;
+mod workers;
 
 pub use movable::both_are_shared;
 pub use opening::Opening;
 pub use shared::{Closed, Shared};
-pub use turns::superuser;

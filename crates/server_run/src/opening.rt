@@ -40,6 +40,7 @@ pub(crate) fn open_keys<Y: Yard>(
     ensures failed { IfErr result (λ fault. KeysNotOpened (Y.state yard.old) (Y.state yard.new) fault) }
 {
     let Ok(mut disk) = yard.take(KEYS) else {
+        drop(acls);
         return Err(StartFault::StoreFault);
     };
     match Kms::start(alloc, &mut disk, acls, sizes) {
@@ -131,7 +132,7 @@ fn open_logs<Y: Yard>(
             names_disk,
         }),
         Err(fault) => {
-            let _ = kms.stop();
+            drop(kms.stop());
             yard.give(KEYS, keys_disk);
             Err(OpenFault::Log { file: NAMES, fault })
         }

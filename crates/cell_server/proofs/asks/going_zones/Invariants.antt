@@ -3,4 +3,4 @@ use Rattle.cell_server.proofs.RoundLemmas.{Asking}
 use Rattle.cell_server.proofs.asks.going_zones.Given as goal
 
 abbrev pub invariant-loop-zone : goal.invariant-loop-zone
-invariant-loop-zone g l = Asking g.D.Disk.state l.fn.names (take l.zone-index l.fn.zones) l.going l.names
+invariant-loop-zone g l = Asking g.S.Turns.state (g.S.Turns.names_seen l.fn.names) (take l.zone-index l.fn.zones) l.going (g.S.Turns.names_seen l.names)

@@ -8,12 +8,12 @@ use Rattle.cell_server.proofs.rows.accept_one.Goals as goal
 pub returns-clause-goes_on : goal.returns-clause-goes_on
 returns-clause-goes_on g c door0 keys0 names0 going =
     let serves = ServesEnds g.A.In.Source.left g.A.In.Source.faults g.A.Out.Sink.written g.A.Out.Sink.faults in
-    subst (λ q. Going serves door0 keys0 names0 (g.A.Door.state c.accept.new.self) c.split-their_keys.new.pass c.split-their_names.new.pass q)
+    subst (λ q. Going serves door0 keys0 names0 (g.A.Door.state c.accept.new.self) (g.S.Turns.keys_seen c.split_keys-their_keys.new.pass) (g.S.Turns.names_seen c.split_names-their_names.new.pass) q)
     (sym c.push_back_reserved.ensures.items)
-    (going_accepts serves (g.A.Door.state c.args.door.now) c.args.keys.now c.args.names.now c.args.queue.now.items
-    (g.A.Door.state c.accept.new.self) c.split-their_keys.new.pass c.split-their_names.new.pass c.begin-begun.result
+    (going_accepts serves (g.A.Door.state c.args.door.now) (g.S.Turns.keys_seen c.args.keys.now) (g.S.Turns.names_seen c.args.names.now) c.args.queue.now.items
+    (g.A.Door.state c.accept.new.self) (g.S.Turns.keys_seen c.split_keys-their_keys.new.pass) (g.S.Turns.names_seen c.split_names-their_names.new.pass) c.begin-begun.result
     (c.in_ok-input.ensures.some ∙ ap (λ (s : Start _ _ _ _). with_accepted (g.A.Door.state c.args.door.now) (s.input, s.out)) (sym c.begin-begun.ensures))
-    c.split-their_keys.ensures.same c.split-their_names.ensures.same
-    (subst (λ (s : Start _ _ _ _). Splits c.args.keys.now s.keys) (sym c.begin-begun.ensures) c.split-their_keys.ensures.new)
-    (subst (λ (s : Start _ _ _ _). Splits c.args.names.now s.names) (sym c.begin-begun.ensures) c.split-their_names.ensures.new)
+    c.split_keys-their_keys.ensures.same c.split_names-their_names.ensures.same
+    (subst (λ (s : Start _ _ _ _). Splits (g.S.Turns.keys_seen c.args.keys.now) s.keys) (sym c.begin-begun.ensures) c.split_keys-their_keys.ensures.new)
+    (subst (λ (s : Start _ _ _ _). Splits (g.S.Turns.names_seen c.args.names.now) s.names) (sym c.begin-begun.ensures) c.split_names-their_names.ensures.new)
     door0 keys0 names0 going)

@@ -6,19 +6,19 @@ use Rattle.cell_server.proofs.serve.serve_opened.Goals as goal
 pub returns-in-Ok-clause-serves : goal.returns-in-Ok-clause-serves
 returns-in-Ok-clause-serves g c =
     let round = c.in-Ok.ensures in
-    serves_whole (ServesEnds g.A.In.Source.left g.A.In.Source.faults g.A.Out.Sink.written g.A.Out.Sink.faults) g.D.Disk.state g.W.Words.to_come
-    (g.A.Door.state c.args.door.now) c.args.keys.now c.args.names.now c.args.conns serve_end.Served (g.A.Door.state c.serve_with_workers-end.new.door)
-    c.serve_with_workers-end.new.keys c.last_round.new.keys c.serve_with_workers-end.new.names c.last_round.new.names round.0 round.1
+    serves_whole (ServesEnds g.A.In.Source.left g.A.In.Source.faults g.A.Out.Sink.written g.A.Out.Sink.faults) g.S.Turns.state g.S.Turns.to_come
+    (g.A.Door.state c.args.door.now) (g.S.Turns.keys_seen c.args.keys.now) (g.S.Turns.names_seen c.args.names.now) c.args.conns serve_end.Served (g.A.Door.state c.serve_with_workers-end.new.door)
+    (g.S.Turns.keys_seen c.serve_with_workers-end.new.keys) (g.S.Turns.keys_seen c.last_round.new.keys) (g.S.Turns.names_seen c.serve_with_workers-end.new.names) (g.S.Turns.names_seen c.last_round.new.names) round.0 round.1
     c.serve_with_workers-end.ensures.connections (c.serve_with_workers-end.ensures.accepted c.in-Served.is) round.2 round.3
 
 pub returns-in-DoorFault-clause-serves : goal.returns-in-DoorFault-clause-serves
 returns-in-DoorFault-clause-serves g c =
-    serves_no_round (ServesEnds g.A.In.Source.left g.A.In.Source.faults g.A.Out.Sink.written g.A.Out.Sink.faults) g.D.Disk.state g.W.Words.to_come
-    (g.A.Door.state c.args.door.now) c.args.keys.now c.args.names.now c.args.conns serve_end.DoorFault (g.A.Door.state c.serve_with_workers-end.new.door)
-    c.serve_with_workers-end.new.keys c.serve_with_workers-end.new.names c.serve_with_workers-end.ensures.connections c.count-2.ensures.legal c.count.ensures.legal (λ e. cc)
+    serves_no_round (ServesEnds g.A.In.Source.left g.A.In.Source.faults g.A.Out.Sink.written g.A.Out.Sink.faults) g.S.Turns.state g.S.Turns.to_come
+    (g.A.Door.state c.args.door.now) (g.S.Turns.keys_seen c.args.keys.now) (g.S.Turns.names_seen c.args.names.now) c.args.conns serve_end.DoorFault (g.A.Door.state c.serve_with_workers-end.new.door)
+    (g.S.Turns.keys_seen c.serve_with_workers-end.new.keys) (g.S.Turns.names_seen c.serve_with_workers-end.new.names) c.serve_with_workers-end.ensures.connections c.count_names.ensures.legal c.count_keys.ensures.legal (λ e. cc)
 
 pub returns-in-NoMemory-clause-serves : goal.returns-in-NoMemory-clause-serves
 returns-in-NoMemory-clause-serves g c =
-    serves_no_round (ServesEnds g.A.In.Source.left g.A.In.Source.faults g.A.Out.Sink.written g.A.Out.Sink.faults) g.D.Disk.state g.W.Words.to_come
-    (g.A.Door.state c.args.door.now) c.args.keys.now c.args.names.now c.args.conns serve_end.NoMemory (g.A.Door.state c.serve_with_workers-end.new.door)
-    c.serve_with_workers-end.new.keys c.serve_with_workers-end.new.names c.serve_with_workers-end.ensures.connections c.count-2.ensures.legal c.count.ensures.legal (λ e. cc)
+    serves_no_round (ServesEnds g.A.In.Source.left g.A.In.Source.faults g.A.Out.Sink.written g.A.Out.Sink.faults) g.S.Turns.state g.S.Turns.to_come
+    (g.A.Door.state c.args.door.now) (g.S.Turns.keys_seen c.args.keys.now) (g.S.Turns.names_seen c.args.names.now) c.args.conns serve_end.NoMemory (g.A.Door.state c.serve_with_workers-end.new.door)
+    (g.S.Turns.keys_seen c.serve_with_workers-end.new.keys) (g.S.Turns.names_seen c.serve_with_workers-end.new.names) c.serve_with_workers-end.ensures.connections c.count_names.ensures.legal c.count_keys.ensures.legal (λ e. cc)

@@ -4,21 +4,21 @@ use Rattle.cell_server.proofs.walks.walk_once.Goals as goal
 
 pub returns-in_default : goal.returns-in_default
 returns-in_default g c =
-    walked_once g.D.Disk.state g.W.Words.to_come c.args.names.now c.walk_turn-gave.new.pass c.args.keys.now c.args.zone c.walk_turn-gave.result c.count.ensures.legal c.walk_turn-gave.ensures
+    walked_once g.S.Turns.state g.S.Turns.to_come (g.S.Turns.names_seen c.args.names.now) (g.S.Turns.names_seen c.walk_turn-gave.new.pass) (g.S.Turns.keys_seen c.args.keys.now) c.args.zone c.walk_turn-gave.result c.count_keys.ensures.legal c.walk_turn-gave.ensures
     (sym c.batch_of.ensures ∙ c.in_default.is)
 
 pub returns-in-Ok : goal.returns-in-Ok
 returns-in-Ok g c =
-    walks_on g.D.Disk.state g.W.Words.to_come c.args.names.now c.walk_turn-gave.new.pass c.update_turn.new.names c.args.keys.now c.split-lent.new.pass c.args.zone c.walk_turn-gave.result c.in-Some.batch
+    walks_on g.S.Turns.state g.S.Turns.to_come (g.S.Turns.names_seen c.args.names.now) (g.S.Turns.names_seen c.walk_turn-gave.new.pass) (g.S.Turns.names_seen c.update_turn.new.names) (g.S.Turns.keys_seen c.args.keys.now) (g.S.Turns.keys_seen c.split_keys-lent.new.pass) c.args.zone c.walk_turn-gave.result c.in-Some.batch
     c.serve_turn-reply.result c.update_turn.result c.in-Ok.field-0 c.walk_turn-gave.ensures (sym c.batch_of.ensures ∙ c.in-Some.is)
-    (served_and_split g.D.Disk.state g.W.Words.to_come c.args.keys.now c.serve_turn-reply.new.pass c.split-lent.new.pass c.in-Some.batch c.serve_turn-reply.result c.count.ensures.legal
-    c.serve_turn-reply.ensures c.split-lent.ensures.same)
+    (served_and_split g.S.Turns.state g.S.Turns.to_come (g.S.Turns.keys_seen c.args.keys.now) (g.S.Turns.keys_seen c.serve_turn-reply.new.pass) (g.S.Turns.keys_seen c.split_keys-lent.new.pass) c.in-Some.batch c.serve_turn-reply.result c.count_keys.ensures.legal
+    c.serve_turn-reply.ensures c.split_keys-lent.ensures.same)
     c.update_turn.ensures c.in-Ok.is
 
 pub returns-in-Err : goal.returns-in-Err
 returns-in-Err g c =
-    walks_ended g.D.Disk.state g.W.Words.to_come c.args.names.now c.walk_turn-gave.new.pass c.update_turn.new.names c.args.keys.now c.split-lent.new.pass c.args.zone c.walk_turn-gave.result c.in-Some.batch
+    walks_ended g.S.Turns.state g.S.Turns.to_come (g.S.Turns.names_seen c.args.names.now) (g.S.Turns.names_seen c.walk_turn-gave.new.pass) (g.S.Turns.names_seen c.update_turn.new.names) (g.S.Turns.keys_seen c.args.keys.now) (g.S.Turns.keys_seen c.split_keys-lent.new.pass) c.args.zone c.walk_turn-gave.result c.in-Some.batch
     c.serve_turn-reply.result c.update_turn.result c.in-Err.field-0 c.walk_turn-gave.ensures (sym c.batch_of.ensures ∙ c.in-Some.is)
-    (served_and_split g.D.Disk.state g.W.Words.to_come c.args.keys.now c.serve_turn-reply.new.pass c.split-lent.new.pass c.in-Some.batch c.serve_turn-reply.result c.count.ensures.legal
-    c.serve_turn-reply.ensures c.split-lent.ensures.same)
+    (served_and_split g.S.Turns.state g.S.Turns.to_come (g.S.Turns.keys_seen c.args.keys.now) (g.S.Turns.keys_seen c.serve_turn-reply.new.pass) (g.S.Turns.keys_seen c.split_keys-lent.new.pass) c.in-Some.batch c.serve_turn-reply.result c.count_keys.ensures.legal
+    c.serve_turn-reply.ensures c.split_keys-lent.ensures.same)
     c.update_turn.ensures c.in-Err.is

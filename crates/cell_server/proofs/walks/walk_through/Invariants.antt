@@ -3,4 +3,4 @@ use Rattle.cell_server.proofs.RoundLemmas.{WalksOnce}
 use Rattle.cell_server.proofs.walks.walk_through.Given as goal
 
 abbrev pub invariant-loop : goal.invariant-loop
-invariant-loop g l = WalksOnce g.D.Disk.state g.W.Words.to_come l.fn.names l.fn.keys l.zone true l.names l.keys
+invariant-loop g l = WalksOnce g.S.Turns.state g.S.Turns.to_come (g.S.Turns.names_seen l.fn.names) (g.S.Turns.keys_seen l.fn.keys) l.zone true (g.S.Turns.names_seen l.names) (g.S.Turns.keys_seen l.keys)

@@ -9,6 +9,6 @@ use Rattle.cell_desk.proofs.desk.CellDesk.ask.Goals as goal
 
 pub returns-in_default : goal.returns-in_default
 returns-in_default g c =
-    let before : BothKnown _ _ = record { keys = c.self.inside.keys; names = c.self.inside.names } in
-    subst (λ (v : BothKnown _ _). MakesOrder g.D.Disk.state g.W.Words.to_come v c.args.user (OfNames (order.Ask c.args.ask) (reply.Refused refusal.NoMemory)) v) c.self.view_is
-    (not_begun g.D.Disk.state g.W.Words.to_come before c.args.user c.args.ask c.count.ensures.legal c.count-2.ensures.legal)
+    let before : BothKnown _ _ = record { keys = g.S.Turns.keys_seen c.self.inside.keys; names = g.S.Turns.names_seen c.self.inside.names } in
+    subst (λ (v : BothKnown _ _). MakesOrder g.S.Turns.state g.S.Turns.to_come v c.args.user (OfNames (order.Ask c.args.ask) (reply.Refused refusal.NoMemory)) v) c.self.view_is
+    (not_begun g.S.Turns.state g.S.Turns.to_come before c.args.user c.args.ask c.count_keys.ensures.legal c.count_names.ensures.legal)

@@ -15,17 +15,17 @@ pub returns : goal.returns
 returns g c =
     let s = c.serve_cells-ended in
     let e = s.ensures.entries in
-    let all_keys = made_own (KmsSteps g.D.Disk.state g.W.Words.to_come) KmsAllows c.args.keys s.result.1 e.0 c.requires.keys e.2 in
-    let all_names = made_own (NameSteps g.D.Disk.state) NameAllows c.args.names s.result.2 e.1 c.requires.names e.3 in
+    let all_keys = made_own (KmsSteps g.S.Turns.state g.S.Turns.to_come) KmsAllows (g.S.Turns.keys_seen c.args.keys) (g.S.Turns.keys_seen s.result.1) e.0 c.requires.keys e.2 in
+    let all_names = made_own (NameSteps g.S.Turns.state) NameAllows (g.S.Turns.names_seen c.args.names) (g.S.Turns.names_seen s.result.2) e.1 c.requires.names e.3 in
     record {
       served =
           serves_closed g.I.Source.left g.I.Source.faults g.O.Sink.written g.O.Sink.faults
-          c.args.input c.args.out (own c.args.keys.number s.result.1.seen) (own c.args.names.number s.result.2.seen)
+          c.args.input c.args.out (own (g.S.Turns.keys_seen c.args.keys).number (g.S.Turns.keys_seen s.result.1).seen) (own (g.S.Turns.names_seen c.args.names).number (g.S.Turns.names_seen s.result.2).seen)
           s.new.source s.new.sink s.result.0 c.close_input.new.self c.close_output.new.self
           c.close_input.ensures.left c.close_input.ensures.faults c.close_output.ensures.written c.close_output.ensures.faults
           (record {
             served =
-                subst (λ (ks : List (KmsEntry _ _)). ServedByCells (g.I.Source.left c.args.input) (g.O.Sink.written c.args.out) ks (own c.args.names.number s.result.2.seen) (g.I.Source.left s.new.source) (g.O.Sink.written s.new.sink) s.result.0)
+                subst (λ (ks : List (KmsEntry _ _)). ServedByCells (g.I.Source.left c.args.input) (g.O.Sink.written c.args.out) ks (own (g.S.Turns.names_seen c.args.names).number (g.S.Turns.names_seen s.result.2).seen) (g.I.Source.left s.new.source) (g.O.Sink.written s.new.sink) s.result.0)
                 (sym all_keys)
                 (subst (λ (ns : List (NameEntry _)). ServedByCells (g.I.Source.left c.args.input) (g.O.Sink.written c.args.out) e.0 ns (g.I.Source.left s.new.source) (g.O.Sink.written s.new.sink) s.result.0)
                 (sym all_names) e.4);

@@ -3,7 +3,7 @@ ghost use Rattle.std.specs.Prelude.{◌≡◌, ◌≤◌, [], length, vec_capaci
 ghost use Rattle.batch_calls.specs.Batches.{batch_call};
 ghost use Rattle.kms_cell.specs.Fills.{FillsTurn};
 ghost use Rattle.name_core.specs.Calls.{superuser};
-ghost use Rattle.hk_shared.specs.Turns.{ServesTurn, UpdatesTurn, WalksTurn};
+ghost use Rattle.turns.specs.Turns.{ServesTurn, UpdatesTurn, WalksTurn};
 
 use crate::shared::Shared;
 use batch_calls::{BatchCall, reply_for};
@@ -17,13 +17,7 @@ use reenc_update::{BatchReply, BatchResult};
 use reenc_walk::BatchNote;
 use std::alloc::Global;
 use std::sync::Wait;
-
-/// Returns the user who makes the calls that the namesystem wants.
-pub fn superuser(alloc: Global) -> Result<Text, NoMemory>
-    ensures { IfOk result (λ user. user ≡ superuser) }
-{
-    Ok(Text::of(String::from_str(alloc, "hdfs")?))
-}
+use turns::superuser;
 
 /// Makes what the call for a batch takes: the user who makes it, and the call.
 fn prepare(alloc: Global, batch: &BatchNote) -> Result<(Text, BatchCall), NoMemory>
@@ -99,7 +93,7 @@ impl<D: Disk, W: Words, C: Clock, M: Naming, N: Naming> Shared<D, W, C, M, N> {
     ) -> Result<Delivered, NameRefusal>
         ensures { UpdatesTurn D.state names.old reply result names.new }
     {
-        let _ = keys;
+        drop(keys);
         gate.pass(rt, Point::BeforeDeliver);
         deliver_names(rt, &self.names, names, reply)
     }
