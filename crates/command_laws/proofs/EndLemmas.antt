@@ -18,7 +18,7 @@ use Rattle.hkms_commands.specs.declared.replay.ReplayEnd.{ReplayEnd}
 use Rattle.hkms_commands.specs.declared.replay.ReplayEnd.TheVariants as ended
 use Rattle.hkms_commands.specs.Orders.{Shows, WantsMemory}
 use Rattle.hkms_commands.specs.Properties.{HasPropsFault, ReadsProperties}
-use Rattle.hkms_commands.specs.Replay.{Says, ended_by, ended_by_props, last_line, status_of}
+use Rattle.hkms_commands.specs.Replay.{IsFront, Says, ended_by, ended_by_props, last_line, status_of}
 use Rattle.hkms_commands.specs.Run.{History, Runs, faults_after}
 use Rattle.command_laws.specs.Complete.{NeverFails}
 use Rattle.command_laws.specs.Good.{Counts, GoodDisk, GoodKeys, GoodNames, GoodProperties, HasCauses, NoneRose}
@@ -115,7 +115,7 @@ closed old new file fault fails good = opened_or file fault (by (fails.file file
 pub said : (stop how : ReplayEnd) (lines : ℕ) (printed text : List ℕ) → Says stop how lines printed text → (how ≡ ended.WriteFault → ⊥) → (how ≡ stop) ⊎ (how ≡ ended.NoMemory)
 said stop how lines printed text says never = by says.last_is says.closes
   where
-    by : (says.last ≡ stop) ⊎ (says.last ≡ ended.NoMemory) → ((how ≡ says.last) × (text ≡ says.body ++ last_line says.last lines)) ⊎ ((how ≡ ended.WriteFault) × (more : List ℕ) × (text ++ more ≡ says.body ++ last_line says.last lines))
+    by : (says.last ≡ stop) ⊎ (says.last ≡ ended.NoMemory) → ((how ≡ says.last) × (text ≡ says.body ++ last_line says.last lines)) ⊎ ((how ≡ ended.WriteFault) × IsFront text (says.body ++ last_line says.last lines))
         → (how ≡ stop) ⊎ (how ≡ ended.NoMemory)
     by is (inr failed) = absurd (never failed.0)
     by (inl is) (inl shown) = inl (shown.0 ∙ is)

@@ -30,7 +30,7 @@ taken xs (Some rest) m takes = (rest, refl, omega (arith, takes.spells.size, ap 
 
 read_in : (exchanges : List Exchange) (xs : List ℕ) (new : Option (List ℕ)) → ReadsInOrder (Some xs) exchanges new → (rest : List ℕ) × (new ≡ Some rest) × (bytes_in exchanges + length rest ≡ length xs)
 read_in [] xs new is = (xs, is, omega arith)
-read_in (e ∷ more) xs new (next, takes, reads) =
+read_in (e ∷ more) xs new (next, (takes, reads)) =
     let first = taken xs next e.request takes in
     let later = read_in more first.0 new (subst (λ (o : Option (List ℕ)). ReadsInOrder o more new) first.1 reads) in
     (later.0, later.1, omega (arith, sum_by-cons (λ (exchange : Exchange). exchange.request.size) e more, first.2, later.2))
