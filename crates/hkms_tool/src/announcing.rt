@@ -1,32 +1,38 @@
-//! A door that says when it listens.
-ghost use Rattle.std.specs.Prelude.{◌≡◌};
-
+//! A door over TCP that says when it listens.
+use door_kinds::{TcpDoor, TcpSink, TcpSource};
 use hk_base::{Ended, Failed};
 use server_parts::Door;
+use std::alloc::Global;
 
-/// A door that writes a line to standard error when it listens. It is otherwise the door that it has.
+/// A door over TCP that writes a line to standard error when it listens. It is otherwise the door that it has.
 #[derive(Drop)]
-pub struct Announcing<'a, P: Door + Drop> {
+pub struct Announcing<'a> {
     rt: &'a HostRuntime,
-    door: P,
+    door: TcpDoor<'a, HostRuntime>,
 }
 
-impl<'a, P: Door + Drop> Announcing<'a, P> {
-    pub fn new(rt: &'a HostRuntime, door: P) -> Announcing<'a, P> {
-        Announcing { rt, door }
+impl<'a> Announcing<'a> {
+    pub fn new(rt: &'a HostRuntime, alloc: Global) -> Announcing<'a> {
+        Announcing {
+            rt,
+            door: TcpDoor::new(rt, alloc),
+        }
     }
 }
 
-impl<'a, P: Door + Drop> Door for Announcing<'a, P> {
-    type In = P::In;
+impl<'a> Door for Announcing<'a> {
+    ghost use Rattle.std.specs.Prelude.{◌≡◌};
+    ghost use Rattle.std.proofs.Common.{rules};
 
-    type Out = P::Out;
+    type In = TcpSource<'a, HostRuntime>;
 
-    ghost state = { λ d. P.state d.door };
+    type Out = TcpSink;
 
-    ghost faults = { λ d. P.faults d.door };
+    ghost state = { λ d. ⟦<TcpDoor<'a, HostRuntime> as Door>⟧.state d.door };
 
-    ghost no_more_left = { λ d. P.no_more_left d.door };
+    ghost faults = { λ d. ⟦<TcpDoor<'a, HostRuntime> as Door>⟧.faults d.door };
+
+    ghost no_more_left = { λ d. Prim.search rules };
 
     fn open(&mut self, port: u16) -> Result<(), Failed> {
         self.door.open(port)?;
@@ -34,11 +40,11 @@ impl<'a, P: Door + Drop> Door for Announcing<'a, P> {
         Ok(())
     }
 
-    fn accept(&mut self) -> Result<(P::In, P::Out), Failed> {
+    fn accept(&mut self) -> Result<(TcpSource<'a, HostRuntime>, TcpSink), Failed> {
         self.door.accept()
     }
 
-    fn leave(&mut self, input: P::In, out: P::Out, ended: Ended) {
+    fn leave(&mut self, input: TcpSource<'a, HostRuntime>, out: TcpSink, ended: Ended) {
         self.door.leave(input, out, ended)
     }
 }

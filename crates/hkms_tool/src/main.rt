@@ -11,7 +11,7 @@ mod opening;
 use announcing::Announcing;
 use command_line::{Order, OrderFault, read_order};
 use disk_kinds::{ChaWords, PlainDisk, Reading, WallClock, Writing};
-use door_kinds::{MemDoor, MemYard, TcpDoor};
+use door_kinds::{MemDoor, MemYard};
 use hk_base::{Disk, Source, Text, write_all};
 use hkms_commands::hkms;
 use opening::{PROPERTIES, Unopened, fill_standard, open_disk, open_yard};
@@ -185,7 +185,7 @@ fn serve_opened<T: Threads + Wait + Sync, A: Source + Drop, Y: Yard + Drop>(
     match opened {
         Ok((mut acls, mut yard)) => {
             let mut disk = PlainDisk::new(rt.alloc());
-            let mut door = Announcing::new(rt, TcpDoor::new(rt, rt.alloc()));
+            let mut door = Announcing::new(rt, rt.alloc());
             let status = run_over(
                 rt, threads, words, seed, &mut acls, &mut disk, &mut yard, &mut door,
             );
