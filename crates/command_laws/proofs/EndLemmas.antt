@@ -1,6 +1,6 @@
 -- How a command ends if nothing fails.
-use Rattle.std.proofs.Common.{◌≡◌, ◌≢◌, ◌⊎◌, inl, inr, ℕ, zero, suc, ◌+◌, ◌≤◌, List, [], ◌∷◌, ◌++◌, append-nil, refl, ap, sym, ◌∙◌, subst, Option, None, Some, arith}
-use Rattle.std.specs.Io.KnownBytes.{Appends, Consumes, IsAtEnd}
+use Rattle.std.proofs.Common.{◌≡◌, ◌≢◌, ◌⊎◌, inl, inr, ℕ, ◌≤◌, List, [], ◌∷◌, ◌++◌, append-nil, refl, ap, sym, ◌∙◌, subst, Option, None, Some, arith}
+use Rattle.std.specs.Io.KnownBytes.{Consumes, IsAtEnd}
 use Rattle.hk_base.specs.Disk.{DiskState}
 use Rattle.hk_base.specs.Faults.{Rose}
 use Rattle.frame_log.specs.declared.fault.StartFault.{StartFault}
@@ -9,19 +9,19 @@ use Rattle.prop_text.specs.declared.faults.PropFault.{PropFault}
 use Rattle.prop_text.specs.declared.faults.PropFault.TheVariants as prop_fault
 use Rattle.prop_text.specs.declared.lines.PropLine.{PropLine}
 use Rattle.prop_text.specs.declared.props.Props.{Props}
-use Rattle.prop_text.specs.Properties.{HasFault, IsProps}
+use Rattle.prop_text.specs.Properties.{IsProps}
 use Rattle.world_run.specs.Starts.{FailsAt, OpensBoth}
 use Rattle.world_run.specs.World.{WorldState}
 use Rattle.hkms_commands.specs.declared.props.PropsFault.{PropsFault}
 use Rattle.hkms_commands.specs.declared.props.PropsFault.TheVariants as props_fault
 use Rattle.hkms_commands.specs.declared.replay.ReplayEnd.{ReplayEnd}
 use Rattle.hkms_commands.specs.declared.replay.ReplayEnd.TheVariants as ended
-use Rattle.hkms_commands.specs.Orders.{Shows, WantsMemory}
+use Rattle.hkms_commands.specs.Orders.{Shows}
 use Rattle.hkms_commands.specs.Properties.{HasPropsFault, ReadsProperties}
 use Rattle.hkms_commands.specs.Replay.{IsFront, Says, ended_by, ended_by_props, last_line, status_of}
 use Rattle.hkms_commands.specs.Run.{History, Runs, faults_after}
 use Rattle.command_laws.specs.Complete.{NeverFails}
-use Rattle.command_laws.specs.Good.{Counts, GoodDisk, GoodKeys, GoodNames, GoodProperties, HasCauses, NoneRose}
+use Rattle.command_laws.specs.Good.{Counts, GoodDisk, GoodKeys, GoodProperties, HasCauses, NoneRose}
 use Rattle.command_laws.proofs.LogLemmas.{keys_not_damaged, keys_not_spent, names_not_damaged, names_not_spent}
 use Rattle.text_laws.proofs.FaultLemmas.{not_both_readings, one_list}
 

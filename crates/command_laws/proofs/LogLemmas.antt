@@ -1,8 +1,8 @@
 -- A good log is not damaged, and its last opening is not used.
-use Rattle.std.proofs.Common.{◌≡◌, inl, inr, ℕ, ◌<◌, Bool, true, false, List, [], ◌∷◌, ◌++◌, map, Option, Some, None, refl, sym, ap, ◌∙◌, subst, arith}
+use Rattle.std.proofs.Common.{◌≡◌, ℕ, Bool, true, false, List, [], ◌∷◌, ◌++◌, map, Some, None, refl, sym, ap, ◌∙◌, subst, arith}
 use Rattle.std.specs.Prelude.{if◌then◌else◌}
 use Rattle.std.specs.List.{AllByRecursion}
-use Rattle.frame_log.specs.Format.{log_of, Found}
+use Rattle.frame_log.specs.Format.{Found}
 use Rattle.edit_ops.specs.declared.ops.EditOp.{EditOp}
 use Rattle.edit_ops.specs.Records.{HasSpelling as HasOpSpelling, spelling as op_spelling}
 use Rattle.edit_ops.proofs.RecordLemmas.{one_spelling as one_op_spelling}
@@ -11,9 +11,9 @@ use Rattle.key_rows.specs.Records.{HasSpelling, spelling}
 use Rattle.key_rows.specs.Table.{Table, after, applies, no_keys}
 use Rattle.key_rows.proofs.RecordLemmas.{one_spelling}
 use Rattle.kms_store.specs.Replay.{key_replay}
-use Rattle.kms_store.specs.Store.{IsDamagedAt, IsKeyLog, Not_a_key_log, Not_a_log, SpentKeys}
+use Rattle.kms_store.specs.Store.{IsDamagedAt, Not_a_key_log, Not_a_log, SpentKeys}
 use Rattle.name_store.specs.Replay.{name_replay}
-use Rattle.name_store.specs.Store.{IsDamagedAt as IsDamagedName, IsNameLog, Not_a_log as No_log, Not_a_name_log, SpentNames}
+use Rattle.name_store.specs.Store.{IsDamagedAt as IsDamagedName, Not_a_log as No_log, Not_a_name_log, SpentNames}
 use Rattle.name_store.specs.Table.{Replayed, after as after_op, applies as applies_op, nothing_logged}
 use Rattle.command_laws.specs.Good.{GoodKeys, GoodNames}
 

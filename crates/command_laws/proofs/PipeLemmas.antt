@@ -1,6 +1,5 @@
 -- A connection of good requests.
-use Rattle.std.proofs.Common.{◌≡◌, ◌≢◌, ◌⊎◌, inl, inr, ℕ, ◌+◌, ◌≤◌, ◌^◌, List, [], ◌∷◌, ◌++◌, map, length, refl, ap, sym, ◌∙◌, subst, Option, None, Some, arith, length-append}
-use Rattle.std.specs.Io.KnownBytes.{Consumes}
+use Rattle.std.proofs.Common.{◌≡◌, ◌⊎◌, inl, inr, ℕ, ◌+◌, List, [], ◌∷◌, length, refl, ap, sym, ◌∙◌, subst, Option, None, Some, arith, length-append}
 use Rattle.std.proofs.lemmas.List.Sums.{sum_by-cons}
 use Rattle.hk_base.specs.Disk.{DiskState, Tells}
 use Rattle.hk_base.specs.declared.ended.Ended.{Ended}
@@ -12,14 +11,14 @@ use Rattle.http_wire.specs.Requests.{HasRequests, Takes}
 use Rattle.http_wire.proofs.StreamLemmas.{requests_unique}
 use Rattle.hk_serve.specs.Ends.{Ends, IsAnswered}
 use Rattle.hk_serve.specs.Exchanges.{Exchange, ReadsInOrder, Stand, bytes_in}
-use Rattle.hk_serve.specs.Served.{AreRequestsOf, Served, last_request}
+use Rattle.hk_serve.specs.Served.{Served}
 use Rattle.prop_text.specs.declared.props.Props.{Props}
 use Rattle.world_run.specs.World.{first_world}
 use Rattle.hkms_commands.specs.declared.replay.ReplayEnd.TheVariants as replayed
 use Rattle.hkms_commands.specs.Pipe.{Asks, CannotOpen, Connects, Converses, Pipe, PipesUnder, RefusesProperties, connection_status}
 use Rattle.hkms_commands.specs.Run.{History}
 use Rattle.command_laws.specs.Complete.{ConnectsToEnd, PipeIsComplete}
-use Rattle.command_laws.specs.Good.{Counts, GoodDisk, GoodProperties, GoodRequests, HasCauses, NoneRose}
+use Rattle.command_laws.specs.Good.{Counts, GoodDisk, GoodProperties, GoodRequests, NoneRose}
 use Rattle.command_laws.proofs.EndLemmas.{Unfailed, closed, memory_shown, never_fails, no_memory, not_later, not_read, not_stored, only_memory, same_props, unfailed, unread}
 
 -- the bytes of requests are among those that were left

@@ -1,20 +1,17 @@
 -- A replay of good lines.
-use Rattle.std.proofs.Common.{◌≡◌, ◌≢◌, ◌⊎◌, inl, inr, ℕ, ◌<◌, List, [], ◌∷◌, ◌++◌, append-nil, length, refl, ap, sym, ◌∙◌, subst, Option, None, Some, arith}
+use Rattle.std.proofs.Common.{◌≡◌, ◌≢◌, ◌⊎◌, inl, inr, ℕ, List, [], ◌∷◌, ◌++◌, append-nil, length, refl, ap, sym, ◌∙◌, subst, Option, arith}
 use Rattle.std.specs.List.{AllByRecursion}
-use Rattle.std.specs.Io.KnownBytes.{Appends, IsAtEnd}
+use Rattle.std.specs.Io.KnownBytes.{Appends}
 use Rattle.hk_base.specs.Disk.{DiskState, Tells}
-use Rattle.hk_base.specs.Faults.{Rose}
 use Rattle.prop_text.specs.declared.props.Props.{Props}
 use Rattle.replay_text.specs.Events.{IsBad}
 use Rattle.world_run.specs.World.{first_world}
 use Rattle.hkms_commands.specs.declared.replay.ReplayEnd.{ReplayEnd}
 use Rattle.hkms_commands.specs.declared.replay.ReplayEnd.TheVariants as ended
-use Rattle.hkms_commands.specs.Lines.{lines_of}
-use Rattle.hkms_commands.specs.Orders.{WantsMemory}
-use Rattle.hkms_commands.specs.PlayedLines.{PlayedLine, events_of_lines, lines_in, transcript}
-use Rattle.hkms_commands.specs.Replay.{BadNext, BadProperties, HasRead, IsFront, PlaysOn, Played, Replay, Says, Unopened, last_line, longest_input, status_of}
+use Rattle.hkms_commands.specs.PlayedLines.{events_of_lines, lines_in, transcript}
+use Rattle.hkms_commands.specs.Replay.{BadNext, BadProperties, HasRead, IsFront, PlaysOn, Played, Replay, Says, Unopened, last_line, status_of}
 use Rattle.command_laws.specs.Complete.{PlaysAll, ReplayIsComplete}
-use Rattle.command_laws.specs.Good.{Counts, GoodDisk, GoodLines, GoodProperties, HasCauses, NoneRose}
+use Rattle.command_laws.specs.Good.{Counts, GoodDisk, GoodLines, GoodProperties, NoneRose}
 use Rattle.command_laws.proofs.EndLemmas.{Unfailed, closed, memory_shown, never_fails, no_memory, not_later, not_read, not_stored, not_written, only_memory, said, same_props, unfailed, unread}
 
 -- no line among good ones is a bad one

@@ -1,7 +1,6 @@
 -- A server over good logs.
-use Rattle.std.proofs.Common.{◌≡◌, ◌≢◌, ◌⊎◌, ⊎_elim, inl, inr, ℕ, List, refl, ap, sym, ◌∙◌, subst, Option}
+use Rattle.std.proofs.Common.{◌≡◌, ◌⊎◌, ⊎_elim, inl, inr, ℕ, List, refl, ◌∙◌, subst, Option}
 use Rattle.hk_base.specs.Disk.{DiskState}
-use Rattle.hk_base.specs.Faults.{Rose}
 use Rattle.frame_log.specs.declared.fault.StartFault.{StartFault}
 use Rattle.frame_log.specs.declared.fault.StartFault.TheVariants as start
 use Rattle.prop_text.specs.declared.props.Props.{Props}
@@ -21,7 +20,7 @@ use Rattle.hkms_commands.specs.Replay.{ended_by, last_line, status_of}
 use Rattle.hkms_commands.specs.Serve.{Reports, ReportsRun, RefusesToServe, Serves, ServesUnder, generator_of}
 use Rattle.hkms_commands.specs.Steps.{Closes}
 use Rattle.command_laws.specs.Complete.{ServeIsComplete}
-use Rattle.command_laws.specs.Good.{Counts, GoodProperties, GoodYard, HasCauses, NoneRose}
+use Rattle.command_laws.specs.Good.{Counts, GoodProperties, GoodYard}
 use Rattle.command_laws.proofs.LogLemmas.{keys_not_damaged, keys_not_spent, names_not_damaged, names_not_spent}
 use Rattle.command_laws.proofs.EndLemmas.{Unfailed, memory_shown, no_memory, not_read, not_stored, not_written, only_memory, same_props, unfailed, unread}
 
