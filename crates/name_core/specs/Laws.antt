@@ -340,8 +340,8 @@ WalksKeepRows =
 abbrev pub batches_of_walk : BatchNote → WalkState → ℕ
 batches_of_walk note w = if w.session == note.session then length (filter (is_of note.sent) w.batches) else 0
 
--- How many batches of the zone's present re-encryption, with the session and the files of the note, are outstanding. There may be more than
--- one: a file that is moved is walked again.
+-- How many batches of the zone's present re-encryption, with the session and the files of the note, are outstanding. In a linked world there
+-- is at most one: no file is in two of them.
 abbrev pub batches_of : NameState → BatchNote → ℕ
 batches_of s note = option_map_or (batches_of_walk note) (going_walk s note.zone) 0
 
