@@ -119,6 +119,7 @@ sleep 2
 [ $(($(ticks) - before)) -lt 50 ] || same 'the processor time of a server with a full table' '' "$(($(ticks) - before)) ticks"
 kill -0 "$server" 2>/dev/null || same 'the server with a full table' running ended
 echo >&"${idle[1]}"
+# shellcheck disable=SC2154 # `coproc` sets it.
 wait "$idle_PID" 2>/dev/null
 same 'a request once the others are gone' '[] 200' "$(ask)"
 same 'a second one' '[] 200' "$(ask)"
