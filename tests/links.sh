@@ -1,18 +1,18 @@
 #!/usr/bin/env bash
-# Each relative link in README.md and docs/*.md leads to a file of the repository, and each anchor to a heading of it. Each path
-# of the repository that is named in them exists.
+# Each relative link in the pages at the top and in docs/*.md leads to a file of the repository, and each anchor to a heading of
+# it. Each path of the repository that is named in them exists.
 set -u
 cd "$(dirname "${BASH_SOURCE[0]}")/.." || exit 1
 command -v python3 >/dev/null || { echo "tests/links.sh: skipped, the command python3 is not here"; exit 0; }
 
-python3 - README.md docs/*.md <<'END'
+python3 - ./*.md docs/*.md <<'END'
 import os
 import re
 import sys
 
 CODE = re.compile(r"^```.*?^```|^    .*?$", re.M | re.S)
 LINK = re.compile(r"\[[^\]]*\]\(([^)\s]+)\)")
-PATH = re.compile(r"`(?:\./)?((?:tests|examples|docs|bench|completions|crates|[a-z_]+/(?:specs|src|proofs))/[\w./-]*)`")
+PATH = re.compile(r"`(?:\./)?((?:tests|examples|docs|bench|completions|tools|crates|[a-z_]+/(?:specs|src|proofs))/[\w./-]*)`")
 
 
 def anchors(text):
