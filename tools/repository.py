@@ -17,6 +17,18 @@ def read_uses(root):
     return {name: [use for use in words.split() if use in names] for name, (_, words) in zip(names, rows)}
 
 
+def read_groups(root):
+    """The crates of the repository by the groups of crates.txt, which begin with lines that begin with ##."""
+    groups = {}
+    with open(f"{root}/crates.txt", encoding="utf-8") as file:
+        for line in file:
+            if line.startswith("## "):
+                crates = groups[line[3:].strip()] = []
+            elif ":" in line and not line.startswith("#"):
+                crates.append(line.split(":")[0].strip())
+    return groups
+
+
 def all_below(uses, name):
     """The crates below this one, and itself."""
     found, left = set(), [name]
