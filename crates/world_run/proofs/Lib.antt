@@ -30,6 +30,7 @@ pub mod Members
 pub mod NameKeeps
 pub mod PairLemmas
 pub mod PastLemmas
+pub mod PathCallLemmas
 pub mod QueueLaters
 pub mod ReadyLemmas
 pub mod RekeyedFiles

@@ -8,6 +8,7 @@ pub mod Ledger
 pub mod Laws
 pub mod Linked
 pub mod Own
+pub mod PathCalls
 pub mod Promise
 pub mod Ready
 pub mod RenamePaths

@@ -85,13 +85,15 @@ fn next_event(alloc: Global, zone: &NPath, answer: &Line) -> Option<Event>
 }
 
 /// Returns the result of a drive with this last answer.
-fn result_of(answer: Line) -> Result<Walked, NameRefusal>
-    ensures { result ≡ result_of answer }
+fn result_of(answer: &Line) -> Result<Walked, NameRefusal>
+    ensures { result ≡ result_of answer.now }
 {
     match answer {
-        Line::NoneLeft { outstanding } => Ok(Walked::NoneLeft { outstanding }),
+        Line::NoneLeft { outstanding } => Ok(Walked::NoneLeft {
+            outstanding: *outstanding,
+        }),
         Line::Completed => Ok(Walked::Completed),
-        Line::Refused(why) => Err(why),
+        Line::Refused(why) => Err(*why),
         _ => Err(NameRefusal::NoMemory),
     }
 }
@@ -134,7 +136,11 @@ impl World {
                     drop(answer);
                     event = next;
                 }
-                None => return result_of(answer),
+                None => {
+                    let walked = result_of(&answer);
+                    drop(answer);
+                    return walked;
+                }
             }
         }
         drop(event);

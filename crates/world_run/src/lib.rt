@@ -6,6 +6,7 @@ mod drive;
 mod fault;
 mod kept;
 mod laws;
+mod path_calls;
 mod rename_paths;
 mod serve;
 mod snap_path;

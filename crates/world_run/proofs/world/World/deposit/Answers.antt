@@ -1,4 +1,4 @@
-use Rattle.std.proofs.Common.{◌∙◌, ap, refl, sym, Some}
+use Rattle.std.proofs.Common.{◌∙◌, ap, refl}
 use Rattle.world_run.specs.World.{RunningWorld, numbered}
 use Rattle.world_run.proofs.StepLemmas.{deposit-unknown, deposited-key}
 use Rattle.world_run.proofs.world.World.deposit.Goals as goal

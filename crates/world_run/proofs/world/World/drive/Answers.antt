@@ -17,7 +17,7 @@ events-init g c =
 pub returns-in-None : goal.returns-in-None
 returns-in-None g c =
     drive-ends g.D.Disk.state g.W.Words.to_come c.args.now c.args.zone.now (record { disk = c.args.disk.now; world = c.args.self.now; words = c.args.words.now }) c.answer-answer.result
-    (record { disk = c.answer-answer.new.disk; world = c.answer-answer.new.self; words = c.answer-answer.new.words }) c.result_of.result c.result_of.ensures
+    (record { disk = c.answer-answer.new.disk; world = c.answer-answer.new.self; words = c.answer-answer.new.words }) c.result_of-walked.result c.result_of-walked.ensures
     (drive-happens g.D.Disk.state g.W.Words.to_come c.args.now c.args.zone.now (record { disk = c.args.disk.now; world = c.args.self.now; words = c.args.words.now }) c.events.event
     (record { disk = c.events.disk; world = c.events.self; words = c.events.words }) c.answer-answer.result (record { disk = c.answer-answer.new.disk; world = c.answer-answer.new.self; words = c.answer-answer.new.words })
     c.walk_event.ensures.rule c.fits.ensures.fits c.answer-answer.ensures.fits c.requires.lists c.events.invariant c.answer-answer.ensures.steps)

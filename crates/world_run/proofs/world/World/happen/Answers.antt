@@ -27,65 +27,10 @@ returns-in-RestartName g c =
     restart-happens (g.D.Disk.state c.args.disk.now) (g.D.Disk.state c.restart_names.new.disk) c.args.self.now c.restart_names.new.self (g.W.Words.to_come c.args.words.now) c.args.now c.args.event event.RestartName
     c.restart_names.result c.in-RestartName.is c.restart_names.ensures
 
-pub returns-in-Mkdir : goal.returns-in-Mkdir
-returns-in-Mkdir g c lines lists =
-    so-happens lines (g.D.Disk.state c.args.disk.now) (g.D.Disk.state c.mkdir-line.new.disk) c.args.self.now c.mkdir-line.new.self (g.W.Words.to_come c.args.words.now) (g.W.Words.to_come c.args.words.now) c.args.now c.args.event (event.Mkdir c.in-Mkdir.user c.in-Mkdir.path) c.mkdir-line.result c.in-Mkdir.is
-    (c.mkdir-line.ensures (g.W.Words.to_come c.args.words.now))
-
-pub returns-in-Delete : goal.returns-in-Delete
-returns-in-Delete g c lines lists =
-    so-happens lines (g.D.Disk.state c.args.disk.now) (g.D.Disk.state c.delete-line.new.disk) c.args.self.now c.delete-line.new.self (g.W.Words.to_come c.args.words.now) (g.W.Words.to_come c.args.words.now) c.args.now c.args.event (event.Delete c.in-Delete.user c.in-Delete.path c.in-Delete.recursive) c.delete-line.result c.in-Delete.is
-    (c.delete-line.ensures (g.W.Words.to_come c.args.words.now))
-
-pub returns-in-Rename : goal.returns-in-Rename
-returns-in-Rename g c lines lists =
-    so-happens lines (g.D.Disk.state c.args.disk.now) (g.D.Disk.state c.rename-line.new.disk) c.args.self.now c.rename-line.new.self (g.W.Words.to_come c.args.words.now) (g.W.Words.to_come c.args.words.now) c.args.now c.args.event (event.Rename c.in-Rename.user c.in-Rename.path c.in-Rename.to) c.rename-line.result c.in-Rename.is
-    (c.rename-line.ensures (g.W.Words.to_come c.args.words.now))
-
-pub returns-in-Info : goal.returns-in-Info
-returns-in-Info g c lines lists =
-    so-happens lines (g.D.Disk.state c.args.disk.now) (g.D.Disk.state c.info-line.new.disk) c.args.self.now c.info-line.new.self (g.W.Words.to_come c.args.words.now) (g.W.Words.to_come c.args.words.now) c.args.now c.args.event (event.Info c.in-Info.user c.in-Info.path) c.info-line.result c.in-Info.is
-    (c.info-line.ensures (g.W.Words.to_come c.args.words.now))
-
-pub returns-in-List : goal.returns-in-List
-returns-in-List g c lines lists =
-    so-happens lines (g.D.Disk.state c.args.disk.now) (g.D.Disk.state c.list-line.new.disk) c.args.self.now c.list-line.new.self (g.W.Words.to_come c.args.words.now) (g.W.Words.to_come c.args.words.now) c.args.now c.args.event (event.List c.in-List.user c.in-List.path) c.list-line.result c.in-List.is
-    (c.list-line.ensures (g.W.Words.to_come c.args.words.now))
-
-pub returns-in-Allow : goal.returns-in-Allow
-returns-in-Allow g c lines lists =
-    so-happens lines (g.D.Disk.state c.args.disk.now) (g.D.Disk.state c.allow-line.new.disk) c.args.self.now c.allow-line.new.self (g.W.Words.to_come c.args.words.now) (g.W.Words.to_come c.args.words.now) c.args.now c.args.event (event.Allow c.in-Allow.user c.in-Allow.path) c.allow-line.result c.in-Allow.is
-    (c.allow-line.ensures (g.W.Words.to_come c.args.words.now))
-
-pub returns-in-Disallow : goal.returns-in-Disallow
-returns-in-Disallow g c lines lists =
-    so-happens lines (g.D.Disk.state c.args.disk.now) (g.D.Disk.state c.disallow-line.new.disk) c.args.self.now c.disallow-line.new.self (g.W.Words.to_come c.args.words.now) (g.W.Words.to_come c.args.words.now) c.args.now c.args.event (event.Disallow c.in-Disallow.user c.in-Disallow.path) c.disallow-line.result c.in-Disallow.is
-    (c.disallow-line.ensures (g.W.Words.to_come c.args.words.now))
-
-pub returns-in-Snap : goal.returns-in-Snap
-returns-in-Snap g c lines lists =
-    so-happens lines (g.D.Disk.state c.args.disk.now) (g.D.Disk.state c.snap-line.new.disk) c.args.self.now c.snap-line.new.self (g.W.Words.to_come c.args.words.now) (g.W.Words.to_come c.args.words.now) c.args.now c.args.event (event.Snap c.in-Snap.user c.in-Snap.path c.in-Snap.name) c.snap-line.result c.in-Snap.is
-    (c.snap-line.ensures (g.W.Words.to_come c.args.words.now))
-
-pub returns-in-Unsnap : goal.returns-in-Unsnap
-returns-in-Unsnap g c lines lists =
-    so-happens lines (g.D.Disk.state c.args.disk.now) (g.D.Disk.state c.unsnap-line.new.disk) c.args.self.now c.unsnap-line.new.self (g.W.Words.to_come c.args.words.now) (g.W.Words.to_come c.args.words.now) c.args.now c.args.event (event.Unsnap c.in-Unsnap.user c.in-Unsnap.path c.in-Unsnap.name) c.unsnap-line.result c.in-Unsnap.is
-    (c.unsnap-line.ensures (g.W.Words.to_come c.args.words.now))
-
-pub returns-in-Cancel : goal.returns-in-Cancel
-returns-in-Cancel g c lines lists =
-    so-happens lines (g.D.Disk.state c.args.disk.now) (g.D.Disk.state c.cancel-line.new.disk) c.args.self.now c.cancel-line.new.self (g.W.Words.to_come c.args.words.now) (g.W.Words.to_come c.args.words.now) c.args.now c.args.event (event.Cancel c.in-Cancel.user c.in-Cancel.path) c.cancel-line.result c.in-Cancel.is
-    (c.cancel-line.ensures (g.W.Words.to_come c.args.words.now))
-
-pub returns-in-Status : goal.returns-in-Status
-returns-in-Status g c lines lists =
-    so-happens lines (g.D.Disk.state c.args.disk.now) (g.D.Disk.state c.status-line.new.disk) c.args.self.now c.status-line.new.self (g.W.Words.to_come c.args.words.now) (g.W.Words.to_come c.args.words.now) c.args.now c.args.event (event.Status c.in-Status.user c.in-Status.path) c.status-line.result c.in-Status.is
-    (c.status-line.ensures (g.W.Words.to_come c.args.words.now))
-
 pub returns-in-Zones : goal.returns-in-Zones
 returns-in-Zones g c lines lists =
-    so-happens lines (g.D.Disk.state c.args.disk.now) (g.D.Disk.state c.call-line.new.disk) c.args.self.now c.call-line.new.self (g.W.Words.to_come c.args.words.now) (g.W.Words.to_come c.args.words.now) c.args.now c.args.event (event.Zones c.in-Zones.user) c.call-line.result c.in-Zones.is
-    (c.call-line.ensures (g.W.Words.to_come c.args.words.now))
+    so-happens lines (g.D.Disk.state c.args.disk.now) (g.D.Disk.state c.zones.new.disk) c.args.self.now c.zones.new.self (g.W.Words.to_come c.args.words.now) (g.W.Words.to_come c.args.words.now) c.args.now c.args.event (event.Zones c.in-Zones.user) c.zones.result c.in-Zones.is
+    (c.zones.ensures (g.W.Words.to_come c.args.words.now))
 
 pub returns-in-AskCreate : goal.returns-in-AskCreate
 returns-in-AskCreate g c lines lists =
@@ -114,8 +59,8 @@ returns-in-Finish g c lines lists =
 
 pub returns-in-Walk : goal.returns-in-Walk
 returns-in-Walk g c lines lists =
-    so-happens lines (g.D.Disk.state c.args.disk.now) (g.D.Disk.state c.walk-line.new.disk) c.args.self.now c.walk-line.new.self (g.W.Words.to_come c.args.words.now) (g.W.Words.to_come c.args.words.now) c.args.now c.args.event (event.Walk c.in-Walk.path) c.walk-line.result c.in-Walk.is
-    (c.walk-line.ensures (g.W.Words.to_come c.args.words.now))
+    so-happens lines (g.D.Disk.state c.args.disk.now) (g.D.Disk.state c.walk.new.disk) c.args.self.now c.walk.new.self (g.W.Words.to_come c.args.words.now) (g.W.Words.to_come c.args.words.now) c.args.now c.args.event (event.Walk c.in-Walk.path) c.walk.result c.in-Walk.is
+    (c.walk.ensures (g.W.Words.to_come c.args.words.now))
 
 pub returns-in-Serve : goal.returns-in-Serve
 returns-in-Serve g c lines lists =
@@ -131,3 +76,6 @@ pub returns-in-GiveUp : goal.returns-in-GiveUp
 returns-in-GiveUp g c lines lists =
     so-happens lines (g.D.Disk.state c.args.disk.now) (g.D.Disk.state c.give_up.new.disk) c.args.self.now c.give_up.new.self (g.W.Words.to_come c.args.words.now) (g.W.Words.to_come c.args.words.now) c.args.now c.args.event (event.GiveUp c.in-GiveUp.batch) c.give_up.result c.in-GiveUp.is
     (c.give_up.ensures (g.W.Words.to_come c.args.words.now))
+
+pub returns-in_default : goal.returns-in_default
+returns-in_default g c lines lists = c.call_at_paths.ensures lines (g.W.Words.to_come c.args.words.now) c.args.now

@@ -1,4 +1,4 @@
-use Rattle.std.proofs.Common.{◌∙◌, ◌++◌, ◌∷◌, [], List, ap, inl, inr, length, sym}
+use Rattle.std.proofs.Common.{◌∙◌, ◌++◌, ◌∷◌, [], List, ap, inl, inr, length}
 use Rattle.eek_seal.specs.declared.tickets.Ticket.{Ticket}
 use Rattle.kms_core.specs.Ready.{ticket_of}
 use Rattle.kms_core.specs.State.{keys_of}

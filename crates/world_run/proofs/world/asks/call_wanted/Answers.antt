@@ -1,5 +1,5 @@
 use Rattle.world_run.proofs.StepLemmas.{generate-wanted, metadata-wanted, nothing-wanted}
-use Rattle.world_run.proofs.world.call_wanted.Goals as goal
+use Rattle.world_run.proofs.world.asks.call_wanted.Goals as goal
 
 pub returns-in-Nothing : goal.returns-in-Nothing
 returns-in-Nothing g c lines lists = nothing-wanted lines (g.D.Disk.state c.args.disk.now) c.args.keys.now (g.W.Words.to_come c.args.words.now) c.args.now c.args.note.now.want c.in-Nothing.is
