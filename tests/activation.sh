@@ -1,6 +1,7 @@
 #!/usr/bin/env bash
-# The servers of docs/operations.md that start a process for each connection: inetd with the line of the page, and a socket of
-# systemd as systemd-socket-activate opens it. Both run the page's script over one folder, one after the other.
+# The servers of packaging/ that start a process for each connection: inetd by inetd.conf, and a socket of systemd with the path of
+# hkms.socket, whose connections get the command of hkms@.service from systemd-socket-activate. Both run hkms-connection over one
+# folder, one after the other.
 set -u
 . "$(dirname "${BASH_SOURCE[0]}")/room.bash"
 PATH=$PATH:/usr/sbin:/sbin
@@ -9,11 +10,15 @@ for tool in inetd systemd-socket-activate curl flock; do
 done
 inetd -h 2>&1 | grep -q 'R rate' || { echo 'tests/activation.sh: skipped, inetd is not that of OpenBSD'; exit 0; }
 
-# The block of the page that begins with these words, with the paths and the account of this run.
-block() {
-    awk -v first="    $1" 'index($0, first) == 1 { inside = 1 } inside && /^[^ ]/ { exit } inside { print substr($0, 5) }' docs/operations.md |
-        sed "s#/run/hkms#$room#; s#/usr/local/libexec/hkms-connection#$room/connection#; s#/var/lib/hkms#$data#
-            s#/usr/local/bin/hkms#$hkms#; s#\(nowait.[0-9]*\) hkms #\1 $(id -un) #"
+# A file of packaging/, with the paths and the account of this run.
+here() {
+    sed "s#/run/hkms#$room#; s#/usr/local/libexec/hkms-connection#$room/connection#; s#/var/lib/hkms#$data#
+        s#/usr/local/bin/hkms#$hkms#; s#\(nowait.[0-9]*\) hkms #\1 $(id -un) #" "packaging/$1"
+}
+
+# The value of a setting in such a file.
+setting() {
+    here "$2" | sed -n "s/^$1=-\{0,1\}//p"
 }
 
 # serve COMMAND..: starts a server, and waits for its socket.
@@ -43,9 +48,11 @@ fresh
 data=$quick/data
 mkdir "$data"
 "$hkms" --help >/dev/null || exit 1
-block '#!/bin/sh' >"$room/connection"
+here pipe/hkms-connection >"$room/connection"
 chmod 700 "$room/connection"
-block '/run/hkms/kms.sock stream' >"$room/inetd.conf"
+here pipe/inetd.conf >"$room/inetd.conf"
+socket=$(setting ListenStream systemd/hkms.socket)
+command=$(setting ExecStart systemd/hkms@.service)
 trap 'kill "$server"; wait; rm -rf "$folder" "$quick"' EXIT
 
 serve inetd -i "$room/inetd.conf"
@@ -64,13 +71,13 @@ rmdir "$data/keys.log"
 mv "$data/keys.kept" "$data/keys.log"
 stop
 
-serve systemd-socket-activate --accept --inetd --listen="$room/kms.sock" "$room/connection"
+serve systemd-socket-activate --accept --inetd --listen="$socket" "$command"
 same 'systemd: a decryption' "$decrypted" "$(decrypt)"
 same 'systemd: a create' '{"material":"AAECAwQFBgcICQoLDA0ODw","name":"j@0"} 201' \
     "$(ask -d '{"name":"j","length":128,"material":"AAECAwQFBgcICQoLDA0ODw"}' "$base/keys?user.name=alice")"
 same 'systemd: a request that is no HTTP' 400 "$(ask -o /dev/null -X 'A B' "$base/keys" | tr -d ' ')"
 stop
-serve systemd-socket-activate --accept --inetd --listen="$room/kms.sock" "$room/connection"
+serve systemd-socket-activate --accept --inetd --listen="$socket" "$command"
 same 'systemd: many at once after a restart' '20 ["j","k"] 200' \
     "$(for _ in $(seq 20); do { printf "%s\n" "$(ask "$base/keys/names?user.name=alice")"; } & done | sort | uniq -c | sed 's/^ *//')"
 

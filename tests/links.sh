@@ -12,7 +12,7 @@ import sys
 
 CODE = re.compile(r"^```.*?^```|^    .*?$", re.M | re.S)
 LINK = re.compile(r"\[[^\]]*\]\(([^)\s]+)\)")
-PATH = re.compile(r"`(?:\./)?((?:tests|examples|docs|bench|completions|tools|crates|[a-z_]+/(?:specs|src|proofs))/[\w./-]*)`")
+PATH = re.compile(r"`(?:\./)?((?:tests|examples|docs|bench|completions|packaging|tools|crates|[a-z_]+/(?:specs|src|proofs))/[\w./-]*)`")
 
 
 def anchors(text):

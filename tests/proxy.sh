@@ -1,17 +1,17 @@
 #!/usr/bin/env bash
-# The servers of docs/operations.md, with the configuration as the page has it: nginx asks for a client certificate and names its
-# holder as the user. First socat gives each connection to a process of its own, and then `hkms serve` has all of them. No client
-# can name another user, in neither service.
+# nginx by packaging/nginx/hkms.conf, which asks for a client certificate and names its holder as the user. First socat gives each
+# connection to a process of its own, by packaging/pipe/hkms-connection, and then `hkms serve` has all of them. No client can name
+# another user, in neither service.
 set -u
 . "$(dirname "${BASH_SOURCE[0]}")/room.bash"
 for tool in nginx socat openssl curl flock python3; do
     command -v "$tool" >/dev/null || { echo "tests/proxy.sh: skipped, the command $tool is not here"; exit 0; }
 done
 
-# The block of the page that begins with this line, with the paths of this folder.
-block() {
-    awk -v first="    $1" '$0 == first { inside = 1 } inside && /^[^ ]/ { exit } inside { print substr($0, 5) }' docs/operations.md |
-        sed "s#/run/hkms#$room#; s#/etc/hkms#$room#; s#/var/lib/hkms#$room/data#; s#listen 9643#listen unix:$room/tls.sock#; s#/usr/local/bin/hkms#$hkms#"
+# A file of packaging/, with the paths of this folder.
+here() {
+    sed "s#/run/hkms#$room#; s#/etc/hkms#$room#; s#/var/lib/hkms#$room/data#; s#listen 9643#listen unix:$room/tls.sock#; s#/usr/local/bin/hkms#$hkms#" \
+        "packaging/$1"
 }
 
 # certificate NAME SUBJECT: makes NAME.key and NAME.pem, by the authority of this folder.
@@ -36,16 +36,16 @@ certificate server /O=Example/CN=localhost && certificate alice /O=Example/CN=al
 certificate odd '/O=Example/CN=alice&user.name=bob' && certificate other /O=Other/CN=alice || exit 1
 certificate hdfs /O=Example/CN=hdfs || exit 1
 
-block '#!/bin/sh' >"$room/connection"
+here pipe/hkms-connection >"$room/connection"
 chmod 700 "$room/connection"
 {
     [ "$(id -u)" -ne 0 ] || echo 'user root;'
     printf 'daemon off;\npid %s/nginx.pid;\nerror_log %s/error.log;\nevents {}\nhttp {\naccess_log off;\n' "$room" "$room"
     for kind in client_body proxy fastcgi uwsgi scgi; do echo "${kind}_temp_path $room/$kind;"; done
-    block '# The user is the common name of a certificate of the organization Example, if it is a plain name.'
+    here nginx/hkms.conf
     echo '}'
 } >"$room/nginx.conf"
-same 'both services have a location' 2 "$(grep -c proxy_pass "$room/nginx.conf")"
+same 'both services have a location' 2 "$(grep -c '^ *location .* proxy_pass' "$room/nginx.conf")"
 server=
 nginx=
 trap 'kill $server $nginx 2>/dev/null; wait; rm -rf "$folder" "$quick"' EXIT
@@ -108,7 +108,7 @@ same 'many at once' '20 ["j","k"] 200' "$(for _ in $(seq 20); do { ask alice "$b
 same 'a directory' ' 200' "$(ask alice -X POST "$files/mkdir?path=/d")"
 names_no_other pipe
 
-# The same over a server, as the page says: its port in place of the socket.
+# The same over a server, as docs/operations.md says: its port in place of the socket.
 kill "$server" "$nginx"
 wait
 rm -f "$room/tls.sock"
