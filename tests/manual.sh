@@ -103,7 +103,7 @@ if [ "${1-}" = --write ]; then
 fi
 same 'docs/hkms.1 is not that of the texts of help' "$(page)" "$(cat docs/hkms.1)"
 same 'completions of hkms' "$(names "$("$hkms" --help)" | sort)" "$(completions hkms)"
-same 'the newest version of CHANGELOG.md' "$("$hkms" --version)" "hkms $(sed -n 's/^## \([0-9]\)/\1/p' CHANGELOG.md | head -n 1)"
+same 'the newest version of CHANGELOG.md' "$("$hkms" --version)" "hkms $(sed -n 's/^## \([0-9.]*\)$/\1/p' CHANGELOG.md | head -n 1)"
 for command in $("$hkms" --help | entries Commands: | awk '{ print $1 }'); do
     grep -qx "\\\\fB$command\\\\fR" docs/hkms.1 || { echo "tests/manual.sh: the page lacks $command"; failures=$((failures + 1)); }
     same "completions of hkms $command" "$(names "$("$hkms" "$command" --help)" | sort)" "$(completions hkms "$command")"
