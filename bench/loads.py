@@ -94,6 +94,8 @@ class Load:
 
     def __init__(self, server, request, connections, seconds):
         self.server, self.percentiles = server, None
+        # So that the clients have all places for connections.
+        server.hang_up()
         if request.connection == "close" and has("ab"):
             self.percentiles = tempfile.NamedTemporaryFile(prefix="hkms-serve-")
             words = ab_words(server, request, connections, seconds, self.percentiles.name)

@@ -40,7 +40,7 @@ class Wrong(Exception):
 
 def ask(server, request, status):
     """The body of a response, which must have this status."""
-    got, body = server.ask(request.method, request.target, request.body)
+    got, body = server.ask(request.method, request.target, request.body, request.connection != "close")
     if got != status:
         raise Wrong(f"{request.method} {request.target}: {got} {body}")
     return body
@@ -129,6 +129,7 @@ def check_generated(server, body):
 def check_under_load(server, request, check):
     """Checks some responses while other clients send the same requests. No two responses to `generate` may be the same."""
     with Load(server, request, CLIENTS, 1) as load:
+        time.sleep(0.2)
         bodies = [ask(server, request, 200) for _ in range(SAMPLE)]
         for body in bodies:
             check(server, body)

@@ -38,7 +38,7 @@ class Server:
     """A server that runs until `end`, or to the end of a `with`."""
 
     def __init__(self, command, folder):
-        self.messages = os.path.join(folder, "messages")
+        self.messages, self.asking = os.path.join(folder, "messages"), None
         with open(self.messages, "wb") as messages:
             self.process = subprocess.Popen(command, cwd=folder, stdin=subprocess.DEVNULL, stdout=messages, stderr=messages)
         end = time.monotonic() + PATIENCE
@@ -57,17 +57,28 @@ class Server:
         pid = self.process.pid
         return sum(processor_seconds(it) for it in [pid, *children_of(pid)])
 
-    def ask(self, method, target, body=""):
-        """The status and the body of the response to one request, on a connection of its own."""
-        connection = http.client.HTTPConnection("127.0.0.1", self.port, timeout=PATIENCE)
-        try:
-            connection.request(method, target, body, {"Connection": "close"})
-            response = connection.getresponse()
-            return response.status, response.read().decode()
-        finally:
+    def ask(self, method, target, body="", keeps=True):
+        """The status and the body of a response, on the connection that is kept for this or on one of its own."""
+        connection = self.asking if keeps else None
+        if not connection:
+            connection = http.client.HTTPConnection("127.0.0.1", self.port, timeout=PATIENCE)
+        connection.request(method, target, body, {} if keeps else {"Connection": "close"})
+        response = connection.getresponse()
+        answer = response.status, response.read().decode()
+        if keeps:
+            self.asking = connection
+        else:
             connection.close()
+        return answer
+
+    def hang_up(self):
+        """Closes the connection that is kept."""
+        if self.asking:
+            self.asking.close()
+            self.asking = None
 
     def end(self):
+        self.hang_up()
         self.process.terminate()
         self.process.wait()
 
