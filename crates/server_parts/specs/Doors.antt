@@ -1,4 +1,4 @@
--- How contracts see a door: the connections that it accepted, and those that were left.
+-- How contracts see a door: the port that it listens on, the connections that it accepted, and those that were left.
 use Rattle.std.specs.Prelude.{ℕ, ◌+◌, List, [], ◌∷◌, ◌++◌, Option, None, Some}
 use Rattle.hk_base.specs.declared.ended.Ended.{Ended}
 
@@ -10,6 +10,8 @@ pub record Left (I O : Type 0) : Type 0 where
 
 -- The view of a door in proofs.
 pub record DoorState (I O : Type 0) : Type 0 where
+  -- the port that it was opened on last
+  pub port : Option ℕ
   -- how many connections were accepted, and how many were left
   pub accepted : ℕ
   pub left : ℕ
@@ -22,6 +24,9 @@ pub record DoorState (I O : Type 0) : Type 0 where
 abbrev pub with_more : {A : Type 0} → Option (List A) → List A → Option (List A)
 with_more None more = None
 with_more (Some known) more = Some (known ++ more)
+
+abbrev pub with_port : {I O : Type 0} → DoorState I O → ℕ → DoorState I O
+with_port d port = record d { port = Some port }
 
 abbrev pub with_accepted : {I O : Type 0} → DoorState I O → I × O → DoorState I O
 with_accepted d ends = record d { accepted = d.accepted + 1; came = with_more d.came (ends ∷ []) }

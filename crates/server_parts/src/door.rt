@@ -1,10 +1,19 @@
 //! A door: connections come in here, and are left here when they have ended.
-ghost use Rattle.std.specs.Prelude.{◌≡◌, ◌≤◌, ◌<◌, ℕ, IfOk, OnErr};
+ghost use Rattle.std.specs.Prelude.{◌≡◌, ◌≤◌, ◌<◌, ℕ, IfOk, IfSome, Ok, None, OnErr, OnOk};
 ghost use Rattle.hk_base.specs.Faults.{HasCause};
-ghost use Rattle.server_parts.specs.Doors.{DoorState, with_accepted, with_left};
+ghost use Rattle.server_parts.specs.Doors.{DoorState, with_accepted, with_left, with_port};
 
-use crate::ends::{CloseInput, CloseOutput};
+use crate::ends::{CloseInput, CloseOutput, HangUp};
 use hk_base::{Ended, Failed};
+
+/// A connection that came in.
+#[derive(Drop)]
+pub struct Accepted<I, O, H> {
+    pub input: I,
+    pub out: O,
+    /// A handle on the connection, for those who do not serve it.
+    pub handle: H,
+}
 
 /// Where connections come in, and where each is left when it has ended.
 ///
@@ -17,6 +26,8 @@ pub trait Door {
     type In: CloseInput + Send + Drop;
     /// The output of a connection.
     type Out: CloseOutput + Send + Drop;
+    /// A handle on a connection.
+    type Handle: HangUp + Drop;
 
     /// The connections so far, as proofs see them.
     ghost state: { Self → DoorState Self.In Self.Out };
@@ -26,14 +37,17 @@ pub trait Door {
 
     /// Starts to listen on a port.
     fn open(&mut self, port: u16) -> Result<(), Failed>
-        ensures same { state self.new ≡ state self.old }
+        ensures opened { OnOk result (state self.new ≡ with_port (state self.old) port) }
+        ensures same { OnErr result (state self.new ≡ state self.old) }
         ensures cause { HasCause (faults self.old) (faults self.new) result };
 
-    /// Waits for the next connection. Neither of its ends has counted a fault yet.
-    fn accept(&mut self) -> Result<(Self::In, Self::Out), Failed>
-        ensures some { IfOk result (λ ends. state self.new ≡ with_accepted (state self.old) ends) }
+    /// Waits for the next connection. Neither of its ends has counted a fault yet. Returns `None` if the
+    /// door was told to take no more connections.
+    fn accept(&mut self) -> Result<Option<Accepted<Self::In, Self::Out, Self::Handle>>, Failed>
+        ensures some { IfOk result (λ next. IfSome next (λ came. state self.new ≡ with_accepted (state self.old) (came.input, came.out))) }
+        ensures closed { result ≡ Ok None → state self.new ≡ state self.old }
         ensures none { OnErr result (state self.new ≡ state self.old) }
-        ensures fresh { IfOk result (λ ends. (Self.In.faults ends.0 ≡ 0) × (Self.Out.faults ends.1 ≡ 0)) }
+        ensures fresh { IfOk result (λ next. IfSome next (λ came. (Self.In.faults came.input ≡ 0) × (Self.Out.faults came.out ≡ 0))) }
         ensures cause { HasCause (faults self.old) (faults self.new) result };
 
     /// Takes back both ends of a connection and how it ended. This cannot fail.

@@ -1,4 +1,5 @@
-//! The two ends of a connection, which can be closed while their owner still has them.
+//! The two ends of a connection, which can be closed while their owner still has them, and a handle on
+//! it for others.
 ghost use Rattle.std.specs.Prelude.{◌≡◌};
 
 use hk_base::{Sink, Source};
@@ -19,4 +20,20 @@ pub trait CloseOutput: Sink {
     fn close_output(&mut self)
         ensures written { Self.written self.new ≡ Self.written self.old }
         ensures faults { Self.faults self.new ≡ Self.faults self.old };
+}
+
+/// A handle on a connection, for those who do not serve it. Contracts say nothing about what it does
+/// to the connection.
+pub trait HangUp {
+    /// Tells the connection to end: its input ends once it waits for a request. A request that is being
+    /// read or answered is answered first.
+    fn hang_up(&self);
+
+    /// Returns since when the connection has waited for a request, in milliseconds of a clock that all
+    /// connections of a door share. Returns `None` while a request is read or answered, and after the
+    /// connection ended.
+    fn waits_since(&self) -> Option<u64>;
+
+    /// Returns whether both ends of the connection were closed.
+    fn has_ended(&self) -> bool;
 }

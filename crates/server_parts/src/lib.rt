@@ -6,6 +6,6 @@ mod door;
 mod ends;
 mod yard;
 
-pub use door::Door;
-pub use ends::{CloseInput, CloseOutput};
+pub use door::{Accepted, Door};
+pub use ends::{CloseInput, CloseOutput, HangUp};
 pub use yard::Yard;

@@ -1,5 +1,5 @@
 //! A yard: the disks of both logs lie here while no service has them.
-ghost use Rattle.std.specs.Prelude.{◌≡◌, ◌<◌, ℕ, IfOk, OnErr, IsTrue, IsFalse};
+ghost use Rattle.std.specs.Prelude.{◌≡◌, ◌<◌, ◌↔◌, ℕ, IfOk, OnErr, IsTrue, IsFalse};
 ghost use Rattle.hk_base.specs.Disk.{DiskState};
 ghost use Rattle.hk_base.specs.Faults.{HasCause};
 ghost use Rattle.server_parts.specs.Yards.{YardState, Taken, Given, OnlyFaults};
@@ -26,10 +26,11 @@ pub trait Yard {
         ensures kept { OnErr result (OnlyFaults (state self.old) (state self.new)) }
         ensures cause { HasCause (state self.old).faults (state self.new).faults result };
 
-    /// Gives the disk of a file back. This cannot fail. The yard's count of faults rises exactly if
-    /// the disk has counted a fault.
-    fn give(&mut self, file: u8, own: Self::Own)
+    /// Gives the disk of a file back, and returns whether it has counted a fault. This cannot fail. The
+    /// yard's count of faults rises exactly if the disk has counted one.
+    fn give(&mut self, file: u8, own: Self::Own) -> bool
         requires file { file < 2 }
         requires away { IsFalse ((state self.old).lies file) }
-        ensures { Given file (state self.old) (state self.new) (Self.Own.state own) };
+        ensures given { Given file (state self.old) (state self.new) (Self.Own.state own) }
+        ensures fault { IsTrue result ↔ 0 < (Self.Own.state own).faults };
 }
