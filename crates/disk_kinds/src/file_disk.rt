@@ -2,16 +2,18 @@
 ghost use Rattle.std.specs.Prelude.{◌≡◌, IfOk};
 ghost use Rattle.disk_kinds.specs.Opaque.{opaque};
 
-use crate::log_file::{LockedFile, counted, open_logs};
+use crate::locked_file::{LockedFile, open_logs};
+use crate::log_file::counted;
 use hk_base::{Disk, Failed};
 use std::alloc::Global;
 use std::fs::File;
 use std::io;
-use std::rt::Files;
+use std::rt::{Files, Stderr};
 
-/// The files `keys.log` and `names.log` of a folder. It counts errors, up to 2^64 - 1. It tries a call
-/// that a signal interrupts again, up to 1,000 times in all. Contracts promise nothing about what the
-/// files hold.
+/// The files `keys.log` and `names.log` of a folder. It counts errors, up to 2^64 - 1, and writes one
+/// line to standard error for each failed call, which names the file, the call and the system's error.
+/// It tries a call that a signal interrupts again, up to 1,000 times in all. Contracts promise nothing
+/// about what the files hold.
 ///
 /// The system may drop what a sync could not write. So once a sync of a file has failed, every later
 /// sync of that file fails, until the file is opened again.
@@ -30,15 +32,17 @@ pub struct FileDisk {
 impl FileDisk {
     /// Opens and locks both files of a folder, such as `.`, and creates those that are missing. If
     /// another process or another `FileDisk` of this one holds either file, it fails at once with
-    /// `ErrorKind::WouldBlock` and holds neither. It does not change an existing file.
+    /// `ErrorKind::WouldBlock` and holds neither. It does not change an existing file. It reports later
+    /// failures on `errors`.
     pub fn open<R: Files<File = File>>(
         files: &R,
         alloc: Global,
         folder: &str,
+        errors: Stderr,
     ) -> io::Result<FileDisk>
         ensures { IfOk result (λ disk. disk.faults ≡ 0) }
     {
-        let (keys, names) = open_logs(files, alloc, folder)?;
+        let (keys, names) = open_logs(files, alloc, folder, errors)?;
         Ok(FileDisk {
             keys,
             names,

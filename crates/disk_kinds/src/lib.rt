@@ -3,8 +3,11 @@
 #![tactic(auto)]
 
 mod adapters;
+mod alarm;
 mod calls;
+mod file_calls;
 mod file_disk;
+mod locked_file;
 mod log_file;
 mod mem_disk;
 mod mem_sink;
@@ -14,6 +17,7 @@ mod plain_disk;
 mod words;
 
 pub use adapters::{FileSource, Reading, WallClock, Writing, open_source};
+pub use alarm::Alarm;
 pub use calls::CallPlan;
 pub use file_disk::FileDisk;
 pub use log_file::LogFile;

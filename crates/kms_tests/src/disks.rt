@@ -4,10 +4,14 @@ use hk_base::{Disk, Failed, LONGEST_FILE};
 use std::fs::{self, File};
 use std::io::ErrorKind;
 use std::process::Abort;
-use std::rt::Files;
+use std::rt::{Files, Stderr};
 
-fn open(rt: &(impl Abort + AllocGlobal + Files<File = File>), folder: &str) -> FileDisk {
-    FileDisk::open(rt, rt.alloc(), folder).expect(rt, "a disk")
+fn open(
+    rt: &(impl Abort + AllocGlobal + Files<File = File>),
+    folder: &str,
+    errors: Stderr,
+) -> FileDisk {
+    FileDisk::open(rt, rt.alloc(), folder, errors).expect(rt, "a disk")
 }
 
 fn write(rt: &impl Abort, disk: &mut FileDisk, file: u8, at: u64, bytes: &[u8]) {
@@ -44,58 +48,62 @@ fn check_limit(rt: &impl Abort, disk: &mut FileDisk) {
     assert_eq!(rt; disk.faults, 1);
 }
 
-fn fill_and_read(rt: &(impl Abort + AllocGlobal + Files<File = File>)) {
-    let mut disk = open(rt, "disk");
+fn fill_and_read(rt: &(impl Abort + AllocGlobal + Files<File = File>), errors: Stderr) {
+    let mut disk = open(rt, "disk", errors);
     fill(rt, &mut disk);
     check_read(rt, &mut disk);
 }
 
-fn open_again(rt: &(impl Abort + AllocGlobal + Files<File = File>)) {
-    let mut disk = open(rt, "disk");
+fn open_again(rt: &(impl Abort + AllocGlobal + Files<File = File>), errors: Stderr) {
+    let mut disk = open(rt, "disk", errors);
     check_limit(rt, &mut disk);
 }
 
 #[test]
 fn real_files_keep_what_is_written(rt: HostRuntime) {
     fs::create_dir(&rt, "disk").expect(&rt, "a folder");
-    fill_and_read(&rt);
+    fill_and_read(&rt, rt.stderr());
     check_file(&rt, "disk/keys.log", b"abCDef");
     check_file(&rt, "disk/names.log", b"name");
-    open_again(&rt);
+    open_again(&rt, rt.stderr());
     fs::remove_dir_all(&rt, "disk").expect(&rt, "a folder");
 }
 
-fn is_held(rt: &(impl Abort + AllocGlobal + Files<File = File>), folder: &str) -> bool {
-    match FileDisk::open(rt, rt.alloc(), folder) {
+fn is_held(
+    rt: &(impl Abort + AllocGlobal + Files<File = File>),
+    folder: &str,
+    errors: Stderr,
+) -> bool {
+    match FileDisk::open(rt, rt.alloc(), folder, errors) {
         Ok(_) => false,
         Err(error) => error.kind() == ErrorKind::WouldBlock,
     }
 }
 
 /// While a disk lives no other opens its files.
-fn check_held(rt: &(impl Abort + AllocGlobal + Files<File = File>)) {
-    let mut disk = open(rt, "held");
+fn check_held(rt: &(impl Abort + AllocGlobal + Files<File = File>), errors: Stderr) {
+    let mut disk = open(rt, "held", errors);
     write(rt, &mut disk, 0, 0, b"abc");
-    assert!(rt; is_held(rt, "held"));
-    assert!(rt; is_held(rt, "held"));
+    assert!(rt; is_held(rt, "held", errors));
+    assert!(rt; is_held(rt, "held", errors));
     assert_eq!(rt; disk.len(0), Ok(3));
 }
 
 /// A lock on either file keeps both from being opened.
-fn check_held_by(rt: &(impl Abort + AllocGlobal + Files<File = File>), path: &str) {
+fn check_held_by(rt: &(impl Abort + AllocGlobal + Files<File = File>), path: &str, errors: Stderr) {
     let file = File::open(rt, path).expect(rt, "a file");
     file.lock().expect(rt, "a lock");
-    assert!(rt; is_held(rt, "held"));
+    assert!(rt; is_held(rt, "held", errors));
     file.unlock().expect(rt, "a lock");
-    assert!(rt; !is_held(rt, "held"));
+    assert!(rt; !is_held(rt, "held", errors));
 }
 
 #[test]
 fn real_files_are_held(rt: HostRuntime) {
     fs::create_dir(&rt, "held").expect(&rt, "a folder");
-    check_held(&rt);
-    check_held_by(&rt, "held/names.log");
-    check_held_by(&rt, "held/keys.log");
+    check_held(&rt, rt.stderr());
+    check_held_by(&rt, "held/names.log", rt.stderr());
+    check_held_by(&rt, "held/keys.log", rt.stderr());
     check_file(&rt, "held/keys.log", b"abc");
     fs::remove_dir_all(&rt, "held").expect(&rt, "a folder");
 }

@@ -1,5 +1,5 @@
 use Rattle.std.proofs.Common.{length, ◌-◌, ◌≤◌}
-use Rattle.disk_kinds.proofs.log_file.write_all.Given as goal
+use Rattle.disk_kinds.proofs.file_calls.write_all.Given as goal
 
 abbrev pub invariant-loop-done : goal.invariant-loop-done
 invariant-loop-done l = l.done ≤ length l.bytes

@@ -1,6 +1,6 @@
 use Rattle.std.proofs.Common.{length, drop, take, ap, ◌∙◌, arith, length-append}
 use Rattle.disk_kinds.proofs.Rests.{rest_kept}
-use Rattle.disk_kinds.proofs.log_file.read_all.Goals as goal
+use Rattle.disk_kinds.proofs.file_calls.read_all.Goals as goal
 
 pub loop-done-preserved : goal.loop-done-preserved
 loop-done-preserved c =
