@@ -5,6 +5,7 @@ mod visits;
 
 use disk_kinds::{CallPlan, MemSink, MemSource};
 use hk_base::Ended;
+use server_parts::HangUp;
 use std::alloc::Global;
 use std::collections::VecDeque;
 use std::snapshot::Snapshot;
@@ -30,11 +31,16 @@ pub struct MemLeft {
     pub ended: Ended,
 }
 
+/// A handle on a connection in memory, which waits for nothing and is never told to end.
+#[derive(Drop)]
+pub struct MemHandle;
+
 /// A door for a list of clients, one after another, with a plan of the calls that fail: of `open` and
 /// `accept`, counted together. It keeps each connection that was left.
 #[derive(Drop)]
 pub struct MemDoor {
     alloc: Global,
+    port: Option<u16>,
     clients: VecDeque<MemClient>,
     came: Vec<Snapshot<(MemSource, MemSink)>>,
     gone: Vec<MemLeft>,
@@ -43,4 +49,17 @@ pub struct MemDoor {
     ghost order: { length gone.items ≤ length came.items },
     ghost came_room: { length came.items + length clients.items ≤ vec_capacity came },
     ghost gone_room: { length came.items + length clients.items ≤ vec_capacity gone },
+}
+
+/// Does nothing, and knows nothing of the connection.
+impl HangUp for MemHandle {
+    fn hang_up(&self) {}
+
+    fn waits_since(&self) -> Option<u64> {
+        None
+    }
+
+    fn has_ended(&self) -> bool {
+        false
+    }
 }

@@ -175,12 +175,14 @@ impl Yard for MemYard {
         }
     }
 
-    fn give(&mut self, file: u8, own: MemDisk) {
-        self.faults = count_after_giving(self.faults, own.faults());
+    fn give(&mut self, file: u8, own: MemDisk) -> bool {
+        let faults = own.faults();
+        self.faults = count_after_giving(self.faults, faults);
         if file == 0 {
             self.first = Some(own);
         } else {
             self.second = Some(own);
         }
+        faults > 0
     }
 }

@@ -3,16 +3,23 @@ ghost use Rattle.std.specs.Prelude.{◌≡◌, ◌≤◌, ◌<◌, ◌-◌, ◌^
 ghost use Rattle.door_kinds.specs.Doors.{opaque_door};
 
 use crate::tcp_ends::{TcpSink, TcpSource, ends_of};
+use crate::tcp_link::TcpHandle;
+use disk_kinds::Alarm;
 use hk_base::{Ended, Failed};
-use server_parts::Door;
+use server_parts::{Accepted, Door};
 use std::alloc::Global;
 use std::io::{self, ErrorKind};
 use std::net::{Ipv4Addr, Net, SocketAddr, SocketAddrV4, TcpListener, TcpStream};
+use std::os::fd::OwnedFd;
+use std::sync::Arc;
 use std::thread;
 use std::time::{Clock, Duration};
 
 /// How long to wait before the next accept after one that failed, in milliseconds.
 const PAUSE: u64 = 50;
+
+/// How long an accept waits before the door looks at its alarm, in seconds.
+const LOOK_AFTER: u64 = 1;
 
 /// Linux's numbers of the errors of an accept that leave the listener as it is. They tell of the
 /// connection that was to be accepted: EPERM, ENONET, EPROTO, ENOPROTOOPT, EOPNOTSUPP, ENETDOWN,
@@ -22,10 +29,15 @@ const PASSING: [i32; 15] = [
     1, 64, 71, 92, 95, 100, 101, 103, 112, 113, 4, 12, 23, 24, 105,
 ];
 
-/// A door that listens on a port of 127.0.0.1. A read or a write of a connection fails if it waits
-/// longer than a minute. The two ends of a connection have one descriptor, which is closed once both
-/// ends are. It counts errors, up to 2^64 - 1. Contracts promise nothing about what a peer sends or
-/// receives.
+/// A connection over TCP.
+type TcpConnection<'n, C> = Accepted<TcpSource<'n, C>, TcpSink<'n, C>, TcpHandle>;
+
+/// A door that listens on a port of 127.0.0.1. A read or a write of a connection fails if its peer is
+/// too slow, as [`TcpSource`] and [`TcpSink`] say. The two ends of a connection and its handle have one
+/// descriptor, which is closed once both ends are closed and the handle is dropped. It counts errors,
+/// up to 2^64 - 1. Contracts promise nothing about what a peer sends or receives.
+///
+/// Within a second after its alarm is raised it takes no more connections.
 ///
 /// If the system lacks descriptors or memory for a connection, the door waits and accepts again. It
 /// closes a connection that it can't set up, and accepts the next one. An accept fails if the listener
@@ -34,6 +46,9 @@ const PASSING: [i32; 15] = [
 pub struct TcpDoor<'n, N: Net<Listener = TcpListener, Stream = TcpStream> + Clock + Sync> {
     net: &'n N,
     alloc: Global,
+    alarm: Arc<Alarm, Global>,
+    /// The port that it was opened on last.
+    port: Option<u16>,
     listener: Option<TcpListener>,
     accepted: u64,
     left: u64,
@@ -49,17 +64,33 @@ fn is_passing(error: &io::Error) -> bool {
     }
 }
 
+/// Listens on a port of 127.0.0.1.
+fn listen<N: Net<Listener = TcpListener, Stream = TcpStream>>(
+    net: &N,
+    port: u16,
+) -> io::Result<TcpListener> {
+    let addr = SocketAddr::V4(SocketAddrV4::new(Ipv4Addr::LOCALHOST, port));
+    let listener = TcpListener::bind(net, addr)?;
+    // An accept waits as long as a read may, and only a stream has a method that sets it.
+    let socket = TcpStream::from(OwnedFd::from(listener.try_clone()?));
+    socket.set_read_timeout(Some(Duration::from_secs(LOOK_AFTER)))?;
+    Ok(listener)
+}
+
 /// Accepts a connection. Returns `None`, after a pause or at once, if the next try may succeed.
 fn try_accept<'n, C: Clock>(
     clock: &'n C,
     alloc: Global,
     listener: &TcpListener,
-) -> io::Result<Option<(TcpSource<'n, C>, TcpSink)>>
-    ensures { IfOk result (λ ends. IfSome ends (λ ends. (ends.0.reading.faults ≡ 0) × (ends.1.writing.faults ≡ 0))) }
+) -> io::Result<Option<TcpConnection<'n, C>>>
+    ensures { IfOk result (λ next. IfSome next (λ came. (came.input.reading.faults ≡ 0) × (came.out.writing.faults ≡ 0))) }
 {
     match listener.accept() {
         Ok((stream, _)) => Ok(ends_of(clock, alloc, stream)),
         Err(error) => {
+            if error.kind() == ErrorKind::WouldBlock {
+                return Ok(None);
+            }
             if !is_passing(&error) {
                 return Err(error);
             }
@@ -69,31 +100,52 @@ fn try_accept<'n, C: Clock>(
     }
 }
 
-/// Accepts connections until one is set up.
+/// Accepts connections until one is set up. Returns `None` once the alarm is raised.
 fn accept_ends<'n, C: Clock>(
     clock: &'n C,
     alloc: Global,
     listener: &TcpListener,
-) -> io::Result<(TcpSource<'n, C>, TcpSink)>
-    ensures { IfOk result (λ ends. (ends.0.reading.faults ≡ 0) × (ends.1.writing.faults ≡ 0)) }
+    alarm: &Alarm,
+) -> io::Result<Option<TcpConnection<'n, C>>>
+    ensures { IfOk result (λ next. IfSome next (λ came. (came.input.reading.faults ≡ 0) × (came.out.writing.faults ≡ 0))) }
 {
     for _ in 0..u64::MAX {
-        if let Some(ends) = try_accept(clock, alloc, listener)? {
-            return Ok(ends);
+        if alarm.is_raised() {
+            return Ok(None);
+        }
+        if let Some(came) = try_accept(clock, alloc, listener)? {
+            return Ok(unless_raised(alarm, came));
         }
     }
     Err(io::Error::from(ErrorKind::TimedOut))
 }
 
-/// Accepts a connection if the door listens and its count has room.
+/// Closes a connection if the alarm was raised before it came, or while it was set up.
+fn unless_raised<'n, C: Clock>(
+    alarm: &Alarm,
+    came: TcpConnection<'n, C>,
+) -> Option<TcpConnection<'n, C>>
+    requires { (came.input.reading.faults ≡ 0) × (came.out.writing.faults ≡ 0) }
+    ensures { IfSome result (λ came. (came.input.reading.faults ≡ 0) × (came.out.writing.faults ≡ 0)) }
+{
+    if alarm.is_raised() {
+        drop(came);
+        return None;
+    }
+    Some(came)
+}
+
+/// Accepts a connection if the door listens and its count has room. Returns `None` once the alarm is
+/// raised.
 fn next_ends<'n, C: Clock>(
     clock: &'n C,
     alloc: Global,
     listener: &Option<TcpListener>,
+    alarm: &Alarm,
     accepted: u64,
-) -> Result<(TcpSource<'n, C>, TcpSink), Failed>
+) -> Result<Option<TcpConnection<'n, C>>, Failed>
     ensures room { OnOk result (accepted < 2 ^ 64 - 1) }
-    ensures fresh { IfOk result (λ ends. (ends.0.reading.faults ≡ 0) × (ends.1.writing.faults ≡ 0)) }
+    ensures fresh { IfOk result (λ next. IfSome next (λ came. (came.input.reading.faults ≡ 0) × (came.out.writing.faults ≡ 0))) }
 {
     let Some(listener) = listener else {
         return Err(Failed);
@@ -101,20 +153,22 @@ fn next_ends<'n, C: Clock>(
     if accepted == u64::MAX {
         return Err(Failed);
     }
-    match accept_ends(clock, alloc, listener) {
-        Ok(ends) => Ok(ends),
+    match accept_ends(clock, alloc, listener, alarm) {
+        Ok(next) => Ok(next),
         Err(_) => Err(Failed),
     }
 }
 
 impl<'n, N: Net<Listener = TcpListener, Stream = TcpStream> + Clock + Sync> TcpDoor<'n, N> {
     /// Creates a door that doesn't listen yet. Opening port 0 takes a free port.
-    pub fn new(net: &'n N, alloc: Global) -> TcpDoor<'n, N>
+    pub fn new(net: &'n N, alloc: Global, alarm: Arc<Alarm, Global>) -> TcpDoor<'n, N>
         ensures faults { result.faults ≡ 0 }
     {
         TcpDoor {
             net,
             alloc,
+            alarm,
+            port: None,
             listener: None,
             accepted: 0,
             left: 0,
@@ -122,7 +176,7 @@ impl<'n, N: Net<Listener = TcpListener, Stream = TcpStream> + Clock + Sync> TcpD
         }
     }
 
-    /// Returns the port that the door listens on.
+    /// Returns the port that the door listens on, which is a free one if it was opened on port 0.
     pub fn port(&self) -> Option<u16> {
         let listener = self.listener.as_ref()?;
         Some(listener.local_addr().ok()?.port())
@@ -133,19 +187,21 @@ impl<'n, N: Net<Listener = TcpListener, Stream = TcpStream> + Clock + Sync> Door
     for TcpDoor<'n, N> {
     type In = TcpSource<'n, N>;
 
-    type Out = TcpSink;
+    type Out = TcpSink<'n, N>;
 
-    ghost state = { λ d. opaque_door d.accepted d.left };
+    type Handle = TcpHandle;
+
+    ghost state = { λ d. opaque_door d.port d.accepted d.left };
 
     ghost faults = { λ d. d.faults };
 
     ghost no_more_left = { λ d. d.order };
 
     fn open(&mut self, port: u16) -> Result<(), Failed> {
-        let addr = SocketAddr::V4(SocketAddrV4::new(Ipv4Addr::LOCALHOST, port));
-        match TcpListener::bind(self.net, addr) {
+        match listen(self.net, port) {
             Ok(listener) => {
                 self.listener = Some(listener);
+                self.port = Some(port);
                 Ok(())
             }
             Err(_) => {
@@ -155,12 +211,19 @@ impl<'n, N: Net<Listener = TcpListener, Stream = TcpStream> + Clock + Sync> Door
         }
     }
 
-    fn accept(&mut self) -> Result<(TcpSource<'n, N>, TcpSink), Failed> {
-        match next_ends(self.net, self.alloc, &self.listener, self.accepted) {
-            Ok(ends) => {
+    fn accept(&mut self) -> Result<Option<TcpConnection<'n, N>>, Failed> {
+        match next_ends(
+            self.net,
+            self.alloc,
+            &self.listener,
+            &self.alarm,
+            self.accepted,
+        ) {
+            Ok(Some(came)) => {
                 self.accepted += 1;
-                Ok(ends)
+                Ok(Some(came))
             }
+            Ok(None) => Ok(None),
             Err(_) => {
                 self.faults = self.faults.saturating_add(1);
                 Err(Failed)
@@ -168,8 +231,8 @@ impl<'n, N: Net<Listener = TcpListener, Stream = TcpStream> + Clock + Sync> Door
         }
     }
 
-    fn leave(&mut self, _input: TcpSource<'n, N>, _out: TcpSink, _ended: Ended) {
-        // Dropping both ends closes the connection.
+    fn leave(&mut self, _input: TcpSource<'n, N>, _out: TcpSink<'n, N>, _ended: Ended) {
+        // Dropping both ends closes them.
         self.left += 1;
     }
 }

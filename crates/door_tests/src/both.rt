@@ -17,19 +17,20 @@ pub fn take_both<Y: Yard>(yard: &mut Y) -> Result<(Y::Own, Y::Own), Failed>
     match yard.take(1) {
         Ok(names) => Ok((keys, names)),
         Err(failed) => {
-            yard.give(0, keys);
+            let _ = yard.give(0, keys);
             Err(failed)
         }
     }
 }
 
-/// Gives both disks back.
-pub fn give_both<Y: Yard>(yard: &mut Y, keys: Y::Own, names: Y::Own)
+/// Gives both disks back, and returns whether each has counted a fault.
+pub fn give_both<Y: Yard>(yard: &mut Y, keys: Y::Own, names: Y::Own) -> (bool, bool)
     requires keys { IsFalse ((Y.state yard.old).lies 0) }
     requires names { IsFalse ((Y.state yard.old).lies 1) }
     ensures keys { IsTrue ((Y.state yard.new).lies 0) }
     ensures names { IsTrue ((Y.state yard.new).lies 1) }
 {
-    yard.give(0, keys);
-    yard.give(1, names);
+    let keys_failed = yard.give(0, keys);
+    let names_failed = yard.give(1, names);
+    (keys_failed, names_failed)
 }

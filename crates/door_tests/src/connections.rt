@@ -1,11 +1,14 @@
 //! A door over TCP.
-use door_kinds::TcpDoor;
+use crate::alarms::new_alarm;
+use door_kinds::{TcpDoor, TcpHandle, TcpSink, TcpSource};
 use hk_base::{Ended, Failed, Sink, Source};
-use server_parts::{CloseInput, CloseOutput, Door};
+use server_parts::{Accepted, CloseInput, CloseOutput, Door, HangUp};
 use std::io::{Read, Write};
 use std::net::{Net, TcpListener, TcpStream};
 use std::process::Abort;
-use std::time::Clock;
+use std::sync::Arc;
+use std::thread;
+use std::time::{Clock, Duration};
 
 /// Connects to the door and sends four bytes.
 fn call<N: Net<Listener = TcpListener, Stream = TcpStream> + Abort>(
@@ -17,15 +20,35 @@ fn call<N: Net<Listener = TcpListener, Stream = TcpStream> + Abort>(
     stream
 }
 
+/// Accepts the next connection.
+fn accept<'n, N: Net<Listener = TcpListener, Stream = TcpStream> + Clock + Sync + Abort>(
+    rt: &'n N,
+    door: &mut TcpDoor<'n, N>,
+) -> Accepted<TcpSource<'n, N>, TcpSink<'n, N>, TcpHandle> {
+    match door.accept() {
+        Ok(Some(came)) => came,
+        _ => rt.abort(),
+    }
+}
+
+/// Reads the next four bytes.
+fn check_read<C: Clock>(rt: &impl Abort, input: &mut TcpSource<'_, C>, bytes: &[u8]) {
+    let mut piece = [0u8; 4];
+    assert_eq!(rt; input.read(&mut piece), Ok(4));
+    assert_eq!(rt; piece.as_slice(), bytes);
+}
+
 /// Accepts the connection, reads what was sent, answers and closes it.
 fn answer<N: Net<Listener = TcpListener, Stream = TcpStream> + Clock + Sync + Abort>(
     rt: &N,
     door: &mut TcpDoor<N>,
 ) {
-    let (mut input, mut out) = door.accept().expect(rt, "a connection");
-    let mut piece = [0u8; 4];
-    assert_eq!(rt; input.read(&mut piece), Ok(4));
-    assert_eq!(rt; piece.as_slice(), b"ping".as_slice());
+    let Accepted {
+        mut input,
+        mut out,
+        ..
+    } = accept(rt, door);
+    check_read(rt, &mut input, b"ping");
     assert_eq!(rt; out.write(b"pong"), Ok(4));
     door.leave(input, out, Ended::Closed);
 }
@@ -40,7 +63,7 @@ fn check_answer(rt: &impl Abort, mut stream: TcpStream) {
 
 #[test]
 fn a_client_is_answered_over_tcp(rt: HostRuntime) {
-    let mut door = TcpDoor::new(&rt, rt.alloc());
+    let mut door = TcpDoor::new(&rt, rt.alloc(), new_alarm(&rt));
     assert_eq!(&rt; door.open(0), Ok(()));
     let port = door.port().expect(&rt, "a port");
     let stream = call(&rt, port);
@@ -51,28 +74,143 @@ fn a_client_is_answered_over_tcp(rt: HostRuntime) {
 /// A door that does not listen accepts nothing, and two doors can't have one port.
 #[test]
 fn a_port_is_opened_once(rt: HostRuntime) {
-    let mut door = TcpDoor::new(&rt, rt.alloc());
+    let mut door = TcpDoor::new(&rt, rt.alloc(), new_alarm(&rt));
     assert!(&rt; door.accept().is_err());
     assert_eq!(&rt; door.open(0), Ok(()));
-    let mut other = TcpDoor::new(&rt, rt.alloc());
+    let mut other = TcpDoor::new(&rt, rt.alloc(), new_alarm(&rt));
     let port = door.port().expect(&rt, "a port");
     assert_eq!(&rt; other.open(port), Err(Failed));
     assert_eq!(&rt; other.faults, 1);
 }
 
 /// A client that is still sending finds the end of its connection once both ends are closed, before the
-/// connection is left.
+/// connection is left. The handle sees the end too.
 #[test]
 fn a_closed_connection_ends_for_its_client(rt: HostRuntime) {
-    let mut door = TcpDoor::new(&rt, rt.alloc());
+    let mut door = TcpDoor::new(&rt, rt.alloc(), new_alarm(&rt));
     assert_eq!(&rt; door.open(0), Ok(()));
     let port = door.port().expect(&rt, "a port");
     let stream = call(&rt, port);
-    let (mut input, mut out) = door.accept().expect(&rt, "a connection");
+    let Accepted {
+        mut input,
+        mut out,
+        handle,
+    } = accept(&rt, &mut door);
     assert_eq!(&rt; out.write(b"pong"), Ok(4));
     out.close_output();
+    assert!(&rt; !handle.has_ended());
     input.close_input();
+    assert!(&rt; handle.has_ended());
     assert!(&rt; out.write(b"more").is_err());
     check_answer(&rt, stream);
     door.leave(input, out, Ended::Wire);
+}
+
+/// A connection that is told to end in the middle of a request reads and answers it, and then ends.
+#[test]
+fn a_request_is_answered_before_the_end(rt: HostRuntime) {
+    let mut door = TcpDoor::new(&rt, rt.alloc(), new_alarm(&rt));
+    assert_eq!(&rt; door.open(0), Ok(()));
+    let port = door.port().expect(&rt, "a port");
+    let mut stream = call(&rt, port);
+    let Accepted {
+        mut input,
+        mut out,
+        handle,
+    } = accept(&rt, &mut door);
+    check_read(&rt, &mut input, b"ping");
+    handle.hang_up();
+    stream.write_all(b"more").expect(&rt, "a write");
+    check_read(&rt, &mut input, b"more");
+    assert_eq!(&rt; out.write(b"pong"), Ok(4));
+    assert_eq!(&rt; input.read(&mut [0u8; 4]), Ok(0));
+    door.leave(input, out, Ended::End);
+    drop(handle);
+    check_answer(&rt, stream);
+}
+
+/// How often a wait looks again, a millisecond later each time.
+const LOOKS: u32 = 20_000;
+
+/// Tells a connection to end once it waits. Returns `false` if it did not wait in time.
+fn hang_up_waiting<C: Clock>(clock: &C, handle: &TcpHandle) -> bool {
+    for _ in 0..LOOKS {
+        if handle.waits_since().is_some() {
+            handle.hang_up();
+            return true;
+        }
+        thread::sleep(clock, Duration::from_millis(1));
+    }
+    false
+}
+
+/// Answers a request, and waits for the next one until it is told to end.
+fn wait_until_told<C: Clock>(
+    rt: &impl Abort,
+    input: &mut TcpSource<'_, C>,
+    out: &mut TcpSink<'_, C>,
+) {
+    check_read(rt, input, b"ping");
+    assert_eq!(rt; out.write(b"pong"), Ok(4));
+    assert_eq!(rt; input.read(&mut [0u8; 4]), Ok(0));
+}
+
+/// A connection that waits for a request ends at once when it is told to.
+#[test]
+fn a_waiting_connection_is_told_to_end(rt: HostRuntime) {
+    let mut door = TcpDoor::new(&rt, rt.alloc(), new_alarm(&rt));
+    assert_eq!(&rt; door.open(0), Ok(()));
+    let port = door.port().expect(&rt, "a port");
+    let stream = call(&rt, port);
+    let Accepted {
+        mut input,
+        mut out,
+        handle,
+    } = accept(&rt, &mut door);
+    let (told, _) = thread::join(
+        &rt,
+        || hang_up_waiting(&rt, &handle),
+        || wait_until_told(&rt, &mut input, &mut out),
+    );
+    assert!(&rt; told);
+    assert!(&rt; handle.waits_since().is_none());
+    door.leave(input, out, Ended::End);
+    assert!(&rt; handle.has_ended());
+    drop(handle);
+    check_answer(&rt, stream);
+}
+
+/// A door takes no connection once its alarm is raised, though a client waits.
+#[test]
+fn a_raised_alarm_closes_the_door(rt: HostRuntime) {
+    let alarm = new_alarm(&rt);
+    let mut door = TcpDoor::new(
+        &rt,
+        rt.alloc(),
+        Arc::try_clone(&alarm).expect(&rt, "memory"),
+    );
+    assert_eq!(&rt; door.open(0), Ok(()));
+    let port = door.port().expect(&rt, "a port");
+    let _stream = call(&rt, port);
+    alarm.raise();
+    assert!(&rt; matches!(door.accept(), Ok(None)));
+    assert_eq!(&rt; door.faults, 0);
+}
+
+/// A door that waits looks at its alarm.
+#[test]
+fn a_waiting_door_is_closed(rt: HostRuntime) {
+    let alarm = new_alarm(&rt);
+    let mut door = TcpDoor::new(
+        &rt,
+        rt.alloc(),
+        Arc::try_clone(&alarm).expect(&rt, "memory"),
+    );
+    assert_eq!(&rt; door.open(0), Ok(()));
+    let raise = || {
+        thread::sleep(&rt, Duration::from_millis(100));
+        alarm.raise();
+    };
+    let (_, closed) = thread::join(&rt, raise, || matches!(door.accept(), Ok(None)));
+    assert!(&rt; closed);
 }

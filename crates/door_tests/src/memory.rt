@@ -7,7 +7,7 @@ use crate::both::{give_both, take_both};
 use disk_kinds::MemDisk;
 use door_kinds::{MemClient, MemDoor, MemFile, MemYard};
 use hk_base::{Disk, Ended, Failed, Sink, Source};
-use server_parts::Door;
+use server_parts::{Accepted, Door, HangUp};
 use std::collections::VecDeque;
 use std::process::Abort;
 
@@ -36,11 +36,23 @@ fn serve_one(rt: &impl Abort, door: &mut MemDoor, sends: &[u8])
     requires { (mem_door_state door.old).left ≤ (mem_door_state door.old).accepted }
     ensures { (mem_door_state door.new).left ≤ (mem_door_state door.new).accepted }
 {
-    let (mut input, mut out) = door.accept().expect(rt, "a connection");
+    let Ok(
+        Some(
+            Accepted {
+                mut input,
+                mut out,
+                handle,
+            },
+        ),
+    ) = door.accept()
+    else {
+        rt.abort()
+    };
     let mut piece = [0u8; 4];
     assert_eq!(rt; input.read(&mut piece), Ok(4));
     assert_eq!(rt; piece.as_slice(), sends);
     assert_eq!(rt; out.write(b"yes"), Ok(3));
+    assert!(rt; !handle.has_ended() && handle.waits_since().is_none());
     door.leave(input, out, Ended::End);
 }
 
@@ -111,7 +123,7 @@ fn use_both(rt: &impl Abort, yard: &mut MemYard)
         rt.abort()
     };
     use_keys(rt, &mut keys);
-    give_both(yard, keys, names);
+    assert_eq!(rt; give_both(yard, keys, names), (true, false));
     assert_eq!(rt; yard.faults(), 1);
 }
 

@@ -1,15 +1,15 @@
 //! The calls of a door in memory.
-ghost use Rattle.std.specs.Prelude.{◌≡◌, ◌≤◌, ◌<◌, [], ◌∷◌, map, Some, IfOk, OnErr};
+ghost use Rattle.std.specs.Prelude.{◌≡◌, ◌≤◌, ◌<◌, [], ◌∷◌, map, Some, None, Ok, IfOk, IfSome, IsSome, OnOk, OnErr};
 ghost use Rattle.std.proofs.Common.{arith};
 ghost use Rattle.std.proofs.lemmas.List.{length-map};
 ghost use Rattle.hk_base.specs.Faults.{HasCause, Rose};
-ghost use Rattle.server_parts.specs.Doors.{with_accepted};
+ghost use Rattle.server_parts.specs.Doors.{with_accepted, with_port};
 ghost use Rattle.door_kinds.specs.Doors.{came_of, left_of, mem_door_faults, mem_door_state, to_come, known_door};
 
-use super::{MemClient, MemDoor, MemLeft};
+use super::{MemClient, MemDoor, MemHandle, MemLeft};
 use disk_kinds::{CallPlan, MemSink, MemSource};
 use hk_base::{Ended, Failed};
-use server_parts::Door;
+use server_parts::{Accepted, Door};
 use std::alloc::{AllocError, Global};
 use std::collections::VecDeque;
 use std::snapshot::Snapshot;
@@ -36,12 +36,13 @@ impl MemDoor {
         clients: VecDeque<MemClient>,
         failing: Vec<u64>,
     ) -> Result<MemDoor, AllocError>
-        ensures state { IfOk result (λ door. mem_door_state door ≡ known_door [] []) }
+        ensures state { IfOk result (λ door. mem_door_state door ≡ known_door None [] []) }
         ensures faults { IfOk result (λ door. mem_door_faults door ≡ 0) }
         ensures clients { IfOk result (λ door. to_come door ≡ map (λ (c : MemClient). c.sends.items) clients.items) }
     {
         Ok(MemDoor {
             alloc,
+            port: None,
             came: Vec::with_capacity(alloc, clients.len())?,
             gone: Vec::with_capacity(alloc, clients.len())?,
             clients,
@@ -52,7 +53,7 @@ impl MemDoor {
 
     /// Creates a door at which nobody comes.
     pub fn closed(alloc: Global) -> Result<MemDoor, AllocError>
-        ensures { IfOk result (λ door. mem_door_state door ≡ known_door [] []) }
+        ensures { IfOk result (λ door. mem_door_state door ≡ known_door None [] []) }
     {
         MemDoor::new(alloc, VecDeque::new(alloc), Vec::new(alloc))
     }
@@ -108,28 +109,39 @@ impl Door for MemDoor {
 
     type Out = MemSink;
 
+    type Handle = MemHandle;
+
     ghost state = { mem_door_state };
 
     ghost faults = { mem_door_faults };
 
     ghost no_more_left = { λ d. Prim.omega (arith, d.order, length-map d.gone.items left_of, length-map d.came.items came_of) };
 
-    fn open(&mut self, _port: u16) -> Result<(), Failed> {
+    fn open(&mut self, port: u16) -> Result<(), Failed> {
         match self.plan.call() {
-            Ok(()) => Ok(()),
+            Ok(()) => {
+                self.port = Some(port);
+                Ok(())
+            }
             Err(_) => Err(self.fault()),
         }
     }
 
-    fn accept(&mut self) -> Result<(MemSource, MemSink), Failed>
-        ensures some { IfOk result (λ ends. mem_door_state self.new ≡ with_accepted (mem_door_state self.old) ends) }
+    fn accept(&mut self) -> Result<Option<Accepted<MemSource, MemSink, MemHandle>>, Failed>
+        ensures some { IfOk result (λ next. IfSome next (λ came. mem_door_state self.new ≡ with_accepted (mem_door_state self.old) (came.input, came.out))) }
+        ensures closed { result ≡ Ok None → mem_door_state self.new ≡ mem_door_state self.old }
         ensures none { OnErr result (mem_door_state self.new ≡ mem_door_state self.old) }
-        ensures fresh { IfOk result (λ ends. (ends.0.plan.faults ≡ 0) × (ends.1.plan.faults ≡ 0)) }
+        ensures fresh { IfOk result (λ next. IfSome next (λ came. (came.input.plan.faults ≡ 0) × (came.out.plan.faults ≡ 0))) }
         ensures cause { HasCause (mem_door_faults self.old) (mem_door_faults self.new) result }
-        ensures client { IfOk result (λ ends. to_come self.old ≡ ends.0.left ∷ to_come self.new) }
+        ensures never_closed { IfOk result (λ next. IsSome next) }
+        ensures client { IfOk result (λ next. IfSome next (λ came. to_come self.old ≡ came.input.left ∷ to_come self.new)) }
     {
         match self.next() {
-            Ok(ends) => Ok(ends),
+            Ok((input, out)) => Ok(Some(Accepted {
+                input,
+                out,
+                handle: MemHandle,
+            })),
             Err(_) => Err(self.fault()),
         }
     }
