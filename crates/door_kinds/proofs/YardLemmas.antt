@@ -1,8 +1,7 @@
 -- Disks in memory that lie in a yard, or are taken and given back.
-use Rattle.std.proofs.Common.{◌≡◌, ◌<◌, ◌≤◌, sym, List, ℕ, inl, inr, refl, ap, subst, Option, None, Some, Result, Ok, Err, IfOk, OnOk}
+use Rattle.std.proofs.Common.{◌≡◌, sym, List, ℕ, inl, inr, refl, ap, subst, Option, None, Result, Ok, Err, IfOk, OnOk}
 use Rattle.hk_base.specs.Disk.{Only}
-use Rattle.hk_base.specs.Faults.{Rose}
-use Rattle.server_parts.specs.Yards.{YardState, Taken, Given, OnlyFaults}
+use Rattle.server_parts.specs.Yards.{YardState, Taken, OnlyFaults}
 use Rattle.disk_kinds.specs.declared.mem_disk.MemDisk.{MemDisk}
 use Rattle.disk_kinds.specs.Past.{fresh_file, MayLeave, reads_of, leaves_of, plan_of, state_of}
 use Rattle.door_kinds.specs.Yards.{known_yard, lying}
@@ -42,21 +41,3 @@ second_taken file faults first second second' (Ok own) is gone reads leaves none
       own_leaves = λ telling. leaves;
       own_faults = none;
     }))
-
-pub second_given : (file n n' : ℕ) (first second : Option MemDisk) (own : MemDisk)
-    → 1 ≡ file
-    → n ≤ n'
-    → (0 < (plan_of own).faults → Rose n n')
-    → ((plan_of own).faults ≡ 0 → n' ≡ n)
-    → Given file (known_yard first second n) (known_yard first (Some own) n') (state_of own)
-second_given file n n' first second own is later rose same =
-    subst (λ f. Given f (known_yard first second n) (known_yard first (Some own) n') (state_of own)) is (record {
-      tells = refl;
-      back = refl;
-      other_lies = refl;
-      reads = λ telling. refl;
-      other_reads = λ telling. refl;
-      later = later;
-      rose = rose;
-      same = same;
-    })
