@@ -27,7 +27,7 @@ pub trait Door {
     /// The output of a connection.
     type Out: CloseOutput + Send + Drop;
     /// A handle on a connection.
-    type Handle: HangUp + Drop;
+    type Handle: HangUp + Send + Drop;
 
     /// The connections so far, as proofs see them.
     ghost state: { Self → DoorState Self.In Self.Out };
