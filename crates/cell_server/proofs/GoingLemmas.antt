@@ -125,6 +125,7 @@ module _ {I O D W : Type 0} (serves : Serving I O D W) where
     left = omega arith;
     came = with_none door.came;
     gone = with_none door.gone;
+    port = refl;
     served = tt;
     met_keys = met_none keys;
     met_names = met_none names;
@@ -146,6 +147,7 @@ module _ {I O D W : Type 0} (serves : Serving I O D W) where
             ∙ (with_both door0.came (map came_of g.visits ++ map ends_of running) (ends_of s ∷ [])
             ∙ ap (with_more door0.came) (append_assoc (map came_of g.visits) (map ends_of running) (ends_of s ∷ []) ∙ ap (λ l. map came_of g.visits ++ l) (sym (map_snoc ends_of running s)))));
         gone = ap (λ (d : DoorState I O). d.gone) more ∙ g.gone;
+        port = ap (λ (d : DoorState I O). d.port) more ∙ g.port;
         served = subst (λ (p : KmsKnown D W). AllServed serves p.seen names'.seen g.visits) (sym still) (subst (λ (p : NameKnown D). AllServed serves keys.seen p.seen g.visits) (sym still') g.served);
         met_keys = met_same keys0 keys keys' (map keys_of g.visits) still g.met_keys;
         met_names = met_same names0 names names' (map names_of g.visits) still' g.met_names;
@@ -173,6 +175,7 @@ module _ {I O D W : Type 0} (serves : Serving I O D W) where
             ∙ ap (with_more door0.came) (snoc_append (map came_of g.visits) (ends_of s) (map ends_of running) ∙ ap (λ l. l ++ map ends_of running) (sym (map_snoc came_of g.visits t))));
         gone = ap (λ (d : DoorState I O). d.gone) left ∙ (ap (λ o. with_more o (left_of t ∷ [])) g.gone
             ∙ (with_both door0.gone (map left_of g.visits) (left_of t ∷ []) ∙ ap (with_more door0.gone) (sym (map_snoc left_of g.visits t))));
+        port = ap (λ (d : DoorState I O). d.port) left ∙ g.port;
         served = served_snoc keys'.seen names'.seen g.visits t
             (still_served keys.seen keys'.seen names.seen names'.seen g.visits
             (met_stays keys0 keys theirs keys' (map keys_of g.visits) g.met_keys met) (met_stays names0 names their_names names' (map names_of g.visits) g.met_names met') g.served)

@@ -106,6 +106,7 @@ module _ {I O D W : Type 0} (serves : Serving I O D W) where
     pub left : door.left ≡ door0.left + length visits
     pub came : door.came ≡ with_more door0.came (map came_of visits ++ map ends_of running)
     pub gone : door.gone ≡ with_more door0.gone (map left_of visits)
+    pub port : door.port ≡ door0.port
     pub served : AllServed keys.seen names.seen visits
     pub met_keys : HasMet keys0 keys (map keys_of visits)
     pub met_names : HasMet names0 names (map names_of visits)

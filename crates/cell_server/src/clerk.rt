@@ -3,10 +3,12 @@ ghost use Rattle.std.specs.Prelude.{◌≡◌, []};
 ghost use Rattle.hist_cell.specs.History.{Meets, own};
 ghost use Rattle.cell_server.specs.Connections.{EndsSo, ServesEnds};
 
+use crate::handles::SharedHandle;
+use crate::places::Places;
 use crate::running::Done;
 use cell_desk::{Notices, serve_cells};
 use hk_base::Gate;
-use server_parts::{CloseInput, CloseOutput};
+use server_parts::{CloseInput, CloseOutput, HangUp};
 use std::alloc::Global;
 use std::sync::Wait;
 use turns::Turns;
@@ -19,14 +21,17 @@ pub struct Clerk<'a, R, S, G, H> {
     pub shared: &'a S,
     pub gate: &'a G,
     pub notices: &'a H,
+    pub places: &'a Places,
 }
 
 impl<'a, R: Wait, S: Turns, G: Gate, H: Notices> Clerk<'a, R, S, G, H> {
-    /// Serves a connection with passes that have made no call, and closes both ends.
-    pub fn serve<I: CloseInput, O: CloseOutput>(
+    /// Serves a connection with passes that have made no call, and closes both ends. Its place is given
+    /// back before the input is closed, which may take a while. Its handle is dropped after that.
+    pub fn serve<I: CloseInput, O: CloseOutput, L: HangUp + Drop>(
         &self,
         input: I,
         out: O,
+        handle: SharedHandle<L>,
         keys: S::Keys,
         names: S::Names,
     ) -> Done<I, O, S::Keys, S::Names>
@@ -49,7 +54,9 @@ impl<'a, R: Wait, S: Turns, G: Gate, H: Notices> Clerk<'a, R, S, G, H> {
             self.notices,
         );
         out.close_output();
+        self.places.give_back(self.rt);
         input.close_input();
+        handle.end(self.rt);
         Done {
             input,
             out,

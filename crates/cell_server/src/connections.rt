@@ -6,8 +6,11 @@ ghost use Rattle.cell_server.specs.Connections.{Connections, Going, HasOut, Serv
 
 use crate::clerk::Clerk;
 use crate::ends::ServeEnd;
+use crate::hang_ups::hang_up_unserved;
 use crate::outlets::{Outlets, open_channels};
-use crate::rows::{MOST, Queue, accept_all, drain};
+use crate::places::Places;
+use crate::rows::{accept_all, drain};
+use crate::running::Queue;
 use crate::workers::Crew;
 use cell_desk::Notices;
 use hk_base::{Gate, Words};
@@ -19,14 +22,18 @@ use std::thread;
 use std::thread::{Scope, Threads};
 use turns::Turns;
 
+/// How many connections beyond those with a place may wait to be joined.
+const UNJOINED: usize = 1024;
+
 // No more connections were left than accepted.
 fn no_more_left<A: Door>(_door: &A)
     ensures { HasOut (A.state _door.now) 0 }
 {}
 
-/// Accepts `conns` connections, and serves each in a thread of its own, at most 16 at a time. Each is
-/// left at the door once it has ended, in the order in which they came, and its passes are then met
-/// into those of the caller. If the door fails or allocation fails, no more are accepted.
+/// Accepts `conns` connections, and serves each in a thread of its own, at most as many at a time as the
+/// clerk has places. Each is left at the door once it has ended, in the order in which they came, and
+/// its passes are then met into those of the caller. If the door fails or takes no more connections,
+/// those that run are told to end. If allocation fails, none are accepted.
 fn serve_connections<
     's,
     E,
@@ -48,23 +55,25 @@ fn serve_connections<
 where
     A::In: 's,
     A::Out: 's,
+    A::Handle: 's,
     ensures going { Going (ServesEnds A.In.left A.In.faults A.Out.written A.Out.faults)
         (A.state door.old) (S.keys_seen keys.old) (S.names_seen names.old) (A.state door.new) (S.keys_seen keys.new) (S.names_seen names.new) [] }
     ensures accepted { result ≡ ServeEnd.Served → (A.state door.new).accepted ≡ (A.state door.old).accepted + conns }
     ensures cause { result ≡ ServeEnd.DoorFault → Rose (A.faults door.old) (A.faults door.new) }
 {
     no_more_left(door);
-    let opened: Result<Queue<A, S>, AllocError> = VecDeque::with_capacity(clerk.alloc, MOST);
+    let opened: Result<Queue<A, S>, AllocError> = VecDeque::with_capacity(
+        clerk.alloc,
+        usize::from(clerk.places.count()) + UNJOINED,
+    );
     let Ok(mut queue) = opened else {
         return ServeEnd::NoMemory;
     };
-    let accepted = accept_all(clerk, scope, door, keys, names, &mut queue, conns);
+    let end = accept_all(clerk, scope, door, keys, names, &mut queue, conns);
+    hang_up_unserved::<R, A, S>(clerk.rt, &queue, end);
     drain(clerk, door, keys, names, &mut queue);
     queue.destroy_empty();
-    match accepted {
-        Ok(()) => ServeEnd::Served,
-        Err(_) => ServeEnd::DoorFault,
-    }
+    end
 }
 
 /// Serves connections beside the workers. Once all were left the channels to the workers are closed,
@@ -93,8 +102,10 @@ fn serve_beside<
 where
     A::In: 's,
     A::Out: 's,
+    A::Handle: 's,
     ensures connections { Connections (ServesEnds A.In.left A.In.faults A.Out.written A.Out.faults)
         (A.state door.old) (S.keys_seen keys.old) (S.names_seen names.old) (A.state door.new) (S.keys_seen keys.new) (S.names_seen names.new) }
+    ensures port { (A.state door.new).port ≡ (A.state door.old).port }
     ensures accepted { result ≡ ServeEnd.Served → (A.state door.new).accepted ≡ (A.state door.old).accepted + conns }
     ensures cause { result ≡ ServeEnd.DoorFault → Rose (A.faults door.old) (A.faults door.new) }
 {
@@ -124,10 +135,11 @@ fn end_of<A, K, N>(_door: &mut A, _keys: &mut K, _names: &mut N, end: ServeEnd) 
     end
 }
 
-/// Accepts `conns` connections, and serves each in a thread of its own, at most 16 at a time. Each is
-/// left at the door once it has ended, in the order in which they came. Beside them run two fillers,
-/// which draw from `first` and `second`, two batch workers and an updater. All passes that were given
-/// out are met in the end. If the door fails or allocation fails, no more are accepted.
+/// Accepts `conns` connections, and serves each in a thread of its own, at most `places` at a time.
+/// Each is left at the door once it has ended, in the order in which they came. Beside them run two
+/// fillers, which draw from `first` and `second`, two batch workers and an updater. All passes that were
+/// given out are met in the end. If the door fails or takes no more connections, those that run are told
+/// to end. If allocation fails, none are accepted.
 pub fn serve_with_workers<
     R: Threads + Wait + Sync,
     K: Drop + Send,
@@ -144,24 +156,28 @@ pub fn serve_with_workers<
     names: &mut N,
     door: &mut A,
     conns: u32,
+    places: u16,
     first: V,
     second: V,
     gate: &G,
 ) -> ServeEnd
     ensures connections { Connections (ServesEnds A.In.left A.In.faults A.Out.written A.Out.faults)
         (A.state door.old) (S.keys_seen keys.old) (S.names_seen names.old) (A.state door.new) (S.keys_seen keys.new) (S.names_seen names.new) }
+    ensures port { (A.state door.new).port ≡ (A.state door.old).port }
     ensures accepted { result ≡ ServeEnd.Served → (A.state door.new).accepted ≡ (A.state door.old).accepted + conns }
     ensures cause { result ≡ ServeEnd.DoorFault → Rose (A.faults door.old) (A.faults door.new) }
 {
     let Ok((outlets, inlets)) = open_channels(alloc) else {
         return ServeEnd::NoMemory;
     };
+    let all_places = Places::new(places);
     let clerk = Clerk {
         rt,
         alloc,
         shared,
         gate,
         notices: &outlets,
+        places: &all_places,
     };
     let crew = Crew {
         rt,
@@ -194,6 +210,7 @@ fn serve_in_scope<
 ) -> ServeEnd
     ensures connections { Connections (ServesEnds A.In.left A.In.faults A.Out.written A.Out.faults)
         (A.state door.old) (S.keys_seen keys.old) (S.names_seen names.old) (A.state door.new) (S.keys_seen keys.new) (S.names_seen names.new) }
+    ensures port { (A.state door.new).port ≡ (A.state door.old).port }
     ensures accepted { result ≡ ServeEnd.Served → (A.state door.new).accepted ≡ (A.state door.old).accepted + conns }
     ensures cause { result ≡ ServeEnd.DoorFault → Rose (A.faults door.old) (A.faults door.new) }
 {
@@ -204,6 +221,7 @@ fn serve_in_scope<
             ensures { (result.0.ghost_name ≡ door.entry.ghost_name) × (result.1.ghost_name ≡ keys.entry.ghost_name) × (result.2.ghost_name ≡ names.entry.ghost_name)
                 × Connections (ServesEnds A.In.left A.In.faults A.Out.written A.Out.faults)
                 (A.state door.entry.now) (S.keys_seen keys.entry.now) (S.names_seen names.entry.now) (A.state result.0.now) (S.keys_seen result.1.now) (S.names_seen result.2.now)
+                × ((A.state result.0.now).port ≡ (A.state door.entry.now).port)
                 × (result.3 ≡ ServeEnd.Served → (A.state result.0.now).accepted ≡ (A.state door.entry.now).accepted + conns)
                 × (result.3 ≡ ServeEnd.DoorFault → Rose (A.faults door.entry.now) (A.faults result.0.now)) }
         {

@@ -5,6 +5,8 @@
 pub enum ServeEnd {
     /// As many connections were served as it was told.
     Served,
+    /// The door was told to take no more connections.
+    Closed,
     /// The door failed.
     DoorFault,
     /// Allocation failed.

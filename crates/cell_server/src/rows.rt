@@ -1,25 +1,20 @@
 //! The acceptor.
-ghost use Rattle.std.specs.Prelude.{◌≡◌, ◌+◌, ◌<◌, ◌≤◌, ◌∷◌, [], List, OnOk, OnErr};
+ghost use Rattle.std.specs.Prelude.{◌≡◌, ◌≢◌, ◌+◌, ◌<◌, ◌≤◌, ◌∷◌, [], List, IfNone, None, Some};
 ghost use Rattle.std.specs.VecDeque.{deque_len, deque_capacity};
 ghost use Rattle.hk_base.specs.Faults.{Rose};
+ghost use Rattle.server_parts.specs.Doors.{DoorState, with_accepted};
 ghost use Rattle.cell_server.specs.Connections.{GoesOn, HasOut, ServesEnds, Start};
 
 use crate::clerk::Clerk;
-use crate::running::{Done, Running};
+use crate::ends::ServeEnd;
+use crate::hang_ups::{hang_up_oldest, oldest_has_ended, take_place};
+use crate::running::{Done, Queue, Running};
 use cell_desk::Notices;
-use hk_base::{Failed, Gate};
-use server_parts::Door;
-use std::alloc::Global;
-use std::collections::VecDeque;
+use hk_base::Gate;
+use server_parts::{Accepted, Door};
 use std::sync::Wait;
 use std::thread::{Scope, Threads};
 use turns::Turns;
-
-/// The most connections that are served at a time.
-pub const MOST: usize = 16;
-
-/// The connections that were begun, in the order in which they were accepted.
-pub type Queue<A, S> = VecDeque<Running<<A as Door>::In, <A as Door>::Out, S>>;
 
 /// Waits for a connection to end, leaves it at the door, and meets its passes.
 fn finish<'a, R: Threads + Wait, S: Turns, G: Gate, H: Notices, A: Door>(
@@ -27,7 +22,7 @@ fn finish<'a, R: Threads + Wait, S: Turns, G: Gate, H: Notices, A: Door>(
     door: &mut A,
     keys: &mut S::Keys,
     names: &mut S::Names,
-    oldest: Running<A::In, A::Out, S>,
+    oldest: Running<A::In, A::Out, A::Handle, S>,
 )
     requires { HasOut (A.state door.old) 1 }
     ensures goes_on { (more : List (Start A.In A.Out S.D S.W)) → GoesOn (ServesEnds A.In.left A.In.faults A.Out.written A.Out.faults)
@@ -48,7 +43,53 @@ fn finish<'a, R: Threads + Wait, S: Turns, G: Gate, H: Notices, A: Door>(
     clerk.meet(keys, names, their_keys, their_names);
 }
 
-/// Joins the oldest connection if as many run as may.
+/// Joins the oldest connection, if there is one.
+fn finish_oldest<'a, R: Threads + Wait, S: Turns, G: Gate, H: Notices, A: Door>(
+    clerk: &Clerk<'a, R, S, G, H>,
+    door: &mut A,
+    keys: &mut S::Keys,
+    names: &mut S::Names,
+    queue: &mut Queue<A, S>,
+)
+    requires running { HasOut (A.state door.old) (deque_len queue.old) }
+    ensures goes_on { GoesOn (ServesEnds A.In.left A.In.faults A.Out.written A.Out.faults)
+        (A.state door.old) (S.keys_seen keys.old) (S.names_seen names.old) queue.old.items (A.state door.new) (S.keys_seen keys.new) (S.names_seen names.new) queue.new.items }
+    ensures fewer { 0 < deque_len queue.old → deque_len queue.new < deque_len queue.old }
+    ensures capacity { deque_capacity queue.new ≡ deque_capacity queue.old }
+    ensures running { HasOut (A.state door.new) (deque_len queue.new) }
+    ensures accepted { (A.state door.new).accepted ≡ (A.state door.old).accepted }
+    ensures faults { A.faults door.new ≡ A.faults door.old }
+{
+    if let Some(oldest) = queue.pop_front() {
+        finish(clerk, door, keys, names, oldest);
+    }
+}
+
+/// Joins the connections at the front of the queue that have ended.
+fn finish_ended<'a, R: Threads + Wait, S: Turns, G: Gate, H: Notices, A: Door>(
+    clerk: &Clerk<'a, R, S, G, H>,
+    door: &mut A,
+    keys: &mut S::Keys,
+    names: &mut S::Names,
+    queue: &mut Queue<A, S>,
+)
+    requires running { HasOut (A.state door.old) (deque_len queue.old) }
+    ensures goes_on { GoesOn (ServesEnds A.In.left A.In.faults A.Out.written A.Out.faults)
+        (A.state door.old) (S.keys_seen keys.old) (S.names_seen names.old) queue.old.items (A.state door.new) (S.keys_seen keys.new) (S.names_seen names.new) queue.new.items }
+    ensures capacity { deque_capacity queue.new ≡ deque_capacity queue.old }
+    ensures running { HasOut (A.state door.new) (deque_len queue.new) }
+    ensures accepted { (A.state door.new).accepted ≡ (A.state door.old).accepted }
+    ensures faults { A.faults door.new ≡ A.faults door.old }
+{
+    for _ in 0..queue.len() {
+        if !oldest_has_ended::<R, A, S>(clerk.rt, queue) {
+            return;
+        }
+        finish_oldest(clerk, door, keys, names, queue);
+    }
+}
+
+/// Joins the oldest connection if the queue is full. It is told to end.
 fn make_room<'a, R: Threads + Wait, S: Turns, G: Gate, H: Notices, A: Door>(
     clerk: &Clerk<'a, R, S, G, H>,
     door: &mut A,
@@ -56,25 +97,61 @@ fn make_room<'a, R: Threads + Wait, S: Turns, G: Gate, H: Notices, A: Door>(
     names: &mut S::Names,
     queue: &mut Queue<A, S>,
 )
-    requires capacity { deque_capacity queue.old ≡ 16 }
+    requires capacity { 0 < deque_capacity queue.old }
     requires running { HasOut (A.state door.old) (deque_len queue.old) }
     ensures goes_on { GoesOn (ServesEnds A.In.left A.In.faults A.Out.written A.Out.faults)
         (A.state door.old) (S.keys_seen keys.old) (S.names_seen names.old) queue.old.items (A.state door.new) (S.keys_seen keys.new) (S.names_seen names.new) queue.new.items }
     ensures room { deque_len queue.new < deque_capacity queue.new }
-    ensures capacity { deque_capacity queue.new ≡ 16 }
+    ensures capacity { deque_capacity queue.new ≡ deque_capacity queue.old }
     ensures running { HasOut (A.state door.new) (deque_len queue.new) }
     ensures accepted { (A.state door.new).accepted ≡ (A.state door.old).accepted }
     ensures faults { A.faults door.new ≡ A.faults door.old }
 {
-    if queue.len() < MOST {
+    if queue.len() < queue.capacity() {
         return;
     }
-    if let Some(oldest) = queue.pop_front() {
-        finish(clerk, door, keys, names, oldest);
-    }
+    hang_up_oldest::<R, A, S>(clerk.rt, queue);
+    finish_oldest(clerk, door, keys, names, queue);
 }
 
-/// Accepts a connection and begins it. The queue must have room for it.
+/// Begins a connection that was accepted. The queue must have room for it.
+fn begin_one<
+    's,
+    E,
+    R: Threads + Wait + Sync + 's,
+    K: Drop + Send + 's,
+    N: Drop + Send + 's,
+    S: Turns<Keys = K, Names = N> + Sync + 's,
+    G: Gate + Sync + 's,
+    H: Notices + Sync + 's,
+    A: Door,
+>(
+    clerk: &'s Clerk<'s, R, S, G, H>,
+    scope: &Scope<'s, E>,
+    accepted: Accepted<A::In, A::Out, A::Handle>,
+    keys: &mut K,
+    names: &mut N,
+    queue: &mut Queue<A, S>,
+)
+where
+    A::In: 's,
+    A::Out: 's,
+    A::Handle: 's,
+    requires room { deque_len queue.old < deque_capacity queue.old }
+    ensures goes_on { (door : DoorState A.In A.Out) → GoesOn (ServesEnds A.In.left A.In.faults A.Out.written A.Out.faults)
+        door (S.keys_seen keys.old) (S.names_seen names.old) queue.old.items (with_accepted door (accepted.input, accepted.out)) (S.keys_seen keys.new) (S.names_seen names.new) queue.new.items }
+    ensures capacity { deque_capacity queue.new ≡ deque_capacity queue.old }
+    ensures more { deque_len queue.new ≡ deque_len queue.old + 1 }
+{
+    let Accepted { input, out, handle } = accepted;
+    let their_keys = clerk.shared.split_keys(clerk.rt, keys);
+    let their_names = clerk.shared.split_names(clerk.rt, names);
+    let begun = Running::begin(scope, clerk, input, out, handle, their_keys, their_names);
+    queue.push_back_reserved(begun);
+}
+
+/// Accepts a connection, waits for a place for it, and begins it. The queue must have room for it.
+/// Returns how the server ends if no connection came.
 fn accept_one<
     's,
     E,
@@ -92,26 +169,31 @@ fn accept_one<
     keys: &mut K,
     names: &mut N,
     queue: &mut Queue<A, S>,
-) -> Result<(), Failed>
+) -> Option<ServeEnd>
 where
     A::In: 's,
     A::Out: 's,
+    A::Handle: 's,
     requires room { deque_len queue.old < deque_capacity queue.old }
     requires running { HasOut (A.state door.old) (deque_len queue.old) }
     ensures goes_on { GoesOn (ServesEnds A.In.left A.In.faults A.Out.written A.Out.faults)
         (A.state door.old) (S.keys_seen keys.old) (S.names_seen names.old) queue.old.items (A.state door.new) (S.keys_seen keys.new) (S.names_seen names.new) queue.new.items }
     ensures capacity { deque_capacity queue.new ≡ deque_capacity queue.old }
     ensures running { HasOut (A.state door.new) (deque_len queue.new) }
-    ensures accepted { OnOk result ((A.state door.new).accepted ≡ (A.state door.old).accepted + 1) }
+    ensures accepted { IfNone result ((A.state door.new).accepted ≡ (A.state door.old).accepted + 1) }
+    ensures unserved { result ≢ Some ServeEnd.Served }
     ensures later { A.faults door.old ≤ A.faults door.new }
-    ensures cause { OnErr result (Rose (A.faults door.old) (A.faults door.new)) }
+    ensures cause { result ≡ Some ServeEnd.DoorFault → Rose (A.faults door.old) (A.faults door.new) }
 {
-    let (input, out) = door.accept()?;
-    let their_keys = clerk.shared.split_keys(clerk.rt, keys);
-    let their_names = clerk.shared.split_names(clerk.rt, names);
-    let begun = Running::begin(scope, clerk, input, out, their_keys, their_names);
-    queue.push_back_reserved(begun);
-    Ok(())
+    match door.accept() {
+        Ok(Some(accepted)) => {
+            take_place::<R, A, S>(clerk.rt, clerk.places, queue);
+            begin_one::<E, R, K, N, S, G, H, A>(clerk, scope, accepted, keys, names, queue);
+            None
+        }
+        Ok(None) => Some(ServeEnd::Closed),
+        Err(_) => Some(ServeEnd::DoorFault),
+    }
 }
 
 /// Joins all connections that still run.
@@ -134,7 +216,8 @@ pub fn drain<'a, R: Threads + Wait, S: Turns, G: Gate, H: Notices, A: Door>(
     }
 }
 
-/// Accepts `conns` connections, and begins each once less than 16 others run.
+/// Accepts `conns` connections, and begins each once there is a place for it. Returns how the server
+/// ends: `Served` if all came.
 pub fn accept_all<
     's,
     E,
@@ -153,22 +236,26 @@ pub fn accept_all<
     names: &mut N,
     queue: &mut Queue<A, S>,
     conns: u32,
-) -> Result<(), Failed>
+) -> ServeEnd
 where
     A::In: 's,
     A::Out: 's,
-    requires capacity { deque_capacity queue.old ≡ 16 }
+    A::Handle: 's,
+    requires capacity { 0 < deque_capacity queue.old }
     requires running { HasOut (A.state door.old) (deque_len queue.old) }
     ensures goes_on { GoesOn (ServesEnds A.In.left A.In.faults A.Out.written A.Out.faults)
         (A.state door.old) (S.keys_seen keys.old) (S.names_seen names.old) queue.old.items (A.state door.new) (S.keys_seen keys.new) (S.names_seen names.new) queue.new.items }
     ensures running { HasOut (A.state door.new) (deque_len queue.new) }
-    ensures accepted { OnOk result ((A.state door.new).accepted ≡ (A.state door.old).accepted + conns) }
+    ensures accepted { result ≡ ServeEnd.Served → (A.state door.new).accepted ≡ (A.state door.old).accepted + conns }
     ensures later { A.faults door.old ≤ A.faults door.new }
-    ensures cause { OnErr result (Rose (A.faults door.old) (A.faults door.new)) }
+    ensures cause { result ≡ ServeEnd.DoorFault → Rose (A.faults door.old) (A.faults door.new) }
 {
     for _ in 0..conns {
+        finish_ended(clerk, door, keys, names, queue);
         make_room(clerk, door, keys, names, queue);
-        accept_one(clerk, scope, door, keys, names, queue)?;
+        if let Some(end) = accept_one(clerk, scope, door, keys, names, queue) {
+            return end;
+        }
     }
-    Ok(())
+    ServeEnd::Served
 }

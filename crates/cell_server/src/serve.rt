@@ -1,5 +1,5 @@
 //! A whole server.
-ghost use Rattle.std.specs.Prelude.{◌≡◌};
+ghost use Rattle.std.specs.Prelude.{◌≡◌, ℕ, Some};
 ghost use Rattle.hk_base.specs.Faults.{Rose};
 ghost use Rattle.cell_server.specs.Connections.{ServesEnds};
 ghost use Rattle.cell_server.specs.Serves.{ServesAll};
@@ -14,7 +14,8 @@ use std::sync::Wait;
 use std::thread::Threads;
 use turns::Turns;
 
-/// Serves connections at a door that is open, and then makes the last round.
+/// Serves connections at a door that is open, and then makes the last round if all connections were
+/// served.
 fn serve_opened<
     R: Threads + Wait + Sync,
     K: Drop + Send,
@@ -31,16 +32,17 @@ fn serve_opened<
     names: &mut N,
     door: &mut A,
     conns: u32,
+    places: u16,
     first: V,
     second: V,
     gate: &G,
 ) -> ServeEnd
-    ensures serves { ServesAll (ServesEnds A.In.left A.In.faults A.Out.written A.Out.faults) S.state S.to_come
-        (A.state door.old) (S.keys_seen keys.old) (S.names_seen names.old) conns result (A.state door.new) (S.keys_seen keys.new) (S.names_seen names.new) }
+    ensures serves { (port : ℕ) → (A.state door.old).port ≡ Some port → ServesAll (ServesEnds A.In.left A.In.faults A.Out.written A.Out.faults) S.state S.to_come
+        (A.state door.old) (S.keys_seen keys.old) (S.names_seen names.old) port conns result (A.state door.new) (S.keys_seen keys.new) (S.names_seen names.new) }
     ensures cause { result ≡ ServeEnd.DoorFault → Rose (A.faults door.old) (A.faults door.new) }
 {
     let end = serve_with_workers(
-        rt, alloc, shared, keys, names, door, conns, first, second, gate,
+        rt, alloc, shared, keys, names, door, conns, places, first, second, gate,
     );
     // The histories that the passes have seen are legal.
     let _ = shared.count_keys(keys);
@@ -50,17 +52,22 @@ fn serve_opened<
             Ok(()) => ServeEnd::Served,
             Err(_) => ServeEnd::NoMemory,
         },
+        ServeEnd::Closed => ServeEnd::Closed,
         ServeEnd::DoorFault => ServeEnd::DoorFault,
         ServeEnd::NoMemory => ServeEnd::NoMemory,
     }
 }
 
 /// Serves both services over connections: opens the door on `port`, and accepts `conns` connections.
-/// Each is served in a thread of its own, at most 16 at a time, and left at the door once it has ended,
-/// in the order in which they came. Beside them run two fillers, which draw from `first` and `second`,
-/// two batch workers and an updater. If all connections were served, a last round then finishes the
-/// re-encryptions that the workers left. It may wait for the door, the connections, the gate and the
-/// locks.
+/// Each is served in a thread of its own, at most `places` at a time, and left at the door once it
+/// has ended, in the order in which they came. A connection that comes while no place is free
+/// gets that of the one that has waited longest for a request, which is told to end. Beside them run
+/// two fillers, which draw from `first` and `second`, two batch workers and an updater.
+///
+/// If all connections were served, a last round then finishes the re-encryptions that the workers left.
+/// If the door fails or takes no more connections, those that run are told to end, and there is no last
+/// round. It may wait for the door, the connections, the gate and the locks, and waits for ever if
+/// `places` is 0.
 pub fn serve_all<
     R: Threads + Wait + Sync,
     K: Drop + Send,
@@ -78,17 +85,18 @@ pub fn serve_all<
     door: &mut A,
     port: u16,
     conns: u32,
+    places: u16,
     first: V,
     second: V,
     gate: &G,
 ) -> ServeEnd
     ensures serves { ServesAll (ServesEnds A.In.left A.In.faults A.Out.written A.Out.faults) S.state S.to_come
-        (A.state door.old) (S.keys_seen keys.old) (S.names_seen names.old) conns result (A.state door.new) (S.keys_seen keys.new) (S.names_seen names.new) }
+        (A.state door.old) (S.keys_seen keys.old) (S.names_seen names.old) port conns result (A.state door.new) (S.keys_seen keys.new) (S.names_seen names.new) }
     ensures cause { result ≡ ServeEnd.DoorFault → Rose (A.faults door.old) (A.faults door.new) }
 {
     match door.open(port) {
         Ok(()) => serve_opened(
-            rt, alloc, shared, keys, names, door, conns, first, second, gate,
+            rt, alloc, shared, keys, names, door, conns, places, first, second, gate,
         ),
         Err(_) => {
             // The histories that the passes have seen are legal.

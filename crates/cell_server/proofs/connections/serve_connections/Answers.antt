@@ -7,21 +7,13 @@ pub returns-in_default-clause-going : goal.returns-in_default-clause-going
 returns-in_default-clause-going g c =
     going_begins (ServesEnds g.A.In.Source.left g.A.In.Source.faults g.A.Out.Sink.written g.A.Out.Sink.faults) (g.A.Door.state c.args.door.now) (g.S.Turns.keys_seen c.args.keys.now) (g.S.Turns.names_seen c.args.names.now)
 
-pub returns-in-Ok-accepted-clause-going : goal.returns-in-Ok-accepted-clause-going
-returns-in-Ok-accepted-clause-going g c =
+pub returns-clause-going : goal.returns-clause-going
+returns-clause-going g c =
     let serves = ServesEnds g.A.In.Source.left g.A.In.Source.faults g.A.Out.Sink.written g.A.Out.Sink.faults in
     let door = g.A.Door.state c.args.door.now in
-    c.drain.ensures.goes_on _ _ _ (c.accept_all-accepted.ensures.goes_on _ _ _
+    c.drain.ensures.goes_on _ _ _ (c.accept_all-end.ensures.goes_on _ _ _
     (subst (λ q. Going serves door (g.S.Turns.keys_seen c.args.keys.now) (g.S.Turns.names_seen c.args.names.now) door (g.S.Turns.keys_seen c.args.keys.now) (g.S.Turns.names_seen c.args.names.now) q)
     (sym c.in-Ok.ensures.items) (going_begins serves door (g.S.Turns.keys_seen c.args.keys.now) (g.S.Turns.names_seen c.args.names.now))))
 
-pub returns-in-Ok-accepted-clause-accepted : goal.returns-in-Ok-accepted-clause-accepted
-returns-in-Ok-accepted-clause-accepted g c _ = c.drain.ensures.accepted ∙ c.in-Ok-accepted.ensures.accepted
-
-pub returns-in-Err-clause-going : goal.returns-in-Err-clause-going
-returns-in-Err-clause-going g c =
-    let serves = ServesEnds g.A.In.Source.left g.A.In.Source.faults g.A.Out.Sink.written g.A.Out.Sink.faults in
-    let door = g.A.Door.state c.args.door.now in
-    c.drain.ensures.goes_on _ _ _ (c.accept_all-accepted.ensures.goes_on _ _ _
-    (subst (λ q. Going serves door (g.S.Turns.keys_seen c.args.keys.now) (g.S.Turns.names_seen c.args.names.now) door (g.S.Turns.keys_seen c.args.keys.now) (g.S.Turns.names_seen c.args.names.now) q)
-    (sym c.in-Ok.ensures.items) (going_begins serves door (g.S.Turns.keys_seen c.args.keys.now) (g.S.Turns.names_seen c.args.names.now))))
+pub returns-clause-accepted : goal.returns-clause-accepted
+returns-clause-accepted g c all = c.drain.ensures.accepted ∙ c.accept_all-end.ensures.accepted all

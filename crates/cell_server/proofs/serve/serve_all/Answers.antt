@@ -1,15 +1,22 @@
+use Rattle.std.proofs.Common.{ap, refl, subst, ◌∙◌}
+use Rattle.server_parts.specs.Doors.{DoorState, with_port}
 use Rattle.cell_server.specs.Connections.{ServesEnds}
-use Rattle.cell_server.specs.declared.ends.ServeEnd.TheVariants as serve_end
+use Rattle.cell_server.specs.Serves.{ServesAll}
 use Rattle.cell_server.proofs.ServeLemmas.{serves_after, serves_none}
 use Rattle.cell_server.proofs.serve.serve_all.Goals as goal
 
 pub returns-in-Ok-clause-serves : goal.returns-in-Ok-clause-serves
 returns-in-Ok-clause-serves g c =
-    serves_after (ServesEnds g.A.In.Source.left g.A.In.Source.faults g.A.Out.Sink.written g.A.Out.Sink.faults) g.S.Turns.state g.S.Turns.to_come
-    (g.A.Door.state c.args.door.now) (g.A.Door.state c.open.new.self) (g.S.Turns.keys_seen c.args.keys.now) (g.S.Turns.names_seen c.args.names.now) c.args.conns c.serve_opened.result (g.A.Door.state c.serve_opened.new.door)
-    (g.S.Turns.keys_seen c.serve_opened.new.keys) (g.S.Turns.names_seen c.serve_opened.new.names) c.open.ensures.same c.serve_opened.ensures.serves
+    let serves = ServesEnds g.A.In.Source.left g.A.In.Source.faults g.A.Out.Sink.written g.A.Out.Sink.faults in
+    let door = g.A.Door.state c.serve_opened.new.door in
+    let keys = g.S.Turns.keys_seen c.serve_opened.new.keys in
+    let names = g.S.Turns.names_seen c.serve_opened.new.names in
+    serves_after serves g.S.Turns.state g.S.Turns.to_come
+    (g.A.Door.state c.args.door.now) (g.S.Turns.keys_seen c.args.keys.now) (g.S.Turns.names_seen c.args.names.now) c.args.port c.args.conns c.serve_opened.result door keys names
+    (subst (λ (d : DoorState _ _). ServesAll serves g.S.Turns.state g.S.Turns.to_come d (g.S.Turns.keys_seen c.args.keys.now) (g.S.Turns.names_seen c.args.names.now) c.args.port c.args.conns c.serve_opened.result door keys names)
+    c.in-Ok.ensures.opened (c.serve_opened.ensures.serves c.args.port (ap (λ (d : DoorState _ _). d.port) c.in-Ok.ensures.opened)))
 
 pub returns-in-Err-clause-serves : goal.returns-in-Err-clause-serves
 returns-in-Err-clause-serves g c =
     serves_none (ServesEnds g.A.In.Source.left g.A.In.Source.faults g.A.Out.Sink.written g.A.Out.Sink.faults) g.S.Turns.state g.S.Turns.to_come
-    (g.A.Door.state c.args.door.now) (g.S.Turns.keys_seen c.args.keys.now) (g.S.Turns.names_seen c.args.names.now) c.args.conns serve_end.DoorFault (g.A.Door.state c.open.new.self) c.open.ensures.same c.count_names.ensures.legal c.count_keys.ensures.legal (λ e. cc)
+    (g.A.Door.state c.args.door.now) (g.S.Turns.keys_seen c.args.keys.now) (g.S.Turns.names_seen c.args.names.now) c.args.port c.args.conns (g.A.Door.state c.open.new.self) c.in-Err.ensures.same c.count_names.ensures.legal c.count_keys.ensures.legal
