@@ -11,7 +11,6 @@ use Rattle.std.proofs.lemmas.List.Elements.{All-cons, All-filter, All-head, All-
 use Rattle.std.proofs.lemmas.List.Sums.{AllPass-from_list_all}
 use Rattle.hk_base.specs.declared.names.KeyName.{KeyName}
 use Rattle.name_calls.specs.Paths.{is_before, is_prefix, is_relative}
-use Rattle.inode_tree.specs.declared.rows.Kind.{Kind}
 use Rattle.inode_tree.specs.declared.rows.Kind.TheVariants.{Dir}
 use Rattle.inode_tree.specs.Below.{at_or_below, rows_below, seen_from}
 use Rattle.inode_tree.specs.Moves.{CanMove, moved, renamed}

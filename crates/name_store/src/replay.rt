@@ -5,6 +5,7 @@ ghost use Rattle.hk_base.specs.Faults.{Rose};
 ghost use Rattle.frame_log.specs.declared.fault.StartFault.TheVariants.{Damaged, StoreFault, Spent};
 ghost use Rattle.edit_log.specs.Reader.{OpsAhead};
 ghost use Rattle.name_store.specs.Replay.{IsMade, IsNext, IsRefusedAt, IsTaken, applies_beside};
+ghost use Rattle.name_store.specs.Table.{nothing_logged};
 ghost use Rattle.name_store.specs.Used.{RowsUsed, is_used};
 
 use crate::names::Names;
@@ -54,6 +55,35 @@ fn take_placed(names: &mut Names, used: &mut UsedIds, placed: PlacedOp) -> Resul
     }
 }
 
+/// Lets the operations that a reader returns take effect. `Damaged` has the offset of the first record
+/// that is not an operation or does not apply.
+fn take_all<D: Disk>(
+    alloc: Global,
+    disk: &mut D,
+    reader: &mut OpReader,
+    names: &mut Names,
+    used: &mut UsedIds,
+) -> Result<(), StartFault>
+    requires ahead { Tells (D.state disk.old) → ((todo : List (List ℕ)) × OpsAhead (D.state disk.old) reader.old [] todo) }
+    requires empty { names.old.table ≡ nothing_logged.table }
+    requires unused { (id : ℕ) → is_used used.old id ≡ false }
+
+    ensures made { OnOk result (IsMade (D.state disk.old) reader.old names.new.table) }
+    ensures damaged { (at : ℕ) → IsErrOf result (Damaged at) → Tells (D.state disk.old) → (todo : List (List ℕ)) → OpsAhead (D.state disk.old) reader.old [] todo → IsRefusedAt todo at }
+    ensures spent { IsErrOf result Spent → ⊥ }
+    ensures cause { IsErrOf result StoreFault → Rose (D.state disk.old).faults (D.state disk.new).faults }
+    ensures same { Reads 1 (D.state disk.old) (D.state disk.new) }
+    ensures run { RunOn 1 (D.state disk.old) (D.state disk.new) }
+    ensures moments { LeavesOnly 1 (D.state disk.old) (D.state disk.new) ((D.state disk.old).leaves 1) }
+{
+    'each: loop {
+        match reader.next(alloc, disk)? {
+            None => return Ok(()),
+            Some(placed) => take_placed(names, used, placed)?,
+        }
+    }
+}
+
 /// Makes the table of the operations that a reader returns. `Damaged` has the offset of the first record
 /// that is not an operation or does not apply.
 pub(crate) fn replay<D: Disk>(
@@ -73,10 +103,13 @@ pub(crate) fn replay<D: Disk>(
 {
     let mut names = Names::new(alloc)?;
     let mut used = UsedIds::new(alloc);
-    'each: loop {
-        match reader.next(alloc, disk)? {
-            None => return Ok(names),
-            Some(placed) => take_placed(&mut names, &mut used, placed)?,
+    let taken = take_all(alloc, disk, reader, &mut names, &mut used);
+    drop(used);
+    match taken {
+        Ok(()) => Ok(names),
+        Err(fault) => {
+            drop(names);
+            Err(fault)
         }
     }
 }

@@ -64,9 +64,23 @@ impl NameStore {
         let (log, reader) = EditLog::recover_records(alloc, disk)?;
         let mut log = log;
         let mut reader = reader;
-        let mut names = replay(alloc, disk, &mut reader)?;
-        open(alloc, disk, &mut log, &mut names)?;
-        Ok(NameStore { log, names })
+        let replayed = replay(alloc, disk, &mut reader);
+        drop(reader);
+        let mut names = match replayed {
+            Ok(names) => names,
+            Err(fault) => {
+                drop(log);
+                return Err(fault);
+            }
+        };
+        match open(alloc, disk, &mut log, &mut names) {
+            Ok(()) => Ok(NameStore { log, names }),
+            Err(fault) => {
+                drop(log);
+                drop(names);
+                Err(fault)
+            }
+        }
     }
 
     /// Writes the record of an operation to the log and then lets it take effect. Allocates only before

@@ -5,7 +5,7 @@ use Rattle.edit_log.specs.Reader.{IsNextOp}
 use Rattle.name_store.specs.Used.{is_used}
 use Rattle.name_store.proofs.ReaderLemmas.{made_here, no_operation, none_so_far, not_applied, one_more}
 use Rattle.name_store.proofs.UsedLemmas.{rows_used}
-use Rattle.name_store.proofs.replay.replay.Goals as goal
+use Rattle.name_store.proofs.replay.take_all.Goals as goal
 
 pub each-init : goal.each-init
 each-init g c =
@@ -13,7 +13,7 @@ each-init g c =
     record {
       going = begin 1 D0 (D0.leaves 1);
       same = record { reads = λ tells. refl; leaves = λ b h. h };
-      read = none_so_far D0 c.args.reader.now c.in_ok-names.names.table (is_used c.new-used.result) c.in_ok-names.ensures c.new-used.ensures;
+      read = none_so_far D0 c.args.reader.now c.args.names.now.table (is_used c.args.used.now) c.requires.empty c.requires.unused;
     }
 
 pub next-requires : goal.next-requires

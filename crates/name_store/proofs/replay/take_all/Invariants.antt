@@ -3,7 +3,7 @@ use Rattle.hk_base.proofs.Runs.{Going}
 use Rattle.frame_log.specs.Ahead.{left}
 use Rattle.name_store.specs.Used.{is_used}
 use Rattle.name_store.proofs.ReaderLemmas.{SoFar}
-use Rattle.name_store.proofs.replay.replay.Given as goal
+use Rattle.name_store.proofs.replay.take_all.Given as goal
 
 abbrev pub invariant-each : goal.invariant-each
 invariant-each g l =
