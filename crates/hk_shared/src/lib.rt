@@ -1,6 +1,7 @@
 //! Both services, each in a cell that threads share. docs/threads.md has the whole picture.
 #![tactic(auto)]
 
+mod changes;
 mod given;
 mod movable;
 mod opening;

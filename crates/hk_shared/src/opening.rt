@@ -7,6 +7,7 @@ use hk_base::{Clock, Disk, NoMemory, Words};
 use kms_cell::{KmsPass, KmsSide};
 use name_cell::{NamePass, NameSide};
 use std::alloc::Global;
+use std::sync::Mutex;
 
 /// Both services, each in a cell without a name.
 #[derive(Drop)]
@@ -72,6 +73,8 @@ impl<D: Disk + Drop, W: Words + Drop, C: Clock + Drop> Opening<D, W, C> {
         let shared = Shared {
             keys: first,
             names: second,
+            key_changes: Mutex::new(()),
+            name_changes: Mutex::new(()),
         };
         (shared, keys, names)
     }

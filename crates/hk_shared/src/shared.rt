@@ -14,12 +14,18 @@ use kms_cell::{KmsCell, KmsPass, close_keys};
 use kms_core::Kms;
 use name_cell::{NameCell, NamePass, close_names};
 use name_core::Name;
+use std::sync::Mutex;
 
-/// Both services, each in a cell of its own. Both disks are of one type.
+/// Both services, each in a cell of its own. Both disks are of one type. Calls that change a service
+/// wait for each other first, so that calls that read get to its cell between two changes.
 #[derive(Drop)]
 pub struct Shared<D: Disk, W: Words, C: Clock, M: Naming, N: Naming> {
     pub keys: KmsCell<D, W, C, M>,
     pub names: NameCell<D, N>,
+    /// Held by the call that changes the key management service.
+    pub(crate) key_changes: Mutex<()>,
+    /// Held by the call that changes the namesystem.
+    pub(crate) name_changes: Mutex<()>,
 }
 
 /// Both services and their disks, after the cells were closed.
@@ -64,6 +70,8 @@ impl<D: Disk, W: Words, C: Clock, M: Naming, N: Naming> Shared<D, W, C, M, N> {
         let Shared {
             keys: first,
             names: second,
+            key_changes: _,
+            name_changes: _,
         } = self;
         let (kms, keys_disk) = close_keys(first, keys);
         let (names, names_disk) = close_names(second, names);
