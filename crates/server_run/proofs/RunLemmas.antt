@@ -1,6 +1,8 @@
 -- A run of the server, from its parts.
-use Rattle.std.proofs.Common.{◌≡◌, inl, ℕ, [], Some, refl, ◌∙◌, sym, subst}
+use Rattle.std.proofs.Common.{◌≡◌, ◌⊎◌, ◌+◌, ◌-◌, ◌^◌, ◌<◌, ◌≤◌, inl, inr, ℕ, zero, suc, Bool, true, false, [], Some, refl, ◌∙◌, sym, subst, ap, arith, IsTrue}
+use Rattle.std.specs.Prelude.{◌↔◌, ◌||◌, min}
 use Rattle.hk_base.specs.Disk.{DiskState}
+use Rattle.hk_base.specs.Faults.{Rose}
 use Rattle.hist_cell.specs.History.{Closes}
 use Rattle.kms_cell.specs.Entries.{KmsKnown}
 use Rattle.kms_cell.specs.Steps.{KmsSteps}
@@ -22,29 +24,48 @@ use Rattle.cell_server.specs.declared.ends.ServeEnd.TheVariants as serve_end
 use Rattle.server_run.specs.Opening.{BothOpened}
 use Rattle.server_run.specs.declared.run.RunEnd.{RunEnd}
 use Rattle.server_run.specs.declared.run.RunEnd.TheVariants as run_end
-use Rattle.server_run.specs.Runs.{EndsAs, RanInCells, RanServer, end_of}
+use Rattle.server_run.specs.Runs.{DisksFailed, EndsAs, RanInCells, RanServer, end_of}
 
 -- a fault of the door is one of the serving
-pub faults_so : (end : ServeEnd) (rose : Type 0) → (end ≡ serve_end.DoorFault → rose) → end_of end ≡ run_end.DoorFault → rose
-faults_so serve_end.Served rose cause is = absurd cc
-faults_so serve_end.DoorFault rose cause is = cause refl
-faults_so serve_end.NoMemory rose cause is = absurd cc
+pub faults_so : (end : ServeEnd) (failed : Bool) (rose : Type 0) → (end ≡ serve_end.DoorFault → rose) → end_of end failed ≡ run_end.DoorFault → rose
+faults_so serve_end.Served true rose cause is = absurd cc
+faults_so serve_end.Served false rose cause is = absurd cc
+faults_so serve_end.Closed true rose cause is = absurd cc
+faults_so serve_end.Closed false rose cause is = absurd cc
+faults_so serve_end.DoorFault failed rose cause is = cause refl
+faults_so serve_end.NoMemory failed rose cause is = absurd cc
+
+none_counted : (n : ℕ) → (0 < n → ⊥) → n ≡ 0
+none_counted zero none = refl
+none_counted (suc n) none = absurd (none (omega arith))
+
+pub disks_failed : (keys_failed names_failed : Bool) (keys names : ℕ) → (IsTrue keys_failed ↔ (0 < keys)) → (IsTrue names_failed ↔ (0 < names))
+    → DisksFailed (keys_failed || names_failed) keys names
+disks_failed true names_failed keys names k n = inl (k.0 refl)
+disks_failed false true keys names k n = inr (n.0 refl)
+disks_failed false false keys names k n = (none_counted keys (λ some. cc (k.1 some)), none_counted names (λ some. cc (n.1 some)))
+
+rose_then : (a b c : ℕ) → Rose a b → b ≤ c → Rose a c
+rose_then a b c rose later = let r : min (a + 1) (2 ^ 64 - 1) ≤ b = rose in omega (arith, r, later)
+
+then_rose : (a b c : ℕ) → a ≤ b → Rose b c → Rose a c
+then_rose a b c later rose = let r : min (b + 1) (2 ^ 64 - 1) ≤ c = rose in omega (arith, r, later)
 
 module _ {D W I O : Type 0} (state : D → DiskState) (to_come : W → ℕ → ℕ) (serves : Serving I O D W) where
   -- the services ran in their cells, and these are what the cells left
-  abbrev pub RanTo : ℕ → DoorState I O → DoorState I O → ServeEnd → KmsView D W → NameView D → D → D → Type 0
-  RanTo conns door door' end k n keys_disk names_disk =
-      (last_k : KmsView D W) × (last_n : NameView D) × RanInCells state to_come serves conns door door' end k n last_k last_n
+  abbrev pub RanTo : ℕ → ℕ → DoorState I O → DoorState I O → ServeEnd → KmsView D W → NameView D → D → D → Type 0
+  RanTo port conns door door' end k n keys_disk names_disk =
+      (last_k : KmsView D W) × (last_n : NameView D) × RanInCells state to_come serves port conns door door' end k n last_k last_n
       × (keys_disk ≡ last_k.disk) × (names_disk ≡ last_n.disk) × RunsOn (state last_k.disk) last_k.kms × NamesRunOn (state last_n.disk) last_n.names
 
-  pub ran : (conns : ℕ) (door door' : DoorState I O) (end : ServeEnd) (k : KmsView D W) (n : NameView D) (keys : KmsKnown D W) (names : NameKnown D) (keys' : KmsKnown D W) (names' : NameKnown D)
+  pub ran : (port conns : ℕ) (door door' : DoorState I O) (end : ServeEnd) (k : KmsView D W) (n : NameView D) (keys : KmsKnown D W) (names : NameKnown D) (keys' : KmsKnown D W) (names' : NameKnown D)
       (kms : RunningKms) (keys_disk : D) (running : RunningNames) (names_disk : D)
       → (keys.start ≡ Some k) × (keys.seen ≡ []) × (keys.ended ≡ []) → (names.start ≡ Some n) × (names.seen ≡ []) × (names.ended ≡ [])
-      → ServesAll serves state to_come door keys names conns end door' keys' names'
+      → ServesAll serves state to_come door keys names port conns end door' keys' names'
       → (last : KmsView D W) × Closes (KmsSteps state to_come) KmsAllows keys' last × (kms ≡ last.kms) × (keys_disk ≡ last.disk) → RunsOn (state keys_disk) kms
       → (last : NameView D) × Closes (NameSteps state) NameAllows names' last × (running ≡ last.names) × (names_disk ≡ last.disk) → NamesRunOn (state names_disk) running
-      → RanTo conns door door' end k n keys_disk names_disk
-  ran conns door door' end k n keys names keys' names' kms keys_disk running names_disk keys_begin names_begin served (last_k, closes_k, kms_is, disk_is) runs (last_n, closes_n, names_are, names_disk_is) names_run = (
+      → RanTo port conns door door' end k n keys_disk names_disk
+  ran port conns door door' end k n keys names keys' names' kms keys_disk running names_disk keys_begin names_begin served (last_k, closes_k, kms_is, disk_is) runs (last_n, closes_n, names_are, names_disk_is) names_run = (
     last_k,
     last_n,
     record { keys = keys; names = names; keys' = keys'; names' = names'; keys_begin = keys_begin; names_begin = names_begin; served = served; keys_closed = closes_k; names_closed = closes_n },
@@ -55,11 +76,12 @@ module _ {D W I O : Type 0} (state : D → DiskState) (to_come : W → ℕ → �
   )
 
   -- both disks were given back
-  pub ran_server : (props : Props) (words : W) (conns : ℕ) (old begun mid new : YardState) (door door' : DoorState I O) (end : ServeEnd) (k : KmsView D W) (n : NameView D) (keys_disk names_disk keys_back names_back : D)
-      → BothOpened state props old begun words k n → RanTo conns door door' end k n keys_disk names_disk
-      → keys_back ≡ keys_disk → names_back ≡ names_disk → Given 0 begun mid (state keys_back) → Given 1 mid new (state names_back)
-      → RanServer state to_come serves props words conns old new door door' end
-  ran_server props words conns old begun mid new door door' end k n keys_disk names_disk keys_back names_back opened (last_k, last_n, did, keys_is, names_is, runs, names_run) keys_same names_same keys_given names_given = record {
+  pub ran_server : (props : Props) (words : W) (port conns : ℕ) (old begun new : YardState) (door door' : DoorState I O) (end : ServeEnd) (failed : Bool) (k : KmsView D W) (n : NameView D) (keys_disk names_disk keys_back names_back : D)
+      → BothOpened state props old begun words k n → RanTo port conns door door' end k n keys_disk names_disk
+      → keys_back ≡ keys_disk → names_back ≡ names_disk → (mid : YardState) × Given 0 begun mid (state keys_back) × Given 1 mid new (state names_back)
+      → DisksFailed failed (state keys_back).faults (state names_back).faults
+      → RanServer state to_come serves props words port conns old new door door' end failed
+  ran_server props words port conns old begun new door door' end failed k n keys_disk names_disk keys_back names_back opened (last_k, last_n, did, keys_is, names_is, runs, names_run) keys_same names_same (mid, keys_given, names_given) disks = record {
     begun = begun;
     k = k;
     n = n;
@@ -72,15 +94,56 @@ module _ {D W I O : Type 0} (state : D → DiskState) (to_come : W → ℕ → �
     mid = mid;
     keys_given = subst (λ d. Given 0 begun mid (state d)) (keys_same ∙ keys_is) keys_given;
     names_given = subst (λ d. Given 1 mid new (state d)) (names_same ∙ names_is) names_given;
+    disks = subst (λ d. DisksFailed failed (state last_k.disk).faults (state d).faults) (names_same ∙ names_is)
+        (subst (λ d. DisksFailed failed (state d).faults (state names_back).faults) (keys_same ∙ keys_is) disks);
   }
 
-  so_ends : (props : Props) (words : W) (conns : ℕ) (old new : YardState) (door door' : DoorState I O) (end : ServeEnd) → RanServer state to_come serves props words conns old new door door' end
-      → EndsAs state to_come serves props words conns old new door door' (end_of end)
-  so_ends props words conns old new door door' serve_end.Served r = r
-  so_ends props words conns old new door door' serve_end.DoorFault r = r
-  so_ends props words conns old new door door' serve_end.NoMemory r = inl r
+  so_ends : (props : Props) (words : W) (port conns : ℕ) (old new : YardState) (door door' : DoorState I O) (end : ServeEnd) (failed : Bool) → RanServer state to_come serves props words port conns old new door door' end failed
+      → EndsAs state to_come serves props words port conns old new door door' (end_of end failed)
+  so_ends props words port conns old new door door' serve_end.Served true r = (serve_end.Served, (λ e. cc), r)
+  so_ends props words port conns old new door door' serve_end.Served false r = r
+  so_ends props words port conns old new door door' serve_end.Closed true r = (serve_end.Closed, (λ e. cc), r)
+  so_ends props words port conns old new door door' serve_end.Closed false r = r
+  so_ends props words port conns old new door door' serve_end.DoorFault true r = (serve_end.DoorFault, (λ e. cc), r)
+  so_ends props words port conns old new door door' serve_end.DoorFault false r = r
+  so_ends props words port conns old new door door' serve_end.NoMemory failed r = inl (failed, r)
 
   -- how the run ended
-  pub ends_so : (props : Props) (words : W) (conns : ℕ) (old new : YardState) (door door' : DoorState I O) (end : ServeEnd) (result : RunEnd) → result ≡ end_of end
-      → RanServer state to_come serves props words conns old new door door' end → EndsAs state to_come serves props words conns old new door door' result
-  ends_so props words conns old new door door' end result is r = subst (λ e. EndsAs state to_come serves props words conns old new door door' e) (sym is) (so_ends props words conns old new door door' end r)
+  pub ends_so : (props : Props) (words : W) (port conns : ℕ) (old new : YardState) (door door' : DoorState I O) (end : ServeEnd) (failed : Bool) (result : RunEnd) → result ≡ end_of end failed
+      → RanServer state to_come serves props words port conns old new door door' end failed → EndsAs state to_come serves props words port conns old new door door' result
+  ends_so props words port conns old new door door' end failed result is r =
+      subst (λ e. EndsAs state to_come serves props words port conns old new door door' e) (sym is) (so_ends props words port conns old new door door' end failed r)
+
+  -- ---- the count of faults of the yard
+
+  -- opening the logs left it as it was
+  opened_so : (props : Props) (words : W) (old begun : YardState) (k : KmsView D W) (n : NameView D) → BothOpened state props old begun words k n → begun.faults ≡ old.faults
+  opened_so props words old begun k n o = o.logs.names_opened.taken.faults ∙ o.logs.keys_opened.taken.faults
+
+  -- it rose if a disk failed
+  pub yard_rose : (props : Props) (words : W) (port conns : ℕ) (old new : YardState) (door door' : DoorState I O) (end : ServeEnd) → RanServer state to_come serves props words port conns old new door door' end true
+      → Rose old.faults new.faults
+  yard_rose props words port conns old new door door' end r = subst (λ (f : ℕ). Rose f new.faults) (opened_so props words old r.begun r.k r.n r.opened) (by r.disks)
+    where
+      by : DisksFailed true (state r.last_k.disk).faults (state r.last_n.disk).faults → Rose r.begun.faults new.faults
+      by (inl keys) = rose_then r.begun.faults r.mid.faults new.faults (r.keys_given.rose keys) r.names_given.later
+      by (inr names) = then_rose r.begun.faults r.mid.faults new.faults r.keys_given.later (r.names_given.rose names)
+
+  -- it stayed as it was if none failed
+  yard_stays : (props : Props) (words : W) (port conns : ℕ) (old new : YardState) (door door' : DoorState I O) (end : ServeEnd) → RanServer state to_come serves props words port conns old new door door' end false
+      → new.faults ≡ old.faults
+  yard_stays props words port conns old new door door' end r = r.names_given.same r.disks.1 ∙ (r.keys_given.same r.disks.0 ∙ opened_so props words old r.begun r.k r.n r.opened)
+
+  pub store_rose : (props : Props) (words : W) (port conns : ℕ) (old new : YardState) (door door' : DoorState I O) (result : RunEnd) → EndsAs state to_come serves props words port conns old new door door' result
+      → result ≡ run_end.StoreFault → Rose old.faults new.faults
+  store_rose props words port conns old new door door' run_end.StoreFault (end, memory, r) is = yard_rose props words port conns old new door door' end r
+  store_rose props words port conns old new door door' run_end.Served r is = absurd cc
+  store_rose props words port conns old new door door' run_end.Closed r is = absurd cc
+  store_rose props words port conns old new door door' run_end.DoorFault r is = absurd cc
+  store_rose props words port conns old new door door' (run_end.NotOpened file fault) r is = absurd cc
+  store_rose props words port conns old new door door' run_end.NoMemory r is = absurd cc
+
+  pub none_rose : (props : Props) (words : W) (port conns : ℕ) (old new : YardState) (door door' : DoorState I O) (result : RunEnd) → EndsAs state to_come serves props words port conns old new door door' result
+      → (result ≡ run_end.Served) ⊎ (result ≡ run_end.Closed) → new.faults ≡ old.faults
+  none_rose props words port conns old new door door' result ends (inl is) = yard_stays props words port conns old new door door' serve_end.Served (subst (EndsAs state to_come serves props words port conns old new door door') is ends)
+  none_rose props words port conns old new door door' result ends (inr is) = yard_stays props words port conns old new door door' serve_end.Closed (subst (EndsAs state to_come serves props words port conns old new door door') is ends)

@@ -1,5 +1,5 @@
 -- A run of the server.
-use Rattle.std.specs.Prelude.{◌≡◌, ◌≤◌, ◌⊎◌, ℕ, [], Some}
+use Rattle.std.specs.Prelude.{◌≡◌, ◌<◌, ◌≤◌, ◌⊎◌, ℕ, Bool, true, false, [], Some}
 use Rattle.hk_base.specs.Disk.{DiskState}
 use Rattle.hist_cell.specs.History.{Closes}
 use Rattle.prop_text.specs.declared.props.Props.{Props}
@@ -21,16 +21,26 @@ use Rattle.server_run.specs.Opening.{BothOpened, NoneOpened}
 use Rattle.server_run.specs.declared.run.RunEnd.{RunEnd}
 use Rattle.server_run.specs.declared.run.RunEnd.TheVariants as run_end
 
--- how the run ends, by how the serving ended
-abbrev pub end_of : ServeEnd → RunEnd
-end_of serve_end.Served = run_end.Served
-end_of serve_end.DoorFault = run_end.DoorFault
-end_of serve_end.NoMemory = run_end.NoMemory
+-- How the run ends, by how the serving ended and whether a disk failed. A failed disk counts for more than any other end, except that memory
+-- ran out.
+abbrev pub end_of : ServeEnd → Bool → RunEnd
+end_of serve_end.NoMemory failed = run_end.NoMemory
+end_of serve_end.Served true = run_end.StoreFault
+end_of serve_end.Served false = run_end.Served
+end_of serve_end.Closed true = run_end.StoreFault
+end_of serve_end.Closed false = run_end.Closed
+end_of serve_end.DoorFault true = run_end.StoreFault
+end_of serve_end.DoorFault false = run_end.DoorFault
+
+-- whether the disk of the key log or that of the edit log failed, by how many faults each has counted
+abbrev pub DisksFailed : Bool → ℕ → ℕ → Type 0
+DisksFailed true keys names = (0 < keys) ⊎ (0 < names)
+DisksFailed false keys names = (keys ≡ 0) × (names ≡ 0)
 
 module _ {D W I O : Type 0} (state : D → DiskState) (to_come : W → ℕ → ℕ) (serves : Serving I O D W) where
   -- The services ran in their cells from these states on, until the cells were closed. Each has one legal history, which ends in its last
   -- state, and connections were served by entries of these histories.
-  pub record RanInCells (conns : ℕ) (door door' : DoorState I O) (end : ServeEnd) (k : KmsView D W) (n : NameView D) (last_k : KmsView D W) (last_n : NameView D) : Type 0 where
+  pub record RanInCells (port conns : ℕ) (door door' : DoorState I O) (end : ServeEnd) (k : KmsView D W) (n : NameView D) (last_k : KmsView D W) (last_n : NameView D) : Type 0 where
     -- what the first pass of each cell knows, and what it knows when the cell is closed
     pub keys : KmsKnown D W
     pub names : NameKnown D
@@ -38,30 +48,35 @@ module _ {D W I O : Type 0} (state : D → DiskState) (to_come : W → ℕ → �
     pub names' : NameKnown D
     pub keys_begin : (keys.start ≡ Some k) × (keys.seen ≡ []) × (keys.ended ≡ [])
     pub names_begin : (names.start ≡ Some n) × (names.seen ≡ []) × (names.ended ≡ [])
-    pub served : ServesAll serves state to_come door keys names conns end door' keys' names'
+    pub served : ServesAll serves state to_come door keys names port conns end door' keys' names'
     pub keys_closed : Closes (KmsSteps state to_come) KmsAllows keys' last_k
     pub names_closed : Closes (NameSteps state) NameAllows names' last_n
 
   -- Both logs were opened on the disks of a yard, the services ran until their cells were closed, and the disks were given back as the last
-  -- state of each service has them: each holds the log of its service, with or without the pending record.
-  pub record RanServer (props : Props) (words : W) (conns : ℕ) (old new : YardState) (door door' : DoorState I O) (end : ServeEnd) : Type 0 where
+  -- state of each service has them: each holds the log of its service, with or without the pending record. `failed` says whether either disk
+  -- had counted a fault by then.
+  pub record RanServer (props : Props) (words : W) (port conns : ℕ) (old new : YardState) (door door' : DoorState I O) (end : ServeEnd) (failed : Bool) : Type 0 where
     pub begun : YardState
     pub k : KmsView D W
     pub n : NameView D
     pub opened : BothOpened state props old begun words k n
     pub last_k : KmsView D W
     pub last_n : NameView D
-    pub ran : RanInCells conns door door' end k n last_k last_n
+    pub ran : RanInCells port conns door door' end k n last_k last_n
     pub keys_run : RunsOn (state last_k.disk) last_k.kms
     pub names_run : NamesRunOn (state last_n.disk) last_n.names
     pub mid : YardState
     pub keys_given : Given 0 begun mid (state last_k.disk)
     pub names_given : Given 1 mid new (state last_n.disk)
+    pub disks : DisksFailed failed (state last_k.disk).faults (state last_n.disk).faults
 
   -- how a run of the server ends
-  abbrev pub EndsAs : Props → W → ℕ → YardState → YardState → DoorState I O → DoorState I O → RunEnd → Type 0
-  EndsAs props words conns old new door door' run_end.Served = RanServer props words conns old new door door' serve_end.Served
-  EndsAs props words conns old new door door' run_end.DoorFault = RanServer props words conns old new door door' serve_end.DoorFault
-  EndsAs props words conns old new door door' (run_end.NotOpened file fault) = NoneOpened old new file fault × (door' ≡ door)
-  EndsAs props words conns old new door door' run_end.NoMemory =
-      RanServer props words conns old new door door' serve_end.NoMemory ⊎ ((old.faults ≤ new.faults) × (door' ≡ door))
+  abbrev pub EndsAs : Props → W → ℕ → ℕ → YardState → YardState → DoorState I O → DoorState I O → RunEnd → Type 0
+  EndsAs props words port conns old new door door' run_end.Served = RanServer props words port conns old new door door' serve_end.Served false
+  EndsAs props words port conns old new door door' run_end.Closed = RanServer props words port conns old new door door' serve_end.Closed false
+  EndsAs props words port conns old new door door' run_end.DoorFault = RanServer props words port conns old new door door' serve_end.DoorFault false
+  EndsAs props words port conns old new door door' run_end.StoreFault =
+      (end : ServeEnd) × (¬ (end ≡ serve_end.NoMemory)) × RanServer props words port conns old new door door' end true
+  EndsAs props words port conns old new door door' (run_end.NotOpened file fault) = NoneOpened old new file fault × (door' ≡ door)
+  EndsAs props words port conns old new door door' run_end.NoMemory =
+      ((failed : Bool) × RanServer props words port conns old new door door' serve_end.NoMemory failed) ⊎ ((old.faults ≤ new.faults) × (door' ≡ door))

@@ -46,7 +46,7 @@ pub(crate) fn open_keys<Y: Yard>(
     match Kms::start(alloc, &mut disk, acls, sizes) {
         Ok(kms) => Ok((kms, disk)),
         Err(fault) => {
-            yard.give(KEYS, disk);
+            let _ = yard.give(KEYS, disk);
             Err(fault)
         }
     }
@@ -71,7 +71,7 @@ pub(crate) fn open_names<Y: Yard>(
     match Name::start(alloc, &mut disk, batch) {
         Ok(names) => Ok((names, disk)),
         Err(fault) => {
-            yard.give(NAMES, disk);
+            let _ = yard.give(NAMES, disk);
             Err(fault)
         }
     }
@@ -133,7 +133,7 @@ fn open_logs<Y: Yard>(
         }),
         Err(fault) => {
             drop(kms.stop());
-            yard.give(KEYS, keys_disk);
+            let _ = yard.give(KEYS, keys_disk);
             Err(OpenFault::Log { file: NAMES, fault })
         }
     }

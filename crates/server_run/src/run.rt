@@ -1,11 +1,12 @@
 //! A run of the server.
-ghost use Rattle.std.specs.Prelude.{◌≡◌, ◌⊎◌, IsTrue};
+ghost use Rattle.std.specs.Prelude.{◌≡◌, ◌⊎◌, IsFalse, IsTrue};
 ghost use Rattle.hk_base.specs.Faults.{Rose};
 ghost use Rattle.kms_cell.specs.Views.{KmsView, RunsOn};
 ghost use Rattle.name_cell.specs.Views.{NameView, NamesRunOn};
 ghost use Rattle.cell_server.specs.Connections.{ServesEnds};
+ghost use Rattle.server_parts.specs.Yards.{Given, YardState};
 ghost use Rattle.server_run.specs.Opening.{BothOpened};
-ghost use Rattle.server_run.specs.Runs.{EndsAs, RanInCells, end_of};
+ghost use Rattle.server_run.specs.Runs.{DisksFailed, EndsAs, RanInCells, end_of};
 
 use crate::opening::{KEYS, NAMES, OpenFault, open_services};
 use cell_server::{ServeEnd, serve_all};
@@ -25,20 +26,26 @@ use std::thread::Threads;
 pub enum RunEnd {
     /// All connections were served.
     Served,
+    /// The door was told to take no more connections.
+    Closed,
     /// The door failed.
     DoorFault,
+    /// A disk failed while the server ran.
+    StoreFault,
     /// Allocation failed.
     NoMemory,
     /// The log on this file could not be opened.
     NotOpened { file: u8, fault: StartFault },
 }
 
-/// What a server serves with: the port, the number of connections after which it ends, and the random
-/// words of its two fillers.
+/// What a server serves with: the port, the number of connections after which it ends, how many of them
+/// are served at a time, and the random words of its two fillers.
 #[derive(Drop)]
 pub struct ServerPlan<V: Words + Drop> {
     pub port: u16,
     pub conns: u32,
+    /// At least 1.
+    pub places: u16,
     pub first: V,
     pub second: V,
 }
@@ -71,7 +78,7 @@ fn serve_named<
     requires keys { opening.keys.table ≡ M.table }
     requires names { opening.names.table ≡ N.table }
     ensures ran { (last_k : KmsView D W) × (last_n : NameView D)
-        × RanInCells D.state W.to_come (ServesEnds A.In.left A.In.faults A.Out.written A.Out.faults) plan.conns (A.state door.old) (A.state door.new) result.1
+        × RanInCells D.state W.to_come (ServesEnds A.In.left A.In.faults A.Out.written A.Out.faults) plan.port plan.conns (A.state door.old) (A.state door.new) result.1
         opening.keys.core opening.names.core last_k last_n
         × (result.0.keys_disk ≡ last_k.disk) × (result.0.names_disk ≡ last_n.disk) × RunsOn (D.state last_k.disk) last_k.kms × NamesRunOn (D.state last_n.disk) last_n.names }
     ensures cause { result.1 ≡ ServeEnd.DoorFault → Rose (A.faults door.old) (A.faults door.new) }
@@ -80,23 +87,40 @@ fn serve_named<
     let ServerPlan {
         port,
         conns,
+        places,
         first,
         second,
     } = plan;
     let end = serve_all(
-        rt, alloc, &shared, &mut keys, &mut names, door, port, conns, first, second, &OpenGate,
+        rt, alloc, &shared, &mut keys, &mut names, door, port, conns, places, first, second,
+        &OpenGate,
     );
     (shared.close(keys, names), end)
 }
 
-/// How the run ends if the serving ended so.
-fn run_end(end: ServeEnd) -> RunEnd
-    ensures { result ≡ end_of end }
+/// Gives both disks back. Returns whether either has counted a fault.
+#[tactic(auto, using(crate::proofs::RunLemmas::disks_failed))]
+fn give_both<Y: Yard>(yard: &mut Y, keys: Y::Own, names: Y::Own) -> bool
+    requires keys_away { IsFalse ((Y.state yard.old).lies 0) }
+    requires names_away { IsFalse ((Y.state yard.old).lies 1) }
+    ensures given { (mid : YardState) × Given 0 (Y.state yard.old) mid (Y.Own.state keys) × Given 1 mid (Y.state yard.new) (Y.Own.state names) }
+    ensures failed { DisksFailed result (Y.Own.state keys).faults (Y.Own.state names).faults }
+{
+    let keys_failed = yard.give(KEYS, keys);
+    let names_failed = yard.give(NAMES, names);
+    keys_failed || names_failed
+}
+
+/// How the run ends if the serving ended so, and a disk failed or none did.
+fn run_end(end: ServeEnd, failed: bool) -> RunEnd
+    ensures { result ≡ end_of end failed }
 {
     match end {
-        ServeEnd::Served => RunEnd::Served,
-        ServeEnd::DoorFault => RunEnd::DoorFault,
         ServeEnd::NoMemory => RunEnd::NoMemory,
+        _ if failed => RunEnd::StoreFault,
+        ServeEnd::Served => RunEnd::Served,
+        ServeEnd::Closed => RunEnd::Closed,
+        ServeEnd::DoorFault => RunEnd::DoorFault,
     }
 }
 
@@ -108,6 +132,8 @@ fn run_end(end: ServeEnd) -> RunEnd
 /// - `NotOpened` if a log can't be opened; both disks then lie in the yard, and no connection was
 ///   accepted.
 /// - `DoorFault` only if the door's count of faults rose.
+/// - `StoreFault` if a disk counted a fault while the server ran. This comes in place of any other end,
+///   except `NoMemory`.
 /// - `NoMemory` if allocation fails, in the server or before. If it fails while the cells are made, the
 ///   disks are dropped with their services, and are not given back.
 pub fn run_server<
@@ -129,9 +155,11 @@ pub fn run_server<
 ) -> RunEnd
     requires keys { IsTrue ((Y.state yard.old).lies 0) }
     requires names { IsTrue ((Y.state yard.old).lies 1) }
-    ensures ends { EndsAs Y.Own.state W.to_come (ServesEnds A.In.left A.In.faults A.Out.written A.Out.faults) props.now words plan.conns
+    ensures ends { EndsAs Y.Own.state W.to_come (ServesEnds A.In.left A.In.faults A.Out.written A.Out.faults) props.now words plan.port plan.conns
         (Y.state yard.old) (Y.state yard.new) (A.state door.old) (A.state door.new) result }
     ensures door_fault { result ≡ RunEnd.DoorFault → Rose (A.faults door.old) (A.faults door.new) }
+    ensures store_fault { result ≡ RunEnd.StoreFault → Rose (Y.state yard.old).faults (Y.state yard.new).faults }
+    ensures no_fault { (result ≡ RunEnd.Served) ⊎ (result ≡ RunEnd.Closed) → (Y.state yard.new).faults ≡ (Y.state yard.old).faults }
 {
     let opening = match open_services(alloc, yard, props, words, clock) {
         Ok(opening) => opening,
@@ -142,7 +170,6 @@ pub fn run_server<
         rt, alloc, opening, door, plan,
     );
     let (keys, names) = closed.into_disks();
-    yard.give(KEYS, keys);
-    yard.give(NAMES, names);
-    run_end(end)
+    let failed = give_both(yard, keys, names);
+    run_end(end, failed)
 }
