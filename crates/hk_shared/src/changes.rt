@@ -1,5 +1,5 @@
-//! Calls that change a service take turns before they wait for its cell. So a call that reads waits for
-//! one change at most, however many changes wait.
+//! Calls that change a service wait for each other before they wait for its cell. So a call that reads
+//! waits for the change that is being written, and seldom for those behind it.
 use kms_calls::KmsCall;
 use name_calls::NameCall;
 use std::sync::{Mutex, MutexGuard, Wait};
@@ -20,8 +20,8 @@ pub(crate) fn changes_names(call: &NameCall) -> bool {
     )
 }
 
-/// Waits for the turn of a call that changes a service. A call that reads has none.
-pub(crate) fn turn_if<'a, R: Wait>(
+/// Waits for the calls that change a service, if the caller is one of them.
+pub(crate) fn lock_if<'a, R: Wait>(
     rt: &R,
     changes: &'a Mutex<()>,
     wanted: bool,

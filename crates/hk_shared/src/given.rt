@@ -1,5 +1,5 @@
 //! Both cells as threads share them.
-use crate::changes::{changes_keys, changes_names, turn_if};
+use crate::changes::{changes_keys, changes_names, lock_if};
 use crate::shared::Shared;
 use hist_cell::Naming;
 use hk_base::{Clock, Disk, Gate, Text, Words};
@@ -38,7 +38,7 @@ impl<D: Disk, W: Words, C: Clock, M: Naming, N: Naming> Turns for Shared<D, W, C
         user: Text,
         call: KmsCall,
     ) -> KmsReply {
-        let _turn = turn_if(rt, &self.key_changes, changes_keys(&call));
+        let _alone = lock_if(rt, &self.key_changes, changes_keys(&call));
         call_keys(rt, &self.keys, pass, user, call)
     }
 
@@ -49,7 +49,7 @@ impl<D: Disk, W: Words, C: Clock, M: Naming, N: Naming> Turns for Shared<D, W, C
         user: Text,
         call: NameCall,
     ) -> NameReply {
-        let _turn = turn_if(rt, &self.name_changes, changes_names(&call));
+        let _alone = lock_if(rt, &self.name_changes, changes_names(&call));
         call_names(rt, &self.names, pass, user, call)
     }
 
@@ -69,7 +69,7 @@ impl<D: Disk, W: Words, C: Clock, M: Naming, N: Naming> Turns for Shared<D, W, C
         pass: &mut NamePass<D, N>,
         answered: Answered,
     ) -> Result<(), NameRefusal> {
-        let _turn = turn_if(rt, &self.name_changes, true);
+        let _alone = lock_if(rt, &self.name_changes, true);
         finish_names(rt, &self.names, pass, answered)
     }
 

@@ -5,7 +5,7 @@ ghost use Rattle.kms_cell.specs.Fills.{FillsTurn};
 ghost use Rattle.name_core.specs.Calls.{superuser};
 ghost use Rattle.turns.specs.Turns.{ServesTurn, UpdatesTurn, WalksTurn};
 
-use crate::changes::turn_if;
+use crate::changes::lock_if;
 use crate::shared::Shared;
 use batch_calls::{BatchCall, reply_for};
 use hist_cell::Naming;
@@ -96,7 +96,7 @@ impl<D: Disk, W: Words, C: Clock, M: Naming, N: Naming> Shared<D, W, C, M, N> {
     {
         drop(keys);
         gate.pass(rt, Point::BeforeDeliver);
-        let _turn = turn_if(rt, &self.name_changes, true);
+        let _alone = lock_if(rt, &self.name_changes, true);
         deliver_names(rt, &self.names, names, reply)
     }
 }
