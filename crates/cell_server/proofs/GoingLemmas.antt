@@ -9,6 +9,8 @@ use Rattle.kms_cell.specs.Entries.{KmsEntry, KmsKnown}
 use Rattle.name_cell.specs.Entries.{NameEntry, NameKnown}
 use Rattle.server_parts.specs.Doors.{DoorState, with_accepted, with_left, with_more}
 use Rattle.cell_server.specs.Connections.{AllFresh, AllServed, Connections, EndsSo, GoesOn, Going, HasMet, Serving, Start, Visit, came_of, ends_of, keys_of, left_of, names_of}
+use Rattle.cell_server.specs.Work.{CrewWorks, IsFresh}
+use Rattle.cell_server.proofs.WorkLemmas.{in_left, in_right, work_seen}
 
 map_snoc : {A B : Type 0} (f : A → B) (xs : List A) (x : A) → map f (xs ++ x ∷ []) ≡ map f xs ++ f x ∷ []
 map_snoc f [] x = refl
@@ -21,17 +23,6 @@ snoc_append (z ∷ xs) x ys = ap (λ l. z ∷ l) (snoc_append xs x ys)
 length_snoc : {A : Type 0} (xs : List A) (x : A) → length (xs ++ x ∷ []) ≡ length xs + 1
 length_snoc [] x = refl
 length_snoc (y ∷ xs) x = let e : length (xs ++ x ∷ []) ≡ length xs + 1 = length_snoc xs x in omega (arith, e)
-
-in_right : (k : ℕ) (ms ns : List ℕ) → IsIn k ns → IsIn k (ms ++ ns)
-in_right k [] ns i = i
-in_right k (m ∷ ms) ns i = inr (in_right k ms ns i)
-
-in_left : (k : ℕ) (ms ns : List ℕ) → IsIn k ms → IsIn k (ms ++ ns)
-in_left k [] ns i = absurd i
-in_left k (m ∷ ms) ns i = elim i [
-  | inl here ↦ inl here
-  | inr there ↦ inr (in_left k ms ns there)
-]
 
 distinct_right : (ms ns : List ℕ) → Distinct (ms ++ ns) → Distinct ns
 distinct_right [] ns d = d
@@ -189,9 +180,9 @@ module _ {I O D W : Type 0} (serves : Serving I O D W) where
       }
 
   -- no connection runs any longer
-  pub going_ends : (door0 : DoorState I O) (keys0 : KmsKnown D W) (names0 : NameKnown D) (door : DoorState I O) (keys : KmsKnown D W) (names : NameKnown D) → Going serves door0 keys0 names0 door keys names []
-      → Connections serves door0 keys0 names0 door keys names
-  going_ends door0 keys0 names0 door keys names g =
+  pub going_ends : (first second : ℕ → ℕ) (door0 : DoorState I O) (keys0 : KmsKnown D W) (names0 : NameKnown D) (door : DoorState I O) (keys : KmsKnown D W) (names : NameKnown D) → Going serves door0 keys0 names0 door keys names []
+      → Connections serves first second door0 keys0 names0 door keys names
+  going_ends first second door0 keys0 names0 door keys names g =
       let accepted : door.accepted ≡ door0.accepted + (length g.visits + 0) = g.accepted in
       record {
         visits = g.visits;
@@ -202,14 +193,16 @@ module _ {I O D W : Type 0} (serves : Serving I O D W) where
         served = g.served;
         other_keys = [];
         other_names = [];
+        work = inl (refl, refl);
         met_keys = subst (HasMet keys0 keys) (sym (append-nil (map keys_of g.visits))) g.met_keys;
         met_names = subst (HasMet names0 names) (sym (append-nil (map names_of g.visits))) g.met_names;
       }
 
   -- two passes of workers are met as well
-  pub workers_end : (door0 : DoorState I O) (keys0 : KmsKnown D W) (names0 : NameKnown D) (door : DoorState I O) (keys theirs keys' : KmsKnown D W) (names their_names names' : NameKnown D)
-      → Going serves door0 keys0 names0 door keys names [] → Meets keys theirs keys' → Meets names their_names names' → Connections serves door0 keys0 names0 door keys' names'
-  workers_end door0 keys0 names0 door keys theirs keys' names their_names names' g met met' =
+  pub workers_end : (first second : ℕ → ℕ) (door0 : DoorState I O) (keys0 : KmsKnown D W) (names0 : NameKnown D) (door : DoorState I O) (keys begun theirs keys' : KmsKnown D W) (names names_begun their_names names' : NameKnown D)
+      → Going serves door0 keys0 names0 door keys names [] → IsFresh begun → IsFresh names_begun → CrewWorks first second begun names_begun theirs their_names → Meets keys theirs keys' → Meets names their_names names'
+      → Connections serves first second door0 keys0 names0 door keys' names'
+  workers_end first second door0 keys0 names0 door keys begun theirs keys' names names_begun their_names names' g fresh fresh' works met met' =
       let accepted : door.accepted ≡ door0.accepted + (length g.visits + 0) = g.accepted in
       record {
         visits = g.visits;
@@ -221,17 +214,20 @@ module _ {I O D W : Type 0} (serves : Serving I O D W) where
             (met_stays keys0 keys theirs keys' (map keys_of g.visits) g.met_keys met) (met_stays names0 names their_names names' (map names_of g.visits) g.met_names met') g.served;
         other_keys = theirs.number ∷ theirs.ended;
         other_names = their_names.number ∷ their_names.ended;
+        work = inr (work_seen first second theirs.seen keys'.seen their_names.seen names'.seen (theirs.number ∷ theirs.ended) (their_names.number ∷ their_names.ended) met.that_own met'.that_own (works fresh fresh'));
         met_keys = met_more keys0 keys theirs keys' (map keys_of g.visits) g.met_keys met;
         met_names = met_more names0 names their_names names' (map names_of g.visits) g.met_names met';
       }
 
   -- the same, after a split for the workers
-  pub workers_end_after : (door0 : DoorState I O) (keys0 keys1 : KmsKnown D W) (names0 names1 : NameKnown D) (door : DoorState I O) (keys theirs keys' : KmsKnown D W) (names their_names names' : NameKnown D)
-      → keys1 ≡ keys0 → names1 ≡ names0 → Going serves door0 keys1 names1 door keys names [] → Meets keys theirs keys' → Meets names their_names names' → Connections serves door0 keys0 names0 door keys' names'
-  workers_end_after door0 keys0 keys1 names0 names1 door keys theirs keys' names their_names names' same same' g met met' =
-      workers_end door0 keys0 names0 door keys theirs keys' names their_names names'
-      (subst (λ (k : KmsKnown D W). Going serves door0 k names0 door keys names []) same (subst (λ (n : NameKnown D). Going serves door0 keys1 n door keys names []) same' g)) met met'
+  pub workers_end_after : (first second : ℕ → ℕ) (door0 : DoorState I O) (keys0 keys1 : KmsKnown D W) (names0 names1 : NameKnown D) (door : DoorState I O) (keys begun theirs keys' : KmsKnown D W) (names names_begun their_names names' : NameKnown D)
+      → keys1 ≡ keys0 → names1 ≡ names0 → Splits keys0 begun → Splits names0 names_begun → Going serves door0 keys1 names1 door keys names [] → CrewWorks first second begun names_begun theirs their_names
+      → Meets keys theirs keys' → Meets names their_names names' → Connections serves first second door0 keys0 names0 door keys' names'
+  workers_end_after first second door0 keys0 keys1 names0 names1 door keys begun theirs keys' names names_begun their_names names' same same' splits splits' g works met met' =
+      workers_end first second door0 keys0 names0 door keys begun theirs keys' names names_begun their_names names'
+      (subst (λ (k : KmsKnown D W). Going serves door0 k names0 door keys names []) same (subst (λ (n : NameKnown D). Going serves door0 keys1 n door keys names []) same' g))
+      (splits.no_own, splits.ended) (splits'.no_own, splits'.ended) works met met'
 
   -- nothing has happened yet
-  pub connections_none : (door : DoorState I O) (keys : KmsKnown D W) (names : NameKnown D) → Connections serves door keys names door keys names
-  connections_none door keys names = going_ends door keys names door keys names (going_begins door keys names)
+  pub connections_none : (first second : ℕ → ℕ) (door : DoorState I O) (keys : KmsKnown D W) (names : NameKnown D) → Connections serves first second door keys names door keys names
+  connections_none first second door keys names = going_ends first second door keys names door keys names (going_begins door keys names)

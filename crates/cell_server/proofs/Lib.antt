@@ -3,3 +3,4 @@ pub mod GoingLemmas
 pub mod MadeLemmas
 pub mod RoundLemmas
 pub mod ServeLemmas
+pub mod WorkLemmas

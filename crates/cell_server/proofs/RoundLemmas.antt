@@ -1,5 +1,6 @@
 -- How the last round goes on.
-use Rattle.std.specs.Prelude.{◌≡◌, ℕ, Bool, true, false, cond, List, [], ◌∷◌, ◌++◌, Some, None, Result, Ok, Err, IfOk, OnOk, is_err, take, length, ◌+◌, ◌<◌}
+use Rattle.std.specs.Prelude.{◌≡◌, ℕ, Bool, true, false, cond, List, [], ◌∷◌, ◌++◌, Some, None, Result, Ok, Err, IfOk, OnOk, is_err, take, length, ◌+◌, ◌<◌, All}
+use Rattle.std.proofs.lemmas.List.Elements.{All-append, All-cons, All-nil}
 use Rattle.std.proofs.Common.{get_or, refl, ap, sym, ◌∙◌, subst, inl, inr, append_assoc, append-nil}
 use Rattle.hk_base.specs.Disk.{DiskState}
 use Rattle.hk_base.specs.declared.texts.NoMemory.{NoMemory}
@@ -24,29 +25,42 @@ use Rattle.name_cell.specs.Asked.{NameAllows}
 use Rattle.name_cell.specs.Entries.{Makes, NameEntry, NameKnown}
 use Rattle.name_cell.specs.Steps.{NameSteps}
 use Rattle.name_cell.specs.Views.{NameView}
+use Rattle.name_cell.specs.declared.acts.NameAct.{NameAct}
 use Rattle.name_cell.specs.declared.acts.NameAct.TheVariants as act
 use Rattle.name_cell.specs.declared.acts.NameActed.TheVariants as acted
 use Rattle.cell_desk.specs.Entries.{KeysMake, NamesMake}
+use Rattle.cell_server.specs.Work.{AllCall, IsNameWork}
 use Rattle.cell_server.specs.Rounds.{AsksAbout, CameOf, DeliversBatch, HadMemory, IsCall, IsLastRound, ListsZones, MakesBoth, ShowsStatus, WalkedOn, Walks, WalksAll, batch_of, goes_on, zones_in}
 use Rattle.cell_server.proofs.MadeLemmas.{both_none, both_then, if_err, if_ok, keys_none, keys_one, names_alone, names_none, names_one, names_then, on_err, on_ok, taken_more}
 
 -- ---- asking
 
 module _ {D : Type 0} (state : D → DiskState) where
+  pub no_work : All (λ (e : NameEntry D). IsNameWork e.call) []
+  no_work = All-nil (λ (e : NameEntry D). IsNameWork e.call)
+
+  one_work : (e : NameEntry D) (q : NameAct) → e.call ≡ q → IsNameWork q → AllCall IsNameWork (e ∷ [])
+  one_work e q is w = All-cons (λ (e : NameEntry D). IsNameWork e.call) e [] (subst IsNameWork (sym is) w) no_work
+
+  more_work : (made more : List (NameEntry D)) → AllCall IsNameWork made → AllCall IsNameWork more → AllCall IsNameWork (made ++ more)
+  more_work made more = All-append (λ (e : NameEntry D). IsNameWork e.call) made more
+
   pub lists_zones : (v w : NameKnown D) (user : Text) (answer : NameReply) (result : Result (List ZonePath) NoMemory) → user ≡ superuser → (a : Makes state v (act.Call user call.Zones) (acted.Call answer) w)
-      → IfOk result (λ zones. (zones ≡ zones_in answer) × HadMemory answer) → (made : List (NameEntry D)) × NamesMake state v made w × IfOk result (λ zones. ListsZones zones made)
+      → IfOk result (λ zones. (zones ≡ zones_in answer) × HadMemory answer) → (made : List (NameEntry D)) × NamesMake state v made w × AllCall IsNameWork made × IfOk result (λ zones. ListsZones zones made)
   lists_zones v w user answer result who a is = (
     a.entry ∷ [],
     names_one state v w _ _ a,
+    one_work a.entry (act.Call user call.Zones) a.call_is (who, tt),
     if_ok (λ zones. (zones ≡ zones_in answer) × HadMemory answer) (λ zones. ListsZones zones (a.entry ∷ [])) result
         (λ zones s. (a.entry, answer, refl, record { call_is = a.call_is ∙ ap (λ u. act.Call u call.Zones) who; reply_is = a.reply_is }, s.1, s.0)) is,
   )
 
   pub shows_status : (v w : NameKnown D) (user : Text) (zone path : NPath) (answer : NameReply) (result : Result Bool NoMemory) → user ≡ superuser → path ≡ zone → (a : Makes state v (act.Call user (call.Status path)) (acted.Call answer) w)
-      → IfOk result (λ going. (going ≡ goes_on answer) × HadMemory answer) → (made : List (NameEntry D)) × NamesMake state v made w × IfOk result (λ going. ShowsStatus zone going made)
+      → IfOk result (λ going. (going ≡ goes_on answer) × HadMemory answer) → (made : List (NameEntry D)) × NamesMake state v made w × AllCall IsNameWork made × IfOk result (λ going. ShowsStatus zone going made)
   shows_status v w user zone path answer result who same a is = (
     a.entry ∷ [],
     names_one state v w _ _ a,
+    one_work a.entry (act.Call user (call.Status path)) a.call_is (who, tt),
     if_ok (λ going. (going ≡ goes_on answer) × HadMemory answer) (λ going. ShowsStatus zone going (a.entry ∷ [])) result
         (λ going s. (a.entry, answer, refl, record { call_is = a.call_is ∙ (λ i. act.Call (who i) (call.Status (same i))); reply_is = a.reply_is }, s.1, s.0)) is,
   )
@@ -79,33 +93,34 @@ module _ {D : Type 0} (state : D → DiskState) where
 
   -- these zones were asked about so far
   abbrev pub Asking : NameKnown D → List ZonePath → List NPath → NameKnown D → Type 0
-  Asking v zones going w = (made : List (NameEntry D)) × NamesMake state v made w × AsksAbout zones made going
+  Asking v zones going w = (made : List (NameEntry D)) × NamesMake state v made w × AllCall IsNameWork made × AsksAbout zones made going
 
   pub asking_begins : (v : NameKnown D) (going : List NPath) → LegalOf (NameSteps {D = D} state) (NameAllows {S = NameView D}) v.start v.seen → going ≡ [] → Asking v [] going v
-  asking_begins v going legal none = ([], names_none state v legal, none)
+  asking_begins v going legal none = ([], names_none state v legal, no_work, none)
 
   pub asking_more : (v w x : NameKnown D) (zones : List ZonePath) (i : ℕ) (zone : ZonePath) (going going' : List NPath) (shown : Bool) (result : Result Bool NoMemory) → Asking v (take i zones) going w
-      → i < length zones → get_or zones i zone ≡ zone → result ≡ Ok shown → (more : List (NameEntry D)) × NamesMake state w more x × IfOk result (λ b. ShowsStatus zone.path b more)
+      → i < length zones → get_or zones i zone ≡ zone → result ≡ Ok shown → (more : List (NameEntry D)) × NamesMake state w more x × AllCall IsNameWork more × IfOk result (λ b. ShowsStatus zone.path b more)
       → going' ≡ going ++ cond shown (zone.path ∷ []) [] → Asking v (take (i + 1) zones) going' x
-  asking_more v w x zones i zone going going' shown result (made, makes, asks) within at is (more, makes', shows) longer =
+  asking_more v w x zones i zone going going' shown result (made, makes, work, asks) within at is (more, makes', work', shows) longer =
       let here : ShowsStatus zone.path shown more = subst (λ (r : Result Bool NoMemory). IfOk r (λ b. ShowsStatus zone.path b more)) is shows in
       let there = asks_more (take i zones) zone made more going shown asks here in (
         made ++ more,
         names_then state v w x made more makes makes',
+        more_work made more work work',
         subst (λ (zs : List ZonePath). AsksAbout zs (made ++ more) going') (sym (taken_more zones i zone within at))
             (subst (λ (gs : List NPath). AsksAbout (take i zones ++ zone ∷ []) (made ++ more) gs) (sym longer) there),
       )
 
   pub asking_ends : (v w : NameKnown D) (zones : List ZonePath) (i : ℕ) (going : List NPath) → Asking v (take i zones) going w → take i zones ≡ zones
-      → (made : List (NameEntry D)) × NamesMake state v made w × AsksAbout zones made going
-  asking_ends v w zones i going (made, makes, asks) all = (made, makes, subst (λ (zs : List ZonePath). AsksAbout zs made going) all asks)
+      → (made : List (NameEntry D)) × NamesMake state v made w × AllCall IsNameWork made × AsksAbout zones made going
+  asking_ends v w zones i going (made, makes, work, asks) all = (made, makes, work, subst (λ (zs : List ZonePath). AsksAbout zs made going) all asks)
 
   -- memory ran out after these
   pub asking_stops : (v w x : NameKnown D) (zones all : List ZonePath) (going : List NPath) (shown : Result Bool NoMemory) (zone : NPath) (result : Result (List NPath) NoMemory) → Asking v zones going w
-      → (more : List (NameEntry D)) × NamesMake state w more x × IfOk shown (λ b. ShowsStatus zone b more) → is_err result ≡ true
-      → (made : List (NameEntry D)) × NamesMake state v made x × IfOk result (λ gs. AsksAbout all made gs)
-  asking_stops v w x zones all going shown zone result (made, makes, asks) (more, makes', shows) failed =
-      (made ++ more, names_then state v w x made more makes makes', if_err (λ gs. AsksAbout all (made ++ more) gs) result failed)
+      → (more : List (NameEntry D)) × NamesMake state w more x × AllCall IsNameWork more × IfOk shown (λ b. ShowsStatus zone b more) → is_err result ≡ true
+      → (made : List (NameEntry D)) × NamesMake state v made x × AllCall IsNameWork made × IfOk result (λ gs. AsksAbout all made gs)
+  asking_stops v w x zones all going shown zone result (made, makes, work, asks) (more, makes', work', shows) failed =
+      (made ++ more, names_then state v w x made more makes makes', more_work made more work work', if_err (λ gs. AsksAbout all (made ++ more) gs) result failed)
 
 -- ---- walking
 
@@ -280,9 +295,10 @@ module _ {D W : Type 0} (state : D → DiskState) (to_come : W → ℕ → ℕ) 
 
   pub round_whole : (v w x y : NameKnown D) (v' y' : KmsKnown D W) (zones slice : List ZonePath) (going going' : List NPath) (result : Result (Unit {0}) NoMemory)
       → LegalOf (KmsSteps {D = D} {W = W} state to_come) (KmsAllows {S = KmsView D W}) v'.start v'.seen
-      → (listed : List (NameEntry D)) × NamesMake state v listed w × ListsZones zones listed → slice ≡ zones → (statuses : List (NameEntry D)) × NamesMake state w statuses x × AsksAbout slice statuses going → going' ≡ going
+      → (listed : List (NameEntry D)) × NamesMake state v listed w × AllCall IsNameWork listed × ListsZones zones listed → slice ≡ zones
+      → (statuses : List (NameEntry D)) × NamesMake state w statuses x × AllCall IsNameWork statuses × AsksAbout slice statuses going → going' ≡ going
       → (made : List (NameEntry D)) × (called : List (KmsEntry D W)) × MakesBoth state to_come x v' made called y y' × OnOk result (WalksAll going' made called) → Rounds v v' result y y'
-  round_whole v w x y v' y' zones slice going going' result legal (listed, m, lists) same (statuses, n, asks) same' (walks, called, makes, walked) =
+  round_whole v w x y v' y' zones slice going going' result legal (listed, m, work, lists) same (statuses, n, work', asks) same' (walks, called, makes, walked) =
       let (e, answer, is, asked, had, shown) = lists in
       let before = names_then state v w x listed statuses m n in
       let all = both_then state to_come v x y v' v' y' (listed ++ statuses) walks [] called (names_alone state to_come v x v' (listed ++ statuses) legal before) makes in

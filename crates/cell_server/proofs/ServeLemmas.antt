@@ -20,12 +20,12 @@ use Rattle.cell_server.specs.declared.ends.ServeEnd.TheVariants as serve_end
 use Rattle.cell_server.proofs.GoingLemmas.{connections_none}
 use Rattle.cell_server.proofs.MadeLemmas.{both_none}
 
-module _ {I O D W : Type 0} (serves : Serving I O D W) (state : D → DiskState) (to_come : W → ℕ → ℕ) where
+module _ {I O D W : Type 0} (serves : Serving I O D W) (first second : ℕ → ℕ) (state : D → DiskState) (to_come : W → ℕ → ℕ) where
   -- memory ran out in the last round
   pub serves_part : (door0 : DoorState I O) (keys0 : KmsKnown D W) (names0 : NameKnown D) (port conns : ℕ) (end : ServeEnd) (door : DoorState I O) (keys keys' : KmsKnown D W) (names names' : NameKnown D)
       (made : List (NameEntry D)) (called : List (KmsEntry D W))
-      → Listens port door0 end door → Connections serves door0 keys0 names0 door keys names → MakesBoth state to_come names keys made called names' keys' → end ≡ serve_end.NoMemory
-      → ServesAll serves state to_come door0 keys0 names0 port conns end door keys' names'
+      → Listens port door0 end door → Connections serves first second door0 keys0 names0 door keys names → MakesBoth state to_come names keys made called names' keys' → end ≡ serve_end.NoMemory
+      → ServesAll serves first second state to_come door0 keys0 names0 port conns end door keys' names'
   serves_part door0 keys0 names0 port conns end door keys keys' names names' made called listens connections makes is = record {
     listens = listens;
     keys_then = keys;
@@ -40,9 +40,9 @@ module _ {I O D W : Type 0} (serves : Serving I O D W) (state : D → DiskState)
 
   -- there was no last round
   pub serves_no_round : (door0 : DoorState I O) (keys0 : KmsKnown D W) (names0 : NameKnown D) (port conns : ℕ) (end : ServeEnd) (door : DoorState I O) (keys : KmsKnown D W) (names : NameKnown D)
-      → Listens port door0 end door → Connections serves door0 keys0 names0 door keys names → LegalOf (NameSteps {D = D} state) (NameAllows {S = NameView D}) names.start names.seen
+      → Listens port door0 end door → Connections serves first second door0 keys0 names0 door keys names → LegalOf (NameSteps {D = D} state) (NameAllows {S = NameView D}) names.start names.seen
       → LegalOf (KmsSteps {D = D} {W = W} state to_come) (KmsAllows {S = KmsView D W}) keys.start keys.seen → ¬ (end ≡ serve_end.Served)
-      → ServesAll serves state to_come door0 keys0 names0 port conns end door keys names
+      → ServesAll serves first second state to_come door0 keys0 names0 port conns end door keys names
   serves_no_round door0 keys0 names0 port conns end door keys names listens connections legal legal' not_all = record {
     listens = listens;
     keys_then = keys;
@@ -59,16 +59,16 @@ module _ {I O D W : Type 0} (serves : Serving I O D W) (state : D → DiskState)
   pub serves_none : (door0 : DoorState I O) (keys : KmsKnown D W) (names : NameKnown D) (port conns : ℕ) (door : DoorState I O) → door ≡ door0
       → LegalOf (NameSteps {D = D} state) (NameAllows {S = NameView D}) names.start names.seen
       → LegalOf (KmsSteps {D = D} {W = W} state to_come) (KmsAllows {S = KmsView D W}) keys.start keys.seen
-      → ServesAll serves state to_come door0 keys names port conns serve_end.DoorFault door keys names
+      → ServesAll serves first second state to_come door0 keys names port conns serve_end.DoorFault door keys names
   serves_none door0 keys names port conns door same legal legal' =
-      subst (λ (d : DoorState I O). ServesAll serves state to_come door0 keys names port conns serve_end.DoorFault d keys names) (sym same)
-      (serves_no_round door0 keys names port conns serve_end.DoorFault door0 keys names (inr (refl, refl)) (connections_none serves door0 keys names) legal legal' (λ e. cc))
+      subst (λ (d : DoorState I O). ServesAll serves first second state to_come door0 keys names port conns serve_end.DoorFault d keys names) (sym same)
+      (serves_no_round door0 keys names port conns serve_end.DoorFault door0 keys names (inr (refl, refl)) (connections_none serves first second door0 keys names) legal legal' (λ e. cc))
 
   -- all connections were served, and the last round was finished
   pub serves_whole : (door0 : DoorState I O) (keys0 : KmsKnown D W) (names0 : NameKnown D) (port conns : ℕ) (end : ServeEnd) (door : DoorState I O) (keys keys' : KmsKnown D W) (names names' : NameKnown D)
       (made : List (NameEntry D)) (called : List (KmsEntry D W))
-      → Listens port door0 end door → Connections serves door0 keys0 names0 door keys names → door.accepted ≡ door0.accepted + conns → MakesBoth state to_come names keys made called names' keys' → IsLastRound made called
-      → end ≡ serve_end.Served → ServesAll serves state to_come door0 keys0 names0 port conns end door keys' names'
+      → Listens port door0 end door → Connections serves first second door0 keys0 names0 door keys names → door.accepted ≡ door0.accepted + conns → MakesBoth state to_come names keys made called names' keys' → IsLastRound made called
+      → end ≡ serve_end.Served → ServesAll serves first second state to_come door0 keys0 names0 port conns end door keys' names'
   serves_whole door0 keys0 names0 port conns end door keys keys' names names' made called listens connections accepted makes round is =
       let so_many : door.accepted ≡ door0.accepted + length connections.visits = connections.accepted in
       let left : door.left ≡ door0.left + length connections.visits = connections.left in
@@ -86,7 +86,7 @@ module _ {I O D W : Type 0} (serves : Serving I O D W) (state : D → DiskState)
 
   -- the same connections, at the door before it was opened
   connections_before : (door0 : DoorState I O) (port : ℕ) (keys0 : KmsKnown D W) (names0 : NameKnown D) (door : DoorState I O) (keys : KmsKnown D W) (names : NameKnown D)
-      → Connections serves (with_port door0 port) keys0 names0 door keys names → Connections serves door0 keys0 names0 door keys names
+      → Connections serves first second (with_port door0 port) keys0 names0 door keys names → Connections serves first second door0 keys0 names0 door keys names
   connections_before door0 port keys0 names0 door keys names c = record {
     visits = c.visits;
     accepted = c.accepted;
@@ -96,6 +96,7 @@ module _ {I O D W : Type 0} (serves : Serving I O D W) (state : D → DiskState)
     served = c.served;
     other_keys = c.other_keys;
     other_names = c.other_names;
+    work = c.work;
     met_keys = c.met_keys;
     met_names = c.met_names;
   }
@@ -107,7 +108,7 @@ module _ {I O D W : Type 0} (serves : Serving I O D W) (state : D → DiskState)
 
   -- the same, from before the door was opened
   pub serves_after : (door0 : DoorState I O) (keys0 : KmsKnown D W) (names0 : NameKnown D) (port conns : ℕ) (end : ServeEnd) (door : DoorState I O) (keys : KmsKnown D W) (names : NameKnown D)
-      → ServesAll serves state to_come (with_port door0 port) keys0 names0 port conns end door keys names → ServesAll serves state to_come door0 keys0 names0 port conns end door keys names
+      → ServesAll serves first second state to_come (with_port door0 port) keys0 names0 port conns end door keys names → ServesAll serves first second state to_come door0 keys0 names0 port conns end door keys names
   serves_after door0 keys0 names0 port conns end door keys names s = record {
     listens = listens_before door0 port end door s.listens;
     keys_then = s.keys_then;

@@ -10,6 +10,7 @@ use Rattle.kms_cell.specs.Entries.{KmsEntry, KmsKnown}
 use Rattle.name_cell.specs.Entries.{NameEntry, NameKnown}
 use Rattle.server_parts.specs.Doors.{DoorState, Left, with_more}
 use Rattle.cell_desk.specs.Connections.{ServedByCells}
+use Rattle.cell_server.specs.Work.{IsWork}
 
 -- ---- one connection
 
@@ -118,8 +119,9 @@ module _ {I O D W : Type 0} (serves : Serving I O D W) where
       (door0 : DoorState I O) (keys0 : KmsKnown D W) (names0 : NameKnown D) → Going door0 keys0 names0 door keys names running → Going door0 keys0 names0 door' keys' names' running'
 
   -- Connections came and were all left, in the order in which they came. Each was served by the entries of two numbers of its own, which the
-  -- caller's passes have seen. Beside their passes, those of workers were met.
-  pub record Connections (door0 : DoorState I O) (keys0 : KmsKnown D W) (names0 : NameKnown D) (door : DoorState I O) (keys : KmsKnown D W) (names : NameKnown D) : Type 0 where
+  -- caller's passes have seen. Beside their passes, those of workers were met, whose entries are work: `first` and `second` are the words of the
+  -- fillers.
+  pub record Connections (first second : ℕ → ℕ) (door0 : DoorState I O) (keys0 : KmsKnown D W) (names0 : NameKnown D) (door : DoorState I O) (keys : KmsKnown D W) (names : NameKnown D) : Type 0 where
     pub visits : List (Visit I O)
     pub accepted : door.accepted ≡ door0.accepted + length visits
     pub left : door.left ≡ door0.left + length visits
@@ -128,5 +130,6 @@ module _ {I O D W : Type 0} (serves : Serving I O D W) where
     pub served : AllServed keys.seen names.seen visits
     pub other_keys : List ℕ
     pub other_names : List ℕ
+    pub work : IsWork first second keys.seen names.seen other_keys other_names
     pub met_keys : HasMet keys0 keys (map keys_of visits ++ other_keys)
     pub met_names : HasMet names0 names (map names_of visits ++ other_names)

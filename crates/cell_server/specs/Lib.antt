@@ -1,3 +1,4 @@
 pub mod Connections
 pub mod Rounds
 pub mod Serves
+pub mod Work

@@ -19,14 +19,15 @@ pub record EndsWell {I O D W : Type 0} (door0 door : DoorState I O) (conns : ℕ
 abbrev pub Listens : {I O : Type 0} → ℕ → DoorState I O → ServeEnd → DoorState I O → Type 0
 Listens port door0 end door = (door.port ≡ Some port) ⊎ ((end ≡ serve_end.DoorFault) × (door ≡ door0))
 
--- A server served connections. When all were left its passes knew the first part of both histories, with every entry that served a connection.
--- After that its passes made these entries and no others: none if the door was told to take no more connections.
-pub record ServesAll {I O D W : Type 0} (serves : Serving I O D W) (state : D → DiskState) (to_come : W → ℕ → ℕ)
+-- A server served connections, with fillers that drew from these words. When all were left its passes knew the first part of both histories,
+-- with every entry that served a connection and every one of the workers. After that its passes made these entries and no others: none if the
+-- door was told to take no more connections.
+pub record ServesAll {I O D W : Type 0} (serves : Serving I O D W) (first second : ℕ → ℕ) (state : D → DiskState) (to_come : W → ℕ → ℕ)
     (door0 : DoorState I O) (keys0 : KmsKnown D W) (names0 : NameKnown D) (port conns : ℕ) (end : ServeEnd) (door : DoorState I O) (keys : KmsKnown D W) (names : NameKnown D) : Type 0 where
   pub listens : Listens port door0 end door
   pub keys_then : KmsKnown D W
   pub names_then : NameKnown D
-  pub connections : Connections serves door0 keys0 names0 door keys_then names_then
+  pub connections : Connections serves first second door0 keys0 names0 door keys_then names_then
   pub made : List (NameEntry D)
   pub called : List (KmsEntry D W)
   pub makes : MakesBoth state to_come names_then keys_then made called names keys

@@ -2,6 +2,7 @@
 ghost use Rattle.std.specs.Prelude.{◌≡◌, ◌∷◌, ◌++◌, [], cond, IfOk, OnOk, List};
 ghost use Rattle.name_cell.specs.Entries.{NameEntry};
 ghost use Rattle.cell_server.specs.Rounds.{AsksAbout, HadMemory, ListsZones, ShowsStatus, goes_on, is_open, zones_in};
+ghost use Rattle.cell_server.specs.Work.{AllCall, IsNameWork};
 ghost use Rattle.cell_desk.specs.Entries.{NamesMake};
 
 use crate::paths::copy_of;
@@ -51,7 +52,7 @@ pub fn list_zones<S: Turns, R: Wait>(
     names: &mut S::Names,
 ) -> Result<ZoneList, NoMemory>
     ensures { (made : List (NameEntry S.D)) × NamesMake S.state (S.names_seen names.old) made (S.names_seen names.new)
-        × IfOk result (λ zones. ListsZones zones made) }
+        × AllCall IsNameWork made × IfOk result (λ zones. ListsZones zones made) }
 {
     // The history that the pass has seen is legal.
     let _ = shared.count_names(names);
@@ -70,7 +71,7 @@ fn is_going<S: Turns, R: Wait>(
     zone: &NPath,
 ) -> Result<bool, NoMemory>
     ensures { (made : List (NameEntry S.D)) × NamesMake S.state (S.names_seen names.old) made (S.names_seen names.new)
-        × IfOk result (λ going. ShowsStatus zone.now going made) }
+        × AllCall IsNameWork made × IfOk result (λ going. ShowsStatus zone.now going made) }
 {
     // The history that the pass has seen is legal.
     let _ = shared.count_names(names);
@@ -106,7 +107,7 @@ pub fn going_zones<S: Turns, R: Wait>(
     zones: &[ZonePath],
 ) -> Result<Listing<NPath>, NoMemory>
     ensures { (made : List (NameEntry S.D)) × NamesMake S.state (S.names_seen names.old) made (S.names_seen names.new)
-        × IfOk result (λ going. AsksAbout zones.now made going) }
+        × AllCall IsNameWork made × IfOk result (λ going. AsksAbout zones.now made going) }
 {
     // The history that the pass has seen is legal.
     let _ = shared.count_names(names);

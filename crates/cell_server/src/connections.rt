@@ -3,6 +3,7 @@ ghost use Rattle.std.specs.Prelude.{◌≡◌, ◌+◌, []};
 ghost use Rattle.std.specs.Thread.{IsSend, IsSync};
 ghost use Rattle.hk_base.specs.Faults.{Rose};
 ghost use Rattle.cell_server.specs.Connections.{Connections, Going, HasOut, ServesEnds};
+ghost use Rattle.cell_server.specs.Work.{CrewWorks};
 
 use crate::clerk::Clerk;
 use crate::ends::ServeEnd;
@@ -11,7 +12,7 @@ use crate::outlets::{Outlets, open_channels};
 use crate::places::Places;
 use crate::rows::{accept_all, drain};
 use crate::running::Queue;
-use crate::workers::Crew;
+use crate::workers::{Crew, CrewStart};
 use cell_desk::Notices;
 use hk_base::{Gate, Words};
 use server_parts::Door;
@@ -103,7 +104,7 @@ where
     A::In: 's,
     A::Out: 's,
     A::Handle: 's,
-    ensures connections { Connections (ServesEnds A.In.left A.In.faults A.Out.written A.Out.faults)
+    ensures connections { Connections (ServesEnds A.In.left A.In.faults A.Out.written A.Out.faults) (V.to_come first) (V.to_come second)
         (A.state door.old) (S.keys_seen keys.old) (S.names_seen names.old) (A.state door.new) (S.keys_seen keys.new) (S.names_seen names.new) }
     ensures port { (A.state door.new).port ≡ (A.state door.old).port }
     ensures accepted { result ≡ ServeEnd.Served → (A.state door.new).accepted ≡ (A.state door.old).accepted + conns }
@@ -111,20 +112,29 @@ where
 {
     let their_keys = clerk.shared.split_keys(clerk.rt, keys);
     let their_names = clerk.shared.split_names(clerk.rt, names);
-    let begun = scope.spawn(
+    let start: CrewStart<V, S> = CrewStart::of(&their_keys, &their_names, &first, &second);
+    let begun = scope.spawn_with(
+        start,
         move || -> (K, N)
             requires { IsSync R.row × IsSend K.row × IsSend N.row × IsSync S.row × IsSync G.row × IsSend V.row }
+            ensures { CrewWorks (V.to_come first) (V.to_come second) (S.keys_seen their_keys) (S.names_seen their_names) (S.keys_seen result.0) (S.names_seen result.1) }
         { crew.run(their_keys, their_names, first, second) },
     );
     let end = serve_connections(clerk, scope, door, keys, names, conns);
     clerk.notices.close(clerk.rt);
-    // Where no thread could be made, the workers run here.
-    let (their_keys, their_names) = match begun {
-        Ok(thread) => thread.join(clerk.rt),
-        Err(refused) => (refused.value)(),
-    };
-    clerk.meet(keys, names, their_keys, their_names);
-    end
+    match begun {
+        Ok(thread) => {
+            let (their_keys, their_names) = thread.join(clerk.rt);
+            clerk.meet(keys, names, their_keys, their_names);
+            end
+        }
+        // If no thread can be made, the workers run here.
+        Err(refused) => {
+            let (their_keys, their_names) = (refused.value)();
+            clerk.meet(keys, names, their_keys, their_names);
+            end
+        }
+    }
 }
 
 // What is lent ends here, so that the caller's clauses know how.
@@ -161,7 +171,7 @@ pub fn serve_with_workers<
     second: V,
     gate: &G,
 ) -> ServeEnd
-    ensures connections { Connections (ServesEnds A.In.left A.In.faults A.Out.written A.Out.faults)
+    ensures connections { Connections (ServesEnds A.In.left A.In.faults A.Out.written A.Out.faults) (V.to_come first) (V.to_come second)
         (A.state door.old) (S.keys_seen keys.old) (S.names_seen names.old) (A.state door.new) (S.keys_seen keys.new) (S.names_seen names.new) }
     ensures port { (A.state door.new).port ≡ (A.state door.old).port }
     ensures accepted { result ≡ ServeEnd.Served → (A.state door.new).accepted ≡ (A.state door.old).accepted + conns }
@@ -208,7 +218,7 @@ fn serve_in_scope<
     first: V,
     second: V,
 ) -> ServeEnd
-    ensures connections { Connections (ServesEnds A.In.left A.In.faults A.Out.written A.Out.faults)
+    ensures connections { Connections (ServesEnds A.In.left A.In.faults A.Out.written A.Out.faults) (V.to_come first) (V.to_come second)
         (A.state door.old) (S.keys_seen keys.old) (S.names_seen names.old) (A.state door.new) (S.keys_seen keys.new) (S.names_seen names.new) }
     ensures port { (A.state door.new).port ≡ (A.state door.old).port }
     ensures accepted { result ≡ ServeEnd.Served → (A.state door.new).accepted ≡ (A.state door.old).accepted + conns }
@@ -219,7 +229,7 @@ fn serve_in_scope<
         clerk.rt,
         move |scope| -> (&mut A, &mut K, &mut N, ServeEnd)
             ensures { (result.0.ghost_name ≡ door.entry.ghost_name) × (result.1.ghost_name ≡ keys.entry.ghost_name) × (result.2.ghost_name ≡ names.entry.ghost_name)
-                × Connections (ServesEnds A.In.left A.In.faults A.Out.written A.Out.faults)
+                × Connections (ServesEnds A.In.left A.In.faults A.Out.written A.Out.faults) (V.to_come first) (V.to_come second)
                 (A.state door.entry.now) (S.keys_seen keys.entry.now) (S.names_seen names.entry.now) (A.state result.0.now) (S.keys_seen result.1.now) (S.names_seen result.2.now)
                 × ((A.state result.0.now).port ≡ (A.state door.entry.now).port)
                 × (result.3 ≡ ServeEnd.Served → (A.state result.0.now).accepted ≡ (A.state door.entry.now).accepted + conns)

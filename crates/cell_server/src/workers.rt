@@ -1,6 +1,8 @@
 //! The workers beside the connections: two fillers, two batch workers and an updater. Each ends once the
 //! channels are closed and what was sent before is done.
+ghost use Rattle.std.specs.Prelude.{◌≡◌, ℕ, List, []};
 ghost use Rattle.std.specs.Thread.{IsSend, IsSync};
+ghost use Rattle.cell_server.specs.Work.{CrewWorks, Fills, FillsBoth, IsBatchCall, IsNameWork, Works};
 
 use crate::asks::{going_zones, list_zones};
 use crate::outlets::{Inlets, Outlets, Update};
@@ -10,8 +12,9 @@ use hk_base::{Gate, NoMemory, Words};
 use kms_cell::FillTurn;
 use name_calls::NPath;
 use std::alloc::Global;
+use std::snapshot::Snapshot;
 use std::sync::Wait;
-use std::thread::{Threads, join};
+use std::thread::{Promise, Threads, join};
 use turns::Turns;
 
 /// What workers share.
@@ -25,9 +28,44 @@ pub struct Crew<'a, R, S, G, K: Drop> {
     pub inlets: &'a Inlets<K>,
 }
 
+/// What the workers begin with. Their thread promises that they do nothing but work.
+#[derive(Drop)]
+pub struct CrewStart<V, S: Turns> {
+    pub keys: Snapshot<S::Keys>,
+    pub names: Snapshot<S::Names>,
+    pub first: Snapshot<V>,
+    pub second: Snapshot<V>,
+}
+
+impl<V, S: Turns> CrewStart<V, S> {
+    /// What workers with these passes and words begin with.
+    pub fn of(keys: &S::Keys, names: &S::Names, first: &V, second: &V) -> CrewStart<V, S>
+        ensures keys { result.keys.value ≡ keys.now }
+        ensures names { result.names.value ≡ names.now }
+        ensures first { result.first.value ≡ first.now }
+        ensures second { result.second.value ≡ second.now }
+    {
+        CrewStart {
+            keys: Snapshot::of(keys),
+            names: Snapshot::of(names),
+            first: Snapshot::of(first),
+            second: Snapshot::of(second),
+        }
+    }
+}
+
+impl<V: Words, S: Turns> Promise<(S::Keys, S::Names)> for CrewStart<V, S> {
+    ghost use Rattle.cell_server.specs.Work.{CrewWorks};
+
+    ghost kept_by = { λ start done. CrewWorks (V.to_come start.first.value) (V.to_come start.second.value)
+        (S.keys_seen start.keys.value) (S.names_seen start.names.value) (S.keys_seen done.0) (S.names_seen done.1) };
+}
+
 impl<'a, R: Wait, K: Drop, S: Turns<Keys = K>, G: Gate> Crew<'a, R, S, G, K> {
     /// Fills queues until none is low.
-    fn fill_all<V: Words>(&self, keys: &mut K, words: &mut V) {
+    fn fill_all<V: Words>(&self, keys: &mut K, words: &mut V)
+        ensures { Fills (V.to_come words.old) (V.to_come words.new) (S.keys_seen keys.old) (S.keys_seen keys.new) }
+    {
         for _ in self.rt.forever() {
             match self.shared.fill_turn(self.rt, keys, words, self.gate) {
                 FillTurn::NothingLow => return,
@@ -37,7 +75,9 @@ impl<'a, R: Wait, K: Drop, S: Turns<Keys = K>, G: Gate> Crew<'a, R, S, G, K> {
     }
 
     /// Fills queues whenever one may be low.
-    fn fill<V: Words + Drop>(&self, keys: K, words: V) -> K {
+    fn fill<V: Words + Drop>(&self, keys: K, words: V) -> K
+        ensures { (rest : ℕ → ℕ) × Fills (V.to_come words) rest (S.keys_seen keys) (S.keys_seen result) }
+    {
         let mut keys = keys;
         let mut words = words;
         for _ in self.rt.forever() {
@@ -54,7 +94,9 @@ impl<'a, R: Wait, K: Drop, S: Turns<Keys = K>, G: Gate> Crew<'a, R, S, G, K> {
 
     /// Delivers what came of a batch, and then sends the path of its zone again. If the delivery is
     /// refused, it is not tried again, and the batch stays outstanding.
-    fn deliver(&self, names: &mut S::Names, update: Update<K>) {
+    fn deliver(&self, names: &mut S::Names, update: Update<K>)
+        ensures { Works IsNameWork (S.names_seen names.old) [] (S.names_seen names.new) }
+    {
         let Update { zone, reply, keys } = update;
         match self
             .shared
@@ -67,7 +109,9 @@ impl<'a, R: Wait, K: Drop, S: Turns<Keys = K>, G: Gate> Crew<'a, R, S, G, K> {
 
     /// Walks through a zone once. If there is a batch, it is served and sent to the updater, or
     /// delivered here if that fails.
-    fn walk(&self, keys: &mut K, names: &mut S::Names, zone: NPath) {
+    fn walk(&self, keys: &mut K, names: &mut S::Names, zone: NPath)
+        ensures { Works IsBatchCall (S.keys_seen keys.old) [] (S.keys_seen keys.new) × Works IsNameWork (S.names_seen names.old) [] (S.names_seen names.new) }
+    {
         let Ok(path) = copy_of(self.alloc, &zone) else {
             drop(zone);
             return;
@@ -93,7 +137,9 @@ impl<'a, R: Wait, K: Drop, S: Turns<Keys = K>, G: Gate> Crew<'a, R, S, G, K> {
     }
 
     /// Walks through the zones that it is sent.
-    fn walk_all(&self, keys: K, names: S::Names) -> (K, S::Names) {
+    fn walk_all(&self, keys: K, names: S::Names) -> (K, S::Names)
+        ensures { Works IsBatchCall (S.keys_seen keys) [] (S.keys_seen result.0) × Works IsNameWork (S.names_seen names) [] (S.names_seen result.1) }
+    {
         let mut keys = keys;
         let mut names = names;
         for _ in self.rt.forever() {
@@ -106,7 +152,9 @@ impl<'a, R: Wait, K: Drop, S: Turns<Keys = K>, G: Gate> Crew<'a, R, S, G, K> {
     }
 
     /// Delivers what it is sent.
-    fn update_all(&self, names: S::Names) -> S::Names {
+    fn update_all(&self, names: S::Names) -> S::Names
+        ensures { Works IsNameWork (S.names_seen names) [] (S.names_seen result) }
+    {
         let mut names = names;
         for _ in self.rt.forever() {
             match self.inlets.updates.recv(self.rt) {
@@ -118,7 +166,9 @@ impl<'a, R: Wait, K: Drop, S: Turns<Keys = K>, G: Gate> Crew<'a, R, S, G, K> {
     }
 
     /// Sends the path of each zone that is still being re-encrypted, as far as there is memory.
-    fn send_going(&self, names: &mut S::Names) -> Result<(), NoMemory> {
+    fn send_going(&self, names: &mut S::Names) -> Result<(), NoMemory>
+        ensures { Works IsNameWork (S.names_seen names.old) [] (S.names_seen names.new) }
+    {
         let zones = list_zones(self.rt, self.alloc, self.shared, names)?;
         let going = going_zones(self.rt, self.alloc, self.shared, names, zones.as_slice());
         drop(zones);
@@ -151,13 +201,19 @@ impl<
     G: Gate + Sync,
 > Crew<'a, R, S, G, K> {
     /// Two fillers, each with words of its own.
-    fn fillers<V: Words + Send + Drop>(&self, keys: K, first: V, second: V) -> K {
+    fn fillers<V: Words + Send + Drop>(&self, keys: K, first: V, second: V) -> K
+        ensures { FillsBoth (V.to_come first) (V.to_come second) (S.keys_seen keys) (S.keys_seen result) }
+    {
         let mut keys = keys;
         let other = self.shared.split_keys(self.rt, &mut keys);
         let (keys, other) = join(
             self.rt,
-            move || self.fill(keys, first),
-            move || self.fill(other, second),
+            move || -> K
+                ensures { (rest : ℕ → ℕ) × Fills (V.to_come first) rest (S.keys_seen keys) (S.keys_seen result) }
+            { self.fill(keys, first) },
+            move || -> K
+                ensures { (rest : ℕ → ℕ) × Fills (V.to_come second) rest (S.keys_seen other) (S.keys_seen result) }
+            { self.fill(other, second) },
         );
         let mut keys = keys;
         self.shared.meet_keys(self.rt, &mut keys, other);
@@ -165,15 +221,21 @@ impl<
     }
 
     /// Two batch workers.
-    fn batch_workers(&self, keys: K, names: N) -> (K, N) {
+    fn batch_workers(&self, keys: K, names: N) -> (K, N)
+        ensures { (others : List ℕ) × (more : List ℕ) × Works IsBatchCall (S.keys_seen keys) others (S.keys_seen result.0) × Works IsNameWork (S.names_seen names) more (S.names_seen result.1) }
+    {
         let mut keys = keys;
         let mut names = names;
         let other_keys = self.shared.split_keys(self.rt, &mut keys);
         let other_names = self.shared.split_names(self.rt, &mut names);
         let (one, other) = join(
             self.rt,
-            move || self.walk_all(keys, names),
-            move || self.walk_all(other_keys, other_names),
+            move || -> (K, N)
+                ensures { Works IsBatchCall (S.keys_seen keys) [] (S.keys_seen result.0) × Works IsNameWork (S.names_seen names) [] (S.names_seen result.1) }
+            { self.walk_all(keys, names) },
+            move || -> (K, N)
+                ensures { Works IsBatchCall (S.keys_seen other_keys) [] (S.keys_seen result.0) × Works IsNameWork (S.names_seen other_names) [] (S.names_seen result.1) }
+            { self.walk_all(other_keys, other_names) },
         );
         let (mut keys, mut names) = one;
         self.shared.meet_keys(self.rt, &mut keys, other.0);
@@ -182,14 +244,19 @@ impl<
     }
 
     /// The updater and the batch workers.
-    fn reencrypt(&self, keys: K, names: N) -> (K, N) {
+    fn reencrypt(&self, keys: K, names: N) -> (K, N)
+        ensures { (others : List ℕ) × (more : List ℕ) × Works IsBatchCall (S.keys_seen keys) others (S.keys_seen result.0) × Works IsNameWork (S.names_seen names) more (S.names_seen result.1) }
+    {
         let mut names = names;
         let other = self.shared.split_names(self.rt, &mut names);
         let (other, passes) = join(
             self.rt,
-            move || self.update_all(other),
+            move || -> N
+                ensures { Works IsNameWork (S.names_seen other) [] (S.names_seen result) }
+            { self.update_all(other) },
             move || -> (K, N)
                 requires { IsSync R.row × IsSend K.row × IsSend N.row × IsSync S.row × IsSync G.row }
+                ensures { (others : List ℕ) × (more : List ℕ) × Works IsBatchCall (S.keys_seen keys) others (S.keys_seen result.0) × Works IsNameWork (S.names_seen names) more (S.names_seen result.1) }
             { self.batch_workers(keys, names) },
         );
         let (keys, mut names) = passes;
@@ -199,7 +266,9 @@ impl<
 
     /// Runs all workers until the channels are closed. First the zones that are still being
     /// re-encrypted are sent. A worker for which no thread can be made runs after the others.
-    pub fn run<V: Words + Send + Drop>(&self, keys: K, names: N, first: V, second: V) -> (K, N) {
+    pub fn run<V: Words + Send + Drop>(&self, keys: K, names: N, first: V, second: V) -> (K, N)
+        ensures { CrewWorks (V.to_come first) (V.to_come second) (S.keys_seen keys) (S.names_seen names) (S.keys_seen result.0) (S.names_seen result.1) }
+    {
         let mut keys = keys;
         let mut names = names;
         let _ = self.send_going(&mut names);
@@ -208,9 +277,11 @@ impl<
             self.rt,
             move || -> K
                 requires { IsSync R.row × IsSend K.row × IsSend N.row × IsSync S.row × IsSync G.row × IsSend V.row }
+                ensures { FillsBoth (V.to_come first) (V.to_come second) (S.keys_seen other) (S.keys_seen result) }
             { self.fillers(other, first, second) },
             move || -> (K, N)
                 requires { IsSync R.row × IsSend K.row × IsSend N.row × IsSync S.row × IsSync G.row }
+                ensures { (others : List ℕ) × (more : List ℕ) × Works IsBatchCall (S.keys_seen keys) others (S.keys_seen result.0) × Works IsNameWork (S.names_seen names) more (S.names_seen result.1) }
             { self.reencrypt(keys, names) },
         );
         let (mut keys, names) = passes;

@@ -9,7 +9,6 @@ use Rattle.server_parts.specs.Doors.{DoorState}
 use Rattle.server_parts.specs.Yards.{YardState}
 use Rattle.cell_server.specs.Connections.{Serving}
 use Rattle.server_run.specs.Opening.{NoneOpened}
-use Rattle.server_run.specs.Runs.{EndsAs}
 use Rattle.server_run.specs.declared.run.RunEnd.{RunEnd}
 use Rattle.server_run.specs.declared.run.RunEnd.TheVariants as run_end
 use Rattle.hk_base.specs.Writing.{WroteFront}
@@ -17,7 +16,7 @@ use Rattle.std.specs.Io.KnownBytes.{Appends}
 use Rattle.hkms_commands.specs.declared.replay.ReplayEnd.{ReplayEnd}
 use Rattle.hkms_commands.specs.declared.replay.ReplayEnd.TheVariants as replayed
 use Rattle.hkms_commands.specs.Replay.{ended_by, last_line, status_of}
-use Rattle.hkms_commands.specs.Serve.{Reports, ReportsRun, RefusesToServe, Serves, ServesUnder, generator_of}
+use Rattle.hkms_commands.specs.Serve.{Reports, ReportsRun, RefusesToServe, RunsUnder, Serves, ServesUnder}
 use Rattle.hkms_commands.specs.Steps.{Closes}
 use Rattle.command_laws.specs.Complete.{ServeIsComplete}
 use Rattle.command_laws.specs.Good.{Counts, GoodProperties, GoodYard}
@@ -53,32 +52,32 @@ kept_closed old new file start.StoreFault closed good = inl refl
 kept_closed old new file start.NoMemory closed good = inr refl
 kept_closed old new file start.Spent closed good = absurd (spent_never old new file closed good)
 
-module _ {D I O : Type 0} (state : D → DiskState) (to_come : ChaCha → ℕ → ℕ) (serves : Serving I O D ChaCha) (conns : ℕ) (acls acls' : Option (List ℕ)) (words : ℕ → ℕ) (yard yard' : YardState) (door door' : DoorState I O) (written now : Option (List ℕ)) (status : ℕ)
+module _ {D I O : Type 0} (state : D → DiskState) (to_come : ChaCha → ℕ → ℕ) (serves : Serving I O D ChaCha) (conns : ℕ) (acls acls' : Option (List ℕ)) (words words' : ℕ → ℕ) (yard yard' : YardState) (door door' : DoorState I O) (written now : Option (List ℕ)) (status : ℕ)
     (properties : GoodProperties acls) (good : GoodYard yard) (ok : Unfailed status) where
   abbrev Done : Type 0
-  Done = ((status ≡ 0) × EndsAs state to_come serves properties.props (generator_of words) conns yard yard' door door' run_end.Served) ⊎ (status ≡ 6)
+  Done = ((status ≡ 0) × RunsUnder state to_come serves properties.props conns words yard yard' door door' run_end.Served) ⊎ (status ≡ 6)
 
   refused : (same : Type 0) → RefusesToServe same acls written now status → Done
   refused same r = inr (reported _ replayed.ReadFault written now status ok r.reports (unread acls properties r.fault r.has_fault) (λ how is. not_read how status is ok))
 
-  under : ServesUnder state to_come serves conns acls acls' words yard yard' door door' written now status → Done
+  under : ServesUnder state to_come serves conns acls acls' words words' yard yard' door door' written now status → Done
   under u = go u.end u.ends u.reports
     where
-      go : (end : RunEnd) → EndsAs state to_come serves u.props (generator_of words) conns yard yard' door door' end → ReportsRun end written now status → Done
-      go run_end.Served ends reports = inl (reports.0, subst (λ (p : Props). EndsAs state to_come serves p (generator_of words) conns yard yard' door door' run_end.Served) (same_props acls acls' u.props properties u.read) ends)
+      go : (end : RunEnd) → RunsUnder state to_come serves u.props conns words yard yard' door door' end → ReportsRun end written now status → Done
+      go run_end.Served ends reports = inl (reports.0, subst (λ (p : Props). RunsUnder state to_come serves p conns words yard yard' door door' run_end.Served) (same_props acls acls' u.props properties u.read) ends)
       go run_end.DoorFault ends (inl shown) = absurd (ok.door shown.0)
       go run_end.DoorFault ends (inr failed) = absurd (ok.write failed.0)
       go run_end.NoMemory ends reports = inr (reported replayed.NoMemory replayed.ReadFault written now status ok reports (inr refl) (λ how is. not_read how status is ok))
       go (run_end.NotOpened file fault) ends reports =
           inr (reported (ended_by file fault) replayed.StoreFault written now status ok reports (kept_closed yard yard' file fault ends.0 good) (λ how is. not_stored how status is ok))
 
-  served : (same : Type 0) → Serves state to_come serves same conns acls acls' words yard yard' door door' written now status → Done
+  served : (same : Type 0) → Serves state to_come serves same conns acls acls' words words' yard yard' door door' written now status → Done
   served same (inl r) = refused same r
   served same (inr u) = under u
 
-pub serve_is_complete : {D I O : Type 0} (state : D → DiskState) (to_come : ChaCha → ℕ → ℕ) (serves : Serving I O D ChaCha) (same others unasked : Type 0) (conns : ℕ) (acls acls' : Option (List ℕ)) (words : ℕ → ℕ) (yard yard' : YardState) (door door' : DoorState I O)
-    (written now : Option (List ℕ)) (before after : Counts) (status : ℕ) → ServeIsComplete state to_come serves same others unasked conns acls acls' words yard yard' door door' written now before after status
-serve_is_complete state to_come serves same others unasked conns acls acls' words yard yard' door door' written now before after status (inl (runs, rest)) causes none properties good =
-    served state to_come serves conns acls acls' words yard yard' door door' written now status properties good (unfailed before after status causes none) same runs
-serve_is_complete state to_come serves same others unasked conns acls acls' words yard yard' door door' written now before after status (inr memory) causes none properties good =
+pub serve_is_complete : {D I O : Type 0} (state : D → DiskState) (to_come : ChaCha → ℕ → ℕ) (serves : Serving I O D ChaCha) (same others unasked : Type 0) (conns : ℕ) (acls acls' : Option (List ℕ)) (words words' : ℕ → ℕ) (yard yard' : YardState) (door door' : DoorState I O)
+    (written now : Option (List ℕ)) (before after : Counts) (status : ℕ) → ServeIsComplete state to_come serves same others unasked conns acls acls' words words' yard yard' door door' written now before after status
+serve_is_complete state to_come serves same others unasked conns acls acls' words words' yard yard' door door' written now before after status (inl (runs, rest)) causes none properties good =
+    served state to_come serves conns acls acls' words words' yard yard' door door' written now status properties good (unfailed before after status causes none) same runs
+serve_is_complete state to_come serves same others unasked conns acls acls' words words' yard yard' door door' written now before after status (inr memory) causes none properties good =
     inr (memory_shown _ written now status (unfailed before after status causes none) memory.1)

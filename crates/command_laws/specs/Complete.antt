@@ -10,7 +10,6 @@ use Rattle.rand_chacha.specs.ChaCha.{ChaCha}
 use Rattle.server_parts.specs.Doors.{DoorState}
 use Rattle.server_parts.specs.Yards.{YardState}
 use Rattle.cell_server.specs.Connections.{Serving}
-use Rattle.server_run.specs.Runs.{EndsAs}
 use Rattle.server_run.specs.declared.run.RunEnd.TheVariants as run_end
 use Rattle.hkms_commands.specs.declared.replay.ReplayEnd.{ReplayEnd}
 use Rattle.hkms_commands.specs.declared.replay.ReplayEnd.TheVariants as replay_end
@@ -20,7 +19,7 @@ use Rattle.hkms_commands.specs.Pipe.{Converses, Pipe}
 use Rattle.hkms_commands.specs.PlayedLines.{PlayedLine, events_of_lines, lines_in, transcript}
 use Rattle.hkms_commands.specs.Replay.{Played, Replay, status_of}
 use Rattle.hkms_commands.specs.Run.{History, faults_after}
-use Rattle.hkms_commands.specs.Serve.{Serves, generator_of}
+use Rattle.hkms_commands.specs.Serve.{RunsUnder, Serves}
 use Rattle.command_laws.specs.Good.{Counts, GoodDisk, GoodLines, GoodProperties, GoodRequests, GoodYard, HasCauses, NoneRose}
 
 -- the disk's count of faults rose in no event of a history, so that none was answered by a store fault
@@ -64,9 +63,9 @@ PipeIsComplete same_disk same unread old new acls acls' words words' left left' 
 module _ {D I O : Type 0} (state : D → DiskState) (to_come : ChaCha → ℕ → ℕ) (serves : Serving I O D ChaCha) where
   -- The same at the words of a server: with good properties and good logs, if no count rises, it serves all connections, or there is no
   -- memory.
-  abbrev pub ServeIsComplete : (same others unread : Type 0) (conns : ℕ) (acls acls' : Option (List ℕ)) (words : ℕ → ℕ) (yard yard' : YardState) (door door' : DoorState I O) (written now : Option (List ℕ)) (before after : Counts) (status : ℕ) → Type 0
-  ServeIsComplete same others unread conns acls acls' words yard yard' door door' written now before after status =
-      (Serves state to_come serves same conns acls acls' words yard yard' door door' written now status × others) ⊎ WantsMemory unread written now status
+  abbrev pub ServeIsComplete : (same others unread : Type 0) (conns : ℕ) (acls acls' : Option (List ℕ)) (words words' : ℕ → ℕ) (yard yard' : YardState) (door door' : DoorState I O) (written now : Option (List ℕ)) (before after : Counts) (status : ℕ) → Type 0
+  ServeIsComplete same others unread conns acls acls' words words' yard yard' door door' written now before after status =
+      (Serves state to_come serves same conns acls acls' words words' yard yard' door door' written now status × others) ⊎ WantsMemory unread written now status
       → HasCauses before after status → NoneRose before after
       → (properties : GoodProperties acls) → GoodYard yard
-      → ((status ≡ 0) × EndsAs state to_come serves properties.props (generator_of words) conns yard yard' door door' run_end.Served) ⊎ (status ≡ 6)
+      → ((status ≡ 0) × RunsUnder state to_come serves properties.props conns words yard yard' door door' run_end.Served) ⊎ (status ≡ 6)

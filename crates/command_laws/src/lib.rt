@@ -109,7 +109,7 @@ pub fn servers_are_complete<
     ensures { ServeIsComplete Y.Own.state ⟦<ChaWords as Words>⟧.to_come (ServesEnds P.In.left P.In.faults P.Out.written P.Out.faults)
         ((yard_after.now ≡ yard.now) × (door_after.now ≡ door.now) × (rand_after.now ≡ rand.now)) ((disk_after.now ≡ disk.now) × (input_after.now ≡ input.now))
         ((disk_after.now ≡ disk.now) × (acls_after.now ≡ acls.now) × (input_after.now ≡ input.now) × (rand_after.now ≡ rand.now) × (clock_after.now ≡ clock.now)) conns
-        (A.left acls.now) (A.left acls_after.now) (W.to_come rand.now) (Y.state yard.now) (Y.state yard_after.now) (P.state door.now) (P.state door_after.now) (K.written out.now) (K.written out_after.now)
+        (A.left acls.now) (A.left acls_after.now) (W.to_come rand.now) (W.to_come rand_after.now) (Y.state yard.now) (Y.state yard_after.now) (P.state door.now) (P.state door_after.now) (K.written out.now) (K.written out_after.now)
         (record { acls = A.faults acls.now; input = S.faults input.now; out = K.faults out.now; store = (Y.state yard.now).faults; door = P.faults door.now })
         (record { acls = A.faults acls_after.now; input = S.faults input_after.now; out = K.faults out_after.now; store = (Y.state yard_after.now).faults; door = P.faults door_after.now }) status }
 {}

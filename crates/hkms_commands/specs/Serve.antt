@@ -1,5 +1,5 @@
 -- The server.
-use Rattle.std.specs.Prelude.{◌≡◌, ◌⊎◌, ℕ, List, [], ◌∷◌, codes, Option}
+use Rattle.std.specs.Prelude.{◌≡◌, ◌⊎◌, ◌+◌, ℕ, List, [], ◌∷◌, codes, Option}
 use Rattle.hk_base.specs.Disk.{DiskState}
 use Rattle.prop_text.specs.declared.props.Props.{Props}
 use Rattle.rand_chacha.specs.ChaCha.{ChaCha}
@@ -20,6 +20,10 @@ use Rattle.hkms_commands.specs.Steps.{Closes}
 -- the generator that has the next eight words as its seed
 abbrev pub generator_of : (ℕ → ℕ) → ChaCha
 generator_of words = record { key = words 0 ∷ words 1 ∷ words 2 ∷ words 3 ∷ words 4 ∷ words 5 ∷ words 6 ∷ words 7 ∷ []; stream = 0; word_pos = 0 }
+
+-- the words after the first n
+abbrev pub words_after : ℕ → (ℕ → ℕ) → ℕ → ℕ
+words_after n words k = words (k + n)
 
 -- The last line of such an end was written, as at a replay that played no line, and the status is that end's. The end may be another one if the
 -- line could not be made or written.
@@ -43,16 +47,23 @@ pub record RefusesToServe (same : Type 0) (acls written now : Option (List ℕ))
   pub reports : Reports (ended_by_props fault) written now status
 
 module _ {D I O : Type 0} (state : D → DiskState) (to_come : ChaCha → ℕ → ℕ) (serves : Serving I O D ChaCha) where
-  -- The properties were read, and the server ran under them. The key management service drew from a generator of its own.
-  pub record ServesUnder (conns : ℕ) (acls acls' : Option (List ℕ)) (words : ℕ → ℕ) (yard yard' : YardState) (door door' : DoorState I O) (written now : Option (List ℕ)) (status : ℕ) : Type 0 where
+  -- The server ran under these properties, and ended so. The key management service and the two fillers drew from a generator each, whose seeds
+  -- are eight words each, in this order.
+  abbrev pub RunsUnder : Props → ℕ → (ℕ → ℕ) → YardState → YardState → DoorState I O → DoorState I O → RunEnd → Type 0
+  RunsUnder props conns words yard yard' door door' end =
+      EndsAs state to_come serves (to_come (generator_of (words_after 8 words))) (to_come (generator_of (words_after 16 words))) props (generator_of words) conns yard yard' door door' end
+
+  -- The properties were read, and the server ran under them. It drew 24 words.
+  pub record ServesUnder (conns : ℕ) (acls acls' : Option (List ℕ)) (words words' : ℕ → ℕ) (yard yard' : YardState) (door door' : DoorState I O) (written now : Option (List ℕ)) (status : ℕ) : Type 0 where
     pub props : Props
     pub read : ReadsProperties acls acls' props
     pub end : RunEnd
-    pub ends : EndsAs state to_come serves props (generator_of words) conns yard yard' door door' end
+    pub ends : RunsUnder props conns words yard yard' door door' end
+    pub rest : (k : ℕ) → words' k ≡ words_after 24 words k
     pub reports : ReportsRun end written now status
 
   -- The properties were read first, then both logs were opened, and then connections were served. `same` says that the yard, the door and the
   -- random words are as they were.
-  abbrev pub Serves : Type 0 → ℕ → Option (List ℕ) → Option (List ℕ) → (ℕ → ℕ) → YardState → YardState → DoorState I O → DoorState I O → Option (List ℕ) → Option (List ℕ) → ℕ → Type 0
-  Serves same conns acls acls' words yard yard' door door' written now status =
-      RefusesToServe same acls written now status ⊎ ServesUnder conns acls acls' words yard yard' door door' written now status
+  abbrev pub Serves : Type 0 → ℕ → Option (List ℕ) → Option (List ℕ) → (ℕ → ℕ) → (ℕ → ℕ) → YardState → YardState → DoorState I O → DoorState I O → Option (List ℕ) → Option (List ℕ) → ℕ → Type 0
+  Serves same conns acls acls' words words' yard yard' door door' written now status =
+      RefusesToServe same acls written now status ⊎ ServesUnder conns acls acls' words words' yard yard' door door' written now status

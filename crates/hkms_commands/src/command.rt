@@ -68,7 +68,7 @@ fn obey<
         ((how : ReplayEnd) × (result ≡ status_of how) × Replay (disk.new ≡ disk.old) ((input.new ≡ input.old) × (rand.new ≡ rand.old)) (D.state disk.old) (D.state disk.new) (A.left acls.old) (A.left acls.new) (W.to_come rand.old) (W.to_come rand.new) (S.left input.old) (K.written out.old) (K.written out.new) how × (result ≡ 0 → IsAtEnd (S.left input.new)))
         (Pipe (disk.new ≡ disk.old) ((input.new ≡ input.old) × (out.new ≡ out.old) × (rand.new ≡ rand.old) × (clock.new ≡ clock.old)) (D.state disk.old) (D.state disk.new) (A.left acls.old) (A.left acls.new) (W.to_come rand.old) (W.to_come rand.new) (S.left input.old) (S.left input.new) (K.written out.old) (K.written out.new) result)
         (λ port conns. (Serves Y.Own.state ⟦<ChaWords as Words>⟧.to_come (ServesEnds P.In.left P.In.faults P.Out.written P.Out.faults)
-        ((yard.new ≡ yard.old) × (door.new ≡ door.old) × (rand.new ≡ rand.old)) conns (A.left acls.old) (A.left acls.new) (W.to_come rand.old)
+        ((yard.new ≡ yard.old) × (door.new ≡ door.old) × (rand.new ≡ rand.old)) conns (A.left acls.old) (A.left acls.new) (W.to_come rand.old) (W.to_come rand.new)
         (Y.state yard.old) (Y.state yard.new) (P.state door.old) (P.state door.new) (K.written out.old) (K.written out.new) result × ((disk.new ≡ disk.old) × (input.new ≡ input.old))))
         ((disk.new ≡ disk.old) × (acls.new ≡ acls.old) × (input.new ≡ input.old) × (rand.new ≡ rand.old) × (clock.new ≡ clock.old))
         (K.written out.old) (K.written out.new) result }
@@ -150,7 +150,7 @@ pub fn hkms<
         ConnectionKeepsFiles ((input.new ≡ input.old) × (rand.new ≡ rand.old) × (clock.new ≡ clock.old)) past (D.state disk.old) (D.state disk.new) (A.left acls.old) (A.left acls.new) (W.to_come rand.old) (W.to_come rand.new) (S.left input.old) (S.left input.new) (K.written out.old) (K.written out.new) result }
     ensures serve { (port conns : ℕ) → Names (order.Serve port conns) words.now →
         (Serves Y.Own.state ⟦<ChaWords as Words>⟧.to_come (ServesEnds P.In.left P.In.faults P.Out.written P.Out.faults)
-        ((yard.new ≡ yard.old) × (door.new ≡ door.old) × (rand.new ≡ rand.old)) conns (A.left acls.old) (A.left acls.new) (W.to_come rand.old)
+        ((yard.new ≡ yard.old) × (door.new ≡ door.old) × (rand.new ≡ rand.old)) conns (A.left acls.old) (A.left acls.new) (W.to_come rand.old) (W.to_come rand.new)
         (Y.state yard.old) (Y.state yard.new) (P.state door.old) (P.state door.new) (K.written out.old) (K.written out.new) result × ((disk.new ≡ disk.old) × (input.new ≡ input.old)))
         ⊎ WantsMemory ((disk.new ≡ disk.old) × (acls.new ≡ acls.old) × (input.new ≡ input.old) × (rand.new ≡ rand.old) × (clock.new ≡ clock.old)) (K.written out.old) (K.written out.new) result }
     ensures idle { UsesYard words.now ⊎ ((yard.new ≡ yard.old) × (door.new ≡ door.old)) }

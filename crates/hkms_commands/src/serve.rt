@@ -116,7 +116,7 @@ pub fn run_serve<
     requires keys { IsTrue ((Y.state yard.old).lies 0) }
     requires names { IsTrue ((Y.state yard.old).lies 1) }
     ensures serves { Serves Y.Own.state ⟦<ChaWords as Words>⟧.to_come (ServesEnds P.In.left P.In.faults P.Out.written P.Out.faults)
-        ((yard.new ≡ yard.old) × (door.new ≡ door.old) × (rand.new ≡ rand.old)) conns (A.left acls.old) (A.left acls.new) (W.to_come rand.old)
+        ((yard.new ≡ yard.old) × (door.new ≡ door.old) × (rand.new ≡ rand.old)) conns (A.left acls.old) (A.left acls.new) (W.to_come rand.old) (W.to_come rand.new)
         (Y.state yard.old) (Y.state yard.new) (P.state door.old) (P.state door.new) (K.written out.old) (K.written out.new) result }
     ensures read { result ≡ 7 → Rose (A.faults acls.old) (A.faults acls.new) }
     ensures write { result ≡ 8 → Rose (K.faults out.old) (K.faults out.new) }

@@ -51,17 +51,17 @@ rose_then a b c rose later = let r : min (a + 1) (2 ^ 64 - 1) ≤ b = rose in om
 then_rose : (a b c : ℕ) → a ≤ b → Rose b c → Rose a c
 then_rose a b c later rose = let r : min (b + 1) (2 ^ 64 - 1) ≤ c = rose in omega (arith, r, later)
 
-module _ {D W I O : Type 0} (state : D → DiskState) (to_come : W → ℕ → ℕ) (serves : Serving I O D W) where
+module _ {D W I O : Type 0} (state : D → DiskState) (to_come : W → ℕ → ℕ) (serves : Serving I O D W) (first second : ℕ → ℕ) where
   -- the services ran in their cells, and these are what the cells left
   abbrev pub RanTo : ℕ → ℕ → DoorState I O → DoorState I O → ServeEnd → KmsView D W → NameView D → D → D → Type 0
   RanTo port conns door door' end k n keys_disk names_disk =
-      (last_k : KmsView D W) × (last_n : NameView D) × RanInCells state to_come serves port conns door door' end k n last_k last_n
+      (last_k : KmsView D W) × (last_n : NameView D) × RanInCells state to_come serves first second port conns door door' end k n last_k last_n
       × (keys_disk ≡ last_k.disk) × (names_disk ≡ last_n.disk) × RunsOn (state last_k.disk) last_k.kms × NamesRunOn (state last_n.disk) last_n.names
 
   pub ran : (port conns : ℕ) (door door' : DoorState I O) (end : ServeEnd) (k : KmsView D W) (n : NameView D) (keys : KmsKnown D W) (names : NameKnown D) (keys' : KmsKnown D W) (names' : NameKnown D)
       (kms : RunningKms) (keys_disk : D) (running : RunningNames) (names_disk : D)
       → (keys.start ≡ Some k) × (keys.seen ≡ []) × (keys.ended ≡ []) → (names.start ≡ Some n) × (names.seen ≡ []) × (names.ended ≡ [])
-      → ServesAll serves state to_come door keys names port conns end door' keys' names'
+      → ServesAll serves first second state to_come door keys names port conns end door' keys' names'
       → (last : KmsView D W) × Closes (KmsSteps state to_come) KmsAllows keys' last × (kms ≡ last.kms) × (keys_disk ≡ last.disk) → RunsOn (state keys_disk) kms
       → (last : NameView D) × Closes (NameSteps state) NameAllows names' last × (running ≡ last.names) × (names_disk ≡ last.disk) → NamesRunOn (state names_disk) running
       → RanTo port conns door door' end k n keys_disk names_disk
@@ -80,7 +80,7 @@ module _ {D W I O : Type 0} (state : D → DiskState) (to_come : W → ℕ → �
       → BothOpened state props old begun words k n → RanTo port conns door door' end k n keys_disk names_disk
       → keys_back ≡ keys_disk → names_back ≡ names_disk → (mid : YardState) × Given 0 begun mid (state keys_back) × Given 1 mid new (state names_back)
       → DisksFailed failed (state keys_back).faults (state names_back).faults
-      → RanServer state to_come serves props words port conns old new door door' end failed
+      → RanServer state to_come serves first second props words port conns old new door door' end failed
   ran_server props words port conns old begun new door door' end failed k n keys_disk names_disk keys_back names_back opened (last_k, last_n, did, keys_is, names_is, runs, names_run) keys_same names_same (mid, keys_given, names_given) disks = record {
     begun = begun;
     k = k;
@@ -98,8 +98,8 @@ module _ {D W I O : Type 0} (state : D → DiskState) (to_come : W → ℕ → �
         (subst (λ d. DisksFailed failed (state d).faults (state names_back).faults) (keys_same ∙ keys_is) disks);
   }
 
-  so_ends : (props : Props) (words : W) (port conns : ℕ) (old new : YardState) (door door' : DoorState I O) (end : ServeEnd) (failed : Bool) → RanServer state to_come serves props words port conns old new door door' end failed
-      → EndsAs state to_come serves props words port conns old new door door' (end_of end failed)
+  so_ends : (props : Props) (words : W) (port conns : ℕ) (old new : YardState) (door door' : DoorState I O) (end : ServeEnd) (failed : Bool) → RanServer state to_come serves first second props words port conns old new door door' end failed
+      → EndsAs state to_come serves first second props words port conns old new door door' (end_of end failed)
   so_ends props words port conns old new door door' serve_end.Served true r = (serve_end.Served, (λ e. cc), r)
   so_ends props words port conns old new door door' serve_end.Served false r = r
   so_ends props words port conns old new door door' serve_end.Closed true r = (serve_end.Closed, (λ e. cc), r)
@@ -110,9 +110,9 @@ module _ {D W I O : Type 0} (state : D → DiskState) (to_come : W → ℕ → �
 
   -- how the run ended
   pub ends_so : (props : Props) (words : W) (port conns : ℕ) (old new : YardState) (door door' : DoorState I O) (end : ServeEnd) (failed : Bool) (result : RunEnd) → result ≡ end_of end failed
-      → RanServer state to_come serves props words port conns old new door door' end failed → EndsAs state to_come serves props words port conns old new door door' result
+      → RanServer state to_come serves first second props words port conns old new door door' end failed → EndsAs state to_come serves first second props words port conns old new door door' result
   ends_so props words port conns old new door door' end failed result is r =
-      subst (λ e. EndsAs state to_come serves props words port conns old new door door' e) (sym is) (so_ends props words port conns old new door door' end failed r)
+      subst (λ e. EndsAs state to_come serves first second props words port conns old new door door' e) (sym is) (so_ends props words port conns old new door door' end failed r)
 
   -- ---- the count of faults of the yard
 
@@ -121,7 +121,7 @@ module _ {D W I O : Type 0} (state : D → DiskState) (to_come : W → ℕ → �
   opened_so props words old begun k n o = o.logs.names_opened.taken.faults ∙ o.logs.keys_opened.taken.faults
 
   -- it rose if a disk failed
-  pub yard_rose : (props : Props) (words : W) (port conns : ℕ) (old new : YardState) (door door' : DoorState I O) (end : ServeEnd) → RanServer state to_come serves props words port conns old new door door' end true
+  pub yard_rose : (props : Props) (words : W) (port conns : ℕ) (old new : YardState) (door door' : DoorState I O) (end : ServeEnd) → RanServer state to_come serves first second props words port conns old new door door' end true
       → Rose old.faults new.faults
   yard_rose props words port conns old new door door' end r = subst (λ (f : ℕ). Rose f new.faults) (opened_so props words old r.begun r.k r.n r.opened) (by r.disks)
     where
@@ -130,11 +130,11 @@ module _ {D W I O : Type 0} (state : D → DiskState) (to_come : W → ℕ → �
       by (inr names) = then_rose r.begun.faults r.mid.faults new.faults r.keys_given.later (r.names_given.rose names)
 
   -- it stayed as it was if none failed
-  yard_stays : (props : Props) (words : W) (port conns : ℕ) (old new : YardState) (door door' : DoorState I O) (end : ServeEnd) → RanServer state to_come serves props words port conns old new door door' end false
+  yard_stays : (props : Props) (words : W) (port conns : ℕ) (old new : YardState) (door door' : DoorState I O) (end : ServeEnd) → RanServer state to_come serves first second props words port conns old new door door' end false
       → new.faults ≡ old.faults
   yard_stays props words port conns old new door door' end r = r.names_given.same r.disks.1 ∙ (r.keys_given.same r.disks.0 ∙ opened_so props words old r.begun r.k r.n r.opened)
 
-  pub store_rose : (props : Props) (words : W) (port conns : ℕ) (old new : YardState) (door door' : DoorState I O) (result : RunEnd) → EndsAs state to_come serves props words port conns old new door door' result
+  pub store_rose : (props : Props) (words : W) (port conns : ℕ) (old new : YardState) (door door' : DoorState I O) (result : RunEnd) → EndsAs state to_come serves first second props words port conns old new door door' result
       → result ≡ run_end.StoreFault → Rose old.faults new.faults
   store_rose props words port conns old new door door' run_end.StoreFault (end, memory, r) is = yard_rose props words port conns old new door door' end r
   store_rose props words port conns old new door door' run_end.Served r is = absurd cc
@@ -143,7 +143,7 @@ module _ {D W I O : Type 0} (state : D → DiskState) (to_come : W → ℕ → �
   store_rose props words port conns old new door door' (run_end.NotOpened file fault) r is = absurd cc
   store_rose props words port conns old new door door' run_end.NoMemory r is = absurd cc
 
-  pub none_rose : (props : Props) (words : W) (port conns : ℕ) (old new : YardState) (door door' : DoorState I O) (result : RunEnd) → EndsAs state to_come serves props words port conns old new door door' result
+  pub none_rose : (props : Props) (words : W) (port conns : ℕ) (old new : YardState) (door door' : DoorState I O) (result : RunEnd) → EndsAs state to_come serves first second props words port conns old new door door' result
       → (result ≡ run_end.Served) ⊎ (result ≡ run_end.Closed) → new.faults ≡ old.faults
-  none_rose props words port conns old new door door' result ends (inl is) = yard_stays props words port conns old new door door' serve_end.Served (subst (EndsAs state to_come serves props words port conns old new door door') is ends)
-  none_rose props words port conns old new door door' result ends (inr is) = yard_stays props words port conns old new door door' serve_end.Closed (subst (EndsAs state to_come serves props words port conns old new door door') is ends)
+  none_rose props words port conns old new door door' result ends (inl is) = yard_stays props words port conns old new door door' serve_end.Served (subst (EndsAs state to_come serves first second props words port conns old new door door') is ends)
+  none_rose props words port conns old new door door' result ends (inr is) = yard_stays props words port conns old new door door' serve_end.Closed (subst (EndsAs state to_come serves first second props words port conns old new door door') is ends)

@@ -37,9 +37,9 @@ abbrev pub DisksFailed : Bool → ℕ → ℕ → Type 0
 DisksFailed true keys names = (0 < keys) ⊎ (0 < names)
 DisksFailed false keys names = (keys ≡ 0) × (names ≡ 0)
 
-module _ {D W I O : Type 0} (state : D → DiskState) (to_come : W → ℕ → ℕ) (serves : Serving I O D W) where
+module _ {D W I O : Type 0} (state : D → DiskState) (to_come : W → ℕ → ℕ) (serves : Serving I O D W) (first second : ℕ → ℕ) where
   -- The services ran in their cells from these states on, until the cells were closed. Each has one legal history, which ends in its last
-  -- state, and connections were served by entries of these histories.
+  -- state, and connections were served by entries of these histories. The fillers drew from the words `first` and `second`.
   pub record RanInCells (port conns : ℕ) (door door' : DoorState I O) (end : ServeEnd) (k : KmsView D W) (n : NameView D) (last_k : KmsView D W) (last_n : NameView D) : Type 0 where
     -- what the first pass of each cell knows, and what it knows when the cell is closed
     pub keys : KmsKnown D W
@@ -48,7 +48,7 @@ module _ {D W I O : Type 0} (state : D → DiskState) (to_come : W → ℕ → �
     pub names' : NameKnown D
     pub keys_begin : (keys.start ≡ Some k) × (keys.seen ≡ []) × (keys.ended ≡ [])
     pub names_begin : (names.start ≡ Some n) × (names.seen ≡ []) × (names.ended ≡ [])
-    pub served : ServesAll serves state to_come door keys names port conns end door' keys' names'
+    pub served : ServesAll serves first second state to_come door keys names port conns end door' keys' names'
     pub keys_closed : Closes (KmsSteps state to_come) KmsAllows keys' last_k
     pub names_closed : Closes (NameSteps state) NameAllows names' last_n
 

@@ -78,7 +78,7 @@ fn serve_named<
     requires keys { opening.keys.table ≡ M.table }
     requires names { opening.names.table ≡ N.table }
     ensures ran { (last_k : KmsView D W) × (last_n : NameView D)
-        × RanInCells D.state W.to_come (ServesEnds A.In.left A.In.faults A.Out.written A.Out.faults) plan.port plan.conns (A.state door.old) (A.state door.new) result.1
+        × RanInCells D.state W.to_come (ServesEnds A.In.left A.In.faults A.Out.written A.Out.faults) (V.to_come plan.first) (V.to_come plan.second) plan.port plan.conns (A.state door.old) (A.state door.new) result.1
         opening.keys.core opening.names.core last_k last_n
         × (result.0.keys_disk ≡ last_k.disk) × (result.0.names_disk ≡ last_n.disk) × RunsOn (D.state last_k.disk) last_k.kms × NamesRunOn (D.state last_n.disk) last_n.names }
     ensures cause { result.1 ≡ ServeEnd.DoorFault → Rose (A.faults door.old) (A.faults door.new) }
@@ -155,7 +155,7 @@ pub fn run_server<
 ) -> RunEnd
     requires keys { IsTrue ((Y.state yard.old).lies 0) }
     requires names { IsTrue ((Y.state yard.old).lies 1) }
-    ensures ends { EndsAs Y.Own.state W.to_come (ServesEnds A.In.left A.In.faults A.Out.written A.Out.faults) props.now words plan.port plan.conns
+    ensures ends { EndsAs Y.Own.state W.to_come (ServesEnds A.In.left A.In.faults A.Out.written A.Out.faults) (V.to_come plan.first) (V.to_come plan.second) props.now words plan.port plan.conns
         (Y.state yard.old) (Y.state yard.new) (A.state door.old) (A.state door.new) result }
     ensures door_fault { result ≡ RunEnd.DoorFault → Rose (A.faults door.old) (A.faults door.new) }
     ensures store_fault { result ≡ RunEnd.StoreFault → Rose (Y.state yard.old).faults (Y.state yard.new).faults }

@@ -1,18 +1,18 @@
 use Rattle.std.proofs.Common.{rules, IfOk, []}
 use Rattle.cell_server.specs.Rounds.{ShowsStatus}
 use Rattle.cell_server.proofs.MadeLemmas.{names_none}
-use Rattle.cell_server.proofs.RoundLemmas.{shows_status}
+use Rattle.cell_server.proofs.RoundLemmas.{no_work, shows_status}
 use Rattle.cell_server.proofs.asks.is_going.Goals as goal
 
 pub returns-in_err-user : goal.returns-in_err-user
 returns-in_err-user g c =
     let failed : IfOk c.from_residual.result (λ going. ShowsStatus c.args.zone.now going []) = search rules in
-    ([], names_none g.S.Turns.state (g.S.Turns.names_seen c.args.names.now) c.count_names.ensures.legal, failed)
+    ([], names_none g.S.Turns.state (g.S.Turns.names_seen c.args.names.now) c.count_names.ensures.legal, no_work g.S.Turns.state, failed)
 
 pub returns-in_err-path : goal.returns-in_err-path
 returns-in_err-path g c =
     let failed : IfOk c.from_residual-in_err-path.result (λ going. ShowsStatus c.args.zone.now going []) = search rules in
-    ([], names_none g.S.Turns.state (g.S.Turns.names_seen c.args.names.now) c.count_names.ensures.legal, failed)
+    ([], names_none g.S.Turns.state (g.S.Turns.names_seen c.args.names.now) c.count_names.ensures.legal, no_work g.S.Turns.state, failed)
 
 pub returns : goal.returns
 returns g c =

@@ -1,13 +1,13 @@
 use Rattle.std.proofs.Common.{rules, IfOk, []}
 use Rattle.cell_server.specs.Rounds.{ListsZones}
 use Rattle.cell_server.proofs.MadeLemmas.{names_none}
-use Rattle.cell_server.proofs.RoundLemmas.{lists_zones}
+use Rattle.cell_server.proofs.RoundLemmas.{lists_zones, no_work}
 use Rattle.cell_server.proofs.asks.list_zones.Goals as goal
 
 pub returns-in_err-user : goal.returns-in_err-user
 returns-in_err-user g c =
     let failed : IfOk c.from_residual.result (λ zones. ListsZones zones []) = search rules in
-    ([], names_none g.S.Turns.state (g.S.Turns.names_seen c.args.names.now) c.count_names.ensures.legal, failed)
+    ([], names_none g.S.Turns.state (g.S.Turns.names_seen c.args.names.now) c.count_names.ensures.legal, no_work g.S.Turns.state, failed)
 
 pub returns : goal.returns
 returns g c =

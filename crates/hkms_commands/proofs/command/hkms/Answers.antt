@@ -8,7 +8,7 @@ use Rattle.hkms_commands.proofs.command.hkms.Goals as goal
 
 pub returns-clause-usage_only : goal.returns-clause-usage_only
 returns-clause-usage_only g c = usage_only c.read_order-order.result c.args.words.now _ _ _ _ _ _ c.obey.result c.read_order-order.ensures.usage c.obey.ensures.obeys (λ replays. replay_is_no_usage _ replays.0 replays.1)
-    (λ pipes. pipe_is_no_usage _ _ _ _ _ _ _ _ _ _ _ _ _ pipes) (λ port conns serves. server_is_no_usage _ _ _ _ _ _ _ _ _ _ _ _ _ _ _ serves.0)
+    (λ pipes. pipe_is_no_usage _ _ _ _ _ _ _ _ _ _ _ _ _ pipes) (λ port conns serves. server_is_no_usage _ _ _ _ _ _ _ _ _ _ _ _ _ _ _ _ serves.0)
 
 pub returns-clause-help : goal.returns-clause-help
 returns-clause-help g c =

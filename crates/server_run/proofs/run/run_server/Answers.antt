@@ -4,8 +4,8 @@ use Rattle.server_run.proofs.run.run_server.Goals as goal
 
 ends : goal.returns-clause-ends
 ends g c =
-    ends_so _ _ _ _ _ _ _ _ _ _ _ c.serve_named-closed.result.1 c.give_both-failed.result _ c.run_end.ensures
-    (ran_server _ _ _ _ _ _ _ _ _ _ _ _ _ _ _ _ _ _ _ _ c.in-Ok.ensures.opened c.serve_named-closed.ensures.ran c.into_disks-keys.ensures.keys c.into_disks-keys.ensures.names c.give_both-failed.ensures.given c.give_both-failed.ensures.failed)
+    ends_so _ _ _ _ _ _ _ _ _ _ _ _ _ c.serve_named-closed.result.1 c.give_both-failed.result _ c.run_end.ensures
+    (ran_server _ _ _ _ _ _ _ _ _ _ _ _ _ _ _ _ _ _ _ _ _ _ c.in-Ok.ensures.opened c.serve_named-closed.ensures.ran c.into_disks-keys.ensures.keys c.into_disks-keys.ensures.names c.give_both-failed.ensures.given c.give_both-failed.ensures.failed)
 
 pub returns-clause-ends : goal.returns-clause-ends
 returns-clause-ends g c = ends g c
@@ -14,7 +14,7 @@ pub returns-clause-door_fault : goal.returns-clause-door_fault
 returns-clause-door_fault g c is = faults_so c.serve_named-closed.result.1 c.give_both-failed.result _ c.serve_named-closed.ensures.cause (sym c.run_end.ensures ∙ is)
 
 pub returns-clause-store_fault : goal.returns-clause-store_fault
-returns-clause-store_fault g c is = store_rose _ _ _ _ _ _ _ _ _ _ _ c.run_end.result (ends g c) is
+returns-clause-store_fault g c is = store_rose _ _ _ _ _ _ _ _ _ _ _ _ _ c.run_end.result (ends g c) is
 
 pub returns-clause-no_fault : goal.returns-clause-no_fault
-returns-clause-no_fault g c is = none_rose _ _ _ _ _ _ _ _ _ _ _ c.run_end.result (ends g c) is
+returns-clause-no_fault g c is = none_rose _ _ _ _ _ _ _ _ _ _ _ _ _ c.run_end.result (ends g c) is
