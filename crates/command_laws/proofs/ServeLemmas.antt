@@ -40,10 +40,10 @@ reported stop fault written now status ok r why never =
 
 damaged_never : (old new : YardState) (file at : ℕ) → NoneOpened old new file (start.Damaged at) → GoodYard old → ⊥
 damaged_never old new file at closed good =
-    ⊎_elim (λ keys. keys_not_damaged (old.reads 0) at good.keys (keys.1 good.tells)) (λ names. names_not_damaged (old.reads 1) at good.names (names.1 good.tells)) closed.cause
+    ⊎_elim (λ keys. keys_not_damaged (old.reads 0) at good.keys (keys.1.cause good.tells)) (λ names. names_not_damaged (old.reads 1) at good.names (names.1.cause good.tells)) closed.first
 
 spent_never : (old new : YardState) (file : ℕ) → NoneOpened old new file start.Spent → GoodYard old → ⊥
-spent_never old new file closed good = ⊎_elim (λ keys. keys_not_spent (old.reads 0) good.keys (keys.1 good.tells)) (λ names. names_not_spent (old.reads 1) good.names (names.1 good.tells)) closed.cause
+spent_never old new file closed good = ⊎_elim (λ keys. keys_not_spent (old.reads 0) good.keys (keys.1.cause good.tells)) (λ names. names_not_spent (old.reads 1) good.names (names.1.cause good.tells)) closed.first
 
 -- good logs fail to be opened for a fault of the yard or for want of memory alone
 kept_closed : (old new : YardState) (file : ℕ) (fault : StartFault) → NoneOpened old new file fault → GoodYard old → (ended_by file fault ≡ replayed.StoreFault) ⊎ (ended_by file fault ≡ replayed.NoMemory)

@@ -1,9 +1,11 @@
 -- Opening both logs, each on the disk that a yard gives for it.
-use Rattle.std.specs.Prelude.{◌≡◌, ◌≤◌, ◌⊎◌, ℕ, ⊤, IsTrue, List}
+use Rattle.std.specs.Prelude.{◌≡◌, ◌≤◌, ◌⊎◌, ℕ, ⊤, IsTrue, List, [], ◌∷◌, ◌++◌, None}
 use Rattle.hk_base.specs.Disk.{DiskState}
 use Rattle.hk_base.specs.Faults.{Rose}
 use Rattle.frame_log.specs.declared.fault.StartFault.{StartFault}
 use Rattle.frame_log.specs.declared.fault.StartFault.TheVariants as start
+use Rattle.key_rows.specs.Table.{Table, after}
+use Rattle.key_rows.specs.declared.rows.KeyCommand.{KeyCommand}
 use Rattle.kms_store.specs.Store as keys
 use Rattle.name_store.specs.Store as names
 use Rattle.kms_core.specs.Service.{Starts as KeysStart}
@@ -27,6 +29,8 @@ pub record KeysOpened {D : Type 0} (state : D → DiskState) (old new : YardStat
   pub taken : Taken 0 old new (state first)
   pub tells : (state disk).tells ≡ (state first).tells
   pub starts : KeysStart (state first) (state disk) (running kms)
+  -- the log is on file 0
+  pub file : kms.store.log.file ≡ 0
 
 -- The disk of the edit log was taken, and the namesystem was started on it. Its batches have at most this number of files.
 pub record NamesOpened {D : Type 0} (state : D → DiskState) (batch : ℕ) (old new : YardState) (disk : D) (names : RunningNames) : Type 0 where
@@ -42,31 +46,50 @@ HasCause damaged spent old new start.Spent = IsTrue old.tells → spent
 HasCause damaged spent old new start.StoreFault = Rose old.faults new.faults
 HasCause damaged spent old new start.NoMemory = ⊤
 
--- A log wasn't opened, and its disk lies in the yard. The other disk is where it was.
-pub record NotOpened (file other : ℕ) (damaged : List ℕ → ℕ → Type 0) (spent : List ℕ → Type 0) (old new : YardState) (fault : StartFault) : Type 0 where
+-- A log wasn't opened, and its disk lies in the yard. If the yard tells, the file reads as `left` says of what was found: as before, or as a
+-- start leaves it. The other disk is where it was, and its file reads as before.
+pub record NotOpened (file other : ℕ) (damaged : List ℕ → ℕ → Type 0) (spent : List ℕ → Type 0) (left : List ℕ → List ℕ → Type 0) (old new : YardState) (fault : StartFault) : Type 0 where
+  pub tells : new.tells ≡ old.tells
   pub back : IsTrue (new.lies file)
   pub other_lies : new.lies other ≡ old.lies other
   pub later : old.faults ≤ new.faults
   pub cause : HasCause (damaged (old.reads file)) (spent (old.reads file)) old new fault
+  pub reads : IsTrue old.tells → left (old.reads file) (new.reads file)
+  pub other_reads : IsTrue old.tells → new.reads other ≡ old.reads other
 
 abbrev pub KeysNotOpened : YardState → YardState → StartFault → Type 0
-KeysNotOpened = NotOpened 0 1 keys.IsDamagedAt keys.SpentKeys
+KeysNotOpened = NotOpened 0 1 keys.IsDamagedAt keys.SpentKeys keys.IsLeftByStart
 
 abbrev pub NamesNotOpened : YardState → YardState → StartFault → Type 0
-NamesNotOpened = NotOpened 1 0 names.IsDamagedAt names.SpentNames
+NamesNotOpened = NotOpened 1 0 names.IsDamagedAt names.SpentNames names.IsLeftByStart
 
--- Neither log is open, and both disks lie in the yard. The log of this file couldn't be opened.
+-- the key log that was found, at rest, and with the record of its new opening
+pub record HasNewOpening (found bytes : List ℕ) : Type 0 where
+  pub commands : List KeyCommand
+  pub table : Table
+  pub log : keys.IsKeyLog found commands table
+  pub opened : keys.IsSoundLog bytes (commands ++ keys.next_opening table ∷ []) None (after table (keys.next_opening table))
+
+-- The key log was opened, and then the edit log couldn't be. If the yard tells, the key log has its new opening and is otherwise as it was
+-- found, and the edit log is what a start leaves of it.
+pub record OnlyKeysOpened (old new : YardState) (fault : StartFault) : Type 0 where
+  pub cause : HasCause (names.IsDamagedAt (old.reads 1)) (names.SpentNames (old.reads 1)) old new fault
+  pub keys_read : IsTrue old.tells → HasNewOpening (old.reads 0) (new.reads 0)
+  pub names_read : IsTrue old.tells → names.IsLeftByStart (old.reads 1) (new.reads 1)
+
+-- Neither log is open, and both disks lie in the yard. The log of this file is the first that couldn't be opened: if it is the key log, the
+-- edit log wasn't touched.
 pub record NoneOpened (old new : YardState) (file : ℕ) (fault : StartFault) : Type 0 where
+  pub tells : new.tells ≡ old.tells
   pub keys_back : IsTrue (new.lies 0)
   pub names_back : IsTrue (new.lies 1)
   pub later : old.faults ≤ new.faults
-  pub cause : ((file ≡ 0) × HasCause (keys.IsDamagedAt (old.reads 0)) (keys.SpentKeys (old.reads 0)) old new fault)
-      ⊎ ((file ≡ 1) × HasCause (names.IsDamagedAt (old.reads 1)) (names.SpentNames (old.reads 1)) old new fault)
+  pub first : ((file ≡ 0) × KeysNotOpened old new fault) ⊎ ((file ≡ 1) × OnlyKeysOpened old new fault)
 
--- Why the services weren't opened. For want of memory the disks may be gone with the services.
-abbrev pub LogFails : YardState → YardState → OpenFault → Type 0
-LogFails old new (open_fault.Log file fault) = NoneOpened old new file fault
-LogFails old new open_fault.NoMemory = old.faults ≤ new.faults
+-- Why the services weren't opened. `memory` says what was done if allocation failed.
+abbrev pub LogFails : (memory : Type 0) → YardState → YardState → OpenFault → Type 0
+LogFails memory old new (open_fault.Log file fault) = NoneOpened old new file fault
+LogFails memory old new open_fault.NoMemory = memory
 
 -- Both services were started, each on its own disk, with these lists and sizes.
 pub record LogsOpened {D : Type 0} (state : D → DiskState) (lists : Lists) (sizes : SizeValues) (old new : YardState) (keys_disk : D) (kms : RunningKms) (names_disk : D) (names : RunningNames) : Type 0 where
@@ -81,3 +104,17 @@ pub record BothOpened {D W : Type 0} (state : D → DiskState) (props : Props) (
   pub lists : AreListsOf k.kms.acls props.lines
   pub logs : LogsOpened state k.kms.acls props.sizes old new k.disk k.kms n.disk n.names
   pub words_are : k.words ≡ words
+
+-- Both services were started, but the disks are gone with them.
+pub record OpenedInVain {D : Type 0} (state : D → DiskState) (props : Props) (old new : YardState) : Type 0 where
+  pub lists : Lists
+  pub lists_are : AreListsOf lists props.lines
+  pub keys_disk : D
+  pub kms : RunningKms
+  pub names_disk : D
+  pub running_names : RunningNames
+  pub logs : LogsOpened state lists props.sizes old new keys_disk kms names_disk running_names
+
+-- Allocation failed: either before a disk was taken, or after both services were started.
+abbrev pub LacksMemory : {D : Type 0} → (D → DiskState) → Props → YardState → YardState → Type 0
+LacksMemory state props old new = (new ≡ old) ⊎ OpenedInVain state props old new

@@ -1,5 +1,5 @@
 -- A run of the server.
-use Rattle.std.specs.Prelude.{◌≡◌, ◌<◌, ◌≤◌, ◌⊎◌, ℕ, Bool, true, false, [], Some}
+use Rattle.std.specs.Prelude.{◌≡◌, ◌<◌, ◌⊎◌, ℕ, Bool, true, false, [], Some}
 use Rattle.hk_base.specs.Disk.{DiskState}
 use Rattle.hist_cell.specs.History.{Closes}
 use Rattle.prop_text.specs.declared.props.Props.{Props}
@@ -17,7 +17,7 @@ use Rattle.cell_server.specs.Connections.{Serving}
 use Rattle.cell_server.specs.Serves.{ServesAll}
 use Rattle.cell_server.specs.declared.ends.ServeEnd.{ServeEnd}
 use Rattle.cell_server.specs.declared.ends.ServeEnd.TheVariants as serve_end
-use Rattle.server_run.specs.Opening.{BothOpened, NoneOpened}
+use Rattle.server_run.specs.Opening.{BothOpened, LacksMemory, NoneOpened}
 use Rattle.server_run.specs.declared.run.RunEnd.{RunEnd}
 use Rattle.server_run.specs.declared.run.RunEnd.TheVariants as run_end
 
@@ -79,4 +79,4 @@ module _ {D W I O : Type 0} (state : D → DiskState) (to_come : W → ℕ → �
       (end : ServeEnd) × (¬ (end ≡ serve_end.NoMemory)) × RanServer props words port conns old new door door' end true
   EndsAs props words port conns old new door door' (run_end.NotOpened file fault) = NoneOpened old new file fault × (door' ≡ door)
   EndsAs props words port conns old new door door' run_end.NoMemory =
-      ((failed : Bool) × RanServer props words port conns old new door door' serve_end.NoMemory failed) ⊎ ((old.faults ≤ new.faults) × (door' ≡ door))
+      ((failed : Bool) × RanServer props words port conns old new door door' serve_end.NoMemory failed) ⊎ (LacksMemory state props old new × (door' ≡ door))

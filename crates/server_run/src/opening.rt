@@ -5,7 +5,7 @@ ghost use Rattle.prop_text.specs.declared.lines.PropLine.{PropLine};
 ghost use Rattle.kms_cell.specs.Views.{RunsOn};
 ghost use Rattle.kms_core.specs.State.{no_queues};
 ghost use Rattle.name_cell.specs.Views.{NamesRunOn};
-ghost use Rattle.server_run.specs.Opening.{BothOpened, KeysNotOpened, KeysOpened, LogFails, LogsOpened, NamesNotOpened, NamesOpened};
+ghost use Rattle.server_run.specs.Opening.{BothOpened, KeysNotOpened, KeysOpened, LacksMemory, LogFails, LogsOpened, NamesNotOpened, NamesOpened};
 
 use frame_log::StartFault;
 use hk_base::{Clock, Words};
@@ -26,7 +26,7 @@ pub(crate) const KEYS: u8 = 0;
 pub(crate) const NAMES: u8 = 1;
 
 /// Opens the key log on the disk that the yard gives for it. If that fails, the disk lies in the yard
-/// again.
+/// again, and its file reads as before or as a start leaves it.
 pub(crate) fn open_keys<Y: Yard>(
     alloc: Global,
     yard: &mut Y,
@@ -44,7 +44,11 @@ pub(crate) fn open_keys<Y: Yard>(
         return Err(StartFault::StoreFault);
     };
     match Kms::start(alloc, &mut disk, acls, sizes) {
-        Ok(kms) => Ok((kms, disk)),
+        Ok(kms) => {
+            // The log of a service is on file 0.
+            let _ = kms.count();
+            Ok((kms, disk))
+        }
         Err(fault) => {
             let _ = yard.give(KEYS, disk);
             Err(fault)
@@ -53,7 +57,7 @@ pub(crate) fn open_keys<Y: Yard>(
 }
 
 /// Opens the edit log on the disk that the yard gives for it. If that fails, the disk lies in the yard
-/// again.
+/// again, and its file reads as before or as a start leaves it.
 pub(crate) fn open_names<Y: Yard>(
     alloc: Global,
     yard: &mut Y,
@@ -104,7 +108,8 @@ struct OnDisks<D> {
     names_disk: D,
 }
 
-/// Opens both logs, the key log first. If one can't be opened, both disks lie in the yard again.
+/// Opens both logs, the key log first. If one can't be opened, both disks lie in the yard again. If that
+/// is the edit log, the key log has the record of its new opening.
 #[tactic(auto, using(crate::proofs::OpeningLemmas::keys_run, crate::proofs::OpeningLemmas::names_run))]
 fn open_logs<Y: Yard>(
     alloc: Global,
@@ -118,7 +123,7 @@ fn open_logs<Y: Yard>(
     ensures keys_run { IfOk result (λ on. RunsOn (Y.Own.state on.keys_disk) on.kms) }
     ensures names_run { IfOk result (λ on. NamesRunOn (Y.Own.state on.names_disk) on.names) }
     ensures opened { IfOk result (λ on. LogsOpened Y.Own.state acls sizes.now (Y.state yard.old) (Y.state yard.new) on.keys_disk on.kms on.names_disk on.names) }
-    ensures failed { IfErr result (λ fault. LogFails (Y.state yard.old) (Y.state yard.new) fault) }
+    ensures failed { IfErr result (λ fault. LogFails ⊥ (Y.state yard.old) (Y.state yard.new) fault) }
 {
     let (kms, keys_disk) = match open_keys(alloc, yard, acls, *sizes) {
         Ok(opened) => opened,
@@ -150,7 +155,7 @@ pub(crate) fn open_services<Y: Yard, W: Words + Drop, C: Clock + Drop>(
     requires keys { IsTrue ((Y.state yard.old).lies 0) }
     requires names { IsTrue ((Y.state yard.old).lies 1) }
     ensures opened { IfOk result (λ opening. BothOpened Y.Own.state props.now (Y.state yard.old) (Y.state yard.new) words opening.keys.core opening.names.core) }
-    ensures failed { IfErr result (λ fault. LogFails (Y.state yard.old) (Y.state yard.new) fault) }
+    ensures failed { IfErr result (λ fault. LogFails (LacksMemory Y.Own.state props.now (Y.state yard.old) (Y.state yard.new)) (Y.state yard.old) (Y.state yard.new) fault) }
 {
     let Ok(acls) = Acls::from_props(alloc, props) else {
         return Err(OpenFault::NoMemory);

@@ -129,13 +129,15 @@ fn run_end(end: ServeEnd, failed: bool) -> RunEnd
 /// gives both disks back. The key management service draws from `words`, and its calls happen at the
 /// times that the clock shows. It may wait, for connections and for threads.
 ///
-/// - `NotOpened` if a log can't be opened; both disks then lie in the yard, and no connection was
-///   accepted.
+/// - `NotOpened` if a log can't be opened: the first that has a fault. Both disks then lie in the yard,
+///   and no connection was accepted. The file of that log reads as before or as a start leaves it. If it
+///   is the edit log, the key log has the record of its new opening; else the edit log is unchanged.
 /// - `DoorFault` only if the door's count of faults rose.
 /// - `StoreFault` if a disk counted a fault while the server ran. This comes in place of any other end,
 ///   except `NoMemory`.
-/// - `NoMemory` if allocation fails, in the server or before. If it fails while the cells are made, the
-///   disks are dropped with their services, and are not given back.
+/// - `NoMemory` if allocation fails, in the server or before. If it fails before a log is opened, the
+///   yard is unchanged. If it fails while the cells are made, both logs were opened; the disks are
+///   dropped with their services, and are not given back.
 pub fn run_server<
     R: Threads + Wait + Sync,
     Y: Yard,

@@ -11,9 +11,9 @@ returns-in-Ok-clause-serves g c =
     let door = g.A.Door.state c.serve_opened.new.door in
     let keys = g.S.Turns.keys_seen c.serve_opened.new.keys in
     let names = g.S.Turns.names_seen c.serve_opened.new.names in
-    serves_after serves g.S.Turns.state g.S.Turns.to_come
+    serves_after serves (g.V.Words.to_come c.args.first) (g.V.Words.to_come c.args.second) g.S.Turns.state g.S.Turns.to_come
     (g.A.Door.state c.args.door.now) (g.S.Turns.keys_seen c.args.keys.now) (g.S.Turns.names_seen c.args.names.now) c.args.port c.args.conns c.serve_opened.result door keys names
-    (subst (λ (d : DoorState _ _). ServesAll serves g.S.Turns.state g.S.Turns.to_come d (g.S.Turns.keys_seen c.args.keys.now) (g.S.Turns.names_seen c.args.names.now) c.args.port c.args.conns c.serve_opened.result door keys names)
+    (subst (λ (d : DoorState _ _). ServesAll serves (g.V.Words.to_come c.args.first) (g.V.Words.to_come c.args.second) g.S.Turns.state g.S.Turns.to_come d (g.S.Turns.keys_seen c.args.keys.now) (g.S.Turns.names_seen c.args.names.now) c.args.port c.args.conns c.serve_opened.result door keys names)
     c.in-Ok.ensures.opened (c.serve_opened.ensures.serves c.args.port (ap (λ (d : DoorState _ _). d.port) c.in-Ok.ensures.opened)))
 
 pub returns-in-Err-clause-serves : goal.returns-in-Err-clause-serves
