@@ -9,7 +9,7 @@ use Rattle.clap.specs.Walk.{Row, answers_to, nothing_held, settled, walk, walk_f
 use Rattle.clap.specs.Words.{Text, fault_of, subcommand_of}
 use Rattle.clap.specs.declared.error.ErrorKind.TheVariants.{ValueValidation}
 use Rattle.command_line.specs.Line as line
-use Rattle.command_line.specs.Orders.{conns_at, line_fault, number_fault, numbers_fault, order_at, port_at, serve_order}
+use Rattle.command_line.specs.Orders.{conns_at, line_fault, number_fault, numbers_fault, order_at, places_at, port_at, serve_order}
 use Rattle.command_line.specs.declared.order.Order.{Order}
 
 second : (a b : Kinds) → or_else a b ≡ [] → b ≡ []
@@ -64,31 +64,33 @@ of_entered a (Some p) h e =
 of_named : (a : App) (words : List Text) → EachIsKnown (built a).subs → is_some (subcommand_of a words) ≡ true → HasFaultOrOrder (subcommand_of a words)
 of_named a words h e = of_entered (built a) (walk (built a).top.rules (names_of (built a)) nothing_held (argument_words a words)).stopped h e
 
-not_served : (port conns : Option ℕ) → serve_order port conns ≡ None → or_else (number_fault port) (number_fault conns) ≡ ValueValidation ∷ []
-not_served (Some port) (Some conns) e = cc
-not_served (Some port) None e = refl
-not_served None conns e = refl
+not_served : (port conns places : Option ℕ) → serve_order port conns places ≡ None → or_else (number_fault port) (or_else (number_fault conns) (number_fault places)) ≡ ValueValidation ∷ []
+not_served (Some port) (Some conns) (Some places) e = cc
+not_served (Some port) (Some conns) None e = refl
+not_served (Some port) None places e = refl
+not_served None conns places e = refl
 
 known : EachIsKnown (built line.hkms).subs
-known = ((λ rows e. cc), ((λ rows e. cc), ((λ rows e. not_served _ _ e), tt)))
+known = ((λ rows e. cc), ((λ rows e. cc), ((λ rows e. not_served _ _ _ e), tt)))
 
 -- words in which clap finds no fault, and which have no order, have a number that is refused
 pub a_number_is_refused : (words : List Text) → fault_of line.hkms words ≡ [] → order_at (subcommand_of line.hkms words) ≡ None → line_fault words ≡ ValueValidation ∷ []
 a_number_is_refused words e none =
     ap (λ (kinds : Kinds). or_else kinds (numbers_fault (subcommand_of line.hkms words))) e ∙ of_named line.hkms words known (named line.hkms words refl e) none
 
-served : (port conns : Option ℕ) (order : Order) → serve_order port conns ≡ Some order → or_else (number_fault port) (number_fault conns) ≡ []
-served (Some port) (Some conns) order e = refl
-served (Some port) None order e = cc
-served None conns order e = cc
+served : (port conns places : Option ℕ) (order : Order) → serve_order port conns places ≡ Some order → or_else (number_fault port) (or_else (number_fault conns) (number_fault places)) ≡ []
+served (Some port) (Some conns) (Some places) order e = refl
+served (Some port) (Some conns) None order e = cc
+served (Some port) None places order e = cc
+served None conns places order e = cc
 
 numbers_pass : (entered : Option (Text × List Row)) (order : Order) → order_at entered ≡ Some order → numbers_fault entered ≡ []
 numbers_pass None order e = refl
 numbers_pass (Some command) order e = by (bytes_eq command.0 (codes "serve")) _ e
   where
-    by : (b : Bool) (other : Option Order) → (if b then serve_order (port_at command.1) (conns_at command.1) else other) ≡ Some order
-        → (if b then or_else (number_fault (port_at command.1)) (number_fault (conns_at command.1)) else []) ≡ []
-    by true other e = served (port_at command.1) (conns_at command.1) order e
+    by : (b : Bool) (other : Option Order) → (if b then serve_order (port_at command.1) (conns_at command.1) (places_at command.1) else other) ≡ Some order
+        → (if b then or_else (number_fault (port_at command.1)) (or_else (number_fault (conns_at command.1)) (number_fault (places_at command.1))) else []) ≡ []
+    by true other e = served (port_at command.1) (conns_at command.1) (places_at command.1) order e
     by false other e = refl
 
 -- words in which clap finds no fault, and which have an order, have no fault

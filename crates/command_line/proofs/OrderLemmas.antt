@@ -16,11 +16,7 @@ use Rattle.command_line.specs.declared.order.OrderFault.{OrderFault}
 use Rattle.command_line.specs.declared.order.OrderFault.TheVariants.{Usage, NoMemory}
 use Rattle.command_line.proofs.EnteredLemmas.{a_number_is_refused, no_number_is_refused}
 use Rattle.command_line.proofs.KindLemmas.{found_by_clap, shown_alone}
-use Rattle.command_line.proofs.NumberLemmas.{IsNumberWord, number_at-word, number_word}
-
--- clap finds no mistake in the words, and this order
-Reading : List Text → Order → Type 0
-Reading words o = (line_fault words ≡ []) × (order_at (subcommand_of line.hkms words) ≡ Some o)
+use Rattle.command_line.proofs.SpellingLemmas.{Reading, reads_places, serve_reads}
 
 faultless : (words : List Text) (o : Order) → Reading words o → line_fault words ≡ []
 unfolding Reading
@@ -38,166 +34,9 @@ pipe_reads : Reading (codes "pipe" ∷ []) Pipe
 unfolding Reading clap_on_literals
 pipe_reads = (refl, refl)
 
--- ---- the words of `serve`
-
-reading_at : (words at : List Text) (o : Order) → words ≡ at → fault_of line.hkms at ≡ [] → order_at (subcommand_of line.hkms at) ≡ Some o → Reading words o
-unfolding Reading
-reading_at words at o e f g = subst (λ (w : List Text). (line_fault w ≡ []) × (order_at (subcommand_of line.hkms w) ≡ Some o)) (sym e) (no_number_is_refused at o f g, g)
-
-fault_alone : fault_of line.hkms (codes "serve" ∷ []) ≡ []
-unfolding clap_on_literals
-fault_alone = refl
-
-order_alone : order_at (subcommand_of line.hkms (codes "serve" ∷ [])) ≡ serve_order (Some 9600) (Some 4294967295)
-unfolding clap_on_literals
-order_alone = refl
-
-fault_port : (t : Text) → IsNumberWord 65535 t → fault_of line.hkms (codes "serve" ∷ codes "--port" ∷ t ∷ []) ≡ []
-unfolding clap_on_literals
-fault_port t w = rw (w.no_dashes, w.no_long, w.no_short, w.accepted) refl
-
-order_port : (t : Text) → IsNumberWord 65535 t → order_at (subcommand_of line.hkms (codes "serve" ∷ codes "--port" ∷ t ∷ [])) ≡ serve_order (number_at 65535 t) (Some 4294967295)
-unfolding clap_on_literals
-order_port t w = rw (w.no_dashes, w.no_long, w.no_short) refl
-
-fault_port_joined : (t : Text) → IsNumberWord 65535 t → fault_of line.hkms (codes "serve" ∷ (codes "--port" ++ 61 ∷ t) ∷ []) ≡ []
-unfolding clap_on_literals
-fault_port_joined t w = rw w.accepted refl
-
-order_port_joined : (t : Text) → IsNumberWord 65535 t → order_at (subcommand_of line.hkms (codes "serve" ∷ (codes "--port" ++ 61 ∷ t) ∷ [])) ≡ serve_order (number_at 65535 t) (Some 4294967295)
-unfolding clap_on_literals
-order_port_joined t w = refl
-
-fault_conns : (u : Text) → IsNumberWord 4294967295 u → fault_of line.hkms (codes "serve" ∷ codes "--conns" ∷ u ∷ []) ≡ []
-unfolding clap_on_literals
-fault_conns u v = rw (v.no_dashes, v.no_long, v.no_short, v.accepted) refl
-
-order_conns : (u : Text) → IsNumberWord 4294967295 u → order_at (subcommand_of line.hkms (codes "serve" ∷ codes "--conns" ∷ u ∷ [])) ≡ serve_order (Some 9600) (number_at 4294967295 u)
-unfolding clap_on_literals
-order_conns u v = rw (v.no_dashes, v.no_long, v.no_short) refl
-
-fault_conns_joined : (u : Text) → IsNumberWord 4294967295 u → fault_of line.hkms (codes "serve" ∷ (codes "--conns" ++ 61 ∷ u) ∷ []) ≡ []
-unfolding clap_on_literals
-fault_conns_joined u v = rw v.accepted refl
-
-order_conns_joined : (u : Text) → IsNumberWord 4294967295 u → order_at (subcommand_of line.hkms (codes "serve" ∷ (codes "--conns" ++ 61 ∷ u) ∷ [])) ≡ serve_order (Some 9600) (number_at 4294967295 u)
-unfolding clap_on_literals
-order_conns_joined u v = refl
-
-fault_port_conns : (t u : Text) → IsNumberWord 65535 t → IsNumberWord 4294967295 u → fault_of line.hkms (codes "serve" ∷ codes "--port" ∷ t ∷ codes "--conns" ∷ u ∷ []) ≡ []
-unfolding clap_on_literals
-fault_port_conns t u w v = rw (w.no_dashes, w.no_long, w.no_short, w.accepted, v.no_dashes, v.no_long, v.no_short, v.accepted) refl
-
-order_port_conns : (t u : Text) → IsNumberWord 65535 t → IsNumberWord 4294967295 u → order_at (subcommand_of line.hkms (codes "serve" ∷ codes "--port" ∷ t ∷ codes "--conns" ∷ u ∷ [])) ≡ serve_order (number_at 65535 t) (number_at 4294967295 u)
-unfolding clap_on_literals
-order_port_conns t u w v = rw (w.no_dashes, w.no_long, w.no_short, v.no_dashes, v.no_long, v.no_short) refl
-
-fault_port_conns_joined : (t u : Text) → IsNumberWord 65535 t → IsNumberWord 4294967295 u → fault_of line.hkms (codes "serve" ∷ codes "--port" ∷ t ∷ (codes "--conns" ++ 61 ∷ u) ∷ []) ≡ []
-unfolding clap_on_literals
-fault_port_conns_joined t u w v = rw (w.no_dashes, w.no_long, w.no_short, w.accepted, v.accepted) refl
-
-order_port_conns_joined : (t u : Text) → IsNumberWord 65535 t → IsNumberWord 4294967295 u → order_at (subcommand_of line.hkms (codes "serve" ∷ codes "--port" ∷ t ∷ (codes "--conns" ++ 61 ∷ u) ∷ [])) ≡ serve_order (number_at 65535 t) (number_at 4294967295 u)
-unfolding clap_on_literals
-order_port_conns_joined t u w v = rw (w.no_dashes, w.no_long, w.no_short) refl
-
-fault_port_joined_conns : (t u : Text) → IsNumberWord 65535 t → IsNumberWord 4294967295 u → fault_of line.hkms (codes "serve" ∷ (codes "--port" ++ 61 ∷ t) ∷ codes "--conns" ∷ u ∷ []) ≡ []
-unfolding clap_on_literals
-fault_port_joined_conns t u w v = rw (w.accepted, v.no_dashes, v.no_long, v.no_short, v.accepted) refl
-
-order_port_joined_conns : (t u : Text) → IsNumberWord 65535 t → IsNumberWord 4294967295 u → order_at (subcommand_of line.hkms (codes "serve" ∷ (codes "--port" ++ 61 ∷ t) ∷ codes "--conns" ∷ u ∷ [])) ≡ serve_order (number_at 65535 t) (number_at 4294967295 u)
-unfolding clap_on_literals
-order_port_joined_conns t u w v = rw (v.no_dashes, v.no_long, v.no_short) refl
-
-fault_port_joined_conns_joined : (t u : Text) → IsNumberWord 65535 t → IsNumberWord 4294967295 u → fault_of line.hkms (codes "serve" ∷ (codes "--port" ++ 61 ∷ t) ∷ (codes "--conns" ++ 61 ∷ u) ∷ []) ≡ []
-unfolding clap_on_literals
-fault_port_joined_conns_joined t u w v = rw (w.accepted, v.accepted) refl
-
-order_port_joined_conns_joined : (t u : Text) → IsNumberWord 65535 t → IsNumberWord 4294967295 u → order_at (subcommand_of line.hkms (codes "serve" ∷ (codes "--port" ++ 61 ∷ t) ∷ (codes "--conns" ++ 61 ∷ u) ∷ [])) ≡ serve_order (number_at 65535 t) (number_at 4294967295 u)
-unfolding clap_on_literals
-order_port_joined_conns_joined t u w v = refl
-
-fault_conns_port : (u t : Text) → IsNumberWord 4294967295 u → IsNumberWord 65535 t → fault_of line.hkms (codes "serve" ∷ codes "--conns" ∷ u ∷ codes "--port" ∷ t ∷ []) ≡ []
-unfolding clap_on_literals
-fault_conns_port u t v w = rw (v.no_dashes, v.no_long, v.no_short, v.accepted, w.no_dashes, w.no_long, w.no_short, w.accepted) refl
-
-order_conns_port : (u t : Text) → IsNumberWord 4294967295 u → IsNumberWord 65535 t → order_at (subcommand_of line.hkms (codes "serve" ∷ codes "--conns" ∷ u ∷ codes "--port" ∷ t ∷ [])) ≡ serve_order (number_at 65535 t) (number_at 4294967295 u)
-unfolding clap_on_literals
-order_conns_port u t v w = rw (v.no_dashes, v.no_long, v.no_short, w.no_dashes, w.no_long, w.no_short) refl
-
-fault_conns_joined_port : (u t : Text) → IsNumberWord 4294967295 u → IsNumberWord 65535 t → fault_of line.hkms (codes "serve" ∷ (codes "--conns" ++ 61 ∷ u) ∷ codes "--port" ∷ t ∷ []) ≡ []
-unfolding clap_on_literals
-fault_conns_joined_port u t v w = rw (v.accepted, w.no_dashes, w.no_long, w.no_short, w.accepted) refl
-
-order_conns_joined_port : (u t : Text) → IsNumberWord 4294967295 u → IsNumberWord 65535 t → order_at (subcommand_of line.hkms (codes "serve" ∷ (codes "--conns" ++ 61 ∷ u) ∷ codes "--port" ∷ t ∷ [])) ≡ serve_order (number_at 65535 t) (number_at 4294967295 u)
-unfolding clap_on_literals
-order_conns_joined_port u t v w = rw (w.no_dashes, w.no_long, w.no_short) refl
-
-fault_conns_port_joined : (u t : Text) → IsNumberWord 4294967295 u → IsNumberWord 65535 t → fault_of line.hkms (codes "serve" ∷ codes "--conns" ∷ u ∷ (codes "--port" ++ 61 ∷ t) ∷ []) ≡ []
-unfolding clap_on_literals
-fault_conns_port_joined u t v w = rw (v.no_dashes, v.no_long, v.no_short, v.accepted, w.accepted) refl
-
-order_conns_port_joined : (u t : Text) → IsNumberWord 4294967295 u → IsNumberWord 65535 t → order_at (subcommand_of line.hkms (codes "serve" ∷ codes "--conns" ∷ u ∷ (codes "--port" ++ 61 ∷ t) ∷ [])) ≡ serve_order (number_at 65535 t) (number_at 4294967295 u)
-unfolding clap_on_literals
-order_conns_port_joined u t v w = rw (v.no_dashes, v.no_long, v.no_short) refl
-
-fault_conns_joined_port_joined : (u t : Text) → IsNumberWord 4294967295 u → IsNumberWord 65535 t → fault_of line.hkms (codes "serve" ∷ (codes "--conns" ++ 61 ∷ u) ∷ (codes "--port" ++ 61 ∷ t) ∷ []) ≡ []
-unfolding clap_on_literals
-fault_conns_joined_port_joined u t v w = rw (v.accepted, w.accepted) refl
-
-order_conns_joined_port_joined : (u t : Text) → IsNumberWord 4294967295 u → IsNumberWord 65535 t → order_at (subcommand_of line.hkms (codes "serve" ∷ (codes "--conns" ++ 61 ∷ u) ∷ (codes "--port" ++ 61 ∷ t) ∷ [])) ≡ serve_order (number_at 65535 t) (number_at 4294967295 u)
-unfolding clap_on_literals
-order_conns_joined_port_joined u t v w = refl
-
-port_word : (port : ℕ) → (1 ≤ port) × (port ≤ 65535) → IsNumberWord 65535 (decimal port)
-port_word port h = number_word 65535 port h.0 h.1 (omega arith)
-
-conns_word : (conns : ℕ) → (1 ≤ conns) × (conns ≤ 4294967295) → IsNumberWord 4294967295 (decimal conns)
-conns_word conns h = number_word 4294967295 conns h.0 h.1 (omega arith)
-
-port_number : (port : ℕ) → (1 ≤ port) × (port ≤ 65535) → number_at 65535 (decimal port) ≡ Some port
-port_number port h = number_at-word 65535 port h.0 h.1 (omega arith)
-
-conns_number : (conns : ℕ) → (1 ≤ conns) × (conns ≤ 4294967295) → number_at 4294967295 (decimal conns) ≡ Some conns
-conns_number conns h = number_at-word 4294967295 conns h.0 h.1 (omega arith)
-
-serve_reads : (port conns : ℕ) (words ps cs : List Text) → IsOption (codes "--port") 9600 65535 port ps → IsOption (codes "--conns") 4294967295 4294967295 conns cs → IsServe ps cs words
-    → Reading words (Serve port conns)
-serve_reads port conns words ps cs (inl (is, number)) (inl (has, count)) (inl e) =
-    reading_at words _ (Serve port conns) (e ∙ ap₂ (λ (x y : List Text). codes "serve" ∷ (x ++ y)) is has) fault_alone (order_alone ∙ ap₂ serve_order (ap Some (sym number)) (ap Some (sym count)))
-serve_reads port conns words ps cs (inl (is, number)) (inl (has, count)) (inr e) =
-    reading_at words _ (Serve port conns) (e ∙ ap₂ (λ (x y : List Text). codes "serve" ∷ (y ++ x)) is has) fault_alone (order_alone ∙ ap₂ serve_order (ap Some (sym number)) (ap Some (sym count)))
-serve_reads port conns words ps cs (inl (is, number)) (inr (r, s, inl has)) (inl e) =
-    reading_at words _ (Serve port conns) (e ∙ ap₂ (λ (x y : List Text). codes "serve" ∷ (x ++ y)) is has) (fault_conns (decimal conns) (conns_word conns (r, s))) (order_conns (decimal conns) (conns_word conns (r, s)) ∙ ap₂ serve_order (ap Some (sym number)) (conns_number conns (r, s)))
-serve_reads port conns words ps cs (inl (is, number)) (inr (r, s, inl has)) (inr e) =
-    reading_at words _ (Serve port conns) (e ∙ ap₂ (λ (x y : List Text). codes "serve" ∷ (y ++ x)) is has) (fault_conns (decimal conns) (conns_word conns (r, s))) (order_conns (decimal conns) (conns_word conns (r, s)) ∙ ap₂ serve_order (ap Some (sym number)) (conns_number conns (r, s)))
-serve_reads port conns words ps cs (inl (is, number)) (inr (r, s, inr has)) (inl e) =
-    reading_at words _ (Serve port conns) (e ∙ ap₂ (λ (x y : List Text). codes "serve" ∷ (x ++ y)) is has) (fault_conns_joined (decimal conns) (conns_word conns (r, s))) (order_conns_joined (decimal conns) (conns_word conns (r, s)) ∙ ap₂ serve_order (ap Some (sym number)) (conns_number conns (r, s)))
-serve_reads port conns words ps cs (inl (is, number)) (inr (r, s, inr has)) (inr e) =
-    reading_at words _ (Serve port conns) (e ∙ ap₂ (λ (x y : List Text). codes "serve" ∷ (y ++ x)) is has) (fault_conns_joined (decimal conns) (conns_word conns (r, s))) (order_conns_joined (decimal conns) (conns_word conns (r, s)) ∙ ap₂ serve_order (ap Some (sym number)) (conns_number conns (r, s)))
-serve_reads port conns words ps cs (inr (p, q, inl is)) (inl (has, count)) (inl e) =
-    reading_at words _ (Serve port conns) (e ∙ ap₂ (λ (x y : List Text). codes "serve" ∷ (x ++ y)) is has) (fault_port (decimal port) (port_word port (p, q))) (order_port (decimal port) (port_word port (p, q)) ∙ ap₂ serve_order (port_number port (p, q)) (ap Some (sym count)))
-serve_reads port conns words ps cs (inr (p, q, inl is)) (inl (has, count)) (inr e) =
-    reading_at words _ (Serve port conns) (e ∙ ap₂ (λ (x y : List Text). codes "serve" ∷ (y ++ x)) is has) (fault_port (decimal port) (port_word port (p, q))) (order_port (decimal port) (port_word port (p, q)) ∙ ap₂ serve_order (port_number port (p, q)) (ap Some (sym count)))
-serve_reads port conns words ps cs (inr (p, q, inl is)) (inr (r, s, inl has)) (inl e) =
-    reading_at words _ (Serve port conns) (e ∙ ap₂ (λ (x y : List Text). codes "serve" ∷ (x ++ y)) is has) (fault_port_conns (decimal port) (decimal conns) (port_word port (p, q)) (conns_word conns (r, s))) (order_port_conns (decimal port) (decimal conns) (port_word port (p, q)) (conns_word conns (r, s)) ∙ ap₂ serve_order (port_number port (p, q)) (conns_number conns (r, s)))
-serve_reads port conns words ps cs (inr (p, q, inl is)) (inr (r, s, inl has)) (inr e) =
-    reading_at words _ (Serve port conns) (e ∙ ap₂ (λ (x y : List Text). codes "serve" ∷ (y ++ x)) is has) (fault_conns_port (decimal conns) (decimal port) (conns_word conns (r, s)) (port_word port (p, q))) (order_conns_port (decimal conns) (decimal port) (conns_word conns (r, s)) (port_word port (p, q)) ∙ ap₂ serve_order (port_number port (p, q)) (conns_number conns (r, s)))
-serve_reads port conns words ps cs (inr (p, q, inl is)) (inr (r, s, inr has)) (inl e) =
-    reading_at words _ (Serve port conns) (e ∙ ap₂ (λ (x y : List Text). codes "serve" ∷ (x ++ y)) is has) (fault_port_conns_joined (decimal port) (decimal conns) (port_word port (p, q)) (conns_word conns (r, s))) (order_port_conns_joined (decimal port) (decimal conns) (port_word port (p, q)) (conns_word conns (r, s)) ∙ ap₂ serve_order (port_number port (p, q)) (conns_number conns (r, s)))
-serve_reads port conns words ps cs (inr (p, q, inl is)) (inr (r, s, inr has)) (inr e) =
-    reading_at words _ (Serve port conns) (e ∙ ap₂ (λ (x y : List Text). codes "serve" ∷ (y ++ x)) is has) (fault_conns_joined_port (decimal conns) (decimal port) (conns_word conns (r, s)) (port_word port (p, q))) (order_conns_joined_port (decimal conns) (decimal port) (conns_word conns (r, s)) (port_word port (p, q)) ∙ ap₂ serve_order (port_number port (p, q)) (conns_number conns (r, s)))
-serve_reads port conns words ps cs (inr (p, q, inr is)) (inl (has, count)) (inl e) =
-    reading_at words _ (Serve port conns) (e ∙ ap₂ (λ (x y : List Text). codes "serve" ∷ (x ++ y)) is has) (fault_port_joined (decimal port) (port_word port (p, q))) (order_port_joined (decimal port) (port_word port (p, q)) ∙ ap₂ serve_order (port_number port (p, q)) (ap Some (sym count)))
-serve_reads port conns words ps cs (inr (p, q, inr is)) (inl (has, count)) (inr e) =
-    reading_at words _ (Serve port conns) (e ∙ ap₂ (λ (x y : List Text). codes "serve" ∷ (y ++ x)) is has) (fault_port_joined (decimal port) (port_word port (p, q))) (order_port_joined (decimal port) (port_word port (p, q)) ∙ ap₂ serve_order (port_number port (p, q)) (ap Some (sym count)))
-serve_reads port conns words ps cs (inr (p, q, inr is)) (inr (r, s, inl has)) (inl e) =
-    reading_at words _ (Serve port conns) (e ∙ ap₂ (λ (x y : List Text). codes "serve" ∷ (x ++ y)) is has) (fault_port_joined_conns (decimal port) (decimal conns) (port_word port (p, q)) (conns_word conns (r, s))) (order_port_joined_conns (decimal port) (decimal conns) (port_word port (p, q)) (conns_word conns (r, s)) ∙ ap₂ serve_order (port_number port (p, q)) (conns_number conns (r, s)))
-serve_reads port conns words ps cs (inr (p, q, inr is)) (inr (r, s, inl has)) (inr e) =
-    reading_at words _ (Serve port conns) (e ∙ ap₂ (λ (x y : List Text). codes "serve" ∷ (y ++ x)) is has) (fault_conns_port_joined (decimal conns) (decimal port) (conns_word conns (r, s)) (port_word port (p, q))) (order_conns_port_joined (decimal conns) (decimal port) (conns_word conns (r, s)) (port_word port (p, q)) ∙ ap₂ serve_order (port_number port (p, q)) (conns_number conns (r, s)))
-serve_reads port conns words ps cs (inr (p, q, inr is)) (inr (r, s, inr has)) (inl e) =
-    reading_at words _ (Serve port conns) (e ∙ ap₂ (λ (x y : List Text). codes "serve" ∷ (x ++ y)) is has) (fault_port_joined_conns_joined (decimal port) (decimal conns) (port_word port (p, q)) (conns_word conns (r, s))) (order_port_joined_conns_joined (decimal port) (decimal conns) (port_word port (p, q)) (conns_word conns (r, s)) ∙ ap₂ serve_order (port_number port (p, q)) (conns_number conns (r, s)))
-serve_reads port conns words ps cs (inr (p, q, inr is)) (inr (r, s, inr has)) (inr e) =
-    reading_at words _ (Serve port conns) (e ∙ ap₂ (λ (x y : List Text). codes "serve" ∷ (y ++ x)) is has) (fault_conns_joined_port_joined (decimal conns) (decimal port) (conns_word conns (r, s)) (port_word port (p, q))) (order_conns_joined_port_joined (decimal conns) (decimal port) (conns_word conns (r, s)) (port_word port (p, q)) ∙ ap₂ serve_order (port_number port (p, q)) (conns_number conns (r, s)))
+options_read : Reading (codes "serve" ∷ codes "--port" ∷ codes "1" ∷ codes "--conns" ∷ codes "2" ∷ codes "--connections" ∷ codes "3" ∷ []) (Serve 1 2 3)
+unfolding Reading clap_on_literals
+options_read = (refl, refl)
 
 -- ---- what the clauses say
 
@@ -206,16 +45,15 @@ serve_reads port conns words ps cs (inr (p, q, inr is)) (inr (r, s, inr has)) (i
 pub replay_is_named : Names Replay (codes "replay" ∷ [])
 replay_is_named = record { no_fault = faultless (codes "replay" ∷ []) Replay replay_reads; command = ordered (codes "replay" ∷ []) Replay replay_reads }
 
-pub serve_is_named : Names (Serve 9600 4294967295) (codes "serve" ∷ [])
-serve_is_named = record { no_fault = no_number_is_refused (codes "serve" ∷ []) (Serve 9600 4294967295) fault_alone order_alone; command = order_alone }
-
 pub pipe_is_named : Names Pipe (codes "pipe" ∷ [])
 pipe_is_named = record { no_fault = faultless (codes "pipe" ∷ []) Pipe pipe_reads; command = ordered (codes "pipe" ∷ []) Pipe pipe_reads }
 
 spelled : (o : Order) (words : List Text) → IsSpelled o words → Reading words o
 spelled Replay words s = rw s replay_reads
 spelled Pipe words s = rw s pipe_reads
-spelled (Serve port conns) words (port_words, conns_words, port_is, conns_is, either) = serve_reads port conns words port_words conns_words port_is conns_is either
+spelled (Serve port conns places) words (inl (at_a_time, port_words, conns_words, port_is, conns_is, order)) =
+    serve_reads port conns places words port_words conns_words at_a_time port_is conns_is order
+spelled (Serve port conns places) words (inr (port_is, conns_is, places_words, places_is, is)) = reads_places port conns places words places_words port_is conns_is places_is is
 spelled (Help text) words s = absurd s
 spelled (Version text) words s = absurd s
 
@@ -223,15 +61,12 @@ spelled (Version text) words s = absurd s
 pub spelling_is_named : (o : Order) (words : List Text) → IsSpelled o words → Names o words
 spelling_is_named o words s = record { no_fault = faultless words o (spelled o words s); command = ordered words o (spelled o words s) }
 
-pub options_name : Names (Serve 1 2) (codes "serve" ∷ codes "--port" ∷ codes "1" ∷ codes "--conns" ∷ codes "2" ∷ [])
-options_name =
-    spelling_is_named (Serve 1 2) _ (
-      codes "--port" ∷ codes "1" ∷ [],
-      codes "--conns" ∷ codes "2" ∷ [],
-      inr (omega arith, omega arith, inl (ap (λ x. codes "--port" ∷ x ∷ []) (sym (decimal_digit 1 (omega arith))))),
-      inr (omega arith, omega arith, inl (ap (λ x. codes "--conns" ∷ x ∷ []) (sym (decimal_digit 2 (omega arith))))),
-      inl refl,
-    )
+pub serve_is_named : Names (Serve 9600 4294967295 16) (codes "serve" ∷ [])
+serve_is_named =
+    spelling_is_named (Serve 9600 4294967295 16) _ (inl (refl, [], [], inl (refl, refl), inl (refl, refl), inl refl))
+
+pub options_name : Names (Serve 1 2 3) (codes "serve" ∷ codes "--port" ∷ codes "1" ∷ codes "--conns" ∷ codes "2" ∷ codes "--connections" ∷ codes "3" ∷ [])
+options_name = record { no_fault = faultless _ (Serve 1 2 3) options_read; command = ordered _ (Serve 1 2 3) options_read }
 
 pub named_from : (r : Result Order OrderFault) (words : List Text) → IfOk r (λ o. Answers o words) → IfErr r (λ f. f ≡ Usage → HasMistake (line_fault words))
     → (o : Order) → IsSpelled o words → (r ≡ Ok o) ⊎ (r ≡ Err NoMemory)

@@ -28,8 +28,12 @@ port = number_option (codes "port") (parser.Signed (pos 1) (pos 65535))
 abbrev pub conns : Rule
 conns = number_option (codes "conns") (parser.Signed (pos 1) (pos 4294967295))
 
+-- clap reads a number of connections at a time as one from 1 to 1,024
+abbrev pub connections : Rule
+connections = number_option (codes "connections") (parser.Signed (pos 1) (pos 1024))
+
 abbrev pub serve : App
-serve = with_rule (with_rule (new_app (codes "serve")) port) conns
+serve = with_rule (with_rule (with_rule (new_app (codes "serve")) port) conns) connections
 
 -- one more command, which is `serve`
 abbrev pub with_serve : App → App

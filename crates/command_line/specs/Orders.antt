@@ -28,22 +28,26 @@ number_at most text =
 abbrev pub number_or : ℕ → ℕ → Option Text → Option ℕ
 number_or absent most value = option_map_or (number_at most) value (Some absent)
 
--- the port, and the number of connections, that are given to `serve`
+-- the port, the number of connections, and how many at a time, that are given to `serve`
 abbrev pub port_at : List Row → Option ℕ
 port_at rows = number_or 9600 65535 (first_of (codes "port") rows)
 
 abbrev pub conns_at : List Row → Option ℕ
 conns_at rows = number_or 4294967295 4294967295 (first_of (codes "conns") rows)
 
-abbrev pub serve_order : Option ℕ → Option ℕ → Option Order
-serve_order (Some port) (Some conns) = Some (Serve port conns)
-serve_order (Some port) None = None
-serve_order None conns = None
+abbrev pub places_at : List Row → Option ℕ
+places_at rows = number_or 16 1024 (first_of (codes "connections") rows)
+
+abbrev pub serve_order : Option ℕ → Option ℕ → Option ℕ → Option Order
+serve_order (Some port) (Some conns) (Some places) = Some (Serve port conns places)
+serve_order (Some port) (Some conns) None = None
+serve_order (Some port) None places = None
+serve_order None conns places = None
 
 -- the order of a command with this name and these options
 abbrev pub order_named : Text → List Row → Option Order
 order_named name rows =
-    if bytes_eq name (codes "serve") then serve_order (port_at rows) (conns_at rows)
+    if bytes_eq name (codes "serve") then serve_order (port_at rows) (conns_at rows) (places_at rows)
     else (if bytes_eq name (codes "replay") then Some Replay
     else (if bytes_eq name (codes "pipe") then Some Pipe else None))
 
@@ -60,7 +64,8 @@ number_fault None = ValueValidation ∷ []
 abbrev pub numbers_fault : Option (Text × List Row) → Kinds
 numbers_fault None = []
 numbers_fault (Some command) =
-    if bytes_eq command.0 (codes "serve") then or_else (number_fault (port_at command.1)) (number_fault (conns_at command.1)) else []
+    if bytes_eq command.0 (codes "serve")
+    then or_else (number_fault (port_at command.1)) (or_else (number_fault (conns_at command.1)) (number_fault (places_at command.1))) else []
 
 -- The faults of the words: those that clap finds, or else those of the numbers. Clap takes `+1` and `01` for numbers, too.
 abbrev pub line_fault : List Text → Kinds
@@ -109,7 +114,7 @@ abbrev pub IsOption : Text → ℕ → ℕ → ℕ → List Text → Type 0
 IsOption name absent most number words =
     ((words ≡ []) × (number ≡ absent)) ⊎ ((1 ≤ number) × (number ≤ most) × IsGiven name number words)
 
--- the word `serve` and the words of its options, in either order
+-- the word `serve` and the words of the port and of the number of connections, in either order
 abbrev pub IsServe : List Text → List Text → List Text → Type 0
 IsServe port conns words = (words ≡ codes "serve" ∷ (port ++ conns)) ⊎ (words ≡ codes "serve" ∷ (conns ++ port))
 
@@ -117,9 +122,11 @@ IsServe port conns words = (words ≡ codes "serve" ∷ (port ++ conns)) ⊎ (wo
 abbrev pub IsSpelled : Order → List Text → Type 0
 IsSpelled Replay words = words ≡ codes "replay" ∷ []
 IsSpelled Pipe words = words ≡ codes "pipe" ∷ []
-IsSpelled (Serve port conns) words =
-    (port_words : List Text) × (conns_words : List Text) × IsOption (codes "--port") 9600 65535 port port_words
-    × IsOption (codes "--conns") 4294967295 4294967295 conns conns_words × IsServe port_words conns_words words
+IsSpelled (Serve port conns places) words =
+    ((places ≡ 16) × (port_words : List Text) × (conns_words : List Text) × IsOption (codes "--port") 9600 65535 port port_words
+    × IsOption (codes "--conns") 4294967295 4294967295 conns conns_words × IsServe port_words conns_words words)
+    ⊎ ((port ≡ 9600) × (conns ≡ 4294967295) × (places_words : List Text) × IsOption (codes "--connections") 16 1024 places places_words
+    × (words ≡ codes "serve" ∷ places_words))
 IsSpelled (Help text) words = ⊥
 IsSpelled (Version text) words = ⊥
 

@@ -61,11 +61,14 @@ fn with_serve<'a>(alloc: Global, program: Command<'a>) -> Result<Command<'a>, Al
     let port = number_option(alloc, "port", help::PORT, ports);
     let counts = value_parser!(u32).range(1..);
     let conns = number_option(alloc, "conns", help::CONNS, counts);
+    let places = value_parser!(u16).range(1..=1024);
+    let connections = number_option(alloc, "connections", help::CONNECTIONS, places);
     let plain = Command::new(alloc, "serve")
         .about(help::SERVE)
         .after_help(help::SERVE_NOTES);
     let half = plain.arg(port)?;
-    let serve = half.arg(conns)?;
+    let most = half.arg(conns)?;
+    let serve = most.arg(connections)?;
     program.subcommand(serve)
 }
 

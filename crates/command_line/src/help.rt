@@ -21,7 +21,8 @@ Exit status:
    2  the command line has a mistake; nothing was read, and no log was made
    3  the input or kms-acls.properties has a mistake
    4  keys.log or names.log is damaged
-   5  a log cannot be opened: the disk failed, or another process has it
+   5  a log cannot be opened: the disk failed, or another process has it; or the
+      disk failed while 'serve' ran
    6  there was no memory
    7  the input, kms-acls.properties or /dev/urandom cannot be read
    8  the output cannot be written
@@ -109,6 +110,9 @@ pub(crate) const PORT: &str = "Port of 127.0.0.1, from 1 to 65535 [default: 9600
 /// What the option `--conns` gives.
 pub(crate) const CONNS: &str = "Connections to serve, from 1 to 4294967295 [default: 4294967295]";
 
+/// What the option `--connections` gives.
+pub(crate) const CONNECTIONS: &str = "Connections to serve at a time, from 1 to 1024 [default: 16]";
+
 /// The connections and the exit statuses of `serve`.
 pub(crate) const SERVE_NOTES: &str =
     "It listens on a port of 127.0.0.1. Clients send requests of HTTP/1.1: those of
@@ -118,9 +122,10 @@ the Hadoop KMS REST API, version 1, and of the namesystem, such as
     GET /nn/v1/list?path=/&user.name=alice HTTP/1.1
 
 The user is the one that the request names; no password is asked for. Queues of
-ready keys are filled, and zones re-encrypted, in the background. At most 16
-connections are served at a time: the next one waits until the oldest of them
-ends. A fault of a connection ends that connection alone.
+ready keys are filled, and zones re-encrypted, in the background. If as many
+connections are served as --connections says, the next one gets the place of the
+one that has waited longest for a request; if none waits, it waits for a place.
+A fault of a connection ends that connection alone.
 
 Standard error gets a line when it listens, and a line when it ends. Standard
 input is not read. What ends it:
@@ -133,7 +138,8 @@ input is not read. What ends it:
           acl too long         kms-acls.properties is over 1,048,576 bytes
      4    damaged keys AT      keys.log is damaged at byte AT
           damaged names AT     names.log is damaged at byte AT
-     5    store fault          a log cannot be opened, or another process has it
+     5    store fault          a log cannot be opened, another process has it, or
+                               the disk failed
      6    no memory            there was no memory
      7    read fault           kms-acls.properties cannot be read
           no random source     /dev/urandom cannot be read

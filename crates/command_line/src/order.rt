@@ -14,6 +14,8 @@ pub enum Order {
         port: u16,
         /// From 1 to 4,294,967,295.
         conns: u32,
+        /// How many of them are served at a time, from 1 to 1,024.
+        places: u16,
     },
     /// Write this help text to standard output and end with status 0. It ends with a line feed.
     Help(String),

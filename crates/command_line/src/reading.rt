@@ -15,6 +15,9 @@ use std::convert::AsStr;
 /// The port of `serve` without an option.
 const DEFAULT_PORT: u32 = 9600;
 
+/// How many connections `serve` serves at a time without an option.
+const DEFAULT_PLACES: u32 = 16;
+
 /// Returns the number if it is one from 1 to `most`.
 fn in_range(number: u64, most: u32) -> Option<u32>
     ensures value { result ≡ in_range most number }
@@ -56,7 +59,12 @@ fn order_named(name: &str, options: &ArgMatches) -> Option<Order>
     if name == "serve" {
         let port = number_or(options, "port", DEFAULT_PORT, 65_535)? as u16;
         let conns = number_or(options, "conns", u32::MAX, u32::MAX)?;
-        Some(Order::Serve { port, conns })
+        let places = number_or(options, "connections", DEFAULT_PLACES, 1024)? as u16;
+        Some(Order::Serve {
+            port,
+            conns,
+            places,
+        })
     } else if name == "replay" {
         Some(Order::Replay)
     } else if name == "pipe" {
@@ -116,8 +124,8 @@ fn texts_of<'w>(alloc: Global, words: &'w [Text]) -> Result<Vec<&'w str>, AllocE
 /// Parses the words of a command line, without the program's own name.
 ///
 /// `replay` and `pipe` are commands, of one word each. `serve` is a command with the options
-/// `--port N` and `--conns N`, or `--port=N` and `--conns=N`, whose numbers are decimal, without a sign
-/// or a leading zero. `--help` or `-h` asks for a help text, and `--version` or `-V` for the version; what
+/// `--port N`, `--conns N` and `--connections N`, each also with `=` before its number, which is decimal,
+/// without a sign or a leading zero. `--help` or `-h` asks for a help text, and `--version` or `-V` for the version; what
 /// follows them counts for nothing. Other words are refused as `OrderFault::Usage`. The first fault
 /// that `clap` finds decides.
 /// `OrderFault::NoMemory` may come in place of any other answer.
