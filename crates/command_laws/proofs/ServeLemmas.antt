@@ -52,32 +52,41 @@ kept_closed old new file start.StoreFault closed good = inl refl
 kept_closed old new file start.NoMemory closed good = inr refl
 kept_closed old new file start.Spent closed good = absurd (spent_never old new file closed good)
 
-module _ {D I O : Type 0} (state : D → DiskState) (to_come : ChaCha → ℕ → ℕ) (serves : Serving I O D ChaCha) (conns : ℕ) (acls acls' : Option (List ℕ)) (words words' : ℕ → ℕ) (yard yard' : YardState) (door door' : DoorState I O) (written now : Option (List ℕ)) (status : ℕ)
+module _ {D I O : Type 0} (state : D → DiskState) (to_come : ChaCha → ℕ → ℕ) (serves : Serving I O D ChaCha) (port conns : ℕ) (acls acls' : Option (List ℕ)) (words words' : ℕ → ℕ) (yard yard' : YardState) (door door' : DoorState I O) (written now : Option (List ℕ)) (status : ℕ)
     (properties : GoodProperties acls) (good : GoodYard yard) (ok : Unfailed status) where
+  abbrev EndsBy : RunEnd → Type 0
+  EndsBy = RunsUnder state to_come serves properties.props port conns words yard yard' door door'
+
   abbrev Done : Type 0
-  Done = ((status ≡ 0) × RunsUnder state to_come serves properties.props conns words yard yard' door door' run_end.Served) ⊎ (status ≡ 6)
+  Done = ((status ≡ 0) × (EndsBy run_end.Served ⊎ EndsBy run_end.Closed)) ⊎ (status ≡ 6)
 
   refused : (same : Type 0) → RefusesToServe same acls written now status → Done
   refused same r = inr (reported _ replayed.ReadFault written now status ok r.reports (unread acls properties r.fault r.has_fault) (λ how is. not_read how status is ok))
 
-  under : ServesUnder state to_come serves conns acls acls' words words' yard yard' door door' written now status → Done
+  under : ServesUnder state to_come serves port conns acls acls' words words' yard yard' door door' written now status → Done
   under u = go u.end u.ends u.reports
     where
-      go : (end : RunEnd) → RunsUnder state to_come serves u.props conns words yard yard' door door' end → ReportsRun end written now status → Done
-      go run_end.Served ends reports = inl (reports.0, subst (λ (p : Props). RunsUnder state to_come serves p conns words yard yard' door door' run_end.Served) (same_props acls acls' u.props properties u.read) ends)
+      under_same : (end : RunEnd) → RunsUnder state to_come serves u.props port conns words yard yard' door door' end → EndsBy end
+      under_same end ends =
+          subst (λ (p : Props). RunsUnder state to_come serves p port conns words yard yard' door door' end) (same_props acls acls' u.props properties u.read) ends
+
+      go : (end : RunEnd) → RunsUnder state to_come serves u.props port conns words yard yard' door door' end → ReportsRun end written now status → Done
+      go run_end.Served ends reports = inl (reports.0, inl (under_same run_end.Served ends))
+      go run_end.Closed ends reports = inl (reports.0, inr (under_same run_end.Closed ends))
+      go run_end.StoreFault ends reports = inr (reported replayed.StoreFault replayed.StoreFault written now status ok reports (inl refl) (λ how is. not_stored how status is ok))
       go run_end.DoorFault ends (inl shown) = absurd (ok.door shown.0)
       go run_end.DoorFault ends (inr failed) = absurd (ok.write failed.0)
       go run_end.NoMemory ends reports = inr (reported replayed.NoMemory replayed.ReadFault written now status ok reports (inr refl) (λ how is. not_read how status is ok))
       go (run_end.NotOpened file fault) ends reports =
           inr (reported (ended_by file fault) replayed.StoreFault written now status ok reports (kept_closed yard yard' file fault ends.0 good) (λ how is. not_stored how status is ok))
 
-  served : (same : Type 0) → Serves state to_come serves same conns acls acls' words words' yard yard' door door' written now status → Done
+  served : (same : Type 0) → Serves state to_come serves same port conns acls acls' words words' yard yard' door door' written now status → Done
   served same (inl r) = refused same r
   served same (inr u) = under u
 
-pub serve_is_complete : {D I O : Type 0} (state : D → DiskState) (to_come : ChaCha → ℕ → ℕ) (serves : Serving I O D ChaCha) (same others unasked : Type 0) (conns : ℕ) (acls acls' : Option (List ℕ)) (words words' : ℕ → ℕ) (yard yard' : YardState) (door door' : DoorState I O)
-    (written now : Option (List ℕ)) (before after : Counts) (status : ℕ) → ServeIsComplete state to_come serves same others unasked conns acls acls' words words' yard yard' door door' written now before after status
-serve_is_complete state to_come serves same others unasked conns acls acls' words words' yard yard' door door' written now before after status (inl (runs, rest)) causes none properties good =
-    served state to_come serves conns acls acls' words words' yard yard' door door' written now status properties good (unfailed before after status causes none) same runs
-serve_is_complete state to_come serves same others unasked conns acls acls' words words' yard yard' door door' written now before after status (inr memory) causes none properties good =
+pub serve_is_complete : {D I O : Type 0} (state : D → DiskState) (to_come : ChaCha → ℕ → ℕ) (serves : Serving I O D ChaCha) (same others unasked : Type 0) (port conns : ℕ) (acls acls' : Option (List ℕ)) (words words' : ℕ → ℕ) (yard yard' : YardState) (door door' : DoorState I O)
+    (written now : Option (List ℕ)) (before after : Counts) (status : ℕ) → ServeIsComplete state to_come serves same others unasked port conns acls acls' words words' yard yard' door door' written now before after status
+serve_is_complete state to_come serves same others unasked port conns acls acls' words words' yard yard' door door' written now before after status (inl (runs, rest)) causes none properties good =
+    served state to_come serves port conns acls acls' words words' yard yard' door door' written now status properties good (unfailed before after status causes none) same runs
+serve_is_complete state to_come serves same others unasked port conns acls acls' words words' yard yard' door door' written now before after status (inr memory) causes none properties good =
     inr (memory_shown _ written now status (unfailed before after status causes none) memory.1)

@@ -75,8 +75,8 @@ pub fn connections_are_complete<
 {}
 
 /// The same of a server that returns, by the clause `serve`: if the properties and both logs of the yard
-/// are good, and no count of faults rises, all connections were served and the status is 0, or the
-/// status is 6.
+/// are good, and no count of faults rises, the status is 0, and all connections were served or those
+/// that came before the door took no more; or the status is 6.
 pub fn servers_are_complete<
     A: Source,
     S: Source,
@@ -103,12 +103,13 @@ pub fn servers_are_complete<
     clock_after: &C,
     door: &P,
     door_after: &P,
+    port: u16,
     conns: u32,
     status: u8,
 )
     ensures { ServeIsComplete Y.Own.state ⟦<ChaWords as Words>⟧.to_come (ServesEnds P.In.left P.In.faults P.Out.written P.Out.faults)
         ((yard_after.now ≡ yard.now) × (door_after.now ≡ door.now) × (rand_after.now ≡ rand.now)) ((disk_after.now ≡ disk.now) × (input_after.now ≡ input.now))
-        ((disk_after.now ≡ disk.now) × (acls_after.now ≡ acls.now) × (input_after.now ≡ input.now) × (rand_after.now ≡ rand.now) × (clock_after.now ≡ clock.now)) conns
+        ((disk_after.now ≡ disk.now) × (acls_after.now ≡ acls.now) × (input_after.now ≡ input.now) × (rand_after.now ≡ rand.now) × (clock_after.now ≡ clock.now)) port conns
         (A.left acls.now) (A.left acls_after.now) (W.to_come rand.now) (W.to_come rand_after.now) (Y.state yard.now) (Y.state yard_after.now) (P.state door.now) (P.state door_after.now) (K.written out.now) (K.written out_after.now)
         (record { acls = A.faults acls.now; input = S.faults input.now; out = K.faults out.now; store = (Y.state yard.now).faults; door = P.faults door.now })
         (record { acls = A.faults acls_after.now; input = S.faults input_after.now; out = K.faults out_after.now; store = (Y.state yard_after.now).faults; door = P.faults door_after.now }) status }

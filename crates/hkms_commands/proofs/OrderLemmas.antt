@@ -26,7 +26,7 @@ pub helps_so : (order : OrderRead) (replays pipes : Type 0) (serves : ℕ → �
     → ShowsText same written now status ⊎ WantsMemory same written now status
 helps_so (Ok Replay) replays pipes serves same written now status is obeys = absurd is
 helps_so (Ok Pipe) replays pipes serves same written now status is obeys = absurd is
-helps_so (Ok (Serve port conns)) replays pipes serves same written now status is obeys = absurd is
+helps_so (Ok (Serve port conns places)) replays pipes serves same written now status is obeys = absurd is
 helps_so (Ok (Help text)) replays pipes serves same written now status is obeys = inl (record { text = string_bytes text; untouched = obeys.0; shows = obeys.1 })
 helps_so (Ok (Version text)) replays pipes serves same written now status is obeys = absurd is
 helps_so (Err Usage) replays pipes serves same written now status is obeys = absurd cc
@@ -36,7 +36,7 @@ pub versions_so : (order : OrderRead) (replays pipes : Type 0) (serves : ℕ →
     → ShowsText same written now status ⊎ WantsMemory same written now status
 versions_so (Ok Replay) replays pipes serves same written now status is obeys = absurd is
 versions_so (Ok Pipe) replays pipes serves same written now status is obeys = absurd is
-versions_so (Ok (Serve port conns)) replays pipes serves same written now status is obeys = absurd is
+versions_so (Ok (Serve port conns places)) replays pipes serves same written now status is obeys = absurd is
 versions_so (Ok (Help text)) replays pipes serves same written now status is obeys = absurd is
 versions_so (Ok (Version text)) replays pipes serves same written now status is obeys = inl (record { text = string_bytes text; untouched = obeys.0; shows = obeys.1 })
 versions_so (Err Usage) replays pipes serves same written now status is obeys = absurd cc
@@ -54,7 +54,7 @@ pub usage_only : (order : OrderRead) (words : List Text) (replays pipes : Type 0
     → Obeys order replays pipes serves same written now status → (replays → status ≢ 2) → (pipes → status ≢ 2) → ((port conns : ℕ) → serves port conns → status ≢ 2) → status ≡ 2 → IsMistake (line_fault words)
 usage_only (Ok Replay) words replays pipes serves same written now status usage obeys no_replay no_pipe no_server two = absurd (no_replay obeys two)
 usage_only (Ok Pipe) words replays pipes serves same written now status usage obeys no_replay no_pipe no_server two = absurd (no_pipe obeys two)
-usage_only (Ok (Serve port conns)) words replays pipes serves same written now status usage obeys no_replay no_pipe no_server two = absurd (no_server port conns obeys two)
+usage_only (Ok (Serve port conns places)) words replays pipes serves same written now status usage obeys no_replay no_pipe no_server two = absurd (no_server port conns obeys two)
 usage_only (Ok (Help text)) words replays pipes serves same written now status usage obeys no_replay no_pipe no_server two = absurd (not_shown _ 0 written now status (λ h. absurd cc) obeys.1 two)
 usage_only (Ok (Version text)) words replays pipes serves same written now status usage obeys no_replay no_pipe no_server two = absurd (not_shown _ 0 written now status (λ h. absurd cc) obeys.1 two)
 usage_only (Err Usage) words replays pipes serves same written now status usage obeys no_replay no_pipe no_server two = usage refl
@@ -128,9 +128,9 @@ by_logs (Ok Replay) words on_disk in_yard (inr (inr version)) by = absurd versio
 by_logs (Ok Pipe) words on_disk in_yard (inl read) by = inl (inr (record { no_fault = read.0; command = read.1 }), by)
 by_logs (Ok Pipe) words on_disk in_yard (inr (inl help)) by = absurd help.0
 by_logs (Ok Pipe) words on_disk in_yard (inr (inr version)) by = absurd version.0
-by_logs (Ok (Serve port conns)) words on_disk in_yard (inl read) by = inr ((port, conns, record { no_fault = read.0; command = read.1 }), by)
-by_logs (Ok (Serve port conns)) words on_disk in_yard (inr (inl help)) by = absurd help.0
-by_logs (Ok (Serve port conns)) words on_disk in_yard (inr (inr version)) by = absurd version.0
+by_logs (Ok (Serve port conns places)) words on_disk in_yard (inl read) by = inr ((port, conns, places, record { no_fault = read.0; command = read.1 }), by)
+by_logs (Ok (Serve port conns places)) words on_disk in_yard (inr (inl help)) by = absurd help.0
+by_logs (Ok (Serve port conns places)) words on_disk in_yard (inr (inr version)) by = absurd version.0
 by_logs (Ok (Help text)) words on_disk in_yard answers by = absurd by
 by_logs (Ok (Version text)) words on_disk in_yard answers by = absurd by
 by_logs (Err fault) words on_disk in_yard answers by = absurd by

@@ -32,22 +32,24 @@ not_two n zero two = absurd (omega (arith, zero, two))
 
 run_is_no_usage : (end : RunEnd) (written now : Option (List ℕ)) (status : ℕ) → ReportsRun end written now status → status ≢ 2
 run_is_no_usage run_end.Served written now status r = not_two status r.0
+run_is_no_usage run_end.Closed written now status r = not_two status r.0
+run_is_no_usage run_end.StoreFault written now status r = report_is_no_usage _ written now status r
 run_is_no_usage run_end.DoorFault written now status r = not_shown _ 9 written now status (λ h. absurd cc) r
 run_is_no_usage run_end.NoMemory written now status r = report_is_no_usage _ written now status r
 run_is_no_usage (run_end.NotOpened file fault) written now status r = report_is_no_usage _ written now status r
 
-pub server_is_no_usage : {D I O : Type 0} (state : D → DiskState) (to_come : ChaCha → ℕ → ℕ) (serves : Serving I O D ChaCha) (same : Type 0) (conns : ℕ) (acls acls' : Option (List ℕ)) (words words' : ℕ → ℕ) (yard yard' : YardState)
-    (door door' : DoorState I O) (written now : Option (List ℕ)) (status : ℕ) → Serves state to_come serves same conns acls acls' words words' yard yard' door door' written now status → status ≢ 2
-server_is_no_usage state to_come serves same conns acls acls' words words' yard yard' door door' written now status (inl refused) = report_is_no_usage _ written now status refused.reports
-server_is_no_usage state to_come serves same conns acls acls' words words' yard yard' door door' written now status (inr ran) = run_is_no_usage ran.end written now status ran.reports
+pub server_is_no_usage : {D I O : Type 0} (state : D → DiskState) (to_come : ChaCha → ℕ → ℕ) (serves : Serving I O D ChaCha) (same : Type 0) (port conns : ℕ) (acls acls' : Option (List ℕ)) (words words' : ℕ → ℕ) (yard yard' : YardState)
+    (door door' : DoorState I O) (written now : Option (List ℕ)) (status : ℕ) → Serves state to_come serves same port conns acls acls' words words' yard yard' door door' written now status → status ≢ 2
+server_is_no_usage state to_come serves same port conns acls acls' words words' yard yard' door door' written now status (inl refused) = report_is_no_usage _ written now status refused.reports
+server_is_no_usage state to_come serves same port conns acls acls' words words' yard yard' door door' written now status (inr ran) = run_is_no_usage ran.end written now status ran.reports
 
 -- words that give the order of a server name it
-pub serving_named : (order : OrderRead) (words : List Text) (idle : Type 0) → IfOk order (λ o. Answers o words) → LeavesServing order idle → ((port : ℕ) × (conns : ℕ) × Names (Serve port conns) words) ⊎ idle
+pub serving_named : (order : OrderRead) (words : List Text) (idle : Type 0) → IfOk order (λ o. Answers o words) → LeavesServing order idle → ((port : ℕ) × (conns : ℕ) × (places : ℕ) × Names (Serve port conns places) words) ⊎ idle
 serving_named (Ok Replay) words idle answers leaves = inr leaves
 serving_named (Ok Pipe) words idle answers leaves = inr leaves
-serving_named (Ok (Serve port conns)) words idle (inl read) leaves = inl (port, conns, record { no_fault = read.0; command = read.1 })
-serving_named (Ok (Serve port conns)) words idle (inr (inl help)) leaves = absurd help.0
-serving_named (Ok (Serve port conns)) words idle (inr (inr version)) leaves = absurd version.0
+serving_named (Ok (Serve port conns places)) words idle (inl read) leaves = inl (port, conns, places, record { no_fault = read.0; command = read.1 })
+serving_named (Ok (Serve port conns places)) words idle (inr (inl help)) leaves = absurd help.0
+serving_named (Ok (Serve port conns places)) words idle (inr (inr version)) leaves = absurd version.0
 serving_named (Ok (Help text)) words idle answers leaves = inr leaves
 serving_named (Ok (Version text)) words idle answers leaves = inr leaves
 serving_named (Err Usage) words idle answers leaves = inr leaves

@@ -31,7 +31,7 @@ pub record ShowsText (same : Type 0) (written now : Option (List ℕ)) (status :
 abbrev pub Obeys : Result Order OrderFault → Type 0 → Type 0 → (ℕ → ℕ → Type 0) → Type 0 → Option (List ℕ) → Option (List ℕ) → ℕ → Type 0
 Obeys (Ok Replay) replays pipes serves same written now status = replays
 Obeys (Ok Pipe) replays pipes serves same written now status = pipes
-Obeys (Ok (Serve port conns)) replays pipes serves same written now status = serves port conns
+Obeys (Ok (Serve port conns places)) replays pipes serves same written now status = serves port conns
 Obeys (Ok (Help text)) replays pipes serves same written now status = same × Shows (string_bytes text) 0 written now status
 Obeys (Ok (Version text)) replays pipes serves same written now status = same × Shows (string_bytes text) 0 written now status
 Obeys (Err Usage) replays pipes serves same written now status = Refuses same written now status
@@ -39,7 +39,7 @@ Obeys (Err NoMemory) replays pipes serves same written now status = WantsMemory 
 
 -- only a server has anything to do with a yard and a door: `idle` says that they are as they were
 abbrev pub LeavesServing : Result Order OrderFault → Type 0 → Type 0
-LeavesServing (Ok (Serve port conns)) idle = ⊤
+LeavesServing (Ok (Serve port conns places)) idle = ⊤
 LeavesServing _ idle = idle
 
 -- the words name a command that reads the input, with both logs on the disk
@@ -48,11 +48,11 @@ UsesDisk words = Names Replay words ⊎ Names Pipe words
 
 -- the words name the server, with both logs in the yard
 abbrev pub UsesYard : List Text → Type 0
-UsesYard words = (port : ℕ) × (conns : ℕ) × Names (Serve port conns) words
+UsesYard words = (port : ℕ) × (conns : ℕ) × (places : ℕ) × Names (Serve port conns places) words
 
 -- one thing of a command over the disk, another of one over the yard; no other order comes to this
 abbrev pub ByLogs : Result Order OrderFault → Type 0 → Type 0 → Type 0
 ByLogs (Ok Replay) on_disk in_yard = on_disk
 ByLogs (Ok Pipe) on_disk in_yard = on_disk
-ByLogs (Ok (Serve port conns)) on_disk in_yard = in_yard
+ByLogs (Ok (Serve port conns places)) on_disk in_yard = in_yard
 ByLogs _ on_disk in_yard = ⊥

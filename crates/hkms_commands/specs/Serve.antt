@@ -35,7 +35,9 @@ pub record Reports (end : ReplayEnd) (written now : Option (List ℕ)) (status :
 -- what is written when the server has ended, and the status
 abbrev pub ReportsRun : RunEnd → Option (List ℕ) → Option (List ℕ) → ℕ → Type 0
 ReportsRun run_end.Served written now status = (status ≡ 0) × (now ≡ written)
+ReportsRun run_end.Closed written now status = (status ≡ 0) × (now ≡ written)
 ReportsRun run_end.DoorFault written now status = Shows (codes "door fault\n") 9 written now status
+ReportsRun run_end.StoreFault written now status = Reports replay_end.StoreFault written now status
 ReportsRun run_end.NoMemory written now status = Reports replay_end.NoMemory written now status
 ReportsRun (run_end.NotOpened file fault) written now status = Reports (ended_by file fault) written now status
 
@@ -49,21 +51,21 @@ pub record RefusesToServe (same : Type 0) (acls written now : Option (List ℕ))
 module _ {D I O : Type 0} (state : D → DiskState) (to_come : ChaCha → ℕ → ℕ) (serves : Serving I O D ChaCha) where
   -- The server ran under these properties, and ended so. The key management service and the two fillers drew from a generator each, whose seeds
   -- are eight words each, in this order.
-  abbrev pub RunsUnder : Props → ℕ → (ℕ → ℕ) → YardState → YardState → DoorState I O → DoorState I O → RunEnd → Type 0
-  RunsUnder props conns words yard yard' door door' end =
-      EndsAs state to_come serves (to_come (generator_of (words_after 8 words))) (to_come (generator_of (words_after 16 words))) props (generator_of words) conns yard yard' door door' end
+  abbrev pub RunsUnder : Props → ℕ → ℕ → (ℕ → ℕ) → YardState → YardState → DoorState I O → DoorState I O → RunEnd → Type 0
+  RunsUnder props port conns words yard yard' door door' end =
+      EndsAs state to_come serves (to_come (generator_of (words_after 8 words))) (to_come (generator_of (words_after 16 words))) props (generator_of words) port conns yard yard' door door' end
 
   -- The properties were read, and the server ran under them. It drew 24 words.
-  pub record ServesUnder (conns : ℕ) (acls acls' : Option (List ℕ)) (words words' : ℕ → ℕ) (yard yard' : YardState) (door door' : DoorState I O) (written now : Option (List ℕ)) (status : ℕ) : Type 0 where
+  pub record ServesUnder (port conns : ℕ) (acls acls' : Option (List ℕ)) (words words' : ℕ → ℕ) (yard yard' : YardState) (door door' : DoorState I O) (written now : Option (List ℕ)) (status : ℕ) : Type 0 where
     pub props : Props
     pub read : ReadsProperties acls acls' props
     pub end : RunEnd
-    pub ends : RunsUnder props conns words yard yard' door door' end
+    pub ends : RunsUnder props port conns words yard yard' door door' end
     pub rest : (k : ℕ) → words' k ≡ words_after 24 words k
     pub reports : ReportsRun end written now status
 
   -- The properties were read first, then both logs were opened, and then connections were served. `same` says that the yard, the door and the
   -- random words are as they were.
-  abbrev pub Serves : Type 0 → ℕ → Option (List ℕ) → Option (List ℕ) → (ℕ → ℕ) → (ℕ → ℕ) → YardState → YardState → DoorState I O → DoorState I O → Option (List ℕ) → Option (List ℕ) → ℕ → Type 0
-  Serves same conns acls acls' words words' yard yard' door door' written now status =
-      RefusesToServe same acls written now status ⊎ ServesUnder conns acls acls' words words' yard yard' door door' written now status
+  abbrev pub Serves : Type 0 → ℕ → ℕ → Option (List ℕ) → Option (List ℕ) → (ℕ → ℕ) → (ℕ → ℕ) → YardState → YardState → DoorState I O → DoorState I O → Option (List ℕ) → Option (List ℕ) → ℕ → Type 0
+  Serves same port conns acls acls' words words' yard yard' door door' written now status =
+      RefusesToServe same acls written now status ⊎ ServesUnder port conns acls acls' words words' yard yard' door door' written now status

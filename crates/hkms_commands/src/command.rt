@@ -68,7 +68,7 @@ fn obey<
         ((how : ReplayEnd) × (result ≡ status_of how) × Replay (disk.new ≡ disk.old) ((input.new ≡ input.old) × (rand.new ≡ rand.old)) (D.state disk.old) (D.state disk.new) (A.left acls.old) (A.left acls.new) (W.to_come rand.old) (W.to_come rand.new) (S.left input.old) (K.written out.old) (K.written out.new) how × (result ≡ 0 → IsAtEnd (S.left input.new)))
         (Pipe (disk.new ≡ disk.old) ((input.new ≡ input.old) × (out.new ≡ out.old) × (rand.new ≡ rand.old) × (clock.new ≡ clock.old)) (D.state disk.old) (D.state disk.new) (A.left acls.old) (A.left acls.new) (W.to_come rand.old) (W.to_come rand.new) (S.left input.old) (S.left input.new) (K.written out.old) (K.written out.new) result)
         (λ port conns. (Serves Y.Own.state ⟦<ChaWords as Words>⟧.to_come (ServesEnds P.In.left P.In.faults P.Out.written P.Out.faults)
-        ((yard.new ≡ yard.old) × (door.new ≡ door.old) × (rand.new ≡ rand.old)) conns (A.left acls.old) (A.left acls.new) (W.to_come rand.old) (W.to_come rand.new)
+        ((yard.new ≡ yard.old) × (door.new ≡ door.old) × (rand.new ≡ rand.old)) port conns (A.left acls.old) (A.left acls.new) (W.to_come rand.old) (W.to_come rand.new)
         (Y.state yard.old) (Y.state yard.new) (P.state door.old) (P.state door.new) (K.written out.old) (K.written out.new) result × ((disk.new ≡ disk.old) × (input.new ≡ input.old))))
         ((disk.new ≡ disk.old) × (acls.new ≡ acls.old) × (input.new ≡ input.old) × (rand.new ≡ rand.old) × (clock.new ≡ clock.old))
         (K.written out.old) (K.written out.new) result }
@@ -81,9 +81,13 @@ fn obey<
     match order {
         Ok(Order::Replay) => run_replay(alloc, acls, input, out, disk, rand),
         Ok(Order::Pipe) => run_pipe(alloc, acls, input, out, disk, rand, clock),
-        Ok(Order::Serve { port, conns }) => {
-            run_serve(rt, alloc, acls, out, yard, rand, clock, door, port, conns)
-        }
+        Ok(Order::Serve {
+            port,
+            conns,
+            places,
+        }) => run_serve(
+            rt, alloc, acls, out, yard, rand, clock, door, port, conns, places,
+        ),
         Ok(Order::Help(text)) => show(out, text.as_bytes(), 0),
         Ok(Order::Version(text)) => show(out, text.as_bytes(), 0),
         Err(OrderFault::Usage) => show(out, b"usage refused\n", 2),
@@ -148,9 +152,9 @@ pub fn hkms<
         ⊎ WantsMemory ((disk.new ≡ disk.old) × (acls.new ≡ acls.old) × (input.new ≡ input.old) × (rand.new ≡ rand.old) × (clock.new ≡ clock.old)) (K.written out.old) (K.written out.new) result }
     ensures headline_pipe { Names order.Pipe words.now → Tells (D.state disk.old) → (past : Past) → StartsSound (D.state disk.old) past →
         ConnectionKeepsFiles ((input.new ≡ input.old) × (rand.new ≡ rand.old) × (clock.new ≡ clock.old)) past (D.state disk.old) (D.state disk.new) (A.left acls.old) (A.left acls.new) (W.to_come rand.old) (W.to_come rand.new) (S.left input.old) (S.left input.new) (K.written out.old) (K.written out.new) result }
-    ensures serve { (port conns : ℕ) → Names (order.Serve port conns) words.now →
+    ensures serve { (port conns places : ℕ) → Names (order.Serve port conns places) words.now →
         (Serves Y.Own.state ⟦<ChaWords as Words>⟧.to_come (ServesEnds P.In.left P.In.faults P.Out.written P.Out.faults)
-        ((yard.new ≡ yard.old) × (door.new ≡ door.old) × (rand.new ≡ rand.old)) conns (A.left acls.old) (A.left acls.new) (W.to_come rand.old) (W.to_come rand.new)
+        ((yard.new ≡ yard.old) × (door.new ≡ door.old) × (rand.new ≡ rand.old)) port conns (A.left acls.old) (A.left acls.new) (W.to_come rand.old) (W.to_come rand.new)
         (Y.state yard.old) (Y.state yard.new) (P.state door.old) (P.state door.new) (K.written out.old) (K.written out.new) result × ((disk.new ≡ disk.old) × (input.new ≡ input.old)))
         ⊎ WantsMemory ((disk.new ≡ disk.old) × (acls.new ≡ acls.old) × (input.new ≡ input.old) × (rand.new ≡ rand.old) × (clock.new ≡ clock.old)) (K.written out.old) (K.written out.new) result }
     ensures idle { UsesYard words.now ⊎ ((yard.new ≡ yard.old) × (door.new ≡ door.old)) }

@@ -61,7 +61,9 @@ fn report_run<K: Sink>(alloc: Global, out: &mut K, end: RunEnd) -> u8
 {
     match end {
         RunEnd::Served => 0,
+        RunEnd::Closed => 0,
         RunEnd::DoorFault => show(out, b"door fault\n", 9),
+        RunEnd::StoreFault => report(alloc, out, ReplayEnd::StoreFault),
         RunEnd::NoMemory => report(alloc, out, ReplayEnd::NoMemory),
         RunEnd::NotOpened { file, fault } => report(
             alloc,
@@ -76,18 +78,19 @@ fn report_run<K: Sink>(alloc: Global, out: &mut K, end: RunEnd) -> u8
 ///
 /// It first reads the properties of the key management service, to their end or to the byte past
 /// 1,048,576. It then opens both logs, and then accepts `conns` connections at the port of the door,
-/// at most 16 at a time, each with a thread of its own. Other threads fill the queues of ready keys and
-/// re-encrypt zones meanwhile. When all connections have ended, it finishes the re-encryptions that
-/// are left, and gives both disks back. The key management service and each of the two threads that
+/// at most `places` at a time, each with a thread of its own. Other threads fill the queues of ready keys
+/// and re-encrypt zones meanwhile. When all connections have ended, it finishes the re-encryptions that
+/// are left, and gives both disks back. If the door takes no more connections, it ends those that run,
+/// and leaves the re-encryptions to the next start. The key management service and each of the two threads that
 /// fill queues draw from a generator of their own, whose seeds are eight words of `rand` each, in this
 /// order.
 ///
 /// Returns the exit status. Each but 0 has a last line, except 8:
 ///
-/// - 0: the connections were served.
+/// - 0: the connections were served, or the door took no more.
 /// - 3: the properties were refused.
 /// - 4: a log is damaged.
-/// - 5: the disk failed while a log was opened.
+/// - 5: a disk failed, while its log was opened or later.
 /// - 6: allocation failed.
 /// - 7: the properties could not be read.
 /// - 8: the output failed.
@@ -112,11 +115,12 @@ pub fn run_serve<
     door: &mut P,
     port: u16,
     conns: u32,
+    places: u16,
 ) -> u8
     requires keys { IsTrue ((Y.state yard.old).lies 0) }
     requires names { IsTrue ((Y.state yard.old).lies 1) }
     ensures serves { Serves Y.Own.state ⟦<ChaWords as Words>⟧.to_come (ServesEnds P.In.left P.In.faults P.Out.written P.Out.faults)
-        ((yard.new ≡ yard.old) × (door.new ≡ door.old) × (rand.new ≡ rand.old)) conns (A.left acls.old) (A.left acls.new) (W.to_come rand.old) (W.to_come rand.new)
+        ((yard.new ≡ yard.old) × (door.new ≡ door.old) × (rand.new ≡ rand.old)) port conns (A.left acls.old) (A.left acls.new) (W.to_come rand.old) (W.to_come rand.new)
         (Y.state yard.old) (Y.state yard.new) (P.state door.old) (P.state door.new) (K.written out.old) (K.written out.new) result }
     ensures read { result ≡ 7 → Rose (A.faults acls.old) (A.faults acls.new) }
     ensures write { result ≡ 8 → Rose (K.faults out.old) (K.faults out.new) }
@@ -131,6 +135,7 @@ pub fn run_serve<
     let plan = ServerPlan {
         port,
         conns,
+        places,
         first: generator(rand),
         second: generator(rand),
     };

@@ -1,8 +1,10 @@
 //! A door over TCP that says when it listens.
-use door_kinds::{TcpDoor, TcpSink, TcpSource};
+use disk_kinds::Alarm;
+use door_kinds::{TcpDoor, TcpHandle, TcpSink, TcpSource};
 use hk_base::{Ended, Failed};
-use server_parts::Door;
+use server_parts::{Accepted, Door};
 use std::alloc::Global;
+use std::sync::Arc;
 
 /// A door over TCP that writes a line to standard error when it listens. It is otherwise the door that it has.
 #[derive(Drop)]
@@ -12,10 +14,11 @@ pub struct Announcing<'a> {
 }
 
 impl<'a> Announcing<'a> {
-    pub fn new(rt: &'a HostRuntime, alloc: Global) -> Announcing<'a> {
+    /// Creates a door that takes no more connections once the alarm is raised.
+    pub fn new(rt: &'a HostRuntime, alloc: Global, alarm: Arc<Alarm, Global>) -> Announcing<'a> {
         Announcing {
             rt,
-            door: TcpDoor::new(rt, alloc),
+            door: TcpDoor::new(rt, alloc, alarm),
         }
     }
 }
@@ -26,7 +29,9 @@ impl<'a> Door for Announcing<'a> {
 
     type In = TcpSource<'a, HostRuntime>;
 
-    type Out = TcpSink;
+    type Out = TcpSink<'a, HostRuntime>;
+
+    type Handle = TcpHandle;
 
     ghost state = { λ d. ⟦<TcpDoor<'a, HostRuntime> as Door>⟧.state d.door };
 
@@ -40,11 +45,11 @@ impl<'a> Door for Announcing<'a> {
         Ok(())
     }
 
-    fn accept(&mut self) -> Result<(TcpSource<'a, HostRuntime>, TcpSink), Failed> {
+    fn accept(&mut self) -> Result<Option<Accepted<Self::In, Self::Out, TcpHandle>>, Failed> {
         self.door.accept()
     }
 
-    fn leave(&mut self, input: TcpSource<'a, HostRuntime>, out: TcpSink, ended: Ended) {
+    fn leave(&mut self, input: Self::In, out: Self::Out, ended: Ended) {
         self.door.leave(input, out, ended)
     }
 }

@@ -10,7 +10,7 @@ mod opening;
 
 use announcing::Announcing;
 use command_line::{Order, OrderFault, read_order};
-use disk_kinds::{ChaWords, PlainDisk, Reading, WallClock, Writing};
+use disk_kinds::{Alarm, ChaWords, PlainDisk, Reading, WallClock, Writing};
 use door_kinds::{MemDoor, MemYard};
 use hk_base::{Disk, Source, Text, write_all};
 use hkms_commands::hkms;
@@ -22,7 +22,7 @@ use std::fs::File;
 use std::io::{self, ErrorKind, Read};
 use std::process::ExitCode;
 use std::rt::{Env, Files};
-use std::sync::Wait;
+use std::sync::{Arc, Wait};
 use std::thread::Threads;
 
 /// Returns the words of the command line without the program's own name. Fails if a word is not UTF-8.
@@ -169,12 +169,14 @@ fn run_opened<T: Threads + Wait + Sync, A: Source + Drop, D: Disk + Drop>(
 }
 
 /// Serves, as the words of the command line say, over the properties and the yard that were opened. It
-/// says on standard error when it listens and when it ends.
+/// takes no more connections once the alarm is raised, and says on standard error when it listens and
+/// when it ends.
 fn serve_opened<T: Threads + Wait + Sync, A: Source + Drop, Y: Yard + Drop>(
     rt: &HostRuntime,
     threads: &T,
     words: &[Text],
     seed: [u8; 32],
+    alarm: Arc<Alarm, Global>,
     opened: Result<(A, Y), Unopened>,
 ) -> u8
     requires keys { IfOk opened (λ opened. IsTrue ((Y.state opened.1).lies 0)) }
@@ -185,7 +187,7 @@ fn serve_opened<T: Threads + Wait + Sync, A: Source + Drop, Y: Yard + Drop>(
     match opened {
         Ok((mut acls, mut yard)) => {
             let mut disk = PlainDisk::new(rt.alloc());
-            let mut door = Announcing::new(rt, rt.alloc());
+            let mut door = Announcing::new(rt, rt.alloc(), alarm);
             let status = run_over(
                 rt, threads, words, seed, &mut acls, &mut disk, &mut yard, &mut door,
             );
@@ -194,6 +196,24 @@ fn serve_opened<T: Threads + Wait + Sync, A: Source + Drop, Y: Yard + Drop>(
         }
         Err(unopened) => report_unopened(rt, Output::Lines, &unopened),
     }
+}
+
+/// Serves, as the words of the command line say, with the files of the current folder. A sync of a log
+/// that fails raises an alarm: the server then takes no more connections, and ends.
+fn serve<T: Threads + Wait + Sync>(
+    rt: &HostRuntime,
+    threads: &T,
+    words: &[Text],
+    seed: [u8; 32],
+) -> u8
+    ensures { result ≡ 2 → IsMistake (line_fault words.now) }
+{
+    let alloc = rt.alloc();
+    let Ok(alarm) = Arc::new(alloc, Alarm::new()) else {
+        return report_fault(rt, Output::Lines, b"no memory\n", 6);
+    };
+    let opened = open_yard(rt, alloc, rt.stderr(), &alarm);
+    serve_opened(rt, threads, words, seed, alarm, opened)
 }
 
 /// Runs words that name no command. Opens no file.
@@ -236,7 +256,7 @@ fn run<T: Threads + Wait + Sync>(
                 words,
                 Output::Lines,
                 seed,
-                open_disk(rt, alloc),
+                open_disk(rt, alloc, rt.stderr()),
             )
         }
         Ok(Order::Pipe) => {
@@ -246,10 +266,10 @@ fn run<T: Threads + Wait + Sync>(
                 words,
                 Output::Responses,
                 seed,
-                open_disk(rt, alloc),
+                open_disk(rt, alloc, rt.stderr()),
             )
         }
-        Ok(Order::Serve { .. }) => serve_opened(rt, threads, words, seed, open_yard(rt, alloc)),
+        Ok(Order::Serve { .. }) => serve(rt, threads, words, seed),
         Err(OrderFault::NoMemory) => report_fault(rt, Output::Lines, b"no memory\n", 6),
         _ => run_without_files(rt, threads, words, seed),
     }

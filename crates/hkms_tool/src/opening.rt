@@ -2,12 +2,13 @@
 ghost use Rattle.std.specs.Prelude.{IfOk, IsTrue};
 ghost use Rattle.door_kinds.specs.Yards.{file_yard_state};
 
-use disk_kinds::{FileDisk, Reading, open_source};
+use disk_kinds::{Alarm, FileDisk, Reading, open_source};
 use door_kinds::FileYard;
 use std::alloc::Global;
 use std::fs::File;
 use std::io::{self, Read};
-use std::rt::Files;
+use std::rt::{Files, Stderr};
+use std::sync::Arc;
 
 /// The file of the properties of the key management service, in the current folder.
 pub const PROPERTIES: &str = "kms-acls.properties";
@@ -70,28 +71,32 @@ fn open_properties<R: Files<File = File>>(files: &R) -> Result<Reading<PropertyB
     }
 }
 
-/// Opens the properties and both logs of the current folder.
+/// Opens the properties and both logs of the current folder. Faults of the logs are told on `errors`.
 pub fn open_disk<R: Files<File = File>>(
     files: &R,
     alloc: Global,
+    errors: Stderr,
 ) -> Result<(Reading<PropertyBytes>, FileDisk), Unopened> {
     let acls = open_properties(files)?;
-    match FileDisk::open(files, alloc, ".") {
+    match FileDisk::open(files, alloc, ".", errors) {
         Ok(disk) => Ok((acls, disk)),
         Err(error) => Err(Unopened::Logs(error)),
     }
 }
 
-/// Opens the properties of the current folder, and both logs as a yard.
+/// Opens the properties of the current folder, and both logs as a yard. Faults of the logs are told on
+/// `errors`, and one after which a log takes no more records raises the alarm.
 pub fn open_yard<R: Files<File = File>>(
     files: &R,
     alloc: Global,
+    errors: Stderr,
+    alarm: &Arc<Alarm, Global>,
 ) -> Result<(Reading<PropertyBytes>, FileYard), Unopened>
     ensures keys { IfOk result (λ opened. IsTrue ((file_yard_state opened.1).lies 0)) }
     ensures names { IfOk result (λ opened. IsTrue ((file_yard_state opened.1).lies 1)) }
 {
     let acls = open_properties(files)?;
-    match FileYard::open(files, alloc, ".") {
+    match FileYard::open(files, alloc, ".", errors, alarm) {
         Ok(yard) => Ok((acls, yard)),
         Err(error) => Err(Unopened::Logs(error)),
     }

@@ -83,7 +83,7 @@ fn run<R: Threads + Wait + Abort + AllocGlobal + Sync>(
     let mut rand = ChaWords::from_seed([seed; 32]);
     let mut clock = Ticks::new();
     let status = run_serve(
-        rt, alloc, &mut acls, &mut out, yard, &mut rand, &mut clock, door, 0, conns,
+        rt, alloc, &mut acls, &mut out, yard, &mut rand, &mut clock, door, 0, conns, 16,
     );
     (status, out.into_vec())
 }

@@ -98,6 +98,7 @@ fn serve_named<
         door,
         0,
         conns,
+        16,
         first,
         second,
         gate,

@@ -8,7 +8,7 @@ use Rattle.hkms_commands.proofs.command.hkms.Goals as goal
 
 pub returns-clause-usage_only : goal.returns-clause-usage_only
 returns-clause-usage_only g c = usage_only c.read_order-order.result c.args.words.now _ _ _ _ _ _ c.obey.result c.read_order-order.ensures.usage c.obey.ensures.obeys (λ replays. replay_is_no_usage _ replays.0 replays.1)
-    (λ pipes. pipe_is_no_usage _ _ _ _ _ _ _ _ _ _ _ _ _ pipes) (λ port conns serves. server_is_no_usage _ _ _ _ _ _ _ _ _ _ _ _ _ _ _ _ serves.0)
+    (λ pipes. pipe_is_no_usage _ _ _ _ _ _ _ _ _ _ _ _ _ pipes) (λ port conns serves. server_is_no_usage _ _ _ _ _ _ _ _ _ _ _ _ _ _ _ _ _ serves.0)
 
 pub returns-clause-help : goal.returns-clause-help
 returns-clause-help g c =
@@ -41,8 +41,8 @@ returns-clause-pipe g c names =
     obeyed c.read_order-order.result Pipe _ _ _ _ _ _ c.obey.result (named_so c.read_order-order.result c.args.words.now c.read_order-order.ensures.ok c.read_order-order.ensures.usage Pipe names) c.obey.ensures.obeys
 
 pub returns-clause-serve : goal.returns-clause-serve
-returns-clause-serve g c port conns names =
-    obeyed c.read_order-order.result (Serve port conns) _ _ _ _ _ _ c.obey.result (named_so c.read_order-order.result c.args.words.now c.read_order-order.ensures.ok c.read_order-order.ensures.usage (Serve port conns) names) c.obey.ensures.obeys
+returns-clause-serve g c port conns places names =
+    obeyed c.read_order-order.result (Serve port conns places) _ _ _ _ _ _ c.obey.result (named_so c.read_order-order.result c.args.words.now c.read_order-order.ensures.ok c.read_order-order.ensures.usage (Serve port conns places) names) c.obey.ensures.obeys
 
 pub returns-clause-read : goal.returns-clause-read
 returns-clause-read g c seven = by_logs c.read_order-order.result c.args.words.now _ _ c.read_order-order.ensures.ok (c.obey.ensures.read seven)
