@@ -56,7 +56,7 @@ hkms \\- $("$hkms" --help | head -n 1)
 < \\fIREQUESTS\\fR > \\fIRESPONSES\\fR
 .br
 .B hkms serve
-[\\-\\-port \\fIN\\fR] [\\-\\-conns \\fIN\\fR]
+[\\-\\-port \\fIN\\fR] [\\-\\-conns \\fIN\\fR] [\\-\\-connections \\fIN\\fR]
 .SH COMMANDS
 $("$hkms" --help | entries Commands: | page_list)
 .SH OPTIONS

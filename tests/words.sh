@@ -65,8 +65,9 @@ for word in --help -h; do
     helps serve "$word"
     shows 'Answers the HTTP requests of connections to a port'
     shows 'Usage: hkms serve [OPTIONS]'
-    shows '      --port <N>   Port of 127.0.0.1, from 1 to 65535 [default: 9600]'
-    shows '      --conns <N>  Connections to serve, from 1 to 4294967295 [default: 4294967295]'
+    shows '      --port <N>         Port of 127.0.0.1, from 1 to 65535 [default: 9600]'
+    shows '      --conns <N>        Connections to serve, from 1 to 4294967295 [default: 4294967295]'
+    shows '      --connections <N>  Connections to serve at a time, from 1 to 1024 [default: 16]'
     shows '     9    door fault           the port cannot be opened, or accepting failed'
 done
 
@@ -104,9 +105,12 @@ refuses serve --port
 refuses serve --port --conns 2
 refuses serve --port 1 --port 2
 refuses serve --conns=1 --conns=1
+refuses serve --connections 2 --connections 2
+refuses serve --connection 2
+refuses serve --conns --connections 2
 refuses --port 9600 serve
 
-# What is no number of an option: the port is at most 65535, and the connections are at most 4294967295.
+# What is no number of an option: the port is at most 65535, the connections are at most 4294967295, and at a time at most 1024.
 for number in 0 -1 +1 01 1.0 1e1 0x1 65536 4294967296 18446744073709551617 9600x ' 1' '1 ' '' one; do
     refuses serve "--port=$number"
     refuses serve --port "$number"
@@ -114,6 +118,11 @@ done
 for number in 0 -1 +1 01 4294967296 18446744073709551617 '' many; do
     refuses serve "--conns=$number"
     refuses serve --port 1 --conns "$number"
+done
+
+for number in 0 -1 +1 01 1025 65536 4294967296 '' many; do
+    refuses serve "--connections=$number"
+    refuses serve --port 1 --connections "$number"
 done
 
 # Help comes before a number that is refused only for how it is written, and after one that is none.
