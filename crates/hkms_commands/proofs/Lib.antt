@@ -13,4 +13,4 @@ mod SeedLemmas
 pub mod ServeLemmas
 pub mod SplitLemmas
 pub mod StageLemmas
-mod VerdictLemmas
+pub mod VerdictLemmas

@@ -8,7 +8,8 @@ use Rattle.kms_cell.specs.Entries.{KmsKnown}
 use Rattle.kms_cell.specs.Steps.{KmsSteps}
 use Rattle.kms_cell.specs.Tickets.{KmsAllows}
 use Rattle.kms_cell.specs.Views.{KmsView, RunsOn}
-use Rattle.kms_core.specs.Users.{RunningKms}
+use Rattle.kms_core.specs.State.{IsService, service_of}
+use Rattle.kms_core.specs.Users.{RunningKms, running}
 use Rattle.name_core.specs.State.{RunningNames}
 use Rattle.name_cell.specs.Asked.{NameAllows}
 use Rattle.name_cell.specs.Entries.{NameKnown}
@@ -57,15 +58,17 @@ module _ {D W I O : Type 0} (state : D → DiskState) (to_come : W → ℕ → �
   RanTo port conns door door' end k n keys_disk names_disk =
       (last_k : KmsView D W) × (last_n : NameView D) × RanInCells state to_come serves first second port conns door door' end k n last_k last_n
       × (keys_disk ≡ last_k.disk) × (names_disk ≡ last_n.disk) × RunsOn (state last_k.disk) last_k.kms × NamesRunOn (state last_n.disk) last_n.names
+      × IsService (service_of (running last_k.kms)) × (last_k.kms.store.log.file ≡ 0) × (last_n.names.store.log.log.file ≡ 1)
 
   pub ran : (port conns : ℕ) (door door' : DoorState I O) (end : ServeEnd) (k : KmsView D W) (n : NameView D) (keys : KmsKnown D W) (names : NameKnown D) (keys' : KmsKnown D W) (names' : NameKnown D)
-      (kms : RunningKms) (keys_disk : D) (running : RunningNames) (names_disk : D)
+      (kms : RunningKms) (keys_disk : D) (service : RunningNames) (names_disk : D)
       → (keys.start ≡ Some k) × (keys.seen ≡ []) × (keys.ended ≡ []) → (names.start ≡ Some n) × (names.seen ≡ []) × (names.ended ≡ [])
       → ServesAll serves first second state to_come door keys names port conns end door' keys' names'
       → (last : KmsView D W) × Closes (KmsSteps state to_come) KmsAllows keys' last × (kms ≡ last.kms) × (keys_disk ≡ last.disk) → RunsOn (state keys_disk) kms
-      → (last : NameView D) × Closes (NameSteps state) NameAllows names' last × (running ≡ last.names) × (names_disk ≡ last.disk) → NamesRunOn (state names_disk) running
+      → (last : NameView D) × Closes (NameSteps state) NameAllows names' last × (service ≡ last.names) × (names_disk ≡ last.disk) → NamesRunOn (state names_disk) service
+      → IsService (service_of (running kms)) → kms.store.log.file ≡ 0 → service.store.log.log.file ≡ 1
       → RanTo port conns door door' end k n keys_disk names_disk
-  ran port conns door door' end k n keys names keys' names' kms keys_disk running names_disk keys_begin names_begin served (last_k, closes_k, kms_is, disk_is) runs (last_n, closes_n, names_are, names_disk_is) names_run = (
+  ran port conns door door' end k n keys names keys' names' kms keys_disk service names_disk keys_begin names_begin served (last_k, closes_k, kms_is, disk_is) runs (last_n, closes_n, names_are, names_disk_is) names_run rules keys_file names_file = (
     last_k,
     last_n,
     record { keys = keys; names = names; keys' = keys'; names' = names'; keys_begin = keys_begin; names_begin = names_begin; served = served; keys_closed = closes_k; names_closed = closes_n },
@@ -73,6 +76,9 @@ module _ {D W I O : Type 0} (state : D → DiskState) (to_come : W → ℕ → �
     names_disk_is,
     subst (λ d. RunsOn (state d) last_k.kms) disk_is (subst (λ s. RunsOn (state keys_disk) s) kms_is runs),
     subst (λ d. NamesRunOn (state d) last_n.names) names_disk_is (subst (λ s. NamesRunOn (state names_disk) s) names_are names_run),
+    subst (λ (s : RunningKms). IsService (service_of (running s))) kms_is rules,
+    subst (λ (s : RunningKms). s.store.log.file ≡ 0) kms_is keys_file,
+    subst (λ (s : RunningNames). s.store.log.log.file ≡ 1) names_are names_file,
   )
 
   -- both disks were given back
@@ -81,7 +87,7 @@ module _ {D W I O : Type 0} (state : D → DiskState) (to_come : W → ℕ → �
       → keys_back ≡ keys_disk → names_back ≡ names_disk → (mid : YardState) × Given 0 begun mid (state keys_back) × Given 1 mid new (state names_back)
       → DisksFailed failed (state keys_back).faults (state names_back).faults
       → RanServer state to_come serves first second props words port conns old new door door' end failed
-  ran_server props words port conns old begun new door door' end failed k n keys_disk names_disk keys_back names_back opened (last_k, last_n, did, keys_is, names_is, runs, names_run) keys_same names_same (mid, keys_given, names_given) disks = record {
+  ran_server props words port conns old begun new door door' end failed k n keys_disk names_disk keys_back names_back opened (last_k, last_n, did, keys_is, names_is, runs, names_run, rules, keys_file, names_file) keys_same names_same (mid, keys_given, names_given) disks = record {
     begun = begun;
     k = k;
     n = n;
@@ -91,6 +97,9 @@ module _ {D W I O : Type 0} (state : D → DiskState) (to_come : W → ℕ → �
     ran = did;
     keys_run = runs;
     names_run = names_run;
+    keys_rules = rules;
+    keys_file = keys_file;
+    names_file = names_file;
     mid = mid;
     keys_given = subst (λ d. Given 0 begun mid (state d)) (keys_same ∙ keys_is) keys_given;
     names_given = subst (λ d. Given 1 mid new (state d)) (names_same ∙ names_is) names_given;

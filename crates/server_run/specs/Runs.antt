@@ -3,6 +3,8 @@ use Rattle.std.specs.Prelude.{◌≡◌, ◌<◌, ◌⊎◌, ℕ, Bool, true, fa
 use Rattle.hk_base.specs.Disk.{DiskState}
 use Rattle.hist_cell.specs.History.{Closes}
 use Rattle.prop_text.specs.declared.props.Props.{Props}
+use Rattle.kms_core.specs.State.{IsService, service_of}
+use Rattle.kms_core.specs.Users.{running}
 use Rattle.kms_cell.specs.Entries.{KmsKnown}
 use Rattle.kms_cell.specs.Steps.{KmsSteps}
 use Rattle.kms_cell.specs.Tickets.{KmsAllows}
@@ -65,6 +67,10 @@ module _ {D W I O : Type 0} (state : D → DiskState) (to_come : W → ℕ → �
     pub ran : RanInCells port conns door door' end k n last_k last_n
     pub keys_run : RunsOn (state last_k.disk) last_k.kms
     pub names_run : NamesRunOn (state last_n.disk) last_n.names
+    -- the key management service keeps its rules, and each log is on its own file
+    pub keys_rules : IsService (service_of (running last_k.kms))
+    pub keys_file : last_k.kms.store.log.file ≡ 0
+    pub names_file : last_n.names.store.log.log.file ≡ 1
     pub mid : YardState
     pub keys_given : Given 0 begun mid (state last_k.disk)
     pub names_given : Given 1 mid new (state last_n.disk)

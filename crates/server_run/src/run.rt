@@ -1,6 +1,8 @@
 //! A run of the server.
 ghost use Rattle.std.specs.Prelude.{◌≡◌, ◌⊎◌, IsFalse, IsTrue};
 ghost use Rattle.hk_base.specs.Faults.{Rose};
+ghost use Rattle.kms_core.specs.State.{IsService, service_of};
+ghost use Rattle.kms_core.specs.Users.{running};
 ghost use Rattle.kms_cell.specs.Views.{KmsView, RunsOn};
 ghost use Rattle.name_cell.specs.Views.{NameView, NamesRunOn};
 ghost use Rattle.cell_server.specs.Connections.{ServesEnds};
@@ -80,7 +82,8 @@ fn serve_named<
     ensures ran { (last_k : KmsView D W) × (last_n : NameView D)
         × RanInCells D.state W.to_come (ServesEnds A.In.left A.In.faults A.Out.written A.Out.faults) (V.to_come plan.first) (V.to_come plan.second) plan.port plan.conns (A.state door.old) (A.state door.new) result.1
         opening.keys.core opening.names.core last_k last_n
-        × (result.0.keys_disk ≡ last_k.disk) × (result.0.names_disk ≡ last_n.disk) × RunsOn (D.state last_k.disk) last_k.kms × NamesRunOn (D.state last_n.disk) last_n.names }
+        × (result.0.keys_disk ≡ last_k.disk) × (result.0.names_disk ≡ last_n.disk) × RunsOn (D.state last_k.disk) last_k.kms × NamesRunOn (D.state last_n.disk) last_n.names
+        × IsService (service_of (running last_k.kms)) × (last_k.kms.store.log.file ≡ 0) × (last_n.names.store.log.log.file ≡ 1) }
     ensures cause { result.1 ≡ ServeEnd.DoorFault → Rose (A.faults door.old) (A.faults door.new) }
 {
     let (shared, mut keys, mut names) = opening.named::<M, N>();
@@ -95,7 +98,11 @@ fn serve_named<
         rt, alloc, &shared, &mut keys, &mut names, door, port, conns, places, first, second,
         &OpenGate,
     );
-    (shared.close(keys, names), end)
+    let closed = shared.close(keys, names);
+    // Each service keeps its rules, and its log is on its own file.
+    let _ = closed.kms.count();
+    closed.names.invariants();
+    (closed, end)
 }
 
 /// Gives both disks back. Returns whether either has counted a fault.
