@@ -1,15 +1,14 @@
 -- The order that a reading of the words without a mistake gives.
-use Rattle.std.proofs.Common.{refl, codes, List, [], ◌∷◌, ◌++◌, ◌≡◌, ◌⊎◌, inl, inr, ap, ap₂, ◌∙◌, sym, subst, arith, ℕ, ◌≤◌}
+use Rattle.std.proofs.Common.{refl, codes, List, [], ◌∷◌, ◌≡◌, ◌⊎◌, inl, inr, ap, ◌∙◌, sym, subst, arith}
 use Rattle.std.specs.Prelude.{Option, None, Some, Result, Ok, Err, IfOk, IfErr}
 use Rattle.std.proofs.lemmas.Fmt.{decimal_digit}
-use Rattle.std.specs.Fmt.{decimal}
 use Rattle.std.specs.Option.{ok_or}
 use Rattle.clap.specs.Words.{fault_of, subcommand_of, Text, IsAmong}
 use Rattle.clap.proofs.OnLiterals.{clap_on_literals}
 use Rattle.clap.specs.declared.error.ErrorKind.{ErrorKind}
 use Rattle.clap.specs.declared.error.ErrorKind.TheVariants.{DisplayHelp, DisplayVersion, OutOfMemory, ValueValidation}
 use Rattle.command_line.specs.Line as line
-use Rattle.command_line.specs.Orders.{Answers, FindsHelp, FindsVersion, HasMistake, IsHelp, IsMistake, IsOption, IsServe, IsShown, IsSpelled, IsVersion, Names, ShownAs, line_fault, number_at, order_at, serve_order}
+use Rattle.command_line.specs.Orders.{Answers, FindsHelp, FindsVersion, HasMistake, IsHelp, IsMistake, IsShown, IsSpelled, IsVersion, Names, ShownAs, line_fault, order_at}
 use Rattle.command_line.specs.declared.order.Order.{Order}
 use Rattle.command_line.specs.declared.order.Order.TheVariants.{Replay, Pipe, Serve, Help, Version}
 use Rattle.command_line.specs.declared.order.OrderFault.{OrderFault}
@@ -33,10 +32,6 @@ replay_reads = (refl, refl)
 pipe_reads : Reading (codes "pipe" ∷ []) Pipe
 unfolding Reading clap_on_literals
 pipe_reads = (refl, refl)
-
-options_read : Reading (codes "serve" ∷ codes "--port" ∷ codes "1" ∷ codes "--conns" ∷ codes "2" ∷ codes "--connections" ∷ codes "3" ∷ []) (Serve 1 2 3)
-unfolding Reading clap_on_literals
-options_read = (refl, refl)
 
 -- ---- what the clauses say
 
@@ -65,8 +60,26 @@ pub serve_is_named : Names (Serve 9600 4294967295 16) (codes "serve" ∷ [])
 serve_is_named =
     spelling_is_named (Serve 9600 4294967295 16) _ (inl (refl, [], [], inl (refl, refl), inl (refl, refl), inl refl))
 
-pub options_name : Names (Serve 1 2 3) (codes "serve" ∷ codes "--port" ∷ codes "1" ∷ codes "--conns" ∷ codes "2" ∷ codes "--connections" ∷ codes "3" ∷ [])
-options_name = record { no_fault = faultless _ (Serve 1 2 3) options_read; command = ordered _ (Serve 1 2 3) options_read }
+pub options_name : Names (Serve 1 2 16) (codes "serve" ∷ codes "--port" ∷ codes "1" ∷ codes "--conns" ∷ codes "2" ∷ [])
+options_name =
+    spelling_is_named (Serve 1 2 16) _ (inl (
+      refl,
+      codes "--port" ∷ codes "1" ∷ [],
+      codes "--conns" ∷ codes "2" ∷ [],
+      inr (omega arith, omega arith, inl (ap (λ x. codes "--port" ∷ x ∷ []) (sym (decimal_digit 1 (omega arith))))),
+      inr (omega arith, omega arith, inl (ap (λ x. codes "--conns" ∷ x ∷ []) (sym (decimal_digit 2 (omega arith))))),
+      inl refl,
+    ))
+
+pub connections_name : Names (Serve 9600 4294967295 3) (codes "serve" ∷ codes "--connections" ∷ codes "3" ∷ [])
+connections_name =
+    spelling_is_named (Serve 9600 4294967295 3) _ (inr (
+      refl,
+      refl,
+      codes "--connections" ∷ codes "3" ∷ [],
+      inr (omega arith, omega arith, inl (ap (λ x. codes "--connections" ∷ x ∷ []) (sym (decimal_digit 3 (omega arith))))),
+      refl,
+    ))
 
 pub named_from : (r : Result Order OrderFault) (words : List Text) → IfOk r (λ o. Answers o words) → IfErr r (λ f. f ≡ Usage → HasMistake (line_fault words))
     → (o : Order) → IsSpelled o words → (r ≡ Ok o) ⊎ (r ≡ Err NoMemory)

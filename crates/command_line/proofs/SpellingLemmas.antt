@@ -1,6 +1,6 @@
 -- The words of `serve` with its options, each in either of its two forms.
-use Rattle.std.proofs.Common.{refl, codes, List, [], ◌∷◌, ◌++◌, ◌≡◌, ◌⊎◌, inl, inr, ap, ap₂, ◌∙◌, sym, subst, arith, ℕ, ◌≤◌}
-use Rattle.std.specs.Prelude.{Option, None, Some}
+use Rattle.std.proofs.Common.{refl, codes, List, [], ◌∷◌, ◌++◌, ◌≡◌, inl, inr, ap, ap₂, ◌∙◌, sym, subst, arith, ℕ, ◌≤◌}
+use Rattle.std.specs.Prelude.{Some}
 use Rattle.std.specs.Fmt.{decimal}
 use Rattle.clap.specs.Words.{fault_of, subcommand_of, Text}
 use Rattle.clap.proofs.OnLiterals.{clap_on_literals}
@@ -12,7 +12,7 @@ use Rattle.command_line.proofs.EnteredLemmas.{no_number_is_refused}
 use Rattle.command_line.proofs.NumberLemmas.{IsNumberWord, number_at-word, number_word}
 
 -- clap finds no mistake in the words, and this order
-pub Reading : List Text → Order → Type 0
+unfoldable pub Reading : List Text → Order → Type 0
 Reading words o = (line_fault words ≡ []) × (order_at (subcommand_of line.hkms words) ≡ Some o)
 
 reading_at : (words at : List Text) (o : Order) → words ≡ at → fault_of line.hkms at ≡ [] → order_at (subcommand_of line.hkms at) ≡ Some o → Reading words o

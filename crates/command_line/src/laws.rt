@@ -15,5 +15,6 @@ pub fn commands_alone_are_named()
 /// `--port` gives the port of `serve`, `--conns` the number of connections, and `--connections` how many
 /// are served at a time.
 pub fn options_are_named()
-    ensures { Names (order.Serve 1 2 3) (codes "serve" ∷ codes "--port" ∷ codes "1" ∷ codes "--conns" ∷ codes "2" ∷ codes "--connections" ∷ codes "3" ∷ []) }
+    ensures numbers { Names (order.Serve 1 2 16) (codes "serve" ∷ codes "--port" ∷ codes "1" ∷ codes "--conns" ∷ codes "2" ∷ []) }
+    ensures at_a_time { Names (order.Serve 9600 4294967295 3) (codes "serve" ∷ codes "--connections" ∷ codes "3" ∷ []) }
 {}

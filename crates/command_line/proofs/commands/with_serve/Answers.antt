@@ -9,7 +9,7 @@ pub returns : goal.returns
 returns c =
     let port_is : rule_of c.number_option-port.result ≡ line.port = c.number_option-port.ensures.rule ∙ ap (line.number_option (codes "port")) (search rules) in
     let conns_is : rule_of c.number_option-conns.result ≡ line.conns = c.number_option-conns.ensures.rule ∙ ap (line.number_option (codes "conns")) (search rules) in
-    let plain_is : app_of c.after_help-plain.result ≡ new_app (codes "serve") = ap app_of_fields c.after_help-plain.ensures ∙ ap app_of_fields c.about.ensures ∙ c.new.ensures.app in
+    let plain_is : app_of c.after_help-plain.result ≡ new_app (codes "serve") = ap app_of_fields c.after_help-plain.ensures ∙ ap app_of_fields c.about.ensures ∙ c.new-2.ensures.app in
     let half_is : app_of c.in_ok-half.half ≡ with_rule (new_app (codes "serve")) line.port = c.in_ok-half.ensures.shape c.number_option-port.ensures.local ∙ ap₂ with_rule plain_is port_is in
     let connections_is : rule_of c.number_option-connections.result ≡ line.connections = c.number_option-connections.ensures.rule ∙ ap (line.number_option (codes "connections")) (search rules) in
     let most_is : app_of c.in_ok-most.most ≡ with_rule (with_rule (new_app (codes "serve")) line.port) line.conns = c.in_ok-most.ensures.shape c.number_option-conns.ensures.local ∙ ap₂ with_rule half_is conns_is in
