@@ -39,9 +39,9 @@ fn check_read<C: Clock>(rt: &impl Abort, input: &mut TcpSource<'_, C>, bytes: &[
 }
 
 /// Accepts the connection, reads what was sent, answers and closes it.
-fn answer<N: Net<Listener = TcpListener, Stream = TcpStream> + Clock + Sync + Abort>(
-    rt: &N,
-    door: &mut TcpDoor<N>,
+fn answer<'n, N: Net<Listener = TcpListener, Stream = TcpStream> + Clock + Sync + Abort>(
+    rt: &'n N,
+    door: &mut TcpDoor<'n, N>,
 ) {
     let Accepted {
         mut input,
