@@ -117,7 +117,7 @@ class Load:
             give_up(f"a client failed: {said}")
         count, micros, failed, median, late = read_ab(said, self.percentiles.name) if self.percentiles else read_line(said)
         if not count:
-            give_up(f"a client got no responses: {said}")
+            give_up(f"no response came in time, so more --seconds or a machine that does less are needed: {said}")
         return Figures(count * 1e6 / micros, median, late, spent * 1e6 / count, count), failed
 
     def __enter__(self):
