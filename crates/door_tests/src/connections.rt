@@ -20,17 +20,6 @@ fn call<N: Net<Listener = TcpListener, Stream = TcpStream> + Abort>(
     stream
 }
 
-/// Accepts the next connection.
-fn accept<'n, N: Net<Listener = TcpListener, Stream = TcpStream> + Clock + Sync + Abort>(
-    rt: &'n N,
-    door: &mut TcpDoor<'n, N>,
-) -> Accepted<TcpSource<'n, N>, TcpSink<'n, N>, TcpHandle> {
-    match door.accept() {
-        Ok(Some(came)) => came,
-        _ => rt.abort(),
-    }
-}
-
 /// Reads the next four bytes.
 fn check_read<C: Clock>(rt: &impl Abort, input: &mut TcpSource<'_, C>, bytes: &[u8]) {
     let mut piece = [0u8; 4];
@@ -39,15 +28,18 @@ fn check_read<C: Clock>(rt: &impl Abort, input: &mut TcpSource<'_, C>, bytes: &[
 }
 
 /// Accepts the connection, reads what was sent, answers and closes it.
-fn answer<'n, N: Net<Listener = TcpListener, Stream = TcpStream> + Clock + Sync + Abort>(
-    rt: &'n N,
-    door: &mut TcpDoor<'n, N>,
+fn answer<N: Net<Listener = TcpListener, Stream = TcpStream> + Clock + Sync + Abort>(
+    rt: &N,
+    door: &mut TcpDoor<N>,
 ) {
+    let Ok(Some(came)) = door.accept() else {
+        rt.abort()
+    };
     let Accepted {
         mut input,
         mut out,
         ..
-    } = accept(rt, door);
+    } = came;
     check_read(rt, &mut input, b"ping");
     assert_eq!(rt; out.write(b"pong"), Ok(4));
     door.leave(input, out, Ended::Closed);
@@ -91,11 +83,14 @@ fn a_closed_connection_ends_for_its_client(rt: HostRuntime) {
     assert_eq!(&rt; door.open(0), Ok(()));
     let port = door.port().expect(&rt, "a port");
     let stream = call(&rt, port);
+    let Ok(Some(came)) = door.accept() else {
+        rt.abort()
+    };
     let Accepted {
         mut input,
         mut out,
         handle,
-    } = accept(&rt, &mut door);
+    } = came;
     assert_eq!(&rt; out.write(b"pong"), Ok(4));
     out.close_output();
     assert!(&rt; !handle.has_ended());
@@ -113,11 +108,14 @@ fn a_request_is_answered_before_the_end(rt: HostRuntime) {
     assert_eq!(&rt; door.open(0), Ok(()));
     let port = door.port().expect(&rt, "a port");
     let mut stream = call(&rt, port);
+    let Ok(Some(came)) = door.accept() else {
+        rt.abort()
+    };
     let Accepted {
         mut input,
         mut out,
         handle,
-    } = accept(&rt, &mut door);
+    } = came;
     check_read(&rt, &mut input, b"ping");
     handle.hang_up();
     stream.write_all(b"more").expect(&rt, "a write");
@@ -162,11 +160,14 @@ fn a_waiting_connection_is_told_to_end(rt: HostRuntime) {
     assert_eq!(&rt; door.open(0), Ok(()));
     let port = door.port().expect(&rt, "a port");
     let stream = call(&rt, port);
+    let Ok(Some(came)) = door.accept() else {
+        rt.abort()
+    };
     let Accepted {
         mut input,
         mut out,
         handle,
-    } = accept(&rt, &mut door);
+    } = came;
     let (told, _) = thread::join(
         &rt,
         || hang_up_waiting(&rt, &handle),

@@ -36,18 +36,14 @@ fn serve_one(rt: &impl Abort, door: &mut MemDoor, sends: &[u8])
     requires { (mem_door_state door.old).left ≤ (mem_door_state door.old).accepted }
     ensures { (mem_door_state door.new).left ≤ (mem_door_state door.new).accepted }
 {
-    let Ok(
-        Some(
-            Accepted {
-                mut input,
-                mut out,
-                handle,
-            },
-        ),
-    ) = door.accept()
-    else {
+    let Ok(Some(came)) = door.accept() else {
         rt.abort()
     };
+    let Accepted {
+        mut input,
+        mut out,
+        handle,
+    } = came;
     let mut piece = [0u8; 4];
     assert_eq!(rt; input.read(&mut piece), Ok(4));
     assert_eq!(rt; piece.as_slice(), sends);
