@@ -11,4 +11,4 @@ returns-in-Err-clause-failed g c =
     names_start_failed _ _ _ _ _ _ _
     (record { counts = laws.counts_now c.in-Ok.disk; only = laws.only_now c.in-Ok.disk; is_one = laws.is_one c.in-Ok.disk })
     (record { counts = laws.counts_now c.start.new.disk; only = laws.only_now c.start.new.disk; is_one = laws.is_one c.start.new.disk })
-    c.in-Ok.ensures.taken c.in-Err.ensures.opens refl c.give.ensures
+    c.in-Ok.ensures.taken c.in-Err.ensures.opens refl c.give.ensures.given
