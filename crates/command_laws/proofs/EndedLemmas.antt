@@ -232,8 +232,8 @@ names_read d r ops of_file s = record {
 
 -- ---- the server
 
-module _ {D W I O : Type 0} (state : D → DiskState) (to_come : W → ℕ → ℕ) (serves : Serving I O D W) (conns : ℕ) (old new : YardState) (door door' : DoorState I O) (props : Props) (words : W) (end : ServeEnd)
-    (r : RanServer state to_come serves props words conns old new door door' end) where
+module _ {D W I O : Type 0} (state : D → DiskState) (to_come : W → ℕ → ℕ) (serves : Serving I O D W) (conns : ℕ) (old new : YardState) (door door' : DoorState I O) (first second : ℕ → ℕ) (props : Props) (words : W) (port : ℕ) (end : ServeEnd)
+    (failed : Bool) (r : RanServer state to_come serves first second props words port conns old new door door' end failed) where
   abbrev calls : List (KmsEntry D W)
   calls = r.ran.keys_closed.all
 
@@ -314,12 +314,12 @@ module _ {D W I O : Type 0} (state : D → DiskState) (to_come : W → ℕ → �
 
 module _ {D W I O : Type 0} (state : D → DiskState) (to_come : W → ℕ → ℕ) (serves : Serving I O D W) (conns : ℕ) (old new : YardState) (door door' : DoorState I O) where
   pub servers_hold_logs : ServersHoldLogs state to_come serves conns old new door door'
-  servers_hold_logs props words end r =
-      let calls = key_log state to_come serves conns old new door door' props words end r in
-      let acts = name_log state to_come serves conns old new door door' props words end r in (
-        (calls.logged, calls.acknowledge, holds_keys state to_come serves conns old new door door' props words end r),
-        (acts.logged, acts.acknowledge, holds_names state to_come serves conns old new door door' props words end r),
+  servers_hold_logs first second props words port end failed r =
+      let calls = key_log state to_come serves conns old new door door' first second props words port end failed r in
+      let acts = name_log state to_come serves conns old new door door' first second props words port end failed r in (
+        (calls.logged, calls.acknowledge, holds_keys state to_come serves conns old new door door' first second props words port end failed r),
+        (acts.logged, acts.acknowledge, holds_names state to_come serves conns old new door door' first second props words port end failed r),
       )
 
   pub servers_judge : ServersJudge state to_come serves conns old new door door'
-  servers_judge props words end r = (key_log state to_come serves conns old new door door' props words end r).verdicts
+  servers_judge first second props words port end failed r = (key_log state to_come serves conns old new door door' first second props words port end failed r).verdicts

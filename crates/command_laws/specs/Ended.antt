@@ -1,5 +1,5 @@
 -- What a server that has ended leaves: each log holds what the entries of its history acknowledged.
-use Rattle.std.specs.Prelude.{◌≡◌, ℕ, ⊤, IsTrue, List, [], ◌∷◌, ◌++◌}
+use Rattle.std.specs.Prelude.{◌≡◌, ℕ, ⊤, IsTrue, List, [], ◌∷◌, ◌++◌, Bool}
 use Rattle.std.specs.List.{AllByRecursion}
 use Rattle.hk_base.specs.Disk.{DiskState}
 use Rattle.hk_base.specs.Faults.{Rose}
@@ -114,11 +114,11 @@ module _ {D W I O : Type 0} (state : D → DiskState) (to_come : W → ℕ → �
   -- order and none left out.
   abbrev pub ServersHoldLogs : Type 0
   ServersHoldLogs =
-      (props : Props) (words : W) (end : ServeEnd) (ran : RanServer state to_come serves props words conns old new door door' end)
+      (first second : ℕ → ℕ) (props : Props) (words : W) (port : ℕ) (end : ServeEnd) (failed : Bool) (ran : RanServer state to_come serves first second props words port conns old new door door' end failed)
       → ((logged : List KeyCommand) × AllAcknowledge state to_come props.lines ran.k ran.ran.keys_closed.all logged × (IsTrue old.tells → HoldsKeys (old.reads 0) (new.reads 0) logged ran.last_k.kms.store))
       × ((logged : List EditOp) × AllNamesAcknowledge state ran.n ran.ran.names_closed.all logged × (IsTrue old.tells → HoldsNames (old.reads 1) (new.reads 1) logged ran.last_n.names.store))
 
   -- Each call in the history of the key management service is denied exactly if the access control lists of the properties deny it.
   abbrev pub ServersJudge : Type 0
   ServersJudge =
-      (props : Props) (words : W) (end : ServeEnd) (ran : RanServer state to_come serves props words conns old new door door' end) → AllJudged props.lines ran.ran.keys_closed.all
+      (first second : ℕ → ℕ) (props : Props) (words : W) (port : ℕ) (end : ServeEnd) (failed : Bool) (ran : RanServer state to_come serves first second props words port conns old new door door' end failed) → AllJudged props.lines ran.ran.keys_closed.all
