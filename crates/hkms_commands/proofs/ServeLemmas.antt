@@ -57,12 +57,12 @@ serving_named (Err NoMemory) words idle answers leaves = inr leaves
 
 module _ {D I O : Type 0} (state : D → DiskState) (to_come : ChaCha → ℕ → ℕ) (serves : Serving I O D ChaCha) where
   -- the server ran with generators that were drawn one after another
-  pub serves_under : (same : Type 0) (conns : ℕ) (acls acls' : Option (List ℕ)) (t t1 t2 t3 : ℕ → ℕ) (yard yard' : YardState) (door door' : DoorState I O) (written now : Option (List ℕ)) (status : ℕ)
+  pub serves_under : (same : Type 0) (port conns : ℕ) (acls acls' : Option (List ℕ)) (t t1 t2 t3 : ℕ → ℕ) (yard yard' : YardState) (door door' : DoorState I O) (written now : Option (List ℕ)) (status : ℕ)
       (props : Props) (words first second : ChaCha) (end : RunEnd) → ReadsProperties acls acls' props
       → words ≡ generator_of t → ((k : ℕ) → t1 k ≡ t (k + 8)) → first ≡ generator_of t1 → ((k : ℕ) → t2 k ≡ t1 (k + 8)) → second ≡ generator_of t2 → ((k : ℕ) → t3 k ≡ t2 (k + 8))
-      → EndsAs state to_come serves (to_come first) (to_come second) props words conns yard yard' door door' end → ReportsRun end written now status
-      → Serves state to_come serves same conns acls acls' t t3 yard yard' door door' written now status
-  serves_under same conns acls acls' t t1 t2 t3 yard yard' door door' written now status props words first second end read is rest first_is rest' second_is rest'' ends reports =
+      → EndsAs state to_come serves (to_come first) (to_come second) props words port conns yard yard' door door' end → ReportsRun end written now status
+      → Serves state to_come serves same port conns acls acls' t t3 yard yard' door door' written now status
+  serves_under same port conns acls acls' t t1 t2 t3 yard yard' door door' written now status props words first second end read is rest first_is rest' second_is rest'' ends reports =
       let on : (k : ℕ) → t2 k ≡ t (k + 16) = later t t1 t2 8 8 rest rest' in
       let one : to_come first ≡ to_come (generator_of (words_after 8 t)) = ap to_come (first_is ∙ ap generator_of (λ i k. rest k i)) in
       let two : to_come second ≡ to_come (generator_of (words_after 16 t)) = ap to_come (second_is ∙ ap generator_of (λ i k. on k i)) in
@@ -71,9 +71,9 @@ module _ {D I O : Type 0} (state : D → DiskState) (to_come : ChaCha → ℕ �
         read = read;
         end = end;
         ends =
-            subst (λ (f : ℕ → ℕ). EndsAs state to_come serves f (to_come (generator_of (words_after 16 t))) props (generator_of t) conns yard yard' door door' end) one
-            (subst (λ (f : ℕ → ℕ). EndsAs state to_come serves (to_come first) f props (generator_of t) conns yard yard' door door' end) two
-            (subst (λ (g : ChaCha). EndsAs state to_come serves (to_come first) (to_come second) props g conns yard yard' door door' end) is ends));
+            subst (λ (f : ℕ → ℕ). EndsAs state to_come serves f (to_come (generator_of (words_after 16 t))) props (generator_of t) port conns yard yard' door door' end) one
+            (subst (λ (f : ℕ → ℕ). EndsAs state to_come serves (to_come first) f props (generator_of t) port conns yard yard' door door' end) two
+            (subst (λ (g : ChaCha). EndsAs state to_come serves (to_come first) (to_come second) props g port conns yard yard' door door' end) is ends));
         rest = later t t2 t3 16 8 on rest'';
         reports = reports;
       })
