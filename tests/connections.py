@@ -60,7 +60,7 @@ def left():
         client = connect()
         ask(client)
         client.close()
-    return "answered at once" if timed(1) and ask(stays) == 200 else "not answered"
+    return "answered at once" if timed(3) and ask(stays) == 200 else "not answered"
 
 
 def idle():
@@ -69,7 +69,7 @@ def idle():
         clients.append(connect())
         ask(clients[-1])
         time.sleep(0.02)
-    if not timed(1):
+    if not timed(3):
         return "not answered"
     ends = clients[0].recv(1) == b""
     rest = all(ask(client) == 200 for client in clients[1:])
@@ -86,7 +86,7 @@ def slowly():
         time.sleep(1)
         for client in clients[:15]:
             client.sendall(NAMES[5 + k:6 + k])
-        answered += timed(1)
+        answered += timed(3)
     for client in clients[:15]:
         client.sendall(NAMES[9:])
     whole = all(response(client) == 200 for client in clients[:15])
