@@ -81,11 +81,13 @@ fn obey<
     match order {
         Ok(Order::Replay) => run_replay(alloc, acls, input, out, disk, rand),
         Ok(Order::Pipe) => run_pipe(alloc, acls, input, out, disk, rand, clock),
-        Ok(Order::Serve {
-            port,
-            conns,
-            places,
-        }) => run_serve(
+        Ok(
+            Order::Serve {
+                port,
+                conns,
+                places,
+            },
+        ) => run_serve(
             rt, alloc, acls, out, yard, rand, clock, door, port, conns, places,
         ),
         Ok(Order::Help(text)) => show(out, text.as_bytes(), 0),
