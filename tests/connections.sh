@@ -57,7 +57,8 @@ fi
 # ---- a disk that fails
 
 if command -v strace >/dev/null && strace -o /dev/null true 2>/dev/null; then
-    before=(strace -f -o /dev/null -e trace=fdatasync -e 'inject=fdatasync:error=EIO:when=6')
+    # Calls are counted thread by thread. An opening syncs each log four times, so the ninth sync of a thread is one of a change.
+    before=(strace -f -o /dev/null -e trace=fdatasync -e 'inject=fdatasync:error=EIO:when=9')
     start
     same 'clients of a disk that fails' 'the requests were answered' "$(clients failing)"
     wait "$server"
