@@ -6,6 +6,10 @@ use server_parts::Door;
 use std::sync::Wait;
 use turns::Turns;
 
+/// How many moments the acceptor waits for a place before it tells a connection to end: half a second in
+/// all. Until then a client that has just connected can send its request.
+const PATIENCE: u32 = 10;
+
 /// Returns since when the connection at an index of the queue has waited for a request, if it waits.
 fn waits_since<R: Wait, A: Door, S: Turns>(
     rt: &R,
@@ -40,18 +44,27 @@ fn hang_up_at<R: Wait, A: Door, S: Turns>(rt: &R, queue: &Queue<A, S>, index: us
     }
 }
 
-/// Takes a place for a connection. While none is free, the connection that has waited longest for a
-/// request is told to end.
+/// Tells the connection that has waited longest for a request to end, if one waits.
+fn hang_up_longest<R: Wait, A: Door, S: Turns>(rt: &R, queue: &Queue<A, S>) {
+    if let Some(index) = longest_waiting::<R, A, S>(rt, queue) {
+        hang_up_at::<R, A, S>(rt, queue, index);
+    }
+}
+
+/// Takes a place for a connection. If none gets free for half a second, the connection that has waited
+/// longest for a request is told to end, and so on until there is one.
 pub fn take_place<R: Wait, A: Door, S: Turns>(rt: &R, places: &Places, queue: &Queue<A, S>) {
+    let mut looks = 0u32;
     for _ in rt.forever() {
         let seen = places.changes();
         if places.take(rt) {
             return;
         }
-        if let Some(index) = longest_waiting::<R, A, S>(rt, queue) {
-            hang_up_at::<R, A, S>(rt, queue, index);
+        if looks >= PATIENCE {
+            hang_up_longest::<R, A, S>(rt, queue);
         }
         places.wait(rt, seen);
+        looks = looks.saturating_add(1);
     }
 }
 
