@@ -272,7 +272,8 @@ fi
 rm -rf "$room"
 mkdir "$room" || exit 1
 ln -s /dev/null "$room/keys.log"
-run_here <<<'kms a names'
+run_here <<<'kms a names' 2>"$folder/messages"
 expect 'a log that cannot be synced' 5 'store fault'
+same 'what is said of it' 'hkms: keys.log: sync failed: Invalid argument (os error 22)' "$(cat "$folder/messages")"
 
 [ "$failures" -eq 0 ]

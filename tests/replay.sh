@@ -465,13 +465,15 @@ fi
 
 # Runs the program where no file may grow beyond $1 KiB, as on a full disk.
 run_small() {
-    output=$(cd "$room" && trap '' XFSZ && ulimit -f "$1" && "$hkms" replay)
+    output=$(cd "$room" && trap '' XFSZ && ulimit -f "$1" && "$hkms" replay 2>/dev/null)
     status=$?
 }
 
 fresh
 run_small 0 <examples/first-key.events
 expect 'no room for a log' 5 'store fault'
+said=$(cd "$room" && trap '' XFSZ && ulimit -f 0 && "$hkms" replay 2>&1 >/dev/null <<<'kms a names')
+same 'what is said of it' 'hkms: keys.log: write failed: File too large (os error 27)' "$said"
 
 # An opening takes 10 bytes of the log, and the restart that finds no room for its own is the last event.
 fresh
