@@ -65,7 +65,7 @@ if command -v strace >/dev/null && strace -o /dev/null true 2>/dev/null; then
     status=$?
     output=$(cat "$room/out")
     expect 'a sync that failed' 5 'store fault'
-    same 'it is told' 1 "$(grep -c 'sync failed' "$room/messages")"
+    same 'the message on standard error' 1 "$(grep -c 'sync failed' "$room/messages")"
 else
     echo 'tests/connections.sh: skipped a disk that fails, strace does not work here'
 fi
