@@ -1,5 +1,5 @@
 -- Doors over TCP, and in memory.
-use Rattle.std.specs.Prelude.{ℕ, List, map, length, Option, None, Some}
+use Rattle.std.specs.Prelude.{ℕ, Bool, false, List, map, length, Option, None, Some}
 use Rattle.std.specs.declared.snapshot.Snapshot.{Snapshot}
 use Rattle.disk_kinds.specs.Fakes.{Supply, Collected}
 use Rattle.door_kinds.specs.declared.mem_door.MemClient.{MemClient}
@@ -7,13 +7,13 @@ use Rattle.door_kinds.specs.declared.mem_door.MemLeft.{MemLeft}
 use Rattle.door_kinds.specs.declared.mem_door.MemDoor.{MemDoor}
 use Rattle.server_parts.specs.Doors.{DoorState, Left}
 
--- A door that promises only its port and how many connections there were.
-abbrev pub opaque_door : {I O : Type 0} → Option ℕ → ℕ → ℕ → DoorState I O
-opaque_door port accepted left = record { port = port; accepted = accepted; left = left; came = None; gone = None }
+-- A door that promises only its port, how many connections there were, and whether it closed.
+abbrev pub opaque_door : {I O : Type 0} → Option ℕ → ℕ → ℕ → Bool → DoorState I O
+opaque_door port accepted left closed = record { port = port; accepted = accepted; left = left; came = None; gone = None; closed = closed }
 
--- A door that promises its port and which connections there were.
+-- A door that never closes, and promises its port and which connections there were.
 abbrev pub known_door : {I O : Type 0} → Option ℕ → List (I × O) → List (Left I O) → DoorState I O
-known_door port came gone = record { port = port; accepted = length came; left = length gone; came = Some came; gone = Some gone }
+known_door port came gone = record { port = port; accepted = length came; left = length gone; came = Some came; gone = Some gone; closed = false }
 
 -- a connection that was left at a door in memory
 abbrev pub left_of : MemLeft → Left Supply Collected

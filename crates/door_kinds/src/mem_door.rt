@@ -31,7 +31,7 @@ pub struct MemLeft {
     pub ended: Ended,
 }
 
-/// A handle on a connection in memory, which waits for nothing and is never told to end.
+/// A handle on a connection in memory, which never waits for its client.
 #[derive(Drop)]
 pub struct MemHandle;
 
@@ -51,7 +51,7 @@ pub struct MemDoor {
     ghost gone_room: { length came.items + length clients.items ≤ vec_capacity gone },
 }
 
-/// Does nothing, and knows nothing of the connection.
+/// Has no effect on the connection, and no information about it.
 impl HangUp for MemHandle {
     fn hang_up(&self) {}
 

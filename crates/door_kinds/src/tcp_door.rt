@@ -1,5 +1,5 @@
 //! A door over TCP.
-ghost use Rattle.std.specs.Prelude.{◌≡◌, ◌≤◌, ◌<◌, ◌-◌, ◌^◌, IfOk, IfSome, OnOk};
+ghost use Rattle.std.specs.Prelude.{◌≡◌, ◌≤◌, ◌<◌, ◌-◌, ◌^◌, IfOk, IfSome, IsFalse, OnOk};
 ghost use Rattle.door_kinds.specs.Doors.{opaque_door};
 
 use crate::tcp_ends::{TcpSink, TcpSource, ends_of};
@@ -52,6 +52,8 @@ pub struct TcpDoor<'n, N: Net<Listener = TcpListener, Stream = TcpStream> + Cloc
     listener: Option<TcpListener>,
     accepted: u64,
     left: u64,
+    /// Whether an accept has found the alarm raised.
+    pub closed: bool,
     pub faults: u64,
     ghost order: { left ≤ accepted },
 }
@@ -162,6 +164,7 @@ fn next_ends<'n, C: Clock>(
 impl<'n, N: Net<Listener = TcpListener, Stream = TcpStream> + Clock + Sync> TcpDoor<'n, N> {
     /// Creates a door that doesn't listen yet. Opening port 0 takes a free port.
     pub fn new(net: &'n N, alloc: Global, alarm: Arc<Alarm, Global>) -> TcpDoor<'n, N>
+        ensures closed { IsFalse result.closed }
         ensures faults { result.faults ≡ 0 }
     {
         TcpDoor {
@@ -172,6 +175,7 @@ impl<'n, N: Net<Listener = TcpListener, Stream = TcpStream> + Clock + Sync> TcpD
             listener: None,
             accepted: 0,
             left: 0,
+            closed: false,
             faults: 0,
         }
     }
@@ -191,7 +195,7 @@ impl<'n, N: Net<Listener = TcpListener, Stream = TcpStream> + Clock + Sync> Door
 
     type Handle = TcpHandle;
 
-    ghost state = { λ d. opaque_door d.port d.accepted d.left };
+    ghost state = { λ d. opaque_door d.port d.accepted d.left d.closed };
 
     ghost faults = { λ d. d.faults };
 
@@ -223,7 +227,10 @@ impl<'n, N: Net<Listener = TcpListener, Stream = TcpStream> + Clock + Sync> Door
                 self.accepted += 1;
                 Ok(Some(came))
             }
-            Ok(None) => Ok(None),
+            Ok(None) => {
+                self.closed = true;
+                Ok(None)
+            }
             Err(_) => {
                 self.faults = self.faults.saturating_add(1);
                 Err(Failed)

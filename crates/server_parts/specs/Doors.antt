@@ -1,5 +1,5 @@
--- How contracts see a door: the port that it listens on, the connections that it accepted, and those that were left.
-use Rattle.std.specs.Prelude.{ℕ, ◌+◌, List, [], ◌∷◌, ◌++◌, Option, None, Some}
+-- How contracts see a door: the port that it listens on, the connections that it accepted and those that were left, and whether it closed.
+use Rattle.std.specs.Prelude.{ℕ, ◌+◌, Bool, true, List, [], ◌∷◌, ◌++◌, Option, None, Some}
 use Rattle.hk_base.specs.declared.ended.Ended.{Ended}
 
 -- a connection as it was left: both ends as they were then, and how it ended
@@ -19,6 +19,8 @@ pub record DoorState (I O : Type 0) : Type 0 where
   pub came : Option (List (I × O))
   -- the connections in the order in which they were left, if the door promises them
   pub gone : Option (List (Left I O))
+  -- whether an accept has answered that the door takes no more connections
+  pub closed : Bool
 
 -- more entries of a list, if there is one
 abbrev pub with_more : {A : Type 0} → Option (List A) → List A → Option (List A)
@@ -33,3 +35,6 @@ with_accepted d ends = record d { accepted = d.accepted + 1; came = with_more d.
 
 abbrev pub with_left : {I O : Type 0} → DoorState I O → Left I O → DoorState I O
 with_left d one = record d { left = d.left + 1; gone = with_more d.gone (one ∷ []) }
+
+abbrev pub with_closed : {I O : Type 0} → DoorState I O → DoorState I O
+with_closed d = record d { closed = true }

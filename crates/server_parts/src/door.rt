@@ -1,7 +1,7 @@
 //! A door: connections come in here, and are left here when they have ended.
 ghost use Rattle.std.specs.Prelude.{◌≡◌, ◌≤◌, ◌<◌, ℕ, IfOk, IfSome, Ok, None, OnErr, OnOk};
 ghost use Rattle.hk_base.specs.Faults.{HasCause};
-ghost use Rattle.server_parts.specs.Doors.{DoorState, with_accepted, with_left, with_port};
+ghost use Rattle.server_parts.specs.Doors.{DoorState, with_accepted, with_closed, with_left, with_port};
 
 use crate::ends::{CloseInput, CloseOutput, HangUp};
 use hk_base::{Ended, Failed};
@@ -20,7 +20,7 @@ pub struct Accepted<I, O, H> {
 /// A connection is a source and a sink, which may move to a thread of their own. Whoever serves it
 /// closes both once no more of its requests will be answered, the output first. The door counts the
 /// connections that it accepted and those that were left. It may promise which ones these were; a
-/// door over a network does not.
+/// door over a network does not. It is closed once an accept has returned `None`.
 pub trait Door {
     /// The input of a connection.
     type In: CloseInput + Send + Drop;
@@ -42,10 +42,10 @@ pub trait Door {
         ensures cause { HasCause (faults self.old) (faults self.new) result };
 
     /// Waits for the next connection. Neither of its ends has counted a fault yet. Returns `None` if the
-    /// door was told to take no more connections.
+    /// door takes no more connections.
     fn accept(&mut self) -> Result<Option<Accepted<Self::In, Self::Out, Self::Handle>>, Failed>
         ensures some { IfOk result (λ next. IfSome next (λ came. state self.new ≡ with_accepted (state self.old) (came.input, came.out))) }
-        ensures closed { result ≡ Ok None → state self.new ≡ state self.old }
+        ensures closed { result ≡ Ok None → state self.new ≡ with_closed (state self.old) }
         ensures none { OnErr result (state self.new ≡ state self.old) }
         ensures fresh { IfOk result (λ next. IfSome next (λ came. (Self.In.faults came.input ≡ 0) × (Self.Out.faults came.out ≡ 0))) }
         ensures cause { HasCause (faults self.old) (faults self.new) result };

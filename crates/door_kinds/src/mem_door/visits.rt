@@ -3,7 +3,7 @@ ghost use Rattle.std.specs.Prelude.{◌≡◌, ◌≤◌, ◌<◌, [], ◌∷◌
 ghost use Rattle.std.proofs.Common.{arith};
 ghost use Rattle.std.proofs.lemmas.List.{length-map};
 ghost use Rattle.hk_base.specs.Faults.{HasCause, Rose};
-ghost use Rattle.server_parts.specs.Doors.{with_accepted, with_port};
+ghost use Rattle.server_parts.specs.Doors.{with_accepted, with_closed, with_port};
 ghost use Rattle.door_kinds.specs.Doors.{came_of, left_of, mem_door_faults, mem_door_state, to_come, known_door};
 
 use super::{MemClient, MemDoor, MemHandle, MemLeft};
@@ -51,7 +51,7 @@ impl MemDoor {
         })
     }
 
-    /// Creates a door at which nobody comes.
+    /// Creates a door without clients.
     pub fn closed(alloc: Global) -> Result<MemDoor, AllocError>
         ensures { IfOk result (λ door. mem_door_state door ≡ known_door None [] []) }
     {
@@ -129,7 +129,7 @@ impl Door for MemDoor {
 
     fn accept(&mut self) -> Result<Option<Accepted<MemSource, MemSink, MemHandle>>, Failed>
         ensures some { IfOk result (λ next. IfSome next (λ came. mem_door_state self.new ≡ with_accepted (mem_door_state self.old) (came.input, came.out))) }
-        ensures closed { result ≡ Ok None → mem_door_state self.new ≡ mem_door_state self.old }
+        ensures closed { result ≡ Ok None → mem_door_state self.new ≡ with_closed (mem_door_state self.old) }
         ensures none { OnErr result (mem_door_state self.new ≡ mem_door_state self.old) }
         ensures fresh { IfOk result (λ next. IfSome next (λ came. (came.input.plan.faults ≡ 0) × (came.out.plan.faults ≡ 0))) }
         ensures cause { HasCause (mem_door_faults self.old) (mem_door_faults self.new) result }
