@@ -29,6 +29,8 @@ pub(crate) struct Half<'n, C: Clock> {
     pace: Pace,
     /// How many seconds a read or a write waits, as the stream has it.
     wait: u64,
+    /// Whether the connection was hung up before the request that is being read.
+    last: bool,
 }
 
 /// Returns the milliseconds of the clock.
@@ -37,18 +39,51 @@ fn now_ms<C: Clock>(clock: &C) -> io::Result<u64> {
     Ok(now.min(u64::MAX as u128) as u64)
 }
 
-/// Waits for the first part of a request. Returns 0 if the connection is told to end before it comes.
-fn read_first<C: Clock>(clock: &C, link: &Link, buf: &mut [u8]) -> io::Result<usize>
+/// Reads what has come, without waiting. Returns 0 if nothing has.
+fn read_come(mut stream: &TcpStream, buf: &mut [u8]) -> io::Result<usize>
+    ensures { ReadsAtMost result buf.new }
+{
+    stream.set_nonblocking(true)?;
+    let outcome = stream.read(buf);
+    stream.set_nonblocking(false)?;
+    match outcome {
+        Ok(count) => Ok(count),
+        Err(error) => {
+            if error.kind() == ErrorKind::WouldBlock {
+                return Ok(0);
+            }
+            Err(error)
+        }
+    }
+}
+
+/// Waits for the first part of a request. Returns 0 if the connection is hung up before it comes.
+fn wait_first<C: Clock>(clock: &C, link: &Link, buf: &mut [u8]) -> io::Result<usize>
     ensures { ReadsAtMost result buf.new }
 {
     if !link.begin_wait(now_ms(clock)?) {
-        return Ok(0);
+        return read_come(&link.stream, buf);
     }
     let outcome = (&link.stream).read(buf);
-    if !link.end_wait() {
+    link.end_wait();
+    outcome
+}
+
+/// Reads the first part of a request. A request that had come when the connection was hung up is still
+/// read, as the last one.
+fn read_first<C: Clock>(
+    clock: &C,
+    link: &Link,
+    last: &mut bool,
+    buf: &mut [u8],
+) -> io::Result<usize>
+    ensures { ReadsAtMost result buf.new }
+{
+    if *last {
         return Ok(0);
     }
-    let count = outcome?;
+    let count = wait_first(clock, link, buf)?;
+    *last = link.is_hung_up();
     if count > 0 {
         link.note_read();
     }
@@ -100,6 +135,7 @@ impl<'n, C: Clock> Half<'n, C> {
             clock,
             pace: Pace::new(0),
             wait: LONGEST_WAIT,
+            last: false,
         }
     }
 }
@@ -111,7 +147,7 @@ impl<'n, C: Clock> Read for Half<'n, C> {
         };
         if link.is_between() {
             set_read_wait(&link.stream, &mut self.wait, LONGEST_WAIT)?;
-            let count = read_first(self.clock, link, buf)?;
+            let count = read_first(self.clock, link, &mut self.last, buf)?;
             self.pace = Pace::new(count);
             return Ok(count);
         }
@@ -143,8 +179,9 @@ impl<'n, C: Clock> Write for Half<'n, C> {
 /// request together may wait a minute, after its first byte came, and a second more for each 16,384
 /// bytes of it; the next one fails.
 ///
-/// A request begins with the first byte that is read, and with each one that is read after a write. If
-/// the connection was told to end, a read that would begin a request returns 0.
+/// A request begins with the first byte that is read, and with each one that is read after a write.
+/// Once the connection was hung up, a read that would begin a request returns 0, except that one more
+/// request is read if its first bytes had come by then.
 #[derive(Drop)]
 pub struct TcpSource<'n, C: Clock> {
     pub(crate) reading: Reading<Half<'n, C>>,

@@ -8,7 +8,7 @@ use std::sync::atomic::{AtomicBool, AtomicU64, Ordering};
 /// The input waits for no request.
 const BUSY: u64 = 0;
 
-/// The input waited for a request when it was told to end.
+/// The input waited for a request when the connection was hung up.
 const CUT: u64 = u64::MAX;
 
 /// A stream, and what its owners tell each other.
@@ -17,8 +17,8 @@ pub(crate) struct Link {
     pub(crate) stream: TcpStream,
     /// Since when the input waits for a request, in milliseconds, or `BUSY`, or `CUT`.
     waits: AtomicU64,
-    /// Whether the connection was told to end.
-    told: AtomicBool,
+    /// Whether the connection was hung up.
+    hung_up: AtomicBool,
     /// Whether nothing was read since something was written.
     between: AtomicBool,
 }
@@ -28,7 +28,7 @@ impl Link {
         Link {
             stream,
             waits: AtomicU64::new(BUSY),
-            told: AtomicBool::new(false),
+            hung_up: AtomicBool::new(false),
             between: AtomicBool::new(true),
         }
     }
@@ -49,27 +49,32 @@ impl Link {
         !self.between.swap(true, Ordering::SeqCst)
     }
 
-    /// Notes since when the input waits for a request. Returns `false` if the connection was told to
-    /// end; it does not wait then.
+    /// Returns whether the connection was hung up.
+    pub(crate) fn is_hung_up(&self) -> bool {
+        self.hung_up.load(Ordering::SeqCst)
+    }
+
+    /// Notes since when the input waits for a request. Returns `false` if the connection was hung up; it
+    /// must not wait then.
     pub(crate) fn begin_wait(&self, since: u64) -> bool {
-        // This side writes `waits` and then reads `told`, the handle writes `told` and then reads
+        // This side writes `waits` and then reads `hung_up`, the handle writes `hung_up` and then reads
         // `waits`: so one of them sees what the other wrote.
         self.waits.store(since.clamp(1, CUT - 1), Ordering::SeqCst);
-        if self.told.load(Ordering::SeqCst) {
+        if self.is_hung_up() {
             self.waits.store(BUSY, Ordering::SeqCst);
             return false;
         }
         true
     }
 
-    /// Notes that the input no longer waits. Returns `false` if it was told to end meanwhile.
-    pub(crate) fn end_wait(&self) -> bool {
-        self.waits.swap(BUSY, Ordering::SeqCst) != CUT
+    /// Notes that the input no longer waits.
+    pub(crate) fn end_wait(&self) {
+        self.waits.store(BUSY, Ordering::SeqCst);
     }
 
-    /// Tells the connection to end. If its input waits, it finds the end.
-    fn tell_end(&self) {
-        self.told.store(true, Ordering::SeqCst);
+    /// Hangs up. If the input waits, it reads what has come, and then finds the end.
+    fn hang_up(&self) {
+        self.hung_up.store(true, Ordering::SeqCst);
         let Some(since) = self.waits_since() else {
             return;
         };
@@ -106,7 +111,7 @@ impl TcpHandle {
 
 impl HangUp for TcpHandle {
     fn hang_up(&self) {
-        self.link.tell_end();
+        self.link.hang_up();
     }
 
     fn waits_since(&self) -> Option<u64> {

@@ -25,8 +25,8 @@ pub trait CloseOutput: Sink {
 /// A handle on a connection, for those who do not serve it. Contracts say nothing about what it does
 /// to the connection.
 pub trait HangUp {
-    /// Tells the connection to end: its input ends once it waits for a request. A request that is being
-    /// read or answered is answered first.
+    /// Ends the connection: its input ends where it would wait for a request. A request that is being
+    /// read or answered is answered first. So is one of which bytes had come before the call.
     fn hang_up(&self);
 
     /// Returns since when the connection has waited for a request, in milliseconds of a clock that all
