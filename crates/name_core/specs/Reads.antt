@@ -5,7 +5,7 @@ use Rattle.inode_tree.specs.declared.rows.Kind.{Kind}
 use Rattle.inode_tree.specs.declared.rows.Kind.TheVariants.{Dir, File}
 use Rattle.inode_tree.specs.Listing.{children}
 use Rattle.inode_tree.specs.Rows.{Entry, row_at, zone_of}
-use Rattle.name_calls.specs.Paths.{same_path}
+use Rattle.name_calls.specs.Paths.{parent}
 use Rattle.name_calls.specs.declared.paths.NPath.{NPath}
 use Rattle.name_calls.specs.declared.read_paths.ReadPath.{ReadPath}
 use Rattle.name_calls.specs.declared.read_paths.SnapPart.{SnapPart}
@@ -14,7 +14,7 @@ use Rattle.name_calls.specs.declared.calls.NameReply.TheVariants as reply
 use Rattle.name_calls.specs.declared.calls.NameRefusal.{NameRefusal}
 use Rattle.name_calls.specs.declared.calls.NameRefusal.TheVariants as refusal
 use Rattle.snap_store.specs.Snapshots.{rows_in}
-use Rattle.name_store.specs.Causes.{directory_causes, first_cause, id_at, unsnap_causes}
+use Rattle.name_store.specs.Causes.{directory_causes, first_cause, id_at, is_root, unsnap_causes}
 use Rattle.name_store.specs.Table.{NameTable}
 
 -- the rows that a snapshot of the directory at the path has, seen from the directory
@@ -57,18 +57,17 @@ list_causes t r = snapshot_causes t r ++ directory_causes (rows_read t r) (path_
 abbrev pub path_of_zone : List Entry → NPath → Option NPath
 path_of_zone rows p = option_map (λ e. e.path) (zone_of rows p)
 
--- a zone other than the directory itself
-abbrev pub other_zone : NPath → Option Entry → Option NPath
-other_zone p None = None
-other_zone p (Some e) = if same_path e.path p then None else Some e.path
+-- the path of the zone over a directory, whether or not it is a zone itself: that of its parent; there is none over the root
+abbrev pub zone_over : List Entry → NPath → Option NPath
+zone_over rows p = if is_root p then None else path_of_zone rows (parent p)
 
 abbrev pub zone_in_or_above : List Entry → NPath → Option Entry → Option NPath
-zone_in_or_above rows p None = other_zone p (zone_of rows p)
+zone_in_or_above rows p None = zone_over rows p
 zone_in_or_above rows p (Some e) = Some (p ++ e.path)
 
 -- The path of the zone that an entry of a snapshot lay in. It is the deepest marked directory of the snapshot at or above the entry. If
--- there is none, it is the zone that the directory of the snapshot lies in. That directory may have become a zone since; then it lay in
--- none before.
+-- there is none, it is the zone over the directory of the snapshot. That directory may have become a zone since, but it was none when the
+-- snapshot was taken.
 abbrev pub zone_in_snapshot : NameTable → NPath → SnapPart → Option NPath
 zone_in_snapshot t p part = zone_in_or_above t.rows p (zone_of (snapshot_rows t p part.name) part.below)
 

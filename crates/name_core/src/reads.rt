@@ -1,10 +1,10 @@
 //! Answers about entries, as they are and as they were in a snapshot.
 ghost use Rattle.std.specs.Prelude.{◌≡◌, IfOk, IsTrue, MatchResult, None, is_some, true};
 ghost use Rattle.inode_tree.specs.Listing.{children};
-ghost use Rattle.inode_tree.specs.Rows.{is_dir_at, row_at, zone_of};
+ghost use Rattle.inode_tree.specs.Rows.{is_dir_at, row_at};
 ghost use Rattle.snap_store.specs.Snapshots.{zone_depth};
 ghost use Rattle.name_store.specs.Causes.{first_cause, zone_root_causes};
-ghost use Rattle.name_core.specs.Reads.{info_causes, info_reply, list_causes, list_reply, other_zone, path_of_zone, path_read, rows_read, info_of, snapshot_causes, snapshot_rows, zone_in_snapshot, zone_read};
+ghost use Rattle.name_core.specs.Reads.{info_causes, info_reply, list_causes, list_reply, path_of_zone, path_read, rows_read, info_of, snapshot_causes, snapshot_rows, zone_in_snapshot, zone_over, zone_read};
 ghost use Rattle.name_core.specs.Steps.{Answers};
 ghost use Rattle.name_core.specs.Walks.{state_shown, status_shown, status_shown_at, walk_of};
 
@@ -149,7 +149,7 @@ fn zone_in_snapshot(
 {
     let tree = store.tree();
     match zone_depth(store, path, part) {
-        None => other_zone(tree, path),
+        None => zone_over(tree, path),
         Some(count) => {
             let zone = joined(alloc, copy_of(alloc, path)?, &part.below, count as usize)?;
             Ok(Some(zone))
@@ -166,21 +166,19 @@ fn zone_depth(store: &NameStore, path: &NPath, part: &SnapPart) -> Option<u8>
     store.snaps().zone_in(dir, &part.name, &part.below)
 }
 
-/// Returns the path of the zone that a directory lies in, if that is not the directory itself.
-fn other_zone(tree: &Tree, path: &NPath) -> Result<Option<NPath>, NoMemory>
-    requires { is_some (row_at tree.now.rows path.now) ≡ true }
-    ensures { MatchResult result (λ zone. zone ≡ other_zone path.now (zone_of tree.now.rows path.now)) (λ why. IsTrue (is_some (other_zone path.now (zone_of tree.now.rows path.now)))) }
+/// Returns the path of the zone over a directory: the zone that its parent lies in. There is none
+/// over the root.
+fn zone_over(tree: &Tree, path: &NPath) -> Result<Option<NPath>, NoMemory>
+    ensures { MatchResult result (λ zone. zone ≡ zone_over tree.now.rows path.now) (λ why. IsTrue (is_some (zone_over tree.now.rows path.now))) }
 {
+    if path.is_root() {
+        return Ok(None);
+    }
     // No two rows have the same id.
     let _ = tree.rows();
-    match tree.zone_of(path) {
+    match tree.zone_of_parent(path) {
         None => Ok(None),
-        Some(id) => {
-            if id == id_at(tree, path) {
-                return Ok(None);
-            }
-            Ok(Some(tree.path_of(id)?))
-        }
+        Some(id) => Ok(Some(tree.path_of(id)?)),
     }
 }
 
