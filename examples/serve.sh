@@ -8,6 +8,7 @@ port=${1-9600}
 folder=$(mktemp -d) || exit 1
 "$root/hkms" --version >/dev/null || exit 1
 
+: >"$folder/messages"
 (cd "$folder" && exec "$root/hkms" serve --port "$port" 2>messages) &
 server=$!
 # It may be stopped at any moment: what it answered is in its logs.
