@@ -18,7 +18,7 @@ masked() {
     sed -E 's/\b([0-9a-f]{32}|IV|SEALED|MATERIAL|DEK)\b/H/g; s/"[A-Za-z0-9_-]{22}(==)?"/"H"/g; s/ +$//'
 }
 
-# Prints the lines of the file WANTED that do not follow one another in the file GOT, from the first one on.
+# missing WANTED GOT: prints the lines of the first file, from the first one that does not come in the second file after those before it.
 missing() {
     awk 'NR == FNR { wanted[++count] = $0; next }
         seen < count && $0 == wanted[seen + 1] { seen++ }
