@@ -7,6 +7,7 @@ ghost use Rattle.hkms_tool.specs.Starting.{EndsBy, EndsUnopened, EndsWith};
 
 mod announcing;
 mod opening;
+mod stopping;
 
 use announcing::Announcing;
 use command_line::{Order, OrderFault, read_order};
@@ -24,6 +25,7 @@ use std::process::ExitCode;
 use std::rt::{Env, Files};
 use std::sync::{Arc, Wait};
 use std::thread::Threads;
+use stopping::watch_stop;
 
 /// Returns the words of the command line without the program's own name. Fails if a word is not UTF-8.
 fn words_given(rt: &(impl Env + Alloc<A = Global>)) -> io::Result<Vec<Text>> {
@@ -199,7 +201,8 @@ fn serve_opened<T: Threads + Wait + Sync, A: Source + Drop, Y: Yard + Drop>(
 }
 
 /// Serves, as the words of the command line say, with the files of the current folder. A sync of a log
-/// that fails raises an alarm: the server then takes no more connections, and ends.
+/// that fails raises an alarm, and so does a byte on the pipe `hkms.stop`: the server then takes no more
+/// connections, and ends.
 fn serve<T: Threads + Wait + Sync>(
     rt: &HostRuntime,
     threads: &T,
@@ -212,6 +215,9 @@ fn serve<T: Threads + Wait + Sync>(
     let Ok(alarm) = Arc::new(alloc, Alarm::new()) else {
         return report_fault(rt, Output::Lines, b"no memory\n", 6);
     };
+    if let Err(error) = watch_stop(rt, threads, &alarm) {
+        let _ = eprintln!(rt; "hkms: hkms.stop cannot be watched: {error}");
+    }
     let opened = open_yard(rt, alloc, rt.stderr(), &alarm);
     serve_opened(rt, threads, words, seed, alarm, opened)
 }
