@@ -122,9 +122,10 @@ the Hadoop KMS REST API, version 1, and of the namesystem, such as
     GET /nn/v1/list?path=/&user.name=alice HTTP/1.1
 
 The user is the one that the request names; no password is asked for. Queues of
-ready keys are filled, and zones re-encrypted, in the background. If as many
-connections are served as --connections says, the next one gets the place of the
-one that has waited longest for a request; if none waits, it waits for a place.
+ready keys are filled, and zones re-encrypted, in the background. There are as
+many places for connections as --connections says. If all are taken for half a
+second, the connection that has waited longest for a request is ended, and the
+next one gets its place; if none waits for a request, the next one waits.
 A fault of a connection ends that connection alone.
 
 Standard error gets a line when it listens, and a line when it ends. Standard
