@@ -11,13 +11,15 @@ pub(crate) const PROGRAM_NOTES: &str = "Each command uses these files of the cur
   keys.log             the keys; a change is written here before it is answered
   names.log            directories, files and zones, written in the same way
   kms-acls.properties  access control lists: who may do what with which key
+  hkms.stop            a named pipe: a byte on it ends 'serve' after the requests
+                       that it has begun
 A log that is missing is made, for its owner alone to read. Where there is no
-kms-acls.properties, everybody may do everything. One process at a time can use
-the logs of a folder.
+kms-acls.properties, everybody may do everything. The pipe need not be there. One
+process at a time can use the logs of a folder.
 
 Exit status:
    0  the input was read to its end, or a request closed the connection, or all
-      connections of 'serve' were served
+      connections of 'serve' were served, or a byte came on hkms.stop
    2  the command line has a mistake; nothing was read, and no log was made
    3  the input or kms-acls.properties has a mistake
    4  keys.log or names.log is damaged
@@ -132,7 +134,8 @@ Standard error gets a line when it listens, and a line when it ends. Standard
 input is not read. What ends it:
 
   Status  Last line            Cause
-     0    none                 all connections that --conns says were served
+     0    none                 all connections that --conns says were served, or
+                               a byte came on hkms.stop
      3    acl line N refused   line N of kms-acls.properties has a mistake
           acl line N repeated  it has a name that an earlier line has
           acl line N unknown   it has a name that does not exist
