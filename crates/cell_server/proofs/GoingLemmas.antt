@@ -9,8 +9,8 @@ use Rattle.kms_cell.specs.Entries.{KmsEntry, KmsKnown}
 use Rattle.name_cell.specs.Entries.{NameEntry, NameKnown}
 use Rattle.server_parts.specs.Doors.{DoorState, with_accepted, with_left, with_more}
 use Rattle.cell_server.specs.Connections.{AllFresh, AllServed, Connections, EndsSo, GoesOn, Going, HasMet, Serving, Start, Visit, came_of, ends_of, keys_of, left_of, names_of}
-use Rattle.cell_server.specs.Work.{CrewWorks, IsFresh}
-use Rattle.cell_server.proofs.WorkLemmas.{in_left, in_right, work_seen}
+use Rattle.cell_workers.specs.Work.{PoolWorks, IsFresh}
+use Rattle.cell_workers.proofs.WorkLemmas.{in_left, in_right, work_seen}
 
 map_snoc : {A B : Type 0} (f : A → B) (xs : List A) (x : A) → map f (xs ++ x ∷ []) ≡ map f xs ++ f x ∷ []
 map_snoc f [] x = refl
@@ -200,7 +200,7 @@ module _ {I O D W : Type 0} (serves : Serving I O D W) where
 
   -- two passes of workers are met as well
   pub workers_end : (first second : ℕ → ℕ) (door0 : DoorState I O) (keys0 : KmsKnown D W) (names0 : NameKnown D) (door : DoorState I O) (keys begun theirs keys' : KmsKnown D W) (names names_begun their_names names' : NameKnown D)
-      → Going serves door0 keys0 names0 door keys names [] → IsFresh begun → IsFresh names_begun → CrewWorks first second begun names_begun theirs their_names → Meets keys theirs keys' → Meets names their_names names'
+      → Going serves door0 keys0 names0 door keys names [] → IsFresh begun → IsFresh names_begun → PoolWorks first second begun names_begun theirs their_names → Meets keys theirs keys' → Meets names their_names names'
       → Connections serves first second door0 keys0 names0 door keys' names'
   workers_end first second door0 keys0 names0 door keys begun theirs keys' names names_begun their_names names' g fresh fresh' works met met' =
       let accepted : door.accepted ≡ door0.accepted + (length g.visits + 0) = g.accepted in
@@ -221,7 +221,7 @@ module _ {I O D W : Type 0} (serves : Serving I O D W) where
 
   -- the same, after a split for the workers
   pub workers_end_after : (first second : ℕ → ℕ) (door0 : DoorState I O) (keys0 keys1 : KmsKnown D W) (names0 names1 : NameKnown D) (door : DoorState I O) (keys begun theirs keys' : KmsKnown D W) (names names_begun their_names names' : NameKnown D)
-      → keys1 ≡ keys0 → names1 ≡ names0 → Splits keys0 begun → Splits names0 names_begun → Going serves door0 keys1 names1 door keys names [] → CrewWorks first second begun names_begun theirs their_names
+      → keys1 ≡ keys0 → names1 ≡ names0 → Splits keys0 begun → Splits names0 names_begun → Going serves door0 keys1 names1 door keys names [] → PoolWorks first second begun names_begun theirs their_names
       → Meets keys theirs keys' → Meets names their_names names' → Connections serves first second door0 keys0 names0 door keys' names'
   workers_end_after first second door0 keys0 keys1 names0 names1 door keys begun theirs keys' names names_begun their_names names' same same' splits splits' g works met met' =
       workers_end first second door0 keys0 names0 door keys begun theirs keys' names names_begun their_names names'

@@ -1,6 +1,4 @@
 pub mod CloseLemmas
+pub mod EndLemmas
 pub mod GoingLemmas
-pub mod MadeLemmas
-pub mod RoundLemmas
 pub mod ServeLemmas
-pub mod WorkLemmas

@@ -1,5 +1,5 @@
 -- What a server did in all.
-use Rattle.std.specs.Prelude.{◌≡◌, ◌+◌, ℕ, List, [], length, Some}
+use Rattle.std.specs.Prelude.{◌≡◌, ◌+◌, ℕ, IsTrue, List, [], length, Some}
 use Rattle.std.proofs.Common.{ap, sym, ◌∙◌, refl, inl, inr, ⊎_elim, subst, arith}
 use Rattle.hk_base.specs.Disk.{DiskState}
 use Rattle.hist_cell.specs.History.{LegalOf}
@@ -13,12 +13,12 @@ use Rattle.name_cell.specs.Steps.{NameSteps}
 use Rattle.name_cell.specs.Views.{NameView}
 use Rattle.server_parts.specs.Doors.{DoorState, with_port}
 use Rattle.cell_server.specs.Connections.{Connections, Serving}
-use Rattle.cell_server.specs.Rounds.{IsLastRound, MakesBoth}
+use Rattle.cell_workers.specs.Rounds.{IsLastRound, MakesBoth}
 use Rattle.cell_server.specs.Serves.{Listens, ServesAll}
 use Rattle.cell_server.specs.declared.ends.ServeEnd.{ServeEnd}
 use Rattle.cell_server.specs.declared.ends.ServeEnd.TheVariants as serve_end
 use Rattle.cell_server.proofs.GoingLemmas.{connections_none}
-use Rattle.cell_server.proofs.MadeLemmas.{both_none}
+use Rattle.cell_workers.proofs.MadeLemmas.{both_none}
 
 module _ {I O D W : Type 0} (serves : Serving I O D W) (first second : ℕ → ℕ) (state : D → DiskState) (to_come : W → ℕ → ℕ) where
   -- memory ran out in the last round
@@ -35,15 +35,16 @@ module _ {I O D W : Type 0} (serves : Serving I O D W) (first second : ℕ → �
     called = called;
     makes = makes;
     ends_well = λ all. cc (is, all);
+    closed = λ closed. cc (is, closed);
     no_round = λ closed. cc (is, closed);
   }
 
   -- there was no last round
   pub serves_no_round : (door0 : DoorState I O) (keys0 : KmsKnown D W) (names0 : NameKnown D) (port conns : ℕ) (end : ServeEnd) (door : DoorState I O) (keys : KmsKnown D W) (names : NameKnown D)
       → Listens port door0 end door → Connections serves first second door0 keys0 names0 door keys names → LegalOf (NameSteps {D = D} state) (NameAllows {S = NameView D}) names.start names.seen
-      → LegalOf (KmsSteps {D = D} {W = W} state to_come) (KmsAllows {S = KmsView D W}) keys.start keys.seen → ¬ (end ≡ serve_end.Served)
+      → LegalOf (KmsSteps {D = D} {W = W} state to_come) (KmsAllows {S = KmsView D W}) keys.start keys.seen → ¬ (end ≡ serve_end.Served) → (end ≡ serve_end.Closed → IsTrue door.closed)
       → ServesAll serves first second state to_come door0 keys0 names0 port conns end door keys names
-  serves_no_round door0 keys0 names0 port conns end door keys names listens connections legal legal' not_all = record {
+  serves_no_round door0 keys0 names0 port conns end door keys names listens connections legal legal' not_all closed = record {
     listens = listens;
     keys_then = keys;
     names_then = names;
@@ -52,7 +53,8 @@ module _ {I O D W : Type 0} (serves : Serving I O D W) (first second : ℕ → �
     called = [];
     makes = both_none state to_come names keys legal legal';
     ends_well = λ all. absurd (not_all all);
-    no_round = λ closed. (refl, refl);
+    closed = closed;
+    no_round = λ is. (refl, refl);
   }
 
   -- the door could not be opened, and nothing was served
@@ -62,7 +64,7 @@ module _ {I O D W : Type 0} (serves : Serving I O D W) (first second : ℕ → �
       → ServesAll serves first second state to_come door0 keys names port conns serve_end.DoorFault door keys names
   serves_none door0 keys names port conns door same legal legal' =
       subst (λ (d : DoorState I O). ServesAll serves first second state to_come door0 keys names port conns serve_end.DoorFault d keys names) (sym same)
-      (serves_no_round door0 keys names port conns serve_end.DoorFault door0 keys names (inr (refl, refl)) (connections_none serves first second door0 keys names) legal legal' (λ e. cc))
+      (serves_no_round door0 keys names port conns serve_end.DoorFault door0 keys names (inr (refl, refl)) (connections_none serves first second door0 keys names) legal legal' (λ e. cc) (λ e. absurd cc))
 
   -- all connections were served, and the last round was finished
   pub serves_whole : (door0 : DoorState I O) (keys0 : KmsKnown D W) (names0 : NameKnown D) (port conns : ℕ) (end : ServeEnd) (door : DoorState I O) (keys keys' : KmsKnown D W) (names names' : NameKnown D)
@@ -81,6 +83,7 @@ module _ {I O D W : Type 0} (serves : Serving I O D W) (first second : ℕ → �
         called = called;
         makes = makes;
         ends_well = λ all. record { accepted = accepted; left = omega (arith, accepted, so_many, left); round = round };
+        closed = λ closed. cc (is, closed);
         no_round = λ closed. cc (is, closed);
       }
 
@@ -118,5 +121,6 @@ module _ {I O D W : Type 0} (serves : Serving I O D W) (first second : ℕ → �
     called = s.called;
     makes = s.makes;
     ends_well = λ all. let e = s.ends_well all in record { accepted = e.accepted; left = e.left; round = e.round };
+    closed = s.closed;
     no_round = s.no_round;
   }

@@ -10,7 +10,7 @@ use Rattle.kms_cell.specs.Entries.{KmsEntry, KmsKnown}
 use Rattle.name_cell.specs.Entries.{NameEntry, NameKnown}
 use Rattle.server_parts.specs.Doors.{DoorState, Left, with_more}
 use Rattle.cell_desk.specs.Connections.{ServedByCells}
-use Rattle.cell_server.specs.Work.{IsWork}
+use Rattle.cell_workers.specs.Work.{IsWork}
 
 -- ---- one connection
 

@@ -1,4 +1,3 @@
 pub mod Connections
-pub mod Rounds
+pub mod Ends
 pub mod Serves
-pub mod Work

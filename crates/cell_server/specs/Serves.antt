@@ -1,11 +1,11 @@
 -- What a server does from when its logs are open until they are closed.
-use Rattle.std.specs.Prelude.{◌≡◌, ◌+◌, ◌⊎◌, ℕ, List, [], Some}
+use Rattle.std.specs.Prelude.{◌≡◌, ◌+◌, ◌⊎◌, ℕ, IsTrue, List, [], Some}
 use Rattle.hk_base.specs.Disk.{DiskState}
 use Rattle.kms_cell.specs.Entries.{KmsEntry, KmsKnown}
 use Rattle.name_cell.specs.Entries.{NameEntry, NameKnown}
 use Rattle.server_parts.specs.Doors.{DoorState}
 use Rattle.cell_server.specs.Connections.{Connections, Serving}
-use Rattle.cell_server.specs.Rounds.{IsLastRound, MakesBoth}
+use Rattle.cell_workers.specs.Rounds.{IsLastRound, MakesBoth}
 use Rattle.cell_server.specs.declared.ends.ServeEnd.{ServeEnd}
 use Rattle.cell_server.specs.declared.ends.ServeEnd.TheVariants as serve_end
 
@@ -21,7 +21,7 @@ Listens port door0 end door = (door.port ≡ Some port) ⊎ ((end ≡ serve_end.
 
 -- A server served connections, with fillers that drew from these words. When all were left its passes knew the first part of both histories,
 -- with every entry that served a connection and every one of the workers. After that its passes made these entries and no others: none if the
--- door was told to take no more connections.
+-- server ended as the door took no more connections.
 pub record ServesAll {I O D W : Type 0} (serves : Serving I O D W) (first second : ℕ → ℕ) (state : D → DiskState) (to_come : W → ℕ → ℕ)
     (door0 : DoorState I O) (keys0 : KmsKnown D W) (names0 : NameKnown D) (port conns : ℕ) (end : ServeEnd) (door : DoorState I O) (keys : KmsKnown D W) (names : NameKnown D) : Type 0 where
   pub listens : Listens port door0 end door
@@ -32,4 +32,5 @@ pub record ServesAll {I O D W : Type 0} (serves : Serving I O D W) (first second
   pub called : List (KmsEntry D W)
   pub makes : MakesBoth state to_come names_then keys_then made called names keys
   pub ends_well : end ≡ serve_end.Served → EndsWell door0 door conns made called
+  pub closed : end ≡ serve_end.Closed → IsTrue door.closed
   pub no_round : end ≡ serve_end.Closed → (made ≡ []) × (called ≡ [])

@@ -5,7 +5,7 @@
 pub enum ServeEnd {
     /// As many connections were served as it was told.
     Served,
-    /// The door was told to take no more connections.
+    /// The door took no more connections.
     Closed,
     /// The door failed.
     DoorFault,

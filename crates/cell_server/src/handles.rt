@@ -25,7 +25,7 @@ impl<H: HangUp + Drop> SharedHandle<H> {
         )
     }
 
-    /// Tells the connection to end, as `HangUp::hang_up` does.
+    /// Ends the connection, as `HangUp::hang_up` does.
     pub fn hang_up<R: Wait>(&self, rt: &R) {
         if let Some(shared) = &self.shared {
             if let Some(handle) = shared.lock(rt).as_ref() {

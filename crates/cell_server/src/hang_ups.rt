@@ -1,4 +1,7 @@
-//! Telling connections to end.
+//! Hanging connections up.
+ghost use Rattle.std.specs.Prelude.{◌≤◌, ◌<◌, ◌+◌};
+ghost use Rattle.std.specs.VecDeque.{deque_len, deque_capacity};
+
 use crate::ends::ServeEnd;
 use crate::places::Places;
 use crate::running::Queue;
@@ -6,8 +9,8 @@ use server_parts::Door;
 use std::sync::Wait;
 use turns::Turns;
 
-/// How many moments the acceptor waits for a place before it tells a connection to end: half a second in
-/// all. Until then a client that has just connected can send its request.
+/// How many times the acceptor waits for a place, a moment each, before it hangs a connection up: half a
+/// second in all. Until then a client that has just connected can send its request.
 const PATIENCE: u32 = 10;
 
 /// Returns since when the connection at an index of the queue has waited for a request, if it waits.
@@ -37,22 +40,22 @@ fn longest_waiting<R: Wait, A: Door, S: Turns>(rt: &R, queue: &Queue<A, S>) -> O
     longest
 }
 
-/// Tells the connection at an index of the queue to end, if there is one.
+/// Hangs the connection at an index of the queue up, if there is one.
 fn hang_up_at<R: Wait, A: Door, S: Turns>(rt: &R, queue: &Queue<A, S>, index: usize) {
     if let Some(running) = queue.get(index) {
         running.hang_up(rt);
     }
 }
 
-/// Tells the connection that has waited longest for a request to end, if one waits.
+/// Hangs the connection up that has waited longest for a request, if one waits.
 fn hang_up_longest<R: Wait, A: Door, S: Turns>(rt: &R, queue: &Queue<A, S>) {
     if let Some(index) = longest_waiting::<R, A, S>(rt, queue) {
         hang_up_at::<R, A, S>(rt, queue, index);
     }
 }
 
-/// Takes a place for a connection. If none gets free for half a second, the connection that has waited
-/// longest for a request is told to end, and so on until there is one.
+/// Takes a place for a connection. If all places are taken for half a second, the connection that has
+/// waited longest for a request is hung up, and then the next one, until there is a place.
 pub fn take_place<R: Wait, A: Door, S: Turns>(rt: &R, places: &Places, queue: &Queue<A, S>) {
     let mut looks = 0u32;
     for _ in rt.forever() {
@@ -68,26 +71,52 @@ pub fn take_place<R: Wait, A: Door, S: Turns>(rt: &R, places: &Places, queue: &Q
     }
 }
 
-/// Tells the oldest connection to end.
-pub fn hang_up_oldest<R: Wait, A: Door, S: Turns>(rt: &R, queue: &Queue<A, S>) {
-    hang_up_at::<R, A, S>(rt, queue, 0);
+/// Returns whether the connection at an index of the queue has ended.
+fn has_ended<R: Wait, A: Door, S: Turns>(rt: &R, queue: &Queue<A, S>, index: usize) -> bool {
+    match queue.get(index) {
+        Some(running) => running.has_ended(rt),
+        None => false,
+    }
 }
 
-/// Tells all connections to end if the server ends before its time: if it did not accept as many as it
-/// was told.
+/// Returns how many connections at the front of the queue have ended.
+fn count_ended<R: Wait, A: Door, S: Turns>(rt: &R, queue: &Queue<A, S>) -> usize
+    ensures { result ≤ deque_len queue.now }
+{
+    for index in 0..queue.len() {
+        if !has_ended::<R, A, S>(rt, queue, index) {
+            return index;
+        }
+    }
+    queue.len()
+}
+
+/// Returns how many connections at the front of the queue to join before the next one is accepted:
+/// those that have ended. If none has, and the queue is full, the oldest is hung up and is the one to
+/// join.
+pub fn count_to_join<R: Wait, A: Door, S: Turns>(rt: &R, queue: &Queue<A, S>) -> usize
+    requires { 0 < deque_capacity queue.now }
+    ensures bound { result ≤ deque_len queue.now }
+    ensures room { deque_len queue.now < deque_capacity queue.now + result }
+{
+    let ended = count_ended::<R, A, S>(rt, queue);
+    if ended > 0 {
+        return ended;
+    }
+    if queue.len() < queue.capacity() {
+        return 0;
+    }
+    hang_up_at::<R, A, S>(rt, queue, 0);
+    1
+}
+
+/// Hangs all connections up if the server ends before its time: if it did not accept as many as it was
+/// told.
 pub fn hang_up_unserved<R: Wait, A: Door, S: Turns>(rt: &R, queue: &Queue<A, S>, end: ServeEnd) {
     if matches!(end, ServeEnd::Served) {
         return;
     }
     for index in 0..queue.len() {
         hang_up_at::<R, A, S>(rt, queue, index);
-    }
-}
-
-/// Returns whether the oldest connection has ended.
-pub fn oldest_has_ended<R: Wait, A: Door, S: Turns>(rt: &R, queue: &Queue<A, S>) -> bool {
-    match queue.front() {
-        Some(running) => running.has_ended(rt),
-        None => false,
     }
 }

@@ -3,16 +3,17 @@ ghost use Rattle.std.specs.Prelude.{◌≡◌, []};
 ghost use Rattle.hist_cell.specs.History.{own};
 ghost use Rattle.cell_server.specs.Connections.{EndsSo, ServesEnds};
 
-use crate::clerk::Clerk;
+use crate::context::ServeContext;
 use crate::handles::SharedHandle;
 use cell_desk::Notices;
+use cell_workers::MustJoin;
 use hk_base::{Ended, Gate, Sink, Source};
 use server_parts::{CloseInput, CloseOutput, Door, HangUp};
 use std::collections::VecDeque;
 use std::marker::Model;
 use std::snapshot::Snapshot;
 use std::sync::Wait;
-use std::thread::{Promise, PromisedHandle, Scope, Threads};
+use std::thread::{Promise, Scope, Threads};
 use turns::Turns;
 
 /// A connection that has ended: both ends, the passes that served it, and how it ended.
@@ -25,50 +26,57 @@ pub struct Done<I, O, K, N> {
     pub ended: Ended,
 }
 
-/// What a connection began with, which its thread promises to have served.
+/// What a connection begins with. Its thread promises to have served it.
 #[derive(Drop)]
-pub struct Begun<I, O, S: Turns> {
-    pub input: Snapshot<I>,
-    pub out: Snapshot<O>,
-    pub keys: Snapshot<S::Keys>,
-    pub names: Snapshot<S::Names>,
+pub struct ConnStart<I, O, S: Turns> {
+    input: Snapshot<I>,
+    out: Snapshot<O>,
+    keys: Snapshot<S::Keys>,
+    names: Snapshot<S::Names>,
 }
 
-impl<I: Source, O: Sink, S: Turns> Promise<Done<I, O, S::Keys, S::Names>> for Begun<I, O, S> {
+impl<I, O, S: Turns> Model for ConnStart<I, O, S> {
+    ghost use Rattle.cell_server.specs.Connections.{Start};
+
+    ghost Value = { Start I O S.D S.W };
+
+    ghost view = { λ s. record { input = s.input.value; out = s.out.value; keys = S.keys_seen s.keys.value; names = S.names_seen s.names.value } };
+}
+
+impl<I, O, S: Turns> ConnStart<I, O, S> {
+    /// What a connection with these ends and passes begins with.
+    fn of(input: &I, out: &O, keys: &S::Keys, names: &S::Names) -> ConnStart<I, O, S>
+        ensures { result ≡ record { input = input.now; out = out.now; keys = S.keys_seen keys.now; names = S.names_seen names.now } }
+    {
+        ConnStart {
+            input: Snapshot::of(input),
+            out: Snapshot::of(out),
+            keys: Snapshot::of(keys),
+            names: Snapshot::of(names),
+        }
+    }
+}
+
+impl<I: Source, O: Sink, S: Turns> Promise<Done<I, O, S::Keys, S::Names>> for ConnStart<I, O, S> {
     ghost use Rattle.cell_server.specs.Connections.{EndsSo, ServesEnds};
 
-    ghost kept_by = { λ begun done. EndsSo (ServesEnds I.left I.faults O.written O.faults)
-        (record { input = begun.input.value; out = begun.out.value; keys = S.keys_seen begun.keys.value; names = S.names_seen begun.names.value })
+    ghost kept_by = { λ start done. EndsSo (ServesEnds I.left I.faults O.written O.faults) start
         done.input done.out (S.keys_seen done.keys) (S.names_seen done.names) done.ended };
 }
 
 /// A connection that was begun. It cannot be dropped: its join returns both ends, the passes and how
 /// it ended. Contracts see what it began with.
 pub struct Running<I: Source, O: Sink, H: HangUp + Drop, S: Turns> {
-    input: Snapshot<I>,
-    out: Snapshot<O>,
-    keys: Snapshot<S::Keys>,
-    names: Snapshot<S::Names>,
     handle: SharedHandle<H>,
-    /// Its thread, or the finished work if no thread could be made.
-    work: Result<
-        PromisedHandle<Done<I, O, S::Keys, S::Names>, Begun<I, O, S>>,
-        Done<I, O, S::Keys, S::Names>,
-    >,
+    work: MustJoin<Done<I, O, S::Keys, S::Names>, ConnStart<I, O, S>>,
 }
 
 impl<I: Source, O: Sink, H: HangUp + Drop, S: Turns> Model for Running<I, O, H, S> {
-    ghost use Rattle.std.specs.Prelude.{◌≡◌, MatchResult};
-    ghost use Rattle.cell_server.specs.Connections.{EndsSo, ServesEnds, Start};
+    ghost use Rattle.cell_server.specs.Connections.{Start};
 
     ghost Value = { Start I O S.D S.W };
 
-    ghost view = { λ r. record { input = r.input.value; out = r.out.value; keys = S.keys_seen r.keys.value; names = S.names_seen r.names.value } };
-
-    ghost invariant = { λ r. MatchResult r.work
-        (λ thread. (thread.promise.input.value ≡ r.input.value) × (thread.promise.out.value ≡ r.out.value) × (thread.promise.keys.value ≡ r.keys.value) × (thread.promise.names.value ≡ r.names.value))
-        (λ done. EndsSo (ServesEnds I.left I.faults O.written O.faults)
-        (record { input = r.input.value; out = r.out.value; keys = S.keys_seen r.keys.value; names = S.names_seen r.names.value }) done.input done.out (S.keys_seen done.keys) (S.names_seen done.names) done.ended) };
+    ghost view = { λ r. r.work };
 }
 
 /// The connections that were begun, in the order in which they were accepted.
@@ -86,7 +94,7 @@ impl<
     /// have made no call.
     pub fn begin<'s, E, R: Wait + Sync + 's, G: Gate + Sync + 's, L: Notices + Sync + 's>(
         scope: &Scope<'s, E>,
-        clerk: &'s Clerk<'s, R, S, G, L>,
+        context: &'s ServeContext<'s, R, S, G, L>,
         input: I,
         out: O,
         handle: H,
@@ -104,35 +112,20 @@ impl<
         requires names { own (S.names_seen names).number (S.names_seen names).seen ≡ [] }
         ensures { result ≡ record { input = input; out = out; keys = S.keys_seen keys; names = S.names_seen names } }
     {
-        let promise: Begun<I, O, S> = Begun {
-            input: Snapshot::of(&input),
-            out: Snapshot::of(&out),
-            keys: Snapshot::of(&keys),
-            names: Snapshot::of(&names),
+        let start: ConnStart<I, O, S> = ConnStart::of(&input, &out, &keys, &names);
+        let promise = Snapshot::of(&start);
+        let (handle, theirs) = SharedHandle::pair(context.alloc, handle);
+        let serving = move || context.serve(input, out, theirs, keys, names);
+        let work = match scope.spawn_with(start, serving) {
+            Ok(thread) => MustJoin::of_thread(promise, thread),
+            Err(refused) => MustJoin::of_result(promise, (refused.value)()),
         };
-        let was_input = Snapshot::of(&input);
-        let was_out = Snapshot::of(&out);
-        let had_keys = Snapshot::of(&keys);
-        let had_names = Snapshot::of(&names);
-        let (handle, theirs) = SharedHandle::pair(clerk.alloc, handle);
-        let serving = move || clerk.serve(input, out, theirs, keys, names);
-        let work = match scope.spawn_with(promise, serving) {
-            Ok(thread) => Ok(thread),
-            Err(refused) => Err((refused.value)()),
-        };
-        Running {
-            input: was_input,
-            out: was_out,
-            keys: had_keys,
-            names: had_names,
-            handle,
-            work,
-        }
+        Running { handle, work }
     }
 }
 
 impl<I: Source, O: Sink, H: HangUp + Drop, S: Turns> Running<I, O, H, S> {
-    /// Tells the connection to end, as `HangUp::hang_up` does.
+    /// Ends the connection, as `HangUp::hang_up` does.
     pub fn hang_up<R: Wait>(&self, rt: &R) {
         self.handle.hang_up(rt);
     }
@@ -151,18 +144,8 @@ impl<I: Source, O: Sink, H: HangUp + Drop, S: Turns> Running<I, O, H, S> {
     pub fn join<R: Threads>(self, rt: &R) -> Done<I, O, S::Keys, S::Names>
         ensures { EndsSo (ServesEnds I.left I.faults O.written O.faults) self result.input result.out (S.keys_seen result.keys) (S.names_seen result.names) result.ended }
     {
-        let Running {
-            input: _,
-            out: _,
-            keys: _,
-            names: _,
-            handle,
-            work,
-        } = self;
+        let Running { handle, work } = self;
         drop(handle);
-        match work {
-            Ok(thread) => thread.join(rt),
-            Err(done) => done,
-        }
+        work.join(rt)
     }
 }

@@ -4,9 +4,9 @@ ghost use Rattle.hk_base.specs.Faults.{Rose};
 ghost use Rattle.cell_server.specs.Connections.{ServesEnds};
 ghost use Rattle.cell_server.specs.Serves.{ServesAll};
 
-use crate::connections::serve_with_workers;
+use crate::beside::serve_with_workers;
 use crate::ends::ServeEnd;
-use crate::round::last_round;
+use cell_workers::last_round;
 use hk_base::{Gate, Words};
 use server_parts::Door;
 use std::alloc::Global;
@@ -60,13 +60,12 @@ fn serve_opened<
 
 /// Serves both services over connections: opens the door on `port`, and accepts `conns` connections.
 /// Each is served in a thread of its own, at most `places` at a time, and left at the door once it
-/// has ended, in the order in which they came. A connection that comes while no place is free
-/// gets that of the one that has waited longest for a request, which is told to end. Beside them run
-/// two fillers, which draw from `first` and `second`, two batch workers and an updater.
+/// has ended, in the order in which they came. If all places are taken for half a second while a
+/// connection waits for one, the connection that has waited longest for a request is ended. Beside them
+/// run two fillers, which draw from `first` and `second`, two batch workers and an updater.
 ///
 /// If all connections were served, a last round then finishes the re-encryptions that the workers left.
-/// If the door fails or takes no more connections, those that run are told to end, and there is no last
-/// round. It may wait for the door, the connections, the gate and the locks, and waits for ever if
+/// If the door fails or takes no more connections, those that run are ended, and there is no last round. It may wait for the door, the connections, the gate and the locks, and waits for ever if
 /// `places` is 0.
 pub fn serve_all<
     R: Threads + Wait + Sync,

@@ -101,7 +101,7 @@ fn a_closed_connection_ends_for_its_client(rt: HostRuntime) {
     door.leave(input, out, Ended::Wire);
 }
 
-/// A connection that is told to end in the middle of a request reads and answers it, and then ends.
+/// A connection that is hung up in the middle of a request reads and answers it, and then ends.
 #[test]
 fn a_request_is_answered_before_the_end(rt: HostRuntime) {
     let mut door = TcpDoor::new(&rt, rt.alloc(), new_alarm(&rt));
@@ -127,10 +127,35 @@ fn a_request_is_answered_before_the_end(rt: HostRuntime) {
     check_answer(&rt, stream);
 }
 
+/// A request that has come when its connection is hung up is answered. It is the last one.
+#[test]
+fn a_request_that_has_come_is_answered(rt: HostRuntime) {
+    let mut door = TcpDoor::new(&rt, rt.alloc(), new_alarm(&rt));
+    assert_eq!(&rt; door.open(0), Ok(()));
+    let port = door.port().expect(&rt, "a port");
+    let mut stream = call(&rt, port);
+    let Ok(Some(came)) = door.accept() else {
+        rt.abort()
+    };
+    let Accepted {
+        mut input,
+        mut out,
+        handle,
+    } = came;
+    handle.hang_up();
+    check_read(&rt, &mut input, b"ping");
+    assert_eq!(&rt; out.write(b"pong"), Ok(4));
+    stream.write_all(b"more").expect(&rt, "a write");
+    assert_eq!(&rt; input.read(&mut [0u8; 4]), Ok(0));
+    out.close_output();
+    check_answer(&rt, stream);
+    door.leave(input, out, Ended::End);
+}
+
 /// How often a wait looks again, a millisecond later each time.
 const LOOKS: u32 = 20_000;
 
-/// Tells a connection to end once it waits. Returns `false` if it did not wait in time.
+/// Hangs a connection up once it waits. Returns `false` if it did not wait in time.
 fn hang_up_waiting<C: Clock>(clock: &C, handle: &TcpHandle) -> bool {
     for _ in 0..LOOKS {
         if handle.waits_since().is_some() {
@@ -142,8 +167,8 @@ fn hang_up_waiting<C: Clock>(clock: &C, handle: &TcpHandle) -> bool {
     false
 }
 
-/// Answers a request, and waits for the next one until it is told to end.
-fn wait_until_told<C: Clock>(
+/// Answers a request, and waits for the next one until the connection is hung up.
+fn wait_until_hung_up<C: Clock>(
     rt: &impl Abort,
     input: &mut TcpSource<'_, C>,
     out: &mut TcpSink<'_, C>,
@@ -153,9 +178,9 @@ fn wait_until_told<C: Clock>(
     assert_eq!(rt; input.read(&mut [0u8; 4]), Ok(0));
 }
 
-/// A connection that waits for a request ends at once when it is told to.
+/// A connection that waits for a request ends at once when it is hung up.
 #[test]
-fn a_waiting_connection_is_told_to_end(rt: HostRuntime) {
+fn a_waiting_connection_is_hung_up(rt: HostRuntime) {
     let mut door = TcpDoor::new(&rt, rt.alloc(), new_alarm(&rt));
     assert_eq!(&rt; door.open(0), Ok(()));
     let port = door.port().expect(&rt, "a port");
@@ -168,12 +193,12 @@ fn a_waiting_connection_is_told_to_end(rt: HostRuntime) {
         mut out,
         handle,
     } = came;
-    let (told, _) = thread::join(
+    let (waited, _) = thread::join(
         &rt,
         || hang_up_waiting(&rt, &handle),
-        || wait_until_told(&rt, &mut input, &mut out),
+        || wait_until_hung_up(&rt, &mut input, &mut out),
     );
-    assert!(&rt; told);
+    assert!(&rt; waited);
     assert!(&rt; handle.waits_since().is_none());
     door.leave(input, out, Ended::End);
     assert!(&rt; handle.has_ended());

@@ -1,6 +1,0 @@
-use Rattle.std.proofs.Common.{take}
-use Rattle.cell_server.proofs.RoundLemmas.{Asking}
-use Rattle.cell_server.proofs.asks.going_zones.Given as goal
-
-abbrev pub invariant-loop-zone : goal.invariant-loop-zone
-invariant-loop-zone g l = Asking g.S.Turns.state (g.S.Turns.names_seen l.fn.names) (take l.zone-index l.fn.zones) l.going (g.S.Turns.names_seen l.names)

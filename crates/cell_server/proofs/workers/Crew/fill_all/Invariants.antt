@@ -1,5 +1,0 @@
-use Rattle.cell_server.specs.Work.{Fills}
-use Rattle.cell_server.proofs.workers.Crew.fill_all.Given as goal
-
-abbrev pub invariant-loop : goal.invariant-loop
-invariant-loop g l = Fills (g.V.Words.to_come l.fn.words) (g.V.Words.to_come l.words) (g.S.Turns.keys_seen l.fn.keys) (g.S.Turns.keys_seen l.keys)

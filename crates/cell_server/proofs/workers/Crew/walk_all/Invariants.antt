@@ -1,7 +1,0 @@
-use Rattle.std.proofs.Common.{[]}
-use Rattle.cell_server.specs.Work.{IsBatchCall, IsNameWork, Works}
-use Rattle.cell_server.proofs.workers.Crew.walk_all.Given as goal
-
-abbrev pub invariant-loop : goal.invariant-loop
-invariant-loop g l =
-    Works IsBatchCall (g.S.Turns.keys_seen l.fn.keys) [] (g.S.Turns.keys_seen l.keys) × Works IsNameWork (g.S.Turns.names_seen l.fn.names) [] (g.S.Turns.names_seen l.names)

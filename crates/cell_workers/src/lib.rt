@@ -1,0 +1,18 @@
+//! The workers beside the connections of a server, and the last round after them. docs/threads.md has
+//! the whole picture.
+#![tactic(auto)]
+
+mod asks;
+mod channels;
+mod must_join;
+mod paths;
+mod round;
+mod starting;
+mod walks;
+mod workers;
+
+pub use channels::{WorkReceivers, WorkSenders, open_channels};
+pub use must_join::MustJoin;
+pub use round::last_round;
+pub use starting::PoolStart;
+pub use workers::WorkerPool;
