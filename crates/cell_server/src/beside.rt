@@ -96,7 +96,9 @@ fn serve_in_scope<
                 (A.state door.entry.now) (S.keys_seen keys.entry.now) (S.names_seen names.entry.now) (A.state result.0.now) (S.keys_seen result.1.now) (S.names_seen result.2.now)
                 × EndsServing (A.state door.entry.now) (A.faults door.entry.now) conns result.3 (A.state result.0.now) (A.faults result.0.now) }
         {
-            let end = serve_beside(context, pool, scope, door, keys, names, conns, first, second);
+            let end = serve_beside(
+                context, pool, scope, door, keys, names, conns, first, second,
+            );
             (door, keys, names, end)
         },
     );

@@ -82,7 +82,9 @@ pub struct WorkReceivers<K: Drop> {
 }
 
 /// Opens the channels to the workers.
-pub fn open_channels<K: Drop>(alloc: Global) -> Result<(WorkSenders<K>, WorkReceivers<K>), NoMemory> {
+pub fn open_channels<K: Drop>(
+    alloc: Global,
+) -> Result<(WorkSenders<K>, WorkReceivers<K>), NoMemory> {
     let (low, lows) = SharedSender::open(alloc)?;
     let (tasks, zones) = SharedSender::open(alloc)?;
     let (updates, replies) = SharedSender::open(alloc)?;

@@ -58,7 +58,7 @@ impl<'a, R: Wait, K: Drop, S: Turns<Keys = K>, G: Gate> WorkerPool<'a, R, S, G, 
         unreachable!()
     }
 
-    /// Delivers what came of a batch, and then sends the path of its zone again. If the delivery is
+    /// Delivers the reply for a batch, and then sends the path of its zone again. If the delivery is
     /// refused, it is not tried again, and the batch stays outstanding.
     fn deliver(&self, names: &mut S::Names, update: Update<K>)
         ensures { Works IsNameWork (S.names_seen names.old) [] (S.names_seen names.new) }
