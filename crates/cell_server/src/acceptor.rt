@@ -108,8 +108,8 @@ where
 }
 
 /// Accepts a connection, waits for a place for it, and begins it. The queue must have room for it.
-/// If no place becomes free for half a second, the connection that has waited longest for a request is
-/// hung up. Returns how the server ends if no connection came.
+/// If all places are taken for half a second, the connection that has waited longest for a request is
+/// ended. Returns how the server ends if no connection came.
 fn accept_one<
     's,
     E,

@@ -55,7 +55,7 @@ fn hang_up_longest<R: Wait, A: Door, S: Turns>(rt: &R, queue: &Queue<A, S>) {
 }
 
 /// Takes a place for a connection. If all places are taken for half a second, the connection that has
-/// waited longest for a request is hung up, and then the next one, until there is a place.
+/// waited longest for a request is ended, and then the next one, until there is a place.
 pub fn take_place<R: Wait, A: Door, S: Turns>(rt: &R, places: &Places, queue: &Queue<A, S>) {
     let mut looks = 0u32;
     for _ in rt.forever() {

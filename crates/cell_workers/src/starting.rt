@@ -45,17 +45,16 @@ impl<V: Words, S: Turns> Promise<(S::Keys, S::Names)> for PoolStart<V, S> {
 }
 
 impl<
-    'a,
-    R: Threads + Wait + Sync,
-    K: Drop + Send,
-    N: Drop + Send,
-    S: Turns<Keys = K, Names = N> + Sync,
-    G: Gate + Sync,
-> WorkerPool<'a, R, S, G, K> {
+    's,
+    R: Threads + Wait + Sync + 's,
+    K: Drop + Send + 's,
+    N: Drop + Send + 's,
+    S: Turns<Keys = K, Names = N> + Sync + 's,
+    G: Gate + Sync + 's,
+> WorkerPool<'s, R, S, G, K> {
     /// Starts the workers in a thread of their own. If none can be made, the channels are closed, so
-    /// that nothing is sent that no worker would receive, and the result is that of workers which found
-    /// nothing to do.
-    pub fn start<'s, E, V: Words + Send + Drop + 's>(
+    /// that nothing is sent which no worker would receive, and the workers find nothing to do.
+    pub fn start<E, V: Words + Send + Drop + 's>(
         &'s self,
         scope: &Scope<'s, E>,
         keys: K,
@@ -63,12 +62,6 @@ impl<
         first: V,
         second: V,
     ) -> MustJoin<(K, N), PoolStart<V, S>>
-    where
-        R: 's,
-        K: 's,
-        N: 's,
-        S: 's,
-        G: 's,
         ensures keys { result.keys.value ≡ keys }
         ensures names { result.names.value ≡ names }
         ensures first { result.first.value ≡ first }
