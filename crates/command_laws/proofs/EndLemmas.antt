@@ -12,13 +12,13 @@ use Rattle.prop_text.specs.declared.props.Props.{Props}
 use Rattle.prop_text.specs.Properties.{IsProps}
 use Rattle.world_run.specs.Starts.{FailsAt, OpensBoth}
 use Rattle.world_run.specs.World.{WorldState}
-use Rattle.hkms_commands.specs.declared.props.PropsFault.{PropsFault}
-use Rattle.hkms_commands.specs.declared.props.PropsFault.TheVariants as props_fault
-use Rattle.hkms_commands.specs.declared.replay.ReplayEnd.{ReplayEnd}
-use Rattle.hkms_commands.specs.declared.replay.ReplayEnd.TheVariants as ended
-use Rattle.hkms_commands.specs.Orders.{Shows}
-use Rattle.hkms_commands.specs.Properties.{HasPropsFault, ReadsProperties}
-use Rattle.hkms_commands.specs.Replay.{IsFront, Says, ended_by, ended_by_props, last_line, status_of}
+use Rattle.command_io.specs.declared.props.PropsFault.{PropsFault}
+use Rattle.command_io.specs.declared.props.PropsFault.TheVariants as props_fault
+use Rattle.command_io.specs.declared.ends.ReplayEnd.{ReplayEnd}
+use Rattle.command_io.specs.declared.ends.ReplayEnd.TheVariants as ended
+use Rattle.command_io.specs.Ends.{Shows, ended_by, ended_by_props, last_line, status_of}
+use Rattle.command_io.specs.Properties.{HasPropsFault, ReadsProperties}
+use Rattle.hkms_commands.specs.Replay.{IsFront, Says}
 use Rattle.hkms_commands.specs.Run.{History, Runs, faults_after}
 use Rattle.command_laws.specs.Complete.{NeverFails}
 use Rattle.command_laws.specs.Good.{Counts, GoodDisk, GoodKeys, GoodProperties, HasCauses, NoneRose}

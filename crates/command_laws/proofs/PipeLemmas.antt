@@ -14,7 +14,7 @@ use Rattle.hk_serve.specs.Exchanges.{Exchange, ReadsInOrder, Stand, bytes_in}
 use Rattle.hk_serve.specs.Served.{Served}
 use Rattle.prop_text.specs.declared.props.Props.{Props}
 use Rattle.world_run.specs.World.{first_world}
-use Rattle.hkms_commands.specs.declared.replay.ReplayEnd.TheVariants as replayed
+use Rattle.command_io.specs.declared.ends.ReplayEnd.TheVariants as replayed
 use Rattle.hkms_commands.specs.Pipe.{Asks, CannotOpen, Connects, Converses, Pipe, PipesUnder, RefusesProperties, connection_status}
 use Rattle.hkms_commands.specs.Run.{History}
 use Rattle.command_laws.specs.Complete.{ConnectsToEnd, PipeIsComplete}

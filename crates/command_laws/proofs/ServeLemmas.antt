@@ -13,11 +13,10 @@ use Rattle.server_run.specs.declared.run.RunEnd.{RunEnd}
 use Rattle.server_run.specs.declared.run.RunEnd.TheVariants as run_end
 use Rattle.hk_base.specs.Writing.{WroteFront}
 use Rattle.std.specs.Io.KnownBytes.{Appends}
-use Rattle.hkms_commands.specs.declared.replay.ReplayEnd.{ReplayEnd}
-use Rattle.hkms_commands.specs.declared.replay.ReplayEnd.TheVariants as replayed
-use Rattle.hkms_commands.specs.Replay.{ended_by, last_line, status_of}
-use Rattle.hkms_commands.specs.Serve.{Reports, ReportsRun, RefusesToServe, RunsUnder, Serves, ServesUnder}
-use Rattle.hkms_commands.specs.Steps.{Closes}
+use Rattle.command_io.specs.declared.ends.ReplayEnd.{ReplayEnd}
+use Rattle.command_io.specs.declared.ends.ReplayEnd.TheVariants as replayed
+use Rattle.command_io.specs.Ends.{Closes, Reports, ended_by, last_line, status_of}
+use Rattle.hkms_commands.specs.Serve.{ReportsRun, RefusesToServe, RunsUnder, Serves, ServesUnder}
 use Rattle.command_laws.specs.Complete.{ServeIsComplete}
 use Rattle.command_laws.specs.Good.{Counts, GoodProperties, GoodYard}
 use Rattle.command_laws.proofs.LogLemmas.{keys_not_damaged, keys_not_spent, names_not_damaged, names_not_spent}

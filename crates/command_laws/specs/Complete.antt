@@ -11,13 +11,14 @@ use Rattle.server_parts.specs.Doors.{DoorState}
 use Rattle.server_parts.specs.Yards.{YardState}
 use Rattle.cell_server.specs.Connections.{Serving}
 use Rattle.server_run.specs.declared.run.RunEnd.TheVariants as run_end
-use Rattle.hkms_commands.specs.declared.replay.ReplayEnd.{ReplayEnd}
-use Rattle.hkms_commands.specs.declared.replay.ReplayEnd.TheVariants as replay_end
-use Rattle.hkms_commands.specs.Lines.{lines_of}
+use Rattle.command_io.specs.declared.ends.ReplayEnd.{ReplayEnd}
+use Rattle.command_io.specs.declared.ends.ReplayEnd.TheVariants as replay_end
+use Rattle.command_io.specs.Lines.{lines_of}
 use Rattle.hkms_commands.specs.Orders.{WantsMemory}
 use Rattle.hkms_commands.specs.Pipe.{Converses, Pipe}
 use Rattle.hkms_commands.specs.PlayedLines.{PlayedLine, events_of_lines, lines_in, transcript}
-use Rattle.hkms_commands.specs.Replay.{Played, Replay, status_of}
+use Rattle.command_io.specs.Ends.{status_of}
+use Rattle.hkms_commands.specs.Replay.{Played, Replay}
 use Rattle.hkms_commands.specs.Run.{History, faults_after}
 use Rattle.hkms_commands.specs.Serve.{RunsUnder, Serves}
 use Rattle.command_laws.specs.Good.{Counts, GoodDisk, GoodLines, GoodProperties, GoodRequests, GoodYard, HasCauses, NoneRose}

@@ -16,7 +16,7 @@ use Rattle.prop_text.specs.declared.props.Props.{Props}
 use Rattle.prop_text.specs.Properties.{IsProps}
 use Rattle.replay_text.specs.Events.{IsBad}
 use Rattle.server_parts.specs.Yards.{YardState}
-use Rattle.hkms_commands.specs.Lines.{lines_of}
+use Rattle.command_io.specs.Lines.{lines_of}
 use Rattle.hkms_commands.specs.Replay.{longest_input}
 
 -- The source tells its text, and that is properties.

@@ -16,8 +16,8 @@ use Rattle.world_run.specs.Linked.{DrawsApart, LinkedWorld, WordsApart}
 use Rattle.world_run.specs.Starts.{FailsAt, OpensBoth}
 use Rattle.world_run.specs.World.{RunningWorld, WorldState, first_world, world_of}
 use Rattle.world_run.proofs.StartLemmas.{both-for, fails-at, fails-so}
-use Rattle.hkms_commands.specs.declared.replay.ReplayEnd.TheVariants as ended
-use Rattle.hkms_commands.specs.Replay.{ended_by}
+use Rattle.command_io.specs.declared.ends.ReplayEnd.TheVariants as ended
+use Rattle.command_io.specs.Ends.{ended_by}
 use Rattle.hkms_commands.specs.Logs.{HiddenBefore, LeftByStop, SurvivesLast, SurvivesUntil}
 use Rattle.hkms_commands.specs.Run.{FilesOpen, History, IsHidden, RestsAfter, StayApart, SurvivesIn}
 use Rattle.hkms_commands.proofs.LivedLemmas.{leaves_on, weaker}

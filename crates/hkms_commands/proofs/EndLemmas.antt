@@ -20,21 +20,22 @@ use Rattle.world_run.specs.Keeps.{LeftByRestart, is_restart, last_opening}
 use Rattle.world_run.specs.Linked.{LinkedWorld}
 use Rattle.world_run.specs.Own.{SurvivesRestart}
 use Rattle.world_run.specs.World.{WorldState, world_of}
-use Rattle.hkms_commands.specs.declared.lines.LineEnd.{LineEnd}
-use Rattle.hkms_commands.specs.declared.lines.LineEnd.TheVariants as line_end
-use Rattle.hkms_commands.specs.declared.replay.ReplayEnd.{ReplayEnd}
-use Rattle.hkms_commands.specs.declared.replay.ReplayEnd.TheVariants as ended
+use Rattle.command_io.specs.declared.lines.LineEnd.{LineEnd}
+use Rattle.command_io.specs.declared.lines.LineEnd.TheVariants as line_end
+use Rattle.command_io.specs.declared.ends.ReplayEnd.{ReplayEnd}
+use Rattle.command_io.specs.declared.ends.ReplayEnd.TheVariants as ended
 use Rattle.hkms_commands.specs.declared.stage.LineOutcome.{LineOutcome}
 use Rattle.hkms_commands.specs.declared.stage.LineOutcome.TheVariants.{Played, BadLine, Unread, Untold, Unwritten, Unopened}
-use Rattle.hkms_commands.specs.Lines.{is_line, is_lf, line_used, lines_of, text_of}
+use Rattle.command_io.specs.Lines.{is_line, is_lf, line_used, lines_of, text_of}
 use Rattle.hkms_commands.specs.Logs.{LeftByStop, ReadsAs, SurvivesStop}
 use Rattle.hkms_commands.specs.PlayedLines.{PlayedLine, events_of_lines, lines_in, transcript}
 use Rattle.hkms_commands.specs.Run.{History, hidden_in, logged_in, world_after}
-use Rattle.hkms_commands.specs.Replay.{BadNext, BeginsWithin, ComesNext, CutAt, HasProperties, IsCut, IsSpent, IsPrinted, NextSpells, ReadsAt, RestartStops, Starts, Stops, ended_by, longest_input}
+use Rattle.command_io.specs.Ends.{ended_by}
+use Rattle.hkms_commands.specs.Replay.{BadNext, BeginsWithin, ComesNext, CutAt, HasProperties, IsCut, IsSpent, IsPrinted, NextSpells, ReadsAt, RestartStops, Starts, Stops, longest_input}
 use Rattle.hkms_commands.specs.Steps.{Caused, HasLists, LinePlayed, Next, NextSo, PlaysEvent, PlaysSo, Ran, Read, Stand, StaysQuiet, StopsAtRestart, StopsReading, Untouched, View, counts, end_of_play}
 use Rattle.hkms_commands.proofs.HistoryLemmas.{Begin, Course, SoFar, count_more, course_event, course_quiet, course_untouched, event_line, quiet_line, so_far_event, so_far_quiet}
 use Rattle.hkms_commands.proofs.LivedLemmas.{Lived, has_lists, leaves_on, rests_after, run_on, tells_now, weaker}
-use Rattle.hkms_commands.proofs.SplitLemmas.{split_text, split_last, split_on, split_ended, parts, count_lf}
+use Rattle.command_io.proofs.SplitLemmas.{split_text, split_last, split_on, split_ended, parts, count_lf}
 
 -- the lines of the input
 

@@ -18,12 +18,13 @@ use Rattle.world_run.specs.Promise.{In}
 use Rattle.world_run.specs.World.{WorldState, first_world}
 use Rattle.world_run.proofs.LawLemmas.{sound-open}
 use Rattle.world_run.proofs.PastLemmas.{deposit-past, draw-past, serve-past}
-use Rattle.hkms_commands.specs.declared.replay.ReplayEnd.{ReplayEnd}
+use Rattle.command_io.specs.declared.ends.ReplayEnd.{ReplayEnd}
 use Rattle.hkms_commands.specs.Headline.{ConnectionKeepsFiles, HasVerdict, Headline, ImageKept, IsKnownLater, IsPart, KeepsFiles, NothingHappened, WorldKept, known_after}
 use Rattle.hkms_commands.specs.Logs.{HiddenBefore, NoRestart, OnDisk, SurvivesLast, SurvivesUntil, opened_logs}
 use Rattle.hkms_commands.specs.Pipe.{Converses, Pipe, PipeUnder}
 use Rattle.hkms_commands.specs.PlayedLines.{PlayedLine, events_of_lines, lines_in}
-use Rattle.hkms_commands.specs.Replay.{CutAt, Played, Replay, ReplayUnder, status_of}
+use Rattle.command_io.specs.Ends.{status_of}
+use Rattle.hkms_commands.specs.Replay.{CutAt, Played, Replay, ReplayUnder}
 use Rattle.hkms_commands.specs.Run.{EventRuns, FilesOpen, Happened, History, IsHidden, Runs, StayApart, SurvivesIn, behind, drawn_in, faults_after, hidden_in, world_after}
 use Rattle.hkms_commands.proofs.VerdictLemmas.{step_judged}
 

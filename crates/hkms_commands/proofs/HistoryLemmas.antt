@@ -7,11 +7,11 @@ use Rattle.hk_base.specs.Disk.{DiskState}
 use Rattle.prop_text.specs.declared.lines.PropLine.{PropLine}
 use Rattle.replay_text.specs.Transcript.{line_text}
 use Rattle.world_run.specs.World.{RunningWorld}
-use Rattle.hkms_commands.specs.Lines.{is_line, text_of}
+use Rattle.command_io.specs.Lines.{is_line, text_of}
 use Rattle.hkms_commands.specs.PlayedLines.{AreSpelled, PlayedLine, events_of_lines, lines_in, transcript}
 use Rattle.hkms_commands.specs.Steps.{PlaysEvent, Stand, StaysQuiet, Untouched, View}
 use Rattle.hkms_commands.proofs.LivedLemmas.{Lived, happened_in, lived_more, lived_nothing, lived_untouched}
-use Rattle.hkms_commands.proofs.SplitLemmas.{text_more, whole_more}
+use Rattle.command_io.proofs.SplitLemmas.{text_more, whole_more}
 
 -- the state in which a replay began: the world, the words to come, what was left to read, and what was written
 pub record Begin : Type 0 where

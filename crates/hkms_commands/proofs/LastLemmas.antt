@@ -16,16 +16,17 @@ use Rattle.world_run.specs.Acknowledged.{Acknowledged, LeavesBoth, RunBoth, also
 use Rattle.world_run.specs.Keeps.{Begins, LeftByStarts}
 use Rattle.world_run.specs.Starts.{FailsAt, OpensBoth}
 use Rattle.world_run.specs.World.{RunningWorld, WorldState, first_world}
-use Rattle.hkms_commands.specs.declared.replay.ReplayEnd.{ReplayEnd}
-use Rattle.hkms_commands.specs.declared.replay.ReplayEnd.TheVariants as ended
-use Rattle.hkms_commands.specs.declared.props.PropsFault.{PropsFault}
-use Rattle.hkms_commands.specs.declared.props.PropsFault.TheVariants as props_fault
-use Rattle.hkms_commands.specs.Properties.{HasPropsFault, ReadsProperties}
+use Rattle.command_io.specs.declared.ends.ReplayEnd.{ReplayEnd}
+use Rattle.command_io.specs.declared.ends.ReplayEnd.TheVariants as ended
+use Rattle.command_io.specs.declared.props.PropsFault.{PropsFault}
+use Rattle.command_io.specs.declared.props.PropsFault.TheVariants as props_fault
+use Rattle.command_io.specs.Properties.{HasPropsFault, ReadsProperties}
 use Rattle.hkms_commands.specs.Logs.{OnDisk, opened_logs}
 use Rattle.hkms_commands.specs.PlayedLines.{events_of_lines, lines_in, transcript}
 use Rattle.hkms_commands.specs.Run.{History, Runs, logged_in, world_after}
-use Rattle.hkms_commands.specs.Replay.{CutAt, IsPrinted, Played, ReadsAt, Replay, ReplayUnder, RestartStops, Says, ended_by, ended_by_props, ended_by_text, last_line, status_of}
-use Rattle.hkms_commands.specs.Steps.{Caused, Closes, Ran}
+use Rattle.command_io.specs.Ends.{Closes, ended_by, ended_by_props, ended_by_text, last_line, status_of}
+use Rattle.hkms_commands.specs.Replay.{CutAt, IsPrinted, Played, ReadsAt, Replay, ReplayUnder, RestartStops, Says}
+use Rattle.hkms_commands.specs.Steps.{Caused, Ran}
 use Rattle.hkms_commands.proofs.BeganLemmas.{apart_kept, last_kept, promise_kept, survives_kept}
 use Rattle.hkms_commands.proofs.LivedLemmas.{tells_now}
 

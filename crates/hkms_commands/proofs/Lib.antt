@@ -8,9 +8,7 @@ mod LastLemmas
 pub mod LivedLemmas
 mod OrderLemmas
 mod PipeLemmas
-mod PropsLemmas
 mod SeedLemmas
 pub mod ServeLemmas
-pub mod SplitLemmas
 pub mod StageLemmas
 pub mod VerdictLemmas

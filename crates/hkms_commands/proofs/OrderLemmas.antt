@@ -11,11 +11,11 @@ use Rattle.command_line.specs.declared.order.OrderFault.TheVariants.{Usage, NoMe
 use Rattle.hk_base.specs.Disk.{DiskState, Tells}
 use Rattle.world_run.specs.Ledger.{Past}
 use Rattle.world_run.specs.Linked.{StartsSound}
-use Rattle.hkms_commands.specs.declared.replay.ReplayEnd.{ReplayEnd}
+use Rattle.command_io.specs.declared.ends.ReplayEnd.{ReplayEnd}
 use Rattle.hkms_commands.specs.Headline.{ConnectionKeepsFiles, KeepsFiles}
-use Rattle.hkms_commands.specs.Orders.{ByLogs, Obeys, Shows, ShowsText, UsesDisk, UsesYard, WantsMemory}
+use Rattle.command_io.specs.Ends.{Shows, status_of}
+use Rattle.hkms_commands.specs.Orders.{ByLogs, Obeys, ShowsText, UsesDisk, UsesYard, WantsMemory}
 use Rattle.hkms_commands.specs.Pipe.{Pipe as Pipes}
-use Rattle.hkms_commands.specs.Replay.{status_of}
 use Rattle.hkms_commands.specs.Replay.{Replay as Replays}
 use Rattle.hkms_commands.proofs.HeadlineLemmas.{Ends, Unmoved, connection_keeps, replay_keeps, unmoved_keeps}
 

@@ -19,11 +19,11 @@ use Rattle.hk_serve.specs.Transactions.{Transaction}
 use Rattle.world_desk.specs.Orders.{AnsweredEvent, Follow, IsDrive, IsOrder, submitted}
 use Rattle.world_desk.specs.Worlds.{DrivesOn, Happens, LeadsOn, Passes, events_in}
 use Rattle.http_wire.specs.Reading.{ahead}
-use Rattle.hkms_commands.specs.declared.replay.ReplayEnd.{ReplayEnd}
-use Rattle.hkms_commands.specs.declared.replay.ReplayEnd.TheVariants as replayed
+use Rattle.command_io.specs.declared.ends.ReplayEnd.{ReplayEnd}
+use Rattle.command_io.specs.declared.ends.ReplayEnd.TheVariants as replayed
 use Rattle.hkms_commands.specs.Pipe.{Asks, Converses, Pipe, PipeUnder, answered_in, connection_status}
 use Rattle.hkms_commands.specs.Logs.{NoRestart, opened_logs}
-use Rattle.hkms_commands.specs.Replay.{ended_by, ended_by_props, status_of}
+use Rattle.command_io.specs.Ends.{ended_by, ended_by_props, status_of}
 use Rattle.hkms_commands.specs.Run.{Happened, History, Runs, world_after}
 use Rattle.hkms_commands.specs.Steps.{HasLists}
 use Rattle.hkms_commands.proofs.BeganLemmas.{apart_kept, last_kept, promise_kept, survives_kept}

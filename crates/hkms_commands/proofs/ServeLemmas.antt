@@ -14,10 +14,11 @@ use Rattle.cell_server.specs.Connections.{Serving}
 use Rattle.server_run.specs.Runs.{EndsAs}
 use Rattle.server_run.specs.declared.run.RunEnd.{RunEnd}
 use Rattle.server_run.specs.declared.run.RunEnd.TheVariants as run_end
-use Rattle.hkms_commands.specs.declared.replay.ReplayEnd.{ReplayEnd}
+use Rattle.command_io.specs.declared.ends.ReplayEnd.{ReplayEnd}
 use Rattle.hkms_commands.specs.Orders.{LeavesServing}
-use Rattle.hkms_commands.specs.Properties.{ReadsProperties}
-use Rattle.hkms_commands.specs.Serve.{Reports, ReportsRun, Serves, generator_of, words_after}
+use Rattle.command_io.specs.Properties.{ReadsProperties}
+use Rattle.command_io.specs.Ends.{Reports}
+use Rattle.hkms_commands.specs.Serve.{ReportsRun, Serves, generator_of, words_after}
 use Rattle.hkms_commands.proofs.OrderLemmas.{OrderRead, not_shown}
 use Rattle.hkms_commands.proofs.PipeLemmas.{replay_is_no_usage}
 use Rattle.hkms_commands.proofs.SeedLemmas.{later}

@@ -32,11 +32,12 @@ use Rattle.world_run.specs.Ledger.{Draw, Ledger, Past, Starts, drawn_before, pas
 use Rattle.world_run.specs.Linked.{DrawsApart, SoundFiles, StartsSound, WordsApart}
 use Rattle.world_run.specs.Promise.{FilesOpen, In}
 use Rattle.world_run.specs.World.{WorldState, first_world, numbered}
-use Rattle.hkms_commands.specs.declared.replay.ReplayEnd.{ReplayEnd}
+use Rattle.command_io.specs.declared.ends.ReplayEnd.{ReplayEnd}
 use Rattle.hkms_commands.specs.Pipe.{Converses, connection_status}
 use Rattle.hkms_commands.specs.PlayedLines.{events_of_lines}
-use Rattle.hkms_commands.specs.Properties.{ReadsProperties}
-use Rattle.hkms_commands.specs.Replay.{PlaysOn, status_of}
+use Rattle.command_io.specs.Properties.{ReadsProperties}
+use Rattle.command_io.specs.Ends.{status_of}
+use Rattle.hkms_commands.specs.Replay.{PlaysOn}
 use Rattle.hkms_commands.specs.Run.{Happened, History, hidden_in, world_after}
 
 -- The promise on files, for what is known of the draws, rows of keys and a table of files: the encrypted key of each zone file, live or

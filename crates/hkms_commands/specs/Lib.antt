@@ -1,5 +1,3 @@
-pub mod Lines
-pub mod Properties
 pub mod Run
 pub mod Logs
 pub mod PlayedLines

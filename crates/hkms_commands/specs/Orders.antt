@@ -1,17 +1,12 @@
 -- What the words of a command line bring about.
-use Rattle.std.specs.Prelude.{◌≡◌, ◌⊎◌, ⊤, ℕ, List, codes, Option, Result, Ok, Err, string_bytes}
-use Rattle.std.specs.Io.KnownBytes.{Appends}
-use Rattle.hk_base.specs.Writing.{WroteFront}
+use Rattle.std.specs.Prelude.{◌⊎◌, ⊤, ℕ, List, codes, Option, Result, Ok, Err, string_bytes}
 use Rattle.clap.specs.Words.{Text}
+use Rattle.command_io.specs.Ends.{Shows}
 use Rattle.command_line.specs.Orders.{Names}
 use Rattle.command_line.specs.declared.order.Order.{Order}
 use Rattle.command_line.specs.declared.order.Order.TheVariants.{Replay, Pipe, Serve, Help, Version}
 use Rattle.command_line.specs.declared.order.OrderFault.{OrderFault}
 use Rattle.command_line.specs.declared.order.OrderFault.TheVariants.{Usage, NoMemory}
-
--- A text was written, and the status is this one; or a prefix of it, and the output failed.
-abbrev pub Shows : List ℕ → ℕ → Option (List ℕ) → Option (List ℕ) → ℕ → Type 0
-Shows text own written now status = ((status ≡ own) × Appends written now text) ⊎ ((status ≡ 8) × WroteFront written now text)
 
 -- there is no memory to read the words: nothing else is done, as `same` says
 abbrev pub WantsMemory : Type 0 → Option (List ℕ) → Option (List ℕ) → ℕ → Type 0

@@ -17,10 +17,10 @@ use Rattle.hk_base.specs.declared.ended.Ended.TheVariants.{End, Closed, TooLong,
 use Rattle.hk_serve.specs.Served.{Served}
 use Rattle.hk_serve.specs.Transactions.{Transaction}
 use Rattle.world_desk.specs.Orders.{AnsweredEvent, AreEventsOf}
-use Rattle.hkms_commands.specs.declared.props.PropsFault.{PropsFault}
-use Rattle.hkms_commands.specs.Properties.{HasPropsFault, ReadsProperties}
+use Rattle.command_io.specs.declared.props.PropsFault.{PropsFault}
+use Rattle.command_io.specs.Properties.{HasPropsFault, ReadsProperties}
 use Rattle.hkms_commands.specs.Logs.{HiddenBefore, NoRestart, OnDisk, ReadsAs, opened_logs}
-use Rattle.hkms_commands.specs.Replay.{ended_by, ended_by_props, status_of}
+use Rattle.command_io.specs.Ends.{ended_by, ended_by_props, status_of}
 use Rattle.hkms_commands.specs.Run.{FilesOpen, Happened, History, Runs, StayApart, behind, drawn_in, faults_after, logged_in, world_after}
 
 -- the events of a history with their answers

@@ -1,13 +1,9 @@
 -- How a replay ends.
-use Rattle.std.specs.Prelude.{◌≡◌, ◌⊎◌, ℕ, zero, suc, ◌+◌, ◌<◌, ◌≤◌, ◌^◌, Bool, List, [], ◌∷◌, ◌++◌, length, count_by, take, codes, Option, Some}
-use Rattle.std.specs.Fmt.{decimal}
+use Rattle.std.specs.Prelude.{◌≡◌, ◌⊎◌, ℕ, ◌+◌, ◌<◌, ◌≤◌, ◌^◌, Bool, List, [], ◌∷◌, ◌++◌, length, count_by, take, Option, Some}
 use Rattle.std.specs.Io.KnownBytes.{Appends}
 use Rattle.hk_base.specs.Disk.{DiskState, Tells}
 use Rattle.frame_log.specs.declared.fault.StartFault.{StartFault}
-use Rattle.frame_log.specs.declared.fault.StartFault.TheVariants as start
 use Rattle.key_rows.specs.Table.{Table}
-use Rattle.prop_text.specs.declared.faults.PropFault.{PropFault}
-use Rattle.prop_text.specs.declared.faults.PropFault.TheVariants as prop_fault
 use Rattle.prop_text.specs.declared.props.Props.{Props}
 use Rattle.kms_core.specs.State.{settled}
 use Rattle.name_core.specs.State.{settled as settled_names}
@@ -20,12 +16,11 @@ use Rattle.world_run.specs.Ledger.{Hidden}
 use Rattle.world_run.specs.Linked.{WordsApart}
 use Rattle.world_run.specs.Starts.{FailsAt, OpensBoth}
 use Rattle.world_run.specs.World.{WorldState, first_world}
-use Rattle.hkms_commands.specs.declared.replay.ReplayEnd.{ReplayEnd}
-use Rattle.hkms_commands.specs.declared.replay.ReplayEnd.TheVariants.{Done, AclRefused, AclRepeated, AclUnknown, AclTooLong, BadLine, DamagedKeys, DamagedNames, StoreFault, NoMemory, ReadFault, WriteFault, Spent}
-use Rattle.hkms_commands.specs.declared.props.PropsFault.{PropsFault}
-use Rattle.hkms_commands.specs.declared.props.PropsFault.TheVariants as props_fault
-use Rattle.hkms_commands.specs.Lines.{is_lf, lines_of, text_of}
-use Rattle.hkms_commands.specs.Properties.{HasPropsFault, ReadsProperties}
+use Rattle.command_io.specs.declared.ends.ReplayEnd.{ReplayEnd}
+use Rattle.command_io.specs.declared.ends.ReplayEnd.TheVariants.{Done, AclRefused, AclRepeated, AclUnknown, AclTooLong, BadLine, DamagedKeys, DamagedNames, StoreFault, NoMemory, WriteFault, Spent}
+use Rattle.command_io.specs.declared.props.PropsFault.{PropsFault}
+use Rattle.command_io.specs.Lines.{is_lf, lines_of, text_of}
+use Rattle.command_io.specs.Properties.{HasPropsFault, ReadsProperties}
 use Rattle.hkms_commands.specs.Logs.{HiddenBefore, OnDisk, ReadsAs, opened_logs}
 use Rattle.hkms_commands.specs.PlayedLines.{AreSpelled, PlayedLine, events_of_lines, lines_in, transcript}
 use Rattle.hkms_commands.specs.Run.{FilesOpen, Runs, StayApart, behind, drawn_in, faults_after, logged_in, world_after}
@@ -60,37 +55,6 @@ NextSpells all lines e = (line : List ℕ) × (more : List (List ℕ)) × (lines
 abbrev pub RestartNext : List ℕ → List (List ℕ) → Type 0
 RestartNext all lines = NextSpells all lines RestartKms ⊎ NextSpells all lines RestartName
 
-abbrev pub status_of : ReplayEnd → ℕ
-status_of Done = 0
-status_of (AclRefused number) = 3
-status_of (AclRepeated number) = 3
-status_of (AclUnknown number) = 3
-status_of AclTooLong = 3
-status_of BadLine = 3
-status_of (DamagedKeys at) = 4
-status_of (DamagedNames at) = 4
-status_of StoreFault = 5
-status_of NoMemory = 6
-status_of ReadFault = 7
-status_of WriteFault = 8
-status_of Spent = 10
-
--- the last line of the output, after a number of input lines
-abbrev pub last_line : ReplayEnd → ℕ → List ℕ
-last_line Done lines = []
-last_line (AclRefused number) lines = codes "acl line " ++ decimal number ++ codes " refused\n"
-last_line (AclRepeated number) lines = codes "acl line " ++ decimal number ++ codes " repeated\n"
-last_line (AclUnknown number) lines = codes "acl line " ++ decimal number ++ codes " unknown\n"
-last_line AclTooLong lines = codes "acl too long\n"
-last_line BadLine lines = codes "line " ++ decimal (lines + 1) ++ codes " refused\n"
-last_line (DamagedKeys at) lines = codes "damaged keys " ++ decimal at ++ codes "\n"
-last_line (DamagedNames at) lines = codes "damaged names " ++ decimal at ++ codes "\n"
-last_line StoreFault lines = codes "store fault\n"
-last_line NoMemory lines = codes "no memory\n"
-last_line ReadFault lines = codes "read fault\n"
-last_line WriteFault lines = []
-last_line Spent lines = codes "openings spent\n"
-
 -- the place of the input at an end, after these lines
 abbrev pub Stops : ReplayEnd → List ℕ → List (List ℕ) → Type 0
 Stops Done all lines = (lines_of all ≡ lines) × (length all ≤ longest_input)
@@ -120,19 +84,6 @@ pub record Says (stop how : ReplayEnd) (lines : ℕ) (printed text : List ℕ) :
   pub last_is : (last ≡ stop) ⊎ (last ≡ NoMemory)
   pub closes : ((how ≡ last) × (text ≡ body ++ last_line last lines)) ⊎ ((how ≡ WriteFault) × IsFront text (body ++ last_line last lines))
 
--- how a replay ends if the text has a fault
-abbrev pub ended_by_text : PropFault → ReplayEnd
-ended_by_text (prop_fault.BadLine number) = AclRefused number
-ended_by_text (prop_fault.Repeated number) = AclRepeated number
-ended_by_text (prop_fault.UnknownName number) = AclUnknown number
-ended_by_text prop_fault.TooLong = AclTooLong
-ended_by_text prop_fault.NoMemory = NoMemory
-
--- how a replay ends if the properties could not be read
-abbrev pub ended_by_props : PropsFault → ReplayEnd
-ended_by_props props_fault.ReadFault = ReadFault
-ended_by_props (props_fault.TextFault fault) = ended_by_text fault
-
 -- The properties could not be read, and nothing else was done: `same` says that all else is as it was.
 pub record BadProperties (same : Type 0) (acls written now : Option (List ℕ)) (how : ReplayEnd) : Type 0 where
   pub fault : PropsFault
@@ -149,18 +100,6 @@ HasProperties (AclRepeated number) = ⊥
 HasProperties (AclUnknown number) = ⊥
 HasProperties AclTooLong = ⊥
 HasProperties _ = Unit {0}
-
--- the end that goes with damage in the log of a file
-abbrev pub damaged_in : ℕ → ℕ → ReplayEnd
-damaged_in zero at = DamagedKeys at
-damaged_in (suc n) at = DamagedNames at
-
--- how a replay ends if the log of a file could not be opened
-abbrev pub ended_by : ℕ → StartFault → ReplayEnd
-ended_by file (start.Damaged at) = damaged_in file at
-ended_by file start.StoreFault = StoreFault
-ended_by file start.NoMemory = NoMemory
-ended_by file start.Spent = Spent
 
 -- The logs could not be opened, and nothing was played: `same` says that input and random source are as they were.
 pub record Unopened (same : Type 0) (old new : DiskState) (written now : Option (List ℕ)) (how : ReplayEnd) : Type 0 where

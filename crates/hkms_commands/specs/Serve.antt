@@ -9,13 +9,10 @@ use Rattle.cell_server.specs.Connections.{Serving}
 use Rattle.server_run.specs.Runs.{EndsAs}
 use Rattle.server_run.specs.declared.run.RunEnd.{RunEnd}
 use Rattle.server_run.specs.declared.run.RunEnd.TheVariants as run_end
-use Rattle.hkms_commands.specs.declared.props.PropsFault.{PropsFault}
-use Rattle.hkms_commands.specs.declared.replay.ReplayEnd.{ReplayEnd}
-use Rattle.hkms_commands.specs.declared.replay.ReplayEnd.TheVariants as replay_end
-use Rattle.hkms_commands.specs.Orders.{Shows}
-use Rattle.hkms_commands.specs.Properties.{HasPropsFault, ReadsProperties}
-use Rattle.hkms_commands.specs.Replay.{ended_by, ended_by_props, status_of}
-use Rattle.hkms_commands.specs.Steps.{Closes}
+use Rattle.command_io.specs.declared.props.PropsFault.{PropsFault}
+use Rattle.command_io.specs.declared.ends.ReplayEnd.TheVariants as replay_end
+use Rattle.command_io.specs.Ends.{Shows, ended_by, ended_by_props}
+use Rattle.command_io.specs.Properties.{HasPropsFault, ReadsProperties}
 
 -- the generator that has the next eight words as its seed
 abbrev pub generator_of : (ℕ → ℕ) → ChaCha
@@ -24,13 +21,6 @@ generator_of words = record { key = words 0 ∷ words 1 ∷ words 2 ∷ words 3 
 -- the words after the first n
 abbrev pub words_after : ℕ → (ℕ → ℕ) → ℕ → ℕ
 words_after n words k = words (k + n)
-
--- The last line of such an end was written, as at a replay that played no line, and the status is that end's. The end may be another one if the
--- line could not be made or written.
-pub record Reports (end : ReplayEnd) (written now : Option (List ℕ)) (status : ℕ) : Type 0 where
-  pub how : ReplayEnd
-  pub closes : Closes end 0 written now how
-  pub status_is : status ≡ status_of how
 
 -- what is written when the server has ended, and the status
 abbrev pub ReportsRun : RunEnd → Option (List ℕ) → Option (List ℕ) → ℕ → Type 0

@@ -17,16 +17,17 @@ use Rattle.world_run.specs.World.{RunningWorld, WorldState, world_of}
 use Rattle.world_run.specs.Keeps.{Fails, RestsNow, Steps}
 use Rattle.world_run.specs.Ledger.{Hidden}
 use Rattle.world_run.specs.Linked.{DrawsApart, LinkedWorld}
-use Rattle.hkms_commands.specs.declared.lines.LineEnd.{LineEnd}
-use Rattle.hkms_commands.specs.declared.lines.LineEnd.TheVariants as line_end
-use Rattle.hkms_commands.specs.declared.replay.ReplayEnd.{ReplayEnd}
-use Rattle.hkms_commands.specs.declared.replay.ReplayEnd.TheVariants as ended
+use Rattle.command_io.specs.declared.lines.LineEnd.{LineEnd}
+use Rattle.command_io.specs.declared.lines.LineEnd.TheVariants as line_end
+use Rattle.command_io.specs.declared.ends.ReplayEnd.{ReplayEnd}
+use Rattle.command_io.specs.declared.ends.ReplayEnd.TheVariants as ended
 use Rattle.hkms_commands.specs.declared.stage.LineOutcome.{LineOutcome}
 use Rattle.hkms_commands.specs.declared.stage.LineOutcome.TheVariants.{Played, BadLine, Unread, Untold, Unwritten, Unopened}
-use Rattle.hkms_commands.specs.Lines.{is_line, line_used}
+use Rattle.command_io.specs.Lines.{is_line, line_used}
 use Rattle.hkms_commands.specs.Logs.{SurvivesLast, SurvivesUntil}
 use Rattle.hkms_commands.specs.PlayedLines.{AreSpelled, PlayedLine, events_of_lines, lines_in, transcript}
-use Rattle.hkms_commands.specs.Replay.{CutAt, HasProperties, IsPrinted, ReadsAt, RestartStops, Stops, ended_by, last_line}
+use Rattle.command_io.specs.Ends.{ended_by}
+use Rattle.hkms_commands.specs.Replay.{CutAt, HasProperties, IsPrinted, ReadsAt, RestartStops, Stops}
 use Rattle.hkms_commands.specs.Run.{FilesOpen, IsHidden, Runs, StayApart, behind, drawn_in, faults_after, logged_in, world_after}
 
 -- the access control lists of the world stand for these lines
@@ -164,16 +165,6 @@ pub record Caused (input input' out out' disk disk' : ℕ) (how : Option ReplayE
   pub read : how ≡ Some ended.ReadFault → Rose input input'
   pub write : how ≡ Some ended.WriteFault → Rose out out'
   pub store : how ≡ Some ended.StoreFault → Rose disk disk'
-
--- the last line of a cause, or a prefix of it and the output failed; if there was no memory for it, the line that says so
-pub record Closes (stop : ReplayEnd) (lines : ℕ) (written now : Option (List ℕ)) (how : ReplayEnd) : Type 0 where
-  pub last : ReplayEnd
-  pub last_is : (last ≡ stop) ⊎ (last ≡ ended.NoMemory)
-  pub writes : ((how ≡ last) × Appends written now (last_line last lines)) ⊎ ((how ≡ ended.WriteFault) × WroteFront written now (last_line last lines))
-
--- a last line was written, or a prefix of it and the output failed
-abbrev pub WritesLast : Option (List ℕ) → Option (List ℕ) → List ℕ → ReplayEnd → ReplayEnd → Type 0
-WritesLast written now last end how = ((how ≡ end) × Appends written now last) ⊎ ((how ≡ ended.WriteFault) × WroteFront written now last)
 
 -- what is known of the logs, which held these records before the lines of this input, once they were played
 pub record Kept (old new : DiskState) (first : WorldState) (words : ℕ → ℕ) (left : Option (List ℕ)) (played : List PlayedLine) (stop : ReplayEnd) (done : Acknowledged) : Type 0 where

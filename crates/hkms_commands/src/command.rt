@@ -1,41 +1,41 @@
 //! The command line.
-ghost use Rattle.std.specs.Prelude.{◌≡◌, ◌≢◌, ◌⊎◌, ℕ, IsTrue};
+ghost use Rattle.std.specs.Prelude.{◌≡◌, ◌⊎◌, ℕ, IsTrue, string_bytes};
 ghost use Rattle.std.specs.Io.KnownBytes.{IsAtEnd};
 ghost use Rattle.hk_base.specs.Disk.{Tells};
 ghost use Rattle.hk_base.specs.Faults.{Rose};
 ghost use Rattle.command_line.specs.Orders.{FindsHelp, FindsVersion, IsMistake, Names, line_fault};
 ghost use Rattle.command_line.specs.declared.order.Order.TheVariants as order;
-ghost use Rattle.hkms_commands.specs.declared.replay.ReplayEnd.{ReplayEnd};
+ghost use Rattle.command_io.specs.declared.ends.ReplayEnd.{ReplayEnd};
 ghost use Rattle.world_run.specs.Ledger.{Past};
 ghost use Rattle.world_run.specs.Linked.{StartsSound};
 ghost use Rattle.hkms_commands.specs.Headline.{ConnectionKeepsFiles, KeepsFiles};
-ghost use Rattle.hkms_commands.specs.Orders.{ByLogs, LeavesServing, Obeys, Refuses, Shows, ShowsText, UsesDisk, UsesYard, WantsMemory};
+ghost use Rattle.command_io.specs.Ends.{Shows, status_of};
+ghost use Rattle.hkms_commands.specs.Orders.{ByLogs, LeavesServing, Obeys, Refuses, ShowsText, UsesDisk, UsesYard, WantsMemory};
 ghost use Rattle.hkms_commands.specs.Pipe.{Pipe};
-ghost use Rattle.hkms_commands.specs.Replay.{Replay, status_of};
+ghost use Rattle.hkms_commands.specs.Replay.{Replay};
 ghost use Rattle.hkms_commands.specs.Serve.{Serves};
 ghost use Rattle.cell_server.specs.Connections.{ServesEnds};
 
 use crate::pipe::run_pipe;
 use crate::replay::run_replay;
 use crate::serve::run_serve;
+use command_io::show;
 use command_line::{Order, OrderFault, read_order};
 use disk_kinds::ChaWords;
-use hk_base::{Clock, Disk, Sink, Source, Text, Words, write_all};
+use hk_base::{Clock, Disk, Sink, Source, Text, Words};
 use server_parts::{Door, Yard};
 use std::alloc::Global;
 use std::sync::Wait;
 use std::thread::Threads;
 
-/// Writes a text. Returns `status`, or 8 if the output fails.
-pub fn show<K: Sink>(out: &mut K, text: &[u8], status: u8) -> u8
-    requires { status ≢ 8 }
-    ensures shows { Shows text.now status (K.written out.old) (K.written out.new) result }
+/// Writes a text and drops it. Returns 0, or 8 if the output fails.
+fn show_made<K: Sink>(out: &mut K, text: String) -> u8
+    ensures shows { Shows (string_bytes text) 0 (K.written out.old) (K.written out.new) result }
     ensures write { result ≡ 8 → Rose (K.faults out.old) (K.faults out.new) }
 {
-    match write_all(out, text) {
-        Ok(()) => status,
-        Err(_) => 8,
-    }
+    let status = show(out, text.as_bytes(), 0);
+    drop(text);
+    status
 }
 
 /// Carries out an order, with the contract of `hkms`.
@@ -90,8 +90,8 @@ fn obey<
         ) => run_serve(
             rt, alloc, acls, out, yard, rand, clock, door, port, conns, places,
         ),
-        Ok(Order::Help(text)) => show(out, text.as_bytes(), 0),
-        Ok(Order::Version(text)) => show(out, text.as_bytes(), 0),
+        Ok(Order::Help(text)) => show_made(out, text),
+        Ok(Order::Version(text)) => show_made(out, text),
         Err(OrderFault::Usage) => show(out, b"usage refused\n", 2),
         Err(OrderFault::NoMemory) => show(out, b"no memory\n", 6),
     }

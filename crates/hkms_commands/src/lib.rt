@@ -4,9 +4,7 @@
 
 mod command;
 mod laws;
-mod lines;
 mod pipe;
-mod props;
 mod replay;
 mod serve;
 mod stage;

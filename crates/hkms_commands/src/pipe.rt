@@ -12,8 +12,7 @@ ghost use Rattle.world_desk.specs.Worlds.{Happens, IsReady};
 ghost use Rattle.hkms_commands.specs.Headline.{ConnectionKeepsFiles};
 ghost use Rattle.hkms_commands.specs.Pipe.{Pipe, PipeUnder, connection_status};
 
-use crate::props::read_properties;
-use crate::replay::{ended_by, ended_by_props, status_of};
+use command_io::{ended_by, ended_by_props, read_properties, status_of};
 use hk_base::{Clock, Disk, Ended, Sink, Source, Words};
 use prop_text::Props;
 use std::alloc::Global;
@@ -51,7 +50,7 @@ fn pipe_under<S: Source, K: Sink, D: Disk, W: Words, C: Clock>(
     ensures store { result ≡ 5 → Rose (D.state disk.old).faults (D.state disk.new).faults }
 {
     match World::start(alloc, disk, props) {
-        Err(why) => status_of(ended_by(why)),
+        Err(why) => status_of(ended_by(why.file, why.fault)),
         Ok(world) => connection_status(serve_in(alloc, world, input, out, disk, rand, clock)),
     }
 }

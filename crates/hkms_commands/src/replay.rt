@@ -1,5 +1,5 @@
 //! Replays the event lines of an input.
-ghost use Rattle.std.specs.Prelude.{◌≡◌, ◌⊎◌, ◌≤◌, ◌<◌, ◌^◌, List, [], Some, length, codes, string_bytes, MatchResult};
+ghost use Rattle.std.specs.Prelude.{◌≡◌, ◌⊎◌, ◌≤◌, ◌<◌, ◌^◌, List, [], Some, length};
 ghost use Rattle.std.specs.Io.KnownBytes.{IsAtEnd};
 ghost use Rattle.hk_base.specs.Disk.{Tells};
 ghost use Rattle.hk_base.specs.Faults.{Rose};
@@ -9,94 +9,19 @@ ghost use Rattle.world_run.specs.Acknowledged.{Acknowledged, HoldsLogs};
 ghost use Rattle.world_run.specs.Ledger.{Past};
 ghost use Rattle.world_run.specs.Linked.{StartsSound};
 ghost use Rattle.hkms_commands.specs.Headline.{KeepsFiles};
-ghost use Rattle.hkms_commands.specs.Replay.{Replay, ReplayUnder, damaged_in, ended_by, ended_by_props, ended_by_text, last_line, status_of};
-ghost use Rattle.hkms_commands.specs.Steps.{Caused, Closes, HasLists, LinePlayed, Next, Ran, RanToEnd, WritesLast};
-ghost use Rattle.hkms_commands.specs.declared.replay.ReplayEnd.{ReplayEnd};
+ghost use Rattle.command_io.specs.Ends.{ended_by, ended_by_props, status_of};
+ghost use Rattle.hkms_commands.specs.Replay.{Replay, ReplayUnder};
+ghost use Rattle.hkms_commands.specs.Steps.{Caused, HasLists, LinePlayed, Next, Ran, RanToEnd};
+ghost use Rattle.command_io.specs.declared.ends.ReplayEnd.{ReplayEnd};
 
-use crate::lines::{LineEnd, read_line};
-use crate::props::{PropsFault, read_properties};
 use crate::stage::{LineOutcome, Session};
-use frame_log::StartFault;
-use hk_base::{ByteList, Disk, Reader, Sink, Source, Words, write_all};
-use prop_text::{PropFault, Props};
-use std::alloc::{AllocError, Global};
-use world_run::{World, WorldFault};
-
-/// How a replay ended.
-#[derive(Clone, Copy, Debug, PartialEq, Eq)]
-pub enum ReplayEnd {
-    /// The input was read to its end.
-    Done,
-    /// This line of the properties is refused.
-    AclRefused { number: u64 },
-    /// This line of the properties sets a name that an earlier line set.
-    AclRepeated { number: u64 },
-    /// This line of the properties sets an unknown name.
-    AclUnknown { number: u64 },
-    /// The properties have more than 1,048,576 bytes.
-    AclTooLong,
-    /// A line was refused.
-    BadLine,
-    /// The key log is damaged at this offset.
-    DamagedKeys { at: u64 },
-    /// The edit log is damaged at this offset.
-    DamagedNames { at: u64 },
-    /// The disk failed when a log was opened.
-    StoreFault,
-    /// Allocation failed.
-    NoMemory,
-    /// The input or the source of the properties failed.
-    ReadFault,
-    /// The output failed.
-    WriteFault,
-    /// The last opening of a log is used up.
-    Spent,
-}
-
-/// How a replay ends if the text of the properties has a fault.
-fn ended_by_text(fault: PropFault) -> ReplayEnd
-    ensures { result ≡ ended_by_text fault }
-{
-    match fault {
-        PropFault::BadLine { number } => ReplayEnd::AclRefused { number },
-        PropFault::Repeated { number } => ReplayEnd::AclRepeated { number },
-        PropFault::UnknownName { number } => ReplayEnd::AclUnknown { number },
-        PropFault::TooLong => ReplayEnd::AclTooLong,
-        PropFault::NoMemory => ReplayEnd::NoMemory,
-    }
-}
-
-/// How a replay ends if the properties cannot be read.
-pub fn ended_by_props(fault: PropsFault) -> ReplayEnd
-    ensures { result ≡ ended_by_props fault }
-{
-    match fault {
-        PropsFault::ReadFault => ReplayEnd::ReadFault,
-        PropsFault::TextFault(fault) => ended_by_text(fault),
-    }
-}
-
-/// How a replay ends if the log on a file is damaged.
-fn damaged_in(file: u8, at: u64) -> ReplayEnd
-    ensures { result ≡ damaged_in file at }
-{
-    match file {
-        0 => ReplayEnd::DamagedKeys { at },
-        _ => ReplayEnd::DamagedNames { at },
-    }
-}
-
-/// How a replay ends if a log cannot be opened.
-pub fn ended_by(why: WorldFault) -> ReplayEnd
-    ensures { result ≡ ended_by why.file why.fault }
-{
-    match why.fault {
-        StartFault::Damaged { at } => damaged_in(why.file, at),
-        StartFault::StoreFault => ReplayEnd::StoreFault,
-        StartFault::NoMemory => ReplayEnd::NoMemory,
-        StartFault::Spent => ReplayEnd::Spent,
-    }
-}
+use command_io::{
+    LineEnd, ReplayEnd, ended_by, ended_by_props, finish, read_line, read_properties, status_of,
+};
+use hk_base::{ByteList, Disk, Reader, Sink, Source, Words};
+use prop_text::Props;
+use std::alloc::Global;
+use world_run::World;
 
 /// A replay between two lines: what was read ahead, and the number of lines played.
 #[derive(Drop)]
@@ -210,98 +135,8 @@ impl ReplayRun {
                 self.count += 1;
                 Some(ReplayEnd::WriteFault)
             }
-            LineOutcome::Unopened(why) => Some(ended_by(why)),
+            LineOutcome::Unopened(why) => Some(ended_by(why.file, why.fault)),
         }
-    }
-}
-
-/// Writes the last line if the end has one. Returns how the replay ends then.
-pub fn finish<K: Sink>(alloc: Global, out: &mut K, stop: ReplayEnd, count: u64) -> ReplayEnd
-    requires { count < 2 ^ 41 }
-    ensures closes { Closes stop count (K.written out.old) (K.written out.new) result }
-    ensures write { result ≡ ReplayEnd.WriteFault → (stop ≡ ReplayEnd.WriteFault) ⊎ Rose (K.faults out.old) (K.faults out.new) }
-    ensures later { K.faults out.old ≤ K.faults out.new }
-{
-    match stop {
-        ReplayEnd::Done => ReplayEnd::Done,
-        ReplayEnd::WriteFault => ReplayEnd::WriteFault,
-        ReplayEnd::NoMemory => written_or_fault(out, b"no memory\n", ReplayEnd::NoMemory),
-        ReplayEnd::ReadFault => written_or_fault(out, b"read fault\n", ReplayEnd::ReadFault),
-        ReplayEnd::StoreFault => written_or_fault(out, b"store fault\n", ReplayEnd::StoreFault),
-        ReplayEnd::Spent => written_or_fault(out, b"openings spent\n", ReplayEnd::Spent),
-        ReplayEnd::AclTooLong => written_or_fault(out, b"acl too long\n", ReplayEnd::AclTooLong),
-        ReplayEnd::BadLine => {
-            let line = count + 1;
-            numbered(
-                out,
-                format!(in alloc; "line {line} refused\n"),
-                ReplayEnd::BadLine,
-            )
-        }
-        ReplayEnd::DamagedKeys { at } => {
-            let line = format!(in alloc; "damaged keys {at}\n");
-            numbered(out, line, ReplayEnd::DamagedKeys { at })
-        }
-        ReplayEnd::DamagedNames { at } => {
-            let line = format!(in alloc; "damaged names {at}\n");
-            numbered(out, line, ReplayEnd::DamagedNames { at })
-        }
-        ReplayEnd::AclRefused { number } => {
-            let line = format!(in alloc; "acl line {number} refused\n");
-            numbered(out, line, ReplayEnd::AclRefused { number })
-        }
-        ReplayEnd::AclRepeated { number } => {
-            let line = format!(in alloc; "acl line {number} repeated\n");
-            numbered(out, line, ReplayEnd::AclRepeated { number })
-        }
-        ReplayEnd::AclUnknown { number } => {
-            let line = format!(in alloc; "acl line {number} unknown\n");
-            numbered(out, line, ReplayEnd::AclUnknown { number })
-        }
-    }
-}
-
-/// Writes a last line with a number, or `no memory` if its allocation failed.
-fn numbered<K: Sink>(out: &mut K, line: Result<String, AllocError>, ended: ReplayEnd) -> ReplayEnd
-    ensures wrote { MatchResult line (λ text. WritesLast (K.written out.old) (K.written out.new) (string_bytes text) ended result) (λ _. WritesLast (K.written out.old) (K.written out.new) (codes "no memory\n") ReplayEnd.NoMemory result) }
-    ensures write { result ≡ ReplayEnd.WriteFault → (ended ≡ ReplayEnd.WriteFault) ⊎ Rose (K.faults out.old) (K.faults out.new) }
-    ensures later { K.faults out.old ≤ K.faults out.new }
-{
-    match line {
-        Err(_) => written_or_fault(out, b"no memory\n", ReplayEnd::NoMemory),
-        Ok(text) => written_or_fault(out, text.as_bytes(), ended),
-    }
-}
-
-/// Writes a last line. Returns `ended`, or `WriteFault` if the output fails.
-fn written_or_fault<K: Sink>(out: &mut K, last: &[u8], ended: ReplayEnd) -> ReplayEnd
-    ensures wrote { WritesLast (K.written out.old) (K.written out.new) last.now ended result }
-    ensures write { result ≡ ReplayEnd.WriteFault → (ended ≡ ReplayEnd.WriteFault) ⊎ Rose (K.faults out.old) (K.faults out.new) }
-    ensures later { K.faults out.old ≤ K.faults out.new }
-{
-    match write_all(out, last) {
-        Ok(()) => ended,
-        Err(_) => ReplayEnd::WriteFault,
-    }
-}
-
-pub fn status_of(ended: ReplayEnd) -> u8
-    ensures { result ≡ status_of ended }
-{
-    match ended {
-        ReplayEnd::Done => 0,
-        ReplayEnd::AclRefused { number: _ } => 3,
-        ReplayEnd::AclRepeated { number: _ } => 3,
-        ReplayEnd::AclUnknown { number: _ } => 3,
-        ReplayEnd::AclTooLong => 3,
-        ReplayEnd::BadLine => 3,
-        ReplayEnd::DamagedKeys { at: _ } => 4,
-        ReplayEnd::DamagedNames { at: _ } => 4,
-        ReplayEnd::StoreFault => 5,
-        ReplayEnd::NoMemory => 6,
-        ReplayEnd::ReadFault => 7,
-        ReplayEnd::WriteFault => 8,
-        ReplayEnd::Spent => 10,
     }
 }
 
@@ -321,7 +156,7 @@ fn replay_under<S: Source, D: Disk, K: Sink, W: Words>(
     ensures store { result ≡ ReplayEnd.StoreFault → Rose (D.state disk.old).faults (D.state disk.new).faults }
 {
     match World::start(alloc, disk, props) {
-        Err(why) => finish(alloc, out, ended_by(why), 0),
+        Err(why) => finish(alloc, out, ended_by(why.file, why.fault), 0),
         Ok(world) => replay_in(alloc, world, input, out, disk, rand),
     }
 }

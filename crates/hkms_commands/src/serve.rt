@@ -1,13 +1,11 @@
 //! Serves connections.
-ghost use Rattle.std.specs.Prelude.{◌≡◌, ◌+◌, ◌⊎◌, ℕ, IsTrue};
+ghost use Rattle.std.specs.Prelude.{◌≡◌, ◌+◌, ℕ, IsTrue};
 ghost use Rattle.hk_base.specs.Faults.{Rose};
 ghost use Rattle.cell_server.specs.Connections.{ServesEnds};
 ghost use Rattle.server_run.specs.declared.run.RunEnd.TheVariants as run_end;
-ghost use Rattle.hkms_commands.specs.Serve.{Reports, ReportsRun, Serves, generator_of};
+ghost use Rattle.hkms_commands.specs.Serve.{ReportsRun, Serves, generator_of};
 
-use crate::command::show;
-use crate::props::read_properties;
-use crate::replay::{ReplayEnd, ended_by, ended_by_props, finish, status_of};
+use command_io::{ReplayEnd, ended_by, ended_by_props, read_properties, report, show};
 use disk_kinds::ChaWords;
 use hk_base::{Clock, Sink, Source, Words};
 use server_parts::{Door, Yard};
@@ -15,7 +13,6 @@ use server_run::{RunEnd, ServerPlan, run_server};
 use std::alloc::Global;
 use std::sync::Wait;
 use std::thread::Threads;
-use world_run::WorldFault;
 
 /// A clock that a caller lends.
 #[derive(Drop)]
@@ -46,14 +43,6 @@ fn generator<W: Words>(rand: &mut W) -> ChaWords
     ])
 }
 
-/// Writes the last line of an end, and returns its status.
-fn report<K: Sink>(alloc: Global, out: &mut K, end: ReplayEnd) -> u8
-    ensures reports { Reports end (K.written out.old) (K.written out.new) result }
-    ensures write { result ≡ 8 → (end ≡ ReplayEnd.WriteFault) ⊎ Rose (K.faults out.old) (K.faults out.new) }
-{
-    status_of(finish(alloc, out, end, 0))
-}
-
 /// Writes the last line of a run of the server, if it has one, and returns its status.
 fn report_run<K: Sink>(alloc: Global, out: &mut K, end: RunEnd) -> u8
     ensures reports { ReportsRun end (K.written out.old) (K.written out.new) result }
@@ -65,11 +54,7 @@ fn report_run<K: Sink>(alloc: Global, out: &mut K, end: RunEnd) -> u8
         RunEnd::DoorFault => show(out, b"door fault\n", 9),
         RunEnd::StoreFault => report(alloc, out, ReplayEnd::StoreFault),
         RunEnd::NoMemory => report(alloc, out, ReplayEnd::NoMemory),
-        RunEnd::NotOpened { file, fault } => report(
-            alloc,
-            out,
-            ended_by(WorldFault { file, fault }),
-        ),
+        RunEnd::NotOpened { file, fault } => report(alloc, out, ended_by(file, fault)),
     }
 }
 

@@ -1,5 +1,5 @@
 use Rattle.std.proofs.Common.{inl, inr, refl, sym, ap, ◌∙◌}
-use Rattle.hkms_commands.specs.Replay.{ended_by, status_of}
+use Rattle.command_io.specs.Ends.{ended_by, status_of}
 use Rattle.hkms_commands.proofs.BeganLemmas.{not_opened, start_cause, store_ended}
 use Rattle.hkms_commands.proofs.LastLemmas.{is_store}
 use Rattle.hkms_commands.proofs.PipeLemmas.{converses}

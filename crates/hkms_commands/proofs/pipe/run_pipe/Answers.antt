@@ -1,5 +1,5 @@
 use Rattle.std.proofs.Common.{◌≡◌, inl, inr, refl, ap, ◌∙◌}
-use Rattle.hkms_commands.specs.Replay.{status_of}
+use Rattle.command_io.specs.Ends.{status_of}
 use Rattle.hkms_commands.proofs.HeadlineLemmas.{connection_keeps, unmoved}
 use Rattle.hkms_commands.proofs.pipe.run_pipe.Goals as goal
 

@@ -1,6 +1,6 @@
 use Rattle.std.proofs.Common.{◌≡◌, ◌∙◌, sym, subst}
 use Rattle.world_run.specs.World.{RunningWorld}
-use Rattle.hkms_commands.specs.declared.replay.ReplayEnd.TheVariants as ended
+use Rattle.command_io.specs.declared.ends.ReplayEnd.TheVariants as ended
 use Rattle.hkms_commands.specs.Steps.{HasLists, Ran}
 use Rattle.hkms_commands.proofs.LastLemmas.{closed_cause, stopped}
 use Rattle.hkms_commands.proofs.replay.replay_in.Goals as goal

@@ -1,9 +1,8 @@
 use Rattle.std.proofs.Common.{◌≡◌, Option, Some, ap, refl, subst}
 use Rattle.kms_core.proofs.ServiceLemmas.{rose_since}
-use Rattle.hkms_commands.specs.declared.replay.ReplayEnd.{ReplayEnd}
-use Rattle.hkms_commands.specs.declared.replay.ReplayEnd.TheVariants as ended
-use Rattle.hkms_commands.specs.Replay.{ended_by}
-use Rattle.hkms_commands.specs.Steps.{Closes}
+use Rattle.command_io.specs.declared.ends.ReplayEnd.{ReplayEnd}
+use Rattle.command_io.specs.declared.ends.ReplayEnd.TheVariants as ended
+use Rattle.command_io.specs.Ends.{Closes, ended_by}
 use Rattle.hkms_commands.proofs.BeganLemmas.{not_opened, start_cause, store_ended}
 use Rattle.hkms_commands.proofs.LastLemmas.{played, stopped_by, unopened}
 use Rattle.hkms_commands.proofs.replay.replay_under.Goals as goal

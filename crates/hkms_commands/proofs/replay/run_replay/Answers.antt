@@ -1,6 +1,6 @@
 use Rattle.std.proofs.Common.{◌≡◌, refl, subst}
-use Rattle.hkms_commands.specs.declared.replay.ReplayEnd.{ReplayEnd}
-use Rattle.hkms_commands.specs.Steps.{Closes}
+use Rattle.command_io.specs.declared.ends.ReplayEnd.{ReplayEnd}
+use Rattle.command_io.specs.Ends.{Closes}
 use Rattle.hkms_commands.proofs.HeadlineLemmas.{replay_keeps, unmoved}
 use Rattle.hkms_commands.proofs.LastLemmas.{bad_properties, has_read}
 use Rattle.hkms_commands.proofs.replay.run_replay.Goals as goal

@@ -1,8 +1,8 @@
 use Rattle.std.proofs.Common.{◌≡◌, ℕ, ◌+◌, Bool, true, false, List, Option, Some, refl, ap, sym, subst}
 use Rattle.hk_base.specs.Disk.{DiskState}
 use Rattle.prop_text.specs.declared.lines.PropLine.{PropLine}
-use Rattle.hkms_commands.specs.declared.replay.ReplayEnd.{ReplayEnd}
-use Rattle.hkms_commands.specs.declared.replay.ReplayEnd.TheVariants as ended
+use Rattle.command_io.specs.declared.ends.ReplayEnd.{ReplayEnd}
+use Rattle.command_io.specs.declared.ends.ReplayEnd.TheVariants as ended
 use Rattle.hkms_commands.specs.declared.stage.LineOutcome.{LineOutcome}
 use Rattle.hkms_commands.specs.declared.stage.LineOutcome.TheVariants.{Played, Unwritten}
 use Rattle.hkms_commands.specs.Steps.{LinePlayed, PlaysSo, View, counts, end_of_play}

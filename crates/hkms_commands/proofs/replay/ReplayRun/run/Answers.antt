@@ -4,13 +4,13 @@ use Rattle.hk_base.specs.Disk.{DiskState}
 use Rattle.frame_log.specs.declared.fault.StartFault.{StartFault}
 use Rattle.frame_log.specs.declared.fault.StartFault.TheVariants as start
 use Rattle.prop_text.specs.declared.lines.PropLine.{PropLine}
-use Rattle.hkms_commands.specs.declared.lines.LineEnd.{LineEnd}
-use Rattle.hkms_commands.specs.declared.lines.LineEnd.TheVariants as line_end
-use Rattle.hkms_commands.specs.declared.replay.ReplayEnd.{ReplayEnd}
-use Rattle.hkms_commands.specs.declared.replay.ReplayEnd.TheVariants as ended
+use Rattle.command_io.specs.declared.lines.LineEnd.{LineEnd}
+use Rattle.command_io.specs.declared.lines.LineEnd.TheVariants as line_end
+use Rattle.command_io.specs.declared.ends.ReplayEnd.{ReplayEnd}
+use Rattle.command_io.specs.declared.ends.ReplayEnd.TheVariants as ended
 use Rattle.hkms_commands.specs.declared.stage.LineOutcome.{LineOutcome}
 use Rattle.hkms_commands.specs.declared.stage.LineOutcome.TheVariants.{Played, BadLine, Unread, Untold, Unwritten, Unopened}
-use Rattle.hkms_commands.specs.Replay.{ended_by}
+use Rattle.command_io.specs.Ends.{ended_by}
 use Rattle.hkms_commands.specs.Steps.{Next, NextSo, Read, Stand, end_of_play}
 use Rattle.std.proofs.KnownBytes.{Appends-nil}
 use Rattle.hkms_commands.proofs.EndLemmas.{first_ahead, goes_on_under, goes_on_untroubled, lists_under, stands_under, stops_under}

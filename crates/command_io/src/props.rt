@@ -1,9 +1,9 @@
 //! Reads the properties.
 ghost use Rattle.std.specs.Prelude.{◌≡◌, ◌≤◌, IfOk, IsErrOf};
 ghost use Rattle.hk_base.specs.Faults.{Rose};
-ghost use Rattle.hkms_commands.specs.Properties.{HasPropsFault, ReadsProperties, ReadsText};
-ghost use Rattle.hkms_commands.specs.declared.props.PropsFault.{PropsFault};
-ghost use Rattle.hkms_commands.specs.declared.props.PropsFault.TheVariants as props_fault;
+ghost use Rattle.command_io.specs.Properties.{HasPropsFault, ReadsProperties, ReadsText};
+ghost use Rattle.command_io.specs.declared.props.PropsFault.{PropsFault};
+ghost use Rattle.command_io.specs.declared.props.PropsFault.TheVariants as props_fault;
 
 use hk_base::{ByteList, Next, Reader, Source};
 use prop_text::{PropFault, Props, read_props};

@@ -1,7 +1,7 @@
 use Rattle.std.proofs.Common.{ℕ, List, subst}
 use Rattle.prop_text.specs.Properties.{HasFault}
-use Rattle.hkms_commands.proofs.PropsLemmas.{text_fault_is}
-use Rattle.hkms_commands.proofs.props.read_properties.Goals as goal
+use Rattle.command_io.proofs.PropsLemmas.{text_fault_is}
+use Rattle.command_io.proofs.props.read_properties.Goals as goal
 
 pub returns-in-Err-read_props-clause-fault : goal.returns-in-Err-read_props-clause-fault
 returns-in-Err-read_props-clause-fault g c = λ why is.

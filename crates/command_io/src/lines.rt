@@ -3,7 +3,7 @@ ghost use Rattle.std.specs.Prelude.{◌≡◌, ◌≢◌, ◌+◌, ◌≤◌, �
 ghost use Rattle.std.specs.Io.KnownBytes.{Consumes, IsAtEnd};
 ghost use Rattle.hk_base.specs.Faults.{Rose};
 ghost use Rattle.hk_base.specs.Reading.{ahead, IsMore};
-ghost use Rattle.hkms_commands.specs.Lines.{is_line, line_used};
+ghost use Rattle.command_io.specs.Lines.{is_line, line_used};
 
 use hk_base::{ByteList, Next, Reader, Source};
 

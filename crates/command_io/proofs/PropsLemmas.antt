@@ -5,9 +5,9 @@ use Rattle.prop_text.specs.Properties.{HasFault, IsBadLine, IsFirst, IsRepeated,
 use Rattle.prop_text.specs.declared.faults.PropFault.{PropFault}
 use Rattle.prop_text.specs.declared.faults.PropFault.TheVariants as fault
 use Rattle.prop_text.specs.declared.props.Props.{Props}
-use Rattle.hkms_commands.specs.Properties.{HasPropsFault, ReadsText}
-use Rattle.hkms_commands.specs.declared.props.PropsFault.{PropsFault}
-use Rattle.hkms_commands.specs.declared.props.PropsFault.TheVariants.{TextFault}
+use Rattle.command_io.specs.Properties.{HasPropsFault, ReadsText}
+use Rattle.command_io.specs.declared.props.PropsFault.{PropsFault}
+use Rattle.command_io.specs.declared.props.PropsFault.TheVariants.{TextFault}
 
 -- a text that is short enough is all that was left
 whole : (left left' : Option (List ℕ)) (text : List ℕ) → Consumes left left' text → IsAtEnd left' → (all : List ℕ) → left ≡ Some all → text ≡ all

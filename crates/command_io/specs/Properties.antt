@@ -3,8 +3,8 @@ use Rattle.std.specs.Prelude.{◌≡◌, ◌≤◌, ℕ, List, ◌++◌, length,
 use Rattle.std.specs.Io.KnownBytes.{Consumes, IsAtEnd}
 use Rattle.prop_text.specs.Properties.{HasFault, IsProps, longest_text}
 use Rattle.prop_text.specs.declared.props.Props.{Props}
-use Rattle.hkms_commands.specs.declared.props.PropsFault.{PropsFault}
-use Rattle.hkms_commands.specs.declared.props.PropsFault.TheVariants.{ReadFault, TextFault}
+use Rattle.command_io.specs.declared.props.PropsFault.{PropsFault}
+use Rattle.command_io.specs.declared.props.PropsFault.TheVariants.{ReadFault, TextFault}
 
 -- A text was read from what a source had left: all of it, or a prefix that is already too long.
 pub record ReadsText (left left' : Option (List ℕ)) (text : List ℕ) : Type 0 where

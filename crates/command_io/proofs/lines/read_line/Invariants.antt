@@ -1,8 +1,8 @@
 use Rattle.std.proofs.Common.{◌≡◌, ◌+◌, ◌-◌, ◌<◌, ◌≤◌, ◌^◌, length, IsTrue}
 use Rattle.std.specs.Io.KnownBytes.{Consumes}
 use Rattle.hk_base.specs.Reading.{ahead}
-use Rattle.hkms_commands.specs.Lines.{is_line}
-use Rattle.hkms_commands.proofs.lines.read_line.Given as goal
+use Rattle.command_io.specs.Lines.{is_line}
+use Rattle.command_io.proofs.lines.read_line.Given as goal
 
 abbrev pub invariant-bytes : goal.invariant-bytes
 invariant-bytes g l = record {

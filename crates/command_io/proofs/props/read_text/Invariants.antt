@@ -1,7 +1,7 @@
 use Rattle.std.proofs.Common.{◌≡◌, ◌-◌, ◌≤◌, length}
 use Rattle.std.specs.Io.KnownBytes.{Consumes}
 use Rattle.hk_base.specs.Reading.{ahead}
-use Rattle.hkms_commands.proofs.props.read_text.Given as goal
+use Rattle.command_io.proofs.props.read_text.Given as goal
 
 abbrev pub invariant-bytes : goal.invariant-bytes
 invariant-bytes g l = record {

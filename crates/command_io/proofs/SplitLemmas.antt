@@ -4,7 +4,7 @@ use Rattle.std.specs.List.{list_all, onto_first, count_by}
 use Rattle.std.proofs.lemmas.Grind.{flat_map-append}
 use Rattle.std.proofs.lemmas.List.Folds.{list_all-append}
 use Rattle.std.proofs.lemmas.List.Sums.{sum_by-cons}
-use Rattle.hkms_commands.specs.Lines.{is_line, is_lf, lines_of, text_of}
+use Rattle.command_io.specs.Lines.{is_line, is_lf, lines_of, text_of}
 
 pub both : (s t : Bool) → (s && t) ≡ true → (s ≡ true) × (t ≡ true)
 both true t h = (refl, h)

@@ -1,8 +1,8 @@
 -- The lines of a text.
 use Rattle.std.specs.Prelude.{ℕ, ◌==◌, not, Bool, List, [], ◌∷◌, ◌++◌}
 use Rattle.std.specs.List.{list_all, flat_map, slice_split}
-use Rattle.hkms_commands.specs.declared.lines.LineEnd.{LineEnd}
-use Rattle.hkms_commands.specs.declared.lines.LineEnd.TheVariants.{Line, End, TooLong, Past, Fault, NoMemory}
+use Rattle.command_io.specs.declared.lines.LineEnd.{LineEnd}
+use Rattle.command_io.specs.declared.lines.LineEnd.TheVariants.{Line, End, TooLong, Past, Fault, NoMemory}
 
 abbrev pub is_lf : ℕ → Bool
 is_lf b = b == 10

@@ -1,0 +1,3 @@
+mod EndLemmas
+mod PropsLemmas
+pub mod SplitLemmas
