@@ -1,5 +1,5 @@
 -- A server over good logs.
-use Rattle.std.proofs.Common.{◌≡◌, ◌⊎◌, ⊎_elim, inl, inr, ℕ, List, refl, ◌∙◌, subst, Option}
+use Rattle.std.proofs.Common.{◌≡◌, ◌⊎◌, ⊎_elim, inl, inr, ℕ, IsTrue, List, refl, ◌∙◌, subst, Option}
 use Rattle.hk_base.specs.Disk.{DiskState}
 use Rattle.frame_log.specs.declared.fault.StartFault.{StartFault}
 use Rattle.frame_log.specs.declared.fault.StartFault.TheVariants as start
@@ -57,7 +57,7 @@ module _ {D I O : Type 0} (state : D → DiskState) (to_come : ChaCha → ℕ �
   EndsBy = RunsUnder state to_come serves properties.props port conns words yard yard' door door'
 
   abbrev Done : Type 0
-  Done = ((status ≡ 0) × (EndsBy run_end.Served ⊎ EndsBy run_end.Closed)) ⊎ (status ≡ 6)
+  Done = ((status ≡ 0) × (EndsBy run_end.Served ⊎ (IsTrue door'.closed × EndsBy run_end.Closed))) ⊎ (status ≡ 6)
 
   refused : (same : Type 0) → RefusesToServe same acls written now status → Done
   refused same r = inr (reported _ replayed.ReadFault written now status ok r.reports (unread acls properties r.fault r.has_fault) (λ how is. not_read how status is ok))
@@ -71,7 +71,7 @@ module _ {D I O : Type 0} (state : D → DiskState) (to_come : ChaCha → ℕ �
 
       go : (end : RunEnd) → RunsUnder state to_come serves u.props port conns words yard yard' door door' end → ReportsRun end written now status → Done
       go run_end.Served ends reports = inl (reports.0, inl (under_same run_end.Served ends))
-      go run_end.Closed ends reports = inl (reports.0, inr (under_same run_end.Closed ends))
+      go run_end.Closed ends reports = inl (reports.0, inr (ends.ran.served.closed refl, under_same run_end.Closed ends))
       go run_end.StoreFault ends reports = inr (reported replayed.StoreFault replayed.StoreFault written now status ok reports (inl refl) (λ how is. not_stored how status is ok))
       go run_end.DoorFault ends (inl shown) = absurd (ok.door shown.0)
       go run_end.DoorFault ends (inr failed) = absurd (ok.write failed.0)

@@ -1,5 +1,5 @@
 -- What a command does if it is given what is in its grammars, and nothing outside fails.
-use Rattle.std.specs.Prelude.{◌≡◌, ◌≢◌, ◌⊎◌, ℕ, List, [], ◌∷◌, Option}
+use Rattle.std.specs.Prelude.{◌≡◌, ◌≢◌, ◌⊎◌, ℕ, IsTrue, List, [], ◌∷◌, Option}
 use Rattle.std.specs.Io.KnownBytes.{Appends, IsAtEnd}
 use Rattle.hk_base.specs.Disk.{DiskState}
 use Rattle.hk_base.specs.Faults.{Rose}
@@ -62,8 +62,8 @@ PipeIsComplete same_disk same unread old new acls acls' words words' left left' 
     → ((status ≡ 0) × ConnectsToEnd properties.props old new words words' left left' written now) ⊎ (status ≡ 6)
 
 module _ {D I O : Type 0} (state : D → DiskState) (to_come : ChaCha → ℕ → ℕ) (serves : Serving I O D ChaCha) where
-  -- The same at the words of a server: with good properties and good logs, if no count rises, it serves all connections, or those that came
-  -- before the door took no more, or there is no memory.
+  -- The same at the words of a server: with good properties and good logs, if no count rises, it serves all connections, or there is no memory.
+  -- If the door is closed in the end, it may have served those that came before.
   abbrev pub ServeIsComplete : (same others unread : Type 0) (port conns : ℕ) (acls acls' : Option (List ℕ)) (words words' : ℕ → ℕ) (yard yard' : YardState) (door door' : DoorState I O) (written now : Option (List ℕ)) (before after : Counts) (status : ℕ) → Type 0
   ServeIsComplete same others unread port conns acls acls' words words' yard yard' door door' written now before after status =
       (Serves state to_come serves same port conns acls acls' words words' yard yard' door door' written now status × others) ⊎ WantsMemory unread written now status
@@ -71,4 +71,4 @@ module _ {D I O : Type 0} (state : D → DiskState) (to_come : ChaCha → ℕ �
       → (properties : GoodProperties acls) → GoodYard yard
       → ((status ≡ 0)
       × (RunsUnder state to_come serves properties.props port conns words yard yard' door door' run_end.Served
-      ⊎ RunsUnder state to_come serves properties.props port conns words yard yard' door door' run_end.Closed)) ⊎ (status ≡ 6)
+      ⊎ (IsTrue door'.closed × RunsUnder state to_come serves properties.props port conns words yard yard' door door' run_end.Closed))) ⊎ (status ≡ 6)

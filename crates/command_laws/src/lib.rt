@@ -77,8 +77,9 @@ pub fn connections_are_complete<
 {}
 
 /// The same of a server that returns, by the clause `serve`: if the properties and both logs of the yard
-/// are good, and no count of faults rises, the status is 0, and all connections were served or those
-/// that came before the door took no more; or the status is 6.
+/// are good, and no count of faults rises, the status is 0, and all connections were served, unless the
+/// door is closed; or the status is 6. If the door is closed, the connections may be those that came
+/// before it took no more.
 pub fn servers_are_complete<
     A: Source,
     S: Source,

@@ -152,6 +152,11 @@ module _ {D W I O : Type 0} (state : D → DiskState) (to_come : W → ℕ → �
   store_rose props words port conns old new door door' (run_end.NotOpened file fault) r is = absurd cc
   store_rose props words port conns old new door door' run_end.NoMemory r is = absurd cc
 
+  -- it ended so only if the door is closed
+  pub closed_so : (props : Props) (words : W) (port conns : ℕ) (old new : YardState) (door door' : DoorState I O) (result : RunEnd) → EndsAs state to_come serves first second props words port conns old new door door' result
+      → result ≡ run_end.Closed → IsTrue door'.closed
+  closed_so props words port conns old new door door' result ends is = (subst (EndsAs state to_come serves first second props words port conns old new door door') is ends).ran.served.closed refl
+
   pub none_rose : (props : Props) (words : W) (port conns : ℕ) (old new : YardState) (door door' : DoorState I O) (result : RunEnd) → EndsAs state to_come serves first second props words port conns old new door door' result
       → (result ≡ run_end.Served) ⊎ (result ≡ run_end.Closed) → new.faults ≡ old.faults
   none_rose props words port conns old new door door' result ends (inl is) = yard_stays props words port conns old new door door' serve_end.Served (subst (EndsAs state to_come serves first second props words port conns old new door door') is ends)

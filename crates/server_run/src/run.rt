@@ -28,7 +28,7 @@ use std::thread::Threads;
 pub enum RunEnd {
     /// All connections were served.
     Served,
-    /// The door was told to take no more connections.
+    /// The door took no more connections.
     Closed,
     /// The door failed.
     DoorFault,
@@ -139,6 +139,7 @@ fn run_end(end: ServeEnd, failed: bool) -> RunEnd
 /// - `NotOpened` if a log can't be opened: the first that has a fault. Both disks then lie in the yard,
 ///   and no connection was accepted. The file of that log reads as before or as a start leaves it. If it
 ///   is the edit log, the key log has the record of its new opening; else the edit log is unchanged.
+/// - `Closed` only if the door is closed: it has answered an accept that it takes no more connections.
 /// - `DoorFault` only if the door's count of faults rose.
 /// - `StoreFault` if a disk counted a fault while the server ran. This comes in place of any other end,
 ///   except `NoMemory`.
@@ -166,14 +167,21 @@ pub fn run_server<
     requires names { IsTrue ((Y.state yard.old).lies 1) }
     ensures ends { EndsAs Y.Own.state W.to_come (ServesEnds A.In.left A.In.faults A.Out.written A.Out.faults) (V.to_come plan.first) (V.to_come plan.second) props.now words plan.port plan.conns
         (Y.state yard.old) (Y.state yard.new) (A.state door.old) (A.state door.new) result }
+    ensures closed { result ≡ RunEnd.Closed → IsTrue (A.state door.new).closed }
     ensures door_fault { result ≡ RunEnd.DoorFault → Rose (A.faults door.old) (A.faults door.new) }
     ensures store_fault { result ≡ RunEnd.StoreFault → Rose (Y.state yard.old).faults (Y.state yard.new).faults }
     ensures no_fault { (result ≡ RunEnd.Served) ⊎ (result ≡ RunEnd.Closed) → (Y.state yard.new).faults ≡ (Y.state yard.old).faults }
 {
     let opening = match open_services(alloc, yard, props, words, clock) {
         Ok(opening) => opening,
-        Err(OpenFault::Log { file, fault }) => return RunEnd::NotOpened { file, fault },
-        Err(OpenFault::NoMemory) => return RunEnd::NoMemory,
+        Err(OpenFault::Log { file, fault }) => {
+            drop(plan);
+            return RunEnd::NotOpened { file, fault };
+        }
+        Err(OpenFault::NoMemory) => {
+            drop(plan);
+            return RunEnd::NoMemory;
+        }
     };
     let (closed, end) = serve_named::<Brand, Brand, R, Y::Own, W, C, V, A>(
         rt, alloc, opening, door, plan,

@@ -1,5 +1,5 @@
 use Rattle.std.proofs.Common.{◌∙◌, sym}
-use Rattle.server_run.proofs.RunLemmas.{ends_so, faults_so, none_rose, ran_server, store_rose}
+use Rattle.server_run.proofs.RunLemmas.{closed_so, ends_so, faults_so, none_rose, ran_server, store_rose}
 use Rattle.server_run.proofs.run.run_server.Goals as goal
 
 ends : goal.returns-clause-ends
@@ -9,6 +9,9 @@ ends g c =
 
 pub returns-clause-ends : goal.returns-clause-ends
 returns-clause-ends g c = ends g c
+
+pub returns-clause-closed : goal.returns-clause-closed
+returns-clause-closed g c is = closed_so _ _ _ _ _ _ _ _ _ _ _ _ _ c.run_end.result (ends g c) is
 
 pub returns-clause-door_fault : goal.returns-clause-door_fault
 returns-clause-door_fault g c is = faults_so c.serve_named-closed.result.1 c.give_both-failed.result _ c.serve_named-closed.ensures.cause (sym c.run_end.ensures ∙ is)
