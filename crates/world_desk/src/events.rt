@@ -61,6 +61,13 @@ fn bytes_of(alloc: Global, name: &Text) -> Result<ByteList, NoMemory>
     Ok(bytes)
 }
 
+fn event_of_mkdir(alloc: Global, user: Text, path: &NPath) -> Result<Event, NoMemory>
+    ensures { IfOk result (λ e. e ≡ event.Mkdir user (path_text path.now)) }
+{
+    let path = text_of(alloc, path)?;
+    Ok(Event::Mkdir { user, path })
+}
+
 fn event_of_delete(
     alloc: Global,
     user: Text,
@@ -101,43 +108,64 @@ fn event_of_unsnap(alloc: Global, user: Text, path: &NPath, name: &Text) -> Resu
     Ok(Event::Unsnap { user, path, name })
 }
 
+fn event_of_info(alloc: Global, user: Text, path: &ReadPath) -> Result<Event, NoMemory>
+    ensures { IfOk result (λ e. e ≡ event.Info user (read_path_text path.now)) }
+{
+    let path = text_of_read(alloc, path)?;
+    Ok(Event::Info { user, path })
+}
+
+fn event_of_list(alloc: Global, user: Text, path: &ReadPath) -> Result<Event, NoMemory>
+    ensures { IfOk result (λ e. e ≡ event.List user (read_path_text path.now)) }
+{
+    let path = text_of_read(alloc, path)?;
+    Ok(Event::List { user, path })
+}
+
+fn event_of_allow(alloc: Global, user: Text, path: &NPath) -> Result<Event, NoMemory>
+    ensures { IfOk result (λ e. e ≡ event.Allow user (path_text path.now)) }
+{
+    let path = text_of(alloc, path)?;
+    Ok(Event::Allow { user, path })
+}
+
+fn event_of_disallow(alloc: Global, user: Text, path: &NPath) -> Result<Event, NoMemory>
+    ensures { IfOk result (λ e. e ≡ event.Disallow user (path_text path.now)) }
+{
+    let path = text_of(alloc, path)?;
+    Ok(Event::Disallow { user, path })
+}
+
+fn event_of_cancel(alloc: Global, user: Text, path: &NPath) -> Result<Event, NoMemory>
+    ensures { IfOk result (λ e. e ≡ event.Cancel user (path_text path.now)) }
+{
+    let path = text_of(alloc, path)?;
+    Ok(Event::Cancel { user, path })
+}
+
+fn event_of_status(alloc: Global, user: Text, path: &NPath) -> Result<Event, NoMemory>
+    ensures { IfOk result (λ e. e ≡ event.Status user (path_text path.now)) }
+{
+    let path = text_of(alloc, path)?;
+    Ok(Event::Status { user, path })
+}
+
 /// Returns the event of a call of the namesystem.
 fn event_of_call(alloc: Global, user: Text, call: &NameCall) -> Result<Event, NoMemory>
     ensures { IfOk result (λ e. e ≡ event_of_call user call.now) }
 {
     match call {
-        NameCall::Mkdir { path } => {
-            let path = text_of(alloc, path)?;
-            Ok(Event::Mkdir { user, path })
-        }
+        NameCall::Mkdir { path } => event_of_mkdir(alloc, user, path),
         NameCall::Delete { path, recursive } => event_of_delete(alloc, user, path, *recursive),
         NameCall::Rename { path, to } => event_of_rename(alloc, user, path, to),
-        NameCall::Info { path } => {
-            let path = text_of_read(alloc, path)?;
-            Ok(Event::Info { user, path })
-        }
-        NameCall::List { path } => {
-            let path = text_of_read(alloc, path)?;
-            Ok(Event::List { user, path })
-        }
-        NameCall::Allow { path } => {
-            let path = text_of(alloc, path)?;
-            Ok(Event::Allow { user, path })
-        }
-        NameCall::Disallow { path } => {
-            let path = text_of(alloc, path)?;
-            Ok(Event::Disallow { user, path })
-        }
+        NameCall::Info { path } => event_of_info(alloc, user, path),
+        NameCall::List { path } => event_of_list(alloc, user, path),
+        NameCall::Allow { path } => event_of_allow(alloc, user, path),
+        NameCall::Disallow { path } => event_of_disallow(alloc, user, path),
         NameCall::Snap { path, name } => event_of_snap(alloc, user, path, name),
         NameCall::Unsnap { path, name } => event_of_unsnap(alloc, user, path, name),
-        NameCall::Cancel { path } => {
-            let path = text_of(alloc, path)?;
-            Ok(Event::Cancel { user, path })
-        }
-        NameCall::Status { path } => {
-            let path = text_of(alloc, path)?;
-            Ok(Event::Status { user, path })
-        }
+        NameCall::Cancel { path } => event_of_cancel(alloc, user, path),
+        NameCall::Status { path } => event_of_status(alloc, user, path),
         NameCall::Zones => Ok(Event::Zones { user }),
     }
 }
