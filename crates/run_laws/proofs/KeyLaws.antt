@@ -118,4 +118,4 @@ ready_keys_are_current w h birth place edek linked at =
     let pair = pair-at (ReadyLinked rows birth) ready (h.queued birth) place edek (queues.opens birth) at in
     let key = queue_stands rows w.keys.keys.ready.queues birth queues.current (queued w.keys.keys.ready.queues birth place edek at) in
     let current = each-in _ ready edek (ready_are rows w.keys.keys.ready.queues birth key.0 queues.current key.1) (got-in ready place edek at) in
-    (pair.0, pair.1, record { row = key.0; found = key.1; of_birth = pair.2.of_birth; of_version = pair.2.of_version; current = current; opens = pair.2.opens })
+    (pair.0, pair.1, record { row = key.0; found = key.1; of_birth = pair.2.of_birth; of_version = pair.2.of_version; of_iv = pair.2.of_iv; current = current; opens = pair.2.opens })

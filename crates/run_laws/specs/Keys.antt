@@ -51,12 +51,13 @@ ShownKeysAreKept =
     → NameActs s (name_call.Info path) (name_reply.File id zone (Some edek)) s' → (file : Row) × In file (kept_rows s.table) × (file.id ≡ id) × (edek_of file.kind ≡ Some edek)
 
 -- A ready key, and its draw: it is of the draw's version, which is the current one of the key with the queue's birth, which is the
--- draw's; and it opens to the draw's data key.
+-- draw's; it has the draw's initialization vector, and opens to the draw's data key.
 pub record IsCurrent (rows : List KeyRow) (birth : ℕ) (edek : Edek) (draw : Draw) : Type 0 where
   pub row : KeyRow
   pub found : find_birth rows birth ≡ Some row
   pub of_birth : draw.birth ≡ birth
   pub of_version : edek.version ≡ draw.version
+  pub of_iv : edek.iv ≡ draw.iv
   pub current : edek.version ≡ current_of row
   pub opens : OpensTo rows draw edek
 

@@ -214,6 +214,7 @@ material-long row n material is got = each-in (λ (m : Dek). length m ≡ row.bi
 
 pub record FreshKey (s : KmsState) (words : ℕ → ℕ) (place : ℕ) (name : List ℕ) (e : Edek) : Type 0 where
   pub of_draw : e.version ≡ (draw_of s words place name).version
+  pub of_iv : e.iv ≡ (draw_of s words place name).iv
   pub opens : OpensTo s.table.rows (draw_of s words place name) e
   pub born : (draw_of s words place name).birth ≤ s.table.greatest
   pub recent : 2 ^ 32 ≤ (draw_of s words place name).birth
@@ -242,6 +243,7 @@ fresh-key s words place now name e drawn s' table acts one =
     ∙ ap (λ (n : ℕ). Some (drawn_dek words n (length (current_material s name)))) (first-place (length (current_material s name))) in
     record {
       of_draw = ap (λ (k : Edek). k.version) one.drawn_is;
+      of_iv = ap (λ (k : Edek). k.iv) one.drawn_is;
       opens = λ other i birth.
           let is : other ≡ row.0 = rising-once 0 s.table.greatest s.table.rows table.births other row.0 i (found-in (is_named name) s.table.rows row.0 row.1) (birth ∙ ap birth_of row.1) in
           subst (λ (r : KeyRow). OpensUnder r (draw_of s words place name) e) (sym is)

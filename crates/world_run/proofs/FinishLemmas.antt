@@ -169,7 +169,7 @@ module _ (enter : Bool) (h : Hidden) (t : NameTable) (replies : List KeptReply) 
 -- what is linked is linked with more entries too
 
 has-entered : (ledger entries : Ledger) (keys : List KeyRow) (id : ℕ) (e : Edek) → HasDraw ledger keys id e → HasDraw (ledger ++ entries) keys id e
-has-entered ledger entries keys id e d = record { draw = d.draw; entered = in-left (id, d.draw) ledger entries d.entered; of_key = d.of_key; opens = d.opens }
+has-entered ledger entries keys id e d = record { draw = d.draw; entered = in-left (id, d.draw) ledger entries d.entered; of_key = d.of_key; carries = d.carries; opens = d.opens }
 
 pub entered-files : (ledger entries : Ledger) (keys : List KeyRow) (names : NameTable) → FilesLinked ledger keys names → FilesLinked (ledger ++ entries) keys names
 entered-files ledger entries keys names f =
@@ -223,7 +223,8 @@ new-draw ledger keys ask_id (Some d) e k = record {
   draw = d;
   entered = in-right (ask_id, d) ledger ((ask_id, d) ∷ []) (inl refl);
   of_key = ap (λ (v : VersionName). v.key) k.0;
-  opens = k.1;
+  carries = k.1;
+  opens = k.2;
 }
 
 -- the draw of a new re-encryption

@@ -108,12 +108,12 @@ unkeyed-same : (w : WorldState) (h : Hidden) (words : ℕ → ℕ) (note : AskNo
 unkeyed-same w h words note wanted reply drawn l none undrawn = unkeyed-keeps w h words note wanted reply drawn w.keys l none undrawn (same-service w.keys)
 
 -- the facts of one draw as those of the draw of a reply
-keyed-answers : (w : WorldState) (h : Hidden) (keys : ServiceState) (drawn : ℕ) (note : AskNote) (e : Edek) (d : Draw) → keys.keys.table ≡ w.keys.keys.table → e.version ≡ d.version → OpensTo w.keys.keys.table.rows d e
+keyed-answers : (w : WorldState) (h : Hidden) (keys : ServiceState) (drawn : ℕ) (note : AskNote) (e : Edek) (d : Draw) → keys.keys.table ≡ w.keys.keys.table → e.version ≡ d.version → e.iv ≡ d.iv → OpensTo w.keys.keys.table.rows d e
     → IsFree h (left_in w.keys.keys.ready.queues keys.keys.ready.queues h.queued) (h.place + drawn) d → IsOldBirth w.keys.keys.table d.birth → 2 ^ 32 ≤ d.birth
     → Answers w h keys drawn (kept_reply note (Some (key_reply.Ready (e ∷ [])))) (Some d)
-keyed-answers w h keys drawn note e d same version opens free born recent =
+keyed-answers w h keys drawn note e d same version vector opens free born recent =
     record {
-      opens = (version, subst (λ (t : Table). OpensTo t.rows d e) (sym same) opens);
+      opens = (version, vector, subst (λ (t : Table). OpensTo t.rows d e) (sym same) opens);
       free = λ f is. subst (IsFree h (left_in w.keys.keys.ready.queues keys.keys.ready.queues h.queued) (h.place + drawn)) (some-is d f is) free;
       born = λ f is. subst (λ (x : Draw). IsOldBirth keys.keys.table x.birth) (some-is d f is) (subst (λ (t : Table). IsOldBirth t d.birth) (sym same) born);
       recent = λ f is. subst (λ (x : Draw). 2 ^ 32 ≤ x.birth) (some-is d f is) recent;
@@ -159,7 +159,7 @@ module _ (w : WorldState) (h : Hidden) (words : ℕ → ℕ) (now : ℕ) (note :
       let drew : IsDrawn h d = inr (inr (key_birth, member)) in
       let loses : still_queued key_birth ≡ begun.rest = left-is (ReadyLinked old_rows key_birth) old_queues changed.ready.queues h.queued key_birth 1 one.left (l.queues.opens key_birth) ∙ ap (drop 1) begun.is in
       replied-with e d is (ap (λ (ds : List Draw). first_of ds (draw_of w.keys.keys words h.place name)) begun.is)
-      (keyed-answers w h changed_keys drawn note e d one.same begun.linked.of_version begun.linked.opens
+      (keyed-answers w h changed_keys drawn note e d one.same begun.linked.of_version begun.linked.of_iv begun.linked.opens
       (first-free h (IsOldBirth w.keys.keys.table) old_rows old_queues still_queued (h.place + drawn) key_birth d begun.rest l.draws l.queues was-queued begun.is loses (omega arith)) (l.draws.born d drew) (l.draws.recent d drew))
 
   drawn-keeps : (e : Edek) → reply ≡ key_reply.Ready (e ∷ []) → OneDrawn w.keys.keys words name e drawn changed → AfterDraw w words h note drawn changed_keys (want.Generate name) (Some reply)
@@ -168,7 +168,7 @@ module _ (w : WorldState) (h : Hidden) (words : ℕ → ℕ) (now : ℕ) (note :
       let none : h.queued key_birth ≡ [] = pairs-none (ReadyLinked old_rows key_birth) (ready_in old_queues key_birth) (h.queued key_birth) one.none (l.queues.opens key_birth) in
       let fresh = fresh-key w.keys.keys words h.place now name e drawn changed fit.keys.table (subst (λ (r : KmsReply). KmsActs w.keys.keys words now (key_call.Generate name 1) r drawn changed) is acts) one in
       replied-with e d is (ap (λ (ds : List Draw). first_of ds d) none)
-      (keyed-answers w h changed_keys drawn note e d one.same fresh.of_draw fresh.opens
+      (keyed-answers w h changed_keys drawn note e d one.same fresh.of_draw fresh.of_iv fresh.opens
       (new-free h (IsOldBirth w.keys.keys.table) still_queued (h.place + drawn) d l.draws was-queued (omega arith) (omega (arith, words-of-dek words (length (current_material w.keys.keys name)), one.took))) (inr fresh.born) fresh.recent)
 
   made-keeps : AfterDraw w words h note drawn changed_keys (want.Generate name) (Some reply)
@@ -479,6 +479,7 @@ files-open past replied keys names walks replies asks next once f fits covered =
             draw = d.draw;
             entered = d.entered;
             of_key = d.of_key;
+            carries = d.carries;
             opens = λ key j birth. let alone = (d.opens key j birth).opens in (opens-named key e d.draw.dek alone ∙ d.of_key, opens-among keys key e d.draw.dek once j alone);
             long = λ key j birth. let so = d.opens key j birth in (so.long, so.vector);
           };

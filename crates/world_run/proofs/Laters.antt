@@ -248,4 +248,4 @@ pub draw-later : (olds rows : List KeyRow) (o : Option Edek) (d : Option Draw) â
 draw-later olds rows None None later h = tt
 draw-later olds rows None (Some d) later h = h
 draw-later olds rows (Some e) None later h = h
-draw-later olds rows (Some e) (Some d) later h = (h.0, opens-later olds rows d e (later d refl) h.1)
+draw-later olds rows (Some e) (Some d) later h = (h.0, h.1, opens-later olds rows d e (later d refl) h.2)

@@ -103,7 +103,7 @@ module _ (ledger : Ledger) (session : ℕ) (s : KmsState) (name : KeyName) (x : 
 
   of-row : OneDraw ledger → VersionsStand ledger s.table.rows → CameBackIn ledger s.table.rows session x e
   of-row one stand = record {
-    came = record { of_key = key-is ∙ sym mine; has = record { draw = had.draw; entered = had.entered; of_key = key-is ∙ sym mine ∙ had.of_key; opens = opened } };
+    came = record { of_key = key-is ∙ sym mine; has = record { draw = had.draw; entered = had.entered; of_key = key-is ∙ sym mine ∙ had.of_key; carries = same.iv ∙ had.carries; opens = opened } };
     of_session = record { draw = of_session.draw; entered = of_session.entered; of_key = of_session.of_key ∙ mine ∙ sym key-is };
     not_below = not-below one stand;
   }

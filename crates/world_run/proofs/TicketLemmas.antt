@@ -220,6 +220,7 @@ module _ (w : WorldState) (h : Hidden) (words : ℕ → ℕ) (ticket : Ticket) (
   made-linked = record {
     of_birth = refl;
     of_version = refl;
+    of_iv = refl;
     opens = λ row i birth.
         let key = ticket-is.of_key row i birth in
         let is = each-in IsRow row_list row fit.table.rows i in

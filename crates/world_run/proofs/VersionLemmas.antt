@@ -59,7 +59,7 @@ drawn-version keys (Some e) (Some f) d row linked is i born = go (sym (some f d 
 
     go : d ≡ f → (row.name ≡ d.version.key) × (d.version.number < length row.materials)
     go same =
-        let opens : unseals (row ∷ []) e ≡ Some f.dek = (linked.1 row i (born ∙ ap (λ (x : Draw). x.birth) same)).opens in
+        let opens : unseals (row ∷ []) e ≡ Some f.dek = (linked.2 row i (born ∙ ap (λ (x : Draw). x.birth) same)).opens in
         let version : e.version ≡ d.version = linked.0 ∙ ap (λ (x : Draw). x.version) (sym same) in
         (opens-named row e f.dek opens ∙ ap (λ (v : VersionName). v.key) version, subst (λ (v : VersionName). v.number < length row.materials) version (opens-below row e f.dek opens))
 

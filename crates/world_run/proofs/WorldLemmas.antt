@@ -96,7 +96,7 @@ left-is P before after queued birth n is pairs =
     ∙ drop-as-many n (ready_in before birth) (queued birth) (pairs-long P (ready_in before birth) (queued birth) pairs)
 
 ready-later : (olds rows : List KeyRow) (birth : ℕ) (e : Edek) (d : Draw) → LaterAt olds rows d.birth → ReadyLinked olds birth e d → ReadyLinked rows birth e d
-ready-later olds rows birth e d later r = record { of_birth = r.of_birth; of_version = r.of_version; opens = opens-later olds rows d e later r.opens }
+ready-later olds rows birth e d later r = record { of_birth = r.of_birth; of_version = r.of_version; of_iv = r.of_iv; opens = opens-later olds rows d e later r.opens }
 
 queues-moved : (h : Hidden) (IsBirth : ℕ → Type 0) (olds rows : List KeyRow) (before after : List Queue) (drawn : ℕ) → DrawsFit h IsBirth → ((b : ℕ) → IsBirth b → LaterAt olds rows b) → Shrinks before after
     → (AllReady olds before → AllReady rows after) → QueuesLinked olds before h → QueuesLinked rows after (moved_on before after drawn h)
@@ -125,7 +125,7 @@ queues-moved h IsBirth olds rows before after drawn f later shrinks current q =
 
 has-later : (h : Hidden) (IsBirth : ℕ → Type 0) (olds keys : List KeyRow) (id : ℕ) (e : Edek) → DrawsFit h IsBirth → ((b : ℕ) → IsBirth b → LaterAt olds keys b) → HasDraw h.ledger olds id e → HasDraw h.ledger keys id e
 has-later h IsBirth olds keys id e draws later d =
-    record { draw = d.draw; entered = d.entered; of_key = d.of_key; opens = opens-later olds keys d.draw e (later d.draw.birth (draws.born d.draw (inl (id, d.entered)))) d.opens }
+    record { draw = d.draw; entered = d.entered; of_key = d.of_key; carries = d.carries; opens = opens-later olds keys d.draw e (later d.draw.birth (draws.born d.draw (inl (id, d.entered)))) d.opens }
 
 pub files-later : (h : Hidden) (IsBirth : ℕ → Type 0) (olds keys : List KeyRow) (names : NameTable) → DrawsFit h IsBirth → ((b : ℕ) → IsBirth b → LaterAt olds keys b) → FilesLinked h.ledger olds names → FilesLinked h.ledger keys names
 files-later h IsBirth olds keys names draws later f =

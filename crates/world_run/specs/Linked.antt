@@ -52,11 +52,12 @@ pub record OpensUnder (row : KeyRow) (d : Draw) (e : Edek) : Type 0 where
 abbrev pub OpensTo : List KeyRow → Draw → Edek → Type 0
 OpensTo rows d e = (row : KeyRow) → In row rows → row.birth ≡ d.birth → OpensUnder row d e
 
--- a file with this id and this encrypted key has a draw
+-- a file with this id and this encrypted key has a draw, whose initialization vector the encrypted key has
 pub record HasDraw (ledger : Ledger) (rows : List KeyRow) (id : ℕ) (e : Edek) : Type 0 where
   pub draw : Draw
   pub entered : In (id, draw) ledger
   pub of_key : e.version.key ≡ draw.version.key
+  pub carries : e.iv ≡ draw.iv
   pub opens : OpensTo rows draw e
 
 -- the re-encryption of this id has a draw, and notes its version
@@ -94,7 +95,7 @@ abbrev pub KeyLinked : List KeyRow → Option Edek → Option Draw → Type 0
 KeyLinked keys None None = ⊤
 KeyLinked keys None (Some d) = ⊥
 KeyLinked keys (Some e) None = ⊥
-KeyLinked keys (Some e) (Some d) = (e.version ≡ d.version) × OpensTo keys d e
+KeyLinked keys (Some e) (Some d) = (e.version ≡ d.version) × (e.iv ≡ d.iv) × OpensTo keys d e
 
 abbrev pub given : KeyAnswer → Option Edek
 given (Refused why) = None
@@ -171,6 +172,7 @@ Pairs P (x ∷ xs) (y ∷ ys) = P x y × Pairs P xs ys
 pub record ReadyLinked (keys : List KeyRow) (birth : ℕ) (e : Edek) (d : Draw) : Type 0 where
   pub of_birth : d.birth ≡ birth
   pub of_version : e.version ≡ d.version
+  pub of_iv : e.iv ≡ d.iv
   pub opens : OpensTo keys d e
 
 -- the places of draws rise

@@ -36,12 +36,14 @@ FitsZone None (File edek) = edek ≡ None
 FitsZone (Some key) (File None) = ⊥
 FitsZone (Some key) (File (Some edek)) = edek.version.key ≡ key
 
--- The encrypted key of a file opens to the data key of a draw in the ledger, as long as the key exists under which that was drawn:
--- the row with the draw's birth has the name of that key. It has the lengths that a decryption asks for.
+-- The encrypted key of a file is of the key of a draw in the ledger, has the draw's initialization vector, and opens to its data key, as
+-- long as the key exists under which that was drawn: the row with the draw's birth has the name of that key. It has the lengths that a
+-- decryption asks for.
 pub record OpensToItsDraw (ledger : Ledger) (rows : List KeyRow) (id : ℕ) (edek : Edek) : Type 0 where
   pub draw : Draw
   pub entered : In (id, draw) ledger
   pub of_key : edek.version.key ≡ draw.version.key
+  pub carries : edek.iv ≡ draw.iv
   pub opens : (row : KeyRow) → In row rows → row.birth ≡ draw.birth → (row.name ≡ draw.version.key) × (unseals rows edek ≡ Some draw.dek)
   pub long : (row : KeyRow) → In row rows → row.birth ≡ draw.birth → (length draw.dek ≡ row.bits / 8) × (length edek.iv ≡ 16)
 
