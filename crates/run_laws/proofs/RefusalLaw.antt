@@ -98,7 +98,7 @@ module _ (s : NameService) (k : Ask) (names : IsNames s) where
   leaves (op.File id p edek) w = unused (op.File id p edek) id refl refl w
   leaves (op.Remove p) w = tt
   leaves (op.Rename p q) w = tt
-  leaves (op.Zone p k) w = let m = markable rows p (allowed s.names.table (op.Zone p k) refl w.pending.allowed).free in (m.dir, ap is_some m.outside)
+  leaves (op.Zone p k) w = let m = markable rows p (allowed s.names.table (op.Zone p k) refl w.pending.allowed).free in (m.dir, m.unmarked)
   leaves (op.Allow p) w = tt
   leaves (op.Disallow p) w = tt
   leaves (op.Snap p name) w = tt
@@ -234,7 +234,7 @@ for-its-zone s (ask.Zone p key) rows statuses edek have answers stops =
     let c2 = past (is_none (row_at rows p)) refusal.NoSuchPath _ (λ e. cc) c1 in
     let c3 = past (not (is_dir_at (row_at rows p))) refusal.NotADirectory _ (λ e. cc) c2 in
     let c4 = past (has_children rows p) refusal.NotEmpty _ (λ e. cc) c3 in
-    let c5 = past (is_some (zone_of rows p)) refusal.AlreadyInZone _ (λ e. cc) c4 in
+    let c5 = past (is_some (mark_at rows p)) refusal.AlreadyInZone _ (λ e. cc) c4 in
     first (is_other_zone rows (ask_opened s (ask.Zone p key))) None (λ same h. absurd cc) c5
 for-its-zone s (ask.Submit p) rows statuses edek have answers stops =
     let c1 = past (starts_reserved p) refusal.BadPath _ (λ e. cc) stops in

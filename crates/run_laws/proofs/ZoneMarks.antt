@@ -10,15 +10,15 @@ use Rattle.std.proofs.lemmas.List.Elements.{All-filter, All-head, All-map, All-t
 use Rattle.hk_base.specs.declared.names.KeyName.{KeyName}
 use Rattle.inode_tree.specs.declared.rows.Kind.{Kind}
 use Rattle.inode_tree.specs.declared.rows.Kind.TheVariants.{Dir, File}
+use Rattle.inode_tree.specs.declared.rows.Row.{Row}
 use Rattle.name_calls.specs.Paths.{is_prefix, same_path}
 use Rattle.inode_tree.specs.Moves.{in_order, moved}
 use Rattle.inode_tree.specs.Rows.{Entry, entry_of, is_dir_at, is_marked, is_zone_over, longer, mark_of, row_at, set_kind, with_kind, zone_of}
 use Rattle.inode_tree.specs.ZoneFiles.{edek_of}
-use Rattle.inode_tree.proofs.Seeks.{same-is}
-use Rattle.inode_tree.proofs.ZoneLemmas.{prefix-itself}
 use Rattle.edit_ops.specs.declared.files.FileKey.{FileKey}
 use Rattle.edit_ops.specs.declared.ops.EditOp.{EditOp}
 use Rattle.edit_ops.specs.declared.ops.EditOp.TheVariants as op
+use Rattle.name_store.specs.Causes.{mark_at}
 use Rattle.name_store.specs.Table.{NameTable, after_table, id_of, new_directory, new_file, with_edeks}
 use Rattle.name_core.proofs.RowLemmas.{all-put}
 use Rattle.run_laws.proofs.SentFiles.{AreFiles, has_file}
@@ -52,14 +52,14 @@ all-order P (e ∷ es) h = all-put P e (in_order es) (All-head P e es h) (all-or
 abbrev pub HasKey : Option ℕ → Option KeyName → Entry → Type 0
 HasKey under key e = under ≡ Some e.row.id → mark_of e.row.kind ≡ key
 
--- an operation that makes no row with the id of the zone, gives it no encrypted key, and marks only a directory outside all zones
+-- an operation that makes no row with the id of the zone, gives it no encrypted key, and marks only a directory without a mark
 abbrev pub LeavesZone : Option ℕ → List Entry → EditOp → Type 0
 LeavesZone under rows (op.Opened opening) = ⊤
 LeavesZone under rows (op.Mkdir id p) = under ≡ Some id → ⊥
 LeavesZone under rows (op.File id p edek) = under ≡ Some id → ⊥
 LeavesZone under rows (op.Remove p) = ⊤
 LeavesZone under rows (op.Rename p q) = ⊤
-LeavesZone under rows (op.Zone p key) = (is_dir_at (row_at rows p) ≡ true) × (is_some (zone_of rows p) ≡ false)
+LeavesZone under rows (op.Zone p key) = (is_dir_at (row_at rows p) ≡ true) × (mark_at rows p ≡ None)
 LeavesZone under rows (op.Allow p) = ⊤
 LeavesZone under rows (op.Disallow p) = ⊤
 LeavesZone under rows (op.Snap p name) = ⊤
@@ -70,30 +70,21 @@ LeavesZone under rows (op.Cancel session) = ⊤
 LeavesZone under rows (op.Complete session) = ⊤
 
 module _ (under : Option ℕ) (key : Option KeyName) (marked : (i : ℕ) → under ≡ Some i → is_some key ≡ true) where
-  outside : (x : Entry) (rows : List Entry) (p : List (List ℕ)) → is_some (zone_of (x ∷ rows) p) ≡ false → (is_zone_over p x ≡ false) × (is_some (zone_of rows p) ≡ false)
-  outside x rows p h = go (is_zone_over p x) h
-    where
-      go : (t : Bool) → is_some (cond t (Some (longer x (zone_of rows p))) (zone_of rows p)) ≡ false → (t ≡ false) × (is_some (zone_of rows p) ≡ false)
-      go true h = absurd cc
-      go false h = (refl, h)
-
-  -- a directory outside all zones is not the zone
-  not-the-zone : (rows : List Entry) (p : List (List ℕ)) → All (HasKey under key) rows → is_dir_at (row_at rows p) ≡ true → is_some (zone_of rows p) ≡ false → under ≡ Some (id_of (row_at rows p)) → ⊥
+  -- a directory without a mark is not the zone
+  not-the-zone : (rows : List Entry) (p : List (List ℕ)) → All (HasKey under key) rows → is_dir_at (row_at rows p) ≡ true → mark_at rows p ≡ None → under ≡ Some (id_of (row_at rows p)) → ⊥
   not-the-zone [] p h dir none = absurd cc
-  not-the-zone (x ∷ rows) p h dir none =
-      let o = outside x rows p none in
-      go (same_path x.path p) refl (λ d. not-the-zone rows p (All-tail (HasKey under key) x rows h) d o.1) dir
+  not-the-zone (x ∷ rows) p h dir none = go (same_path x.path p) (not-the-zone rows p (All-tail (HasKey under key) x rows h)) dir none
     where
-      over : same_path x.path p ≡ true → under ≡ Some x.row.id → is_zone_over p x ≡ true
-      over here is =
-          ap (λ (k : Option KeyName). is_some k && is_prefix x.path p) (All-head (HasKey under key) x rows h is) ∙ ap (λ (b : Bool). b && is_prefix x.path p) (marked x.row.id is)
-          ∙ ap (λ (q : List (List ℕ)). is_prefix q p) (same-is x.path p here)
-          ∙ prefix-itself p
+      mark : Option Row → Option KeyName
+      mark o = option_and_then (λ (r : Row). mark_of r.kind) o
 
-      go : (t : Bool) → same_path x.path p ≡ t → (is_dir_at (row_at rows p) ≡ true → under ≡ Some (id_of (row_at rows p)) → ⊥) → is_dir_at (cond t (Some x.row) (row_at rows p)) ≡ true
-          → under ≡ Some (id_of (cond t (Some x.row) (row_at rows p))) → ⊥
-      go true here rest dir is = let f : true ≡ false = sym (over here is) ∙ (outside x rows p none).0 in absurd cc
-      go false here rest dir is = rest dir is
+      go : (t : Bool) → (is_dir_at (row_at rows p) ≡ true → mark (row_at rows p) ≡ None → under ≡ Some (id_of (row_at rows p)) → ⊥) → is_dir_at (cond t (Some x.row) (row_at rows p)) ≡ true
+          → mark (cond t (Some x.row) (row_at rows p)) ≡ None → under ≡ Some (id_of (cond t (Some x.row) (row_at rows p))) → ⊥
+      go true rest dir none is =
+          let some : is_some (mark_of x.row.kind) ≡ true = ap is_some (All-head (HasKey under key) x rows h is) ∙ marked x.row.id is in
+          let both : true ≡ false = sym some ∙ ap is_some none in
+          absurd cc
+      go false rest dir none is = rest dir none is
 
   -- the zone is no file with an encrypted key
   not-a-file : (rows : List Entry) (f : FileKey) → All (HasKey under key) rows → has_file rows f ≡ true → under ≡ Some f.id → ⊥

@@ -55,10 +55,10 @@ module _ (under : Option ℕ) (key : Option KeyName) (P : OpenAsk → Type 0) (n
       go (call.Status p) is = absurd cc
       go call.Zones is = absurd cc
 
-  -- a directory that a finish marks is outside all zones
+  -- a directory that a finish marks has no mark before
   leaves-finished : (t : NameTable) (q : OpenAsk) (edek : Option Edek) (k : Ask) → P q → first_cause (finish_causes t.rows t.statuses q edek k) ≡ None → LeavesZone under t.rows (finish_op q.id edek k)
   leaves-finished t q edek (ask.Create p) only free = begun.apart q only
-  leaves-finished t q edek (ask.Zone p k) only free = let m = markable t.rows p (may-make-zone t.rows t.statuses q edek p k free) in (m.dir, ap is_some m.outside)
+  leaves-finished t q edek (ask.Zone p k) only free = let m = markable t.rows p (may-make-zone t.rows t.statuses q edek p k free) in (m.dir, m.unmarked)
   leaves-finished t q edek (ask.Submit p) only free = tt
 
   pub zone-stays : Invariant (KeepsKey under key) P AnyCall n
